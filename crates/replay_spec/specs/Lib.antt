@@ -1,0 +1,5 @@
+pub mod Phases
+pub mod Values
+pub mod Data
+pub mod Plan
+pub mod Worked

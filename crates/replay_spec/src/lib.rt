@@ -1,0 +1,8 @@
+//! What the initialisers of a module leave in its memories, for the contracts of the crates above.
+//!
+//! The definitions stand in `specs/`, over plain records of numbers and lists.
+#![tactic(auto)]
+
+mod worked;
+
+pub use worked::{worked_phases, worked_ranges, worked_values};

@@ -1,0 +1,54 @@
+//! Why a module could not be read, or is not valid.
+
+ghost use Rattle.std.specs.Prelude.{◌≡◌};
+ghost use Rattle.wasm_form.specs.declared.error.ReadError.TheVariants as read;
+ghost use Rattle.wasm_form.specs.declared.error.CheckError.TheVariants as checks;
+
+use std::alloc::{AllocError, AllocFailed};
+use wasm_spec::{Rule, What};
+
+/// Why bytes are not read as a module.
+#[derive(Clone, Copy, Debug, PartialEq, Eq)]
+pub enum ReadError {
+    /// The bytes spell no module, and reading them comes to no spelling that is not taken.
+    Malformed,
+    /// Reading comes to a spelling that is not taken.
+    Unsupported(What),
+    /// The input has 2^30 bytes or more.
+    TooLarge,
+    /// There was no memory.
+    OutOfMemory,
+}
+
+/// Why the listed rules could not be found to hold.
+#[derive(Clone, Copy, Debug, PartialEq, Eq)]
+pub enum CheckError {
+    /// The module breaks a rule; of several, the first.
+    Invalid(Rule),
+    /// There was no memory.
+    OutOfMemory,
+}
+
+impl From<AllocError> for ReadError {
+    ghost from_gives = { λ _ e. e ≡ read.OutOfMemory };
+
+    fn from(_e: AllocError) -> ReadError {
+        ReadError::OutOfMemory
+    }
+}
+
+impl<T: Drop> From<AllocFailed<T>> for ReadError {
+    ghost from_gives = { λ _ e. e ≡ read.OutOfMemory };
+
+    fn from(_e: AllocFailed<T>) -> ReadError {
+        ReadError::OutOfMemory
+    }
+}
+
+impl From<AllocError> for CheckError {
+    ghost from_gives = { λ _ e. e ≡ checks.OutOfMemory };
+
+    fn from(_e: AllocError) -> CheckError {
+        CheckError::OutOfMemory
+    }
+}

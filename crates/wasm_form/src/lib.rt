@@ -1,0 +1,13 @@
+//! Reads the sections of a module, and checks its listed rules.
+#![tactic(auto)]
+
+mod error;
+mod form;
+mod module;
+mod rules;
+
+pub use error::{CheckError, ReadError};
+pub use form::{ConstExpr, Custom, DataKind, DataSegment, Form, Payload};
+pub use module::{MAX_MODULE_SIZE, read_module};
+pub use rules::check;
+pub use wasm_spec::{MemoryType, Operator, Rule, What};
