@@ -36,10 +36,14 @@ memory_sizes imported defined i = slice_index (map length imported ++ defined) i
 abbrev pub memory_base : List (List ℕ) → ℕ → ℕ → ℕ
 memory_base imported i place = slice_index (unwrap_or (slice_get imported i) []) place
 
--- over the contents of the imported memories
-abbrev pub module_phase : List (List ℕ) → Module → Phase ℕ
-module_phase imported m = record {
-  sizes = memory_sizes imported (map minimum_size (defined_memories m));
+-- over the contents of the imported memories and the sizes of the defined ones
+abbrev pub segments_phase : List (List ℕ) → List ℕ → List ActiveSegment → Phase ℕ
+segments_phase imported defined active = record {
+  sizes = memory_sizes imported defined;
   base = memory_base imported;
-  pieces = map piece_of (active_segments m);
+  pieces = map piece_of active;
 }
+
+-- the data phase of a module
+abbrev pub module_phase : List (List ℕ) → Module → Phase ℕ
+module_phase imported m = segments_phase imported (map minimum_size (defined_memories m)) (active_segments m)

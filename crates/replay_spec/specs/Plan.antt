@@ -1,10 +1,10 @@
 -- The data phase of a plan, in two readings, and its agreement with the module's.
 use Rattle.std.specs.Prelude.{◌≡◌, ℕ, ◌+◌, List, [], ◌∷◌, length, map, slice_get, unwrap_or, Option, None, Some}
 use Rattle.std.specs.List.{filter_map}
-use Rattle.wasm_spec.specs.Module.{Expression, DataKind, Passive, Active, Module, imported_memories}
+use Rattle.wasm_spec.specs.Module.{Expression, DataKind, Passive, Active, Module, imported_memories, defined_memories}
 use Rattle.replay_spec.specs.Phases.{Piece, Phase, SamePhase, last_item}
 use Rattle.replay_spec.specs.Values.{offset_of}
-use Rattle.replay_spec.specs.Data.{ActiveSegment, piece_of, module_phase, memory_sizes, memory_base}
+use Rattle.replay_spec.specs.Data.{ActiveSegment, piece_of, segments_phase, active_segments, minimum_size, memory_sizes, memory_base}
 
 -- where a segment of a plan begins
 pub data PlannedOffset : Type 0 where
@@ -75,10 +75,15 @@ phase_by_map imported plan = record {
 
 -- ---- agreement
 
--- over any contents of the imported memories, the plan in both readings leaves what the module leaves, and traps where it traps
-pub record Agrees (m : Module) (plan : MemoryPlan) : Type 0 where
-  pub by_map : (imported : List (List ℕ)) → length imported ≡ length (imported_memories m) → SamePhase (module_phase imported m) (phase_by_map imported plan)
-  pub by_list : (imported : List (List ℕ)) → length imported ≡ length (imported_memories m) → SamePhase (module_phase imported m) (phase_by_list imported plan)
+-- over any contents of so many imported memories, the plan in both readings leaves what the segments leave, and traps where they
+-- trap; the defined memories have these sizes
+pub record AgreesOver (imports : ℕ) (defined : List ℕ) (active : List ActiveSegment) (plan : MemoryPlan) : Type 0 where
+  pub by_map : (imported : List (List ℕ)) → length imported ≡ imports → SamePhase (segments_phase imported defined active) (phase_by_map imported plan)
+  pub by_list : (imported : List (List ℕ)) → length imported ≡ imports → SamePhase (segments_phase imported defined active) (phase_by_list imported plan)
+
+-- the plan's data phase is the module's
+abbrev pub Agrees : Module → MemoryPlan → Type 0
+Agrees m plan = AgreesOver (length (imported_memories m)) (map minimum_size (defined_memories m)) (active_segments m) plan
 
 -- ---- runtime data
 
@@ -86,6 +91,11 @@ pub record Agrees (m : Module) (plan : MemoryPlan) : Type 0 where
 abbrev pub ranges_from : ℕ → List ℕ → List (ℕ × ℕ)
 ranges_from start [] = []
 ranges_from start (n ∷ ns) = (start, start + n) ∷ ranges_from (start + n) ns
+
+-- the entries of active segments that are left to be written, whose runtime data are numbered from a start
+abbrev pub planned_from : ℕ → List ActiveSegment → List PlannedSegment
+planned_from start [] = []
+planned_from start (s ∷ ss) = record { memory = s.memory; offset = Expr s.offset; index = start } ∷ planned_from (start + 1) ss
 
 -- a passive segment is found with its bytes; no other segment is
 abbrev pub FindsPassive : MemoryPlan → Option ℕ → DataKind → List ℕ → Type 0
