@@ -1,0 +1,132 @@
+-- A translation, as the plain values of the definitions.
+use Rattle.std.specs.Prelude.{◌≡◌, ℕ, ◌+◌, List, [], length, map, drop, slice_get, sum_by, Option, None, Some}
+use Rattle.std.specs.Option.{option_map}
+use Rattle.entity_map.specs.Secondary.{value_at}
+use Rattle.wasm_index.specs.declared.index.Index.{Index}
+use Rattle.wasm_index.specs.declared.spaces.StaticModuleSpace.{StaticModuleSpace}
+use Rattle.wasm_index.specs.Index.{number_of}
+use Rattle.wasm_types.specs.Memories.{minimum_bytes}
+use Rattle.wasm_types.specs.Constants.{expression_of}
+use Rattle.replay_spec.specs.Data.{ActiveSegment}
+use Rattle.replay_spec.specs.Plan.{PlannedOffset, Expr, Static, PlannedSegment, MemoryPlan}
+use Rattle.init_plan.specs.declared.module.Module.{Module}
+use Rattle.init_plan.specs.declared.module.MemoryInitialization.{MemoryInitialization}
+use Rattle.init_plan.specs.declared.module.MemoryInitialization.TheVariants as initialization
+use Rattle.init_plan.specs.declared.module.MemoryInitializer.{MemoryInitializer}
+use Rattle.init_plan.specs.declared.translation.ModuleTranslation.{ModuleTranslation}
+use Rattle.init_plan.specs.declared.translation.RuntimeBytes.{RuntimeBytes}
+use Rattle.init_plan.specs.declared.translation.RuntimeBytes.TheVariants as runtime
+use Rattle.init_plan.specs.declared.translation.MemoryInit.{MemoryInit}
+use Rattle.init_plan.specs.declared.translation.MemoryInit.TheVariants as init
+use Rattle.init_plan.specs.declared.translation.MemorySegmentOffset.{MemorySegmentOffset}
+use Rattle.init_plan.specs.declared.translation.MemorySegmentOffset.TheVariants as offset
+
+-- ---- before the plan
+
+abbrev pub active_segment_of : MemoryInitializer → ActiveSegment
+active_segment_of s = record { memory = number_of s.memory_index; offset = expression_of s.offset; bytes = s.bytes.now }
+
+abbrev pub unprocessed_of : MemoryInit → List ActiveSegment
+unprocessed_of (init.Unprocessed segments) = map active_segment_of segments.items
+unprocessed_of (init.Processed segments) = []
+
+abbrev pub IsUnprocessed : MemoryInit → Type 0
+IsUnprocessed (init.Unprocessed segments) = Unit {0}
+IsUnprocessed (init.Processed segments) = ⊥
+
+-- the active data segments that are not planned yet
+abbrev pub initializers_of : ModuleTranslation → List ActiveSegment
+initializers_of t = unprocessed_of t.memory_init
+
+-- the passive data segments: their indices and bytes
+abbrev pub passive_data_of : ModuleTranslation → List (ℕ × List ℕ)
+passive_data_of t = map (λ p. (number_of p.0, p.1.now)) t.passive_data.items
+
+abbrev pub active_bytes : ModuleTranslation → List (List ℕ)
+active_bytes t = map (λ s. s.bytes) (initializers_of t)
+
+abbrev pub passive_bytes : ModuleTranslation → List (List ℕ)
+passive_bytes t = map (λ p. p.1) (passive_data_of t)
+
+-- how many bytes the data segments hold together
+abbrev pub data_total : ModuleTranslation → ℕ
+data_total t = sum_by length (active_bytes t) + sum_by length (passive_bytes t)
+
+-- the minimum sizes of the defined memories, in bytes
+abbrev pub defined_sizes : Module → List ℕ
+defined_sizes m = map minimum_bytes (drop m.num_imported_memories m.memories)
+
+-- ---- after the plan
+
+abbrev pub bytes_of : RuntimeBytes → List ℕ
+bytes_of (runtime.Borrowed bytes) = bytes.now
+bytes_of (runtime.Owned bytes) = bytes.items
+
+abbrev pub planned_offset_of : MemorySegmentOffset → PlannedOffset
+planned_offset_of (offset.Expr e) = Expr (expression_of e)
+planned_offset_of (offset.Static place) = Static place
+
+abbrev pub processed_of : MemoryInit → List PlannedSegment
+processed_of (init.Unprocessed segments) = []
+processed_of (init.Processed segments) = map (λ s. record { memory = number_of s.0; offset = planned_offset_of s.1; index = number_of s.2 }) segments.items
+
+abbrev pub images_of : MemoryInitialization → List (Option (ℕ × ℕ))
+images_of initialization.Segmented = []
+images_of (initialization.Static images) = map (option_map (λ image. (image.0, number_of image.1))) images
+
+-- what a translation says of memories
+abbrev pub memory_plan_of : ModuleTranslation → MemoryPlan
+memory_plan_of t = record {
+  sizes = defined_sizes t.module;
+  images = images_of t.module.memory_initialization;
+  segments = processed_of t.memory_init;
+  runtime = map bytes_of t.runtime_data;
+  passive = λ index. option_map number_of (value_at t.runtime_data_map index);
+}
+
+-- the ranges of runtime data, from and up to
+abbrev pub ranges_of : Module → List (ℕ × ℕ)
+ranges_of m = map (λ r. (r.start, r.end)) m.runtime_data
+
+abbrev pub IsSegmented : MemoryInitialization → Type 0
+IsSegmented initialization.Segmented = Unit {0}
+IsSegmented (initialization.Static images) = ⊥
+
+-- a passive segment is found with its bytes
+abbrev pub FindsRuntime : List (List ℕ) → Option ℕ → List ℕ → Type 0
+FindsRuntime runtime None bytes = ⊥
+FindsRuntime runtime (Some index) bytes = slice_get runtime index ≡ Some bytes
+
+abbrev pub FindsData : MemoryPlan → ℕ × List ℕ → Type 0
+FindsData plan p = FindsRuntime plan.runtime (plan.passive p.0) p.1
+
+-- ---- what stays
+
+-- the fields that no call of the memory half writes
+pub record OnlyMemoryInitChanges (old new : ModuleTranslation) : Type 0 where
+  pub module_index : new.module.module_index ≡ old.module.module_index
+  pub imports : new.module.num_imported_memories ≡ old.module.num_imported_memories
+  pub memories : new.module.memories ≡ old.module.memories
+  pub wasm : new.wasm.now ≡ old.wasm.now
+
+-- all but the passive data
+pub record SameButPassive (old new : ModuleTranslation) : Type 0 where
+  pub record_of_module : new.module ≡ old.module
+  pub wasm : new.wasm ≡ old.wasm
+  pub found : new.runtime_data_map ≡ old.runtime_data_map
+  pub runtime : new.runtime_data ≡ old.runtime_data
+  pub segments : new.memory_init ≡ old.memory_init
+
+-- the empty translation
+pub record IsNewTranslation (module_index : Index StaticModuleSpace) (t : ModuleTranslation) : Type 0 where
+  pub index : t.module.module_index ≡ module_index
+  pub segmented : IsSegmented t.module.memory_initialization
+  pub no_ranges : t.module.runtime_data ≡ []
+  pub no_imports : t.module.num_imported_memories ≡ 0
+  pub no_memories : t.module.memories ≡ []
+  pub no_bytes : t.wasm.now ≡ []
+  pub nothing_found : t.runtime_data_map ≡ record { default = None; items = [] }
+  pub no_runtime : t.runtime_data ≡ []
+  pub unprocessed : IsUnprocessed t.memory_init
+  pub no_segments : initializers_of t ≡ []
+  pub no_passive : passive_data_of t ≡ []

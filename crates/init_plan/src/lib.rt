@@ -1,0 +1,11 @@
+//! What a module's initialisers become: images, and segments that are left to be written.
+#![tactic(auto)]
+
+mod error;
+mod memory_init;
+mod module;
+mod translation;
+
+pub use error::PlanError;
+pub use module::{MemoryInitialization, MemoryInitializer, Module};
+pub use translation::{MemoryInit, MemorySegmentOffset, ModuleTranslation, RuntimeBytes};

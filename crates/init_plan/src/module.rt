@@ -1,0 +1,42 @@
+//! The record of a module, as far as memories go.
+
+use entity_map::PrimaryMap;
+use std::ops::Range;
+use wasm_index::{MemoryIndex, RuntimeDataIndex, StaticModuleIndex};
+use wasm_types::{ConstExpr, Memory};
+
+/// A translated module.
+#[derive(Drop)]
+pub struct Module {
+    /// The number of the module among those that are translated together.
+    pub module_index: StaticModuleIndex,
+    /// How the memories begin.
+    pub memory_initialization: MemoryInitialization,
+    /// The range of each runtime data, in bytes; they stand end to end from 0.
+    pub runtime_data: PrimaryMap<RuntimeDataIndex, Range<u32>>,
+    /// How many of the memories are imported.
+    pub num_imported_memories: usize,
+    /// The memories, imported ones first.
+    pub memories: PrimaryMap<MemoryIndex, Memory>,
+}
+
+/// How the memories of a module begin.
+#[derive(Drop)]
+pub enum MemoryInitialization {
+    /// Every segment is written when the module is instantiated.
+    Segmented,
+    /// The memories begin as images; no segment is left to be written.
+    Static {
+        /// The place of each memory's image in the memory, in bytes, and the runtime data that holds it.
+        map: PrimaryMap<MemoryIndex, Option<(u64, RuntimeDataIndex)>>,
+    },
+}
+
+/// An active data segment (core specification, 2.5.8).
+#[derive(Drop)]
+pub struct MemoryInitializer<'a> {
+    pub memory_index: MemoryIndex,
+    /// Where in the memory it begins.
+    pub offset: ConstExpr,
+    pub bytes: &'a [u8],
+}

@@ -1,0 +1,87 @@
+//! A module with the data that its record leaves out.
+
+ghost use Rattle.std.specs.Prelude.{◌≡◌, ◌++◌, ◌∷◌, [], IfOk, OnOk, OnErr};
+ghost use Rattle.wasm_index.specs.Index.{number_of};
+ghost use Rattle.init_plan.specs.Views.{passive_data_of, IsNewTranslation, SameButPassive};
+
+use crate::module::{MemoryInitialization, MemoryInitializer, Module};
+use entity_map::{OutOfMemory, PrimaryMap, SecondaryMap};
+use std::alloc::Global;
+use wasm_index::{DataIndex, MemoryIndex, RuntimeDataIndex, StaticModuleIndex};
+use wasm_types::ConstExpr;
+
+/// A translated module, and what is known of it only while it is compiled.
+#[derive(Drop)]
+pub struct ModuleTranslation<'d> {
+    pub module: Module,
+    /// The bytes that were translated.
+    pub wasm: &'d [u8],
+    /// The runtime data of each passive data segment.
+    pub runtime_data_map: SecondaryMap<DataIndex, Option<RuntimeDataIndex>>,
+    /// The bytes of each runtime data.
+    pub runtime_data: PrimaryMap<RuntimeDataIndex, RuntimeBytes<'d>>,
+    /// The active data segments, before and after they are planned.
+    pub memory_init: MemoryInit<'d>,
+    passive_data: Vec<(DataIndex, &'d [u8])>,
+}
+
+/// Bytes of the input, or bytes that were made.
+#[derive(Drop)]
+pub enum RuntimeBytes<'d> {
+    Borrowed(&'d [u8]),
+    Owned(Vec<u8>),
+}
+
+/// The active data segments of a translation.
+#[derive(Drop)]
+pub enum MemoryInit<'d> {
+    /// As the module has them, in order.
+    Unprocessed(Vec<MemoryInitializer<'d>>),
+    /// As they are planned: what is to be written, in order, and its runtime data.
+    Processed(Vec<(MemoryIndex, MemorySegmentOffset, RuntimeDataIndex)>),
+}
+
+/// Where a planned segment begins in its memory.
+#[derive(Drop)]
+pub enum MemorySegmentOffset {
+    /// At the value of an expression.
+    Expr(ConstExpr),
+    /// At this byte.
+    Static(u64),
+}
+
+impl<'d> ModuleTranslation<'d> {
+    /// The empty translation.
+    pub fn new(alloc: Global, module_index: StaticModuleIndex) -> Result<Self, OutOfMemory>
+        ensures { IfOk result (IsNewTranslation module_index) }
+    {
+        Ok(ModuleTranslation {
+            module: Module {
+                module_index,
+                memory_initialization: MemoryInitialization::Segmented,
+                runtime_data: PrimaryMap::new(alloc),
+                num_imported_memories: 0,
+                memories: PrimaryMap::new(alloc),
+            },
+            wasm: &[],
+            runtime_data_map: SecondaryMap::new(alloc, None),
+            runtime_data: PrimaryMap::new(alloc),
+            memory_init: MemoryInit::Unprocessed(Vec::new(alloc)),
+            passive_data: Vec::new(alloc),
+        })
+    }
+
+    /// Notes a passive data segment, after those that were noted before.
+    pub fn push_passive_data(
+        &mut self,
+        index: DataIndex,
+        bytes: &'d [u8],
+    ) -> Result<(), OutOfMemory>
+        ensures ok { OnOk result (passive_data_of self.new ≡ passive_data_of self.old ++ (number_of index, bytes.now) ∷ []) }
+        ensures err { OnErr result (passive_data_of self.new ≡ passive_data_of self.old) }
+        ensures same { SameButPassive self.old self.new }
+    {
+        self.passive_data.push((index, bytes))?;
+        Ok(())
+    }
+}
