@@ -6,10 +6,14 @@ mod count_sink;
 mod device;
 mod list_sink;
 mod list_source;
+mod reading;
 mod slice_source;
+mod writing;
 
 pub use count_sink::CountSink;
 pub use device::{Failed, OutOfMemory, Sink, Source};
 pub use list_sink::ListSink;
 pub use list_source::ListSource;
+pub use reading::{LIMIT, ReadStop, read_all};
 pub use slice_source::SliceSource;
+pub use writing::write_all;
