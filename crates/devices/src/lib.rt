@@ -8,6 +8,9 @@ mod list_sink;
 mod list_source;
 mod reading;
 mod slice_source;
+#[cfg(test)]
+mod tests;
+pub mod worked;
 mod writing;
 
 pub use count_sink::CountSink;
