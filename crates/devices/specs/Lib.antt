@@ -1,0 +1,5 @@
+pub mod Calls
+pub mod Counter
+pub mod Device
+pub mod ListSink
+pub mod ListSource

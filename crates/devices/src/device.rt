@@ -1,0 +1,65 @@
+//! What a source and a sink promise.
+
+ghost use Rattle.std.specs.Prelude.{◌≡◌, ◌<◌, ◌≤◌, ℕ, List, Option, IfOk, OnErr, length, take};
+ghost use Rattle.devices.specs.Device.{TellsFront, AppendsFront, NothingLeft};
+ghost use Rattle.devices.specs.Counter.{Rose};
+
+use std::alloc::AllocError;
+
+/// A read or a write failed.
+#[derive(Clone, Copy, Debug, PartialEq, Eq)]
+pub struct Failed;
+
+/// Want of memory.
+// This crate stands on no other, so its callers turn this into their own.
+#[derive(Clone, Copy, Debug, PartialEq, Eq)]
+pub struct OutOfMemory;
+
+impl From<AllocError> for OutOfMemory {
+    fn from(_error: AllocError) -> OutOfMemory {
+        OutOfMemory
+    }
+}
+
+/// Where bytes come from.
+pub trait Source {
+    /// The bytes left, where it tells them.
+    ghost left: { Self → Option (List ℕ) };
+
+    /// How many reads failed. A counter of 64 bits stays at its last value.
+    ghost faults: { Self → ℕ };
+
+    /// Moves the first bytes left into the front of `buf`, and answers how many: none only at the end.
+    /// `Failed` leaves the bytes left as they were.
+    fn read(&mut self, buf: &mut [u8]) -> Result<usize, Failed>
+        requires { 0 < length buf.old }
+        ensures within { IfOk result (λ n. n ≤ length buf.old) }
+        ensures moves { IfOk result (λ n. TellsFront (left self.old) (take n buf.new) (left self.new)) }
+        ensures ends { IfOk result (λ n. n ≡ 0 → NothingLeft (left self.old)) }
+
+        // A failed read moves nothing, and is counted.
+        ensures stays { OnErr result (left self.new ≡ left self.old) }
+        ensures counted { faults self.old ≤ faults self.new }
+        ensures cause { OnErr result (Rose (faults self.old) (faults self.new)) };
+}
+
+/// Where bytes go.
+pub trait Sink {
+    /// The bytes held, where it tells them.
+    ghost held: { Self → Option (List ℕ) };
+
+    /// How many writes failed. A counter of 64 bits stays at its last value.
+    ghost faults: { Self → ℕ };
+
+    /// Appends the first bytes of `piece`, at least one, and answers how many.
+    /// `Failed` leaves the bytes held as they were.
+    fn write(&mut self, piece: &[u8]) -> Result<usize, Failed>
+        requires { 0 < length piece.now }
+        ensures takes { IfOk result (λ n. (0 < n) × (n ≤ length piece.now)) }
+        ensures appends { IfOk result (λ n. AppendsFront (held self.old) (take n piece.now) (held self.new)) }
+
+        // A failed write appends nothing, and is counted.
+        ensures stays { OnErr result (held self.new ≡ held self.old) }
+        ensures counted { faults self.old ≤ faults self.new }
+        ensures cause { OnErr result (Rose (faults self.old) (faults self.new)) };
+}

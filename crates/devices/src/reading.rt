@@ -1,0 +1,72 @@
+//! Reads a source to its end.
+
+ghost use Rattle.std.specs.Prelude.{◌≡◌, ◌<◌, ◌≤◌, ◌⊎◌, [], Err, OnOk, vec_len};
+ghost use Rattle.devices.specs.Device.{TellsFront, NothingLeft};
+ghost use Rattle.devices.specs.Counter.{Rose};
+
+use crate::device::{Failed, Source};
+use std::alloc::AllocError;
+
+/// The most bytes that are read: 2^30.
+pub const LIMIT: usize = 1073741824;
+
+/// The most bytes that one read is asked for.
+const BUFFER: usize = 4096;
+
+/// Why reading stopped before the end.
+#[derive(Clone, Copy, Debug, PartialEq, Eq)]
+pub enum ReadStop {
+    /// A read failed.
+    Failed,
+    /// Memory for the bytes was refused.
+    OutOfMemory,
+}
+
+impl From<Failed> for ReadStop {
+    ghost use Rattle.std.specs.Prelude.{◌≡◌};
+    ghost use Rattle.devices.specs.declared.reading.ReadStop.TheVariants.{Failed};
+
+    ghost from_gives = { λ _ stop. stop ≡ Failed };
+
+    fn from(_failed: Failed) -> ReadStop {
+        ReadStop::Failed
+    }
+}
+
+impl From<AllocError> for ReadStop {
+    ghost use Rattle.std.specs.Prelude.{◌≡◌};
+    ghost use Rattle.devices.specs.declared.reading.ReadStop.TheVariants.{OutOfMemory};
+
+    ghost from_gives = { λ _ stop. stop ≡ OutOfMemory };
+
+    fn from(_error: AllocError) -> ReadStop {
+        ReadStop::OutOfMemory
+    }
+}
+
+/// Reads into the empty store until the source ends, or until 2^30 bytes were read.
+pub fn read_all<S: Source>(source: &mut S, store: &mut Vec<u8>) -> Result<(), ReadStop>
+    requires { store.old.items ≡ [] }
+
+    // Whatever the outcome, no byte that was read is lost.
+    ensures bytes { TellsFront (S.left source.old) store.new.items (S.left source.new) }
+    ensures within { vec_len store.new ≤ LIMIT }
+    ensures counted { S.faults source.old ≤ S.faults source.new }
+
+    ensures ended { OnOk result (NothingLeft (S.left source.new) ⊎ (vec_len store.new ≡ LIMIT)) }
+    ensures short { OnOk result (vec_len store.new < LIMIT → NothingLeft (S.left source.new)) }
+    ensures cause { result ≡ Err ReadStop.Failed → Rose (S.faults source.old) (S.faults source.new) }
+{
+    let mut buffer = [0u8; BUFFER];
+    'reads: while store.len() < LIMIT {
+        // The room is there before the bytes are, so want of memory loses none.
+        store.reserve(BUFFER)?;
+        let most = (LIMIT - store.len()).min(BUFFER);
+        let count = source.read(&mut buffer[..most])?;
+        if count == 0 {
+            return Ok(());
+        }
+        store.extend_from_slice(&buffer[..count]).unwrap();
+    }
+    Ok(())
+}

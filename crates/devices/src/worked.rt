@@ -1,0 +1,44 @@
+//! Worked examples of the definitions: each clause computes.
+
+ghost use Rattle.std.specs.Prelude.{◌≡◌, [], ◌∷◌, Some, None};
+ghost use Rattle.devices.specs.Calls.{no_calls, FailsNext, after_success, after_fault};
+ghost use Rattle.devices.specs.Counter.{raised_by, Rose};
+ghost use Rattle.devices.specs.Device.{TellsFront, NothingLeft, AppendsFront, AppendsPart};
+
+/// Bytes that move out of a source.
+pub fn worked_reads()
+    ensures front { TellsFront (Some (7 ∷ 8 ∷ 9 ∷ [])) (7 ∷ 8 ∷ []) (Some (9 ∷ [])) }
+    ensures lost { ¬ TellsFront (Some (7 ∷ 8 ∷ 9 ∷ [])) (7 ∷ []) (Some (9 ∷ [])) }
+    ensures twice { ¬ TellsFront (Some (7 ∷ [])) (7 ∷ []) (Some (7 ∷ [])) }
+    ensures silent { TellsFront None (7 ∷ 8 ∷ []) None }
+    ensures falls_silent { ¬ TellsFront (Some (7 ∷ [])) (7 ∷ []) None }
+    ensures end { NothingLeft (Some []) }
+    ensures no_end { ¬ NothingLeft (Some (9 ∷ [])) }
+{}
+
+/// Bytes that move into a sink.
+pub fn worked_writes()
+    ensures whole { AppendsFront (Some (1 ∷ [])) (2 ∷ 3 ∷ []) (Some (1 ∷ 2 ∷ 3 ∷ [])) }
+    ensures twice { ¬ AppendsFront (Some []) (2 ∷ []) (Some (2 ∷ 2 ∷ [])) }
+    ensures silent { AppendsFront None (2 ∷ 3 ∷ []) None }
+    ensures part { AppendsPart (Some (1 ∷ [])) (2 ∷ 3 ∷ []) (Some (1 ∷ 2 ∷ [])) }
+    ensures no_part { ¬ AppendsPart (Some []) (2 ∷ 3 ∷ []) (Some (3 ∷ [])) }
+{}
+
+/// Counters, in the middle and at their end.
+pub fn worked_counters()
+    ensures raised { raised_by 3 4 ≡ 7 }
+    ensures ended { raised_by 3 18446744073709551614 ≡ 18446744073709551615 }
+    ensures rose { Rose 4 5 }
+    ensures stands { Rose 18446744073709551615 18446744073709551615 }
+    ensures still { ¬ Rose 4 4 }
+{}
+
+/// The second call fails: the first does not, and after the second no other does.
+pub fn worked_calls()
+    ensures first { ¬ FailsNext (no_calls (2 ∷ [])) }
+    ensures second { FailsNext (after_success (no_calls (2 ∷ []))) }
+    ensures third { ¬ FailsNext (after_fault (after_success (no_calls (2 ∷ [])))) }
+    ensures counted { after_fault (after_success (no_calls (2 ∷ [])))
+        ≡ record { failing = 2 ∷ []; made = 2; faults = 1 } }
+{}
