@@ -1,6 +1,11 @@
 //! Why a module has no plan.
 
-use wasm_form::{Rule, What};
+ghost use Rattle.std.specs.Prelude.{◌≡◌};
+ghost use Rattle.plan_text.specs.Errors.{error_of_read, error_of_check, error_of_plan};
+ghost use Rattle.plan_text.specs.declared.error.TranslateError.TheVariants as refusal;
+
+use init_plan::PlanError;
+use wasm_form::{CheckError, ReadError, Rule, What};
 
 /// Why bytes have no plan.
 #[derive(Clone, Copy, Debug, PartialEq, Eq)]
@@ -17,4 +22,47 @@ pub enum TranslateError {
     OffsetOverflow,
     /// There was no memory.
     OutOfMemory,
+}
+
+impl From<ReadError> for TranslateError {
+    ghost from_gives = { λ e error. error ≡ error_of_read e };
+
+    fn from(e: ReadError) -> TranslateError {
+        match e {
+            ReadError::Malformed => TranslateError::Malformed,
+            ReadError::Unsupported(what) => TranslateError::Unsupported(what),
+            ReadError::TooLarge => TranslateError::TooLarge,
+            ReadError::OutOfMemory => TranslateError::OutOfMemory,
+        }
+    }
+}
+
+impl From<CheckError> for TranslateError {
+    ghost from_gives = { λ e error. error ≡ error_of_check e };
+
+    fn from(e: CheckError) -> TranslateError {
+        match e {
+            CheckError::Invalid(rule) => TranslateError::Invalid(rule),
+            CheckError::OutOfMemory => TranslateError::OutOfMemory,
+        }
+    }
+}
+
+impl From<PlanError> for TranslateError {
+    ghost from_gives = { λ e error. error ≡ error_of_plan e };
+
+    fn from(e: PlanError) -> TranslateError {
+        match e {
+            PlanError::TooLarge => TranslateError::TooLarge,
+            PlanError::OutOfMemory => TranslateError::OutOfMemory,
+        }
+    }
+}
+
+impl From<entity_map::OutOfMemory> for TranslateError {
+    ghost from_gives = { λ _ error. error ≡ refusal.OutOfMemory };
+
+    fn from(_e: entity_map::OutOfMemory) -> TranslateError {
+        TranslateError::OutOfMemory
+    }
 }

@@ -4,6 +4,7 @@ ghost use Rattle.std.specs.Prelude.{◌≡◌, ◌↔◌, ◌^◌, ◌<◌, ◌�
 ghost use Rattle.wasm_spec.specs.declared.types.What.{What};
 ghost use Rattle.wasm_spec.specs.Module.{Module};
 ghost use Rattle.wasm_spec.specs.Grammar.{Spells, Stops};
+ghost use Rattle.wasm_spec.specs.Rules.{HasFewEntries};
 ghost use Rattle.wasm_form.specs.Views.{module_of, ReadsAs};
 
 use crate::error::ReadError;
@@ -22,6 +23,7 @@ pub fn read_module<'d>(alloc: Global, bytes: &'d [u8]) -> Result<Form<'d>, ReadE
     // What is read is spelled so.
     ensures read { IfOk result (λ form. Spells bytes.now (module_of form)) }
     ensures whole { IfOk result (λ form. form.wasm.now ≡ bytes.now) }
+    ensures few { IfOk result (λ form. HasFewEntries (module_of form)) }
     // What is spelled is read, unless memory runs out.
     ensures complete { length bytes.now < 2 ^ 30 → (m : Module) → Spells bytes.now m → ReadsAs result m }
 

@@ -55,6 +55,13 @@ abbrev pub NamesMemory : List MemoryType → DataKind → Type 0
 NamesMemory types Passive = Unit {0}
 NamesMemory types (Active memory offset) = memory < length types
 
+-- ---- counts
+
+-- each list of the module has fewer than 2 ^ 30 entries, as in input of fewer bytes
+pub record HasFewEntries (m : Module) : Type 0 where
+  pub memories : length (memories m) < 2 ^ 30
+  pub segments : length (segments m) < 2 ^ 30
+
 -- ---- the rules
 
 -- the module keeps a rule; of the other rules no section that is read can break one

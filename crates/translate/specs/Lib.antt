@@ -1,0 +1,4 @@
+pub mod Commands
+pub mod Filled
+pub mod Planned
+pub mod Runs

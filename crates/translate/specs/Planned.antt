@@ -1,0 +1,68 @@
+-- What a plan says of a module, and why there is none.
+use Rattle.std.specs.Prelude.{◌≡◌, ◌⊎◌, ℕ, ◌^◌, ◌<◌, ◌≤◌, List, ◌++◌, length, map, Option, None, Some, Result, Ok, Err, slice_get}
+use Rattle.std.specs.List.{filter_map}
+use Rattle.wasm_spec.specs.Module.{DataKind, Passive, Active, Segment, Module, memories, imported_memories, segments, data_size}
+use Rattle.wasm_spec.specs.Grammar.{Spells, Stops}
+use Rattle.wasm_spec.specs.Rules.{Kept, Keeps}
+use Rattle.wasm_spec.specs.declared.types.What.{What}
+use Rattle.wasm_types.specs.Memories.{memory_of}
+use Rattle.replay_spec.specs.Data.{active_segments}
+use Rattle.replay_spec.specs.Plan.{MemoryPlan, Agrees, kept_segments, ranges_from, FindsPassive}
+use Rattle.init_plan.specs.Views.{memory_plan_of, ranges_of}
+use Rattle.plan_text.specs.declared.plan.Plan.{Plan}
+use Rattle.plan_text.specs.declared.error.TranslateError.{TranslateError}
+use Rattle.plan_text.specs.declared.error.TranslateError.TheVariants as refusal
+
+-- the bytes of a passive segment
+abbrev pub passive_bytes_of : DataKind → List ℕ → Option (List ℕ)
+passive_bytes_of Passive bytes = Some bytes
+passive_bytes_of (Active memory offset) bytes = None
+
+-- the runtime data of a module: the bytes of its active segments, and then those of its passive ones
+abbrev pub runtime_data : Module → List (List ℕ)
+runtime_data m = map (λ s. s.bytes) (active_segments m) ++ filter_map (λ s. passive_bytes_of s.kind s.bytes) (segments m)
+
+-- a passive segment is found with its bytes, and nothing else is found
+abbrev pub Finds : MemoryPlan → Option ℕ → Option Segment → Type 0
+Finds plan found None = found ≡ None
+Finds plan found (Some s) = FindsPassive plan found s.kind s.bytes
+
+-- the plan is that of the module
+pub record IsPlanOf (bytes : List ℕ) (m : Module) (plan : Plan) : Type 0 where
+  -- over any imports, it leaves in each memory what the module's data segments leave, and traps where they trap
+  pub agrees : Agrees m (memory_plan_of plan.translation)
+  -- the segments that are kept are the module's, in order
+  pub kept : kept_segments (memory_plan_of plan.translation) ≡ active_segments m
+  pub memories : plan.translation.module.memories ≡ map memory_of (memories m)
+  pub imports : plan.translation.module.num_imported_memories ≡ length (imported_memories m)
+  pub runtime : (memory_plan_of plan.translation).runtime ≡ runtime_data m
+  -- the ranges of runtime data stand end to end from 0
+  pub ranges : ranges_of plan.translation.module ≡ ranges_from 0 (map length (runtime_data m))
+  pub passive : (index : ℕ) → Finds (memory_plan_of plan.translation) ((memory_plan_of plan.translation).passive index) (slice_get (segments m) index)
+  pub wasm : plan.translation.wasm.now ≡ bytes
+
+-- the bytes, fewer than 2 ^ 30, spell a module that keeps the listed rules, and the plan is its plan
+pub record IsPlanned (bytes : List ℕ) (plan : Plan) : Type 0 where
+  pub meaning : Module
+  pub short : length bytes < 2 ^ 30
+  pub spelled : Spells bytes meaning
+  pub kept : Keeps meaning
+  pub planned : IsPlanOf bytes meaning plan
+
+-- the bytes spell a module of which a fact holds
+abbrev pub SpellsSome : List ℕ → (Module → Type 0) → Type 0
+SpellsSome bytes P = (m : Module) × Spells bytes m × P m
+
+-- why the bytes are refused
+abbrev pub HasCause : List ℕ → TranslateError → Type 0
+HasCause bytes refusal.Malformed = ((m : Module) → ¬ Spells bytes m) × ((what : What) → ¬ Stops bytes what)
+HasCause bytes (refusal.Invalid rule) = SpellsSome bytes (λ m. ¬ Kept rule m)
+HasCause bytes (refusal.Unsupported what) = Stops bytes what
+HasCause bytes refusal.TooLarge = (2 ^ 30 ≤ length bytes) ⊎ SpellsSome bytes (λ m. 2 ^ 32 ≤ data_size m)
+HasCause bytes refusal.OffsetOverflow = ⊥
+HasCause bytes refusal.OutOfMemory = Unit {0}
+
+-- there is a plan, or no memory for it
+abbrev pub SucceedsOrNoMemory : Result Plan TranslateError → Type 0
+SucceedsOrNoMemory (Ok plan) = Unit {0}
+SucceedsOrNoMemory (Err e) = e ≡ refusal.OutOfMemory

@@ -1,0 +1,47 @@
+//! Bytes become a plan.
+
+ghost use Rattle.std.specs.Prelude.{◌≡◌, ◌⊎◌, ◌^◌, ◌≤◌, length, Err, IfOk, IfErr, IsFalse};
+ghost use Rattle.std.specs.Int.{IsPowerOfTwo};
+ghost use Rattle.wasm_spec.specs.Valid.{IsValid};
+ghost use Rattle.translate.specs.Planned.{IsPlanned, HasCause, SucceedsOrNoMemory};
+
+use crate::fill::fill;
+use crate::words::Collector;
+use plan_text::{Plan, TranslateError};
+use std::alloc::Global;
+use wasm_form::{check, read_module};
+use wasm_types::Tunables;
+
+/// The plan of the module that the bytes spell, with these options: the switches, how objects are collected, the size of a pointer of the
+/// target, the page size of images and the size from which on an image must be half full of data.
+///
+/// # Errors
+/// `Malformed`, `Unsupported` and `TooLarge` by what the bytes spell and by their length, `Invalid` where the module breaks a listed rule,
+/// `TooLarge` also where its data pass 4294967295 bytes.
+pub fn translate_module<'d>(
+    alloc: Global,
+    tunables: &Tunables,
+    collector: Collector,
+    ptr: u8,
+    page_size: u64,
+    max_image: u64,
+    bytes: &'d [u8],
+) -> Result<Plan<'d>, TranslateError>
+    requires pointer { (ptr ≡ 4) ⊎ (ptr ≡ 8) }
+    requires page_size { IsPowerOfTwo page_size }
+    requires no_memory_images { IsFalse tunables.now.memory_init_cow }
+    requires no_table_images { IsFalse tunables.now.table_lazy_init }
+    ensures planned { IfOk result (IsPlanned bytes.now) }
+    ensures cause { IfErr result (HasCause bytes.now) }
+    ensures too_long { 2 ^ 30 ≤ length bytes.now → result ≡ Err TranslateError.TooLarge }
+    // Valid input has a plan, unless memory runs out.
+    ensures complete { IsValid bytes.now → SucceedsOrNoMemory result }
+{
+    let _ = collector;
+    let _ = ptr;
+    let form = read_module(alloc, bytes)?;
+    check(alloc, &form)?;
+    let mut translation = fill(alloc, form)?;
+    translation.finalize_memory_init(alloc, tunables, page_size, max_image)?;
+    Ok(Plan { translation })
+}
