@@ -1,4 +1,4 @@
--- Bytes that are moved one front after another.
+-- Bytes that are appended one piece after another.
 use Rattle.std.proofs.Common.{◌≡◌, ℕ, List, ◌++◌, Option, Some, None, ap, ◌∙◌, append_assoc}
 use Rattle.devices.specs.Device.{AppendsFront}
 

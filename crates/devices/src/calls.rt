@@ -23,7 +23,7 @@ impl<'a> Model for Calls<'a> {
 
     ghost view = { λ c. record { failing = c.failing.now; made = c.made; faults = c.faults } };
 
-    // So a call past the counter's last value is not listed.
+    // The listed numbers have 64 bits, so no call past the counter's last value is listed.
     ghost invariant = { λ c. All (λ k. k < 2 ^ 64) c.failing.now };
 }
 
@@ -46,7 +46,7 @@ impl<'a> Calls<'a> {
         ensures err { OnErr result (self.new ≡ after_fault self.old) }
         ensures counted { self.old.faults ≤ self.new.faults }
     {
-        // A call past the counter's last value has no number that could be listed.
+        // Past the counter's last value no call is listed.
         let Some(number) = self.made.checked_add(1) else {
             return Ok(());
         };

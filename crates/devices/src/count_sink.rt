@@ -1,12 +1,13 @@
 //! A sink that only counts the bytes.
 
-ghost use Rattle.std.specs.Prelude.{◌≡◌, ◌<◌, Ok, None, length};
+ghost use Rattle.std.specs.Prelude.{◌≡◌, ◌<◌, None, length};
 ghost use Rattle.devices.specs.Counter.{raised_by};
 
 use crate::device::{Failed, Sink};
 use std::marker::Model;
 
-/// Takes every byte, never fails, and keeps only how many it took. It means that number, which ends at `u64::MAX`.
+/// Takes every byte, never fails, and keeps only how many it took. It means that number, which ends at
+/// `u64::MAX`.
 #[derive(Debug, Default, Drop)]
 pub struct CountSink {
     total: u64,

@@ -26,7 +26,7 @@ pub trait Source {
     /// The bytes left, where it tells them.
     ghost left: { Self → Option (List ℕ) };
 
-    /// How many reads failed. A counter of 64 bits stays at its last value.
+    /// How many reads failed, as a counter of 64 bits tells it, which stays at its last value.
     ghost faults: { Self → ℕ };
 
     /// Moves the first bytes left into the front of `buf`, and answers how many: none only at the end.
@@ -48,7 +48,7 @@ pub trait Sink {
     /// The bytes held, where it tells them.
     ghost held: { Self → Option (List ℕ) };
 
-    /// How many writes failed. A counter of 64 bits stays at its last value.
+    /// How many writes failed, as a counter of 64 bits tells it, which stays at its last value.
     ghost faults: { Self → ℕ };
 
     /// Appends the first bytes of `piece`, at least one, and answers how many.

@@ -20,7 +20,7 @@ pub struct ListSink<'a> {
 }
 
 impl<'a> Model for ListSink<'a> {
-    ghost use Rattle.std.specs.Prelude.{◌<◌, ◌≤◌, length, vec_len};
+    ghost use Rattle.std.specs.Prelude.{◌<◌, ◌≤◌, vec_len};
     ghost use Rattle.std.specs.Vec.{vec_capacity};
     ghost use Rattle.devices.specs.ListSink.{ListSink};
 
@@ -33,8 +33,8 @@ impl<'a> Model for ListSink<'a> {
 }
 
 impl<'a> ListSink<'a> {
-    /// A sink that holds nothing and takes its room at once. Write number `k`, from 1, fails where `k` is in
-    /// `failing`.
+    /// A sink that holds nothing, with its room taken at once; `most` is not 0. Write number `k`, from 1, fails
+    /// where `k` is in `failing`.
     pub fn new(
         alloc: Global,
         room: usize,
@@ -73,10 +73,12 @@ impl<'a> Sink for ListSink<'a> {
 
     fn write(&mut self, piece: &[u8]) -> Result<usize, Failed>
         requires { 0 < length piece.now }
+        // A listed write and one at a full sink fail, append nothing, and are counted.
         ensures fails { IsErr result ↔ (FailsNext self.old.calls ⊎ IsFull self.old) }
         ensures err { OnErr result (self.new ≡ record self.old { calls = after_fault self.old.calls }) }
         ensures counted { self.old.calls.faults ≤ self.new.calls.faults }
 
+        // Any other appends what there is room for, up to the most that one write takes.
         ensures takes { IfOk result (λ n. (0 < n) × (n ≤ length piece.now)) }
         ensures count { IfOk result (λ n. n
             ≡ min (min (length piece.now) self.old.most) (self.old.room - length self.old.held)) }

@@ -28,8 +28,8 @@ impl<'a> Model for ListSource<'a> {
 }
 
 impl<'a> ListSource<'a> {
-    /// A source of these bytes, at most `piece` of them a read. Read number `k`, from 1, fails where `k` is
-    /// in `failing`.
+    /// A source of these bytes, at most `piece` of them a read, which is not 0. Read number `k`, from 1, fails
+    /// where `k` is in `failing`.
     pub fn new(bytes: &'a [u8], piece: usize, failing: &'a [u64]) -> Self
         requires { 0 < piece }
         ensures { result ≡ record { left = bytes.now; piece = piece; calls = no_calls failing.now } }
@@ -49,11 +49,13 @@ impl<'a> Source for ListSource<'a> {
 
     fn read(&mut self, buf: &mut [u8]) -> Result<usize, Failed>
         requires { 0 < length buf.old }
+        // A listed read fails, moves nothing, and is counted.
         ensures fails { IsErr result ↔ FailsNext self.old.calls }
         ensures err { OnErr result (self.new ≡ record self.old { calls = after_fault self.old.calls }) }
         ensures untouched { OnErr result (buf.new ≡ buf.old) }
         ensures counted { self.old.calls.faults ≤ self.new.calls.faults }
 
+        // Any other moves what fits, up to a piece, and is the end only where nothing is left.
         ensures count { IfOk result (λ n. n ≡ min (min (length buf.old) self.old.piece) (length self.old.left)) }
         ensures bytes { IfOk result (λ n. buf.new ≡ take n self.old.left ++ drop n buf.old) }
         ensures ends { IfOk result (λ n. n ≡ 0 → self.old.left ≡ []) }

@@ -1,6 +1,6 @@
 //! Reads a source to its end.
 
-ghost use Rattle.std.specs.Prelude.{◌≡◌, ◌<◌, ◌≤◌, ◌⊎◌, [], Err, OnOk, vec_len};
+ghost use Rattle.std.specs.Prelude.{◌≡◌, ◌<◌, ◌≤◌, ◌⊎◌, [], OnOk, vec_len};
 ghost use Rattle.devices.specs.Device.{TellsFront, NothingLeft};
 ghost use Rattle.devices.specs.Counter.{Rose};
 

@@ -1,8 +1,6 @@
 //! A source that gives the bytes of a slice.
 
-ghost use Rattle.std.specs.Prelude.{◌≡◌, ◌≤◌, ◌<◌, ◌++◌, ℕ, List, Some, Ok, min, length, take, drop, IfOk, OnErr};
-ghost use Rattle.devices.specs.Device.{TellsFront, NothingLeft};
-ghost use Rattle.devices.specs.Counter.{Rose};
+ghost use Rattle.std.specs.Prelude.{◌≡◌, ◌<◌, ◌++◌, ℕ, List, Some, IfOk, length, take, drop, min};
 
 use crate::device::{Failed, Source};
 use std::marker::Model;

@@ -1,6 +1,6 @@
 //! Worked examples of the definitions: each clause computes.
 
-ghost use Rattle.std.specs.Prelude.{◌≡◌, [], ◌∷◌, Some, None};
+ghost use Rattle.std.specs.Prelude.{◌≡◌, ◌-◌, ◌^◌, [], ◌∷◌};
 ghost use Rattle.devices.specs.Calls.{no_calls, FailsNext, after_success, after_fault};
 ghost use Rattle.devices.specs.Counter.{raised_by, Rose};
 ghost use Rattle.devices.specs.Device.{TellsFront, NothingLeft, AppendsFront, AppendsPart};
@@ -22,15 +22,16 @@ pub fn worked_writes()
     ensures twice { ¬ AppendsFront (Some []) (2 ∷ []) (Some (2 ∷ 2 ∷ [])) }
     ensures silent { AppendsFront None (2 ∷ 3 ∷ []) None }
     ensures part { AppendsPart (Some (1 ∷ [])) (2 ∷ 3 ∷ []) (Some (1 ∷ 2 ∷ [])) }
-    ensures no_part { ¬ AppendsPart (Some []) (2 ∷ 3 ∷ []) (Some (3 ∷ [])) }
+    ensures no_part { ¬ AppendsPart (Some []) (2 ∷ []) (Some (2 ∷ [])) }
+    ensures no_front { ¬ AppendsPart (Some []) (2 ∷ 3 ∷ []) (Some (3 ∷ [])) }
 {}
 
 /// Counters, in the middle and at their end.
 pub fn worked_counters()
     ensures raised { raised_by 3 4 ≡ 7 }
-    ensures ended { raised_by 3 18446744073709551614 ≡ 18446744073709551615 }
+    ensures ended { raised_by 3 (2 ^ 64 - 2) ≡ 2 ^ 64 - 1 }
     ensures rose { Rose 4 5 }
-    ensures stands { Rose 18446744073709551615 18446744073709551615 }
+    ensures stands { Rose (2 ^ 64 - 1) (2 ^ 64 - 1) }
     ensures still { ¬ Rose 4 4 }
 {}
 

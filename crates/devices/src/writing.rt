@@ -12,7 +12,7 @@ pub fn write_all<K: Sink>(sink: &mut K, text: &[u8]) -> Result<(), Failed>
     ensures err { OnErr result (AppendsPart (K.held sink.old) text.now (K.held sink.new)) }
     ensures cause { OnErr result (Rose (K.faults sink.old) (K.faults sink.new)) }
     ensures counted { K.faults sink.old ≤ K.faults sink.new }
-    ensures nothing { text.now ≡ [] → sink.new ≡ sink.old }
+    ensures empty { text.now ≡ [] → sink.new ≡ sink.old }
 {
     let mut written = 0;
     'writes: while written < text.len() {

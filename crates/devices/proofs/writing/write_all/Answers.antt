@@ -1,3 +1,4 @@
+-- One more write appends the next bytes of the text.
 use Rattle.std.proofs.Common.{take, arith, sym}
 use Rattle.std.proofs.Math.Seq.{take-add}
 use Rattle.devices.proofs.Appends.{AppendsFront-then}

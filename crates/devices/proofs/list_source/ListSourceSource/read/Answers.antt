@@ -1,3 +1,4 @@
+-- The slice source fills a part of the buffer, so the buffer is filled.
 use Rattle.std.proofs.Common.{◌≤◌, length, take, min, arith}
 use Rattle.std.proofs.lemmas.List.{length-take}
 use Rattle.devices.proofs.Moves.{fill-part}
