@@ -1,0 +1,4 @@
+pub mod OneWord
+pub mod Causes
+pub mod Segments
+pub mod Plans
