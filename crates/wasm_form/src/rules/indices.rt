@@ -18,7 +18,8 @@ pub(super) fn indices_hold(form: &Form<'_>, memories: &[MemoryType]) -> bool
 }
 
 fn all_name_memories(segments: &[DataSegment<'_>], memories: &[MemoryType]) -> bool
-    ensures { IsTrue result ↔ All (λ s. NamesMemory memories.now s.kind) (map segment_of segments.now) }
+    ensures { IsTrue result
+        ↔ All (λ s. NamesMemory memories.now s.kind) (map segment_of segments.now) }
 {
     segments
         .iter()

@@ -25,6 +25,7 @@ fn has_limits(memory: &MemoryType) -> bool
     ensures { IsTrue result ↔ HasLimits memory.now }
 {
     let log2 = memory.page_size_log2.unwrap_or(DEFAULT_PAGE_SIZE_LOG2);
+    // A page has one byte or 65536.
     if log2 != 0 && log2 != DEFAULT_PAGE_SIZE_LOG2 {
         return false;
     }

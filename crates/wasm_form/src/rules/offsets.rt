@@ -22,7 +22,8 @@ pub(super) fn offsets_hold(form: &Form<'_>, memories: &[MemoryType]) -> bool
 }
 
 fn all_have_offsets(segments: &[DataSegment<'_>], memories: &[MemoryType]) -> bool
-    ensures { IsTrue result ↔ All (λ s. HasOffset memories.now s.kind) (map segment_of segments.now) }
+    ensures { IsTrue result
+        ↔ All (λ s. HasOffset memories.now s.kind) (map segment_of segments.now) }
 {
     segments
         .iter()

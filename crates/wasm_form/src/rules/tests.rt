@@ -31,7 +31,8 @@ fn shared(memory: MemoryType) -> MemoryType {
     }
 }
 
-/// A form of these memories, a custom section, a passive segment, and an active segment for each memory index and offset.
+/// A form of these memories, a custom section, a passive segment, and an active segment for each memory index
+/// and offset.
 fn form_of(
     alloc: Global,
     memories: &[MemoryType],
