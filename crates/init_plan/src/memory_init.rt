@@ -8,7 +8,7 @@ ghost use Rattle.init_plan.specs.Ready.{MemoryHalfIsReady};
 
 use crate::error::PlanError;
 use crate::module::MemoryInitializer;
-use crate::runtime_data::{keep_active, keep_passive, ranges_end_to_end, total_length};
+use crate::runtime_data::{check_total, keep_active, keep_passive, ranges_end_to_end};
 use crate::translation::{MemoryInit, ModuleTranslation};
 use std::alloc::Global;
 use std::mem;
@@ -57,7 +57,7 @@ impl<'d> ModuleTranslation<'d> {
         let _ = max_image;
 
         let segments = self.take_segments(alloc);
-        total_length(&segments, &self.passive_data)?;
+        check_total(&segments, &self.passive_data)?;
         let kept = keep_active(alloc, segments, &mut self.runtime_data)?;
         self.memory_init = MemoryInit::Processed(kept);
         keep_passive(

@@ -16,28 +16,38 @@ use std::alloc::Global;
 use std::ops::Range;
 use wasm_index::{DataIndex, MemoryIndex, RuntimeDataIndex};
 
-// The number of bytes of all data segments, which 32 bits have to hold.
-pub(crate) fn total_length(
+// Tells whether 32 bits hold the number of bytes of all data segments together.
+#[tactic(auto, using(crate::proofs::Totals::totals))]
+pub(crate) fn check_total(
     active: &[MemoryInitializer],
     passive: &[(DataIndex, &[u8])],
-) -> Result<u32, PlanError>
-    ensures total { IfOk result (λ total. total ≡ sum_by (λ s. length s.bytes.now) active.now + sum_by (λ p. length p.1.now) passive.now) }
-    ensures too_large { IfErr result (λ error. (error ≡ PlanError.TooLarge) × (2 ^ 32 ≤ sum_by (λ s. length s.bytes.now) active.now + sum_by (λ p. length p.1.now) passive.now)) }
+) -> Result<(), PlanError>
+    ensures fits { OnOk result (sum_by length (map (λ s. s.bytes) (map active_segment_of active.now)) + sum_by length (map (λ p. p.1) (map passive_segment_of passive.now)) < 2 ^ 32) }
+    ensures too_large { IfErr result (λ error. (error ≡ PlanError.TooLarge) × (2 ^ 32 ≤ sum_by length (map (λ s. s.bytes) (map active_segment_of active.now)) + sum_by length (map (λ p. p.1) (map passive_segment_of passive.now)))) }
 {
-    let mut total = 0;
-    for segment in active {
-        total = with_length(total, segment.bytes)?;
-    }
-    with_passive_lengths(total, passive)
+    let total = active_length(active)?;
+    with_passive_lengths(total, passive)?;
+    Ok(())
 }
 
-fn with_passive_lengths(before: u32, passive: &[(DataIndex, &[u8])]) -> Result<u32, PlanError>
-    ensures total { IfOk result (λ total. total ≡ before + sum_by (λ p. length p.1.now) passive.now) }
-    ensures too_large { IfErr result (λ error. (error ≡ PlanError.TooLarge) × (2 ^ 32 ≤ before + sum_by (λ p. length p.1.now) passive.now)) }
+fn active_length(segments: &[MemoryInitializer]) -> Result<u32, PlanError>
+    ensures total { IfOk result (λ total. total ≡ sum_by (λ s. length s.bytes.now) segments.now) }
+    ensures too_large { IfErr result (λ error. (error ≡ PlanError.TooLarge) × (2 ^ 32 ≤ sum_by (λ s. length s.bytes.now) segments.now)) }
+{
+    let mut total = 0;
+    for segment in segments {
+        total = with_length(total, segment.bytes)?;
+    }
+    Ok(total)
+}
+
+fn with_passive_lengths(before: u32, segments: &[(DataIndex, &[u8])]) -> Result<u32, PlanError>
+    ensures total { IfOk result (λ total. total ≡ before + sum_by (λ p. length p.1.now) segments.now) }
+    ensures too_large { IfErr result (λ error. (error ≡ PlanError.TooLarge) × (2 ^ 32 ≤ before + sum_by (λ p. length p.1.now) segments.now)) }
 {
     let mut total = before;
-    for segment in passive {
-        total = with_length(total, segment.1)?;
+    for (_, bytes) in segments {
+        total = with_length(total, bytes)?;
     }
     Ok(total)
 }

@@ -1,4 +1,4 @@
-use Rattle.std.proofs.Common.{◌≡◌, ◌+◌, ◌++◌, length, map, drop}
+use Rattle.std.proofs.Common.{◌≡◌, ◌+◌, ◌++◌, length, map}
 use Rattle.std.specs.Vec.Iter.{into_iter_items}
 use Rattle.replay_spec.specs.Plan.{planned_from}
 use Rattle.init_plan.specs.Views.{active_segment_of, planned_segment_of, bytes_of}

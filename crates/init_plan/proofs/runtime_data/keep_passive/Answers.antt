@@ -1,6 +1,5 @@
 use Rattle.std.proofs.Common.{◌≡◌, ◌<◌, ◌++◌, [], length, map, drop, sym, ◌∙◌, arith}
 use Rattle.std.proofs.lemmas.List.{append-nil, drop_all, length-map}
-use Rattle.wasm_index.specs.Index.{number_of}
 use Rattle.init_plan.specs.Views.{bytes_of, passive_segment_of}
 use Rattle.init_plan.proofs.Entered.{All-read_map, entered, entered-found, entered-others}
 use Rattle.init_plan.proofs.runtime_data.keep_passive.Goals as goal
