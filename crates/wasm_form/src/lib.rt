@@ -4,6 +4,7 @@
 mod error;
 mod form;
 mod module;
+mod numbers;
 mod rules;
 
 pub use error::{CheckError, ReadError};
