@@ -1,5 +1,5 @@
 -- Reading from left to right, as functions on lists. Each part of the binary format has one, of the same name with `_at`.
-use Rattle.std.specs.Prelude.{◌≡◌, ℕ, zero, suc, List, [], ◌∷◌, length, take, drop, Bool, true, false, nat_lt, Option, Some, None, Result, Ok, Err, if◌then◌else◌}
+use Rattle.std.specs.Prelude.{◌≡◌, ℕ, zero, suc, List, [], ◌∷◌, length, take, drop, Bool, ◌==◌, nat_lt, Option, Some, None, Result, Ok, Err, if◌then◌else◌}
 use Rattle.wasm_spec.specs.declared.types.What.{What}
 use Rattle.wasm_form.specs.declared.error.ReadError.{ReadError}
 use Rattle.wasm_form.specs.declared.error.ReadError.TheVariants as errors

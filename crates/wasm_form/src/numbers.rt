@@ -167,8 +167,8 @@ fn long_s64_at(bytes: &[u8]) -> Result<(i64, &[u8]), ReadError>
 pub fn u32_at(bytes: &[u8]) -> Result<(u32, &[u8]), ReadError>
     ensures { Gives (λ x. (x.0, x.1.now)) result (unsigned_at 32 bytes.now) }
 {
-    match bytes {
-        [byte, rest @ ..] if *byte < 128 => Ok((u32::from(*byte), rest)),
+    match first_byte(bytes) {
+        Some((byte, rest)) if byte < 128 => Ok((u32::from(byte), rest)),
         _ => long_u32_at(bytes),
     }
 }
@@ -177,8 +177,8 @@ pub fn u32_at(bytes: &[u8]) -> Result<(u32, &[u8]), ReadError>
 pub fn u64_at(bytes: &[u8]) -> Result<(u64, &[u8]), ReadError>
     ensures { Gives (λ x. (x.0, x.1.now)) result (unsigned_at 64 bytes.now) }
 {
-    match bytes {
-        [byte, rest @ ..] if *byte < 128 => Ok((u64::from(*byte), rest)),
+    match first_byte(bytes) {
+        Some((byte, rest)) if byte < 128 => Ok((u64::from(byte), rest)),
         _ => long_u64_at(bytes),
     }
 }
@@ -187,8 +187,8 @@ pub fn u64_at(bytes: &[u8]) -> Result<(u64, &[u8]), ReadError>
 pub fn s32_at(bytes: &[u8]) -> Result<(i32, &[u8]), ReadError>
     ensures { Gives (λ x. (x.0, x.1.now)) result (signed_at 32 bytes.now) }
 {
-    match bytes {
-        [byte, rest @ ..] if *byte < 64 => Ok((i32::from(*byte), rest)),
+    match first_byte(bytes) {
+        Some((byte, rest)) if byte < 64 => Ok((i32::from(byte), rest)),
         _ => long_s32_at(bytes),
     }
 }
@@ -197,8 +197,8 @@ pub fn s32_at(bytes: &[u8]) -> Result<(i32, &[u8]), ReadError>
 pub fn s64_at(bytes: &[u8]) -> Result<(i64, &[u8]), ReadError>
     ensures { Gives (λ x. (x.0, x.1.now)) result (signed_at 64 bytes.now) }
 {
-    match bytes {
-        [byte, rest @ ..] if *byte < 64 => Ok((i64::from(*byte), rest)),
+    match first_byte(bytes) {
+        Some((byte, rest)) if byte < 64 => Ok((i64::from(byte), rest)),
         _ => long_s64_at(bytes),
     }
 }
