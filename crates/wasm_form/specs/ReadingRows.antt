@@ -1,5 +1,5 @@
 -- Reading of each row of the grammar.
-use Rattle.std.specs.Prelude.{◌≡◌, ℕ, zero, suc, ◌+◌, List, [], ◌∷◌, ◌++◌, length, drop, ◌&&◌, ◌==◌, nat_eq, nat_lt, nat_le, Option, Some, None, Result, Ok, Err, if◌then◌else◌}
+use Rattle.std.specs.Prelude.{◌≡◌, ℕ, zero, suc, ◌+◌, List, [], ◌∷◌, ◌++◌, length, drop, Bool, ◌&&◌, ◌==◌, nat_eq, nat_lt, nat_le, Option, Some, None, Result, Ok, Err, if◌then◌else◌}
 use Rattle.std.specs.List.{starts_with}
 use Rattle.std.specs.Str.{is_utf8}
 use Rattle.wasm_spec.specs.declared.types.MemoryType.{MemoryType}
@@ -100,11 +100,11 @@ sections_at (suc k) next (b ∷ bytes) = and_then (section_at next (b ∷ bytes)
 
 -- ---- modules
 
--- the bytes after the magic number and any version
-abbrev pub is_component : List ℕ → Result Module Fault
-is_component bytes = if starts_with nat_eq (drop 6 bytes) (0x01 ∷ 0x00 ∷ []) then Err (Stops what.Component) else Err Bad
+-- the header of a component
+abbrev pub is_component : List ℕ → Bool
+is_component bytes = starts_with nat_eq bytes magic && starts_with nat_eq (drop 6 bytes) (0x01 ∷ 0x00 ∷ [])
 
 unfoldable pub module_at : Filler Module
 module_at bytes =
     if starts_with nat_eq bytes header then sections_at (length (drop 8 bytes)) 0 (drop 8 bytes)
-    else (if starts_with nat_eq bytes magic then is_component bytes else Err Bad)
+    else (if is_component bytes then Err (Stops what.Component) else Err Bad)

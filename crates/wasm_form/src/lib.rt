@@ -3,6 +3,7 @@
 
 mod error;
 mod form;
+mod limits;
 mod module;
 mod numbers;
 mod rules;

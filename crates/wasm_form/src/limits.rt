@@ -1,0 +1,74 @@
+//! Memory types (core specification, 5.3.14).
+
+ghost use Rattle.std.specs.Prelude.{◌≡◌, ◌<◌, if◌then◌else◌};
+ghost use Rattle.wasm_spec.specs.Grammar.{has_bit, address_bits};
+ghost use Rattle.wasm_form.specs.Reading.{Gives, optional_at};
+ghost use Rattle.wasm_form.specs.ReadingNumbers.{unsigned_at, vector_at};
+ghost use Rattle.wasm_form.specs.ReadingRows.{memory_type_at, flagged_memory_type_at};
+
+use crate::error::ReadError;
+use crate::numbers::{first_byte, u32_at, u64_at};
+use wasm_spec::MemoryType;
+
+/// A number of 64 bits, or of 32.
+fn address_at(memory64: bool, bytes: &[u8]) -> Result<(u64, &[u8]), ReadError>
+    ensures { Gives (λ x. (x.0, x.1.now)) result (unsigned_at (if memory64 then 64 else 32) bytes.now) }
+{
+    if memory64 {
+        u64_at(bytes)
+    } else {
+        let (number, rest) = u32_at(bytes)?;
+        Ok((u64::from(number), rest))
+    }
+}
+
+/// A maximum, where there is one.
+fn maximum_at(present: bool, memory64: bool, bytes: &[u8]) -> Result<(Option<u64>, &[u8]), ReadError>
+    ensures { Gives (λ x. (x.0, x.1.now)) result (optional_at present (unsigned_at (if memory64 then 64 else 32)) bytes.now) }
+{
+    if !present {
+        return Ok((None, bytes));
+    }
+    let (number, rest) = address_at(memory64, bytes)?;
+    Ok((Some(number), rest))
+}
+
+/// The exponent of a page size, where there is one.
+fn page_size_at(present: bool, bytes: &[u8]) -> Result<(Option<u32>, &[u8]), ReadError>
+    ensures { Gives (λ x. (x.0, x.1.now)) result (optional_at present (unsigned_at 32) bytes.now) }
+{
+    if !present {
+        return Ok((None, bytes));
+    }
+    let (number, rest) = u32_at(bytes)?;
+    Ok((Some(number), rest))
+}
+
+#[tactic(auto, unfolding(crate::specs::ReadingRows::flagged_memory_type_at))]
+fn flagged_memory_type(flags: u8, bytes: &[u8]) -> Result<(MemoryType, &[u8]), ReadError>
+    ensures { Gives (λ x. (x.0, x.1.now)) result (flagged_memory_type_at flags bytes.now) }
+{
+    let memory64 = flags & 0b0100 != 0;
+    let (initial, rest) = address_at(memory64, bytes)?;
+    let (maximum, rest) = maximum_at(flags & 0b0001 != 0, memory64, rest)?;
+    let (page_size_log2, rest) = page_size_at(flags & 0b1000 != 0, rest)?;
+    let memory_type = MemoryType {
+        memory64,
+        shared: flags & 0b0010 != 0,
+        initial,
+        maximum,
+        page_size_log2,
+    };
+    Ok((memory_type, rest))
+}
+
+/// A memory type.
+#[tactic(auto, unfolding(crate::specs::ReadingRows::memory_type_at))]
+pub fn memory_type(bytes: &[u8]) -> Result<(MemoryType, &[u8]), ReadError>
+    ensures { Gives (λ x. (x.0, x.1.now)) result (memory_type_at bytes.now) }
+{
+    match first_byte(bytes) {
+        Some((flags, rest)) if flags < 16 => flagged_memory_type(flags, rest),
+        _ => Err(ReadError::Malformed),
+    }
+}
