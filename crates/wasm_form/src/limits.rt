@@ -10,6 +10,19 @@ use crate::error::ReadError;
 use crate::numbers::{first_byte, u32_at, u64_at};
 use wasm_spec::MemoryType;
 
+/// The bits of the flags.
+const HAS_MAXIMUM: u8 = 0;
+const IS_SHARED: u8 = 1;
+const IS_64: u8 = 2;
+const HAS_PAGE_SIZE: u8 = 3;
+
+fn is_set(flags: u8, bit: u8) -> bool
+    requires { bit < 8 }
+    ensures { result ≡ has_bit bit flags }
+{
+    (flags >> bit) & 1 == 1
+}
+
 /// A number of 64 bits, or of 32.
 fn address_at(memory64: bool, bytes: &[u8]) -> Result<(u64, &[u8]), ReadError>
     ensures { Gives (λ x. (x.0, x.1.now)) result (unsigned_at (if memory64 then 64 else 32) bytes.now) }
@@ -48,13 +61,13 @@ fn page_size_at(present: bool, bytes: &[u8]) -> Result<(Option<u32>, &[u8]), Rea
 fn flagged_memory_type(flags: u8, bytes: &[u8]) -> Result<(MemoryType, &[u8]), ReadError>
     ensures { Gives (λ x. (x.0, x.1.now)) result (flagged_memory_type_at flags bytes.now) }
 {
-    let memory64 = flags & 0b0100 != 0;
+    let memory64 = is_set(flags, IS_64);
     let (initial, rest) = address_at(memory64, bytes)?;
-    let (maximum, rest) = maximum_at(flags & 0b0001 != 0, memory64, rest)?;
-    let (page_size_log2, rest) = page_size_at(flags & 0b1000 != 0, rest)?;
+    let (maximum, rest) = maximum_at(is_set(flags, HAS_MAXIMUM), memory64, rest)?;
+    let (page_size_log2, rest) = page_size_at(is_set(flags, HAS_PAGE_SIZE), rest)?;
     let memory_type = MemoryType {
         memory64,
-        shared: flags & 0b0010 != 0,
+        shared: is_set(flags, IS_SHARED),
         initial,
         maximum,
         page_size_log2,
