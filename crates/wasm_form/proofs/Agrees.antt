@@ -6,7 +6,7 @@ use Rattle.std.proofs.lemmas.List.{append-nil, nil_from_length, take_at, drop_at
 use Rattle.wasm_spec.specs.declared.types.What.{What}
 use Rattle.wasm_spec.specs.Parts as part
 use Rattle.wasm_spec.specs.Parts.{Part, Joined, StopsLater, FilledStops}
-use Rattle.wasm_form.specs.Reading.{Fault, Bad, Stops, Reader, Filler, and_then, ◌>>=◌, gives_at, nothing_at, stopped_at, raw_bytes_at, all_bytes_at, fill_after, choose_at, optional_at, checked_at, first_byte_at, elements_at, filled_at, whole}
+use Rattle.wasm_form.specs.Reading.{Fault, Bad, Stops, Reader, Filler, and_then, ◌>>=◌, gives_at, nothing_at, stopped_at, raw_bytes_at, all_bytes_at, fill_after, choose_at, optional_at, checked_at, first_byte_at, elements_at, whole}
 
 -- what is read is spelled so, what is spelled so is read, whatever follows, and reading stops where the part does
 pub record Agrees {A : Type 0} (read : Reader A) (p : Part A) : Type 0 where
@@ -21,6 +21,15 @@ pub record Fills {A : Type 0} (read : Filler A) (p : Part A) : Type 0 where
   pub again : (bytes : List ℕ) (x : A) → p.spells bytes x → read bytes ≡ Ok x
   pub stopped : (bytes : List ℕ) (what : What) → read bytes ≡ Err (Stops what) → p.stops bytes what
   pub stops_again : (bytes : List ℕ) (what : What) → p.stops bytes what → read bytes ≡ Err (Stops what)
+
+-- a reader that reads the same
+pub same_agrees : {A : Type 0} {p q : Reader A} {g : Part A} → ((bytes : List ℕ) → q bytes ≡ p bytes) → Agrees p g → Agrees q g
+same_agrees same a = record {
+  found = λ bytes x rest e. a.found bytes x rest (sym (same bytes) ∙ e);
+  again = λ front x rest s. same (front ++ rest) ∙ a.again front x rest s;
+  stopped = λ bytes what e. a.stopped bytes what (sym (same bytes) ∙ e);
+  stops_again = λ bytes what s. same bytes ∙ a.stops_again bytes what s;
+}
 
 -- ---- steps that may fail
 
@@ -286,9 +295,12 @@ module _ {A : Type 0} (p : Reader A) (g : Part A) (a : Agrees p g) where
 pub whole_fills : {A : Type 0} {p : Reader A} {g : Part A} → Agrees p g → Fills (whole p) g
 whole_fills {A} {p} {g} a = record { found = whole_found p g a; again = whole_again p g a; stopped = whole_stopped p g a; stops_again = whole_stops_again p g a }
 
+-- the first n bytes
+abbrev pub filled_at : {A : Type 0} → Filler A → ℕ → Reader A
+filled_at part n bytes = and_then (raw_bytes_at n bytes) (λ x. and_then (part x.0) (λ y. Ok (y, x.1)))
+
 module _ {A : Type 0} (p : Filler A) (g : Part A) (a : Fills p g) (n : ℕ) where
   filled_found : (bytes : List ℕ) (y : A) (rest : List ℕ) → filled_at p n bytes ≡ Ok (y, rest) → (front : List ℕ) × (bytes ≡ front ++ rest) × ((length front ≡ n) × g.spells front y)
-  unfolding filled_at
   filled_found bytes y rest e =
       let s = step_ok (raw_bytes_at n bytes) (λ x. and_then (p x.0) (λ y. Ok (y, x.1))) (y, rest) e in
       let t = step_ok (p s.0.0) (λ y. Ok (y, s.0.1)) (y, rest) s.2 in
@@ -299,11 +311,9 @@ module _ {A : Type 0} (p : Filler A) (g : Part A) (a : Fills p g) (n : ℕ) wher
       subst (λ (q : A × List ℕ). (front : List ℕ) × (bytes ≡ front ++ q.1) × ((length front ≡ n) × g.spells front q.0)) same (f.0, f.1, (long, is))
 
   filled_again : (front : List ℕ) (y : A) (rest : List ℕ) → ((length front ≡ n) × g.spells front y) → filled_at p n (front ++ rest) ≡ Ok (y, rest)
-  unfolding filled_at
   filled_again front y rest s = rw ((raw_bytes_agree n).again front front rest (refl, s.0), a.again front y s.1) refl
 
   filled_stopped : (bytes : List ℕ) (what : What) → filled_at p n bytes ≡ Err (Stops what) → FilledStops g n bytes what
-  unfolding filled_at
   filled_stopped bytes what e = elim (step_err (raw_bytes_at n bytes) (λ x. and_then (p x.0) (λ y. Ok (y, x.1))) (Stops what) e) [
     | inl k ↦ absurd ((raw_bytes_agree n).stopped bytes what k)
     | inr (x, k, l) ↦ inside x k (step_err (p x.0) (λ y. Ok (y, x.1)) (Stops what) l)
@@ -316,7 +326,6 @@ module _ {A : Type 0} (p : Filler A) (g : Part A) (a : Fills p g) (n : ℕ) wher
       inside x k (inr (y, m, never)) = absurd (ok_not_err (y, x.1) (Stops what) never)
 
   filled_stops_again : (bytes : List ℕ) (what : What) → FilledStops g n bytes what → filled_at p n bytes ≡ Err (Stops what)
-  unfolding filled_at
   filled_stops_again bytes what s = rw (s.parts, (raw_bytes_agree n).again s.inside s.inside s.after (refl, s.long), a.stops_again s.inside what s.stops_inside) refl
 
 pub filled_agrees : {A : Type 0} {p : Filler A} {g : Part A} → Fills p g → (n : ℕ) → Agrees (filled_at p n) (part.filled g n)

@@ -9,9 +9,9 @@ use Rattle.wasm_spec.specs.declared.types.What.{What}
 use Rattle.wasm_spec.specs.Numbers.{EndsOnce, sevens, signed_sum, most_bytes, SpellsUnsigned, SpellsSigned}
 use Rattle.wasm_spec.specs.Parts as part
 use Rattle.wasm_spec.specs.Parts.{Part}
-use Rattle.wasm_form.specs.Reading.{Fault, Bad, Stops, Reader, Filler}
+use Rattle.wasm_form.specs.Reading.{Fault, Bad, Stops, Reader, Filler, and_then, raw_bytes_at}
 use Rattle.wasm_form.specs.ReadingNumbers.{Found, number_bytes, found_as, found_at, unsigned_from, unsigned_at, signed_of, signed_from, signed_at, vector_at, counted_bytes_at, sized_at}
-use Rattle.wasm_form.proofs.Agrees.{Agrees, Fills, ok, err, test_ok, test_not_stops, bad_not_stops, raw_bytes_agree, then_agrees, elements_agree, filled_agrees}
+use Rattle.wasm_form.proofs.Agrees.{Agrees, Fills, ok, err, test_ok, test_not_stops, bad_not_stops, same_agrees, filled_at, raw_bytes_agree, then_agrees, elements_agree, filled_agrees}
 
 -- ---- the bytes of a number
 
@@ -130,6 +130,12 @@ pub counted_bytes_agree : Agrees counted_bytes_at part.counted_bytes
 unfolding counted_bytes_at
 counted_bytes_agree = then_agrees (unsigned_agrees 32) (λ count. raw_bytes_agree count)
 
+abbrev filled_by : {A : Type 0} → Filler A → List ℕ × List ℕ → Result (A × List ℕ) Fault
+filled_by p body = and_then (p body.0) (λ x. Ok (x, body.1))
+
 pub sized_agrees : {A : Type 0} {p : Filler A} {g : Part A} → Fills p g → Agrees (sized_at p) (part.sized g)
-unfolding sized_at
-sized_agrees a = then_agrees (unsigned_agrees 32) (λ size. filled_agrees a size)
+unfolding sized_at counted_bytes_at
+sized_agrees {A} {p} a = same_agrees (λ bytes. same (unsigned_at 32 bytes)) (then_agrees (unsigned_agrees 32) (λ size. filled_agrees a size)) where
+  same : (r : Result (ℕ × List ℕ) Fault) → and_then (and_then r (λ n. raw_bytes_at n.0 n.1)) (filled_by p) ≡ and_then r (λ n. filled_at p n.0 n.1)
+  same (Ok n) = refl
+  same (Err fault) = refl

@@ -88,10 +88,6 @@ unfoldable pub elements_at : {A : Type 0} → Reader A → ℕ → Reader (List 
 elements_at part zero = gives_at []
 elements_at part (suc n) = part >>= λ x. elements_at part n >>= λ xs. gives_at (x ∷ xs)
 
--- contents that fill the first n bytes
-unfoldable pub filled_at : {A : Type 0} → Filler A → ℕ → Reader A
-filled_at part n bytes = and_then (raw_bytes_at n bytes) (λ x. and_then (part x.0) (λ y. Ok (y, x.1)))
-
 -- all of the bytes
 unfoldable pub whole : {A : Type 0} → Reader A → Filler A
 whole p bytes = and_then (p bytes) (λ x. if length x.1 == 0 then Ok x.0 else Err Bad)

@@ -4,7 +4,7 @@ use Rattle.std.specs.Option.{option_map}
 use Rattle.wasm_spec.specs.Numbers.{sevens, last_or, most_bytes}
 use Rattle.wasm_form.specs.declared.numbers.Sevens.{Sevens}
 use Rattle.wasm_form.specs.declared.numbers.WideSevens.{WideSevens}
-use Rattle.wasm_form.specs.Reading.{Fault, Bad, Reader, Filler, ◌>>=◌, elements_at, raw_bytes_at, filled_at}
+use Rattle.wasm_form.specs.Reading.{Fault, Bad, Reader, Filler, ◌>>=◌, and_then, elements_at, raw_bytes_at}
 
 -- the bytes up to the first below 128, of at most so many, and the rest
 abbrev pub number_bytes : ℕ → List ℕ → Option (List ℕ × List ℕ)
@@ -58,5 +58,6 @@ vector_at part = unsigned_at 32 >>= λ count. elements_at part count
 unfoldable pub counted_bytes_at : Reader (List ℕ)
 counted_bytes_at = unsigned_at 32 >>= λ count. raw_bytes_at count
 
+-- contents that fill the bytes that a size counts
 unfoldable pub sized_at : {A : Type 0} → Filler A → Reader A
-sized_at part = unsigned_at 32 >>= λ size. filled_at part size
+sized_at part bytes = and_then (counted_bytes_at bytes) (λ body. and_then (part body.0) (λ x. Ok (x, body.1)))

@@ -2,11 +2,14 @@
 #![tactic(auto)]
 
 mod error;
+mod expressions;
 mod form;
 mod limits;
 mod module;
 mod numbers;
 mod rules;
+mod segments;
+mod vectors;
 
 pub use error::{CheckError, ReadError};
 pub use form::{ConstExpr, Custom, DataKind, DataSegment, Form, Payload};
