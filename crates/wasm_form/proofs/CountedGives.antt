@@ -2,7 +2,7 @@
 use Rattle.std.proofs.Common.{◌≡◌, ℕ, zero, suc, List, [], ◌∷◌, ◌++◌, Result, Ok, Err, refl, sym, ap, ◌∙◌, subst, inl, inr, map}
 use Rattle.std.specs.Borrow.{Bor}
 use Rattle.std.specs.Global.{Vec}
-use Rattle.std.proofs.lemmas.List.{append-nil, map_push}
+use Rattle.std.proofs.lemmas.List.{append-nil, map_push, map-id}
 use Rattle.wasm_form.specs.declared.error.ReadError.{ReadError}
 use Rattle.wasm_form.specs.declared.error.ReadError.TheVariants as errors
 use Rattle.wasm_form.specs.Reading.{and_then, Filler, Gives, Fails, Fault, elements_at}
@@ -49,6 +49,16 @@ module _ {X A : Type 0} (view : X → A) (part : List ℕ → Result (A × List 
   unfolding vector_at
   vector_gives bytes r (inl (e, is, failed)) = subst (λ (q : Returned (Vec X)). Reads q (vector_at part bytes)) (sym is) (fails_on e (unsigned_at 32 bytes) (λ n. elements_at part n.0 n.1) failed)
   vector_gives bytes r (inr (count, rest, read, h)) = rw read (counted_gives count rest r h)
+
+-- elements that are seen as they are
+module _ {X : Type 0} (part : List ℕ → Result (X × List ℕ) Fault) (step : Bor (List ℕ) → Returned X → Type 0)
+    (steps : (at : Bor (List ℕ)) (one : Returned X) → step at one → Gives (λ x. (x.0, x.1.now)) one (part at.now)) where
+  as_they_are : (r : Returned (Vec X)) (read : Result (List X × List ℕ) Fault) → Gives (λ x. (map (λ (y : X). y) x.0.items, x.1.now)) r read → Gives (λ x. (x.0.items, x.1.now)) r read
+  as_they_are (Ok x) read h = h ∙ ap (λ (xs : List X). Ok (xs, x.1.now)) (map-id x.0.items)
+  as_they_are (Err e) read h = h
+
+  pub plain_vector_gives : (bytes : List ℕ) (r : Returned (Vec X)) → VectorRead step (unsigned_at 32 bytes) r → Gives (λ x. (x.0.items, x.1.now)) r (vector_at part bytes)
+  plain_vector_gives bytes r h = as_they_are r (vector_at part bytes) (vector_gives (λ x. x) part step steps bytes r h)
 
 module _ {X A : Type 0} (view : X → A) (part : Filler A) (step : Bor (List ℕ) → Result X ReadError → Type 0)
     (steps : (at : Bor (List ℕ)) (one : Result X ReadError) → step at one → Gives view one (part at.now)) where

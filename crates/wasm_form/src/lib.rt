@@ -8,6 +8,7 @@ mod limits;
 mod module;
 mod numbers;
 mod rules;
+mod sections;
 mod segments;
 mod vectors;
 

@@ -8,6 +8,8 @@ ghost use Rattle.wasm_form.specs.ReadingRows.{memory_type_at, flagged_memory_typ
 
 use crate::error::ReadError;
 use crate::numbers::{first_byte, u32_at, u64_at};
+use crate::vectors::vector;
+use std::alloc::Global;
 use wasm_spec::MemoryType;
 
 /// The bits of the flags.
@@ -75,13 +77,20 @@ fn flagged_memory_type(flags: u8, bytes: &[u8]) -> Result<(MemoryType, &[u8]), R
     Ok((memory_type, rest))
 }
 
-/// A memory type.
+/// A memory type. Readers of elements all take the allocator.
 #[tactic(auto, unfolding(crate::specs::ReadingRows::memory_type_at))]
-pub fn memory_type(bytes: &[u8]) -> Result<(MemoryType, &[u8]), ReadError>
+fn memory_type(_alloc: Global, bytes: &[u8]) -> Result<(MemoryType, &[u8]), ReadError>
     ensures { Gives (λ x. (x.0, x.1.now)) result (memory_type_at bytes.now) }
 {
     match first_byte(bytes) {
         Some((flags, rest)) if flags < 16 => flagged_memory_type(flags, rest),
         _ => Err(ReadError::Malformed),
     }
+}
+
+/// A count, and that many memory types.
+pub fn memory_types(alloc: Global, bytes: &[u8]) -> Result<(Vec<MemoryType>, &[u8]), ReadError>
+    ensures { Gives (λ x. (x.0.items, x.1.now)) result (vector_at memory_type_at bytes.now) }
+{
+    vector(alloc, bytes, memory_type)
 }

@@ -1,14 +1,16 @@
 //! Data segments (core specification, 5.5.16).
 
+ghost use Rattle.std.specs.Prelude.{map};
 ghost use Rattle.wasm_form.specs.Views.{segment_of};
 ghost use Rattle.wasm_form.specs.Reading.{Gives};
+ghost use Rattle.wasm_form.specs.ReadingNumbers.{vector_at};
 ghost use Rattle.wasm_form.specs.ReadingRows.{active_segment_at, passive_segment_at, data_segment_at};
 
 use crate::error::ReadError;
 use crate::expressions::expression;
 use crate::form::{DataKind, DataSegment};
 use crate::numbers::u32_at;
-use crate::vectors::counted_bytes;
+use crate::vectors::{counted_bytes, vector};
 use std::alloc::Global;
 
 #[tactic(auto, unfolding(crate::specs::ReadingRows::active_segment_at))]
@@ -55,4 +57,11 @@ pub fn data_segment<'d>(
         }
         _ => Err(ReadError::Malformed),
     }
+}
+
+/// A count, and that many data segments.
+pub fn data_segments<'d>(alloc: Global, bytes: &'d [u8]) -> Result<(Vec<DataSegment<'d>>, &'d [u8]), ReadError>
+    ensures { Gives (λ x. (map segment_of x.0.items, x.1.now)) result (vector_at data_segment_at bytes.now) }
+{
+    vector(alloc, bytes, data_segment)
 }
