@@ -4,6 +4,7 @@
 mod error;
 mod expressions;
 mod form;
+mod laws;
 mod limits;
 mod module;
 mod numbers;
@@ -14,6 +15,7 @@ mod vectors;
 
 pub use error::{CheckError, ReadError};
 pub use form::{ConstExpr, Custom, DataKind, DataSegment, Form, Payload};
+pub use laws::spelling_is_unique;
 pub use module::{MAX_MODULE_SIZE, read_module};
 pub use rules::check;
 pub use wasm_spec::{MemoryType, Operator, Rule, What};
