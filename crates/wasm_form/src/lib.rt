@@ -19,3 +19,6 @@ pub use laws::spelling_is_unique;
 pub use module::{MAX_MODULE_SIZE, read_module};
 pub use rules::check;
 pub use wasm_spec::{MemoryType, Operator, Rule, What};
+
+#[cfg(test)]
+mod tests;
