@@ -8,7 +8,7 @@ use Rattle.wasm_form.specs.declared.error.ReadError.TheVariants as errors
 use Rattle.wasm_form.specs.Reading.{and_then, Filler, Gives, Fails, Fault, elements_at}
 use Rattle.wasm_form.specs.ReadingNumbers.{unsigned_at, vector_at, counted_bytes_at, sized_at}
 use Rattle.wasm_form.specs.ReadingVectors.{Returned, Counted, VectorRead, SizedRead}
-use Rattle.wasm_form.proofs.Loop.{with_front, regroup}
+use Rattle.wasm_form.proofs.Loop.{with_front, regroup, all_so_far}
 
 fails_on : {A B : Type 0} (e : ReadError) (read : Result A Fault) (f : A → Result B Fault) → Fails e read → Fails e (and_then read f)
 fails_on errors.OutOfMemory read f h = tt
@@ -38,12 +38,8 @@ module _ {X A : Type 0} (view : X → A) (part : List ℕ → Result (A × List 
       subst (λ (q : Result (Vec X × Bor (List ℕ)) ReadError). Reads q (with_front (map view front) (elements_at part (suc n) bs))) (sym is)
       (fails_on d _ _ (fails_on d (part bs) _ failed))
 
-  same : (r : Result (List A × List ℕ) Fault) → with_front [] r ≡ r
-  same (Ok x) = refl
-  same (Err f) = refl
-
   pub counted_gives : (n : ℕ) (bs : List ℕ) (r : Result (Vec X × Bor (List ℕ)) ReadError) → Counted step n bs [] r → Reads r (elements_at part n bs)
-  counted_gives n bs r h = subst (Reads r) (same (elements_at part n bs)) (counted_front n bs [] r h)
+  counted_gives n bs r h = subst (Reads r) (all_so_far (elements_at part n bs)) (counted_front n bs [] r h)
 
   pub vector_gives : (bytes : List ℕ) (r : Returned (Vec X)) → VectorRead step (unsigned_at 32 bytes) r → Reads r (vector_at part bytes)
   unfolding vector_at

@@ -37,10 +37,10 @@ elements_uncons {A} g x xs bytes s =
 -- ---- operators behind their first byte
 
 -- a part behind its first byte
-abbrev behind : {A : Type 0} → Part A → ℕ → Part A
+abbrev pub behind : {A : Type 0} → Part A → ℕ → Part A
 behind g b = record { spells = λ bytes. g.spells (b ∷ bytes); stops = λ bytes. g.stops (b ∷ bytes) }
 
-operator_after_agrees : (b : ℕ) → Agrees (operator_after b) (behind grammar.operator b)
+pub operator_after_agrees : (b : ℕ) → Agrees (operator_after b) (behind grammar.operator b)
 unfolding operator_after
 operator_after_agrees b =
     choose_agrees (b == 0x41) (then_agrees (signed_agrees 32) (λ value. gives_agrees (I32Const value)))
@@ -108,8 +108,14 @@ spelled_in_steps (op ∷ ops) (suc k) front s l = split (λ b are m. spelled_in_
       let all : front ++ 0x0B ∷ [] ≡ c ∷ (f ++ (b ++ 0x0B ∷ [])) = rw parts (ap (λ (l : List ℕ). c ∷ l) (append_assoc f b (0x0B ∷ []))) in
       let P : List ℕ → Type 0 = λ bytes. (steps (suc k)).spells bytes (op ∷ ops) in
       subst P (sym all) (go_on k c (f ++ (b ++ 0x0B ∷ [])) (op ∷ ops) (not_end c f op is)
-      (record { value = op; front = f; back = b ++ 0x0B ∷ []; parts = refl; is_first = is;
-        is_second = record { value = ops; front = b ++ 0x0B ∷ []; back = []; parts = sym (append-nil (b ++ 0x0B ∷ [])); is_first = later; is_second = (refl, refl) } }))
+      (record {
+        value = op;
+        front = f;
+        back = b ++ 0x0B ∷ [];
+        parts = refl;
+        is_first = is;
+        is_second = record { value = ops; front = b ++ 0x0B ∷ []; back = []; parts = sym (append-nil (b ++ 0x0B ∷ [])); is_first = later; is_second = (refl, refl) };
+      }))
 
 steps_stop : (k : ℕ) (bytes : List ℕ) (w : What) → (steps k).stops bytes w → ExpressionStops bytes w
 steps_stop zero bytes w s = absurd s

@@ -14,3 +14,8 @@ regroup front n (Err f) = refl
 -- what is read is what was read before, and nothing more
 pub so_far_ends : {A : Type 0} (front : List A) (bytes : List ℕ) (total : Result (List A × List ℕ) Fault) → with_front front (Ok ([], bytes)) ≡ total → total ≡ Ok (front, bytes)
 so_far_ends {A} front bytes total e = sym e ∙ ap (λ (xs : List A). Ok (xs, bytes)) (append-nil front)
+
+-- nothing was read before
+pub all_so_far : {A : Type 0} (read : Result (List A × List ℕ) Fault) → with_front [] read ≡ read
+all_so_far (Ok x) = refl
+all_so_far (Err fault) = refl

@@ -12,7 +12,7 @@ use Rattle.wasm_spec.specs.Module.{Payload, Module}
 use Rattle.wasm_spec.specs.Grammar as grammar
 use Rattle.wasm_spec.specs.Grammar.{SpellsSections, next_place, place_after_all, magic, header, Spells, Stops as IsStopped, IsComponent, SectionsStop}
 use Rattle.wasm_form.specs.Reading.{Fault, Bad, Stops, and_then}
-use Rattle.wasm_form.specs.ReadingRows.{section_at, sections_at, is_component, module_at}
+use Rattle.wasm_form.specs.ReadingRows.{section_at, sections_at, all_sections_at, is_component, module_at}
 use Rattle.wasm_form.proofs.Agrees.{Fills, ok, err, ok_is, ok_not_err, bad_not_stops, step_ok, step_err}
 use Rattle.wasm_form.proofs.RowLaws.{section_agrees}
 

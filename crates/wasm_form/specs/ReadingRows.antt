@@ -98,6 +98,10 @@ sections_at k next [] = Ok []
 sections_at zero next (b ∷ bytes) = Err Bad
 sections_at (suc k) next (b ∷ bytes) = and_then (section_at next (b ∷ bytes)) (λ p. and_then (sections_at k (next_place next p.0) p.1) (λ ps. Ok (p.0 ∷ ps)))
 
+-- each section takes a byte at least
+abbrev pub all_sections_at : ℕ → Filler Module
+all_sections_at next bytes = sections_at (length bytes) next bytes
+
 -- ---- modules
 
 -- the header of a component
@@ -106,5 +110,5 @@ is_component bytes = starts_with nat_eq bytes magic && starts_with nat_eq (drop 
 
 unfoldable pub module_at : Filler Module
 module_at bytes =
-    if starts_with nat_eq bytes header then sections_at (length (drop 8 bytes)) 0 (drop 8 bytes)
+    if starts_with nat_eq bytes header then all_sections_at 0 (drop 8 bytes)
     else (if is_component bytes then Err (Stops what.Component) else Err Bad)

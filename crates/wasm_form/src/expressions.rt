@@ -38,10 +38,7 @@ pub fn expression(alloc: Global, bytes: &[u8]) -> Result<(ConstExpr, &[u8]), Rea
 {
     let mut ops = Vec::new(alloc);
     let mut rest = bytes;
-    'ops: for _ in 0..bytes.len() {
-        let Some((first, after)) = first_byte(rest) else {
-            return Err(ReadError::Malformed);
-        };
+    while let Some((first, after)) = first_byte(rest) {
         if first == END {
             return Ok((ConstExpr { ops }, after));
         }

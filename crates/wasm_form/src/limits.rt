@@ -1,7 +1,7 @@
 //! Memory types (core specification, 5.3.14).
 
 ghost use Rattle.std.specs.Prelude.{◌≡◌, ◌<◌, if◌then◌else◌};
-ghost use Rattle.wasm_spec.specs.Grammar.{has_bit, address_bits};
+ghost use Rattle.wasm_spec.specs.Grammar.{has_bit};
 ghost use Rattle.wasm_form.specs.Reading.{Gives, optional_at};
 ghost use Rattle.wasm_form.specs.ReadingNumbers.{unsigned_at, vector_at};
 ghost use Rattle.wasm_form.specs.ReadingRows.{memory_type_at, flagged_memory_type_at};
@@ -12,12 +12,16 @@ use crate::vectors::vector;
 use std::alloc::Global;
 use wasm_spec::MemoryType;
 
-/// The bits of the flags.
+/// Which bit of the flags says what.
 const HAS_MAXIMUM: u8 = 0;
+
 const IS_SHARED: u8 = 1;
+
 const IS_64: u8 = 2;
+
 const HAS_PAGE_SIZE: u8 = 3;
 
+/// Whether a bit of the flags is set.
 fn is_set(flags: u8, bit: u8) -> bool
     requires { bit < 8 }
     ensures { result ≡ has_bit bit flags }
@@ -38,7 +42,11 @@ fn address_at(memory64: bool, bytes: &[u8]) -> Result<(u64, &[u8]), ReadError>
 }
 
 /// A maximum, where there is one.
-fn maximum_at(present: bool, memory64: bool, bytes: &[u8]) -> Result<(Option<u64>, &[u8]), ReadError>
+fn maximum_at(
+    present: bool,
+    memory64: bool,
+    bytes: &[u8],
+) -> Result<(Option<u64>, &[u8]), ReadError>
     ensures { Gives (λ x. (x.0, x.1.now)) result (optional_at present (unsigned_at (if memory64 then 64 else 32)) bytes.now) }
 {
     if !present {
@@ -59,6 +67,7 @@ fn page_size_at(present: bool, bytes: &[u8]) -> Result<(Option<u32>, &[u8]), Rea
     Ok((Some(number), rest))
 }
 
+/// What follows the flags of a memory type.
 #[tactic(auto, unfolding(crate::specs::ReadingRows::flagged_memory_type_at))]
 fn flagged_memory_type(flags: u8, bytes: &[u8]) -> Result<(MemoryType, &[u8]), ReadError>
     ensures { Gives (λ x. (x.0, x.1.now)) result (flagged_memory_type_at flags bytes.now) }

@@ -1,6 +1,6 @@
 //! Modules (core specification, 5.5.17).
 
-ghost use Rattle.std.specs.Prelude.{◌≡◌, ◌↔◌, ◌^◌, ◌<◌, ◌≤◌, length, map, IfOk, OnOk, Err};
+ghost use Rattle.std.specs.Prelude.{◌≡◌, ◌↔◌, ◌^◌, ◌<◌, ◌≤◌, length, map, IfOk, Err};
 ghost use Rattle.wasm_spec.specs.declared.types.What.{What};
 ghost use Rattle.wasm_spec.specs.Module.{Module};
 ghost use Rattle.wasm_spec.specs.Grammar.{Spells, Stops};
@@ -17,9 +17,10 @@ use wasm_spec::What;
 /// Input of this many bytes, 2^30, and of more is too large.
 pub const MAX_MODULE_SIZE: usize = 1073741824;
 
+/// The first bytes of modules and components.
 const MAGIC: [u8; 4] = [0x00, 0x61, 0x73, 0x6D];
 
-/// The magic number and the version.
+/// Those bytes, and the version of modules.
 const HEADER: [u8; 8] = [0x00, 0x61, 0x73, 0x6D, 0x01, 0x00, 0x00, 0x00];
 
 /// The end of a component's version.
@@ -32,6 +33,7 @@ fn is_component(bytes: &[u8]) -> bool
     bytes.starts_with(&MAGIC) && bytes.len() > 6 && bytes[6..].starts_with(&COMPONENT_LAYER)
 }
 
+/// The sections behind the header.
 #[tactic(auto, unfolding(crate::specs::ReadingRows::module_at))]
 fn payloads<'d>(alloc: Global, bytes: &'d [u8]) -> Result<Vec<Payload<'d>>, ReadError>
     ensures { Gives (λ x. map payload_of x.items) result (module_at bytes.now) }

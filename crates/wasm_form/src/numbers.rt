@@ -1,6 +1,6 @@
 //! Numbers at the front of bytes (core specification, 5.2.2).
 
-ghost use Rattle.std.specs.Prelude.{◌≡◌, ◌≤◌, ◌<◌, ◌^◌, ℕ, length, IfSome};
+ghost use Rattle.std.specs.Prelude.{◌≡◌, ◌≤◌, ◌<◌, ◌^◌, IfSome};
 ghost use Rattle.std.specs.Option.{option_map};
 ghost use Rattle.wasm_form.specs.Reading.{Gives, uncons};
 ghost use Rattle.wasm_form.specs.ReadingNumbers.{unsigned_at, signed_at, signed_of, found_at, sevens_of, wide_sevens_of};
@@ -32,6 +32,7 @@ pub struct WideSevens {
 }
 
 /// The first byte, and the bytes after it.
+#[inline]
 pub fn first_byte(bytes: &[u8]) -> Option<(u8, &[u8])>
     ensures { option_map (λ x. (x.0, x.1.now)) result ≡ uncons bytes.now }
 {
@@ -41,6 +42,7 @@ pub fn first_byte(bytes: &[u8]) -> Option<(u8, &[u8])>
     }
 }
 
+/// The bytes up to the first below 128, of at most five.
 #[tactic(auto, unfolding(crate::specs::ReadingNumbers::found_at))]
 fn sevens_at(bytes: &[u8]) -> Option<(Sevens, &[u8])>
     ensures small { IfSome result (λ x. (x.0.sum < x.0.weight) × (x.0.weight ≤ 2 ^ 35)) }
@@ -63,6 +65,7 @@ fn sevens_at(bytes: &[u8]) -> Option<(Sevens, &[u8])>
     None
 }
 
+/// The bytes up to the first below 128, of at most ten.
 #[tactic(auto, unfolding(crate::specs::ReadingNumbers::found_at))]
 fn wide_sevens_at(bytes: &[u8]) -> Option<(WideSevens, &[u8])>
     ensures small { IfSome result (λ x. (x.0.sum < x.0.weight) × (x.0.weight ≤ 2 ^ 70)) }
@@ -111,6 +114,7 @@ fn long_u64_at(bytes: &[u8]) -> Result<(u64, &[u8]), ReadError>
     }
 }
 
+/// The number that the bytes spell where it is signed: bit 6 of the last byte is its sign.
 fn signed(found: &Sevens) -> i64
     requires below { found.now.sum < found.now.weight }
     requires small { found.now.weight ≤ 2 ^ 35 }
@@ -124,6 +128,7 @@ fn signed(found: &Sevens) -> i64
     }
 }
 
+/// As `signed`, for more bytes.
 fn wide_signed(found: &WideSevens) -> i128
     requires below { found.now.sum < found.now.weight }
     requires small { found.now.weight ≤ 2 ^ 70 }
@@ -163,7 +168,8 @@ fn long_s64_at(bytes: &[u8]) -> Result<(i64, &[u8]), ReadError>
     }
 }
 
-/// An unsigned number of 32 bits.
+/// An unsigned number of 32 bits. Most numbers have one byte, so that has a path of its own.
+#[inline]
 pub fn u32_at(bytes: &[u8]) -> Result<(u32, &[u8]), ReadError>
     ensures { Gives (λ x. (x.0, x.1.now)) result (unsigned_at 32 bytes.now) }
 {
@@ -174,6 +180,7 @@ pub fn u32_at(bytes: &[u8]) -> Result<(u32, &[u8]), ReadError>
 }
 
 /// An unsigned number of 64 bits.
+#[inline]
 pub fn u64_at(bytes: &[u8]) -> Result<(u64, &[u8]), ReadError>
     ensures { Gives (λ x. (x.0, x.1.now)) result (unsigned_at 64 bytes.now) }
 {
@@ -184,6 +191,7 @@ pub fn u64_at(bytes: &[u8]) -> Result<(u64, &[u8]), ReadError>
 }
 
 /// A signed number of 32 bits.
+#[inline]
 pub fn s32_at(bytes: &[u8]) -> Result<(i32, &[u8]), ReadError>
     ensures { Gives (λ x. (x.0, x.1.now)) result (signed_at 32 bytes.now) }
 {
@@ -194,6 +202,7 @@ pub fn s32_at(bytes: &[u8]) -> Result<(i32, &[u8]), ReadError>
 }
 
 /// A signed number of 64 bits.
+#[inline]
 pub fn s64_at(bytes: &[u8]) -> Result<(i64, &[u8]), ReadError>
     ensures { Gives (λ x. (x.0, x.1.now)) result (signed_at 64 bytes.now) }
 {

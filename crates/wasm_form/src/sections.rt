@@ -1,13 +1,10 @@
 //! Sections (core specification, 5.5.2 to 5.5.3).
 
-ghost use Rattle.std.specs.Prelude.{◌≡◌, map, length};
-ghost use Rattle.std.specs.Str.{is_utf8};
-ghost use Rattle.wasm_spec.specs.Module.{Custom as PlainCustom, Payload as PlainPayload};
+ghost use Rattle.std.specs.Prelude.{◌≡◌, map};
 ghost use Rattle.wasm_spec.specs.Grammar.{place_of as spec_place_of, section_id as spec_section_id, next_place as spec_next_place};
-ghost use Rattle.wasm_form.specs.Views.{payload_of, segment_of};
+ghost use Rattle.wasm_form.specs.Views.{payload_of};
 ghost use Rattle.wasm_form.specs.Reading.{Gives, whole};
-ghost use Rattle.wasm_form.specs.ReadingNumbers.{vector_at};
-ghost use Rattle.wasm_form.specs.ReadingRows.{memory_type_at, data_segment_at, memories_at, segments_at, name_at, custom_contents_at, section_contents_at, placed_section_at, section_at, sections_at};
+ghost use Rattle.wasm_form.specs.ReadingRows.{memories_at, segments_at, name_at, custom_contents_at, section_contents_at, section_at, all_sections_at};
 
 use crate::error::ReadError;
 use crate::form::{Custom, Payload};
@@ -18,8 +15,11 @@ use crate::vectors::{counted_bytes, sized};
 use std::alloc::Global;
 use wasm_spec::What;
 
+/// The ids of sections.
 const CUSTOM: u8 = 0;
+
 const MEMORIES: u8 = 5;
+
 const DATA: u8 = 11;
 
 /// Ids in the order in which sections stand; custom sections stand anywhere.
@@ -32,6 +32,7 @@ fn place_of(id: u8) -> Option<usize>
     ORDER.iter().position(|other| *other == id)
 }
 
+/// The id of the section that a payload is read from.
 fn section_id(payload: &Payload<'_>) -> u8
     ensures { result ≡ spec_section_id (payload_of payload.now) }
 {
@@ -52,6 +53,7 @@ fn next_place(next: usize, payload: &Payload<'_>) -> usize
     }
 }
 
+/// A name, which is text, and the bytes after it.
 #[tactic(auto, unfolding(crate::specs::ReadingRows::name_at))]
 fn name(bytes: &[u8]) -> Result<(&str, &[u8]), ReadError>
     ensures { Gives (λ x. (x.0.now, x.1.now)) result (name_at bytes.now) }
@@ -63,6 +65,7 @@ fn name(bytes: &[u8]) -> Result<(&str, &[u8]), ReadError>
     }
 }
 
+/// All of the bytes, as the contents of a custom section. Readers of contents all take the allocator.
 #[tactic(auto, unfolding(crate::specs::ReadingRows::custom_contents_at))]
 fn custom<'d>(_alloc: Global, bytes: &'d [u8]) -> Result<Payload<'d>, ReadError>
     ensures { Gives payload_of result (custom_contents_at bytes.now) }
@@ -71,6 +74,7 @@ fn custom<'d>(_alloc: Global, bytes: &'d [u8]) -> Result<Payload<'d>, ReadError>
     Ok(Payload::Custom(Custom { name, bytes }))
 }
 
+/// All of the bytes, as the contents of a memory section.
 #[tactic(auto, unfolding(crate::specs::ReadingRows::memories_at, crate::specs::Reading::whole))]
 fn memories<'d>(alloc: Global, bytes: &'d [u8]) -> Result<Payload<'d>, ReadError>
     ensures { Gives payload_of result (whole memories_at bytes.now) }
@@ -82,6 +86,7 @@ fn memories<'d>(alloc: Global, bytes: &'d [u8]) -> Result<Payload<'d>, ReadError
     Ok(Payload::Memories(types))
 }
 
+/// All of the bytes, as the contents of a data section.
 #[tactic(auto, unfolding(crate::specs::ReadingRows::segments_at, crate::specs::Reading::whole))]
 fn segments<'d>(alloc: Global, bytes: &'d [u8]) -> Result<Payload<'d>, ReadError>
     ensures { Gives payload_of result (whole segments_at bytes.now) }
@@ -130,25 +135,18 @@ fn section<'d>(
     }
 }
 
-/// The sections up to the end.
+/// The sections up to the end of the bytes.
 pub fn sections<'d>(alloc: Global, bytes: &'d [u8]) -> Result<Vec<Payload<'d>>, ReadError>
-    ensures { Gives (λ x. map payload_of x.items) result (sections_at (length bytes.now) 0 bytes.now) }
+    ensures { Gives (λ x. map payload_of x.items) result (all_sections_at 0 bytes.now) }
 {
     let mut payloads = Vec::new(alloc);
     let mut rest = bytes;
     let mut next = 0;
-    'sections: for _ in 0..bytes.len() {
-        if rest.is_empty() {
-            return Ok(payloads);
-        }
+    while !rest.is_empty() {
         let (payload, after) = section(alloc, next, rest)?;
         next = next_place(next, &payload);
         payloads.push(payload)?;
         rest = after;
     }
-    if rest.is_empty() {
-        Ok(payloads)
-    } else {
-        Err(ReadError::Malformed)
-    }
+    Ok(payloads)
 }

@@ -13,6 +13,7 @@ use crate::numbers::u32_at;
 use crate::vectors::{counted_bytes, vector};
 use std::alloc::Global;
 
+/// An offset into a memory, and bytes.
 #[tactic(auto, unfolding(crate::specs::ReadingRows::active_segment_at))]
 fn active_segment<'d>(
     alloc: Global,
@@ -30,6 +31,7 @@ fn active_segment<'d>(
     Ok((DataSegment { kind, bytes }, rest))
 }
 
+/// Bytes that are kept for later.
 #[tactic(auto, unfolding(crate::specs::ReadingRows::passive_segment_at))]
 fn passive_segment<'d>(bytes: &'d [u8]) -> Result<(DataSegment<'d>, &'d [u8]), ReadError>
     ensures { Gives (λ x. (segment_of x.0, x.1.now)) result (passive_segment_at bytes.now) }
@@ -41,7 +43,7 @@ fn passive_segment<'d>(bytes: &'d [u8]) -> Result<(DataSegment<'d>, &'d [u8]), R
 
 /// A data segment behind its flag.
 #[tactic(auto, unfolding(crate::specs::ReadingRows::data_segment_at, crate::specs::ReadingRows::flagged_segment_at))]
-pub fn data_segment<'d>(
+fn data_segment<'d>(
     alloc: Global,
     bytes: &'d [u8],
 ) -> Result<(DataSegment<'d>, &'d [u8]), ReadError>
@@ -60,7 +62,10 @@ pub fn data_segment<'d>(
 }
 
 /// A count, and that many data segments.
-pub fn data_segments<'d>(alloc: Global, bytes: &'d [u8]) -> Result<(Vec<DataSegment<'d>>, &'d [u8]), ReadError>
+pub fn data_segments<'d>(
+    alloc: Global,
+    bytes: &'d [u8],
+) -> Result<(Vec<DataSegment<'d>>, &'d [u8]), ReadError>
     ensures { Gives (λ x. (map segment_of x.0.items, x.1.now)) result (vector_at data_segment_at bytes.now) }
 {
     vector(alloc, bytes, data_segment)

@@ -77,7 +77,10 @@ fn reads_overlapping_segments(rt: HostRuntime) -> Result<(), Fail> {
             return Err(Fail::from("a passive segment"));
         };
         assert_eq!(rt; *memory_index, 0);
-        assert_eq!(rt; offset.ops.as_slice(), [Operator::I32Const { value }].as_slice());
+        assert_eq!(rt;
+            offset.ops.as_slice(),
+            [Operator::I32Const { value }].as_slice()
+        );
     }
     Ok(())
 }
@@ -103,9 +106,18 @@ fn refuses_other_headers(rt: HostRuntime) -> Result<(), Fail> {
         (&[0x00, 0x61, 0x73, 0x6D, 0x01, 0x00, 0x00, 0x00], None),
         (&[0x00, 0x61, 0x73, 0x6D, 0x0D, 0x00, 0x01, 0x00], component),
         (&[0x00, 0x61, 0x73, 0x6D, 0x01, 0x00, 0x01, 0x00], component),
-        (&[0x00, 0x61, 0x73, 0x6D, 0x0D, 0x00, 0x01], Some(ReadError::Malformed)),
-        (&[0x00, 0x61, 0x73, 0x6D, 0x02, 0x00, 0x00, 0x00], Some(ReadError::Malformed)),
-        (&[0x01, 0x61, 0x73, 0x6D, 0x0D, 0x00, 0x01, 0x00], Some(ReadError::Malformed)),
+        (
+            &[0x00, 0x61, 0x73, 0x6D, 0x0D, 0x00, 0x01],
+            Some(ReadError::Malformed),
+        ),
+        (
+            &[0x00, 0x61, 0x73, 0x6D, 0x02, 0x00, 0x00, 0x00],
+            Some(ReadError::Malformed),
+        ),
+        (
+            &[0x01, 0x61, 0x73, 0x6D, 0x0D, 0x00, 0x01, 0x00],
+            Some(ReadError::Malformed),
+        ),
     ];
     for (bytes, expected) in cases {
         assert_eq!(rt; refusal(rt.alloc(), bytes), expected, "{bytes:?}");
@@ -117,34 +129,74 @@ fn refuses_other_headers(rt: HostRuntime) -> Result<(), Fail> {
 fn reads_or_refuses_sections(rt: HostRuntime) -> Result<(), Fail> {
     let bad = Some(ReadError::Malformed);
     let cases: [(&str, &[u8], Option<ReadError>); 29] = [
-        ("types", &[1, 4, 1, 0x60, 0, 0], Some(ReadError::Unsupported(What::Section))),
-        ("types with no size", &[1], Some(ReadError::Unsupported(What::Section))),
+        (
+            "types",
+            &[1, 4, 1, 0x60, 0, 0],
+            Some(ReadError::Unsupported(What::Section)),
+        ),
+        (
+            "types with no size",
+            &[1],
+            Some(ReadError::Unsupported(What::Section)),
+        ),
         ("no such section", &[14, 0], bad),
         ("types after memories", &[5, 1, 0, 1, 4, 1, 0x60, 0, 0], bad),
         ("memories after data", &[11, 1, 0, 5, 1, 0], bad),
         ("memories twice", &[5, 1, 0, 5, 1, 0], bad),
         ("no memories, no data", &[5, 1, 0, 11, 1, 0], None),
-        ("custom sections", &[0, 1, 0, 5, 1, 0, 0, 3, 1, 0x61, 9, 11, 1, 0, 0, 2, 1, 0x61], None),
+        (
+            "custom sections",
+            &[0, 1, 0, 5, 1, 0, 0, 3, 1, 0x61, 9, 11, 1, 0, 0, 2, 1, 0x61],
+            None,
+        ),
         ("a name that is no text", &[0, 2, 1, 0xFF], bad),
         ("a name past the end", &[0, 2, 2, 0x61], bad),
         ("a section past the end", &[5, 2, 0], bad),
         ("a section too long", &[5, 2, 0, 0], bad),
         ("a long size", &[5, 0x81, 0, 0], None),
-        ("a size of six bytes", &[5, 0x81, 0x80, 0x80, 0x80, 0x80, 0, 0], bad),
-        ("a count of six bytes", &[5, 8, 0x81, 0x80, 0x80, 0x80, 0x80, 0, 0, 1], bad),
-        ("a count past 32 bits", &[5, 5, 0x80, 0x80, 0x80, 0x80, 0x10], bad),
+        (
+            "a size of six bytes",
+            &[5, 0x81, 0x80, 0x80, 0x80, 0x80, 0, 0],
+            bad,
+        ),
+        (
+            "a count of six bytes",
+            &[5, 8, 0x81, 0x80, 0x80, 0x80, 0x80, 0, 0, 1],
+            bad,
+        ),
+        (
+            "a count past 32 bits",
+            &[5, 5, 0x80, 0x80, 0x80, 0x80, 0x10],
+            bad,
+        ),
         ("more memories than there are", &[5, 3, 2, 0, 1], bad),
         ("flags 16", &[5, 3, 1, 16, 1], bad),
         ("flags of two bytes", &[5, 4, 1, 0x80, 0, 1], bad),
         ("no minimum", &[5, 2, 1, 0], bad),
         ("no maximum", &[5, 3, 1, 1, 1], bad),
         ("no page size", &[5, 3, 1, 8, 1], bad),
-        ("a minimum past 32 bits", &[5, 7, 1, 0, 0x80, 0x80, 0x80, 0x80, 0x10], bad),
-        ("a wide minimum", &[5, 7, 1, 4, 0x80, 0x80, 0x80, 0x80, 0x10], None),
+        (
+            "a minimum past 32 bits",
+            &[5, 7, 1, 0, 0x80, 0x80, 0x80, 0x80, 0x10],
+            bad,
+        ),
+        (
+            "a wide minimum",
+            &[5, 7, 1, 4, 0x80, 0x80, 0x80, 0x80, 0x10],
+            None,
+        ),
         ("data of flag 3", &[11, 6, 1, 3, 0x41, 0, 0x0B, 0], bad),
-        ("an offset by an import", &[11, 6, 1, 0, 0x23, 0, 0x0B, 0], Some(ReadError::Unsupported(What::Operator))),
+        (
+            "an offset by an import",
+            &[11, 6, 1, 0, 0x23, 0, 0x0B, 0],
+            Some(ReadError::Unsupported(What::Operator)),
+        ),
         ("an offset with no end mark", &[11, 4, 1, 0, 0x41, 0], bad),
-        ("an offset past 32 bits", &[11, 10, 1, 0, 0x41, 0x80, 0x80, 0x80, 0x80, 0x08, 0x0B, 0], bad),
+        (
+            "an offset past 32 bits",
+            &[11, 10, 1, 0, 0x41, 0x80, 0x80, 0x80, 0x80, 0x08, 0x0B, 0],
+            bad,
+        ),
         ("an empty offset", &[11, 4, 1, 0, 0x0B, 0], None),
     ];
     for (name, sections, expected) in cases {
@@ -179,15 +231,44 @@ fn reads_each_flag_of_a_memory(rt: HostRuntime) -> Result<(), Fail> {
 #[test]
 fn reads_each_kind_of_segment(rt: HostRuntime) -> Result<(), Fail> {
     let least = Operator::I32Const { value: -2147483648 };
-    let wide = Operator::I64Const { value: -9223372036854775808 };
+    let wide = Operator::I64Const {
+        value: -9223372036854775808,
+    };
     let cases: [(&str, &[u8], Option<(u32, Operator)>); 7] = [
         ("passive", &[11, 4, 1, 1, 1, 7], None),
-        ("of memory 0", &[11, 7, 1, 0, 0x41, 0x7F, 0x0B, 1, 7], Some((0, Operator::I32Const { value: -1 }))),
-        ("of memory 128", &[11, 9, 1, 2, 0x80, 1, 0x41, 0x3F, 0x0B, 1, 7], Some((128, Operator::I32Const { value: 63 }))),
-        ("at 127", &[11, 8, 1, 0, 0x41, 0xFF, 0, 0x0B, 1, 7], Some((0, Operator::I32Const { value: 127 }))),
-        ("at the least", &[11, 11, 1, 0, 0x41, 0x80, 0x80, 0x80, 0x80, 0x78, 0x0B, 1, 7], Some((0, least))),
-        ("wide", &[11, 7, 1, 0, 0x42, 0x7F, 0x0B, 1, 7], Some((0, Operator::I64Const { value: -1 }))),
-        ("wide, at the least", &[11, 16, 1, 0, 0x42, 0x80, 0x80, 0x80, 0x80, 0x80, 0x80, 0x80, 0x80, 0x80, 0x7F, 0x0B, 1, 7], Some((0, wide))),
+        (
+            "of memory 0",
+            &[11, 7, 1, 0, 0x41, 0x7F, 0x0B, 1, 7],
+            Some((0, Operator::I32Const { value: -1 })),
+        ),
+        (
+            "of memory 128",
+            &[11, 9, 1, 2, 0x80, 1, 0x41, 0x3F, 0x0B, 1, 7],
+            Some((128, Operator::I32Const { value: 63 })),
+        ),
+        (
+            "at 127",
+            &[11, 8, 1, 0, 0x41, 0xFF, 0, 0x0B, 1, 7],
+            Some((0, Operator::I32Const { value: 127 })),
+        ),
+        (
+            "at the least",
+            &[11, 11, 1, 0, 0x41, 0x80, 0x80, 0x80, 0x80, 0x78, 0x0B, 1, 7],
+            Some((0, least)),
+        ),
+        (
+            "wide",
+            &[11, 7, 1, 0, 0x42, 0x7F, 0x0B, 1, 7],
+            Some((0, Operator::I64Const { value: -1 })),
+        ),
+        (
+            "wide, at the least",
+            &[
+                11, 16, 1, 0, 0x42, 0x80, 0x80, 0x80, 0x80, 0x80, 0x80, 0x80, 0x80, 0x80, 0x7F,
+                0x0B, 1, 7,
+            ],
+            Some((0, wide)),
+        ),
     ];
     for (name, sections, expected) in cases {
         assert_eq!(rt; segment(rt.alloc(), sections)?, (expected, 1), "{name}");
