@@ -2,17 +2,19 @@
 use Rattle.std.proofs.Common.{◌≡◌, ℕ, ◌+◌, ◌<◌, suc, List, [], ◌∷◌, ◌++◌, length, map, take, drop, get_or, refl, sym, ap, subst, ◌∙◌, arith, add-zero, append_assoc, length-append, drop-cons}
 use Rattle.std.specs.Prelude.{All}
 use Rattle.std.specs.List.{filter_map, flat_map}
-use Rattle.std.proofs.lemmas.List.{append-nil, map-append, map_more, take_more, length-map, take-append-drop, get_or_append_left, get_or-append-add}
+use Rattle.std.proofs.lemmas.List.{append-nil, map-append, map_more, flat_map_more, length-map, take-append-drop, get_or_append_left, get_or-append-add}
 use Rattle.std.proofs.lemmas.List.Concat.{flat_map-append}
 use Rattle.std.proofs.lemmas.List.Elements.{filter_map-append}
 use Rattle.wasm_spec.specs.declared.types.MemoryType.{MemoryType}
-use Rattle.wasm_spec.specs.Module.{Segment, Payload}
+use Rattle.wasm_spec.specs.Module.{Segment, Module, memories, memories_of_section, segments, segments_of_section}
+use Rattle.wasm_spec.specs.Module.{Payload as Section}
 use Rattle.wasm_form.specs.declared.form.DataSegment.{DataSegment}
-use Rattle.wasm_form.specs.Views.{segment_of}
+use Rattle.wasm_form.specs.declared.form.Payload.{Payload}
+use Rattle.wasm_form.specs.Views.{segment_of, payload_of}
 use Rattle.wasm_types.specs.declared.memory.Memory.{Memory}
 use Rattle.wasm_types.specs.Memories.{memory_of, HasPageSize}
 use Rattle.replay_spec.specs.Data.{ActiveSegment, active_of_kind}
-use Rattle.init_plan.specs.declared.module.Module.{Module}
+use Rattle.init_plan.specs.declared.module.Module.{Module as ModuleRecord}
 use Rattle.init_plan.specs.Views.{passive_data_of}
 use Rattle.translate.specs.declared.fill.Filling.{Filling}
 use Rattle.translate.specs.Filled.{passive_of_kind, passive_from, active_so_far, active_among, CanBeAdded, CanAdd, SameButLists, Adds}
@@ -29,11 +31,8 @@ All-right P xs ys h k d lt = let l = length-append xs ys in subst P (get_or-appe
 split : {X : Type 0} (xs : List X) (i : ℕ) (x : X) → i < length xs → x ≡ get_or xs i x → xs ≡ take i xs ++ (x ∷ drop (suc i) xs)
 split {X} xs i x lt is = sym (take-append-drop i xs) ∙ ap (λ (ys : List X). take i xs ++ ys) (drop-cons xs i x lt ∙ ap (λ (y : X). y ∷ drop (suc i) xs) (sym is))
 
-pub map_split : {X Y : Type 0} (f : X → Y) (xs : List X) (i : ℕ) (x : X) → i < length xs → x ≡ get_or xs i x → map f xs ≡ map f (take i xs) ++ ((f x ∷ []) ++ map f (drop (suc i) xs))
+map_split : {X Y : Type 0} (f : X → Y) (xs : List X) (i : ℕ) (x : X) → i < length xs → x ≡ get_or xs i x → map f xs ≡ map f (take i xs) ++ ((f x ∷ []) ++ map f (drop (suc i) xs))
 map_split f xs i x lt is = ap (map f) (split xs i x lt is) ∙ map-append f (take i xs) (x ∷ drop (suc i) xs)
-
-pub flat_map_split : {X Y : Type 0} (f : X → List Y) (xs : List X) (i : ℕ) (x : X) → i < length xs → x ≡ get_or xs i x → flat_map f xs ≡ flat_map f (take i xs) ++ (f x ++ flat_map f (drop (suc i) xs))
-flat_map_split f xs i x lt is = ap (flat_map f) (split xs i x lt is) ∙ flat_map-append f (take i xs) (x ∷ drop (suc i) xs)
 
 -- the passive segments of two lists, one after the other
 passive_from-append : (n : ℕ) (xs ys : List Segment) → passive_from n (xs ++ ys) ≡ passive_from n xs ++ passive_from (n + length xs) ys
@@ -57,7 +56,7 @@ Adds-nothing f = record {
 
 SameButLists-both : (a b c : Filling) → SameButLists a.translation b.translation → SameButLists b.translation c.translation → SameButLists a.translation c.translation
 SameButLists-both a b c ab bc = record {
-  record_of_module = bc.record_of_module ∙ ap (λ (m : Module). record m { memories = c.translation.module.memories }) ab.record_of_module;
+  record_of_module = bc.record_of_module ∙ ap (λ (m : ModuleRecord). record m { memories = c.translation.module.memories }) ab.record_of_module;
   wasm = bc.wasm ∙ ab.wasm;
   found = bc.found ∙ ab.found;
   runtime = bc.runtime ∙ ab.runtime;
@@ -85,10 +84,25 @@ Adds-segment a b c ss i s lt is before one =
     let more = map_more segment_of ss i s lt ∙ ap (λ (x : DataSegment). map segment_of (take i ss) ++ segment_of x ∷ []) (sym is) in
     subst (Adds a c []) (sym more) (Adds-both a b c [] [] (map segment_of (take i ss)) (segment_of s ∷ []) before one)
 
+-- what the sections of a module declare is added
+abbrev pub AddsModule : Filling → Filling → Module → Type 0
+AddsModule a b m = Adds a b (memories m) (segments m)
+
+-- one section more
+pub Adds-section : (a b c : Filling) (ps : List Payload) (i : ℕ) (p : Payload) → i < length ps → p ≡ get_or ps i p
+    → AddsModule a b (map payload_of (take i ps)) → Adds b c (memories_of_section (payload_of p)) (segments_of_section (payload_of p)) → AddsModule a c (map payload_of (take (i + 1) ps))
+Adds-section a b c ps i p lt is before one =
+    let front = map payload_of (take i ps) in
+    let section = payload_of p in
+    let more = map_more payload_of ps i p lt ∙ ap (λ (x : Payload). front ++ payload_of x ∷ []) (sym is) in
+    let both = Adds-both a b c (memories front) (memories_of_section section) (segments front) (segments_of_section section) before one in
+    let added = subst (λ (ts : List MemoryType). Adds a c ts (segments front ++ segments_of_section section)) (flat_map_more memories_of_section [] front section) both in
+    subst (AddsModule a c) (sym more) (subst (Adds a c (memories (front ++ section ∷ []))) (flat_map_more segments_of_section [] front section) added)
+
 -- ---- what can be added
 
 -- after the first of three parts the second can be added
-pub CanAdd-next : (a b : Filling) (types t u v : List MemoryType) (ss p q r : List Segment) → types ≡ t ++ (u ++ v) → ss ≡ p ++ (q ++ r) → CanAdd a types ss → Adds a b t p → CanAdd b u q
+CanAdd-next : (a b : Filling) (types t u v : List MemoryType) (ss p q r : List Segment) → types ≡ t ++ (u ++ v) → ss ≡ p ++ (q ++ r) → CanAdd a types ss → Adds a b t p → CanAdd b u q
 CanAdd-next a b types t u v ss p q r types_are ss_are can added =
     let grown : length b.translation.module.memories ≡ length a.translation.module.memories + length t =
       ap length added.memories ∙ length-append _ _ ∙ ap (λ (n : ℕ). length a.translation.module.memories + n) (length-map t memory_of) in
@@ -100,6 +114,23 @@ CanAdd-next a b types t u v ss p q r types_are ss_are can added =
       few_segments = omega (arith, added.count, all_segments, can.few_segments);
       segments = All-left (λ (s : Segment). CanBeAdded s.kind) q r (All-right (λ (s : Segment). CanBeAdded s.kind) p (q ++ r) (subst (All (λ (s : Segment). CanBeAdded s.kind)) ss_are can.segments));
     }
+
+-- the next data segment can be added
+pub CanAdd-next_segment : (a b : Filling) (ss : List DataSegment) (i : ℕ) (s : DataSegment) → i < length ss → s ≡ get_or ss i s
+    → CanAdd a [] (map segment_of ss) → Adds a b [] (map segment_of (take i ss)) → CanAdd b [] (segment_of s ∷ [])
+CanAdd-next_segment a b ss i s lt is can added =
+    CanAdd-next a b [] [] [] [] (map segment_of ss) (map segment_of (take i ss)) (segment_of s ∷ []) (map segment_of (drop (suc i) ss)) refl (map_split segment_of ss i s lt is) can added
+
+-- what the next section declares can be added
+pub CanAdd-next_section : (a b : Filling) (ps : List Payload) (i : ℕ) (p : Payload) → i < length ps → p ≡ get_or ps i p
+    → CanAdd a (memories (map payload_of ps)) (segments (map payload_of ps)) → AddsModule a b (map payload_of (take i ps)) → CanAdd b (memories_of_section (payload_of p)) (segments_of_section (payload_of p))
+CanAdd-next_section a b ps i p lt is can added =
+    let front = map payload_of (take i ps) in
+    let back = map payload_of (drop (suc i) ps) in
+    let section = payload_of p in
+    let parts = map_split payload_of ps i p lt is in
+    CanAdd-next a b _ (memories front) (memories_of_section section) (memories back) _ (segments front) (segments_of_section section) (segments back)
+    (ap (flat_map memories_of_section) parts ∙ flat_map-append memories_of_section front (section ∷ back)) (ap (flat_map segments_of_section) parts ∙ flat_map-append segments_of_section front (section ∷ back)) can added
 
 -- a lone data segment can be added
 pub CanAdd-segment : (f : Filling) (s : Segment) → CanAdd f [] (s ∷ []) → CanBeAdded s.kind

@@ -3,10 +3,11 @@ use Rattle.std.specs.Prelude.{◌≡◌, ℕ, ◌+◌, ◌^◌, ◌<◌, List, [
 use Rattle.std.specs.List.{filter_map}
 use Rattle.wasm_spec.specs.declared.types.MemoryType.{MemoryType}
 use Rattle.wasm_spec.specs.Module.{DataKind, Passive, Active, Segment, Module, memories, imported_memories, segments}
+use Rattle.wasm_index.specs.Index.{index_of}
 use Rattle.wasm_types.specs.Memories.{memory_of, HasPageSize}
 use Rattle.replay_spec.specs.Data.{ActiveSegment, active_of_kind, active_segments}
 use Rattle.init_plan.specs.declared.translation.ModuleTranslation.{ModuleTranslation}
-use Rattle.init_plan.specs.Views.{active_segment_of, initializers_of, passive_data_of}
+use Rattle.init_plan.specs.Views.{active_segment_of, initializers_of, passive_data_of, IsNewTranslation}
 use Rattle.init_plan.specs.Ready.{MemoryHalfIsReady}
 use Rattle.translate.specs.declared.fill.Filling.{Filling}
 
@@ -37,6 +38,12 @@ active_so_far filling = map active_segment_of filling.active.items
 -- the active ones of data segments
 abbrev pub active_among : List Segment → List ActiveSegment
 active_among ss = filter_map (λ s. active_of_kind s.kind s.bytes) ss
+
+-- nothing is filled in yet
+pub record IsEmpty (filling : Filling) : Type 0 where
+  pub is_new : IsNewTranslation (index_of 0) filling.translation
+  pub no_active : active_so_far filling ≡ []
+  pub from_zero : filling.next_data ≡ 0
 
 -- the memory of an active segment has an index, and its offset is one operator
 abbrev pub CanBeAdded : DataKind → Type 0

@@ -5,7 +5,7 @@ ghost use Rattle.wasm_spec.specs.Module.{memories_of_section, segments_of_sectio
 ghost use Rattle.wasm_spec.specs.Rules.{Keeps, HasFewEntries};
 ghost use Rattle.wasm_form.specs.Views.{module_of, payload_of, segment_of};
 ghost use Rattle.wasm_types.specs.Constants.{operator_of, expression_of};
-ghost use Rattle.translate.specs.Filled.{Fills, CanAdd, Adds};
+ghost use Rattle.translate.specs.Filled.{Fills, IsEmpty, CanAdd, Adds};
 
 use entity_map::{EntityRef, OutOfMemory};
 use init_plan::{MemoryInit, MemoryInitializer, ModuleTranslation};
@@ -20,17 +20,11 @@ pub(crate) fn fill<'d>(alloc: Global, form: Form<'d>) -> Result<ModuleTranslatio
     requires few { HasFewEntries (module_of form) }
     ensures { IfOk result (Fills form.entry.wasm.now (module_of form.entry)) }
 {
-    let mut translation = ModuleTranslation::new(alloc, StaticModuleIndex::new(0))?;
-    translation.wasm = form.wasm;
-    let mut filling = Filling {
-        translation,
-        active: Vec::new(alloc),
-        next_data: 0,
-    };
+    let mut filling = Filling::new(alloc)?;
     for payload in &form.payloads {
         filling.add_section(alloc, payload)?;
     }
-    Ok(filling.finish())
+    Ok(filling.finish(form.wasm))
 }
 
 /// A translation whose lists grow, one section after another.
@@ -44,6 +38,16 @@ struct Filling<'d> {
 }
 
 impl<'d> Filling<'d> {
+    fn new(alloc: Global) -> Result<Self, OutOfMemory>
+        ensures { IfOk result IsEmpty }
+    {
+        Ok(Filling {
+            translation: ModuleTranslation::new(alloc, StaticModuleIndex::new(0))?,
+            active: Vec::new(alloc),
+            next_data: 0,
+        })
+    }
+
     /// Adds what a section declares.
     fn add_section(&mut self, alloc: Global, payload: &Payload<'d>) -> Result<(), OutOfMemory>
         requires { CanAdd self.old (memories_of_section (payload_of payload.now)) (segments_of_section (payload_of payload.now)) }
@@ -105,15 +109,16 @@ impl<'d> Filling<'d> {
         Ok(())
     }
 
-    /// The translation with the segments that are to be planned.
-    fn finish(self) -> ModuleTranslation<'d>
-        ensures { result ≡ record self.entry.translation { memory_init = MemoryInit.Unprocessed self.entry.active } }
+    /// The translation of the bytes, with the segments that are to be planned.
+    fn finish(self, wasm: &'d [u8]) -> ModuleTranslation<'d>
+        ensures { result ≡ record self.entry.translation { wasm = wasm.entry; memory_init = MemoryInit.Unprocessed self.entry.active } }
     {
         let Filling {
             mut translation,
             active,
             next_data: _,
         } = self;
+        translation.wasm = wasm;
         translation.memory_init = MemoryInit::Unprocessed(active);
         translation
     }
