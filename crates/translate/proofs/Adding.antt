@@ -7,10 +7,12 @@ use Rattle.std.proofs.lemmas.List.Concat.{flat_map-append}
 use Rattle.std.proofs.lemmas.List.Elements.{filter_map-append}
 use Rattle.wasm_spec.specs.declared.types.MemoryType.{MemoryType}
 use Rattle.wasm_spec.specs.Module.{Segment, Module, memories, memories_of_section, segments, segments_of_section}
-use Rattle.wasm_spec.specs.Module.{Payload as Section}
+use Rattle.wasm_form.specs.declared.form.ConstExpr.{ConstExpr}
+use Rattle.wasm_form.specs.declared.form.DataKind.{DataKind}
+use Rattle.wasm_form.specs.declared.form.DataKind.TheVariants.{Active}
 use Rattle.wasm_form.specs.declared.form.DataSegment.{DataSegment}
 use Rattle.wasm_form.specs.declared.form.Payload.{Payload}
-use Rattle.wasm_form.specs.Views.{segment_of, payload_of}
+use Rattle.wasm_form.specs.Views.{data_kind_of, segment_of, payload_of}
 use Rattle.wasm_types.specs.declared.memory.Memory.{Memory}
 use Rattle.wasm_types.specs.Memories.{memory_of, HasPageSize}
 use Rattle.replay_spec.specs.Data.{ActiveSegment, active_of_kind}
@@ -132,6 +134,6 @@ CanAdd-next_section a b ps i p lt is can added =
     CanAdd-next a b _ (memories front) (memories_of_section section) (memories back) _ (segments front) (segments_of_section section) (segments back)
     (ap (flat_map memories_of_section) parts ∙ flat_map-append memories_of_section front (section ∷ back)) (ap (flat_map segments_of_section) parts ∙ flat_map-append segments_of_section front (section ∷ back)) can added
 
--- a lone data segment can be added
-pub CanAdd-segment : (f : Filling) (s : Segment) → CanAdd f [] (s ∷ []) → CanBeAdded s.kind
-CanAdd-segment f s can = can.segments 0 s (omega arith)
+-- an active data segment can be added
+pub CanAdd-active : (f : Filling) (s : DataSegment) (memory : ℕ) (offset : ConstExpr) → CanAdd f [] (segment_of s ∷ []) → s.kind ≡ Active memory offset → (memory < 4294967295) × (length offset.ops.items ≡ 1)
+CanAdd-active f s memory offset can is = subst (λ (k : DataKind). CanBeAdded (data_kind_of k)) is (can.segments 0 (segment_of s) (omega arith))

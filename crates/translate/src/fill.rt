@@ -50,8 +50,8 @@ impl<'d> Filling<'d> {
 
     /// Adds what a section declares.
     fn add_section(&mut self, alloc: Global, payload: &Payload<'d>) -> Result<(), OutOfMemory>
-        requires { CanAdd self.old (memories_of_section (payload_of payload.now)) (segments_of_section (payload_of payload.now)) }
-        ensures { OnOk result (Adds self.old self.new (memories_of_section (payload_of payload.now)) (segments_of_section (payload_of payload.now))) }
+        requires { let section = payload_of payload.now in CanAdd self.old (memories_of_section section) (segments_of_section section) }
+        ensures { let section = payload_of payload.now in OnOk result (Adds self.old self.new (memories_of_section section) (segments_of_section section)) }
     {
         match payload {
             Payload::Memories(types) => self.add_memories(types),
@@ -124,7 +124,7 @@ impl<'d> Filling<'d> {
     }
 }
 
-/// The same expression of one operator.
+/// The same expression, where it is one operator.
 fn expression(alloc: Global, offset: &wasm_form::ConstExpr) -> Result<ConstExpr, OutOfMemory>
     requires { length offset.now.ops.items ≡ 1 }
     ensures { IfOk result (λ e. expression_of e ≡ offset.now.ops.items) }
