@@ -1,8 +1,12 @@
 -- A translation, as the plain values of the definitions.
 use Rattle.std.specs.Prelude.{◌≡◌, ℕ, ◌+◌, List, [], length, map, drop, slice_get, sum_by, Option, None, Some}
 use Rattle.std.specs.Option.{option_map}
+use Rattle.std.specs.Borrow.{Bor}
 use Rattle.entity_map.specs.Secondary.{value_at}
 use Rattle.wasm_index.specs.declared.index.Index.{Index}
+use Rattle.wasm_index.specs.declared.spaces.DataSpace.{DataSpace}
+use Rattle.wasm_index.specs.declared.spaces.MemorySpace.{MemorySpace}
+use Rattle.wasm_index.specs.declared.spaces.RuntimeDataSpace.{RuntimeDataSpace}
 use Rattle.wasm_index.specs.declared.spaces.StaticModuleSpace.{StaticModuleSpace}
 use Rattle.wasm_index.specs.Index.{number_of}
 use Rattle.wasm_types.specs.Memories.{minimum_bytes}
@@ -38,9 +42,13 @@ IsUnprocessed (init.Processed segments) = ⊥
 abbrev pub initializers_of : ModuleTranslation → List ActiveSegment
 initializers_of t = unprocessed_of t.memory_init
 
--- the passive data segments: their indices and bytes
+-- the number of a passive segment, and its bytes
+abbrev pub passive_segment_of : Index DataSpace × Bor (List ℕ) → ℕ × List ℕ
+passive_segment_of p = (number_of p.0, p.1.now)
+
+-- the passive data segments, in order
 abbrev pub passive_data_of : ModuleTranslation → List (ℕ × List ℕ)
-passive_data_of t = map (λ p. (number_of p.0, p.1.now)) t.passive_data.items
+passive_data_of t = map passive_segment_of t.passive_data.items
 
 abbrev pub active_bytes : ModuleTranslation → List (List ℕ)
 active_bytes t = map (λ s. s.bytes) (initializers_of t)
@@ -66,9 +74,12 @@ abbrev pub planned_offset_of : MemorySegmentOffset → PlannedOffset
 planned_offset_of (offset.Expr e) = Expr (expression_of e)
 planned_offset_of (offset.Static place) = Static place
 
+abbrev pub planned_segment_of : Index MemorySpace × MemorySegmentOffset × Index RuntimeDataSpace → PlannedSegment
+planned_segment_of s = record { memory = number_of s.0; offset = planned_offset_of s.1; index = number_of s.2 }
+
 abbrev pub processed_of : MemoryInit → List PlannedSegment
 processed_of (init.Unprocessed segments) = []
-processed_of (init.Processed segments) = map (λ s. record { memory = number_of s.0; offset = planned_offset_of s.1; index = number_of s.2 }) segments.items
+processed_of (init.Processed segments) = map planned_segment_of segments.items
 
 abbrev pub images_of : MemoryInitialization → List (Option (ℕ × ℕ))
 images_of initialization.Segmented = []
@@ -116,6 +127,14 @@ pub record SameButPassive (old new : ModuleTranslation) : Type 0 where
   pub found : new.runtime_data_map ≡ old.runtime_data_map
   pub runtime : new.runtime_data ≡ old.runtime_data
   pub segments : new.memory_init ≡ old.memory_init
+
+-- all but the active data segments
+pub record SameButSegments (old new : ModuleTranslation) : Type 0 where
+  pub record_of_module : new.module ≡ old.module
+  pub wasm : new.wasm ≡ old.wasm
+  pub found : new.runtime_data_map ≡ old.runtime_data_map
+  pub runtime : new.runtime_data ≡ old.runtime_data
+  pub passive : new.passive_data.items ≡ old.passive_data.items
 
 -- the empty translation
 pub record IsNewTranslation (module_index : Index StaticModuleSpace) (t : ModuleTranslation) : Type 0 where

@@ -4,6 +4,7 @@
 mod error;
 mod memory_init;
 mod module;
+mod runtime_data;
 mod translation;
 
 pub use error::PlanError;

@@ -3,12 +3,15 @@
 ghost use Rattle.std.specs.Prelude.{◌≡◌, ◌≢◌, ◌^◌, ◌<◌, ◌≤◌, ◌++◌, ℕ, length, map, All, Contains, IsFalse, OnOk, Err, None};
 ghost use Rattle.std.specs.Int.{IsPowerOfTwo};
 ghost use Rattle.replay_spec.specs.Plan.{AgreesOver, kept_segments, planned_from, ranges_from};
-ghost use Rattle.init_plan.specs.Views.{memory_plan_of, initializers_of, passive_data_of, defined_sizes, ranges_of, IsSegmented, data_total, active_bytes, passive_bytes, FindsData, OnlyMemoryInitChanges};
+ghost use Rattle.init_plan.specs.Views.{memory_plan_of, initializers_of, passive_data_of, defined_sizes, ranges_of, IsSegmented, data_total, active_bytes, passive_bytes, FindsData, OnlyMemoryInitChanges, IsUnprocessed, active_segment_of, SameButSegments};
 ghost use Rattle.init_plan.specs.Ready.{MemoryHalfIsReady};
 
 use crate::error::PlanError;
-use crate::translation::ModuleTranslation;
+use crate::module::MemoryInitializer;
+use crate::runtime_data::{check_total, keep_active, keep_passive, ranges_end_to_end};
+use crate::translation::{MemoryInit, ModuleTranslation};
 use std::alloc::Global;
+use std::mem;
 use wasm_types::Tunables;
 
 impl<'d> ModuleTranslation<'d> {
@@ -48,10 +51,34 @@ impl<'d> ModuleTranslation<'d> {
         ensures fits { OnOk result (data_total self.old < 2 ^ 32) }
         ensures too_large { result ≡ Err PlanError.TooLarge → 2 ^ 32 ≤ data_total self.old }
     {
-        let _ = alloc;
+        // No image is made yet, so nothing depends on these.
         let _ = tunables;
         let _ = page_size;
         let _ = max_image;
-        Err(PlanError::OutOfMemory)
+
+        let segments = self.take_segments(alloc);
+        check_total(&segments, &self.passive_data)?;
+        let kept = keep_active(alloc, segments, &mut self.runtime_data)?;
+        self.memory_init = MemoryInit::Processed(kept);
+        keep_passive(
+            &self.passive_data,
+            &mut self.runtime_data,
+            &mut self.runtime_data_map,
+        )?;
+        self.module.runtime_data = ranges_end_to_end(alloc, &self.runtime_data)?;
+        Ok(())
+    }
+
+    // The active segments, which are taken out to be planned.
+    fn take_segments(&mut self, alloc: Global) -> Vec<MemoryInitializer<'d>>
+        requires { IsUnprocessed self.old.memory_init }
+        ensures taken { map active_segment_of result.items ≡ initializers_of self.old }
+        ensures rest { SameButSegments self.old self.new }
+    {
+        let emptied = MemoryInit::Processed(Vec::new(alloc));
+        match mem::replace(&mut self.memory_init, emptied) {
+            MemoryInit::Unprocessed(segments) => segments,
+            MemoryInit::Processed(_) => unreachable!(),
+        }
     }
 }

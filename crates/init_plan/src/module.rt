@@ -1,5 +1,8 @@
 //! The record of a module, as far as memories go.
 
+ghost use Rattle.std.specs.Prelude.{◌↔◌, IsTrue};
+ghost use Rattle.init_plan.specs.Views.{IsSegmented};
+
 use entity_map::PrimaryMap;
 use std::ops::Range;
 use wasm_index::{MemoryIndex, RuntimeDataIndex, StaticModuleIndex};
@@ -30,6 +33,24 @@ pub enum MemoryInitialization {
         /// The place of each memory's image in the memory, in bytes, and the runtime data that holds it.
         map: PrimaryMap<MemoryIndex, Option<(u64, RuntimeDataIndex)>>,
     },
+}
+
+impl MemoryInitialization {
+    /// Whether every segment is written when the module is instantiated.
+    pub fn is_segmented(&self) -> bool
+        ensures { IsTrue result ↔ IsSegmented self.now }
+    {
+        matches!(self, MemoryInitialization::Segmented)
+    }
+}
+
+/// Segments are left to be written.
+impl Default for MemoryInitialization {
+    ghost is_default = { IsSegmented };
+
+    fn default() -> Self {
+        MemoryInitialization::Segmented
+    }
 }
 
 /// An active data segment (core specification, 2.5.8).

@@ -1,8 +1,8 @@
 //! A module with the data that its record leaves out.
 
-ghost use Rattle.std.specs.Prelude.{◌≡◌, ◌++◌, ◌∷◌, [], IfOk, OnOk, OnErr};
+ghost use Rattle.std.specs.Prelude.{◌≡◌, ◌++◌, ◌∷◌, [], length, IfOk, OnOk, OnErr};
 ghost use Rattle.wasm_index.specs.Index.{number_of};
-ghost use Rattle.init_plan.specs.Views.{passive_data_of, IsNewTranslation, SameButPassive};
+ghost use Rattle.init_plan.specs.Views.{bytes_of, passive_data_of, IsNewTranslation, SameButPassive};
 
 use crate::module::{MemoryInitialization, MemoryInitializer, Module};
 use entity_map::{OutOfMemory, PrimaryMap, SecondaryMap};
@@ -22,7 +22,7 @@ pub struct ModuleTranslation<'d> {
     pub runtime_data: PrimaryMap<RuntimeDataIndex, RuntimeBytes<'d>>,
     /// The active data segments, before and after they are planned.
     pub memory_init: MemoryInit<'d>,
-    passive_data: Vec<(DataIndex, &'d [u8])>,
+    pub(crate) passive_data: Vec<(DataIndex, &'d [u8])>,
 }
 
 /// Bytes of the input, or bytes that were made.
@@ -50,6 +50,18 @@ pub enum MemorySegmentOffset {
     Static(u64),
 }
 
+impl<'d> RuntimeBytes<'d> {
+    /// The number of the bytes.
+    pub(crate) fn len(&self) -> usize
+        ensures { result ≡ length (bytes_of self.now) }
+    {
+        match self {
+            RuntimeBytes::Borrowed(bytes) => bytes.len(),
+            RuntimeBytes::Owned(bytes) => bytes.len(),
+        }
+    }
+}
+
 impl<'d> ModuleTranslation<'d> {
     /// The empty translation.
     pub fn new(alloc: Global, module_index: StaticModuleIndex) -> Result<Self, OutOfMemory>
@@ -69,6 +81,13 @@ impl<'d> ModuleTranslation<'d> {
             memory_init: MemoryInit::Unprocessed(Vec::new(alloc)),
             passive_data: Vec::new(alloc),
         })
+    }
+
+    /// The number of the module among those that are translated together.
+    pub fn module_index(&self) -> StaticModuleIndex
+        ensures { result ≡ self.now.module.module_index }
+    {
+        self.module.module_index
     }
 
     /// Notes a passive data segment, after those that were noted before.

@@ -1,2 +1,6 @@
 pub mod Adding
 pub mod Readiness
+pub mod OneWord
+pub mod Causes
+pub mod Segments
+pub mod Plans

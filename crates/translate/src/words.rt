@@ -1,7 +1,7 @@
 //! The words of a command.
 
 ghost use Rattle.std.specs.Prelude.{◌≡◌, map, string_bytes, IfSome, None, Some};
-ghost use Rattle.translate.specs.Commands.{Names};
+ghost use Rattle.translate.specs.Commands.{Names, CanTranslate};
 
 use wasm_types::Tunables;
 
@@ -30,6 +30,8 @@ pub struct Command {
 /// The command that the words name: `plan`, and nothing else so far. The words are those after the program's name.
 pub fn read_words(words: &[String]) -> Option<Command>
     ensures named { IfSome result (Names (map string_bytes words.now)) }
+    // Its options are those of a translation.
+    ensures usable { IfSome result CanTranslate }
     ensures complete { (command : Command) → Names (map string_bytes words.now) command → result ≡ Some command }
 {
     match words {

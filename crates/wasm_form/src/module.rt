@@ -19,6 +19,7 @@ pub const MAX_MODULE_SIZE: usize = 1073741824;
 /// # Errors
 /// `TooLarge` exactly for 2^30 bytes or more; `Unsupported` where reading comes to a spelling that is not taken; `Malformed` where no
 /// module is spelled and reading comes to no such spelling.
+#[tactic(auto, using(crate::proofs::Entries::few_entries))]
 pub fn read_module<'d>(alloc: Global, bytes: &'d [u8]) -> Result<Form<'d>, ReadError>
     // What is read is spelled so.
     ensures read { IfOk result (λ form. Spells bytes.now (module_of form)) }

@@ -1,5 +1,12 @@
 //! The listed rules.
 
+mod indices;
+mod limits;
+mod lists;
+mod offsets;
+#[cfg(test)]
+mod tests;
+
 ghost use Rattle.std.specs.Prelude.{◌≡◌, OnOk, Err};
 ghost use Rattle.wasm_spec.specs.declared.rules.Rule.{Rule};
 ghost use Rattle.wasm_spec.specs.Rules.{Kept, Keeps};
@@ -7,7 +14,12 @@ ghost use Rattle.wasm_form.specs.Views.{module_of, ChecksOrNoMemory};
 
 use crate::error::CheckError;
 use crate::form::Form;
+use crate::rules::indices::indices_hold;
+use crate::rules::limits::limits_hold;
+use crate::rules::lists::memory_types;
+use crate::rules::offsets::offsets_hold;
 use std::alloc::Global;
+use wasm_spec::Rule;
 
 /// Whether the module keeps the listed rules.
 ///
@@ -19,7 +31,15 @@ pub fn check(alloc: Global, form: &Form<'_>) -> Result<(), CheckError>
     // What keeps the rules passes, unless memory runs out.
     ensures complete { Keeps (module_of form.now) → ChecksOrNoMemory result }
 {
-    let _ = alloc;
-    let _ = form;
-    Err(CheckError::OutOfMemory)
+    let memories = memory_types(alloc, form)?;
+    if !limits_hold(&memories) {
+        return Err(CheckError::Invalid(Rule::L4));
+    }
+    if !offsets_hold(form, &memories) {
+        return Err(CheckError::Invalid(Rule::L6));
+    }
+    if !indices_hold(form, &memories) {
+        return Err(CheckError::Invalid(Rule::L9));
+    }
+    Ok(())
 }

@@ -1,0 +1,50 @@
+//! Limits of memories (core specification, 3.2.13).
+
+ghost use Rattle.std.specs.Prelude.{◌≡◌, ◌↔◌, ◌*◌, ◌^◌, ◌≤◌, All, IsTrue};
+ghost use Rattle.wasm_spec.specs.Rules.{HasLimits, address_space};
+
+use wasm_spec::MemoryType;
+
+/// The page size of a memory type that names none, as an exponent of 2.
+const DEFAULT_PAGE_SIZE_LOG2: u32 = 16;
+
+/// How many bytes 32-bit addresses reach.
+const ADDRESS_SPACE_32: u128 = 1 << 32;
+
+/// How many bytes 64-bit addresses reach.
+const ADDRESS_SPACE_64: u128 = 1 << 64;
+
+/// Whether the limits of each memory hold.
+pub(super) fn limits_hold(memories: &[MemoryType]) -> bool
+    ensures { IsTrue result ↔ All HasLimits memories.now }
+{
+    memories.iter().all(has_limits)
+}
+
+fn has_limits(memory: &MemoryType) -> bool
+    ensures { IsTrue result ↔ HasLimits memory.now }
+{
+    let log2 = memory.page_size_log2.unwrap_or(DEFAULT_PAGE_SIZE_LOG2);
+    // A page has one byte or 65536.
+    if log2 != 0 && log2 != DEFAULT_PAGE_SIZE_LOG2 {
+        return false;
+    }
+    match memory.maximum {
+        None => !memory.shared && is_addressable(memory, memory.initial, log2),
+        // It reaches the minimum too, which is not above it.
+        Some(maximum) => memory.initial <= maximum && is_addressable(memory, maximum, log2),
+    }
+}
+
+/// Whether addresses of the memory reach the last byte of so many pages, each of 2^`log2` bytes.
+fn is_addressable(memory: &MemoryType, pages: u64, log2: u32) -> bool
+    requires { log2 ≤ 16 }
+    ensures { IsTrue result ↔ (pages * 2 ^ log2 ≤ address_space memory.now) }
+{
+    let address_space = if memory.memory64 {
+        ADDRESS_SPACE_64
+    } else {
+        ADDRESS_SPACE_32
+    };
+    u128::from(pages) << log2 <= address_space
+}
