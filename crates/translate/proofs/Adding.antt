@@ -1,7 +1,7 @@
 -- How the lists of a filling grow.
 use Rattle.std.proofs.Common.{◌≡◌, ℕ, ◌+◌, ◌<◌, suc, List, [], ◌∷◌, ◌++◌, length, map, take, drop, get_or, refl, sym, ap, subst, ◌∙◌, arith, add-zero, append_assoc, length-append, drop-cons}
 use Rattle.std.specs.Prelude.{All}
-use Rattle.std.specs.List.{filter_map, flat_map}
+use Rattle.std.specs.List.{flat_map}
 use Rattle.std.proofs.lemmas.List.{append-nil, map-append, map_more, flat_map_more, length-map, take-append-drop, get_or_append_left, get_or-append-add}
 use Rattle.std.proofs.lemmas.List.Concat.{flat_map-append}
 use Rattle.std.proofs.lemmas.List.Elements.{filter_map-append}
@@ -19,7 +19,7 @@ use Rattle.replay_spec.specs.Data.{ActiveSegment, active_of_kind}
 use Rattle.init_plan.specs.declared.module.Module.{Module as ModuleRecord}
 use Rattle.init_plan.specs.Views.{passive_data_of}
 use Rattle.translate.specs.declared.fill.Filling.{Filling}
-use Rattle.translate.specs.Filled.{passive_of_kind, passive_from, active_so_far, active_among, CanBeAdded, CanAdd, SameButLists, Adds}
+use Rattle.translate.specs.Filled.{passive_of_kind, passive_from, active_so_far, CanBeAdded, CanAdd, SameButLists, Adds}
 
 -- ---- parts of lists
 
@@ -74,7 +74,7 @@ Adds-both a b c t u r s ab bc = record {
   memories = gains_both _ _ _ _ _ ab.memories bc.memories ∙ ap (λ (ms : List Memory). a.translation.module.memories ++ ms) (sym (map-append memory_of t u));
   active = gains_both _ _ _ _ _ ab.active bc.active ∙ ap (λ (ss : List ActiveSegment). active_so_far a ++ ss) (sym (filter_map-append (λ (x : Segment). active_of_kind x.kind x.bytes) r s));
   passive = gains_both _ _ _ _ _ ab.passive (bc.passive ∙ ap (λ (n : ℕ). passive_data_of b.translation ++ passive_from n s) ab.count)
-    ∙ ap (λ (ps : List (ℕ × List ℕ)). passive_data_of a.translation ++ ps) (sym (passive_from-append a.next_data r s));
+      ∙ ap (λ (ps : List (ℕ × List ℕ)). passive_data_of a.translation ++ ps) (sym (passive_from-append a.next_data r s));
   count = let l = length-append r s in omega (arith, ab.count, bc.count, l);
   same = SameButLists-both a b c ab.same bc.same;
 }
@@ -107,7 +107,7 @@ Adds-section a b c ps i p lt is before one =
 CanAdd-next : (a b : Filling) (types t u v : List MemoryType) (ss p q r : List Segment) → types ≡ t ++ (u ++ v) → ss ≡ p ++ (q ++ r) → CanAdd a types ss → Adds a b t p → CanAdd b u q
 CanAdd-next a b types t u v ss p q r types_are ss_are can added =
     let grown : length b.translation.module.memories ≡ length a.translation.module.memories + length t =
-      ap length added.memories ∙ length-append _ _ ∙ ap (λ (n : ℕ). length a.translation.module.memories + n) (length-map t memory_of) in
+    ap length added.memories ∙ length-append _ _ ∙ ap (λ (n : ℕ). length a.translation.module.memories + n) (length-map t memory_of) in
     let all_types : length types ≡ length t + (length u + length v) = ap length types_are ∙ length-append t (u ++ v) ∙ ap (λ (n : ℕ). length t + n) (length-append u v) in
     let all_segments : length ss ≡ length p + (length q + length r) = ap length ss_are ∙ length-append p (q ++ r) ∙ ap (λ (n : ℕ). length p + n) (length-append q r) in
     record {

@@ -17,7 +17,6 @@ use Rattle.replay_spec.specs.Data.{ActiveSegment, active_of_kind}
 use Rattle.init_plan.specs.declared.module.Module.{Module as ModuleRecord}
 use Rattle.init_plan.specs.declared.translation.MemoryInit.TheVariants.{Unprocessed}
 use Rattle.init_plan.specs.Views.{passive_data_of, IsSegmented}
-use Rattle.init_plan.specs.Ready.{MemoryHalfIsReady}
 use Rattle.translate.specs.declared.fill.Filling.{Filling}
 use Rattle.translate.specs.Filled.{passive_of_kind, passive_from, Fills, active_so_far, IsEmpty, active_among, CanBeAdded, CanAdd}
 use Rattle.translate.proofs.Adding.{AddsModule}
@@ -41,9 +40,9 @@ active_in_range : (n : ℕ) (types : List MemoryType) (ss : List Segment) → le
 active_in_range n types [] is named = All-nil (λ (s : ActiveSegment). s.memory < n)
 active_in_range n types (s ∷ ss) is named =
     with_kind s.kind (All-head (λ (x : Segment). NamesMemory types x.kind) s ss named) (active_in_range n types ss is (All-tail (λ (x : Segment). NamesMemory types x.kind) s ss named)) where
-  with_kind : (kind : DataKind) → NamesMemory types kind → All (λ (x : ActiveSegment). x.memory < n) (active_among ss) → All (λ (x : ActiveSegment). x.memory < n) (cons_option (active_of_kind kind s.bytes) (active_among ss))
-  with_kind Passive named others = others
-  with_kind (Active memory offset) named others = All-cons (λ (x : ActiveSegment). x.memory < n) _ (active_among ss) (omega arith) others
+      with_kind : (kind : DataKind) → NamesMemory types kind → All (λ (x : ActiveSegment). x.memory < n) (active_among ss) → All (λ (x : ActiveSegment). x.memory < n) (cons_option (active_of_kind kind s.bytes) (active_among ss))
+      with_kind Passive named others = others
+      with_kind (Active memory offset) named others = All-cons (λ (x : ActiveSegment). x.memory < n) _ (active_among ss) (omega arith) others
 
 few_active : (ss : List Segment) → length (active_among ss) ≤ length ss
 few_active [] = omega arith
@@ -150,7 +149,7 @@ module _ (m : Module) (kept : Keeps m) (few : HasFewEntries m) where
         few_passive = let count = ap length passive_same in let le = few_passive 0 (segments m) in omega (arith, count, le, few.segments);
         distinct = subst (λ (ps : List (ℕ × List ℕ)). IsDistinct nat_eq (map (λ p. p.0) ps)) (sym passive_same) (passive_distinct 0 (segments m));
         numbered = subst (All (λ (p : ℕ × List ℕ). p.0 < 4294967295)) (sym passive_same)
-          (All-weaker (IsWithin 0 4294967295) (λ (p : ℕ × List ℕ). p.0 < 4294967295) (λ p within. within.1) (passive_from 0 (segments m)) (passive_within 0 4294967295 0 (segments m) (omega arith) (omega (arith, few.segments))));
+            (All-weaker (IsWithin 0 4294967295) (λ (p : ℕ × List ℕ). p.0 < 4294967295) (λ p within. within.1) (passive_from 0 (segments m)) (passive_within 0 4294967295 0 (segments m) (omega arith) (omega (arith, few.segments))));
       };
       memories = memories_same;
       imports = no_imports;
