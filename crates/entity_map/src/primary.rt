@@ -13,12 +13,12 @@ use std::ops::Index;
 
 /// A list of values whose places are indices of type `K`. Pushing a value gives its index.
 #[derive(Drop)]
-pub struct PrimaryMap<K: EntityRef, V> {
+pub struct PrimaryMap<K, V> {
     items: Vec<V>,
     keys: PhantomData<K>,
 }
 
-impl<K: EntityRef, V> Model for PrimaryMap<K, V> {
+impl<K, V> Model for PrimaryMap<K, V> {
     ghost use Rattle.std.specs.Prelude.{◌<◌, List, length};
 
     ghost Value = { List V };
