@@ -1,12 +1,24 @@
 //! Typed indices, and the lists, finite maps and sets that they number.
 #![tactic(auto)]
 
+mod cow;
 mod entity;
+mod laws;
 mod memory;
+mod packed;
+mod pool;
 mod primary;
+mod primary_mut;
 mod secondary;
+mod set;
 
+pub use cow::TryCow;
 pub use entity::{EntityRef, ReservedValue};
+pub use laws::{index_laws, reserved_laws};
 pub use memory::OutOfMemory;
+pub use packed::PackedOption;
+pub use pool::{Atom, StringPool};
 pub use primary::{PrimaryIter, PrimaryMap, Values};
+pub use primary_mut::ValuesMut;
 pub use secondary::{SecondaryIter, SecondaryMap};
+pub use set::EntitySet;
