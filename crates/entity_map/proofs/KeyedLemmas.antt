@@ -27,3 +27,5 @@ module _ {K V : Type 0} (at : ℕ → K) where
   keyed_from-append n (v ∷ vs) ws =
       let e : n + suc (length vs) ≡ n + 1 + length vs = omega arith
       in rw e (ap (λ rest. (at n, v) ∷ rest) (keyed_from-append (n + 1) vs ws))
+
+pub ruleset keyed_rules = (values-keyed_from, length-keyed_from, slice_get-keyed_from, keyed_from-append)

@@ -2,7 +2,7 @@ pub mod Cow
 pub mod Keyed
 pub mod Packed
 pub mod Pool
-pub mod PrimaryLends
+pub mod Primary
 pub mod Secondary
 pub mod Set
 pub mod ValuesMut

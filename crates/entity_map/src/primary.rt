@@ -5,12 +5,12 @@ ghost use Rattle.std.specs.Option.{option_copied, option_copied_mut};
 ghost use Rattle.std.specs.Borrow.{sem};
 ghost use Rattle.std.specs.Iterator.{YieldsFirstBy, YieldsFirstRef, item_count};
 ghost use Rattle.entity_map.specs.Keyed.{keyed};
-ghost use Rattle.entity_map.specs.PrimaryLends.{LendsItem, LendsValues};
+ghost use Rattle.entity_map.specs.Primary.{LendsItem, LendsValues};
 ghost use Rattle.entity_map.specs.ValuesMut.{left};
 
 use crate::entity::EntityRef;
 use crate::memory::OutOfMemory;
-use crate::primary_mut::ValuesMut;
+use crate::values_mut::ValuesMut;
 use std::alloc::Global;
 use std::marker::{Model, PhantomData};
 use std::ops::Index;

@@ -4,7 +4,7 @@ use Rattle.std.specs.List.{refill}
 use Rattle.std.specs.Borrow.{Fml, RattleType, MutBor, Array, LendsIf, follows}
 use Rattle.entity_map.specs.contracts.primary.PrimaryMap.{the_row}
 use Rattle.entity_map.specs.ValuesMut.{name_of}
-use Rattle.entity_map.specs.declared.primary_mut.ValuesMut.{ValuesMut}
+use Rattle.entity_map.specs.declared.values_mut.ValuesMut.{ValuesMut}
 
 module _ (K V : RattleType) (map : MutBor (List V.Denot)) where
   -- the place has the last value written through the result; at `None` the list is as it was
