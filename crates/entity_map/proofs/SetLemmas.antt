@@ -44,11 +44,11 @@ contains-insert_number s n q =
 pub from_list-true_places : (marks : List Bool) (n : ℕ) → set.from_list {R = nat_cmp} (true_places (written false marks n true)) ≡ set.insert (set.from_list (true_places marks)) n
 from_list-true_places marks n =
     set.same_set nat_cmp_total set.nat_cmp-IsAntisymmetric _ _ (λ q.
-      contains-true_places (written false marks n true) q
-      ∙ value_at-with_value_cases (record { default = false; items = marks }) n true q
-      ∙ either (q == n) _
-      ∙ ap (λ b. (q == n) || b) (sym (contains-true_places marks q))
-      ∙ sym (contains-insert_number _ n q))
+    contains-true_places (written false marks n true) q
+    ∙ value_at-with_value_cases (record { default = false; items = marks }) n true q
+    ∙ either (q == n) _
+    ∙ ap (λ b. (q == n) || b) (sym (contains-true_places marks q))
+    ∙ sym (contains-insert_number _ n q))
   where
     either : (a b : Bool) → (if a then true else b) ≡ (a || b)
     either true b = refl
@@ -58,9 +58,9 @@ from_list-true_places marks n =
 pub insert-contained : (s : set.FinSet nat_cmp) (n : ℕ) → set.contains s n ≡ true → set.insert s n ≡ s
 insert-contained s n h =
     set.same_set nat_cmp_total set.nat_cmp-IsAntisymmetric _ _ (λ q.
-      contains-insert_number s n q ∙ elim (eqb_tells q n) [
-        | inl same ↦ rw (same.0, same.1) (sym h)
-        | inr other ↦ rw other.0 refl
-      ])
+    contains-insert_number s n q ∙ elim (eqb_tells q n) [
+      | inl same ↦ rw (same.0, same.1) (sym h)
+      | inr other ↦ rw other.0 refl
+    ])
 
 pub ruleset set_rules = (contains-true_places, from_list-true_places, insert-contained)

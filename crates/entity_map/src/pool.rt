@@ -75,3 +75,21 @@ impl StringPool {
         self.texts.len()
     }
 }
+
+#[cfg(test)]
+mod tests {
+    use super::StringPool;
+    use std::test::Fail;
+
+    #[test]
+    fn text_comes_back_by_its_atom(rt: HostRuntime) -> Result<(), Fail> {
+        let mut pool = StringPool::new(rt.alloc());
+        let first = pool.insert("a")?;
+        let second = pool.insert("b")?;
+        assert_eq!(rt; pool.insert("a")?, first);
+        assert_ne!(rt; second, first);
+        assert_eq!(rt; pool.get(second), "b");
+        assert_eq!(rt; pool.len(), 2);
+        Ok(())
+    }
+}
