@@ -2,9 +2,11 @@
 #![tactic(auto)]
 
 mod error;
+mod expressions;
 mod lines;
 mod plan;
 mod refusal;
+mod text;
 
 pub use error::TranslateError;
 pub use lines::plan_text;
