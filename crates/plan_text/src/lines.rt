@@ -3,7 +3,14 @@
 ghost use Rattle.std.specs.Prelude.{◌≡◌, ◌++◌, ◌≤◌, length, map, IfOk, OnOk, Some};
 ghost use Rattle.wasm_index.specs.Index.{number_of};
 ghost use Rattle.plan_text.specs.PlanText.{
-    numbered, memories_line, initialization_line, segment_line, segment_lines, passive_line, runtime_line, text_of_plan,
+  numbered,
+  memories_line,
+  initialization_line,
+  segment_line,
+  segment_lines,
+  passive_line,
+  runtime_line,
+  text_of_plan,
 };
 
 use crate::expressions::append_offset;
@@ -138,7 +145,11 @@ pub fn plan_text(alloc: Global, plan: &Plan<'_>) -> Result<Vec<u8>, OutOfMemory>
     let translation = &plan.translation;
     let module = &translation.module;
     let mut text = Text::new(alloc);
-    append_memories(&mut text, module.num_imported_memories, module.memories.len())?;
+    append_memories(
+        &mut text,
+        module.num_imported_memories,
+        module.memories.len(),
+    )?;
     append_initialization(&mut text, &module.memory_initialization)?;
     append_segments(&mut text, &translation.memory_init)?;
     append_passive_data(&mut text, &translation.runtime_data_map)?;
