@@ -8,7 +8,7 @@ use init_plan::{MemoryInit, MemoryInitialization, MemorySegmentOffset, ModuleTra
 use std::alloc::Global;
 use std::test::Fail;
 use wasm_form::{Rule, What};
-use wasm_index::{DataIndex, MemoryIndex, RuntimeDataIndex, StaticModuleIndex};
+use wasm_index::{DataIndex, MemoryIndex, StaticModuleIndex};
 use wasm_types::{ConstExpr, ConstOp, IndexType, Limits, Memory};
 
 const PAGE: Memory = Memory {
@@ -17,6 +17,25 @@ const PAGE: Memory = Memory {
     shared: false,
     page_size_log2: 16,
 };
+
+const TWO_SEGMENTS: &str = "\
+memories 0 1
+memory-init segmented
+segment 0 0 at i32.const 16
+segment 0 1 at i32.const 17
+runtime 0 0 3
+runtime 1 3 4
+";
+
+const WITH_IMAGES: &str = "\
+memories 1 1
+memory-init static
+segment 1 0 at i64.const -1
+segment 0 0 at static 1048576
+passive-data 2 1
+runtime 0 0 12
+runtime 1 12 20
+";
 
 fn text_of(alloc: Global, translation: ModuleTranslation<'static>) -> Result<String, Fail>
     requires { translation.module.num_imported_memories ≤ length translation.module.memories }
@@ -51,54 +70,32 @@ fn segments_stand_in_order_before_their_ranges(rt: HostRuntime) -> Result<(), Fa
         (memory, at(alloc, ConstOp::I32Const(17))?, second),
     ]?);
     let text = text_of(alloc, translation)?;
-    assert_eq!(rt;
-        text.as_str(),
-        "memories 0 1
-memory-init segmented
-segment 0 0 at i32.const 16
-segment 0 1 at i32.const 17
-runtime 0 0 3
-runtime 1 3 4
-"
-    );
+    assert_eq!(rt; text.as_str(), TWO_SEGMENTS);
     Ok(())
 }
 
 #[test]
-fn images_passive_data_and_wide_places(rt: HostRuntime) -> Result<(), Fail> {
+fn images_wide_constants_and_passive_data(rt: HostRuntime) -> Result<(), Fail> {
     let alloc = rt.alloc();
+    let (imported, defined) = (MemoryIndex::new(0), MemoryIndex::new(1));
     let mut translation = ModuleTranslation::new(alloc, StaticModuleIndex::new(0))?;
-    translation.module.num_imported_memories = 1;
-    translation.module.memories.push(PAGE)?;
-    translation.module.memories.push(PAGE)?;
-    translation.module.memory_initialization = MemoryInitialization::Static {
+    let module = &mut translation.module;
+    module.num_imported_memories = 1;
+    module.memories.push(PAGE)?;
+    module.memories.push(PAGE)?;
+    module.memory_initialization = MemoryInitialization::Static {
         map: PrimaryMap::new(alloc),
     };
+    let first = module.runtime_data.push(0..12)?;
+    let second = module.runtime_data.push(12..20)?;
     translation.memory_init = MemoryInit::Processed(vec![in alloc;
-        (
-            MemoryIndex::new(1),
-            at(alloc, ConstOp::I64Const(-1))?,
-            RuntimeDataIndex::new(0)
-        ),
-        (
-            MemoryIndex::new(0),
-            MemorySegmentOffset::Static(1048576),
-            RuntimeDataIndex::new(1)
-        ),
+        (defined, at(alloc, ConstOp::I64Const(-1))?, first),
+        (imported, MemorySegmentOffset::Static(1048576), first),
     ]?);
-    translation
-        .runtime_data_map
-        .insert(DataIndex::new(2), Some(RuntimeDataIndex::new(3)))?;
+    let passive = DataIndex::new(2);
+    translation.runtime_data_map.insert(passive, Some(second))?;
     let text = text_of(alloc, translation)?;
-    assert_eq!(rt;
-        text.as_str(),
-        "memories 1 1
-memory-init static
-segment 1 0 at i64.const -1
-segment 0 1 at static 1048576
-passive-data 2 3
-"
-    );
+    assert_eq!(rt; text.as_str(), WITH_IMAGES);
     Ok(())
 }
 

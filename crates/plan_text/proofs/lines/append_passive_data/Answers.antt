@@ -1,4 +1,4 @@
-use Rattle.std.proofs.Common.{◌≡◌, ap, ◌++◌}
+use Rattle.std.proofs.Common.{ap, ◌++◌}
 use Rattle.plan_text.specs.PlanText.{passive_line}
 use Rattle.plan_text.proofs.Keyed.{lines_of_keyed}
 use Rattle.plan_text.proofs.lines.append_passive_data.Goals as goal
