@@ -11,5 +11,6 @@ returns c =
       c.in_ok-push_byte.ensures,
       c.as_u32-2.ensures,
       c.in_ok-push_number-2.ensures,
-      append_assoc) at c.push_byte-2.ensures in
+      append_assoc,
+    ) at c.push_byte-2.ensures in
     simp append_assoc written
