@@ -23,4 +23,4 @@ pub use primary::{PrimaryIter, PrimaryMap, Values};
 pub use secondary::{SecondaryIter, SecondaryMap};
 pub use set::EntitySet;
 pub use values_mut::ValuesMut;
-pub use worked::{keys_in_order, one_place_of_each_text, reserved_number, values_over_a_default};
+pub use worked::{keys_in_order, one_place_of_each_text, packed_numbers, values_over_a_default};

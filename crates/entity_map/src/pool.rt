@@ -22,13 +22,14 @@ pub struct StringPool {
 impl Model for StringPool {
     ghost use Rattle.std.specs.Prelude.{◌<◌, ℕ, List, length, map};
     ghost use Rattle.std.specs.String.{string_bytes};
+    ghost use Rattle.entity_map.specs.Entity.{reserved_number};
     ghost use Rattle.entity_map.specs.Pool.{HasEachOnce};
 
     ghost Value = { List (List ℕ) };
 
     ghost view = { λ pool. map string_bytes pool.texts.keys };
 
-    ghost invariant = { λ pool. (length pool.texts.keys < 4294967295) × HasEachOnce (map string_bytes pool.texts.keys) };
+    ghost invariant = { λ pool. (length pool.texts.keys < reserved_number) × HasEachOnce (map string_bytes pool.texts.keys) };
 }
 
 impl StringPool {

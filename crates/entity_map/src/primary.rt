@@ -5,7 +5,7 @@ ghost use Rattle.std.specs.Option.{option_copied, option_copied_mut};
 ghost use Rattle.std.specs.Borrow.{sem};
 ghost use Rattle.std.specs.Iterator.{YieldsFirstBy, YieldsFirstRef, item_count};
 ghost use Rattle.entity_map.specs.Keyed.{keyed};
-ghost use Rattle.entity_map.specs.Primary.{LendsItem, LendsValues};
+ghost use Rattle.entity_map.specs.Primary.{LendsItem, LendsSlice, LendsValues};
 ghost use Rattle.entity_map.specs.ValuesMut.{left};
 
 use crate::entity::EntityRef;
@@ -24,13 +24,14 @@ pub struct PrimaryMap<K, V> {
 
 impl<K, V> Model for PrimaryMap<K, V> {
     ghost use Rattle.std.specs.Prelude.{◌<◌, List, length};
+    ghost use Rattle.entity_map.specs.Entity.{reserved_number};
 
     ghost Value = { List V };
 
     ghost view = { λ m. m.items.items };
 
     // So the next key is always an index.
-    ghost invariant = { λ m. length m.items.items < 4294967295 };
+    ghost invariant = { λ m. length m.items.items < reserved_number };
 }
 
 impl<K: EntityRef, V> PrimaryMap<K, V> {
@@ -136,6 +137,15 @@ impl<K: EntityRef, V> PrimaryMap<K, V> {
         }
     }
 
+    /// The values in index order, as one slice for writing. (This project's own: a loop over a slice
+    /// knows what its writes leave, one over `values_mut` only how many values there are.)
+    pub fn as_mut_slice(&mut self) -> &mut [V]
+        ensures* writes_back { sem 𝓛 (LendsSlice K.row V.row self.entry result) }
+        ensures values { result.now ≡ self.old }
+    {
+        self.items.as_mut_slice()
+    }
+
     /// The values in index order, for writing.
     pub fn values_mut(&mut self) -> ValuesMut<'_, V>
         ensures* writes_back { sem 𝓛 (LendsValues K.row V.row self.entry result) }
@@ -170,13 +180,14 @@ pub struct PrimaryIter<'a, K: EntityRef, V> {
 
 impl<'a, K: EntityRef, V> Model for PrimaryIter<'a, K, V> {
     ghost use Rattle.std.specs.Prelude.{◌+◌, ◌≤◌, List, length};
+    ghost use Rattle.entity_map.specs.Entity.{reserved_number};
     ghost use Rattle.entity_map.specs.Keyed.{keyed_from};
 
     ghost Value = { List (K × V) };
 
     ghost view = { λ it. keyed_from K.at it.next it.rest.now };
 
-    ghost invariant = { λ it. it.next + length it.rest.now ≤ 4294967295 };
+    ghost invariant = { λ it. it.next + length it.rest.now ≤ reserved_number };
 }
 
 impl<'a, K: EntityRef, V> PrimaryIter<'a, K, V> {

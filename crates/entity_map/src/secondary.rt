@@ -22,13 +22,14 @@ pub struct SecondaryMap<K, V> {
 
 impl<K, V> Model for SecondaryMap<K, V> {
     ghost use Rattle.std.specs.Prelude.{◌≤◌, length};
+    ghost use Rattle.entity_map.specs.Entity.{reserved_number};
     ghost use Rattle.entity_map.specs.Secondary.{Defaulted};
 
     ghost Value = { Defaulted V };
 
     ghost view = { λ m. record { default = m.default; items = m.items.items } };
 
-    ghost invariant = { λ m. length m.items.items ≤ 4294967295 };
+    ghost invariant = { λ m. length m.items.items ≤ reserved_number };
 }
 
 impl<K: EntityRef, V: Copy> SecondaryMap<K, V> {

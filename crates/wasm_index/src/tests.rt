@@ -45,7 +45,7 @@ fn list_keeps_what_is_written(rt: HostRuntime) -> Result<(), Fail> {
     for size in sizes.values_mut() {
         *size = size.saturating_mul(2);
     }
-    for size in sizes.values_mut().into_slice() {
+    for size in sizes.as_mut_slice().iter_mut() {
         *size = size.saturating_add(1);
     }
     assert_eq!(rt; sizes.get(first).copied(), Some(19));
