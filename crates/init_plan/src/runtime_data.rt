@@ -30,23 +30,23 @@ pub(crate) fn check_total(
     Ok(())
 }
 
-fn active_length(segments: &[MemoryInitializer]) -> Result<u32, PlanError>
-    ensures total { IfOk result (λ total. total ≡ sum_by (λ s. length s.bytes.now) segments.now) }
-    ensures too_large { IfErr result (λ error. (error ≡ PlanError.TooLarge) × (2 ^ 32 ≤ sum_by (λ s. length s.bytes.now) segments.now)) }
+fn active_length(active: &[MemoryInitializer]) -> Result<u32, PlanError>
+    ensures total { IfOk result (λ total. total ≡ sum_by (λ s. length s.bytes.now) active.now) }
+    ensures too_large { IfErr result (λ error. (error ≡ PlanError.TooLarge) × (2 ^ 32 ≤ sum_by (λ s. length s.bytes.now) active.now)) }
 {
     let mut total = 0;
-    for segment in segments {
+    for segment in active {
         total = with_length(total, segment.bytes)?;
     }
     Ok(total)
 }
 
-fn with_passive_lengths(before: u32, segments: &[(DataIndex, &[u8])]) -> Result<u32, PlanError>
-    ensures total { IfOk result (λ total. total ≡ before + sum_by (λ p. length p.1.now) segments.now) }
-    ensures too_large { IfErr result (λ error. (error ≡ PlanError.TooLarge) × (2 ^ 32 ≤ before + sum_by (λ p. length p.1.now) segments.now)) }
+fn with_passive_lengths(before: u32, passive: &[(DataIndex, &[u8])]) -> Result<u32, PlanError>
+    ensures total { IfOk result (λ total. total ≡ before + sum_by (λ p. length p.1.now) passive.now) }
+    ensures too_large { IfErr result (λ error. (error ≡ PlanError.TooLarge) × (2 ^ 32 ≤ before + sum_by (λ p. length p.1.now) passive.now)) }
 {
     let mut total = before;
-    for (_, bytes) in segments {
+    for (_, bytes) in passive {
         total = with_length(total, bytes)?;
     }
     Ok(total)
