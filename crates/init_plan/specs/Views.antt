@@ -56,9 +56,13 @@ active_bytes t = map (λ s. s.bytes) (initializers_of t)
 abbrev pub passive_bytes : ModuleTranslation → List (List ℕ)
 passive_bytes t = map (λ p. p.1) (passive_data_of t)
 
+-- how many bytes active and passive segments hold together
+abbrev pub total_bytes : List ActiveSegment → List (ℕ × List ℕ) → ℕ
+total_bytes active passive = sum_by length (map (λ s. s.bytes) active) + sum_by length (map (λ p. p.1) passive)
+
 -- how many bytes the data segments hold together
 abbrev pub data_total : ModuleTranslation → ℕ
-data_total t = sum_by length (active_bytes t) + sum_by length (passive_bytes t)
+data_total t = total_bytes (initializers_of t) (passive_data_of t)
 
 -- the minimum sizes of the defined memories, in bytes
 abbrev pub defined_sizes : Module → List ℕ

@@ -5,6 +5,8 @@ mod error;
 mod memory_init;
 mod module;
 mod runtime_data;
+#[cfg(test)]
+mod tests;
 mod translation;
 
 pub use error::PlanError;

@@ -4,9 +4,9 @@ ghost use Rattle.std.specs.Prelude.{◌≡◌, ◌+◌, ◌^◌, ◌<◌, ◌≤
 ghost use Rattle.std.specs.List.{IsDistinct};
 ghost use Rattle.std.specs.Option.{option_map};
 ghost use Rattle.entity_map.specs.Secondary.{value_at};
-ghost use Rattle.wasm_index.specs.Index.{number_of, index_of};
+ghost use Rattle.wasm_index.specs.Index.{number_of};
 ghost use Rattle.replay_spec.specs.Plan.{planned_from, ranges_from};
-ghost use Rattle.init_plan.specs.Views.{active_segment_of, passive_segment_of, planned_segment_of, bytes_of, FindsRuntime};
+ghost use Rattle.init_plan.specs.Views.{active_segment_of, passive_segment_of, planned_segment_of, total_bytes, bytes_of, FindsRuntime};
 
 use crate::error::PlanError;
 use crate::module::MemoryInitializer;
@@ -22,31 +22,31 @@ pub(crate) fn check_total(
     active: &[MemoryInitializer],
     passive: &[(DataIndex, &[u8])],
 ) -> Result<(), PlanError>
-    ensures fits { OnOk result (sum_by length (map (λ s. s.bytes) (map active_segment_of active.now)) + sum_by length (map (λ p. p.1) (map passive_segment_of passive.now)) < 2 ^ 32) }
-    ensures too_large { IfErr result (λ error. (error ≡ PlanError.TooLarge) × (2 ^ 32 ≤ sum_by length (map (λ s. s.bytes) (map active_segment_of active.now)) + sum_by length (map (λ p. p.1) (map passive_segment_of passive.now)))) }
+    ensures fits { OnOk result (total_bytes (map active_segment_of active.now) (map passive_segment_of passive.now) < 2 ^ 32) }
+    ensures too_large { IfErr result (λ error. (error ≡ PlanError.TooLarge) × (2 ^ 32 ≤ total_bytes (map active_segment_of active.now) (map passive_segment_of passive.now))) }
 {
     let total = active_length(active)?;
     with_passive_lengths(total, passive)?;
     Ok(())
 }
 
-fn active_length(segments: &[MemoryInitializer]) -> Result<u32, PlanError>
-    ensures total { IfOk result (λ total. total ≡ sum_by (λ s. length s.bytes.now) segments.now) }
-    ensures too_large { IfErr result (λ error. (error ≡ PlanError.TooLarge) × (2 ^ 32 ≤ sum_by (λ s. length s.bytes.now) segments.now)) }
+fn active_length(active: &[MemoryInitializer]) -> Result<u32, PlanError>
+    ensures total { IfOk result (λ total. total ≡ sum_by (λ s. length s.bytes.now) active.now) }
+    ensures too_large { IfErr result (λ error. (error ≡ PlanError.TooLarge) × (2 ^ 32 ≤ sum_by (λ s. length s.bytes.now) active.now)) }
 {
     let mut total = 0;
-    for segment in segments {
+    for segment in active {
         total = with_length(total, segment.bytes)?;
     }
     Ok(total)
 }
 
-fn with_passive_lengths(before: u32, segments: &[(DataIndex, &[u8])]) -> Result<u32, PlanError>
-    ensures total { IfOk result (λ total. total ≡ before + sum_by (λ p. length p.1.now) segments.now) }
-    ensures too_large { IfErr result (λ error. (error ≡ PlanError.TooLarge) × (2 ^ 32 ≤ before + sum_by (λ p. length p.1.now) segments.now)) }
+fn with_passive_lengths(before: u32, passive: &[(DataIndex, &[u8])]) -> Result<u32, PlanError>
+    ensures total { IfOk result (λ total. total ≡ before + sum_by (λ p. length p.1.now) passive.now) }
+    ensures too_large { IfErr result (λ error. (error ≡ PlanError.TooLarge) × (2 ^ 32 ≤ before + sum_by (λ p. length p.1.now) passive.now)) }
 {
     let mut total = before;
-    for (_, bytes) in segments {
+    for (_, bytes) in passive {
         total = with_length(total, bytes)?;
     }
     Ok(total)
