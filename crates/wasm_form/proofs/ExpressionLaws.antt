@@ -1,7 +1,7 @@
 -- Reading of operators up to the end mark agrees with the grammar.
-use Rattle.std.proofs.Common.{◌≡◌, ℕ, zero, suc, ◌+◌, ◌<◌, ◌≤◌, List, [], ◌∷◌, ◌++◌, length, Ok, Err, Bool, true, false, eqb, refl, sym, ap, subst, ◌∙◌, append_assoc, arith, inl, inr}
+use Rattle.std.proofs.Common.{◌≡◌, ℕ, zero, suc, ◌+◌, ◌<◌, ◌≤◌, List, [], ◌∷◌, ◌++◌, length, Bool, true, false, refl, sym, ap, subst, ◌∙◌, append_assoc, arith, inl, inr}
 use Rattle.std.specs.Prelude.{◌⊎◌, ◌==◌}
-use Rattle.std.proofs.lemmas.Bool.{eqb-true, eqb-false, ne_eqb, eq-eqb}
+use Rattle.std.proofs.lemmas.Bool.{eqb-true, ne_eqb}
 use Rattle.std.proofs.lemmas.List.{length-append, append-nil}
 use Rattle.wasm_spec.specs.declared.types.What.{What}
 use Rattle.wasm_spec.specs.declared.types.Operator.{Operator}
@@ -12,9 +12,8 @@ use Rattle.wasm_spec.specs.Parts.{Part, Joined}
 use Rattle.wasm_spec.specs.Module.{Expression}
 use Rattle.wasm_spec.specs.Grammar as grammar
 use Rattle.wasm_spec.specs.Grammar.{SpellsExpression, ExpressionStops}
-use Rattle.wasm_form.specs.Reading.{Fault, Bad, Stops, Reader, ◌>>=◌, and_then}
-use Rattle.wasm_form.specs.ReadingRows.{operator_after, operator_at, operators_at, expression_at}
-use Rattle.wasm_form.proofs.Agrees.{Agrees, ok, ok_is, step_ok, step_err, bad_not_stops, gives_agrees, nothing_agrees, stopped_agrees, then_agrees, choose_agrees, first_byte_agrees}
+use Rattle.wasm_form.specs.ReadingRows.{operator_after, operators_at, expression_at}
+use Rattle.wasm_form.proofs.Agrees.{Agrees, gives_agrees, nothing_agrees, stopped_agrees, then_agrees, choose_agrees, first_byte_agrees}
 use Rattle.wasm_form.proofs.NumberLaws.{signed_agrees}
 
 -- ---- the front and the rest of a list of elements

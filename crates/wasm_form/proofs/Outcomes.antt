@@ -1,12 +1,12 @@
 -- What the outcome of reading a module says of its bytes.
-use Rattle.std.proofs.Common.{◌≡◌, ℕ, List, Result, Ok, Err, refl, sym, ap, ◌∙◌}
+use Rattle.std.proofs.Common.{◌≡◌, ℕ, List, Result, Ok, Err, refl, sym, ◌∙◌}
 use Rattle.wasm_spec.specs.declared.types.What.{What}
 use Rattle.wasm_spec.specs.Module.{Module}
 use Rattle.wasm_spec.specs.Grammar.{Spells, Stops as IsStopped}
 use Rattle.wasm_form.specs.declared.form.Form.{Form}
 use Rattle.wasm_form.specs.declared.error.ReadError.{ReadError}
 use Rattle.wasm_form.specs.declared.error.ReadError.TheVariants as errors
-use Rattle.wasm_form.specs.Reading.{Fault, Bad, Stops, Fails}
+use Rattle.wasm_form.specs.Reading.{Bad, Stops, Fails}
 use Rattle.wasm_form.specs.ReadingRows.{module_at}
 use Rattle.wasm_form.proofs.Agrees.{ok_is, ok_not_err, bad_not_stops}
 use Rattle.wasm_form.proofs.SectionLaws.{module_fills}

@@ -1,6 +1,6 @@
 -- Reading of sections up to the end, and of modules, agrees with the grammar.
-use Rattle.std.proofs.Common.{◌≡◌, ℕ, zero, suc, ◌+◌, ◌<◌, ◌≤◌, List, [], ◌∷◌, ◌++◌, length, drop, Result, Ok, Err, Bool, true, false, cond, refl, sym, ap, subst, ◌∙◌, append_assoc, arith, inl, inr}
-use Rattle.std.specs.Prelude.{◌⊎◌, nat_eq, ◌&&◌}
+use Rattle.std.proofs.Common.{◌≡◌, ℕ, zero, suc, ◌+◌, ◌≤◌, List, [], ◌∷◌, ◌++◌, length, drop, Ok, Err, Bool, true, false, cond, refl, sym, ap, subst, ◌∙◌, append_assoc, arith, inl, inr}
+use Rattle.std.specs.Prelude.{◌⊎◌, nat_eq}
 use Rattle.std.specs.List.{starts_with}
 use Rattle.std.proofs.lemmas.Bool.{and_parts, cases_Bool}
 use Rattle.std.proofs.lemmas.Slice.Eq.{starts_is}
@@ -11,8 +11,8 @@ use Rattle.wasm_spec.specs.declared.types.What.TheVariants as what
 use Rattle.wasm_spec.specs.Module.{Payload, Module}
 use Rattle.wasm_spec.specs.Grammar as grammar
 use Rattle.wasm_spec.specs.Grammar.{SpellsSections, next_place, place_after_all, magic, header, Spells, Stops as IsStopped, IsComponent, SectionsStop}
-use Rattle.wasm_form.specs.Reading.{Fault, Bad, Stops, and_then}
-use Rattle.wasm_form.specs.ReadingRows.{section_at, sections_at, all_sections_at, is_component, module_at}
+use Rattle.wasm_form.specs.Reading.{Bad, Stops, and_then}
+use Rattle.wasm_form.specs.ReadingRows.{section_at, sections_at, is_component, module_at}
 use Rattle.wasm_form.proofs.Agrees.{Fills, ok, err, ok_is, ok_not_err, bad_not_stops, step_ok, step_err}
 use Rattle.wasm_form.proofs.RowLaws.{section_agrees}
 
