@@ -29,13 +29,16 @@ module _ (bytes : List ℕ) where
   fails_spelled errors.Malformed m h s = absurd (ok_not_err m Bad (sym (module_fills.again bytes m s) ∙ h))
   fails_spelled (errors.Unsupported w) m h s = absurd (ok_not_err m (Stops w) (sym (module_fills.again bytes m s) ∙ h))
 
-  pub fails_unsupported : (e : ReadError) (w : What) → Fails e (module_at bytes) → e ≡ errors.Unsupported w → IsStopped bytes w
+  pub fails_unsupported : (e : ReadError) (w : What) → Fails e (module_at bytes) → e ≡ errors.Unsupported w
+      → IsStopped bytes w
   fails_unsupported e w h is = module_fills.stopped bytes w (rw is at h)
 
-  pub fails_malformed : (e : ReadError) (m : Module) → Fails e (module_at bytes) → e ≡ errors.Malformed → Spells bytes m → ⊥
+  pub fails_malformed : (e : ReadError) (m : Module) → Fails e (module_at bytes) → e ≡ errors.Malformed
+      → Spells bytes m → ⊥
   fails_malformed e m h is s = let n : errors.Malformed ≡ errors.OutOfMemory = sym is ∙ fails_spelled e m h s in absurd cc
 
-  pub fails_nowhere : (e : ReadError) (w : What) → Fails e (module_at bytes) → e ≡ errors.Malformed → IsStopped bytes w → ⊥
+  pub fails_nowhere : (e : ReadError) (w : What) → Fails e (module_at bytes) → e ≡ errors.Malformed → IsStopped bytes w
+      → ⊥
   fails_nowhere e w h is s = bad_not_stops w (sym (rw is at h) ∙ module_fills.stops_again bytes w s)
 
   pub spells_one : (m n : Module) → Spells bytes m → Spells bytes n → m ≡ n

@@ -71,7 +71,8 @@ section_contents_agree id =
     (choose_agrees (id == 11) (sized_agrees (whole_fills segments_agree))
     (stopped_agrees what.Section))
 
-placed_section_agrees : (next id : ℕ) (place : Option ℕ) → Agrees (placed_section_at next id place) (grammar.placed_section next id place)
+placed_section_agrees : (next id : ℕ) (place : Option ℕ)
+    → Agrees (placed_section_at next id place) (grammar.placed_section next id place)
 placed_section_agrees next id None = nothing_agrees
 placed_section_agrees next id (Some place) = choose_agrees (nat_le next place) (section_contents_agree id) nothing_agrees
 

@@ -27,7 +27,8 @@ record StopFrom (next : ℕ) (bytes : List ℕ) (w : What) : Type 0 where
   are_sections : SpellsSections next front before
   stops_next : (grammar.section (place_after_all next before)).stops back w
 
-sections_found : (k next : ℕ) (bytes : List ℕ) (ps : List Payload) → sections_at k next bytes ≡ Ok ps → SpellsSections next bytes ps
+sections_found : (k next : ℕ) (bytes : List ℕ) (ps : List Payload) → sections_at k next bytes ≡ Ok ps
+    → SpellsSections next bytes ps
 unfolding sections_at
 sections_found zero next [] ps e = subst (SpellsSections next []) (ok_is [] ps e) refl
 sections_found (suc k) next [] ps e = subst (SpellsSections next []) (ok_is [] ps e) refl
@@ -38,7 +39,8 @@ sections_found (suc k) next (b ∷ bytes) ps e =
     let f = (section_agrees next).found (b ∷ bytes) s.0.0 s.0.1 s.1 in
     subst (SpellsSections next (b ∷ bytes)) (ok_is (s.0.0 ∷ t.0) ps t.2) (f.0, s.0.1, f.1, f.2, sections_found k (next_place next s.0.0) s.0.1 t.0 t.1)
 
-sections_again : (ps : List Payload) (k next : ℕ) (bytes : List ℕ) → SpellsSections next bytes ps → length bytes ≤ k → sections_at k next bytes ≡ Ok ps
+sections_again : (ps : List Payload) (k next : ℕ) (bytes : List ℕ) → SpellsSections next bytes ps → length bytes ≤ k
+    → sections_at k next bytes ≡ Ok ps
 unfolding sections_at
 sections_again [] zero next bytes s l = rw s refl
 sections_again [] (suc k) next bytes s l = rw s refl
@@ -49,14 +51,16 @@ sections_again (p ∷ ps) (suc k) next bytes (c ∷ cs, back, parts, is, later) 
     let long : length bytes ≡ suc (length cs + length back) = rw parts (ap suc (length-append cs back)) in
     rw (parts, one, sections_again ps k (next_place next p) back later (omega arith)) refl
 
-sections_stopped : (k next : ℕ) (bytes : List ℕ) (w : What) → sections_at k next bytes ≡ Err (Stops w) → StopFrom next bytes w
+sections_stopped : (k next : ℕ) (bytes : List ℕ) (w : What) → sections_at k next bytes ≡ Err (Stops w)
+    → StopFrom next bytes w
 unfolding sections_at
 sections_stopped zero next [] w e = absurd (ok_not_err [] (Stops w) e)
 sections_stopped (suc k) next [] w e = absurd (ok_not_err [] (Stops w) e)
 sections_stopped zero next (b ∷ bytes) w e = absurd (bad_not_stops w e)
 sections_stopped (suc k) next (b ∷ bytes) w e =
     here (λ m l h. sections_stopped k m l w h) (step_err (section_at next (b ∷ bytes)) (λ p. and_then (sections_at k (next_place next p.0) p.1) (λ ps. Ok (p.0 ∷ ps))) (Stops w) e) where
-      there : ((m : ℕ) (l : List ℕ) → sections_at k m l ≡ Err (Stops w) → StopFrom m l w) → (p : Payload × List ℕ) → section_at next (b ∷ bytes) ≡ Ok p
+      there : ((m : ℕ) (l : List ℕ) → sections_at k m l ≡ Err (Stops w) → StopFrom m l w) → (p : Payload × List ℕ)
+          → section_at next (b ∷ bytes) ≡ Ok p
           → ((sections_at k (next_place next p.0) p.1 ≡ Err (Stops w)) ⊎ ((ps : List Payload) × (sections_at k (next_place next p.0) p.1 ≡ Ok ps) × (ok (p.0 ∷ ps) ≡ Err (Stops w)))) → StopFrom next (b ∷ bytes) w
       there ih p h (inr (ps, g, never)) = absurd (ok_not_err (p.0 ∷ ps) (Stops w) never)
       there ih p h (inl g) =
@@ -76,7 +80,8 @@ sections_stopped (suc k) next (b ∷ bytes) w e =
       here ih (inl h) = record { before = []; front = []; back = b ∷ bytes; parts = refl; are_sections = refl; stops_next = (section_agrees next).stopped (b ∷ bytes) w h }
       here ih (inr (p, h, g)) = there ih p h (step_err (sections_at k (next_place next p.0) p.1) (λ ps. Ok (p.0 ∷ ps)) (Stops w) g)
 
-sections_stop_again : (before : List Payload) (k next : ℕ) (front back : List ℕ) (w : What) → SpellsSections next front before → (grammar.section (place_after_all next before)).stops back w
+sections_stop_again : (before : List Payload) (k next : ℕ) (front back : List ℕ) (w : What)
+    → SpellsSections next front before → (grammar.section (place_after_all next before)).stops back w
     → length (front ++ back) ≤ k → sections_at k next (front ++ back) ≡ Err (Stops w)
 unfolding sections_at
 sections_stop_again [] k next front [] w s t l = absurd t
@@ -119,7 +124,8 @@ module_found bytes m e = by_test (starts_with nat_eq bytes header) refl e where
   component true e = absurd cc
   component false e = absurd cc
 
-  by_test : (t : Bool) → starts_with nat_eq bytes header ≡ t → cond t (sections_at (length (drop 8 bytes)) 0 (drop 8 bytes)) (cond (is_component bytes) (Err (Stops what.Component)) (Err Bad)) ≡ Ok m → Spells bytes m
+  by_test : (t : Bool) → starts_with nat_eq bytes header ≡ t
+      → cond t (sections_at (length (drop 8 bytes)) 0 (drop 8 bytes)) (cond (is_component bytes) (Err (Stops what.Component)) (Err Bad)) ≡ Ok m → Spells bytes m
   by_test true t e = record { body = drop 8 bytes; parts = header_is bytes t; are_sections = sections_found (length (drop 8 bytes)) 0 (drop 8 bytes) m e }
   by_test false t e = absurd (component (is_component bytes) e)
 
@@ -133,11 +139,13 @@ module_stopped bytes w e = by_test (starts_with nat_eq bytes header) refl e wher
   what_is : (v : What) → err {A = Module} (Stops v) ≡ Err (Stops w) → w ≡ v
   what_is v e = cc
 
-  component : (t : Bool) → is_component bytes ≡ t → cond t (err {A = Module} (Stops what.Component)) (Err Bad) ≡ Err (Stops w) → IsStopped bytes w
+  component : (t : Bool) → is_component bytes ≡ t
+      → cond t (err {A = Module} (Stops what.Component)) (Err Bad) ≡ Err (Stops w) → IsStopped bytes w
   component true t e = inl (component_is bytes t, what_is what.Component e)
   component false t e = absurd (bad_not_stops w e)
 
-  by_test : (t : Bool) → starts_with nat_eq bytes header ≡ t → cond t (sections_at (length (drop 8 bytes)) 0 (drop 8 bytes)) (cond (is_component bytes) (Err (Stops what.Component)) (Err Bad)) ≡ Err (Stops w) → IsStopped bytes w
+  by_test : (t : Bool) → starts_with nat_eq bytes header ≡ t
+      → cond t (sections_at (length (drop 8 bytes)) 0 (drop 8 bytes)) (cond (is_component bytes) (Err (Stops what.Component)) (Err Bad)) ≡ Err (Stops w) → IsStopped bytes w
   by_test true t e =
       let s = sections_stopped (length (drop 8 bytes)) 0 (drop 8 bytes) w e in
       inr (record { before = s.before; front = s.front; back = s.back; parts = header_is bytes t ∙ ap (λ (l : List ℕ). header ++ l) s.parts; are_sections = s.are_sections; stops_next = s.stops_next })
