@@ -145,12 +145,23 @@ module _ {A B : Type 0} (p : Reader A) (q : A → Reader B) (g : Part A) (h : A 
   then_found bytes y rest e =
       let s = step_ok (p bytes) (λ x. q x.0 x.1) (y, rest) e in
       let f = a.found bytes s.0.0 s.0.1 s.1 in
-      let t = (b s.0.0).found s.0.1 y rest s.2 in
-      (f.0 ++ t.0, f.1 ∙ ap (λ (l : List ℕ). f.0 ++ l) t.1 ∙ sym (append_assoc f.0 t.0 rest), record { value = s.0.0; front = f.0; back = t.0; parts = refl; is_first = f.2; is_second = t.2 })
+      let t = (b s.0.0).found s.0.1 y rest s.2 in (
+        f.0 ++ t.0,
+        f.1 ∙ ap (λ (l : List ℕ). f.0 ++ l) t.1 ∙ sym (append_assoc f.0 t.0 rest),
+        record {
+          value = s.0.0;
+          front = f.0;
+          back = t.0;
+          parts = refl;
+          is_first = f.2;
+          is_second = t.2;
+        },
+      )
 
   then_again : (front : List ℕ) (y : B) (rest : List ℕ) → Joined g h front y → (p >>= q) (front ++ rest) ≡ Ok (y, rest)
   then_again front y rest t =
-      let e1 : p (front ++ rest) ≡ Ok (t.value, t.back ++ rest) = rw (t.parts, append_assoc) (a.again t.front t.value (t.back ++ rest) t.is_first) in
+      let e1 : p (front ++ rest) ≡ Ok (t.value, t.back ++ rest) =
+      rw (t.parts, append_assoc) (a.again t.front t.value (t.back ++ rest) t.is_first) in
       rw e1 ((b t.value).again t.back y rest t.is_second)
 
   then_stopped : (bytes : List ℕ) (what : What) → (p >>= q) bytes ≡ Err (Stops what)
@@ -165,11 +176,17 @@ module _ {A B : Type 0} (p : Reader A) (q : A → Reader B) (g : Part A) (h : A 
   then_stops_again : (bytes : List ℕ) (what : What) → g.stops bytes what ⊎ StopsLater g h bytes what
       → (p >>= q) bytes ≡ Err (Stops what)
   then_stops_again bytes what (inl s) = rw (a.stops_again bytes what s) refl
-  then_stops_again bytes what (inr s) = rw (s.parts, a.again s.front s.value s.back s.is_first) ((b s.value).stops_again s.back what s.stops_second)
+  then_stops_again bytes what (inr s) =
+      rw (s.parts, a.again s.front s.value s.back s.is_first) ((b s.value).stops_again s.back what s.stops_second)
 
 pub then_agrees : {A B : Type 0} {p : Reader A} {q : A → Reader B} {g : Part A} {h : A → Part B} → Agrees p g
     → ((x : A) → Agrees (q x) (h x)) → Agrees (p >>= q) (part.◌>>=◌ g h)
-then_agrees {A} {B} {p} {q} {g} {h} a b = record { found = then_found p q g h a b; again = then_again p q g h a b; stopped = then_stopped p q g h a b; stops_again = then_stops_again p q g h a b }
+then_agrees {A} {B} {p} {q} {g} {h} a b = record {
+  found = then_found p q g h a b;
+  again = then_again p q g h a b;
+  stopped = then_stopped p q g h a b;
+  stops_again = then_stops_again p q g h a b;
+}
 
 -- ---- one of two
 
@@ -240,7 +257,12 @@ module _ {A : Type 0} (p : ℕ → Reader A) (g : ℕ → Part A) (a : (b : ℕ)
 
 pub first_byte_agrees : {A : Type 0} {p : ℕ → Reader A} {g : ℕ → Part A} → ((b : ℕ) → Agrees (p b) (g b))
     → Agrees (first_byte_at p) (part.first_byte g)
-first_byte_agrees {A} {p} {g} a = record { found = first_found p g a; again = first_again p g a; stopped = first_stopped p g a; stops_again = first_stops_again p g a }
+first_byte_agrees {A} {p} {g} a = record {
+  found = first_found p g a;
+  again = first_again p g a;
+  stopped = first_stopped p g a;
+  stops_again = first_stops_again p g a;
+}
 
 -- ---- n of them
 
@@ -275,11 +297,17 @@ module _ {A B : Type 0} (p : Reader A) (q : A → Filler B) (g : Part A) (h : A 
   fill_stops_again : (bytes : List ℕ) (what : What) → g.stops bytes what ⊎ StopsLater g h bytes what
       → fill_after p q bytes ≡ Err (Stops what)
   fill_stops_again bytes what (inl s) = rw (a.stops_again bytes what s) refl
-  fill_stops_again bytes what (inr s) = rw (s.parts, a.again s.front s.value s.back s.is_first) ((b s.value).stops_again s.back what s.stops_second)
+  fill_stops_again bytes what (inr s) =
+      rw (s.parts, a.again s.front s.value s.back s.is_first) ((b s.value).stops_again s.back what s.stops_second)
 
 pub fill_after_fills : {A B : Type 0} {p : Reader A} {q : A → Filler B} {g : Part A} {h : A → Part B} → Agrees p g
     → ((x : A) → Fills (q x) (h x)) → Fills (fill_after p q) (part.◌>>=◌ g h)
-fill_after_fills {A} {B} {p} {q} {g} {h} a b = record { found = fill_found p q g h a b; again = fill_again p q g h a b; stopped = fill_stopped p q g h a b; stops_again = fill_stops_again p q g h a b }
+fill_after_fills {A} {B} {p} {q} {g} {h} a b = record {
+  found = fill_found p q g h a b;
+  again = fill_again p q g h a b;
+  stopped = fill_stopped p q g h a b;
+  stops_again = fill_stops_again p q g h a b;
+}
 
 pub all_bytes_fill : {A : Type 0} (f : List ℕ → A) → Fills (all_bytes_at f) (part.all_bytes_as f)
 all_bytes_fill f = record {
@@ -319,7 +347,12 @@ module _ {A : Type 0} (p : Reader A) (g : Part A) (a : Agrees p g) where
   whole_stops_again bytes what s = rw (a.stops_again bytes what s) refl
 
 pub whole_fills : {A : Type 0} {p : Reader A} {g : Part A} → Agrees p g → Fills (whole p) g
-whole_fills {A} {p} {g} a = record { found = whole_found p g a; again = whole_again p g a; stopped = whole_stopped p g a; stops_again = whole_stops_again p g a }
+whole_fills {A} {p} {g} a = record {
+  found = whole_found p g a;
+  again = whole_again p g a;
+  stopped = whole_stopped p g a;
+  stops_again = whole_stops_again p g a;
+}
 
 -- the first n bytes
 abbrev pub filled_at : {A : Type 0} → Filler A → ℕ → Reader A
@@ -351,13 +384,25 @@ module _ {A : Type 0} (p : Filler A) (g : Part A) (a : Fills p g) (n : ℕ) wher
           → ((p x.0 ≡ Err (Stops what)) ⊎ ((y : A) × (p x.0 ≡ Ok y) × (ok {A = A × List ℕ} (y, x.1) ≡ Err (Stops what)))) → FilledStops g n bytes what
       inside x k (inl m) =
           let f = (raw_bytes_agree n).found bytes x.0 x.1 k in
-          record { inside = x.0; after = x.1; parts = f.1 ∙ ap (λ (l : List ℕ). l ++ x.1) f.2.0; long = f.2.1; stops_inside = a.stopped x.0 what m }
+          record {
+            inside = x.0;
+            after = x.1;
+            parts = f.1 ∙ ap (λ (l : List ℕ). l ++ x.1) f.2.0;
+            long = f.2.1;
+            stops_inside = a.stopped x.0 what m;
+          }
       inside x k (inr (y, m, never)) = absurd (ok_not_err (y, x.1) (Stops what) never)
 
   filled_stops_again : (bytes : List ℕ) (what : What) → FilledStops g n bytes what
       → filled_at p n bytes ≡ Err (Stops what)
-  filled_stops_again bytes what s = rw (s.parts, (raw_bytes_agree n).again s.inside s.inside s.after (refl, s.long), a.stops_again s.inside what s.stops_inside) refl
+  filled_stops_again bytes what s =
+      rw (s.parts, (raw_bytes_agree n).again s.inside s.inside s.after (refl, s.long), a.stops_again s.inside what s.stops_inside) refl
 
 pub filled_agrees : {A : Type 0} {p : Filler A} {g : Part A} → Fills p g → (n : ℕ)
     → Agrees (filled_at p n) (part.filled g n)
-filled_agrees {A} {p} {g} a n = record { found = filled_found p g a n; again = filled_again p g a n; stopped = filled_stopped p g a n; stops_again = filled_stops_again p g a n }
+filled_agrees {A} {p} {g} a n = record {
+  found = filled_found p g a n;
+  again = filled_again p g a n;
+  stopped = filled_stopped p g a n;
+  stops_again = filled_stops_again p g a n;
+}

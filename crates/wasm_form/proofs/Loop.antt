@@ -1,4 +1,4 @@
--- Elements one after the other, as a loop reads them.
+-- What a loop has read so far, and what it has still to read.
 use Rattle.std.proofs.Common.{◌≡◌, ℕ, List, [], ◌∷◌, ◌++◌, Result, Ok, Err, refl, sym, ap, ◌∙◌, append_assoc}
 use Rattle.std.proofs.lemmas.List.{append-nil}
 use Rattle.wasm_form.specs.Reading.{and_then, Fault}

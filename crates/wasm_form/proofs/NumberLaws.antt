@@ -6,7 +6,7 @@ use Rattle.std.specs.Prelude.{ℤ, pos, neg_ℤ, int_le, int_lt, ◌&&◌}
 use Rattle.std.specs.Option.{option_map}
 use Rattle.std.proofs.lemmas.Bool.{lt-ltb, le-ltb, ltb-true, ltb-false}
 use Rattle.wasm_spec.specs.declared.types.What.{What}
-use Rattle.wasm_spec.specs.Numbers.{EndsOnce, sevens, signed_sum, most_bytes, SpellsUnsigned, SpellsSigned}
+use Rattle.wasm_spec.specs.Numbers.{EndsOnce, sevens, signed_sum, most_bytes}
 use Rattle.wasm_spec.specs.Parts as part
 use Rattle.wasm_spec.specs.Parts.{Part}
 use Rattle.wasm_form.specs.Reading.{Fault, Stops, Reader, Filler, and_then, raw_bytes_at}
@@ -65,8 +65,16 @@ module _ (k : ℕ) where
       let is = number_found (most_bytes k) bytes p n in
       let g = test_ok (ltb (sevens p.0) (2 ^ k)) (sevens p.0, p.1) (x, rest) e in
       let v : sevens p.0 ≡ x = ap (λ (q : ℕ × List ℕ). q.0) g.1 in
-      let r : p.1 ≡ rest = ap (λ (q : ℕ × List ℕ). q.1) g.1 in
-      (p.0, is.parts ∙ ap (λ (l : List ℕ). p.0 ++ l) r, record { form = is.form; short = is.short; value = sym v; fits = rw (← v) (ltb-true _ _ g.0) })
+      let r : p.1 ≡ rest = ap (λ (q : ℕ × List ℕ). q.1) g.1 in (
+        p.0,
+        is.parts ∙ ap (λ (l : List ℕ). p.0 ++ l) r,
+        record {
+          form = is.form;
+          short = is.short;
+          value = sym v;
+          fits = rw (← v) (ltb-true _ _ g.0);
+        },
+      )
 
   unsigned_never : (o : Option (List ℕ × List ℕ)) (what : What)
       → unsigned_from k (option_map found_as o) ≡ Err (Stops what) → ⊥
@@ -109,8 +117,17 @@ module _ (k : ℕ) where
       let g = test_ok (in_range (signed_sum p.0)) (signed_sum p.0, p.1) (x, rest) e in
       let t = both_true _ _ g.0 in
       let v : signed_sum p.0 ≡ x = ap (λ (q : ℤ × List ℕ). q.0) g.1 in
-      let r : p.1 ≡ rest = ap (λ (q : ℤ × List ℕ). q.1) g.1 in
-      (p.0, is.parts ∙ ap (λ (l : List ℕ). p.0 ++ l) r, record { form = is.form; short = is.short; value = sym v; low = rw (← v) (le_z_yes t.0); high = rw (← v) (lt_z_yes t.1) })
+      let r : p.1 ≡ rest = ap (λ (q : ℤ × List ℕ). q.1) g.1 in (
+        p.0,
+        is.parts ∙ ap (λ (l : List ℕ). p.0 ++ l) r,
+        record {
+          form = is.form;
+          short = is.short;
+          value = sym v;
+          low = rw (← v) (le_z_yes t.0);
+          high = rw (← v) (lt_z_yes t.1);
+        },
+      )
 
   signed_never : (o : Option (List ℕ × List ℕ)) (what : What)
       → signed_from k (option_map found_as o) ≡ Err (Stops what) → ⊥
@@ -122,7 +139,8 @@ module _ (k : ℕ) where
   signed_agrees = record {
     found = λ bytes x rest e. signed_fits bytes x rest (number_bytes (most_bytes k) bytes) refl e;
     again = λ front x rest s.
-        let t : in_range (signed_sum front) ≡ true = both (int_le (neg_ℤ (pos (2 ^ (k - 1)))) (signed_sum front)) (int_lt (signed_sum front) (pos (2 ^ (k - 1)))) (rw (← s.value) s.low.le) (rw (← s.value) s.high.lt) in
+        let t : in_range (signed_sum front) ≡ true =
+        both (int_le (neg_ℤ (pos (2 ^ (k - 1)))) (signed_sum front)) (int_lt (signed_sum front) (pos (2 ^ (k - 1)))) (rw (← s.value) s.low.le) (rw (← s.value) s.high.lt) in
         rw (number_again (most_bytes k) front rest s.form s.short, t, s.value) refl;
     stopped = λ bytes what e. signed_never (number_bytes (most_bytes k) bytes) what e;
     stops_again = λ bytes what s. absurd s;
@@ -143,8 +161,9 @@ filled_by p body = and_then (p body.0) (λ x. Ok (x, body.1))
 
 pub sized_agrees : {A : Type 0} {p : Filler A} {g : Part A} → Fills p g → Agrees (sized_at p) (part.sized g)
 unfolding sized_at counted_bytes_at
-sized_agrees {A} {p} a = same_agrees (λ bytes. same (unsigned_at 32 bytes)) (then_agrees (unsigned_agrees 32) (λ size. filled_agrees a size)) where
-  same : (r : Result (ℕ × List ℕ) Fault)
-      → and_then (and_then r (λ n. raw_bytes_at n.0 n.1)) (filled_by p) ≡ and_then r (λ n. filled_at p n.0 n.1)
-  same (Ok n) = refl
-  same (Err fault) = refl
+sized_agrees {A} {p} a =
+    same_agrees (λ bytes. same (unsigned_at 32 bytes)) (then_agrees (unsigned_agrees 32) (λ size. filled_agrees a size)) where
+      same : (r : Result (ℕ × List ℕ) Fault)
+          → and_then (and_then r (λ n. raw_bytes_at n.0 n.1)) (filled_by p) ≡ and_then r (λ n. filled_at p n.0 n.1)
+      same (Ok n) = refl
+      same (Err fault) = refl

@@ -78,4 +78,5 @@ placed_section_agrees next id (Some place) = choose_agrees (nat_le next place) (
 
 pub section_agrees : (next : ℕ) → Agrees (section_at next) (grammar.section next)
 unfolding section_at
-section_agrees next = first_byte_agrees (λ id. choose_agrees (id == 0) (sized_agrees custom_contents_fill) (placed_section_agrees next id (place_of id)))
+section_agrees next =
+    first_byte_agrees (λ id. choose_agrees (id == 0) (sized_agrees custom_contents_fill) (placed_section_agrees next id (place_of id)))

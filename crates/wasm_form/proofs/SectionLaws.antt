@@ -45,7 +45,8 @@ unfolding sections_at
 sections_again [] zero next bytes s l = rw s refl
 sections_again [] (suc k) next bytes s l = rw s refl
 sections_again (p ∷ ps) k next bytes ([], back, parts, is, later) l = absurd is
-sections_again (p ∷ ps) zero next bytes (c ∷ cs, back, parts, is, later) l = absurd (let m : length bytes ≡ suc (length (cs ++ back)) = rw parts refl in omega arith)
+sections_again (p ∷ ps) zero next bytes (c ∷ cs, back, parts, is, later) l =
+    absurd (let m : length bytes ≡ suc (length (cs ++ back)) = rw parts refl in omega arith)
 sections_again (p ∷ ps) (suc k) next bytes (c ∷ cs, back, parts, is, later) l =
     let one : section_at next (c ∷ (cs ++ back)) ≡ Ok (p, back) = (section_agrees next).again (c ∷ cs) p back is in
     let long : length bytes ≡ suc (length cs + length back) = rw parts (ap suc (length-append cs back)) in
@@ -77,7 +78,14 @@ sections_stopped (suc k) next (b ∷ bytes) w e =
 
       here : ((m : ℕ) (l : List ℕ) → sections_at k m l ≡ Err (Stops w) → StopFrom m l w)
           → ((section_at next (b ∷ bytes) ≡ Err (Stops w)) ⊎ ((p : Payload × List ℕ) × (section_at next (b ∷ bytes) ≡ Ok p) × (and_then (sections_at k (next_place next p.0) p.1) (λ ps. Ok (p.0 ∷ ps)) ≡ Err (Stops w)))) → StopFrom next (b ∷ bytes) w
-      here ih (inl h) = record { before = []; front = []; back = b ∷ bytes; parts = refl; are_sections = refl; stops_next = (section_agrees next).stopped (b ∷ bytes) w h }
+      here ih (inl h) = record {
+        before = [];
+        front = [];
+        back = b ∷ bytes;
+        parts = refl;
+        are_sections = refl;
+        stops_next = (section_agrees next).stopped (b ∷ bytes) w h;
+      }
       here ih (inr (p, h, g)) = there ih p h (step_err (sections_at k (next_place next p.0) p.1) (λ ps. Ok (p.0 ∷ ps)) (Stops w) g)
 
 sections_stop_again : (before : List Payload) (k next : ℕ) (front back : List ℕ) (w : What)
@@ -85,10 +93,12 @@ sections_stop_again : (before : List Payload) (k next : ℕ) (front back : List 
     → length (front ++ back) ≤ k → sections_at k next (front ++ back) ≡ Err (Stops w)
 unfolding sections_at
 sections_stop_again [] k next front [] w s t l = absurd t
-sections_stop_again [] zero next front (c ∷ back) w s t l = absurd (let long : length (front ++ c ∷ back) ≡ suc (length back) = rw s refl in omega arith)
+sections_stop_again [] zero next front (c ∷ back) w s t l =
+    absurd (let long : length (front ++ c ∷ back) ≡ suc (length back) = rw s refl in omega arith)
 sections_stop_again [] (suc k) next front (c ∷ back) w s t l = rw (s, (section_agrees next).stops_again (c ∷ back) w t) refl
 sections_stop_again (p ∷ ps) k next front back w ([], b, parts, is, later) t l = absurd is
-sections_stop_again (p ∷ ps) zero next front back w (c ∷ f, b, parts, is, later) t l = absurd (let long : length (front ++ back) ≡ suc (length ((f ++ b) ++ back)) = rw parts refl in omega arith)
+sections_stop_again (p ∷ ps) zero next front back w (c ∷ f, b, parts, is, later) t l =
+    absurd (let long : length (front ++ back) ≡ suc (length ((f ++ b) ++ back)) = rw parts refl in omega arith)
 sections_stop_again (p ∷ ps) (suc k) next front back w (c ∷ f, b, parts, is, later) t l =
     let all : front ++ back ≡ c ∷ (f ++ (b ++ back)) = rw parts (ap (λ (l : List ℕ). c ∷ l) (append_assoc f b back)) in
     let long : length (front ++ back) ≡ suc (length f + length (b ++ back)) = rw all (ap suc (length-append f (b ++ back))) in
@@ -104,12 +114,18 @@ component_is : (bytes : List ℕ) → is_component bytes ≡ true → IsComponen
 component_is bytes t =
     let both = and_parts _ _ t in
     let first : bytes ≡ magic ++ drop 4 bytes = (starts_is Decides-eqb bytes magic (starts_with nat_eq bytes magic) refl).0 both.0 in
-    let second : drop 6 bytes ≡ 0x01 ∷ 0x00 ∷ drop 2 (drop 6 bytes) = (starts_is Decides-eqb (drop 6 bytes) (0x01 ∷ 0x00 ∷ []) (starts_with nat_eq (drop 6 bytes) (0x01 ∷ 0x00 ∷ [])) refl).0 both.1 in
+    let second : drop 6 bytes ≡ 0x01 ∷ 0x00 ∷ drop 2 (drop 6 bytes) =
+    (starts_is Decides-eqb (drop 6 bytes) (0x01 ∷ 0x00 ∷ []) (starts_with nat_eq (drop 6 bytes) (0x01 ∷ 0x00 ∷ [])) refl).0 both.1 in
     version (drop 4 bytes) (drop 2 (drop 6 bytes)) first (sym (ap (drop 6) first) ∙ second) where
       version : (body rest : List ℕ) → bytes ≡ magic ++ body → drop 2 body ≡ 0x01 ∷ 0x00 ∷ rest → IsComponent bytes
       version [] rest e f = absurd cc
       version (v ∷ []) rest e f = absurd cc
-      version (v ∷ u ∷ body) rest e f = record { version = v; revision = u; rest = rest; parts = e ∙ ap (λ (l : List ℕ). magic ++ v ∷ u ∷ l) f }
+      version (v ∷ u ∷ body) rest e f = record {
+        version = v;
+        revision = u;
+        rest = rest;
+        parts = e ∙ ap (λ (l : List ℕ). magic ++ v ∷ u ∷ l) f;
+      }
 
 no_module : (v u : ℕ) (rest : List ℕ) → starts_with nat_eq (magic ++ v ∷ u ∷ 0x01 ∷ 0x00 ∷ rest) header ≡ false
 no_module v u rest = elim (cases_Bool (starts_with nat_eq (magic ++ v ∷ u ∷ 0x01 ∷ 0x00 ∷ rest) header)) [
@@ -126,7 +142,11 @@ module_found bytes m e = by_test (starts_with nat_eq bytes header) refl e where
 
   by_test : (t : Bool) → starts_with nat_eq bytes header ≡ t
       → cond t (sections_at (length (drop 8 bytes)) 0 (drop 8 bytes)) (cond (is_component bytes) (Err (Stops what.Component)) (Err Bad)) ≡ Ok m → Spells bytes m
-  by_test true t e = record { body = drop 8 bytes; parts = header_is bytes t; are_sections = sections_found (length (drop 8 bytes)) 0 (drop 8 bytes) m e }
+  by_test true t e = record {
+    body = drop 8 bytes;
+    parts = header_is bytes t;
+    are_sections = sections_found (length (drop 8 bytes)) 0 (drop 8 bytes) m e;
+  }
   by_test false t e = absurd (component (is_component bytes) e)
 
 module_again : (bytes : List ℕ) (m : Module) → Spells bytes m → module_at bytes ≡ Ok m
@@ -148,7 +168,14 @@ module_stopped bytes w e = by_test (starts_with nat_eq bytes header) refl e wher
       → cond t (sections_at (length (drop 8 bytes)) 0 (drop 8 bytes)) (cond (is_component bytes) (Err (Stops what.Component)) (Err Bad)) ≡ Err (Stops w) → IsStopped bytes w
   by_test true t e =
       let s = sections_stopped (length (drop 8 bytes)) 0 (drop 8 bytes) w e in
-      inr (record { before = s.before; front = s.front; back = s.back; parts = header_is bytes t ∙ ap (λ (l : List ℕ). header ++ l) s.parts; are_sections = s.are_sections; stops_next = s.stops_next })
+      inr (record {
+        before = s.before;
+        front = s.front;
+        back = s.back;
+        parts = header_is bytes t ∙ ap (λ (l : List ℕ). header ++ l) s.parts;
+        are_sections = s.are_sections;
+        stops_next = s.stops_next;
+      })
   by_test false t e = component (is_component bytes) refl e
 
 module_stops_again : (bytes : List ℕ) (w : What) → IsStopped bytes w → module_at bytes ≡ Err (Stops w)

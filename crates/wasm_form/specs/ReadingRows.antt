@@ -96,7 +96,8 @@ section_at next = first_byte_at (λ id. choose_at (id == 0) (sized_at custom_con
 unfoldable pub sections_at : ℕ → ℕ → Filler Module
 sections_at k next [] = Ok []
 sections_at zero next (b ∷ bytes) = Err Bad
-sections_at (suc k) next (b ∷ bytes) = and_then (section_at next (b ∷ bytes)) (λ p. and_then (sections_at k (next_place next p.0) p.1) (λ ps. Ok (p.0 ∷ ps)))
+sections_at (suc k) next (b ∷ bytes) =
+    and_then (section_at next (b ∷ bytes)) (λ p. and_then (sections_at k (next_place next p.0) p.1) (λ ps. Ok (p.0 ∷ ps)))
 
 -- each section takes a byte at least
 abbrev pub all_sections_at : ℕ → Filler Module

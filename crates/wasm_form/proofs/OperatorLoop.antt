@@ -16,7 +16,8 @@ use Rattle.wasm_form.proofs.Loop.{with_front, regroup, so_far_ends}
 
 pub operator_shortens : (b : ℕ) (bytes : List ℕ) (op : Operator) (rest : List ℕ)
     → operator_after b bytes ≡ Ok (op, rest) → length rest ≤ length bytes
-operator_shortens b bytes op rest e = let f = (operator_after_agrees b).found bytes op rest e in omega (arith, ap length f.1, length-append f.0 rest)
+operator_shortens b bytes op rest e =
+    let f = (operator_after_agrees b).found bytes op rest e in omega (arith, ap length f.1, length-append f.0 rest)
 
 -- the operators after one that was read, in at most k steps
 abbrev others : ℕ → Operator × List ℕ → Result (Expression × List ℕ) Fault
@@ -31,14 +32,15 @@ same_steps (suc j) zero [] l m = refl
 same_steps (suc j) (suc k) [] l m = refl
 same_steps zero (suc k) (b ∷ bytes) l m = absurd (omega arith)
 same_steps (suc j) zero (b ∷ bytes) l m = absurd (omega arith)
-same_steps (suc j) (suc k) (b ∷ bytes) l m = ap (λ (r : Result (Expression × List ℕ) Fault). cond (eqb b 0x0B) (Ok ([], bytes)) r) (later (λ rest s t. same_steps j k rest s t) (operator_after b bytes) refl) where
-  later : ((rest : List ℕ) → length rest ≤ j → length rest ≤ k → operators_at j rest ≡ operators_at k rest)
-      → (r : Result (Operator × List ℕ) Fault) → operator_after b bytes ≡ r
-      → and_then r (others j) ≡ and_then r (others k)
-  later ih (Err fault) e = refl
-  later ih (Ok op) e =
-      let short = operator_shortens b bytes op.0 op.1 e in
-      ap (λ (r : Result (Expression × List ℕ) Fault). and_then r (λ ops. Ok (op.0 ∷ ops.0, ops.1))) (ih op.1 (omega arith) (omega arith))
+same_steps (suc j) (suc k) (b ∷ bytes) l m =
+    ap (λ (r : Result (Expression × List ℕ) Fault). cond (eqb b 0x0B) (Ok ([], bytes)) r) (later (λ rest s t. same_steps j k rest s t) (operator_after b bytes) refl) where
+      later : ((rest : List ℕ) → length rest ≤ j → length rest ≤ k → operators_at j rest ≡ operators_at k rest)
+          → (r : Result (Operator × List ℕ) Fault) → operator_after b bytes ≡ r
+          → and_then r (others j) ≡ and_then r (others k)
+      later ih (Err fault) e = refl
+      later ih (Ok op) e =
+          let short = operator_shortens b bytes op.0 op.1 e in
+          ap (λ (r : Result (Expression × List ℕ) Fault). and_then r (λ ops. Ok (op.0 ∷ ops.0, ops.1))) (ih op.1 (omega arith) (omega arith))
 
 -- ---- one step of the loop
 
@@ -58,7 +60,8 @@ module _ (front : Expression) (bytes : List ℕ) (total : Result (Expression × 
   pub op_more : (op : Operator) (rest : List ℕ) → (b ≡ 0x0B → ⊥) → operator_after b after ≡ Ok (op, rest)
       → with_front (front ++ op ∷ []) (expression_at rest) ≡ total
   unfolding all_others
-  op_more op rest differs h = sym (regroup front op (expression_at rest)) ∙ sym (ap (with_front front) (first_step differs ∙ rw h refl)) ∙ so_far
+  op_more op rest differs h =
+      sym (regroup front op (expression_at rest)) ∙ sym (ap (with_front front) (first_step differs ∙ rw h refl)) ∙ so_far
 
   pub op_end : b ≡ 0x0B → total ≡ Ok (front, after)
   unfolding operators_at

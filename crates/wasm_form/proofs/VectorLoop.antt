@@ -1,4 +1,4 @@
--- How a loop goes through elements.
+-- How the loop over elements goes on and ends, whatever it reads.
 use Rattle.std.proofs.Common.{◌≡◌, ℕ, suc, ◌-◌, ◌+◌, ◌<◌, ◌≤◌, List, [], ◌∷◌, ◌++◌, Result, Ok, Err, refl, subst, arith, inl, inr}
 use Rattle.std.specs.Borrow.{Bor}
 use Rattle.std.specs.Global.{Vec}
@@ -9,7 +9,8 @@ use Rattle.wasm_form.specs.ReadingVectors.{Counted}
 module _ {X : Type 0} (step : Bor (List ℕ) → Result (X × Bor (List ℕ)) ReadError → Type 0) where
   pub at_start : (count : ℕ) (bs : List ℕ) (front : List X) (r : Result (Vec X × Bor (List ℕ)) ReadError)
       → Counted step (count - 0) bs front r → Counted step count bs front r
-  at_start count bs front r h = let e : count - 0 ≡ count = omega arith in let P : ℕ → Type 0 = λ n. Counted step n bs front r in subst P e h
+  at_start count bs front r h =
+      let e : count - 0 ≡ count = omega arith in let P : ℕ → Type 0 = λ n. Counted step n bs front r in subst P e h
 
   pub fails : (count i : ℕ) (at : Bor (List ℕ)) (front : List X) (e : ReadError) (r : Result (Vec X × Bor (List ℕ)) ReadError) → i < count → step at (Err e) → r ≡ Err e → Counted step (count - i) at.now front r
   fails count i at front e r lt h is =

@@ -1,4 +1,4 @@
--- What a loop over elements gives is what reading them as a list gives.
+-- What functions give that are generic in a reader is what reading as a list gives.
 use Rattle.std.proofs.Common.{◌≡◌, ℕ, zero, suc, List, [], ◌∷◌, ◌++◌, Result, Ok, Err, refl, sym, ap, ◌∙◌, subst, inl, inr, map}
 use Rattle.std.specs.Borrow.{Bor}
 use Rattle.std.specs.Global.{Vec}
@@ -28,7 +28,8 @@ module _ {X A : Type 0} (view : X → A) (part : List ℕ → Result (A × List 
   counted_front zero bs front (Ok x) h =
       ap (λ (ns : List A). Ok (ns, bs)) (append-nil (map view front) ∙ ap (map view) (sym h.0)) ∙ ap (λ (b : List ℕ). Ok (map view x.0.items, b)) (sym h.1)
   counted_front zero bs front (Err e) h = absurd h
-  counted_front (suc n) bs front r (inl h) = subst (λ (q : Result (Vec X × Bor (List ℕ)) ReadError). Reads q (with_front (map view front) (elements_at part (suc n) bs))) (sym h) tt
+  counted_front (suc n) bs front r (inl h) =
+      subst (λ (q : Result (Vec X × Bor (List ℕ)) ReadError). Reads q (with_front (map view front) (elements_at part (suc n) bs))) (sym h) tt
   counted_front (suc n) bs front r (inr (at, Ok x, e, h, later)) =
       let first : part bs ≡ Ok (view x.0, x.1.now) = rw (← e) (steps at (Ok x) h) in
       let ih = counted_front n x.1.now (front ++ x.0 ∷ []) r later in
@@ -47,7 +48,8 @@ module _ {X A : Type 0} (view : X → A) (part : List ℕ → Result (A × List 
   pub vector_gives : (bytes : List ℕ) (r : Returned (Vec X)) → VectorRead step (unsigned_at 32 bytes) r
       → Reads r (vector_at part bytes)
   unfolding vector_at
-  vector_gives bytes r (inl (e, is, failed)) = subst (λ (q : Returned (Vec X)). Reads q (vector_at part bytes)) (sym is) (fails_on e (unsigned_at 32 bytes) (λ n. elements_at part n.0 n.1) failed)
+  vector_gives bytes r (inl (e, is, failed)) =
+      subst (λ (q : Returned (Vec X)). Reads q (vector_at part bytes)) (sym is) (fails_on e (unsigned_at 32 bytes) (λ n. elements_at part n.0 n.1) failed)
   vector_gives bytes r (inr (count, rest, read, h)) = rw read (counted_gives count rest r h)
 
 -- elements that are seen as they are

@@ -52,7 +52,8 @@ pub section_shortens : (next : ℕ) (bytes : List ℕ) (p : Payload) (rest : Lis
 section_shortens next bytes p rest e = by_front ((section_agrees next).found bytes p rest e) where
   by_front : SpelledThen (grammar.section next) bytes p rest → length rest < length bytes
   by_front ([], parts, is) = absurd is
-  by_front (c ∷ front, parts, is) = let long : length bytes ≡ suc (length front + length rest) = rw parts (ap suc (length-append front rest)) in omega arith
+  by_front (c ∷ front, parts, is) =
+      let long : length bytes ≡ suc (length front + length rest) = rw parts (ap suc (length-append front rest)) in omega arith
 
 -- the sections after one that was read, in at most k steps
 abbrev others : ℕ → ℕ → Payload × List ℕ → Result (List Payload) Fault
@@ -102,7 +103,8 @@ module _ (front : List Payload) (next : ℕ) (bytes : List ℕ) (total : Result 
   pub section_more : (p : Payload) (rest : List ℕ) → (length bytes ≡ 0 → ⊥) → section_at next bytes ≡ Ok (p, rest)
       → with_payloads (front ++ p ∷ []) (all_sections_at (next_place next p) rest) ≡ total
   unfolding all_others
-  section_more p rest some h = sym (regroup front p (all_sections_at (next_place next p) rest)) ∙ sym (ap (with_payloads front) (first_step next bytes some ∙ rw h refl)) ∙ so_far
+  section_more p rest some h =
+      sym (regroup front p (all_sections_at (next_place next p) rest)) ∙ sym (ap (with_payloads front) (first_step next bytes some ∙ rw h refl)) ∙ so_far
 
   section_stays : (fault : Fault) → (length bytes ≡ 0 → ⊥) → section_at next bytes ≡ Err fault → total ≡ Err fault
   section_stays fault some h = sym so_far ∙ rw (first_step next bytes some, h) refl
