@@ -1,12 +1,12 @@
 -- What the outcome of reading a module says of its bytes.
-use Rattle.std.proofs.Common.{◌≡◌, ℕ, List, Result, Ok, Err, refl, sym, ap, ◌∙◌}
+use Rattle.std.proofs.Common.{◌≡◌, ℕ, List, Result, Ok, Err, refl, sym, ◌∙◌}
 use Rattle.wasm_spec.specs.declared.types.What.{What}
 use Rattle.wasm_spec.specs.Module.{Module}
 use Rattle.wasm_spec.specs.Grammar.{Spells, Stops as IsStopped}
 use Rattle.wasm_form.specs.declared.form.Form.{Form}
 use Rattle.wasm_form.specs.declared.error.ReadError.{ReadError}
 use Rattle.wasm_form.specs.declared.error.ReadError.TheVariants as errors
-use Rattle.wasm_form.specs.Reading.{Fault, Bad, Stops, Fails}
+use Rattle.wasm_form.specs.Reading.{Bad, Stops, Fails}
 use Rattle.wasm_form.specs.ReadingRows.{module_at}
 use Rattle.wasm_form.proofs.Agrees.{ok_is, ok_not_err, bad_not_stops}
 use Rattle.wasm_form.proofs.SectionLaws.{module_fills}
@@ -29,13 +29,16 @@ module _ (bytes : List ℕ) where
   fails_spelled errors.Malformed m h s = absurd (ok_not_err m Bad (sym (module_fills.again bytes m s) ∙ h))
   fails_spelled (errors.Unsupported w) m h s = absurd (ok_not_err m (Stops w) (sym (module_fills.again bytes m s) ∙ h))
 
-  pub fails_unsupported : (e : ReadError) (w : What) → Fails e (module_at bytes) → e ≡ errors.Unsupported w → IsStopped bytes w
+  pub fails_unsupported : (e : ReadError) (w : What) → Fails e (module_at bytes) → e ≡ errors.Unsupported w
+      → IsStopped bytes w
   fails_unsupported e w h is = module_fills.stopped bytes w (rw is at h)
 
-  pub fails_malformed : (e : ReadError) (m : Module) → Fails e (module_at bytes) → e ≡ errors.Malformed → Spells bytes m → ⊥
+  pub fails_malformed : (e : ReadError) (m : Module) → Fails e (module_at bytes) → e ≡ errors.Malformed
+      → Spells bytes m → ⊥
   fails_malformed e m h is s = let n : errors.Malformed ≡ errors.OutOfMemory = sym is ∙ fails_spelled e m h s in absurd cc
 
-  pub fails_nowhere : (e : ReadError) (w : What) → Fails e (module_at bytes) → e ≡ errors.Malformed → IsStopped bytes w → ⊥
+  pub fails_nowhere : (e : ReadError) (w : What) → Fails e (module_at bytes) → e ≡ errors.Malformed → IsStopped bytes w
+      → ⊥
   fails_nowhere e w h is s = bad_not_stops w (sym (rw is at h) ∙ module_fills.stops_again bytes w s)
 
   pub spells_one : (m n : Module) → Spells bytes m → Spells bytes n → m ≡ n

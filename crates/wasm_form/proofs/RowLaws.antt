@@ -1,16 +1,15 @@
 -- Reading of each row agrees with the grammar.
-use Rattle.std.proofs.Common.{◌≡◌, ℕ, zero, suc, List, [], ◌∷◌, Option, Some, None}
+use Rattle.std.proofs.Common.{ℕ, Option, Some, None}
 use Rattle.std.specs.Prelude.{◌==◌, nat_lt, nat_le}
 use Rattle.std.specs.Str.{is_utf8}
-use Rattle.wasm_spec.specs.declared.types.Operator.TheVariants.{I32Const, I64Const}
 use Rattle.wasm_spec.specs.declared.types.What.TheVariants as what
-use Rattle.wasm_spec.specs.Module.{Passive, Active, Memories, Segments, Custom}
+use Rattle.wasm_spec.specs.Module.{Memories, Segments, Custom}
 use Rattle.wasm_spec.specs.Parts as part
 use Rattle.wasm_spec.specs.Grammar as grammar
 use Rattle.wasm_spec.specs.Grammar.{has_bit, address_bits, place_of}
-use Rattle.wasm_form.specs.ReadingRows.{flagged_memory_type_at, memory_type_at, operator_after, operator_at, expression_at, active_segment_at, passive_segment_at, flagged_segment_at, data_segment_at, name_at, custom_contents_at, memories_at, segments_at, section_contents_at, placed_section_at, section_at}
+use Rattle.wasm_form.specs.ReadingRows.{flagged_memory_type_at, memory_type_at, active_segment_at, passive_segment_at, flagged_segment_at, data_segment_at, name_at, custom_contents_at, memories_at, segments_at, section_contents_at, placed_section_at, section_at}
 use Rattle.wasm_form.proofs.Agrees.{Agrees, Fills, gives_agrees, nothing_agrees, stopped_agrees, then_agrees, choose_agrees, optional_agrees, checked_agrees, first_byte_agrees, fill_after_fills, all_bytes_fill, whole_fills}
-use Rattle.wasm_form.proofs.NumberLaws.{unsigned_agrees, signed_agrees, vector_agrees, counted_bytes_agree, sized_agrees}
+use Rattle.wasm_form.proofs.NumberLaws.{unsigned_agrees, vector_agrees, counted_bytes_agree, sized_agrees}
 use Rattle.wasm_form.proofs.ExpressionLaws.{expression_agrees}
 
 -- ---- memory types
@@ -72,10 +71,12 @@ section_contents_agree id =
     (choose_agrees (id == 11) (sized_agrees (whole_fills segments_agree))
     (stopped_agrees what.Section))
 
-placed_section_agrees : (next id : ℕ) (place : Option ℕ) → Agrees (placed_section_at next id place) (grammar.placed_section next id place)
+placed_section_agrees : (next id : ℕ) (place : Option ℕ)
+    → Agrees (placed_section_at next id place) (grammar.placed_section next id place)
 placed_section_agrees next id None = nothing_agrees
 placed_section_agrees next id (Some place) = choose_agrees (nat_le next place) (section_contents_agree id) nothing_agrees
 
 pub section_agrees : (next : ℕ) → Agrees (section_at next) (grammar.section next)
 unfolding section_at
-section_agrees next = first_byte_agrees (λ id. choose_agrees (id == 0) (sized_agrees custom_contents_fill) (placed_section_agrees next id (place_of id)))
+section_agrees next =
+    first_byte_agrees (λ id. choose_agrees (id == 0) (sized_agrees custom_contents_fill) (placed_section_agrees next id (place_of id)))

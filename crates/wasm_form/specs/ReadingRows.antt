@@ -1,5 +1,5 @@
 -- Reading of each row of the grammar.
-use Rattle.std.specs.Prelude.{◌≡◌, ℕ, zero, suc, ◌+◌, List, [], ◌∷◌, ◌++◌, length, drop, Bool, ◌&&◌, ◌==◌, nat_eq, nat_lt, nat_le, Option, Some, None, Result, Ok, Err, if◌then◌else◌}
+use Rattle.std.specs.Prelude.{ℕ, zero, suc, List, [], ◌∷◌, length, drop, Bool, ◌&&◌, ◌==◌, nat_eq, nat_lt, nat_le, Option, Some, None, Ok, Err, if◌then◌else◌}
 use Rattle.std.specs.List.{starts_with}
 use Rattle.std.specs.Str.{is_utf8}
 use Rattle.wasm_spec.specs.declared.types.MemoryType.{MemoryType}
@@ -8,7 +8,7 @@ use Rattle.wasm_spec.specs.declared.types.Operator.TheVariants.{I32Const, I64Con
 use Rattle.wasm_spec.specs.declared.types.What.TheVariants as what
 use Rattle.wasm_spec.specs.Module.{Expression, Passive, Active, Segment, Payload, Memories, Segments, Custom, Module}
 use Rattle.wasm_spec.specs.Grammar.{has_bit, address_bits, place_of, next_place, magic, header}
-use Rattle.wasm_form.specs.Reading.{Fault, Bad, Stops, Reader, Filler, ◌>>=◌, and_then, gives_at, nothing_at, stopped_at, all_bytes_at, fill_after, choose_at, optional_at, checked_at, first_byte_at, whole}
+use Rattle.wasm_form.specs.Reading.{Bad, Stops, Reader, Filler, ◌>>=◌, and_then, gives_at, nothing_at, stopped_at, all_bytes_at, fill_after, choose_at, optional_at, checked_at, first_byte_at, whole}
 use Rattle.wasm_form.specs.ReadingNumbers.{unsigned_at, signed_at, vector_at, counted_bytes_at, sized_at}
 
 -- ---- memory types
@@ -96,7 +96,8 @@ section_at next = first_byte_at (λ id. choose_at (id == 0) (sized_at custom_con
 unfoldable pub sections_at : ℕ → ℕ → Filler Module
 sections_at k next [] = Ok []
 sections_at zero next (b ∷ bytes) = Err Bad
-sections_at (suc k) next (b ∷ bytes) = and_then (section_at next (b ∷ bytes)) (λ p. and_then (sections_at k (next_place next p.0) p.1) (λ ps. Ok (p.0 ∷ ps)))
+sections_at (suc k) next (b ∷ bytes) =
+    and_then (section_at next (b ∷ bytes)) (λ p. and_then (sections_at k (next_place next p.0) p.1) (λ ps. Ok (p.0 ∷ ps)))
 
 -- each section takes a byte at least
 abbrev pub all_sections_at : ℕ → Filler Module

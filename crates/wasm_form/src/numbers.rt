@@ -7,6 +7,12 @@ ghost use Rattle.wasm_form.specs.ReadingNumbers.{unsigned_at, signed_at, signed_
 
 use crate::error::ReadError;
 
+/// The bit of a byte after which more follow.
+const TOP_BIT: u8 = 128;
+
+/// The bit of a last byte that says that a signed number is below zero.
+const SIGN_BIT: u8 = 64;
+
 /// The most bytes of a number of 32 bits.
 const MOST_BYTES: usize = 5;
 
@@ -55,10 +61,10 @@ fn sevens_at(bytes: &[u8]) -> Option<(Sevens, &[u8])>
     'bytes: for _ in 0..MOST_BYTES {
         let (byte, after) = first_byte(rest)?;
         last = byte;
-        sum += u64::from(last % 128) * weight;
+        sum += u64::from(last % TOP_BIT) * weight;
         weight *= 128;
         rest = after;
-        if last < 128 {
+        if last < TOP_BIT {
             return Some((Sevens { sum, weight, last }, rest));
         }
     }
@@ -78,10 +84,10 @@ fn wide_sevens_at(bytes: &[u8]) -> Option<(WideSevens, &[u8])>
     'bytes: for _ in 0..MOST_WIDE_BYTES {
         let (byte, after) = first_byte(rest)?;
         last = byte;
-        sum += u128::from(last % 128) * weight;
+        sum += u128::from(last % TOP_BIT) * weight;
         weight *= 128;
         rest = after;
-        if last < 128 {
+        if last < TOP_BIT {
             return Some((WideSevens { sum, weight, last }, rest));
         }
     }
@@ -121,7 +127,7 @@ fn signed(found: &Sevens) -> i64
     ensures { result ≡ signed_of (sevens_of found.now) }
 {
     let sum = found.sum as i64;
-    if found.last % 128 >= 64 {
+    if found.last % TOP_BIT >= SIGN_BIT {
         sum - found.weight as i64
     } else {
         sum
@@ -135,7 +141,7 @@ fn wide_signed(found: &WideSevens) -> i128
     ensures { result ≡ signed_of (wide_sevens_of found.now) }
 {
     let sum = found.sum as i128;
-    if found.last % 128 >= 64 {
+    if found.last % TOP_BIT >= SIGN_BIT {
         sum - found.weight as i128
     } else {
         sum
@@ -174,7 +180,7 @@ pub fn u32_at(bytes: &[u8]) -> Result<(u32, &[u8]), ReadError>
     ensures { Gives (λ x. (x.0, x.1.now)) result (unsigned_at 32 bytes.now) }
 {
     match first_byte(bytes) {
-        Some((byte, rest)) if byte < 128 => Ok((u32::from(byte), rest)),
+        Some((byte, rest)) if byte < TOP_BIT => Ok((u32::from(byte), rest)),
         _ => long_u32_at(bytes),
     }
 }
@@ -185,7 +191,7 @@ pub fn u64_at(bytes: &[u8]) -> Result<(u64, &[u8]), ReadError>
     ensures { Gives (λ x. (x.0, x.1.now)) result (unsigned_at 64 bytes.now) }
 {
     match first_byte(bytes) {
-        Some((byte, rest)) if byte < 128 => Ok((u64::from(byte), rest)),
+        Some((byte, rest)) if byte < TOP_BIT => Ok((u64::from(byte), rest)),
         _ => long_u64_at(bytes),
     }
 }
@@ -196,7 +202,7 @@ pub fn s32_at(bytes: &[u8]) -> Result<(i32, &[u8]), ReadError>
     ensures { Gives (λ x. (x.0, x.1.now)) result (signed_at 32 bytes.now) }
 {
     match first_byte(bytes) {
-        Some((byte, rest)) if byte < 64 => Ok((i32::from(byte), rest)),
+        Some((byte, rest)) if byte < SIGN_BIT => Ok((i32::from(byte), rest)),
         _ => long_s32_at(bytes),
     }
 }
@@ -207,7 +213,7 @@ pub fn s64_at(bytes: &[u8]) -> Result<(i64, &[u8]), ReadError>
     ensures { Gives (λ x. (x.0, x.1.now)) result (signed_at 64 bytes.now) }
 {
     match first_byte(bytes) {
-        Some((byte, rest)) if byte < 64 => Ok((i64::from(byte), rest)),
+        Some((byte, rest)) if byte < SIGN_BIT => Ok((i64::from(byte), rest)),
         _ => long_s64_at(bytes),
     }
 }

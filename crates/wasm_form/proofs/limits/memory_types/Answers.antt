@@ -1,5 +1,5 @@
 use Rattle.wasm_form.specs.ReadingRows.{memory_type_at}
-use Rattle.wasm_form.proofs.CountedGives.{plain_vector_gives}
+use Rattle.wasm_form.proofs.GenericReaders.{plain_vector_gives}
 use Rattle.wasm_form.proofs.limits.memory_types.Goals as goal
 
 pub returns : goal.returns

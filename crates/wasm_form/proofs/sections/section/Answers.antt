@@ -1,7 +1,7 @@
 use Rattle.wasm_form.specs.Views.{payload_of}
 use Rattle.wasm_form.specs.ReadingRows.{custom_contents_at}
-use Rattle.wasm_form.proofs.CountedGives.{sized_gives}
-use Rattle.wasm_form.proofs.SectionList.{custom_section}
+use Rattle.wasm_form.proofs.GenericReaders.{sized_gives}
+use Rattle.wasm_form.proofs.SectionLoop.{custom_section}
 use Rattle.wasm_form.proofs.sections.section.Goals as goal
 
 pub returns-then-id-eq-CUSTOM : goal.returns-then-id-eq-CUSTOM

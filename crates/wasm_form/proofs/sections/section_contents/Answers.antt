@@ -1,8 +1,8 @@
 use Rattle.wasm_form.specs.Views.{payload_of}
 use Rattle.wasm_form.specs.Reading.{whole}
 use Rattle.wasm_form.specs.ReadingRows.{memories_at, segments_at}
-use Rattle.wasm_form.proofs.CountedGives.{sized_gives}
-use Rattle.wasm_form.proofs.SectionList.{memory_section, data_section}
+use Rattle.wasm_form.proofs.GenericReaders.{sized_gives}
+use Rattle.wasm_form.proofs.SectionLoop.{memory_section, data_section}
 use Rattle.wasm_form.proofs.sections.section_contents.Goals as goal
 
 pub returns-in-5 : goal.returns-in-5

@@ -4,7 +4,7 @@ use Rattle.std.proofs.lemmas.List.{map_push}
 use Rattle.std.proofs.lemmas.Bool.{eqb-true, eqb-false}
 use Rattle.wasm_form.specs.Views.{payload_of}
 use Rattle.wasm_form.specs.ReadingRows.{all_sections_at}
-use Rattle.wasm_form.proofs.SectionList.{all_so_far, section_end, section_more, section_fails, section_shortens}
+use Rattle.wasm_form.proofs.SectionLoop.{all_so_far, section_end, section_more, section_fails, section_shortens}
 use Rattle.wasm_form.proofs.sections.sections.Goals as goal
 
 pub loop-rest-init : goal.loop-rest-init

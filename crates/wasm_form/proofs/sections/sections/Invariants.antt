@@ -1,7 +1,7 @@
 use Rattle.std.proofs.Common.{◌≡◌, map, length}
 use Rattle.wasm_form.specs.Views.{payload_of}
 use Rattle.wasm_form.specs.ReadingRows.{all_sections_at}
-use Rattle.wasm_form.proofs.SectionList.{with_payloads}
+use Rattle.wasm_form.proofs.SectionLoop.{with_payloads}
 use Rattle.wasm_form.proofs.sections.sections.Given as goal
 
 abbrev pub invariant-loop-rest : goal.invariant-loop-rest

@@ -1,6 +1,6 @@
 use Rattle.wasm_form.specs.Views.{segment_of}
 use Rattle.wasm_form.specs.ReadingRows.{data_segment_at}
-use Rattle.wasm_form.proofs.CountedGives.{vector_gives}
+use Rattle.wasm_form.proofs.GenericReaders.{vector_gives}
 use Rattle.wasm_form.proofs.segments.data_segments.Goals as goal
 
 pub returns : goal.returns
