@@ -1,10 +1,10 @@
 -- A module has no more entries in its lists than bytes.
-use Rattle.std.proofs.Common.{◌≡◌, ◌≤◌, ◌<◌, ◌+◌, ◌^◌, ℕ, zero, suc, List, [], ◌∷◌, ◌++◌, length, Bool, true, false, Option, Some, None, refl, ap, arith, length-append}
+use Rattle.std.proofs.Common.{◌≤◌, ◌<◌, ◌+◌, ◌^◌, ℕ, zero, suc, List, [], ◌∷◌, length, Bool, true, false, Option, Some, None, ap, arith, length-append}
 use Rattle.std.specs.Prelude.{nat_le, ◌==◌}
 use Rattle.std.specs.List.{flat_map}
-use Rattle.wasm_spec.specs.Numbers.{EndsOnce, SpellsUnsigned}
+use Rattle.wasm_spec.specs.Numbers.{SpellsUnsigned}
 use Rattle.wasm_spec.specs.Parts.{Part, ◌>>=◌, choose, gives, elements, vector, sized}
-use Rattle.wasm_spec.specs.Module.{Segment, Payload, Memories, Segments, Custom, Module, memories, segments, memories_of_section, segments_of_section}
+use Rattle.wasm_spec.specs.Module.{Payload, Memories, Segments, Module, memories_of_section, segments_of_section}
 use Rattle.wasm_spec.specs.Grammar.{memory_type, data_segment, section, section_contents, placed_section, place_of, custom_contents, next_place, SpellsSections, Spells, header}
 use Rattle.wasm_spec.specs.Rules.{HasFewEntries}
 
