@@ -1,15 +1,15 @@
 -- A list of texts to which one is added, and the texts of keys.
-use Rattle.std.proofs.Common.{◌≡◌, ℕ, ◌<◌, ◌≤◌, Bool, true, false, List, [], ◌∷◌, ◌++◌, length, map, position, slice_get, Some, None, zero, suc, refl, sym, ap, ◌∙◌, arith, inl, inr, ◌⊎◌, ◌||◌, String, Global}
+use Rattle.std.proofs.Common.{◌≡◌, ℕ, Bool, true, false, List, [], ◌∷◌, ◌++◌, length, map, position, slice_get, Some, zero, suc, refl, sym, ap, ◌∙◌, inl, inr, ◌⊎◌, ◌||◌, String, Global}
 use Rattle.std.specs.String.{string_bytes, string_eq}
 use Rattle.std.specs.List.{list_any}
 use Rattle.std.specs.Str.{bytes_eq}
 use Rattle.std.specs.Option.{option_map}
 use Rattle.std.proofs.lemmas.List.{map-append}
 use Rattle.std.proofs.lemmas.List.Quantifiers.{position-Some}
-use Rattle.std.proofs.lemmas.Option.{none-some, same_Some, slice_get-map, slice_get-get_or, slice_get_within}
+use Rattle.std.proofs.lemmas.Option.{none-some, same_Some, slice_get-map, slice_get-get_or}
 use Rattle.std.proofs.lemmas.Slice.Eq.{bytes_eq-Decides}
 use Rattle.indexmap.specs.IndexSet.{insert_key}
-use Rattle.entity_map.specs.Pool.{HasEachOnce, with_text}
+use Rattle.entity_map.specs.Pool.{HasEachOnce}
 
 -- the item that is added
 pub slice_get-append_end : {X : Type 0} (xs : List X) (x : X) → slice_get (xs ++ x ∷ []) (length xs) ≡ Some x

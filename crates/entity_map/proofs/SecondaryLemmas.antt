@@ -1,5 +1,5 @@
 -- The values of a map after one is inserted.
-use Rattle.std.proofs.Common.{◌≡◌, ◌≢◌, ℕ, ◌==◌, Bool, true, false, List, [], ◌∷◌, zero, suc, slice_get, Some, unwrap_or, refl, arith, inl, inr, if◌then◌else◌}
+use Rattle.std.proofs.Common.{◌≡◌, ◌≢◌, ℕ, ◌==◌, List, [], ◌∷◌, zero, suc, slice_get, Some, unwrap_or, refl, arith, inl, inr, if◌then◌else◌}
 use Rattle.std.proofs.lemmas.Bool.Decides.{eqb_tells}
 use Rattle.entity_map.specs.Secondary.{Defaulted, value_at, written, with_value}
 

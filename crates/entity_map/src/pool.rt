@@ -43,12 +43,15 @@ impl StringPool {
         }
     }
 
-    /// Puts a text in, unless it is there, and gives its atom.
+    /// Puts a text in, unless it is there, and gives its atom. A text keeps its atom from then on.
     pub fn insert(&mut self, text: &str) -> Result<Atom, OutOfMemory>
         requires { length self.old < u32.MAX - 1 }
         ensures texts { OnOk result (self.new ≡ with_text self.old text.now) }
+
+        // The text stands at its atom, and no text stands at two: equal texts have equal atoms.
         ensures at_atom { IfOk result (λ atom. slice_get self.new (atom_number atom) ≡ Some text.now) }
         ensures each_once { HasEachOnce self.new }
+
         ensures err { OnErr result (self.new ≡ self.old) }
     {
         if let Some(place) = self.texts.get_index_of(text) {

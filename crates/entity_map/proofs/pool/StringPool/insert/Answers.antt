@@ -1,7 +1,6 @@
 use Rattle.std.proofs.Common.{◌≡◌, ◌++◌, ◌∷◌, ◌∙◌, [], false, length, refl, sym, ap, arith, length-append}
 use Rattle.std.specs.List.{list_any}
 use Rattle.std.specs.Str.{bytes_eq}
-use Rattle.std.specs.String.{string_bytes}
 use Rattle.std.proofs.lemmas.List.{length-map}
 use Rattle.entity_map.proofs.PoolLemmas.{each_once-append, list_any-texts_of, slice_get-append_end, slice_get-position, texts_of, texts_of-insert_key}
 use Rattle.entity_map.proofs.pool.StringPool.insert.Goals as goal
