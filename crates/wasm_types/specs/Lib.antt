@@ -1,2 +1,5 @@
 pub mod Memories
 pub mod Constants
+pub mod Parts
+pub mod Tops
+pub mod Collected

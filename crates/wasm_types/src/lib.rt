@@ -1,12 +1,40 @@
 //! The types of a translated module.
 #![tactic(auto)]
 
+mod aggregate;
+mod composite;
 mod constants;
+mod cont;
+mod entity;
+mod field;
+mod func;
+mod global;
+mod heap;
+mod index;
 mod limits;
 mod memory;
+mod overflow;
+mod sub;
+mod table;
+mod tag;
 mod tunables;
+mod value;
 
+pub use aggregate::{WasmArrayType, WasmExnType, WasmStructType};
+pub use composite::{WasmCompositeInnerType, WasmCompositeType};
 pub use constants::{ConstExpr, ConstOp};
+pub use cont::WasmContType;
+pub use entity::{EntityIndex, EntityType};
+pub use field::{WasmFieldType, WasmStorageType};
+pub use func::WasmFuncType;
+pub use global::Global;
+pub use heap::{WasmHeapBottomType, WasmHeapTopType, WasmHeapType};
+pub use index::EngineOrModuleTypeIndex;
 pub use limits::{IndexType, Limits};
 pub use memory::Memory;
-pub use tunables::Tunables;
+pub use overflow::SizeOverflow;
+pub use sub::{WasmRecGroup, WasmSubType};
+pub use table::Table;
+pub use tag::Tag;
+pub use tunables::{MemoryTunables, Tunables};
+pub use value::{WasmRefType, WasmValType};
