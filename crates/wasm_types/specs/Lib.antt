@@ -3,3 +3,4 @@ pub mod Constants
 pub mod Parts
 pub mod Tops
 pub mod Collected
+pub mod Views

@@ -1,5 +1,9 @@
 //! Heap types, and the five hierarchies that they form.
 
+ghost use Rattle.std.specs.Prelude.{◌≡◌, ◌↔◌, IsTrue};
+ghost use Rattle.wasm_types.specs.Collected.{heap_is_collected, heap_is_object};
+ghost use Rattle.wasm_types.specs.Tops.{top_of, bottom_of, heap_of_top, heap_of_bottom};
+
 use crate::index::EngineOrModuleTypeIndex;
 
 /// A heap type (core specification, 2.3.4). A concrete one says what kind of type its index names.
@@ -54,4 +58,110 @@ pub enum WasmHeapBottomType {
     NoExn,
     /// Under the continuations.
     NoCont,
+}
+
+impl From<WasmHeapTopType> for WasmHeapType {
+    ghost use Rattle.std.specs.Prelude.{◌≡◌};
+    ghost use Rattle.wasm_types.specs.Tops.{heap_of_top};
+
+    ghost from_gives = { λ top heap. heap ≡ heap_of_top top };
+
+    fn from(top: WasmHeapTopType) -> Self {
+        match top {
+            WasmHeapTopType::Extern => WasmHeapType::Extern,
+            WasmHeapTopType::Any => WasmHeapType::Any,
+            WasmHeapTopType::Func => WasmHeapType::Func,
+            WasmHeapTopType::Exn => WasmHeapType::Exn,
+            WasmHeapTopType::Cont => WasmHeapType::Cont,
+        }
+    }
+}
+
+impl From<WasmHeapBottomType> for WasmHeapType {
+    ghost use Rattle.std.specs.Prelude.{◌≡◌};
+    ghost use Rattle.wasm_types.specs.Tops.{heap_of_bottom};
+
+    ghost from_gives = { λ bottom heap. heap ≡ heap_of_bottom bottom };
+
+    fn from(bottom: WasmHeapBottomType) -> Self {
+        match bottom {
+            WasmHeapBottomType::NoExtern => WasmHeapType::NoExtern,
+            WasmHeapBottomType::None => WasmHeapType::None,
+            WasmHeapBottomType::NoFunc => WasmHeapType::NoFunc,
+            WasmHeapBottomType::NoExn => WasmHeapType::NoExn,
+            WasmHeapBottomType::NoCont => WasmHeapType::NoCont,
+        }
+    }
+}
+
+impl WasmHeapType {
+    /// Whether the garbage collector sees references of this type.
+    pub fn is_vmgcref_type(&self) -> bool
+        ensures { result ≡ heap_is_collected self.now }
+    {
+        match self.top() {
+            WasmHeapTopType::Extern | WasmHeapTopType::Any | WasmHeapTopType::Exn => true,
+            WasmHeapTopType::Func | WasmHeapTopType::Cont => false,
+        }
+    }
+
+    /// Whether the garbage collector sees references of this type, and they may point to an object.
+    pub fn is_vmgcref_type_and_not_i31(&self) -> bool
+        ensures { result ≡ heap_is_object self.now }
+    {
+        !matches!(self, WasmHeapType::I31) && self.is_vmgcref_type()
+    }
+
+    /// Whether it is the top of its hierarchy.
+    pub fn is_top(&self) -> bool
+        ensures { IsTrue result ↔ (self.now ≡ heap_of_top (top_of self.now)) }
+    {
+        *self == WasmHeapType::from(self.top())
+    }
+
+    /// The top of its hierarchy.
+    pub fn top(&self) -> WasmHeapTopType
+        ensures { result ≡ top_of self.now }
+    {
+        match self {
+            WasmHeapType::Extern | WasmHeapType::NoExtern => WasmHeapTopType::Extern,
+            WasmHeapType::Func | WasmHeapType::ConcreteFunc(_) | WasmHeapType::NoFunc => {
+                WasmHeapTopType::Func
+            }
+            WasmHeapType::Exn | WasmHeapType::ConcreteExn(_) | WasmHeapType::NoExn => {
+                WasmHeapTopType::Exn
+            }
+            WasmHeapType::Cont | WasmHeapType::ConcreteCont(_) | WasmHeapType::NoCont => {
+                WasmHeapTopType::Cont
+            }
+            WasmHeapType::Any
+            | WasmHeapType::Eq
+            | WasmHeapType::I31
+            | WasmHeapType::Array
+            | WasmHeapType::ConcreteArray(_)
+            | WasmHeapType::Struct
+            | WasmHeapType::ConcreteStruct(_)
+            | WasmHeapType::None => WasmHeapTopType::Any,
+        }
+    }
+
+    /// Whether it is the bottom of its hierarchy.
+    pub fn is_bottom(&self) -> bool
+        ensures { IsTrue result ↔ (self.now ≡ heap_of_bottom (bottom_of self.now)) }
+    {
+        *self == WasmHeapType::from(self.bottom())
+    }
+
+    /// The bottom of its hierarchy.
+    pub fn bottom(&self) -> WasmHeapBottomType
+        ensures { result ≡ bottom_of self.now }
+    {
+        match self.top() {
+            WasmHeapTopType::Extern => WasmHeapBottomType::NoExtern,
+            WasmHeapTopType::Any => WasmHeapBottomType::None,
+            WasmHeapTopType::Func => WasmHeapBottomType::NoFunc,
+            WasmHeapTopType::Exn => WasmHeapBottomType::NoExn,
+            WasmHeapTopType::Cont => WasmHeapBottomType::NoCont,
+        }
+    }
 }

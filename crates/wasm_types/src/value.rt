@@ -1,5 +1,9 @@
 //! Reference types and value types.
 
+ghost use Rattle.std.specs.Prelude.{◌≡◌, ◌⊎◌, IsSome, Some};
+ghost use Rattle.wasm_types.specs.Collected.{heap_is_collected, heap_is_object, val_is_collected, val_is_object};
+ghost use Rattle.wasm_types.specs.Views.{ref_in};
+
 use crate::heap::WasmHeapType;
 
 /// A reference type (core specification, 2.3.5).
@@ -23,6 +27,20 @@ impl WasmRefType {
         nullable: true,
         heap_type: WasmHeapType::Extern,
     };
+
+    /// Whether the garbage collector sees references of this type.
+    pub fn is_vmgcref_type(&self) -> bool
+        ensures { result ≡ heap_is_collected self.now.heap_type }
+    {
+        self.heap_type.is_vmgcref_type()
+    }
+
+    /// Whether the garbage collector sees references of this type, and they may point to an object.
+    pub fn is_vmgcref_type_and_not_i31(&self) -> bool
+        ensures { result ≡ heap_is_object self.now.heap_type }
+    {
+        self.heap_type.is_vmgcref_type_and_not_i31()
+    }
 }
 
 /// A value type (core specification, 2.3.6).
@@ -39,4 +57,49 @@ pub enum WasmValType {
 impl WasmValType {
     /// Any function, or null.
     pub const FUNCREF: WasmValType = WasmValType::Ref(WasmRefType::FUNCREF);
+
+    /// Whether values of this type are references that the garbage collector sees.
+    pub fn is_vmgcref_type(&self) -> bool
+        ensures { result ≡ val_is_collected self.now }
+    {
+        match self {
+            WasmValType::Ref(ty) => ty.is_vmgcref_type(),
+            _ => false,
+        }
+    }
+
+    /// Whether values of this type are references that the garbage collector sees, and that may point to an
+    /// object.
+    pub fn is_vmgcref_type_and_not_i31(&self) -> bool
+        ensures { result ≡ val_is_object self.now }
+    {
+        match self {
+            WasmValType::Ref(ty) => ty.is_vmgcref_type_and_not_i31(),
+            _ => false,
+        }
+    }
+
+    /// The type of the integers of 32 or of 64 bits.
+    pub fn int_from_bits(bits: u8) -> Self
+        requires { (bits ≡ 32) ⊎ (bits ≡ 64) }
+        ensures narrow { bits ≡ 32 → result ≡ WasmValType.I32 }
+        ensures wide { bits ≡ 64 → result ≡ WasmValType.I64 }
+    {
+        match bits {
+            32 => WasmValType::I32,
+            64 => WasmValType::I64,
+            _ => unreachable!(),
+        }
+    }
+
+    /// The reference type that it is.
+    pub fn unwrap_ref_type(&self) -> WasmRefType
+        requires { IsSome (ref_in self.now) }
+        ensures { ref_in self.now ≡ Some result }
+    {
+        match self {
+            WasmValType::Ref(ty) => *ty,
+            _ => unreachable!(),
+        }
+    }
 }
