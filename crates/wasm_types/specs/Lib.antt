@@ -4,3 +4,6 @@ pub mod Parts
 pub mod Tops
 pub mod Collected
 pub mod Views
+pub mod Texts
+pub mod Counts
+pub mod Trampolines

@@ -1,12 +1,16 @@
 //! Composite types.
 
-ghost use Rattle.std.specs.Prelude.{◌≡◌, ◌↔◌, IsTrue, IsSome, Some};
+ghost use Rattle.std.specs.Prelude.{◌≡◌, ◌↔◌, IsTrue, IsSome, IfOk, Some};
 ghost use Rattle.std.specs.Option.{option_copied};
+ghost use Rattle.wasm_types.specs.Texts.{inner_text, composite_text};
 ghost use Rattle.wasm_types.specs.Views.{array_in, func_in, struct_in, cont_in, exn_in};
 
 use crate::aggregate::{WasmArrayType, WasmExnType, WasmStructType};
 use crate::cont::WasmContType;
 use crate::func::WasmFuncType;
+use entity_map::OutOfMemory;
+use std::alloc::Global;
+use std::fmt;
 
 /// A composite type without its share flag (core specification, 2.3.9). Exception types are not of the
 /// core specification.
@@ -151,5 +155,58 @@ impl WasmCompositeInnerType {
         ensures { exn_in self.now ≡ Some result.now }
     {
         self.as_exn().unwrap()
+    }
+
+    /// An equal type.
+    pub fn try_clone(&self, alloc: Global) -> Result<Self, OutOfMemory>
+        ensures { IfOk result (λ t. t ≡ self.now) }
+    {
+        Ok(match self {
+            WasmCompositeInnerType::Array(ty) => WasmCompositeInnerType::Array(*ty),
+            WasmCompositeInnerType::Func(ty) => WasmCompositeInnerType::Func(ty.try_clone(alloc)?),
+            WasmCompositeInnerType::Struct(ty) => WasmCompositeInnerType::Struct(ty.try_clone(
+                alloc,
+            )?),
+            WasmCompositeInnerType::Cont(ty) => WasmCompositeInnerType::Cont(*ty),
+            WasmCompositeInnerType::Exn(ty) => WasmCompositeInnerType::Exn(ty.try_clone(alloc)?),
+        })
+    }
+}
+
+impl fmt::Display for WasmCompositeInnerType {
+    ghost output = { λ t. Some (inner_text t) };
+
+    fn fmt<W: fmt::Write>(&self, f: &mut fmt::Formatter<W>) -> fmt::Result {
+        match self {
+            WasmCompositeInnerType::Array(ty) => ty.fmt(f),
+            WasmCompositeInnerType::Func(ty) => ty.fmt(f),
+            WasmCompositeInnerType::Struct(ty) => ty.fmt(f),
+            WasmCompositeInnerType::Cont(ty) => ty.fmt(f),
+            WasmCompositeInnerType::Exn(ty) => ty.fmt(f),
+        }
+    }
+}
+
+impl WasmCompositeType {
+    /// An equal type.
+    pub fn try_clone(&self, alloc: Global) -> Result<Self, OutOfMemory>
+        ensures { IfOk result (λ t. t ≡ self.now) }
+    {
+        Ok(WasmCompositeType {
+            inner: self.inner.try_clone(alloc)?,
+            shared: self.shared,
+        })
+    }
+}
+
+impl fmt::Display for WasmCompositeType {
+    ghost output = { λ t. Some (composite_text t) };
+
+    fn fmt<W: fmt::Write>(&self, f: &mut fmt::Formatter<W>) -> fmt::Result {
+        if self.shared {
+            write!(f, "(shared {})", self.inner)
+        } else {
+            self.inner.fmt(f)
+        }
     }
 }

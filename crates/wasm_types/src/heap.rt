@@ -1,10 +1,12 @@
 //! Heap types, and the five hierarchies that they form.
 
-ghost use Rattle.std.specs.Prelude.{◌≡◌, ◌↔◌, IsTrue};
+ghost use Rattle.std.specs.Prelude.{◌≡◌, ◌↔◌, IsTrue, Some};
 ghost use Rattle.wasm_types.specs.Collected.{heap_is_collected, heap_is_object};
+ghost use Rattle.wasm_types.specs.Texts.{heap_text};
 ghost use Rattle.wasm_types.specs.Tops.{top_of, bottom_of, heap_of_top, heap_of_bottom};
 
 use crate::index::EngineOrModuleTypeIndex;
+use std::fmt;
 
 /// A heap type (core specification, 2.3.4). A concrete one says what kind of type its index names.
 #[derive(Clone, Copy, Debug, PartialEq, Eq, Hash)]
@@ -60,10 +62,35 @@ pub enum WasmHeapBottomType {
     NoCont,
 }
 
-impl From<WasmHeapTopType> for WasmHeapType {
-    ghost use Rattle.std.specs.Prelude.{◌≡◌};
-    ghost use Rattle.wasm_types.specs.Tops.{heap_of_top};
+impl fmt::Display for WasmHeapType {
+    ghost output = { λ h. Some (heap_text h) };
 
+    fn fmt<W: fmt::Write>(&self, f: &mut fmt::Formatter<W>) -> fmt::Result {
+        match self {
+            WasmHeapType::Extern => f.write_str("extern"),
+            WasmHeapType::NoExtern => f.write_str("noextern"),
+            WasmHeapType::Func => f.write_str("func"),
+            WasmHeapType::ConcreteFunc(index) => write!(f, "func {index}"),
+            WasmHeapType::NoFunc => f.write_str("nofunc"),
+            WasmHeapType::Exn => f.write_str("exn"),
+            WasmHeapType::ConcreteExn(index) => write!(f, "exn {index}"),
+            WasmHeapType::NoExn => f.write_str("noexn"),
+            WasmHeapType::Cont => f.write_str("cont"),
+            WasmHeapType::ConcreteCont(index) => write!(f, "cont {index}"),
+            WasmHeapType::NoCont => f.write_str("nocont"),
+            WasmHeapType::Any => f.write_str("any"),
+            WasmHeapType::Eq => f.write_str("eq"),
+            WasmHeapType::I31 => f.write_str("i31"),
+            WasmHeapType::Array => f.write_str("array"),
+            WasmHeapType::ConcreteArray(index) => write!(f, "array {index}"),
+            WasmHeapType::Struct => f.write_str("struct"),
+            WasmHeapType::ConcreteStruct(index) => write!(f, "struct {index}"),
+            WasmHeapType::None => f.write_str("none"),
+        }
+    }
+}
+
+impl From<WasmHeapTopType> for WasmHeapType {
     ghost from_gives = { λ top heap. heap ≡ heap_of_top top };
 
     fn from(top: WasmHeapTopType) -> Self {
@@ -78,9 +105,6 @@ impl From<WasmHeapTopType> for WasmHeapType {
 }
 
 impl From<WasmHeapBottomType> for WasmHeapType {
-    ghost use Rattle.std.specs.Prelude.{◌≡◌};
-    ghost use Rattle.wasm_types.specs.Tops.{heap_of_bottom};
-
     ghost from_gives = { λ bottom heap. heap ≡ heap_of_bottom bottom };
 
     fn from(bottom: WasmHeapBottomType) -> Self {

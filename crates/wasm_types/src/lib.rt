@@ -12,6 +12,7 @@ mod global;
 mod heap;
 mod index;
 mod limits;
+mod lists;
 mod memory;
 mod overflow;
 mod sub;

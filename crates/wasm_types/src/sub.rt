@@ -1,7 +1,8 @@
 //! Subtypes and recursion groups.
 
-ghost use Rattle.std.specs.Prelude.{◌≡◌, ◌↔◌, IsTrue, IsSome, Some};
+ghost use Rattle.std.specs.Prelude.{◌≡◌, ◌↔◌, IsTrue, IsSome, IfOk, Some};
 ghost use Rattle.std.specs.Option.{option_copied};
+ghost use Rattle.wasm_types.specs.Texts.{sub_text};
 ghost use Rattle.wasm_types.specs.Views.{unshared, array_in, func_in, struct_in, cont_in, exn_in};
 
 use crate::aggregate::{WasmArrayType, WasmExnType, WasmStructType};
@@ -9,6 +10,9 @@ use crate::composite::{WasmCompositeInnerType, WasmCompositeType};
 use crate::cont::WasmContType;
 use crate::func::WasmFuncType;
 use crate::index::EngineOrModuleTypeIndex;
+use entity_map::OutOfMemory;
+use std::alloc::Global;
+use std::fmt;
 use std::marker::Model;
 
 /// A subtype: a composite type and its place under another (core specification, 2.3.11).
@@ -139,6 +143,31 @@ impl WasmSubType {
         ensures { unshared exn_in self.now ≡ Some result.now }
     {
         self.as_exn().unwrap()
+    }
+
+    /// An equal type.
+    pub fn try_clone(&self, alloc: Global) -> Result<Self, OutOfMemory>
+        ensures { IfOk result (λ t. t ≡ self.now) }
+    {
+        Ok(WasmSubType {
+            is_final: self.is_final,
+            supertype: self.supertype,
+            composite_type: self.composite_type.try_clone(alloc)?,
+        })
+    }
+}
+
+impl fmt::Display for WasmSubType {
+    ghost output = { λ t. Some (sub_text t) };
+
+    fn fmt<W: fmt::Write>(&self, f: &mut fmt::Formatter<W>) -> fmt::Result {
+        let composite_type = &self.composite_type;
+        match (self.is_final, self.supertype) {
+            (true, None) => composite_type.fmt(f),
+            (true, Some(supertype)) => write!(f, "(sub final {supertype} {composite_type})"),
+            (false, None) => write!(f, "(sub {composite_type})"),
+            (false, Some(supertype)) => write!(f, "(sub {supertype} {composite_type})"),
+        }
     }
 }
 

@@ -2,9 +2,11 @@
 
 ghost use Rattle.std.specs.Prelude.{◌≡◌, ◌⊎◌, IsSome, Some};
 ghost use Rattle.wasm_types.specs.Collected.{heap_is_collected, heap_is_object, val_is_collected, val_is_object};
+ghost use Rattle.wasm_types.specs.Texts.{ref_text, val_text};
 ghost use Rattle.wasm_types.specs.Views.{ref_in};
 
 use crate::heap::WasmHeapType;
+use std::fmt;
 
 /// A reference type (core specification, 2.3.5).
 #[derive(Clone, Copy, Debug, PartialEq, Eq, Hash)]
@@ -40,6 +42,20 @@ impl WasmRefType {
         ensures { result ≡ heap_is_object self.now.heap_type }
     {
         self.heap_type.is_vmgcref_type_and_not_i31()
+    }
+}
+
+impl fmt::Display for WasmRefType {
+    ghost output = { λ r. Some (ref_text r) };
+
+    fn fmt<W: fmt::Write>(&self, f: &mut fmt::Formatter<W>) -> fmt::Result {
+        let heap_type = self.heap_type;
+        match (self.nullable, heap_type) {
+            (true, WasmHeapType::Func) => f.write_str("funcref"),
+            (true, WasmHeapType::Extern) => f.write_str("externref"),
+            (true, _) => write!(f, "(ref null {heap_type})"),
+            (false, _) => write!(f, "(ref {heap_type})"),
+        }
     }
 }
 
@@ -100,6 +116,21 @@ impl WasmValType {
         match self {
             WasmValType::Ref(ty) => *ty,
             _ => unreachable!(),
+        }
+    }
+}
+
+impl fmt::Display for WasmValType {
+    ghost output = { λ t. Some (val_text t) };
+
+    fn fmt<W: fmt::Write>(&self, f: &mut fmt::Formatter<W>) -> fmt::Result {
+        match self {
+            WasmValType::I32 => f.write_str("i32"),
+            WasmValType::I64 => f.write_str("i64"),
+            WasmValType::F32 => f.write_str("f32"),
+            WasmValType::F64 => f.write_str("f64"),
+            WasmValType::V128 => f.write_str("v128"),
+            WasmValType::Ref(ty) => ty.fmt(f),
         }
     }
 }
