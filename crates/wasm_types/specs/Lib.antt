@@ -7,3 +7,4 @@ pub mod Views
 pub mod Texts
 pub mod Counts
 pub mod Trampolines
+pub mod Sizes

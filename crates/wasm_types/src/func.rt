@@ -1,13 +1,13 @@
 //! Function types.
 
-ghost use Rattle.std.specs.Prelude.{◌≡◌, ◌↔◌, ◌≤◌, IsTrue, IfOk, Some, length, count_by, take, drop};
+ghost use Rattle.std.specs.Prelude.{◌≡◌, ◌↔◌, ◌≤◌, ◌+◌, IsTrue, IfOk, Some, All, map, length, count_by, take, drop, vec_len};
 ghost use Rattle.entity_map.specs.Cow.{value_of};
 ghost use Rattle.wasm_types.specs.Collected.{val_is_object};
 ghost use Rattle.wasm_types.specs.Texts.{func_text};
 ghost use Rattle.wasm_types.specs.Trampolines.{trampoline_val, trampoline_of, is_borrowed};
 
 use crate::lists::Group;
-use crate::value::{WasmRefType, WasmValType};
+use crate::value::WasmValType;
 use entity_map::{OutOfMemory, TryCow};
 use std::alloc::Global;
 use std::fmt;
@@ -47,6 +47,24 @@ fn objects_among(types: &[WasmValType]) -> u32
         .count() as u32
 }
 
+// Whether a trampoline passes each of the types as it is.
+fn are_trampoline_types(types: &[WasmValType]) -> bool
+    ensures { IsTrue result ↔ All (λ ty. trampoline_val ty ≡ ty) types.now }
+{
+    types.iter().all(|ty| ty.is_trampoline_type())
+}
+
+// What a trampoline passes for each of the types.
+fn trampoline_types(alloc: Global, types: &[WasmValType]) -> Result<Vec<WasmValType>, OutOfMemory>
+    ensures { IfOk result (λ v. v.items ≡ map trampoline_val types.now) }
+{
+    let mut passed = Vec::with_capacity(alloc, types.len())?;
+    for ty in types {
+        passed.push(ty.trampoline_type())?;
+    }
+    Ok(passed)
+}
+
 impl WasmFuncType {
     /// The function type of these parameters and results.
     ///
@@ -64,17 +82,30 @@ impl WasmFuncType {
         let mut types = Vec::with_capacity(alloc, params.len() + results.len())?;
         types.extend_from_slice(params)?;
         types.extend_from_slice(results)?;
-        Ok(WasmFuncType {
-            types,
-            params_count: params.len() as u32,
-            non_i31_gc_ref_params_count: objects_among(params),
-            non_i31_gc_ref_results_count: objects_among(results),
-        })
+        Ok(Self::from_types(types, params.len() as u32))
     }
 
-    /// The types of the parameters.
+    // The first types are the parameters.
+    fn from_types(types: Vec<WasmValType>, params_count: u32) -> Self
+        requires within { params_count ≤ vec_len types }
+        requires few { vec_len types ≤ params_count + u32.MAX }
+        ensures { result ≡ record { params = take params_count types.items; results = drop params_count types.items } }
+    {
+        let (params, results) = types.as_slice().split_at(params_count as usize);
+        let non_i31_gc_ref_params_count = objects_among(params);
+        let non_i31_gc_ref_results_count = objects_among(results);
+        WasmFuncType {
+            types,
+            params_count,
+            non_i31_gc_ref_params_count,
+            non_i31_gc_ref_results_count,
+        }
+    }
+
+    /// The types of the parameters, of which there are at most `u32::MAX`.
     pub fn params(&self) -> &[WasmValType]
-        ensures { result.now ≡ self.now.params }
+        ensures listed { result.now ≡ self.now.params }
+        ensures few { length result.now ≤ u32.MAX }
     {
         &self.types[..self.params_count as usize]
     }
@@ -86,9 +117,10 @@ impl WasmFuncType {
         self.non_i31_gc_ref_params_count as usize
     }
 
-    /// The types of the results.
+    /// The types of the results, of which there are at most `u32::MAX`.
     pub fn results(&self) -> &[WasmValType]
-        ensures { result.now ≡ self.now.results }
+        ensures listed { result.now ≡ self.now.results }
+        ensures few { length result.now ≤ u32.MAX }
     {
         &self.types[self.params_count as usize..]
     }
@@ -98,6 +130,30 @@ impl WasmFuncType {
         ensures { result ≡ count_by val_is_object self.now.results }
     {
         self.non_i31_gc_ref_results_count as usize
+    }
+
+    /// Whether each of its references is nullable and points to the top of its hierarchy.
+    pub fn is_trampoline_type(&self) -> bool
+        ensures { IsTrue result ↔ (trampoline_of self.now ≡ self.now) }
+    {
+        are_trampoline_types(self.params()) && are_trampoline_types(self.results())
+    }
+
+    /// The type by which functions of this type are called from outside: each of its references becomes nullable
+    /// and points to the top of its hierarchy. Where that changes nothing, it is borrowed.
+    ///
+    /// # Errors
+    /// `OutOfMemory` where a changed type finds no memory.
+    #[tactic(auto, using(crate::proofs::Trampolined::mapped_parts))]
+    pub fn trampoline_type(&self, alloc: Global) -> Result<TryCow<'_, Self>, OutOfMemory>
+        ensures value { IfOk result (λ t. value_of t ≡ trampoline_of self.now) }
+        ensures kept { IfOk result (λ t. IsTrue (is_borrowed t) ↔ (trampoline_of self.now ≡ self.now)) }
+    {
+        if self.is_trampoline_type() {
+            return Ok(TryCow::Borrowed(self));
+        }
+        let types = trampoline_types(alloc, self.types.as_slice())?;
+        Ok(TryCow::Owned(Self::from_types(types, self.params_count)))
     }
 
     /// An equal type.

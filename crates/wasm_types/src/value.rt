@@ -1,8 +1,9 @@
 //! Reference types and value types.
 
-ghost use Rattle.std.specs.Prelude.{◌≡◌, ◌⊎◌, IsSome, Some};
+ghost use Rattle.std.specs.Prelude.{◌≡◌, ◌⊎◌, ◌↔◌, IsTrue, IsSome, Some};
 ghost use Rattle.wasm_types.specs.Collected.{heap_is_collected, heap_is_object, val_is_collected, val_is_object};
 ghost use Rattle.wasm_types.specs.Texts.{ref_text, val_text};
+ghost use Rattle.wasm_types.specs.Trampolines.{trampoline_val};
 ghost use Rattle.wasm_types.specs.Views.{ref_in};
 
 use crate::heap::WasmHeapType;
@@ -92,6 +93,27 @@ impl WasmValType {
         match self {
             WasmValType::Ref(ty) => ty.is_vmgcref_type_and_not_i31(),
             _ => false,
+        }
+    }
+
+    // Whether trampolines pass it as it is.
+    pub(crate) fn is_trampoline_type(&self) -> bool
+        ensures { IsTrue result ↔ (trampoline_val self.now ≡ self.now) }
+    {
+        self.trampoline_type() == *self
+    }
+
+    // The type that stands for it in a trampoline: a reference becomes nullable, and points to the top of its
+    // hierarchy.
+    pub(crate) fn trampoline_type(&self) -> Self
+        ensures { result ≡ trampoline_val self.now }
+    {
+        match self {
+            WasmValType::Ref(ty) => WasmValType::Ref(WasmRefType {
+                nullable: true,
+                heap_type: ty.heap_type.top().into(),
+            }),
+            _ => *self,
         }
     }
 
