@@ -8,3 +8,4 @@ pub mod Texts
 pub mod Counts
 pub mod Trampolines
 pub mod Sizes
+pub mod Indices

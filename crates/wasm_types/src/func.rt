@@ -1,11 +1,16 @@
 //! Function types.
 
-ghost use Rattle.std.specs.Prelude.{◌≡◌, ◌↔◌, ◌≤◌, ◌+◌, IsTrue, IfOk, Some, All, map, length, count_by, take, drop, vec_len};
+ghost use Rattle.std.specs.Prelude.{◌≡◌, ◌↔◌, ◌≤◌, ◌+◌, IsTrue, IfOk, Some, All, map, length, count_by, vec_len};
+ghost use Rattle.std.specs.Borrow.{sem};
+ghost use Rattle.std.specs.Option.{option_copied_mut};
 ghost use Rattle.entity_map.specs.Cow.{value_of};
 ghost use Rattle.wasm_types.specs.Collected.{val_is_object};
+ghost use Rattle.wasm_types.specs.Indices.{index_at, LendsFuncIndex};
+ghost use Rattle.wasm_types.specs.Parts.{split_types};
 ghost use Rattle.wasm_types.specs.Texts.{func_text};
 ghost use Rattle.wasm_types.specs.Trampolines.{trampoline_val, trampoline_of, is_borrowed};
 
+use crate::index::EngineOrModuleTypeIndex;
 use crate::lists::Group;
 use crate::value::WasmValType;
 use entity_map::{OutOfMemory, TryCow};
@@ -25,13 +30,12 @@ pub struct WasmFuncType {
 
 /// A contract sees the parameters and the results as two lists.
 impl Model for WasmFuncType {
-    ghost use Rattle.std.specs.Prelude.{take, drop};
-    ghost use Rattle.wasm_types.specs.Parts.{FuncParts};
+    ghost use Rattle.wasm_types.specs.Parts.{FuncParts, split_types};
     ghost use Rattle.wasm_types.specs.Counts.{IsCounted};
 
     ghost Value = { FuncParts };
 
-    ghost view = { λ t. record { params = take t.params_count t.types.items; results = drop t.params_count t.types.items } };
+    ghost view = { λ t. split_types t.params_count t.types.items };
 
     ghost invariant = { λ t. IsCounted t.types.items t.params_count t.non_i31_gc_ref_params_count t.non_i31_gc_ref_results_count };
 }
@@ -89,7 +93,7 @@ impl WasmFuncType {
     fn from_types(types: Vec<WasmValType>, params_count: u32) -> Self
         requires within { params_count ≤ vec_len types }
         requires few { vec_len types ≤ params_count + u32.MAX }
-        ensures { result ≡ record { params = take params_count types.items; results = drop params_count types.items } }
+        ensures { result ≡ split_types params_count types.items }
     {
         let (params, results) = types.as_slice().split_at(params_count as usize);
         let non_i31_gc_ref_params_count = objects_among(params);
@@ -130,6 +134,15 @@ impl WasmFuncType {
         ensures { result ≡ count_by val_is_object self.now.results }
     {
         self.non_i31_gc_ref_results_count as usize
+    }
+
+    /// The type index in the value type at a place of the parameters and then the results, for writing. It is None
+    /// where the place is past both, or the type there has no index.
+    pub fn index_mut(&mut self, at: usize) -> Option<&mut EngineOrModuleTypeIndex>
+        ensures* writes_back { sem 𝓛 (LendsFuncIndex self.entry at result) }
+        ensures value { option_copied_mut result ≡ index_at self.old at }
+    {
+        self.types.get_mut(at)?.index_mut()
     }
 
     /// Whether each of its references is nullable and points to the top of its hierarchy.

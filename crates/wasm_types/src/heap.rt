@@ -1,7 +1,10 @@
 //! Heap types, and the five hierarchies that they form.
 
 ghost use Rattle.std.specs.Prelude.{◌≡◌, ◌↔◌, IsTrue, Some};
+ghost use Rattle.std.specs.Borrow.{sem};
+ghost use Rattle.std.specs.Option.{option_copied_mut};
 ghost use Rattle.wasm_types.specs.Collected.{heap_is_collected, heap_is_object};
+ghost use Rattle.wasm_types.specs.Indices.{heap_index, LendsHeapIndex};
 ghost use Rattle.wasm_types.specs.Texts.{heap_text};
 ghost use Rattle.wasm_types.specs.Tops.{top_of, bottom_of, heap_of_top, heap_of_bottom};
 
@@ -134,6 +137,21 @@ impl WasmHeapType {
         ensures { result ≡ heap_is_object self.now }
     {
         !matches!(self, WasmHeapType::I31) && self.is_vmgcref_type()
+    }
+
+    // The type index in it, for writing.
+    pub(crate) fn index_mut(&mut self) -> Option<&mut EngineOrModuleTypeIndex>
+        ensures* writes_back { sem 𝓛 (LendsHeapIndex self.entry result) }
+        ensures value { option_copied_mut result ≡ heap_index self.old }
+    {
+        match self {
+            WasmHeapType::ConcreteFunc(index) => Some(index),
+            WasmHeapType::ConcreteExn(index) => Some(index),
+            WasmHeapType::ConcreteCont(index) => Some(index),
+            WasmHeapType::ConcreteArray(index) => Some(index),
+            WasmHeapType::ConcreteStruct(index) => Some(index),
+            _ => None,
+        }
     }
 
     /// Whether it is the top of its hierarchy.

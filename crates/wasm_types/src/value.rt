@@ -1,12 +1,16 @@
 //! Reference types and value types.
 
 ghost use Rattle.std.specs.Prelude.{◌≡◌, ◌⊎◌, ◌↔◌, IsTrue, IsSome, Some};
+ghost use Rattle.std.specs.Borrow.{sem};
+ghost use Rattle.std.specs.Option.{option_copied_mut};
 ghost use Rattle.wasm_types.specs.Collected.{heap_is_collected, heap_is_object, val_is_collected, val_is_object};
+ghost use Rattle.wasm_types.specs.Indices.{val_index, LendsValIndex};
 ghost use Rattle.wasm_types.specs.Texts.{ref_text, val_text};
 ghost use Rattle.wasm_types.specs.Trampolines.{trampoline_val};
 ghost use Rattle.wasm_types.specs.Views.{ref_in};
 
 use crate::heap::WasmHeapType;
+use crate::index::EngineOrModuleTypeIndex;
 use std::fmt;
 
 /// A reference type (core specification, 2.3.5).
@@ -93,6 +97,17 @@ impl WasmValType {
         match self {
             WasmValType::Ref(ty) => ty.is_vmgcref_type_and_not_i31(),
             _ => false,
+        }
+    }
+
+    // The type index in it, for writing.
+    pub(crate) fn index_mut(&mut self) -> Option<&mut EngineOrModuleTypeIndex>
+        ensures* writes_back { sem 𝓛 (LendsValIndex self.entry result) }
+        ensures value { option_copied_mut result ≡ val_index self.old }
+    {
+        match self {
+            WasmValType::Ref(ty) => ty.heap_type.index_mut(),
+            _ => None,
         }
     }
 
