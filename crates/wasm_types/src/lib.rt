@@ -19,8 +19,11 @@ mod overflow;
 mod sub;
 mod table;
 mod tag;
+#[cfg(test)]
+mod tests;
 mod tunables;
 mod value;
+mod worked;
 
 pub use aggregate::{WasmArrayType, WasmExnType, WasmStructType};
 pub use composite::{WasmCompositeInnerType, WasmCompositeType};
@@ -41,3 +44,4 @@ pub use table::Table;
 pub use tag::Tag;
 pub use tunables::{MemoryTunables, Tunables};
 pub use value::{WasmRefType, WasmValType};
+pub use worked::{worked_references, worked_sizes, worked_texts};
