@@ -1,5 +1,5 @@
 -- What a trampoline leaves as it is.
-use Rattle.std.proofs.Common.{◌≡◌, ◌↔◌, List, [], ◌∷◌, All, map, take, drop, refl, ap}
+use Rattle.std.proofs.Common.{◌≡◌, List, [], ◌∷◌, All, map, refl, ap}
 use Rattle.std.specs.List.{AllByRecursion}
 use Rattle.std.proofs.lemmas.List.{take-map, drop-map}
 use Rattle.std.proofs.lemmas.List.Elements.{All-from_recursion, recursion_from_All}

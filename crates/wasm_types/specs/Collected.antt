@@ -4,7 +4,6 @@ use Rattle.wasm_types.specs.declared.heap.WasmHeapType.{WasmHeapType}
 use Rattle.wasm_types.specs.declared.heap.WasmHeapType.TheVariants.{I31}
 use Rattle.wasm_types.specs.declared.heap.WasmHeapTopType.{WasmHeapTopType}
 use Rattle.wasm_types.specs.declared.heap.WasmHeapTopType.TheVariants.{Extern, Any, Func, Exn, Cont}
-use Rattle.wasm_types.specs.declared.value.WasmRefType.{WasmRefType}
 use Rattle.wasm_types.specs.declared.value.WasmValType.{WasmValType}
 use Rattle.wasm_types.specs.declared.value.WasmValType.TheVariants as val
 use Rattle.wasm_types.specs.declared.field.WasmStorageType.{WasmStorageType}
