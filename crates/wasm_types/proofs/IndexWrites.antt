@@ -18,7 +18,7 @@ use Rattle.wasm_types.specs.Parts.{split_types}
 use borrow.Follows.Closed.{read_of}
 use mathlib.Core.Option.{Option as Named}
 
--- another index points to another object
+-- whether a reference may point to an object does not depend on its index
 heap_is_object-with_index : (h : WasmHeapType) (new : EngineOrModuleTypeIndex) → heap_is_object (heap_with_index h new) ≡ heap_is_object h
 heap_is_object-with_index (heap.ConcreteFunc i) new = refl
 heap_is_object-with_index (heap.ConcreteExn i) new = refl
@@ -27,12 +27,14 @@ heap_is_object-with_index (heap.ConcreteArray i) new = refl
 heap_is_object-with_index (heap.ConcreteStruct i) new = refl
 heap_is_object-with_index h new = refl
 
+-- so it is with value types
 val_is_object-with_index : (t : WasmValType) (new : EngineOrModuleTypeIndex) → val_is_object (val_with_index t new) ≡ val_is_object t
 val_is_object-with_index (val.Ref r) new = heap_is_object-with_index r.heap_type new
 val_is_object-with_index t new = refl
 
 -- an item is replaced by one that passes where it did
 module _ {X : Type 0} (p : X → Bool) (xs : List X) (at : ℕ) (old new : X) (there : slice_get xs at ≡ Some old) (alike : p new ≡ p old) where
+  -- 1 for an item that passes, so that a count is a sum
   counted : X → ℕ
   counted x = cond (p x) 1 0
 
@@ -71,6 +73,7 @@ IsCounted-with_index types params in_params in_results at old new there counts =
 pub set-there : (types : List WasmValType) (at : ℕ) (old : WasmValType) → slice_get types at ≡ Some old → slice_set types at old ≡ types
 set-there types at old there = rw (get_or_from_slice_get types at old old there) at (set-get_or types at old)
 
+-- a write of the index is one of the type
 with_index-set : (types : List WasmValType) (at : ℕ) (old : WasmValType) (new : EngineOrModuleTypeIndex) → slice_get types at ≡ Some old → with_index types at new ≡ slice_set types at (val_with_index old new)
 with_index-set [] at old new there = cc
 with_index-set (t ∷ ts) zero old new there = let same : t ≡ old = cc in rw same refl

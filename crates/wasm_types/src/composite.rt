@@ -12,8 +12,8 @@ use entity_map::OutOfMemory;
 use std::alloc::Global;
 use std::fmt;
 
-/// A composite type without its share flag (core specification, 2.3.9). Exception types are not of the
-/// core specification.
+/// A composite type without its share flag (core specification, 2.3, composite types). Exception types are of this
+/// crate alone.
 #[derive(Drop)]
 pub enum WasmCompositeInnerType {
     Array(WasmArrayType),

@@ -18,7 +18,7 @@ use std::alloc::Global;
 use std::fmt;
 use std::marker::Model;
 
-/// A function type (core specification, 2.3.8).
+/// A function type (core specification, 2.3, composite types).
 #[derive(Drop)]
 pub struct WasmFuncType {
     // The parameters, then the results.

@@ -15,7 +15,7 @@ use std::alloc::Global;
 use std::fmt;
 use std::marker::Model;
 
-/// A subtype: a composite type and its place under another (core specification, 2.3.11).
+/// A subtype: a composite type and its place under another (core specification, 2.3, recursive types).
 #[derive(Drop)]
 pub struct WasmSubType {
     /// Whether no type may name it as its supertype.
@@ -171,7 +171,7 @@ impl fmt::Display for WasmSubType {
     }
 }
 
-/// A recursion group: types that may refer to each other (core specification, 2.3.11).
+/// A recursion group: types that may refer to each other (core specification, 2.3, recursive types).
 #[derive(Drop)]
 pub struct WasmRecGroup {
     pub types: Vec<WasmSubType>,
