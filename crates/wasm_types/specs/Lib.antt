@@ -1,2 +1,11 @@
 pub mod Memories
 pub mod Constants
+pub mod Parts
+pub mod Tops
+pub mod Collected
+pub mod Views
+pub mod Texts
+pub mod Counts
+pub mod Trampolines
+pub mod Sizes
+pub mod Indices

@@ -1,0 +1,2 @@
+pub mod Trampolined
+pub mod IndexWrites
