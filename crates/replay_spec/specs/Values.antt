@@ -1,8 +1,8 @@
 -- The values of constant expressions (core specification, 4.4.1 and 4.6.1).
 use Rattle.std.specs.Prelude.{ℕ, [], ◌∷◌, Option, None, Some}
 use Rattle.std.specs.Int.{cast_unsigned, w32, w64}
-use Rattle.wasm_spec.specs.declared.types.Operator.{Operator}
-use Rattle.wasm_spec.specs.declared.types.Operator.TheVariants.{I32Const, I64Const}
+use Rattle.wasm_spec.specs.declared.operators.Operator.{Operator}
+use Rattle.wasm_spec.specs.declared.operators.Operator.TheVariants.{I32Const, I64Const}
 use Rattle.wasm_spec.specs.Module.{Expression}
 
 -- numbers are unsigned: from 0 to 2 ^ 32 - 1, or to 2 ^ 64 - 1

@@ -1,7 +1,7 @@
 //! Modules (core specification, 5.5.17).
 
 ghost use Rattle.std.specs.Prelude.{◌≡◌, ◌↔◌, ◌^◌, ◌<◌, ◌≤◌, length, IfOk, OnOk, Err};
-ghost use Rattle.wasm_spec.specs.declared.types.What.{What};
+ghost use Rattle.wasm_spec.specs.declared.operators.What.{What};
 ghost use Rattle.wasm_spec.specs.Module.{Module};
 ghost use Rattle.wasm_spec.specs.Grammar.{Spells, Stops};
 ghost use Rattle.wasm_spec.specs.Rules.{HasFewEntries};

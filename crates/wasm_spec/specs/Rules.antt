@@ -1,11 +1,11 @@
 -- The listed rules, each a statement over the lists of a module.
-use Rattle.std.specs.Prelude.{◌≡◌, ◌⊎◌, ℕ, ◌*◌, ◌^◌, ◌<◌, ◌≤◌, List, [], ◌∷◌, length, map, All, IsTrue, IfSome, IsSome, slice_get, unwrap_or, if◌then◌else◌}
-use Rattle.wasm_spec.specs.declared.types.MemoryType.{MemoryType}
-use Rattle.wasm_spec.specs.declared.types.Operator.{Operator}
-use Rattle.wasm_spec.specs.declared.types.Operator.TheVariants.{I32Const, I64Const}
+use Rattle.std.specs.Prelude.{◌≡◌, ◌⊎◌, ℕ, ◌*◌, ◌^◌, ◌<◌, ◌≤◌, [], ◌∷◌, List, length, map, All, IsTrue, IfSome, IsSome, Option, None, Some, slice_get, unwrap_or, if◌then◌else◌}
+use Rattle.wasm_spec.specs.declared.entities.MemoryType.{MemoryType}
+use Rattle.wasm_spec.specs.declared.operators.Operator.{Operator}
+use Rattle.wasm_spec.specs.declared.operators.Operator.TheVariants as op
 use Rattle.wasm_spec.specs.declared.rules.Rule.{Rule}
 use Rattle.wasm_spec.specs.declared.rules.Rule.TheVariants as rule
-use Rattle.wasm_spec.specs.Module.{Expression, DataKind, Passive, Active, Module, memories, segments}
+use Rattle.wasm_spec.specs.Module.{Expression, DataKind, Passive, Active, Payload, Memories, Segments, Custom, Module, types, imports, functions, tables, memories, globals, tags, segments}
 
 -- ---- limits of memories (core specification, 3.2.13)
 
@@ -31,14 +31,15 @@ pub data Class : Type 0 where
   ClassI32 : Class
   ClassI64 : Class
 
--- what an operator pushes
-abbrev pub class_of : Operator → Class
-class_of (I32Const value) = ClassI32
-class_of (I64Const value) = ClassI64
+-- what a constant pushes; of the other operators an offset has none where the rules are asked
+abbrev pub class_of : Operator → Option Class
+class_of (op.I32Const value) = Some ClassI32
+class_of (op.I64Const value) = Some ClassI64
+class_of _ = None
 
 -- the operators lead from the empty stack to the stack of one value of the class
 abbrev pub HasClass : Expression → Class → Type 0
-HasClass ops c = map class_of ops ≡ c ∷ []
+HasClass ops c = map class_of ops ≡ Some c ∷ []
 
 -- the class of a memory's addresses
 abbrev pub address_class : MemoryType → Class
@@ -55,16 +56,47 @@ abbrev pub NamesMemory : List MemoryType → DataKind → Type 0
 NamesMemory types Passive = Unit {0}
 NamesMemory types (Active memory offset) = memory < length types
 
+-- ---- what is planned so far
+
+-- memories, data segments and custom sections
+abbrev pub IsPlannedSection : Payload → Type 0
+IsPlannedSection (Memories types) = Unit {0}
+IsPlannedSection (Segments segments) = Unit {0}
+IsPlannedSection (Custom name bytes) = Unit {0}
+IsPlannedSection _ = ⊥
+
+abbrev pub OnlyPlannedSections : Module → Type 0
+OnlyPlannedSections m = All IsPlannedSection m
+
+abbrev pub IsIntegerConstant : Operator → Type 0
+IsIntegerConstant (op.I32Const value) = Unit {0}
+IsIntegerConstant (op.I64Const value) = Unit {0}
+IsIntegerConstant _ = ⊥
+
+abbrev pub HasConstantOffset : DataKind → Type 0
+HasConstantOffset Passive = Unit {0}
+HasConstantOffset (Active memory offset) = All IsIntegerConstant offset
+
+-- each data offset holds integer constants alone
+abbrev pub OnlyConstantOffsets : Module → Type 0
+OnlyConstantOffsets m = All (λ s. HasConstantOffset s.kind) (segments m)
+
 -- ---- counts
 
--- each list of the module has fewer than 2 ^ 30 entries, as in input of fewer bytes
+-- each list and each index space of the module has fewer than 2 ^ 30 entries, as in input of fewer bytes
 pub record HasFewEntries (m : Module) : Type 0 where
+  pub types : length (types m) < 2 ^ 30
+  pub imports : length (imports m) < 2 ^ 30
+  pub functions : length (functions m) < 2 ^ 30
+  pub tables : length (tables m) < 2 ^ 30
   pub memories : length (memories m) < 2 ^ 30
+  pub globals : length (globals m) < 2 ^ 30
+  pub tags : length (tags m) < 2 ^ 30
   pub segments : length (segments m) < 2 ^ 30
 
 -- ---- the rules
 
--- the module keeps a rule; of the other rules no section that is read can break one
+-- the module keeps a rule; of the other rules no section that is planned so far can break one
 abbrev pub Kept : Rule → Module → Type 0
 Kept rule.L1 m = Unit {0}
 Kept rule.L2 m = Unit {0}
