@@ -1,24 +1,28 @@
 //! A list that makes its own indices.
 
 ghost use Rattle.std.specs.Prelude.{◌≡◌, ◌<◌, ◌≤◌, ◌-◌, ◌++◌, ◌∷◌, ◌↔◌, [], length, slice_get, Some, IfOk, OnErr, IsTrue};
-ghost use Rattle.std.specs.Option.{option_copied};
+ghost use Rattle.std.specs.Option.{option_copied, option_copied_mut};
+ghost use Rattle.std.specs.Borrow.{sem};
 ghost use Rattle.std.specs.Iterator.{YieldsFirstBy, YieldsFirstRef, item_count};
 ghost use Rattle.entity_map.specs.Keyed.{keyed};
+ghost use Rattle.entity_map.specs.Primary.{LendsItem, LendsValues};
+ghost use Rattle.entity_map.specs.ValuesMut.{left};
 
 use crate::entity::EntityRef;
 use crate::memory::OutOfMemory;
+use crate::values_mut::ValuesMut;
 use std::alloc::Global;
 use std::marker::{Model, PhantomData};
 use std::ops::Index;
 
 /// A list of values whose places are indices of type `K`. Pushing a value gives its index.
 #[derive(Drop)]
-pub struct PrimaryMap<K: EntityRef, V> {
+pub struct PrimaryMap<K, V> {
     items: Vec<V>,
     keys: PhantomData<K>,
 }
 
-impl<K: EntityRef, V> Model for PrimaryMap<K, V> {
+impl<K, V> Model for PrimaryMap<K, V> {
     ghost use Rattle.std.specs.Prelude.{◌<◌, List, length};
 
     ghost Value = { List V };
@@ -40,6 +44,24 @@ impl<K: EntityRef, V> PrimaryMap<K, V> {
         }
     }
 
+    /// The empty list, with room for `n` values.
+    pub fn with_capacity(alloc: Global, n: usize) -> Result<Self, OutOfMemory>
+        ensures { IfOk result (λ map. map ≡ []) }
+    {
+        Ok(PrimaryMap {
+            items: Vec::with_capacity(alloc, n)?,
+            keys: PhantomData,
+        })
+    }
+
+    /// Makes room for `n` more values.
+    pub fn reserve(&mut self, n: usize) -> Result<(), OutOfMemory>
+        ensures { self.new ≡ self.old }
+    {
+        self.items.reserve(n)?;
+        Ok(())
+    }
+
     /// Appends a value and gives its index.
     pub fn push(&mut self, value: V) -> Result<K, OutOfMemory>
     where
@@ -59,6 +81,14 @@ impl<K: EntityRef, V> PrimaryMap<K, V> {
         ensures { option_copied result ≡ slice_get self.now (K.place key) }
     {
         self.items.get(key.index())
+    }
+
+    /// The value at an index, for writing.
+    pub fn get_mut(&mut self, key: K) -> Option<&mut V>
+        ensures* writes_back { sem 𝓛 (LendsItem K.row V.row self.entry (K.place key) result) }
+        ensures value { option_copied_mut result ≡ slice_get self.old (K.place key) }
+    {
+        self.items.get_mut(key.index())
     }
 
     /// The index that the next push gives.
@@ -103,6 +133,16 @@ impl<K: EntityRef, V> PrimaryMap<K, V> {
     {
         Values {
             rest: self.items.as_slice(),
+        }
+    }
+
+    /// The values in index order, for writing.
+    pub fn values_mut(&mut self) -> ValuesMut<'_, V>
+        ensures* writes_back { sem 𝓛 (LendsValues K.row V.row self.entry result) }
+        ensures values { left result ≡ self.old }
+    {
+        ValuesMut {
+            rest: self.items.as_mut_slice(),
         }
     }
 }

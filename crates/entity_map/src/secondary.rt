@@ -14,13 +14,13 @@ use std::marker::{Model, PhantomData};
 /// A value for each index: a default, but where another was inserted. Its memory grows with the
 /// greatest index that was inserted.
 #[derive(Drop)]
-pub struct SecondaryMap<K: EntityRef, V: Copy> {
+pub struct SecondaryMap<K, V> {
     items: Vec<V>,
     default: V,
     keys: PhantomData<K>,
 }
 
-impl<K: EntityRef, V: Copy> Model for SecondaryMap<K, V> {
+impl<K, V> Model for SecondaryMap<K, V> {
     ghost use Rattle.std.specs.Prelude.{◌≤◌, length};
     ghost use Rattle.entity_map.specs.Secondary.{Defaulted};
 
@@ -79,11 +79,11 @@ impl<K: EntityRef, V: Copy> SecondaryMap<K, V> {
 
 /// The indices of a map from 0 to the greatest that was inserted, with their values.
 #[derive(Drop)]
-pub struct SecondaryIter<'a, K: EntityRef, V: Copy> {
+pub struct SecondaryIter<'a, K: EntityRef, V> {
     items: PrimaryIter<'a, K, V>,
 }
 
-impl<'a, K: EntityRef, V: Copy> Model for SecondaryIter<'a, K, V> {
+impl<'a, K: EntityRef, V> Model for SecondaryIter<'a, K, V> {
     ghost use Rattle.std.specs.Prelude.{List};
 
     ghost Value = { List (K × V) };
@@ -91,7 +91,7 @@ impl<'a, K: EntityRef, V: Copy> Model for SecondaryIter<'a, K, V> {
     ghost view = { λ it. it.items };
 }
 
-impl<'a, K: EntityRef, V: Copy> Iterator for SecondaryIter<'a, K, V> {
+impl<'a, K: EntityRef, V> Iterator for SecondaryIter<'a, K, V> {
     type Item = (K, &'a V);
 
     ghost next_gives = { YieldsFirstBy (λ item. (item.0, item.1.now)) (λ left. left) };

@@ -1,3 +1,5 @@
+pub mod Adding
+pub mod Readiness
 pub mod OneWord
 pub mod Causes
 pub mod Segments

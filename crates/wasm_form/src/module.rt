@@ -1,25 +1,58 @@
 //! Modules (core specification, 5.5.17).
 
-ghost use Rattle.std.specs.Prelude.{◌≡◌, ◌↔◌, ◌^◌, ◌<◌, ◌≤◌, length, IfOk, OnOk, Err};
+ghost use Rattle.std.specs.Prelude.{◌≡◌, ◌↔◌, ◌^◌, ◌<◌, ◌≤◌, length, map, IfOk, Err};
 ghost use Rattle.wasm_spec.specs.declared.operators.What.{What};
 ghost use Rattle.wasm_spec.specs.Module.{Module};
 ghost use Rattle.wasm_spec.specs.Grammar.{Spells, Stops};
 ghost use Rattle.wasm_spec.specs.Rules.{HasFewEntries};
-ghost use Rattle.wasm_form.specs.Views.{module_of, ReadsAs};
+ghost use Rattle.wasm_form.specs.Views.{module_of, payload_of, ReadsAs};
+ghost use Rattle.wasm_form.specs.Reading.{Gives};
+ghost use Rattle.wasm_form.specs.ReadingRows.{is_component as spec_is_component, module_at};
 
 use crate::error::ReadError;
-use crate::form::Form;
+use crate::form::{Form, Payload};
+use crate::sections::sections;
 use std::alloc::Global;
+use wasm_spec::What;
 
 /// Input of this many bytes, 2^30, and of more is too large.
 pub const MAX_MODULE_SIZE: usize = 1073741824;
+
+/// The first bytes of modules and components.
+const MAGIC: [u8; 4] = [0x00, 0x61, 0x73, 0x6D];
+
+/// Those bytes, and the version of modules.
+const HEADER: [u8; 8] = [0x00, 0x61, 0x73, 0x6D, 0x01, 0x00, 0x00, 0x00];
+
+/// The end of a component's version.
+const COMPONENT_LAYER: [u8; 2] = [0x01, 0x00];
+
+/// Whether the bytes begin as those of a component, whatever its version.
+fn is_component(bytes: &[u8]) -> bool
+    ensures { result ≡ spec_is_component bytes.now }
+{
+    bytes.starts_with(&MAGIC) && bytes.len() > 6 && bytes[6..].starts_with(&COMPONENT_LAYER)
+}
+
+/// The sections behind the header.
+#[tactic(auto, unfolding(crate::specs::ReadingRows::module_at))]
+fn payloads<'d>(alloc: Global, bytes: &'d [u8]) -> Result<Vec<Payload<'d>>, ReadError>
+    ensures { Gives (λ x. map payload_of x.items) result (module_at bytes.now) }
+{
+    if bytes.starts_with(&HEADER) {
+        return sections(alloc, &bytes[8..]);
+    }
+    if is_component(bytes) {
+        return Err(ReadError::Unsupported(What::Component));
+    }
+    Err(ReadError::Malformed)
+}
 
 /// The module that the bytes spell.
 ///
 /// # Errors
 /// `TooLarge` exactly for 2^30 bytes or more; `Unsupported` where reading comes to a spelling that is not taken; `Malformed` where no
 /// module is spelled and reading comes to no such spelling.
-#[tactic(auto, using(crate::proofs::Entries::few_entries))]
 pub fn read_module<'d>(alloc: Global, bytes: &'d [u8]) -> Result<Form<'d>, ReadError>
     // What is read is spelled so.
     ensures read { IfOk result (λ form. Spells bytes.now (module_of form)) }
@@ -33,9 +66,12 @@ pub fn read_module<'d>(alloc: Global, bytes: &'d [u8]) -> Result<Form<'d>, ReadE
     ensures malformed { result ≡ Err ReadError.Malformed → (m : Module) → ¬ Spells bytes.now m }
     ensures stops_nowhere { result ≡ Err ReadError.Malformed → (what : What) → ¬ Stops bytes.now what }
 {
-    let _ = alloc;
     if bytes.len() >= MAX_MODULE_SIZE {
         return Err(ReadError::TooLarge);
     }
-    Err(ReadError::OutOfMemory)
+    let payloads = payloads(alloc, bytes)?;
+    Ok(Form {
+        wasm: bytes,
+        payloads,
+    })
 }

@@ -4,6 +4,8 @@
 mod index;
 mod shared;
 mod spaces;
+#[cfg(test)]
+mod tests;
 
 pub use index::Index;
 pub use spaces::{

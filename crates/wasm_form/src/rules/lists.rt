@@ -25,7 +25,7 @@ fn memories_of<'a>(payload: &'a Payload<'_>) -> &'a [MemoryType]
 {
     match payload {
         Payload::Memories(types) => types.as_slice(),
-        Payload::Segments(_) | Payload::Custom(_) => &[],
+        _ => &[],
     }
 }
 
@@ -35,6 +35,6 @@ pub(super) fn segments_of<'a, 'd>(payload: &'a Payload<'d>) -> &'a [DataSegment<
 {
     match payload {
         Payload::Segments(segments) => segments.as_slice(),
-        Payload::Memories(_) | Payload::Custom(_) => &[],
+        _ => &[],
     }
 }

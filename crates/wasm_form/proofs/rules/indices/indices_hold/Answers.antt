@@ -1,7 +1,7 @@
 use Rattle.std.proofs.Common.{rules}
 use Rattle.wasm_spec.specs.Module.{Segment}
 use Rattle.wasm_spec.specs.Rules.{NamesMemory}
-use Rattle.wasm_form.proofs.Sections.{tells_of_segments}
+use Rattle.wasm_form.proofs.AllSegments.{tells_of_segments}
 use Rattle.wasm_form.proofs.rules.indices.indices_hold.Goals as goal
 
 pub returns : goal.returns

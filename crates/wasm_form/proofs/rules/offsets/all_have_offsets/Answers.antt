@@ -2,7 +2,7 @@ use Rattle.std.proofs.Common.{rules}
 use Rattle.wasm_spec.specs.Module.{Segment}
 use Rattle.wasm_spec.specs.Rules.{HasOffset}
 use Rattle.wasm_form.specs.Views.{segment_of}
-use Rattle.wasm_form.proofs.Sections.{tells_of_map}
+use Rattle.wasm_form.proofs.AllSegments.{tells_of_map}
 use Rattle.wasm_form.proofs.rules.offsets.all_have_offsets.Goals as goal
 
 pub returns : goal.returns

@@ -1,0 +1,137 @@
+//! Texts of plans that are made by hand, and the line of each refusal.
+
+ghost use Rattle.std.specs.Prelude.{◌≤◌, length};
+
+use crate::{Plan, TranslateError, plan_text, refusal_line};
+use entity_map::{EntityRef, OutOfMemory, PrimaryMap};
+use init_plan::{MemoryInit, MemoryInitialization, MemorySegmentOffset, ModuleTranslation};
+use std::alloc::Global;
+use std::test::Fail;
+use wasm_form::{Rule, What};
+use wasm_index::{DataIndex, MemoryIndex, StaticModuleIndex};
+use wasm_types::{ConstExpr, ConstOp, IndexType, Limits, Memory};
+
+const PAGE: Memory = Memory {
+    idx_type: IndexType::I32,
+    limits: Limits { min: 1, max: None },
+    shared: false,
+    page_size_log2: 16,
+};
+
+const TWO_SEGMENTS: &str = "\
+memories 0 1
+memory-init segmented
+segment 0 0 at i32.const 16
+segment 0 1 at i32.const 17
+runtime 0 0 3
+runtime 1 3 4
+";
+
+const WITH_IMAGES: &str = "\
+memories 1 1
+memory-init static
+segment 1 0 at i64.const -1
+segment 0 0 at static 1048576
+passive-data 2 1
+runtime 0 0 12
+runtime 1 12 20
+";
+
+fn text_of(alloc: Global, translation: ModuleTranslation<'static>) -> Result<String, Fail>
+    requires { translation.module.num_imported_memories ≤ length translation.module.memories }
+{
+    let text = plan_text(alloc, &Plan { translation })?;
+    Ok(String::from_utf8(text)?)
+}
+
+fn at(alloc: Global, constant: ConstOp) -> Result<MemorySegmentOffset, OutOfMemory> {
+    Ok(MemorySegmentOffset::Expr(ConstExpr::new(alloc, &[constant])?))
+}
+
+#[test]
+fn the_empty_plan_has_two_lines(rt: HostRuntime) -> Result<(), Fail> {
+    let alloc = rt.alloc();
+    let translation = ModuleTranslation::new(alloc, StaticModuleIndex::new(0))?;
+    let text = text_of(alloc, translation)?;
+    assert_eq!(rt; text.as_str(), "memories 0 0\nmemory-init segmented\n");
+    Ok(())
+}
+
+#[test]
+fn segments_stand_in_order_before_their_ranges(rt: HostRuntime) -> Result<(), Fail> {
+    let alloc = rt.alloc();
+    let memory = MemoryIndex::new(0);
+    let mut translation = ModuleTranslation::new(alloc, StaticModuleIndex::new(0))?;
+    translation.module.memories.push(PAGE)?;
+    let first = translation.module.runtime_data.push(0..3)?;
+    let second = translation.module.runtime_data.push(3..4)?;
+    translation.memory_init = MemoryInit::Processed(vec![in alloc;
+        (memory, at(alloc, ConstOp::I32Const(16))?, first),
+        (memory, at(alloc, ConstOp::I32Const(17))?, second),
+    ]?);
+    let text = text_of(alloc, translation)?;
+    assert_eq!(rt; text.as_str(), TWO_SEGMENTS);
+    Ok(())
+}
+
+#[test]
+fn images_wide_constants_and_passive_data(rt: HostRuntime) -> Result<(), Fail> {
+    let alloc = rt.alloc();
+    let (imported, defined) = (MemoryIndex::new(0), MemoryIndex::new(1));
+    let mut translation = ModuleTranslation::new(alloc, StaticModuleIndex::new(0))?;
+    let module = &mut translation.module;
+    module.num_imported_memories = 1;
+    module.memories.push(PAGE)?;
+    module.memories.push(PAGE)?;
+    module.memory_initialization = MemoryInitialization::Static {
+        map: PrimaryMap::new(alloc),
+    };
+    let first = module.runtime_data.push(0..12)?;
+    let second = module.runtime_data.push(12..20)?;
+    translation.memory_init = MemoryInit::Processed(vec![in alloc;
+        (defined, at(alloc, ConstOp::I64Const(-1))?, first),
+        (imported, MemorySegmentOffset::Static(1048576), first),
+    ]?);
+    let passive = DataIndex::new(2);
+    translation.runtime_data_map.insert(passive, Some(second))?;
+    let text = text_of(alloc, translation)?;
+    assert_eq!(rt; text.as_str(), WITH_IMAGES);
+    Ok(())
+}
+
+#[test]
+fn each_refusal_has_its_line(rt: HostRuntime) {
+    for (rule, line) in [
+        (Rule::L1, "refused invalid L1\n"),
+        (Rule::L2, "refused invalid L2\n"),
+        (Rule::L3, "refused invalid L3\n"),
+        (Rule::L4, "refused invalid L4\n"),
+        (Rule::L5, "refused invalid L5\n"),
+        (Rule::L6, "refused invalid L6\n"),
+        (Rule::L7, "refused invalid L7\n"),
+        (Rule::L8, "refused invalid L8\n"),
+        (Rule::L9, "refused invalid L9\n"),
+        (Rule::L10, "refused invalid L10\n"),
+    ] {
+        assert_eq!(rt; refusal_line(&TranslateError::Invalid(rule)), line);
+    }
+    for (what, line) in [
+        (What::Component, "refused unsupported component\n"),
+        (What::Section, "refused unsupported section\n"),
+        (What::Operator, "refused unsupported operator\n"),
+    ] {
+        assert_eq!(rt; refusal_line(&TranslateError::Unsupported(what)), line);
+    }
+    assert_eq!(rt;
+        refusal_line(&TranslateError::Malformed),
+        "refused malformed\n"
+    );
+    assert_eq!(rt;
+        refusal_line(&TranslateError::TooLarge),
+        "refused too large\n"
+    );
+    assert_eq!(rt;
+        refusal_line(&TranslateError::OffsetOverflow),
+        "refused offset overflow\n"
+    );
+}

@@ -1,0 +1,37 @@
+//! Worked examples of the definitions: each clause computes.
+
+ghost use Rattle.std.specs.Prelude.{◌≡◌, [], ◌∷◌, Some, None, pos, negsuc, codes};
+ghost use Rattle.wasm_index.specs.Index.{index_of};
+ghost use Rattle.plan_text.specs.PlanText.{memories_line, operator_text, expression_text, segment_line, passive_line, runtime_line};
+ghost use Rattle.plan_text.specs.Refusals.{text_of_refusal};
+
+use crate::error::TranslateError;
+use init_plan::MemorySegmentOffset;
+use wasm_form::{Rule, What};
+use wasm_types::ConstOp;
+
+/// Constants are signed, and operators are joined by a semicolon and a space.
+pub fn worked_expressions()
+    ensures minus_one { operator_text (ConstOp.I32Const (negsuc 0)) ≡ codes "i32.const -1" }
+    ensures wide { operator_text (ConstOp.I64Const (pos 20)) ≡ codes "i64.const 20" }
+    ensures two { expression_text (ConstOp.I32Const (pos 1) ∷ ConstOp.I64Const (negsuc 1) ∷ [])
+        ≡ codes "i32.const 1; i64.const -2" }
+{}
+
+/// A line of each kind.
+pub fn worked_lines()
+    ensures one_defined { memories_line 0 1 ≡ codes "memories 0 1\n" }
+    ensures one_imported { memories_line 1 3 ≡ codes "memories 1 2\n" }
+    ensures second_segment { segment_line 0 1 (MemorySegmentOffset.Expr (ConstOp.I32Const (pos 17) ∷ []))
+        ≡ codes "segment 0 1 at i32.const 17\n" }
+    ensures at_a_place { segment_line 1 0 (MemorySegmentOffset.Static 65536) ≡ codes "segment 1 0 at static 65536\n" }
+    ensures passive { passive_line 2 (Some (index_of 3)) ≡ codes "passive-data 2 3\n" }
+    ensures not_passive { passive_line 2 None ≡ [] }
+    ensures second_range { runtime_line 1 (3, 4) ≡ codes "runtime 1 3 4\n" }
+{}
+
+/// Refusals name the rule that is broken, or what is not taken.
+pub fn worked_refusals()
+    ensures memory_rule { text_of_refusal (TranslateError.Invalid Rule.L4) ≡ codes "refused invalid L4\n" }
+    ensures component { text_of_refusal (TranslateError.Unsupported What.Component) ≡ codes "refused unsupported component\n" }
+{}

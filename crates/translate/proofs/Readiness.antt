@@ -1,0 +1,159 @@
+-- A filled translation holds the lists of its module, and is ready to be planned.
+use Rattle.std.proofs.Common.{◌≡◌, ℕ, ◌+◌, ◌<◌, ◌≤◌, ◌^◌, ◌⊎◌, List, [], ◌∷◌, ◌++◌, length, map, Option, Some, None, false, refl, sym, ap, subst, ◌∙◌, arith, inl, inr, get_or, Bor}
+use Rattle.std.specs.Prelude.{All, IfSome, slice_get, unwrap_or, nat_eq}
+use Rattle.std.specs.List.{IsDistinct, cons_option}
+use Rattle.std.proofs.lemmas.Bool.{ne_eqb}
+use Rattle.std.proofs.lemmas.List.{length-map}
+use Rattle.std.proofs.lemmas.List.Elements.{All-nil, All-cons, All-head, All-tail, All-map, All-weaker, recursion_from_All}
+use Rattle.std.proofs.lemmas.Map.Keys.{IsDistinct-cons}
+use Rattle.std.proofs.lemmas.Option.{slice_get_cases}
+use Rattle.wasm_spec.specs.declared.entities.MemoryType.{MemoryType}
+use Rattle.wasm_spec.specs.declared.rules.Rule.TheVariants.{L4, L6, L9}
+use Rattle.wasm_spec.specs.Module.{Expression, DataKind, Passive, Active, Segment, Module, memories, segments}
+use Rattle.wasm_spec.specs.Rules.{HasLimits, Class, class_of, HasClass, address_class, HasOffset, NamesMemory, HasFewEntries, Keeps}
+use Rattle.wasm_types.specs.declared.memory.Memory.{Memory}
+use Rattle.wasm_types.specs.Memories.{memory_of, HasPageSize}
+use Rattle.replay_spec.specs.Data.{ActiveSegment, active_of_kind}
+use Rattle.init_plan.specs.declared.module.Module.{Module as ModuleRecord}
+use Rattle.init_plan.specs.declared.translation.MemoryInit.TheVariants.{Unprocessed}
+use Rattle.init_plan.specs.Views.{passive_data_of, IsSegmented}
+use Rattle.translate.specs.declared.fill.Filling.{Filling}
+use Rattle.translate.specs.Filled.{passive_of_kind, passive_from, Fills, active_so_far, IsEmpty, active_among, CanBeAdded, CanAdd}
+use Rattle.translate.proofs.Adding.{AddsModule}
+
+-- ---- what the rules say of a data segment
+
+-- what has the class of one value is one operator
+one_operator : (ops : Expression) (c : Class) → HasClass ops c → length ops ≡ 1
+one_operator ops c is = sym (length-map ops class_of) ∙ ap length is
+
+CanBeAdded-from_rules : (types : List MemoryType) (kind : DataKind) → length types < 2 ^ 30 → NamesMemory types kind → HasOffset types kind → CanBeAdded kind
+CanBeAdded-from_rules types Passive few named offset = tt
+CanBeAdded-from_rules types (Active memory ops) few named offset = (omega arith, by_memory (slice_get_cases types memory).1) where
+  by_memory : ((t : MemoryType) × (memory < length types) × (slice_get types memory ≡ Some t) × (get_or types memory t ≡ t)) ⊎ ((length types ≤ memory) × (slice_get types memory ≡ None)) → length ops ≡ 1
+  by_memory (inl found) = one_operator ops (address_class found.0) (subst (λ (o : Option MemoryType). IfSome o (λ t. HasClass ops (address_class t))) found.2 offset)
+  by_memory (inr past) = absurd (omega arith)
+
+-- ---- active segments
+
+active_in_range : (n : ℕ) (types : List MemoryType) (ss : List Segment) → length types ≡ n → All (λ (s : Segment). NamesMemory types s.kind) ss → All (λ (s : ActiveSegment). s.memory < n) (active_among ss)
+active_in_range n types [] is named = All-nil (λ (s : ActiveSegment). s.memory < n)
+active_in_range n types (s ∷ ss) is named =
+    with_kind s.kind (All-head (λ (x : Segment). NamesMemory types x.kind) s ss named) (active_in_range n types ss is (All-tail (λ (x : Segment). NamesMemory types x.kind) s ss named)) where
+      with_kind : (kind : DataKind) → NamesMemory types kind → All (λ (x : ActiveSegment). x.memory < n) (active_among ss) → All (λ (x : ActiveSegment). x.memory < n) (cons_option (active_of_kind kind s.bytes) (active_among ss))
+      with_kind Passive named others = others
+      with_kind (Active memory offset) named others = All-cons (λ (x : ActiveSegment). x.memory < n) _ (active_among ss) (omega arith) others
+
+few_active : (ss : List Segment) → length (active_among ss) ≤ length ss
+few_active [] = omega arith
+few_active (s ∷ ss) = with_kind s.kind (few_active ss) where
+  with_kind : (kind : DataKind) → length (active_among ss) ≤ length ss → length (cons_option (active_of_kind kind s.bytes) (active_among ss)) ≤ length (s ∷ ss)
+  with_kind Passive few = omega arith
+  with_kind (Active memory offset) few = omega arith
+
+-- ---- passive segments
+
+few_passive : (n : ℕ) (ss : List Segment) → length (passive_from n ss) ≤ length ss
+few_passive n [] = omega arith
+few_passive n (s ∷ ss) = with_kind s.kind (few_passive (n + 1) ss) where
+  with_kind : (kind : DataKind) → length (passive_from (n + 1) ss) ≤ length ss → length (passive_of_kind kind n s.bytes ++ passive_from (n + 1) ss) ≤ length (s ∷ ss)
+  with_kind Passive few = omega arith
+  with_kind (Active memory offset) few = omega arith
+
+-- an index from low on and below high
+abbrev IsWithin : ℕ → ℕ → ℕ × List ℕ → Type 0
+IsWithin low high p = (low ≤ p.0) × (p.0 < high)
+
+passive_within : (low high n : ℕ) (ss : List Segment) → low ≤ n → n + length ss ≤ high → All (IsWithin low high) (passive_from n ss)
+passive_within low high n [] from to = All-nil (IsWithin low high)
+passive_within low high n (s ∷ ss) from to = with_kind s.kind (passive_within low high (n + 1) ss (omega arith) (omega arith)) where
+  with_kind : (kind : DataKind) → All (IsWithin low high) (passive_from (n + 1) ss) → All (IsWithin low high) (passive_of_kind kind n s.bytes ++ passive_from (n + 1) ss)
+  with_kind Passive others = All-cons (IsWithin low high) (n, s.bytes) (passive_from (n + 1) ss) (omega arith, omega arith) others
+  with_kind (Active memory offset) others = others
+
+passive_distinct : (n : ℕ) (ss : List Segment) → IsDistinct nat_eq (map (λ p. p.0) (passive_from n ss))
+unfolding IsDistinct
+passive_distinct n [] = tt
+passive_distinct n (s ∷ ss) = with_kind s.kind (passive_distinct (n + 1) ss) where
+  others_differ : (p : ℕ × List ℕ) → IsWithin (n + 1) (n + 1 + length ss) p → nat_eq n p.0 ≡ false
+  others_differ p within = ne_eqb n p.0 (λ e. omega arith)
+
+  with_kind : (kind : DataKind) → IsDistinct nat_eq (map (λ p. p.0) (passive_from (n + 1) ss)) → IsDistinct nat_eq (map (λ p. p.0) (passive_of_kind kind n s.bytes ++ passive_from (n + 1) ss))
+  with_kind Passive others =
+      let within = passive_within (n + 1) (n + 1 + length ss) (n + 1) ss (omega arith) (omega arith) in
+      let differ = All-weaker (IsWithin (n + 1) (n + 1 + length ss)) (λ (p : ℕ × List ℕ). nat_eq n p.0 ≡ false) others_differ (passive_from (n + 1) ss) within in
+      IsDistinct-cons nat_eq n _ (recursion_from_All (λ (k : ℕ). nat_eq n k ≡ false) _ (All-map (λ (k : ℕ). nat_eq n k ≡ false) (λ (p : ℕ × List ℕ). p.0) (passive_from (n + 1) ss) differ)) others
+  with_kind (Active memory offset) others = others
+
+-- ---- memories
+
+page_size_of : (o : Option ℕ) → IfSome o (λ log2. (log2 ≡ 0) ⊎ (log2 ≡ 16)) → (unwrap_or o 16 ≡ 0) ⊎ (unwrap_or o 16 ≡ 16)
+page_size_of None h = inr refl
+page_size_of (Some log2) h = h
+
+page_sizes : (types : List MemoryType) → All HasPageSize types → All (λ (m : Memory). (m.page_size_log2 ≡ 0) ⊎ (m.page_size_log2 ≡ 16)) (map memory_of types)
+page_sizes types h =
+    All-map (λ (m : Memory). (m.page_size_log2 ≡ 0) ⊎ (m.page_size_log2 ≡ 16)) memory_of types
+    (All-weaker HasPageSize (λ (t : MemoryType). (unwrap_or t.page_size_log2 16 ≡ 0) ⊎ (unwrap_or t.page_size_log2 16 ≡ 16)) (λ t p. page_size_of t.page_size_log2 p) types h)
+
+-- ---- the whole
+
+module _ (m : Module) (kept : Keeps m) (few : HasFewEntries m) where
+  has_page_sizes : All HasPageSize (memories m)
+  has_page_sizes = All-weaker HasLimits HasPageSize (λ t limits. limits.page_size) (memories m) (kept L4)
+
+  -- what the module declares can be added to an empty filling
+  pub CanAdd-all : (start : Filling) → IsEmpty start → CanAdd start (memories m) (segments m)
+  CanAdd-all start empty =
+      let none = ap length empty.is_new.no_memories in
+      record {
+        few_memories = omega (arith, none, few.memories);
+        page_sizes = has_page_sizes;
+        few_segments = omega (arith, empty.from_zero, few.segments);
+        segments = λ k d lt. CanBeAdded-from_rules (memories m) _ few.memories (kept L9 k d lt) (kept L6 k d lt);
+      }
+
+  -- an empty filling to which all is added
+  module _ (start done : Filling) (empty : IsEmpty start) (added : AddsModule start done m) where
+    memories_same : done.translation.module.memories ≡ map memory_of (memories m)
+    memories_same = added.memories ∙ ap (λ (ms : List Memory). ms ++ map memory_of (memories m)) empty.is_new.no_memories
+
+    active_same : active_so_far done ≡ active_among (segments m)
+    active_same = added.active ∙ ap (λ (ss : List ActiveSegment). ss ++ active_among (segments m)) empty.no_active
+
+    passive_same : passive_data_of done.translation ≡ passive_from 0 (segments m)
+    passive_same =
+        added.passive ∙ ap (λ (n : ℕ). passive_data_of start.translation ++ passive_from n (segments m)) empty.from_zero
+        ∙ ap (λ (ps : List (ℕ × List ℕ)). ps ++ passive_from 0 (segments m)) empty.is_new.no_passive
+
+    memory_count : length done.translation.module.memories ≡ length (memories m)
+    memory_count = ap length memories_same ∙ length-map (memories m) memory_of
+
+    no_imports : done.translation.module.num_imported_memories ≡ 0
+    no_imports = ap (λ (x : ModuleRecord). x.num_imported_memories) added.same.record_of_module ∙ empty.is_new.no_imports
+
+    -- the translation that is made of it is that of the module
+    pub Fills-all : (wasm : Bor (List ℕ)) → Fills wasm.now m (record done.translation { wasm = wasm; memory_init = Unprocessed done.active })
+    Fills-all wasm = record {
+      ready = record {
+        unprocessed = tt;
+        segmented = subst (λ (x : ModuleRecord). IsSegmented x.memory_initialization) (sym added.same.record_of_module) empty.is_new.segmented;
+        no_ranges = ap (λ (x : ModuleRecord). x.runtime_data) added.same.record_of_module ∙ empty.is_new.no_ranges;
+        no_runtime = added.same.runtime ∙ empty.is_new.no_runtime;
+        nothing_found = added.same.found ∙ empty.is_new.nothing_found;
+        imports = omega (arith, no_imports);
+        few_memories = omega (arith, memory_count, few.memories);
+        page_sizes = subst (All (λ (x : Memory). (x.page_size_log2 ≡ 0) ⊎ (x.page_size_log2 ≡ 16))) (sym memories_same) (page_sizes (memories m) has_page_sizes);
+        few_segments = let count = ap length active_same in let le = few_active (segments m) in omega (arith, count, le, few.segments);
+        in_range = subst (All (λ (s : ActiveSegment). s.memory < length done.translation.module.memories)) (sym active_same) (active_in_range _ (memories m) (segments m) (sym memory_count) (kept L9));
+        few_passive = let count = ap length passive_same in let le = few_passive 0 (segments m) in omega (arith, count, le, few.segments);
+        distinct = subst (λ (ps : List (ℕ × List ℕ)). IsDistinct nat_eq (map (λ p. p.0) ps)) (sym passive_same) (passive_distinct 0 (segments m));
+        numbered = subst (All (λ (p : ℕ × List ℕ). p.0 < 4294967295)) (sym passive_same)
+            (All-weaker (IsWithin 0 4294967295) (λ (p : ℕ × List ℕ). p.0 < 4294967295) (λ p within. within.1) (passive_from 0 (segments m)) (passive_within 0 4294967295 0 (segments m) (omega arith) (omega (arith, few.segments))));
+      };
+      memories = memories_same;
+      imports = no_imports;
+      active = active_same;
+      passive = passive_same;
+      wasm = refl;
+    }

@@ -1,0 +1,53 @@
+//! Modules as bytes, their texts, and a run over memory.
+
+use devices::{ListSink, OutOfMemory, SliceSource};
+use std::alloc::{AllocError, Global};
+use translate::run;
+
+/// The header of a module.
+pub const HEADER: [u8; 8] = [0x00, 0x61, 0x73, 0x6D, 0x01, 0x00, 0x00, 0x00];
+
+/// A memory of one page and two data segments, the second of which covers a byte of the first.
+pub const OVERLAP: [u8; 30] = [
+    0x00, 0x61, 0x73, 0x6D, 0x01, 0x00, 0x00, 0x00, 0x05, 0x03, 0x01, 0x00, 0x01, 0x0B, 0x0F, 0x02,
+    0x00, 0x41, 0x10, 0x0B, 0x03, 0x01, 0x02, 0x03, 0x00, 0x41, 0x11, 0x0B, 0x01, 0x09,
+];
+
+pub const OVERLAP_TEXT: &str = "memories 0 1
+memory-init segmented
+segment 0 0 at i32.const 16
+segment 0 1 at i32.const 17
+runtime 0 0 3
+runtime 1 3 4
+";
+
+pub const EMPTY_TEXT: &str = "memories 0 0
+memory-init segmented
+";
+
+/// The list of these words.
+pub fn words_of(alloc: Global, words: &[&str]) -> Result<Vec<String>, OutOfMemory> {
+    let mut list = Vec::new(alloc);
+    for word in words {
+        list.push(String::from_str(alloc, word)?)
+            .map_err(AllocError::from)?;
+    }
+    Ok(list)
+}
+
+/// The status of a run of the words over bytes in memory, and what it writes.
+pub fn run_over(alloc: Global, words: &[&str], bytes: &[u8]) -> Result<(u8, Vec<u8>), OutOfMemory> {
+    let words = words_of(alloc, words)?;
+    let mut source = SliceSource::new(bytes);
+    let mut store = Vec::new(alloc);
+    let mut sink = ListSink::new(alloc, 4096, 4096, &[])?;
+    let status = run(alloc, words.as_slice(), &mut source, &mut store, &mut sink).status;
+    Ok((status, Vec::from_slice(alloc, sink.held())?))
+}
+
+/// The header and what follows it.
+pub fn after_header(alloc: Global, sections: &[u8]) -> Result<Vec<u8>, OutOfMemory> {
+    let mut bytes = Vec::from_slice(alloc, &HEADER)?;
+    bytes.extend_from_slice(sections)?;
+    Ok(bytes)
+}

@@ -1,0 +1,141 @@
+-- Reading of numbers, and of what they count, agrees with the grammar.
+use Rattle.std.proofs.Common.{◌≡◌, ℕ, zero, suc, ◌-◌, ◌^◌, ◌<◌, ◌≤◌, List, [], ◌∷◌, ◌++◌, length, Option, Some, None, Result, Ok, Err, Bool, true, false, cond, ltb, refl, sym, ap, subst, ◌∙◌, arith}
+use lib.Dec.{T}
+use lib.Signed.{le_z_yes, lt_z_yes}
+use Rattle.std.specs.Prelude.{ℤ, pos, neg_ℤ, int_le, int_lt, ◌&&◌}
+use Rattle.std.specs.Option.{option_map}
+use Rattle.std.proofs.lemmas.Bool.{lt-ltb, le-ltb, ltb-true, ltb-false}
+use Rattle.wasm_spec.specs.declared.operators.What.{What}
+use Rattle.wasm_spec.specs.Numbers.{EndsOnce, sevens, signed_sum, most_bytes, SpellsUnsigned, SpellsSigned}
+use Rattle.wasm_spec.specs.Parts as part
+use Rattle.wasm_spec.specs.Parts.{Part}
+use Rattle.wasm_form.specs.Reading.{Fault, Bad, Stops, Reader, Filler, and_then, raw_bytes_at}
+use Rattle.wasm_form.specs.ReadingNumbers.{Found, number_bytes, found_as, found_at, unsigned_from, unsigned_at, signed_of, signed_from, signed_at, vector_at, counted_bytes_at, sized_at}
+use Rattle.wasm_form.proofs.Agrees.{Agrees, Fills, ok, err, test_ok, test_not_stops, bad_not_stops, same_agrees, filled_at, raw_bytes_agree, then_agrees, elements_agree, filled_agrees}
+
+-- ---- the bytes of a number
+
+-- the parts of a number that was found
+pub record IsNumber (most : ℕ) (bytes : List ℕ) (p : List ℕ × List ℕ) : Type 0 where
+  pub parts : bytes ≡ p.0 ++ p.1
+  pub form : EndsOnce p.0
+  pub short : length p.0 ≤ most
+
+more_number : (k b : ℕ) (bs : List ℕ) (q : List ℕ × List ℕ) → 128 ≤ b → IsNumber k bs q → IsNumber (suc k) (b ∷ bs) (b ∷ q.0, q.1)
+more_number k b bs q h n = record { parts = ap (λ (l : List ℕ). b ∷ l) n.parts; form = longer q.0 n.form; short = omega (arith, n.short) } where
+  longer : (l : List ℕ) → EndsOnce l → EndsOnce (b ∷ l)
+  longer [] e = absurd e
+  longer (c ∷ cs) e = (h, e)
+
+some_is : (x y : List ℕ × List ℕ) → Some x ≡ Some y → x ≡ y
+some_is x y g = cc
+
+number_found : (k : ℕ) (bytes : List ℕ) (p : List ℕ × List ℕ) → number_bytes k bytes ≡ Some p → IsNumber k bytes p
+number_found zero bytes p e = absurd cc
+number_found (suc k) [] p e = absurd cc
+number_found (suc k) (b ∷ bs) p e = by_test (λ q n. number_found k bs q n) (ltb b 128) refl where
+  prefix : ((q : List ℕ × List ℕ) → number_bytes k bs ≡ Some q → IsNumber k bs q) → (o : Option (List ℕ × List ℕ)) → number_bytes k bs ≡ o → 128 ≤ b → option_map (λ q. (b ∷ q.0, q.1)) o ≡ Some p → IsNumber (suc k) (b ∷ bs) p
+  prefix ih None n h f = absurd cc
+  prefix ih (Some q) n h f = subst (IsNumber (suc k) (b ∷ bs)) (some_is (b ∷ q.0, q.1) p f) (more_number k b bs q h (ih q n))
+
+  by_test : ((q : List ℕ × List ℕ) → number_bytes k bs ≡ Some q → IsNumber k bs q) → (t : Bool) → ltb b 128 ≡ t → IsNumber (suc k) (b ∷ bs) p
+  by_test ih true t =
+      let f = rw t at e in
+      subst (IsNumber (suc k) (b ∷ bs)) (some_is (b ∷ [], bs) p f) (record { parts = refl; form = ltb-true b 128 t; short = omega arith })
+  by_test ih false t = prefix ih (number_bytes k bs) refl (ltb-false b 128 t) (rw t at e)
+
+number_again : (k : ℕ) (front rest : List ℕ) → EndsOnce front → length front ≤ k → number_bytes k (front ++ rest) ≡ Some (front, rest)
+number_again k [] rest e l = absurd e
+number_again zero (b ∷ bs) rest e l = absurd (omega arith)
+number_again (suc k) (b ∷ []) rest e l = rw (lt-ltb b 128 e) refl
+number_again (suc k) (b ∷ c ∷ bs) rest e l = rw (le-ltb b 128 e.0, number_again k (c ∷ bs) rest e.1 (omega arith)) refl
+
+-- ---- unsigned numbers
+
+module _ (k : ℕ) where
+  unsigned_fits : (bytes : List ℕ) (x : ℕ) (rest : List ℕ) (o : Option (List ℕ × List ℕ)) → number_bytes (most_bytes k) bytes ≡ o
+      → unsigned_from k (option_map found_as o) ≡ Ok (x, rest) → (front : List ℕ) × (bytes ≡ front ++ rest) × SpellsUnsigned k front x
+  unsigned_fits bytes x rest None n e = absurd cc
+  unsigned_fits bytes x rest (Some p) n e =
+      let is = number_found (most_bytes k) bytes p n in
+      let g = test_ok (ltb (sevens p.0) (2 ^ k)) (sevens p.0, p.1) (x, rest) e in
+      let v : sevens p.0 ≡ x = ap (λ (q : ℕ × List ℕ). q.0) g.1 in
+      let r : p.1 ≡ rest = ap (λ (q : ℕ × List ℕ). q.1) g.1 in
+      (p.0, is.parts ∙ ap (λ (l : List ℕ). p.0 ++ l) r, record { form = is.form; short = is.short; value = sym v; fits = rw (← v) (ltb-true _ _ g.0) })
+
+  unsigned_never : (o : Option (List ℕ × List ℕ)) (what : What) → unsigned_from k (option_map found_as o) ≡ Err (Stops what) → ⊥
+  unsigned_never None what e = bad_not_stops what e
+  unsigned_never (Some p) what e = test_not_stops (ltb (sevens p.0) (2 ^ k)) (sevens p.0, p.1) what e
+
+  pub unsigned_agrees : Agrees (unsigned_at k) (part.unsigned k)
+  unfolding unsigned_at found_at
+  unsigned_agrees = record {
+    found = λ bytes x rest e. unsigned_fits bytes x rest (number_bytes (most_bytes k) bytes) refl e;
+    again = λ front x rest s.
+        let t : ltb (sevens front) (2 ^ k) ≡ true = lt-ltb _ _ (rw (← s.value) s.fits) in
+        rw (number_again (most_bytes k) front rest s.form s.short, t, s.value) refl;
+    stopped = λ bytes what e. unsigned_never (number_bytes (most_bytes k) bytes) what e;
+    stops_again = λ bytes what s. absurd s;
+  }
+
+-- ---- signed numbers
+
+both_true : (a b : Bool) → (a && b) ≡ true → T a × T b
+both_true true true e = (tt, tt)
+both_true true false e = absurd cc
+both_true false b e = absurd cc
+
+both : (a b : Bool) → T a → T b → (a && b) ≡ true
+both true true l h = refl
+both true false l h = absurd h
+both false b l h = absurd l
+
+module _ (k : ℕ) where
+  abbrev in_range : ℤ → Bool
+  in_range z = int_le (neg_ℤ (pos (2 ^ (k - 1)))) z && int_lt z (pos (2 ^ (k - 1)))
+
+  signed_fits : (bytes : List ℕ) (x : ℤ) (rest : List ℕ) (o : Option (List ℕ × List ℕ)) → number_bytes (most_bytes k) bytes ≡ o
+      → signed_from k (option_map found_as o) ≡ Ok (x, rest) → (front : List ℕ) × (bytes ≡ front ++ rest) × SpellsSigned k front x
+  signed_fits bytes x rest None n e = absurd cc
+  signed_fits bytes x rest (Some p) n e =
+      let is = number_found (most_bytes k) bytes p n in
+      let g = test_ok (in_range (signed_sum p.0)) (signed_sum p.0, p.1) (x, rest) e in
+      let t = both_true _ _ g.0 in
+      let v : signed_sum p.0 ≡ x = ap (λ (q : ℤ × List ℕ). q.0) g.1 in
+      let r : p.1 ≡ rest = ap (λ (q : ℤ × List ℕ). q.1) g.1 in
+      (p.0, is.parts ∙ ap (λ (l : List ℕ). p.0 ++ l) r, record { form = is.form; short = is.short; value = sym v; low = rw (← v) (le_z_yes t.0); high = rw (← v) (lt_z_yes t.1) })
+
+  signed_never : (o : Option (List ℕ × List ℕ)) (what : What) → signed_from k (option_map found_as o) ≡ Err (Stops what) → ⊥
+  signed_never None what e = bad_not_stops what e
+  signed_never (Some p) what e = test_not_stops (in_range (signed_sum p.0)) (signed_sum p.0, p.1) what e
+
+  pub signed_agrees : Agrees (signed_at k) (part.signed k)
+  unfolding signed_at found_at
+  signed_agrees = record {
+    found = λ bytes x rest e. signed_fits bytes x rest (number_bytes (most_bytes k) bytes) refl e;
+    again = λ front x rest s.
+        let t : in_range (signed_sum front) ≡ true = both (int_le (neg_ℤ (pos (2 ^ (k - 1)))) (signed_sum front)) (int_lt (signed_sum front) (pos (2 ^ (k - 1)))) (rw (← s.value) s.low.le) (rw (← s.value) s.high.lt) in
+        rw (number_again (most_bytes k) front rest s.form s.short, t, s.value) refl;
+    stopped = λ bytes what e. signed_never (number_bytes (most_bytes k) bytes) what e;
+    stops_again = λ bytes what s. absurd s;
+  }
+
+-- ---- what a number counts
+
+pub vector_agrees : {A : Type 0} {p : Reader A} {g : Part A} → Agrees p g → Agrees (vector_at p) (part.vector g)
+unfolding vector_at
+vector_agrees a = then_agrees (unsigned_agrees 32) (λ count. elements_agree a count)
+
+pub counted_bytes_agree : Agrees counted_bytes_at part.counted_bytes
+unfolding counted_bytes_at
+counted_bytes_agree = then_agrees (unsigned_agrees 32) (λ count. raw_bytes_agree count)
+
+abbrev filled_by : {A : Type 0} → Filler A → List ℕ × List ℕ → Result (A × List ℕ) Fault
+filled_by p body = and_then (p body.0) (λ x. Ok (x, body.1))
+
+pub sized_agrees : {A : Type 0} {p : Filler A} {g : Part A} → Fills p g → Agrees (sized_at p) (part.sized g)
+unfolding sized_at counted_bytes_at
+sized_agrees {A} {p} a = same_agrees (λ bytes. same (unsigned_at 32 bytes)) (then_agrees (unsigned_agrees 32) (λ size. filled_agrees a size)) where
+  same : (r : Result (ℕ × List ℕ) Fault) → and_then (and_then r (λ n. raw_bytes_at n.0 n.1)) (filled_by p) ≡ and_then r (λ n. filled_at p n.0 n.1)
+  same (Ok n) = refl
+  same (Err fault) = refl

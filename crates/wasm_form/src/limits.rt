@@ -1,0 +1,105 @@
+//! Memory types (core specification, 5.3.14).
+
+ghost use Rattle.std.specs.Prelude.{◌≡◌, ◌<◌, if◌then◌else◌};
+ghost use Rattle.wasm_spec.specs.Grammar.{has_bit};
+ghost use Rattle.wasm_form.specs.Reading.{Gives, optional_at};
+ghost use Rattle.wasm_form.specs.ReadingNumbers.{unsigned_at, vector_at};
+ghost use Rattle.wasm_form.specs.ReadingRows.{memory_type_at, flagged_memory_type_at};
+
+use crate::error::ReadError;
+use crate::numbers::{first_byte, u32_at, u64_at};
+use crate::vectors::vector;
+use std::alloc::Global;
+use wasm_spec::MemoryType;
+
+/// Which bit of the flags says what.
+const HAS_MAXIMUM: u8 = 0;
+
+const IS_SHARED: u8 = 1;
+
+const IS_64: u8 = 2;
+
+const HAS_PAGE_SIZE: u8 = 3;
+
+/// Whether a bit of the flags is set.
+fn is_set(flags: u8, bit: u8) -> bool
+    requires { bit < 8 }
+    ensures { result ≡ has_bit bit flags }
+{
+    (flags >> bit) & 1 == 1
+}
+
+/// A number of 64 bits, or of 32.
+fn address_at(memory64: bool, bytes: &[u8]) -> Result<(u64, &[u8]), ReadError>
+    ensures { Gives (λ x. (x.0, x.1.now)) result (unsigned_at (if memory64 then 64 else 32) bytes.now) }
+{
+    if memory64 {
+        u64_at(bytes)
+    } else {
+        let (number, rest) = u32_at(bytes)?;
+        Ok((u64::from(number), rest))
+    }
+}
+
+/// A maximum, where there is one.
+fn maximum_at(
+    present: bool,
+    memory64: bool,
+    bytes: &[u8],
+) -> Result<(Option<u64>, &[u8]), ReadError>
+    ensures { Gives (λ x. (x.0, x.1.now)) result (optional_at present (unsigned_at (if memory64 then 64 else 32)) bytes.now) }
+{
+    if !present {
+        return Ok((None, bytes));
+    }
+    let (number, rest) = address_at(memory64, bytes)?;
+    Ok((Some(number), rest))
+}
+
+/// The exponent of a page size, where there is one.
+fn page_size_at(present: bool, bytes: &[u8]) -> Result<(Option<u32>, &[u8]), ReadError>
+    ensures { Gives (λ x. (x.0, x.1.now)) result (optional_at present (unsigned_at 32) bytes.now) }
+{
+    if !present {
+        return Ok((None, bytes));
+    }
+    let (number, rest) = u32_at(bytes)?;
+    Ok((Some(number), rest))
+}
+
+/// What follows the flags of a memory type.
+#[tactic(auto, unfolding(crate::specs::ReadingRows::flagged_memory_type_at))]
+fn flagged_memory_type(flags: u8, bytes: &[u8]) -> Result<(MemoryType, &[u8]), ReadError>
+    ensures { Gives (λ x. (x.0, x.1.now)) result (flagged_memory_type_at flags bytes.now) }
+{
+    let memory64 = is_set(flags, IS_64);
+    let (initial, rest) = address_at(memory64, bytes)?;
+    let (maximum, rest) = maximum_at(is_set(flags, HAS_MAXIMUM), memory64, rest)?;
+    let (page_size_log2, rest) = page_size_at(is_set(flags, HAS_PAGE_SIZE), rest)?;
+    let memory_type = MemoryType {
+        memory64,
+        shared: is_set(flags, IS_SHARED),
+        initial,
+        maximum,
+        page_size_log2,
+    };
+    Ok((memory_type, rest))
+}
+
+/// A memory type. Readers of elements all take the allocator.
+#[tactic(auto, unfolding(crate::specs::ReadingRows::memory_type_at))]
+fn memory_type(_alloc: Global, bytes: &[u8]) -> Result<(MemoryType, &[u8]), ReadError>
+    ensures { Gives (λ x. (x.0, x.1.now)) result (memory_type_at bytes.now) }
+{
+    match first_byte(bytes) {
+        Some((flags, rest)) if flags < 16 => flagged_memory_type(flags, rest),
+        _ => Err(ReadError::Malformed),
+    }
+}
+
+/// A count, and that many memory types.
+pub fn memory_types(alloc: Global, bytes: &[u8]) -> Result<(Vec<MemoryType>, &[u8]), ReadError>
+    ensures { Gives (λ x. (x.0.items, x.1.now)) result (vector_at memory_type_at bytes.now) }
+{
+    vector(alloc, bytes, memory_type)
+}
