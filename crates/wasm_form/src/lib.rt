@@ -12,6 +12,7 @@ mod rules;
 mod sections;
 mod segments;
 mod types;
+mod value_types;
 mod vectors;
 
 pub use error::{CheckError, ReadError};
