@@ -4,7 +4,7 @@ use lib.Dec.{T}
 use lib.Signed.{le_z_yes, lt_z_yes}
 use Rattle.std.specs.Prelude.{ℤ, pos, neg_ℤ, int_le, int_lt, ◌&&◌, ◌-ℤ◌, ◌≤ℤ◌, ◌<ℤ◌}
 use Rattle.std.specs.Option.{option_map}
-use Rattle.std.proofs.lemmas.Bool.{lt-ltb, le-ltb, lt-leb, ltb-true, ltb-false}
+use Rattle.std.proofs.lemmas.Bool.{lt-ltb, le-ltb, lt-leb, leb-false, ltb-true, ltb-false}
 use Rattle.std.proofs.lemmas.Int.{ints}
 use Rattle.std.proofs.Math.Nat.{pow-succ'}
 use Rattle.wasm_spec.specs.declared.operators.What.{What}
@@ -146,6 +146,19 @@ no_sign n bytes true h e = absurd (below_zero n (sevens bytes) (128 ^ length byt
 pos_is : (m n : ℕ) → pos m ≡ pos n → m ≡ n
 pos_is m n e = cc
 
+above_below_zero : (m n : ℕ) → neg_ℤ (pos m) ≤ℤ pos n
+above_below_zero m n = omega (arith, ints)
+
+pos_less : (m n : ℕ) → m < n → pos m <ℤ pos n
+pos_less m n l = omega (arith, ints, l)
+
+less_pos : (m n : ℕ) → pos m <ℤ pos n → m < n
+less_pos m n l = omega (arith, ints, l)
+
+tests_true : (a b : Bool) → (a && b) ≡ true → (a ≡ true) × (b ≡ true)
+tests_true true b e = (refl, e)
+tests_true false b e = absurd cc
+
 module _ (k : ℕ) where
   abbrev fits_signed : List ℕ → Bool
   fits_signed bytes = ltb (last_or 0 bytes % 128) 64 && ltb (sevens bytes) (2 ^ (k - 1))
@@ -156,12 +169,12 @@ module _ (k : ℕ) where
   non_negative_fits bytes x rest (Some p) n e =
       let is = number_found (most_bytes k) bytes p n in
       let g = test_ok (fits_signed p.0) (sevens p.0, p.1) (x, rest) e in
-      let t = both_true _ _ g.0 in
+      let t = tests_true _ _ g.0 in
       let v : sevens p.0 ≡ x = ap (λ (q : ℕ × List ℕ). q.0) g.1 in
       let r : p.1 ≡ rest = ap (λ (q : ℕ × List ℕ). q.1) g.1 in
       let s : signed_sum p.0 ≡ pos (sevens p.0) = unsigned_sum p.0 (lt-leb 64 (last_or 0 p.0 % 128) (ltb-true _ _ t.0)) in
       let fits : x < 2 ^ (k - 1) = rw (← v) (ltb-true _ _ t.1) in
-      (p.0, is.parts ∙ ap (λ (l : List ℕ). p.0 ++ l) r, record { form = is.form; short = is.short; value = sym (s ∙ ap (λ (n : ℕ). pos n) v); low = ?; high = ? })
+      (p.0, is.parts ∙ ap (λ (l : List ℕ). p.0 ++ l) r, record { form = is.form; short = is.short; value = sym (s ∙ ap (λ (n : ℕ). pos n) v); low = above_below_zero _ x; high = pos_less x _ fits })
 
   non_negative_never : (o : Option (List ℕ × List ℕ)) (what : What) → non_negative_from k (option_map found_as o) ≡ Err (Stops what) → ⊥
   non_negative_never None what e = bad_not_stops what e
@@ -174,8 +187,8 @@ module _ (k : ℕ) where
     again = λ front x rest s.
         let no : leb 64 (last_or 0 front % 128) ≡ false = no_sign x front _ refl s.value in
         let v : x ≡ sevens front = pos_is _ _ (s.value ∙ unsigned_sum front no) in
-        let low : ltb (last_or 0 front % 128) 64 ≡ true = ? in
-        let t : ltb (sevens front) (2 ^ (k - 1)) ≡ true = ? in
+        let low : ltb (last_or 0 front % 128) 64 ≡ true = lt-ltb _ _ (leb-false _ _ no) in
+        let t : ltb (sevens front) (2 ^ (k - 1)) ≡ true = lt-ltb _ _ (rw (← v) (less_pos x _ s.high)) in
         rw (number_again (most_bytes k) front rest s.form s.short, low, t, v) refl;
     stopped = λ bytes what e. non_negative_never (number_bytes (most_bytes k) bytes) what e;
     stops_again = λ bytes what s. absurd s;

@@ -1,10 +1,11 @@
 -- Reading of types agrees with the grammar.
-use Rattle.std.proofs.Common.{◌≡◌, ℕ, List, [], Option, Some, None, Bool, true, false}
+use Rattle.std.proofs.Common.{◌≡◌, ℕ, List, [], ◌∷◌, ◌++◌, Option, Some, None, Bool, true, false}
 use Rattle.std.specs.Prelude.{◌==◌}
 use Rattle.wasm_spec.specs.declared.types.HeapType.{HeapType}
 use Rattle.wasm_spec.specs.declared.types.AbstractHeapType.{AbstractHeapType}
 use Rattle.wasm_spec.specs.declared.types.HeapType.TheVariants.{Abstract}
 use Rattle.wasm_spec.specs.declared.operators.What.TheVariants as what
+use Rattle.wasm_spec.specs.Numbers.{EndsOnce}
 use Rattle.wasm_spec.specs.Parts as part
 use Rattle.wasm_spec.specs.TypeGrammar as grammar
 use Rattle.wasm_spec.specs.TypeGrammar.{named_by, number_types, abstract_heap}
@@ -19,7 +20,10 @@ unfolding concrete_at
 concrete_agrees = then_agrees (non_negative_agrees 33) (λ n. gives_agrees _)
 
 concrete_filled : (y : HeapType) → ¬ grammar.concrete.spells [] y
-concrete_filled y s = ?
+concrete_filled y s = over s.front s.back s.parts s.is_first.form where
+  over : (front back : List ℕ) → [] ≡ front ++ back → EndsOnce front → ⊥
+  over [] back e f = f
+  over (b ∷ front) back e f = absurd cc
 
 -- the byte of a heap type spells some of it
 heap_type_filled : (o : Option AbstractHeapType) (shared : Bool) (y : HeapType)
