@@ -70,6 +70,11 @@ measured_at p bytes = and_then (p bytes) (λ x. Ok ((x.0, length bytes - length 
 abbrev pub choose_at : {A : Type 0} → Bool → Reader A → Reader A → Reader A
 choose_at test p q bytes = if test then p bytes else q bytes
 
+-- the reader that a value asks for, where there is one
+abbrev pub given_at : {A B : Type 0} → Option A → (A → Reader B) → Reader B → Reader B
+given_at (Some x) part other = part x
+given_at None part other = other
+
 abbrev pub optional_at : {A : Type 0} → Bool → Reader A → Reader (Option A)
 optional_at test p = choose_at test (p >>= λ x. gives_at (Some x)) (gives_at None)
 
@@ -87,6 +92,14 @@ after_byte part (Some x) = part x.0 x.1
 
 abbrev pub first_byte_at : {A : Type 0} → (ℕ → Reader A) → Reader A
 first_byte_at part bytes = after_byte part (uncons bytes)
+
+-- the reader that the first byte asks for, which begins with that byte
+abbrev pub at_byte : {A : Type 0} → (ℕ → Reader A) → List ℕ → Option (ℕ × List ℕ) → Result (A × List ℕ) Fault
+at_byte part bytes None = Err Bad
+at_byte part bytes (Some x) = part x.0 bytes
+
+abbrev pub next_byte_at : {A : Type 0} → (ℕ → Reader A) → Reader A
+next_byte_at part bytes = at_byte part bytes (uncons bytes)
 
 unfoldable pub elements_at : {A : Type 0} → Reader A → ℕ → Reader (List A)
 elements_at part zero = gives_at []

@@ -15,13 +15,13 @@ use crate::vectors::{counted_bytes, raw_bytes, vector};
 use std::alloc::Global;
 use wasm_spec::ValType;
 
-/// How many locals of one type. Readers of elements all take the allocator.
+/// How many locals of one type.
 #[tactic(auto, unfolding(crate::specs::ReadingEntries::locals_run_at))]
-fn locals_run(_alloc: Global, bytes: &[u8]) -> Result<((u32, ValType), &[u8]), ReadError>
+fn locals_run(alloc: Global, bytes: &[u8]) -> Result<((u32, ValType), &[u8]), ReadError>
     ensures { Gives (λ x. (x.0, x.1.now)) result (locals_run_at bytes.now) }
 {
     let (count, rest) = u32_at(bytes)?;
-    let (ty, rest) = value_type(_alloc, rest)?;
+    let (ty, rest) = value_type(alloc, rest)?;
     Ok(((count, ty), rest))
 }
 

@@ -6,10 +6,10 @@ ghost use Rattle.wasm_form.specs.Reading.{Gives};
 ghost use Rattle.wasm_form.specs.ReadingEntries.{global_entry_at};
 ghost use Rattle.wasm_form.specs.ReadingSections.{all_entries_at};
 
+use crate::entity_types::global_type;
 use crate::error::ReadError;
 use crate::expressions::expression;
 use crate::form::GlobalDef;
-use crate::global_types::global_type;
 use crate::vectors::entries;
 use std::alloc::Global;
 
@@ -18,7 +18,7 @@ use std::alloc::Global;
 fn global(alloc: Global, bytes: &[u8]) -> Result<(GlobalDef, &[u8]), ReadError>
     ensures { Gives (λ x. (global_of x.0, x.1.now)) result (global_entry_at bytes.now) }
 {
-    let (ty, rest) = global_type(bytes)?;
+    let (ty, rest) = global_type(alloc, bytes)?;
     let (init, rest) = expression(alloc, rest)?;
     Ok((GlobalDef { ty, init }, rest))
 }

@@ -6,10 +6,10 @@ ghost use Rattle.wasm_form.specs.Reading.{Gives, first_byte_at};
 ghost use Rattle.wasm_form.specs.ReadingEntries.{imported_after_at, import_entry_at};
 ghost use Rattle.wasm_form.specs.ReadingSections.{all_entries_at};
 
+use crate::entity_types::{global_type, table_type, tag_type};
 use crate::error::ReadError;
 use crate::form::Import;
-use crate::global_types::{global_type, tag_type};
-use crate::limits::{memory_type, table_type};
+use crate::limits::memory_type;
 use crate::names::name;
 use crate::numbers::{first_byte, u32_at};
 use crate::vectors::entries;
@@ -35,7 +35,7 @@ fn imported(kind: u8, alloc: Global, bytes: &[u8]) -> Result<(TypeRef, &[u8]), R
             Ok((TypeRef::Memory(memory), rest))
         }
         0x03 => {
-            let (global, rest) = global_type(bytes)?;
+            let (global, rest) = global_type(alloc, bytes)?;
             Ok((TypeRef::Global(global), rest))
         }
         0x04 => {

@@ -6,10 +6,11 @@ ghost use Rattle.wasm_form.specs.Reading.{Gives};
 ghost use Rattle.wasm_form.specs.ReadingEntries.{initialised_table_at, table_entry_at};
 ghost use Rattle.wasm_form.specs.ReadingSections.{all_entries_at};
 
+use crate::entity_types::table_type;
 use crate::error::ReadError;
 use crate::expressions::expression;
 use crate::form::TableDef;
-use crate::limits::{table_limits, table_type};
+use crate::limits::table_limits;
 use crate::numbers::first_byte;
 use crate::value_types::reference_after;
 use crate::vectors::entries;

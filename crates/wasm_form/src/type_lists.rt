@@ -7,10 +7,10 @@ ghost use Rattle.wasm_form.specs.ReadingNumbers.{unsigned_at};
 ghost use Rattle.wasm_form.specs.ReadingTypes.{group_at, memory_type_at, tag_type_at};
 ghost use Rattle.wasm_form.specs.ReadingSections.{all_entries_at};
 
+use crate::entity_types::tag_type;
 use crate::error::ReadError;
 use crate::groups::group;
 use crate::limits::memory_type;
-use crate::global_types::tag_type;
 use crate::types::RecGroup;
 use crate::vectors::{entries, index};
 use std::alloc::Global;
