@@ -1,8 +1,10 @@
 //! Reads the sections of a module, and checks its listed rules.
 #![tactic(auto)]
 
+mod entity_types;
 mod error;
 mod expressions;
+mod fields;
 mod form;
 mod laws;
 mod limits;
@@ -11,6 +13,7 @@ mod numbers;
 mod rules;
 mod sections;
 mod segments;
+mod type_groups;
 mod types;
 mod value_types;
 mod vectors;

@@ -1,4 +1,4 @@
-use Rattle.wasm_form.specs.ReadingRows.{memory_type_at}
+use Rattle.wasm_form.specs.ReadingTypes.{memory_type_at}
 use Rattle.wasm_form.proofs.CountedGives.{plain_vector_gives}
 use Rattle.wasm_form.proofs.limits.memory_types.Goals as goal
 
