@@ -158,7 +158,7 @@ pub fn group(alloc: Global, bytes: &[u8]) -> Result<(RecGroup, &[u8]), ReadError
         return Ok((RecGroup { types }, rest));
     }
     let (sub_type, rest) = sub_type_after(alloc, first, rest)?;
-    let mut types = Vec::new(alloc);
+    let mut types = Vec::with_capacity(alloc, 1)?;
     types.push(sub_type)?;
     Ok((RecGroup { types }, rest))
 }
