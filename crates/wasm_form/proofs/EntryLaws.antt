@@ -14,8 +14,7 @@ use Rattle.wasm_form.specs.Reading.{Reader}
 use Rattle.wasm_form.specs.ReadingEntries.{name_at, imported_after_at, import_entry_at, external_kind_at, export_entry_at, initialised_table_at, table_entry_at, global_entry_at, functions_as_at, expressions_as_at, after_function_kind_at, active_in_at, active_in_named_at, flagged_element_at, element_segment_at, locals_run_at, body_contents_at, body_at, active_segment_at, passive_segment_at, flagged_segment_at, data_segment_at}
 use Rattle.wasm_form.proofs.Agrees.{Agrees, gives_agrees, nothing_agrees, stopped_agrees, then_agrees, choose_agrees, checked_agrees, first_byte_agrees, fill_after_fills, all_bytes_fill}
 use Rattle.wasm_form.proofs.NumberLaws.{unsigned_agrees, vector_agrees, counted_bytes_agree, sized_agrees}
-use Rattle.wasm_form.proofs.TypeLaws.{reference_after_agrees, reference_type_agrees, value_type_agrees}
-use Rattle.wasm_form.proofs.EntityLaws.{memory_type_agrees, table_limits_agrees, table_type_agrees, global_type_agrees, tag_type_agrees}
+use Rattle.wasm_form.proofs.TypeLaws.{reference_after_agrees, reference_type_agrees, value_type_agrees, memory_type_agrees, table_limits_agree, table_type_agrees, global_type_agrees, tag_type_agrees}
 use Rattle.wasm_form.proofs.ExpressionLaws.{expression_agrees}
 
 pub name_agrees : Agrees name_at grammar.name
@@ -62,7 +61,7 @@ pub table_entry_agrees : Agrees table_entry_at grammar.table_entry
 unfolding table_entry_at
 table_entry_agrees =
     first_byte_agrees (λ b. choose_agrees (b == 0x40) initialised_table_agrees
-    (then_agrees (reference_after_agrees b) (λ element. then_agrees (table_limits_agrees element) (λ t. gives_agrees _))))
+    (then_agrees (reference_after_agrees b) (λ element. then_agrees (table_limits_agree element) (λ t. gives_agrees _))))
 
 pub global_entry_agrees : Agrees global_entry_at grammar.global_entry
 unfolding global_entry_at

@@ -1,8 +1,7 @@
 //! Operators of constant expressions (core specification, 5.4.6 to 5.4.8).
 
-ghost use Rattle.std.specs.Prelude.{◌≡◌};
 ghost use Rattle.wasm_form.specs.Reading.{Gives};
-ghost use Rattle.wasm_form.specs.ReadingExpressions.{operator_after_at, constant_after_at, arithmetic_after_at, object_operator_at, vector_operator_at};
+ghost use Rattle.wasm_form.specs.ReadingExpressions.{operator_after_at, constant_after_at, arithmetic_after_at, object_operator_at, fixed_array_at, vector_operator_at};
 
 use crate::error::ReadError;
 use crate::numbers::{s32_at, s64_at, u32_at};
@@ -68,24 +67,22 @@ fn constant(first: u8, bytes: &[u8]) -> Result<(Operator, &[u8]), ReadError>
             let (number, rest) = u32_at(bytes)?;
             vector_operator(number, rest)
         }
-        _ => {
-            let operator = arithmetic(first)?;
-            Ok((operator, bytes))
-        }
+        _ => arithmetic(first, bytes),
     }
 }
 
-/// The arithmetic operator of a byte.
-fn arithmetic(byte: u8) -> Result<Operator, ReadError>
-    ensures { (bytes : List ℕ) → Gives (λ op. (op, bytes)) result (arithmetic_after_at byte bytes) }
+/// An arithmetic operator, which is one byte.
+#[tactic(auto, unfolding(crate::specs::ReadingExpressions::arithmetic_after_at))]
+fn arithmetic(first: u8, bytes: &[u8]) -> Result<(Operator, &[u8]), ReadError>
+    ensures { Gives (λ x. (x.0, x.1.now)) result (arithmetic_after_at first bytes.now) }
 {
-    match byte {
-        0x6A => Ok(Operator::I32Add),
-        0x6B => Ok(Operator::I32Sub),
-        0x6C => Ok(Operator::I32Mul),
-        0x7C => Ok(Operator::I64Add),
-        0x7D => Ok(Operator::I64Sub),
-        0x7E => Ok(Operator::I64Mul),
+    match first {
+        0x6A => Ok((Operator::I32Add, bytes)),
+        0x6B => Ok((Operator::I32Sub, bytes)),
+        0x6C => Ok((Operator::I32Mul, bytes)),
+        0x7C => Ok((Operator::I64Add, bytes)),
+        0x7D => Ok((Operator::I64Sub, bytes)),
+        0x7E => Ok((Operator::I64Mul, bytes)),
         _ => Err(ReadError::Unsupported(What::Operator)),
     }
 }

@@ -9,8 +9,8 @@ ghost use Rattle.wasm_form.specs.ReadingSections.{all_entries_at};
 
 use crate::entity_types::tag_type;
 use crate::error::ReadError;
-use crate::groups::group;
 use crate::limits::memory_type;
+use crate::type_groups::group;
 use crate::types::RecGroup;
 use crate::vectors::{entries, index};
 use std::alloc::Global;

@@ -1,12 +1,14 @@
-//! Heap, reference and value types, and fields (core specification, 5.3.1 to 5.3.8).
+//! Heap, reference and value types (core specification, 5.3.1 to 5.3.5).
 
 ghost use Rattle.std.specs.Prelude.{◌≡◌};
 ghost use Rattle.wasm_spec.specs.TypeGrammar.{named_by, number_types, abstract_heap as spec_abstract_heap};
 ghost use Rattle.wasm_form.specs.Reading.{Gives};
-ghost use Rattle.wasm_form.specs.ReadingTypes.{heap_type_at, reference_after_at, reference_type_at, value_after_at, value_type_at, mutability_at};
+ghost use Rattle.wasm_form.specs.ReadingNumbers.{vector_at};
+ghost use Rattle.wasm_form.specs.ReadingTypes.{heap_type_at, reference_after_at, reference_type_at, value_after_at, value_type_at};
 
 use crate::error::ReadError;
 use crate::numbers::{first_byte, non_negative_s33_at};
+use crate::vectors::vector;
 use std::alloc::Global;
 use wasm_spec::{AbstractHeapType, HeapType, RefType, UnpackedIndex, ValType, What};
 
@@ -85,7 +87,7 @@ pub fn heap_type(bytes: &[u8]) -> Result<(HeapType, &[u8]), ReadError>
 
 /// What follows the first byte of a reference type; that of an abstract heap type alone is its nullable reference.
 #[tactic(auto, unfolding(crate::specs::ReadingTypes::reference_after_at))]
-fn reference_after(first: u8, bytes: &[u8]) -> Result<(RefType, &[u8]), ReadError>
+pub fn reference_after(first: u8, bytes: &[u8]) -> Result<(RefType, &[u8]), ReadError>
     ensures { Gives (λ x. (x.0, x.1.now)) result (reference_after_at first bytes.now) }
 {
     if first == NULLABLE || first == NOT_NULLABLE {
@@ -113,7 +115,7 @@ pub fn reference_type(bytes: &[u8]) -> Result<(RefType, &[u8]), ReadError>
 
 /// What follows the first byte of a value type.
 #[tactic(auto, unfolding(crate::specs::ReadingTypes::value_after_at))]
-fn value_after(first: u8, bytes: &[u8]) -> Result<(ValType, &[u8]), ReadError>
+pub fn value_after(first: u8, bytes: &[u8]) -> Result<(ValType, &[u8]), ReadError>
     ensures { Gives (λ x. (x.0, x.1.now)) result (value_after_at first bytes.now) }
 {
     if let Some(number) = number_type(first) {
@@ -137,14 +139,9 @@ pub fn value_type(_alloc: Global, bytes: &[u8]) -> Result<(ValType, &[u8]), Read
     }
 }
 
-/// Whether what follows may change.
-#[tactic(auto, unfolding(crate::specs::ReadingTypes::mutability_at))]
-pub fn mutability(bytes: &[u8]) -> Result<(bool, &[u8]), ReadError>
-    ensures { Gives (λ x. (x.0, x.1.now)) result (mutability_at bytes.now) }
+/// A count, and that many value types.
+pub fn value_types(alloc: Global, bytes: &[u8]) -> Result<(Vec<ValType>, &[u8]), ReadError>
+    ensures { Gives (λ x. (x.0.items, x.1.now)) result (vector_at value_type_at bytes.now) }
 {
-    match first_byte(bytes) {
-        Some((0, rest)) => Ok((false, rest)),
-        Some((1, rest)) => Ok((true, rest)),
-        _ => Err(ReadError::Malformed),
-    }
+    vector(alloc, bytes, value_type)
 }
