@@ -80,18 +80,18 @@ fn section<'d>(
     }
 }
 
-/// The sections up to the end of the bytes, which stand at a place of the input.
+/// The sections up to the end of the bytes, which begin at a place of the input.
 pub fn sections<'d>(
     alloc: Global,
-    place: usize,
+    start: usize,
     bytes: &'d [u8],
 ) -> Result<Vec<Payload<'d>>, ReadError>
-    requires { place + length bytes.now < 2 ^ 30 }
-    ensures { Gives (λ x. map payload_of x.items) result (all_sections_at place 0 bytes.now) }
+    requires { start + length bytes.now < 2 ^ 30 }
+    ensures { Gives (λ x. map payload_of x.items) result (all_sections_at start 0 bytes.now) }
 {
     let mut payloads = Vec::new(alloc);
     let mut rest = bytes;
-    let mut place = place;
+    let mut place = start;
     let mut next = 0;
     while !rest.is_empty() {
         let (payload, after) = section(alloc, place, next, rest)?;
