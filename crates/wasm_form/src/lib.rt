@@ -1,6 +1,7 @@
 //! Reads the sections of a module, and checks its listed rules.
 #![tactic(auto)]
 
+mod counts;
 mod error;
 mod expressions;
 mod form;
