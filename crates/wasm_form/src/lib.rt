@@ -3,6 +3,7 @@
 
 mod code;
 mod contents;
+mod counts;
 mod elements;
 mod entity_types;
 mod error;
