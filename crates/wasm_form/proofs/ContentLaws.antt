@@ -59,9 +59,9 @@ placed_section_agrees place next id (Some order) = choose_agrees (nat_le next or
 abbrev Plain : Part Payload → Type 0
 Plain g = (bytes : List ℕ) (p : Payload) → g.spells bytes p → IsNoInterface p
 
-choose_plain : {g h : Part Payload} (test : Bool) → Plain g → Plain h → Plain (part.choose test g h)
-choose_plain true a b = a
-choose_plain false a b = b
+choose_plain : (test : Bool) (g h : Part Payload) → Plain g → Plain h → Plain (part.choose test g h)
+choose_plain true g h a b = a
+choose_plain false g h a b = b
 
 made_plain : {A : Type 0} (g : Part A) (make : A → Payload) → ((x : A) → IsNoInterface (make x)) → Plain (part.sized (part.◌>>=◌ g (λ x. part.gives (make x))))
 made_plain g make plain bytes p s = let inside = s.is_second.1 in subst IsNoInterface (sym inside.is_second.1) (plain inside.value)
@@ -71,23 +71,23 @@ code_plain place bytes p s = let inside = s.is_second.1 in subst IsNoInterface (
 
 section_contents_plain : (place id : ℕ) → Plain (grammar.section_contents place id)
 section_contents_plain place id =
-    choose_plain (id == 1) (made_plain _ Types (λ x. tt))
-    (choose_plain (id == 2) (made_plain _ Imports (λ x. tt))
-    (choose_plain (id == 3) (made_plain _ FunctionTypes (λ x. tt))
-    (choose_plain (id == 4) (made_plain _ Tables (λ x. tt))
-    (choose_plain (id == 5) (made_plain _ Memories (λ x. tt))
-    (choose_plain (id == 13) (made_plain _ Tags (λ x. tt))
-    (choose_plain (id == 6) (made_plain _ Globals (λ x. tt))
-    (choose_plain (id == 7) (made_plain _ Exports (λ x. tt))
-    (choose_plain (id == 8) (made_plain _ Start (λ x. tt))
-    (choose_plain (id == 9) (made_plain _ Elements (λ x. tt))
-    (choose_plain (id == 12) (made_plain _ DataCount (λ x. tt))
-    (choose_plain (id == 10) (code_plain place)
-    (choose_plain (id == 11) (made_plain _ Segments (λ x. tt)) (λ bytes p s. absurd s)))))))))))))
+    choose_plain (id == 1) _ _ (made_plain _ Types (λ x. tt))
+    (choose_plain (id == 2) _ _ (made_plain _ Imports (λ x. tt))
+    (choose_plain (id == 3) _ _ (made_plain _ FunctionTypes (λ x. tt))
+    (choose_plain (id == 4) _ _ (made_plain _ Tables (λ x. tt))
+    (choose_plain (id == 5) _ _ (made_plain _ Memories (λ x. tt))
+    (choose_plain (id == 13) _ _ (made_plain _ Tags (λ x. tt))
+    (choose_plain (id == 6) _ _ (made_plain _ Globals (λ x. tt))
+    (choose_plain (id == 7) _ _ (made_plain _ Exports (λ x. tt))
+    (choose_plain (id == 8) _ _ (made_plain _ Start (λ x. tt))
+    (choose_plain (id == 9) _ _ (made_plain _ Elements (λ x. tt))
+    (choose_plain (id == 12) _ _ (made_plain _ DataCount (λ x. tt))
+    (choose_plain (id == 10) _ _ (code_plain place)
+    (choose_plain (id == 11) _ _ (made_plain _ Segments (λ x. tt)) (λ bytes p s. absurd s)))))))))))))
 
 placed_section_plain : (place next id : ℕ) (order : Option ℕ) → Plain (grammar.placed_section place next id order)
-placed_section_plain place next id None bytes p s = absurd s
-placed_section_plain place next id (Some order) = choose_plain (nat_le next order) (section_contents_plain (place + 1) id) (λ bytes p s. absurd s)
+placed_section_plain place next id None = λ bytes p s. absurd s
+placed_section_plain place next id (Some order) = choose_plain (nat_le next order) _ _ (section_contents_plain (place + 1) id) (λ bytes p s. absurd s)
 
 -- ---- names of interface types
 

@@ -16,18 +16,24 @@ module _ {A B : Type 0} (p : Reader A) (make : A → B) where
   abbrev inside : {C : Type 0} → Filler C → List ℕ × List ℕ → Result (C × List ℕ) Fault
   inside contents body = and_then (contents body.0) (λ x. Ok (x, body.1))
 
-  -- nothing is left
-  test_made : (t : Bool) (x : A) (rest : List ℕ) → and_then (and_then (cond t (Ok x) (Err Bad)) (λ y. Ok (y, rest))) (λ y. Ok (make y.0, y.1)) ≡ and_then (cond t (ok (make x)) (Err Bad)) (λ y. Ok (y, rest))
+  abbrev beside : {C : Type 0} → List ℕ → C → Result (C × List ℕ) Fault
+  beside rest x = Ok (x, rest)
+
+  abbrev nothing_left : {C : Type 0} → C × List ℕ → Result C Fault
+  nothing_left x = cond (eqb (length x.1) 0) (Ok x.0) (Err Bad)
+
+  abbrev made : A × List ℕ → Result (B × List ℕ) Fault
+  made y = Ok (make y.0, y.1)
+
+  test_made : (t : Bool) (x : A) (rest : List ℕ) → and_then (and_then (cond t (ok x) (Err Bad)) (beside rest)) made ≡ and_then (cond t (ok (make x)) (Err Bad)) (beside rest)
   test_made true x rest = refl
   test_made false x rest = refl
 
-  value_made : (r : Result (A × List ℕ) Fault) (rest : List ℕ)
-      → and_then (and_then (and_then r (λ x. cond (eqb (length x.1) 0) (Ok x.0) (Err Bad))) (λ y. Ok (y, rest))) (λ y. Ok (make y.0, y.1))
-      ≡ and_then (and_then (and_then r (λ x. ok (make x.0, x.1))) (λ x. cond (eqb (length x.1) 0) (Ok x.0) (Err Bad))) (λ y. Ok (y, rest))
+  value_made : (r : Result (A × List ℕ) Fault) (rest : List ℕ) → and_then (and_then (and_then r nothing_left) (beside rest)) made ≡ and_then (and_then (and_then r made) nothing_left) (beside rest)
   value_made (Ok x) rest = test_made (eqb (length x.1) 0) x.0 rest
   value_made (Err fault) rest = refl
 
-  body_made : (r : Result (List ℕ × List ℕ) Fault) → and_then (and_then r (inside (whole p))) (λ y. Ok (make y.0, y.1)) ≡ and_then r (inside (whole (p >>= λ x. gives_at (make x))))
+  body_made : (r : Result (List ℕ × List ℕ) Fault) → and_then (and_then r (inside (whole p))) made ≡ and_then r (inside (whole (p >>= λ x. gives_at (make x))))
   unfolding whole
   body_made (Ok body) = value_made (p body.0) body.1
   body_made (Err fault) = refl

@@ -197,7 +197,6 @@ pub module_found : (bytes : List ℕ) (m : Module) → module_at bytes ≡ Ok m 
 unfolding module_at component
 module_found bytes m e = by_test (starts_with nat_eq bytes header) refl e where
   no_component : (t : Bool) → component t ≡ Ok m → ⊥
-  unfolding component
   no_component true e = absurd cc
   no_component false e = absurd cc
 
@@ -219,7 +218,6 @@ module_stopped bytes w e = by_test (starts_with nat_eq bytes header) refl e wher
   what_is v e = cc
 
   by_component : (t : Bool) → is_component bytes ≡ t → component t ≡ Err (Stops w) → IsStopped bytes w
-  unfolding component
   by_component true t e = inl (component_is bytes t, what_is what.Component e)
   by_component false t e = absurd (bad_not_stops w e)
 
