@@ -22,9 +22,10 @@ const BODY: [u8; 22] = [
 /// A number, in five bytes.
 fn push_number(bytes: &mut Vec<u8>, number: u32) -> Result<(), AllocError> {
     for shift in [0u32, 7, 14, 21] {
-        bytes.push((number >> shift) as u8 | 0x80)?;
+        bytes.push(((number >> shift) % 128) as u8 + 128)?;
     }
-    bytes.push((number >> 28) as u8)
+    bytes.push((number >> 28) as u8)?;
+    Ok(())
 }
 
 /// A section of a million entries that are alike.
