@@ -2,8 +2,8 @@
 use Rattle.std.specs.Prelude.{ℕ, List, [], ◌++◌, codes}
 use Rattle.wasm_spec.specs.declared.rules.Rule.{Rule}
 use Rattle.wasm_spec.specs.declared.rules.Rule.TheVariants as rule
-use Rattle.wasm_spec.specs.declared.types.What.{What}
-use Rattle.wasm_spec.specs.declared.types.What.TheVariants as what
+use Rattle.wasm_spec.specs.declared.operators.What.{What}
+use Rattle.wasm_spec.specs.declared.operators.What.TheVariants as what
 use Rattle.plan_text.specs.declared.error.TranslateError.{TranslateError}
 use Rattle.plan_text.specs.declared.error.TranslateError.TheVariants as refusal
 

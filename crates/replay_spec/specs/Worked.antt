@@ -1,7 +1,7 @@
 -- Small modules, for the worked examples.
 use Rattle.std.specs.Prelude.{pos, negsuc, ℤ, ℕ, List, [], ◌∷◌, false, None}
-use Rattle.wasm_spec.specs.declared.types.MemoryType.{MemoryType}
-use Rattle.wasm_spec.specs.declared.types.Operator.TheVariants.{I32Const}
+use Rattle.wasm_spec.specs.declared.entities.MemoryType.{MemoryType}
+use Rattle.wasm_spec.specs.declared.operators.Operator.TheVariants.{I32Const}
 use Rattle.wasm_spec.specs.Module.{Active, Segment, Memories, Segments, Module}
 
 -- a memory of one page

@@ -6,7 +6,7 @@ ghost use Rattle.replay_spec.specs.Phases.{content_of, trap_of};
 ghost use Rattle.replay_spec.specs.Data.{module_phase};
 ghost use Rattle.replay_spec.specs.Plan.{ranges_from};
 ghost use Rattle.replay_spec.specs.Worked.{overlapping, ends_at_minus_one, empty_past_the_end};
-ghost use Rattle.wasm_spec.specs.declared.types.Operator.TheVariants.{I32Const, I64Const};
+ghost use Rattle.wasm_spec.specs.declared.operators.Operator.TheVariants.{I32Const, I64Const};
 
 /// The values of constant expressions: offsets are read unsigned, and two constants are no value.
 pub fn worked_values()

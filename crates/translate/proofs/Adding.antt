@@ -5,7 +5,7 @@ use Rattle.std.specs.List.{flat_map}
 use Rattle.std.proofs.lemmas.List.{append-nil, map-append, map_more, flat_map_more, length-map, take-append-drop, get_or_append_left, get_or-append-add}
 use Rattle.std.proofs.lemmas.List.Concat.{flat_map-append}
 use Rattle.std.proofs.lemmas.List.Elements.{filter_map-append}
-use Rattle.wasm_spec.specs.declared.types.MemoryType.{MemoryType}
+use Rattle.wasm_spec.specs.declared.entities.MemoryType.{MemoryType}
 use Rattle.wasm_spec.specs.Module.{Segment, Module, memories, memories_of_section, segments, segments_of_section}
 use Rattle.wasm_form.specs.declared.form.ConstExpr.{ConstExpr}
 use Rattle.wasm_form.specs.declared.form.DataKind.{DataKind}

@@ -1,7 +1,7 @@
 -- Why the layers below refuse, as why the whole does.
 use Rattle.std.proofs.Common.{◌≡◌, ◌≤◌, ◌<◌, ◌^◌, ℕ, List, length, Result, Ok, Err, refl, ap, subst, inl, inr, arith}
 use Rattle.std.specs.Prelude.{◌↔◌}
-use Rattle.wasm_spec.specs.declared.types.What.{What}
+use Rattle.wasm_spec.specs.declared.operators.What.{What}
 use Rattle.wasm_spec.specs.Module.{Module, data_size}
 use Rattle.wasm_spec.specs.Grammar.{Spells, Stops}
 use Rattle.wasm_spec.specs.Rules.{Keeps}

@@ -7,7 +7,7 @@ use Rattle.std.proofs.lemmas.List.{length-map}
 use Rattle.std.proofs.lemmas.List.Elements.{All-nil, All-cons, All-head, All-tail, All-map, All-weaker, recursion_from_All}
 use Rattle.std.proofs.lemmas.Map.Keys.{IsDistinct-cons}
 use Rattle.std.proofs.lemmas.Option.{slice_get_cases}
-use Rattle.wasm_spec.specs.declared.types.MemoryType.{MemoryType}
+use Rattle.wasm_spec.specs.declared.entities.MemoryType.{MemoryType}
 use Rattle.wasm_spec.specs.declared.rules.Rule.TheVariants.{L4, L6, L9}
 use Rattle.wasm_spec.specs.Module.{Expression, DataKind, Passive, Active, Segment, Module, memories, segments}
 use Rattle.wasm_spec.specs.Rules.{HasLimits, Class, class_of, HasClass, address_class, HasOffset, NamesMemory, HasFewEntries, Keeps}

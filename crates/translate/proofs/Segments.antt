@@ -3,7 +3,7 @@ use Rattle.std.proofs.Common.{◌≡◌, ◌≤◌, ◌<◌, ◌+◌, ℕ, zero,
 use Rattle.std.specs.Prelude.{◌⊎◌, All, Contains, slice_get, slice_index_or, sum_by}
 use Rattle.std.specs.List.{filter_map, cons_option}
 use Rattle.std.proofs.lemmas.List.Sums.{sum_by-cons}
-use Rattle.wasm_spec.specs.declared.types.MemoryType.{MemoryType}
+use Rattle.wasm_spec.specs.declared.entities.MemoryType.{MemoryType}
 use Rattle.wasm_spec.specs.Module.{DataKind, Passive, Active, Segment}
 use Rattle.wasm_types.specs.Memories.{memory_of, minimum_bytes}
 use Rattle.replay_spec.specs.Data.{ActiveSegment, active_of_kind, minimum_size}

@@ -1,7 +1,7 @@
 -- The translation of a module before anything is planned.
 use Rattle.std.specs.Prelude.{◌≡◌, ℕ, ◌+◌, ◌^◌, ◌<◌, List, [], ◌∷◌, ◌++◌, All, length, map}
 use Rattle.std.specs.List.{filter_map}
-use Rattle.wasm_spec.specs.declared.types.MemoryType.{MemoryType}
+use Rattle.wasm_spec.specs.declared.entities.MemoryType.{MemoryType}
 use Rattle.wasm_spec.specs.Module.{DataKind, Passive, Active, Segment, Module, memories, imported_memories, segments}
 use Rattle.wasm_index.specs.Index.{index_of}
 use Rattle.wasm_types.specs.Memories.{memory_of, HasPageSize}

@@ -4,7 +4,7 @@ use Rattle.std.specs.List.{filter_map}
 use Rattle.wasm_spec.specs.Module.{DataKind, Passive, Active, Segment, Module, memories, imported_memories, segments, data_size}
 use Rattle.wasm_spec.specs.Grammar.{Spells, Stops}
 use Rattle.wasm_spec.specs.Rules.{Kept, Keeps}
-use Rattle.wasm_spec.specs.declared.types.What.{What}
+use Rattle.wasm_spec.specs.declared.operators.What.{What}
 use Rattle.wasm_types.specs.Memories.{memory_of}
 use Rattle.replay_spec.specs.Data.{active_segments}
 use Rattle.replay_spec.specs.Plan.{MemoryPlan, Agrees, kept_segments, ranges_from, FindsPassive}

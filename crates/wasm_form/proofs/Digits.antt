@@ -28,17 +28,14 @@ after-cons : (s w l b : ℕ) (p : List ℕ × List ℕ) → after s w l (b ∷ p
 after-cons s w l b p =
     begun-same _ _ _ _ (last_or b p.0) p.1 (sum-cons s w (b % 128) (sevens p.0)) (rw (pow-succ' 128 (length p.0)) (sym (mul_assoc w 128 (128 ^ length p.0))))
 
-after-map : (s w l b : ℕ) (o : Option (List ℕ × List ℕ))
-    → option_map (after s w l) (option_map (λ p. (b ∷ p.0, p.1)) o) ≡ option_map (after (s + b % 128 * w) (w * 128) b) o
+after-map : (s w l b : ℕ) (o : Option (List ℕ × List ℕ)) → option_map (after s w l) (option_map (λ p. (b ∷ p.0, p.1)) o) ≡ option_map (after (s + b % 128 * w) (w * 128) b) o
 after-map s w l b None = refl
 after-map s w l b (Some p) = ap Some (after-cons s w l b p)
 
-goes_on : (s w l k b : ℕ) (bs : List ℕ) → 128 ≤ b
-    → remaining s w l (suc k) (b ∷ bs) ≡ remaining (s + b % 128 * w) (w * 128) b k bs
+goes_on : (s w l k b : ℕ) (bs : List ℕ) → 128 ≤ b → remaining s w l (suc k) (b ∷ bs) ≡ remaining (s + b % 128 * w) (w * 128) b k bs
 goes_on s w l k b bs h = rw (le-ltb b 128 h) (after-map s w l b (number_bytes k bs))
 
-ends : (s w l k b : ℕ) (bs : List ℕ) → b < 128
-    → remaining s w l (suc k) (b ∷ bs) ≡ Some (record { sum = s + b % 128 * w; weight = w * 128; last = b }, bs)
+ends : (s w l k b : ℕ) (bs : List ℕ) → b < 128 → remaining s w l (suc k) (b ∷ bs) ≡ Some (record { sum = s + b % 128 * w; weight = w * 128; last = b }, bs)
 ends s w l k b bs h = rw (lt-ltb b 128 h) (ap (λ (n : ℕ). Some (record { sum = n; weight = w * 128; last = b }, bs)) (grind arith))
 
 begins : (p : List ℕ × List ℕ) → after 0 1 0 p ≡ found_as p
@@ -77,18 +74,15 @@ uncons_is [] b rest e = absurd cc
 uncons_is (c ∷ bytes) b rest e = sym (ap (λ (p : ℕ × List ℕ). p.0 ∷ p.1) (some_is (b, rest) (c, bytes) e))
 
 -- one more byte, with more behind it
-pub step : (s w l most i b : ℕ) (bs r : List ℕ) (total : Option (Found × List ℕ)) → Some (b, r) ≡ uncons bs → i < most
-    → 128 ≤ b
+pub step : (s w l most i b : ℕ) (bs r : List ℕ) (total : Option (Found × List ℕ)) → Some (b, r) ≡ uncons bs → i < most → 128 ≤ b
     → remaining s w l (most - i) bs ≡ total → remaining (s + b % 128 * w) (w * 128) b (most - (i + 1)) r ≡ total
 step s w l most i b bs r total e lt h so_far =
     let k : most - i ≡ suc (most - (i + 1)) = omega arith in
     sym (goes_on s w l (most - (i + 1)) b r h) ∙ sym (rw (k, uncons_is bs b r e) refl) ∙ so_far
 
 -- the last byte
-pub stop : (s w l most i b : ℕ) (bs r : List ℕ) (total : Option (Found × List ℕ)) → Some (b, r) ≡ uncons bs → i < most
-    → b < 128
-    → remaining s w l (most - i) bs ≡ total
-    → Some (record { sum = s + b % 128 * w; weight = w * 128; last = b }, r) ≡ total
+pub stop : (s w l most i b : ℕ) (bs r : List ℕ) (total : Option (Found × List ℕ)) → Some (b, r) ≡ uncons bs → i < most → b < 128
+    → remaining s w l (most - i) bs ≡ total → Some (record { sum = s + b % 128 * w; weight = w * 128; last = b }, r) ≡ total
 stop s w l most i b bs r total e lt h so_far =
     let k : most - i ≡ suc (most - (i + 1)) = omega arith in
     sym (ends s w l (most - (i + 1)) b r h) ∙ sym (rw (k, uncons_is bs b r e) refl) ∙ so_far

@@ -6,14 +6,12 @@ use Rattle.std.proofs.lemmas.Bool.{false_from_ne_true}
 use Rattle.std.proofs.lemmas.Str.{IsUtf8-from_is_utf8, is_utf8-from_IsUtf8}
 use Rattle.wasm_form.specs.Reading.{Bad}
 use Rattle.wasm_form.specs.ReadingNumbers.{counted_bytes_at}
-use Rattle.wasm_form.specs.ReadingRows.{name_at}
+use Rattle.wasm_form.specs.ReadingEntries.{name_at}
 
-pub name_taken : (bytes text rest : List ℕ) → counted_bytes_at bytes ≡ Ok (text, rest) → IsUtf8 text
-    → name_at bytes ≡ Ok (text, rest)
+pub name_taken : (bytes text rest : List ℕ) → counted_bytes_at bytes ≡ Ok (text, rest) → IsUtf8 text → name_at bytes ≡ Ok (text, rest)
 unfolding name_at
 name_taken bytes text rest e is = rw (e, is_utf8-from_IsUtf8 text is) refl
 
-pub name_refused : (bytes text rest : List ℕ) → counted_bytes_at bytes ≡ Ok (text, rest) → (IsUtf8 text → ⊥)
-    → name_at bytes ≡ Err Bad
+pub name_refused : (bytes text rest : List ℕ) → counted_bytes_at bytes ≡ Ok (text, rest) → (IsUtf8 text → ⊥) → name_at bytes ≡ Err Bad
 unfolding name_at
 name_refused bytes text rest e differs = rw (e, false_from_ne_true (is_utf8 text) (λ t. differs (IsUtf8-from_is_utf8 text t))) refl

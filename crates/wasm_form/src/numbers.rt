@@ -3,15 +3,9 @@
 ghost use Rattle.std.specs.Prelude.{◌≡◌, ◌≤◌, ◌<◌, ◌^◌, IfSome};
 ghost use Rattle.std.specs.Option.{option_map};
 ghost use Rattle.wasm_form.specs.Reading.{Gives, uncons};
-ghost use Rattle.wasm_form.specs.ReadingNumbers.{unsigned_at, signed_at, signed_of, found_at, sevens_of, wide_sevens_of};
+ghost use Rattle.wasm_form.specs.ReadingNumbers.{unsigned_at, signed_at, non_negative_at, signed_of, found_at, sevens_of, wide_sevens_of};
 
 use crate::error::ReadError;
-
-/// The bit of a byte after which more follow.
-const TOP_BIT: u8 = 128;
-
-/// The bit of a last byte that says that a signed number is below zero.
-const SIGN_BIT: u8 = 64;
 
 /// The most bytes of a number of 32 bits.
 const MOST_BYTES: usize = 5;
@@ -61,10 +55,10 @@ fn sevens_at(bytes: &[u8]) -> Option<(Sevens, &[u8])>
     'bytes: for _ in 0..MOST_BYTES {
         let (byte, after) = first_byte(rest)?;
         last = byte;
-        sum += u64::from(last % TOP_BIT) * weight;
+        sum += u64::from(last % 128) * weight;
         weight *= 128;
         rest = after;
-        if last < TOP_BIT {
+        if last < 128 {
             return Some((Sevens { sum, weight, last }, rest));
         }
     }
@@ -84,10 +78,10 @@ fn wide_sevens_at(bytes: &[u8]) -> Option<(WideSevens, &[u8])>
     'bytes: for _ in 0..MOST_WIDE_BYTES {
         let (byte, after) = first_byte(rest)?;
         last = byte;
-        sum += u128::from(last % TOP_BIT) * weight;
+        sum += u128::from(last % 128) * weight;
         weight *= 128;
         rest = after;
-        if last < TOP_BIT {
+        if last < 128 {
             return Some((WideSevens { sum, weight, last }, rest));
         }
     }
@@ -127,7 +121,7 @@ fn signed(found: &Sevens) -> i64
     ensures { result ≡ signed_of (sevens_of found.now) }
 {
     let sum = found.sum as i64;
-    if found.last % TOP_BIT >= SIGN_BIT {
+    if found.last % 128 >= 64 {
         sum - found.weight as i64
     } else {
         sum
@@ -141,7 +135,7 @@ fn wide_signed(found: &WideSevens) -> i128
     ensures { result ≡ signed_of (wide_sevens_of found.now) }
 {
     let sum = found.sum as i128;
-    if found.last % TOP_BIT >= SIGN_BIT {
+    if found.last % 128 >= 64 {
         sum - found.weight as i128
     } else {
         sum
@@ -174,13 +168,30 @@ fn long_s64_at(bytes: &[u8]) -> Result<(i64, &[u8]), ReadError>
     }
 }
 
+/// A signed number of 33 bits that is not negative, and so below 2^32: bit 6 of the last byte is its sign.
+#[tactic(auto, unfolding(crate::specs::ReadingNumbers::non_negative_at))]
+fn long_non_negative_s33_at(bytes: &[u8]) -> Result<(u32, &[u8]), ReadError>
+    ensures { Gives (λ x. (x.0, x.1.now)) result (non_negative_at 33 bytes.now) }
+{
+    let Some((found, rest)) = sevens_at(bytes) else {
+        return Err(ReadError::Malformed);
+    };
+    if found.last % 128 >= 64 {
+        return Err(ReadError::Malformed);
+    }
+    match u32::try_from(found.sum) {
+        Ok(number) => Ok((number, rest)),
+        Err(_) => Err(ReadError::Malformed),
+    }
+}
+
 /// An unsigned number of 32 bits. Most numbers have one byte, so that has a path of its own.
 #[inline]
 pub fn u32_at(bytes: &[u8]) -> Result<(u32, &[u8]), ReadError>
     ensures { Gives (λ x. (x.0, x.1.now)) result (unsigned_at 32 bytes.now) }
 {
     match first_byte(bytes) {
-        Some((byte, rest)) if byte < TOP_BIT => Ok((u32::from(byte), rest)),
+        Some((byte, rest)) if byte < 128 => Ok((u32::from(byte), rest)),
         _ => long_u32_at(bytes),
     }
 }
@@ -191,7 +202,7 @@ pub fn u64_at(bytes: &[u8]) -> Result<(u64, &[u8]), ReadError>
     ensures { Gives (λ x. (x.0, x.1.now)) result (unsigned_at 64 bytes.now) }
 {
     match first_byte(bytes) {
-        Some((byte, rest)) if byte < TOP_BIT => Ok((u64::from(byte), rest)),
+        Some((byte, rest)) if byte < 128 => Ok((u64::from(byte), rest)),
         _ => long_u64_at(bytes),
     }
 }
@@ -202,7 +213,7 @@ pub fn s32_at(bytes: &[u8]) -> Result<(i32, &[u8]), ReadError>
     ensures { Gives (λ x. (x.0, x.1.now)) result (signed_at 32 bytes.now) }
 {
     match first_byte(bytes) {
-        Some((byte, rest)) if byte < SIGN_BIT => Ok((i32::from(byte), rest)),
+        Some((byte, rest)) if byte < 64 => Ok((i32::from(byte), rest)),
         _ => long_s32_at(bytes),
     }
 }
@@ -213,7 +224,18 @@ pub fn s64_at(bytes: &[u8]) -> Result<(i64, &[u8]), ReadError>
     ensures { Gives (λ x. (x.0, x.1.now)) result (signed_at 64 bytes.now) }
 {
     match first_byte(bytes) {
-        Some((byte, rest)) if byte < SIGN_BIT => Ok((i64::from(byte), rest)),
+        Some((byte, rest)) if byte < 64 => Ok((i64::from(byte), rest)),
         _ => long_s64_at(bytes),
+    }
+}
+
+/// A signed number of 33 bits that is not negative, as the indices of heap types are.
+#[inline]
+pub fn non_negative_s33_at(bytes: &[u8]) -> Result<(u32, &[u8]), ReadError>
+    ensures { Gives (λ x. (x.0, x.1.now)) result (non_negative_at 33 bytes.now) }
+{
+    match first_byte(bytes) {
+        Some((byte, rest)) if byte < 64 => Ok((u32::from(byte), rest)),
+        _ => long_non_negative_s33_at(bytes),
     }
 }

@@ -1,7 +1,7 @@
 -- Operators of a translated module, and the operators that they come from.
 use Rattle.std.specs.Prelude.{List, map}
-use Rattle.wasm_spec.specs.declared.types.Operator.{Operator}
-use Rattle.wasm_spec.specs.declared.types.Operator.TheVariants as plain
+use Rattle.wasm_spec.specs.declared.operators.Operator.{Operator}
+use Rattle.wasm_spec.specs.declared.operators.Operator.TheVariants as plain
 use Rattle.wasm_spec.specs.Module.{Expression}
 use Rattle.wasm_types.specs.declared.constants.ConstOp.{ConstOp}
 use Rattle.wasm_types.specs.declared.constants.ConstOp.TheVariants as ops

@@ -20,16 +20,16 @@ overflow_mul-weight c =
     let w = weight_small c.bytes.counter c.bytes.weight c.bytes.invariant.weight_is (omega arith) in
     omega arith
 
-pub returns-then-last-lt-TOP_BIT-clause-small : goal.returns-then-last-lt-TOP_BIT-clause-small
-returns-then-last-lt-TOP_BIT-clause-small c =
+pub returns-then-last-lt128-clause-small : goal.returns-then-last-lt128-clause-small
+returns-then-last-lt128-clause-small c =
     let w = weight_small c.bytes.counter c.bytes.weight c.bytes.invariant.weight_is (omega arith) in
     let d = digit_small c.from.result c.bytes.weight (omega arith) in
     (omega (arith, c.bytes.invariant.below), omega arith)
 
-pub returns-then-last-lt-TOP_BIT-clause-found : goal.returns-then-last-lt-TOP_BIT-clause-found
+pub returns-then-last-lt128-clause-found : goal.returns-then-last-lt128-clause-found
 unfolding found_at
-returns-then-last-lt-TOP_BIT-clause-found c =
-    rw c.from.ensures (stop c.bytes.sum c.bytes.weight c.bytes.last 5 c.bytes.counter c.in_ok-byte.byte c.bytes.rest.now c.in_ok-byte.after.now _ c.in_ok-byte.ensures (omega arith) c.if-last-lt-TOP_BIT.true c.bytes.invariant.so_far)
+returns-then-last-lt128-clause-found c =
+    rw c.from.ensures (stop c.bytes.sum c.bytes.weight c.bytes.last 5 c.bytes.counter c.in_ok-byte.byte c.bytes.rest.now c.in_ok-byte.after.now _ c.in_ok-byte.ensures (omega arith) c.if-last-lt128.true c.bytes.invariant.so_far)
 
 pub bytes-preserved : goal.bytes-preserved
 bytes-preserved c = record {
