@@ -1,5 +1,7 @@
 //! Modules, and what reading them gives.
 
+mod types;
+
 use crate::{DataKind, MemoryType, Operator, Payload, ReadError, What, read_module};
 use std::alloc::{AllocError, Global};
 use std::test::Fail;
