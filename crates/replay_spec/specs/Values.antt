@@ -14,21 +14,22 @@ abbrev pub number_of : Value → ℕ
 number_of (I32 n) = n
 number_of (I64 n) = n
 
--- what an operator pushes
-abbrev pub value_of : Operator → Value
-value_of (I32Const value) = I32 (cast_unsigned w32 value)
-value_of (I64Const value) = I64 (cast_unsigned w64 value)
+-- what an integer constant pushes; other operators have no value here yet
+abbrev pub value_of : Operator → Option Value
+value_of (I32Const value) = Some (I32 (cast_unsigned w32 value))
+value_of (I64Const value) = Some (I64 (cast_unsigned w64 value))
+value_of _ = None
 
 -- the value of an expression: constants alone leave one value exactly where they are one
 abbrev pub eval : Expression → Option Value
 eval [] = None
-eval (op ∷ []) = Some (value_of op)
+eval (op ∷ []) = value_of op
 eval (op ∷ next ∷ ops) = None
 
 -- the constant value of an expression: that of exactly one constant operator
 abbrev pub const_value : Expression → Option Value
 const_value [] = None
-const_value (op ∷ []) = Some (value_of op)
+const_value (op ∷ []) = value_of op
 const_value (op ∷ next ∷ ops) = None
 
 -- the number of a value, and 0 where there is none

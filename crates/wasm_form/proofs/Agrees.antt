@@ -6,7 +6,7 @@ use Rattle.std.proofs.lemmas.List.{append-nil, nil_from_length, take_at, drop_at
 use Rattle.wasm_spec.specs.declared.operators.What.{What}
 use Rattle.wasm_spec.specs.Parts as part
 use Rattle.wasm_spec.specs.Parts.{Part, Joined, StopsLater, FilledStops}
-use Rattle.wasm_form.specs.Reading.{Fault, Bad, Stops, Reader, Filler, and_then, ◌>>=◌, gives_at, nothing_at, stopped_at, raw_bytes_at, all_bytes_at, fill_after, choose_at, given_at, optional_at, checked_at, first_byte_at, next_byte_at, elements_at, whole}
+use Rattle.wasm_form.specs.Reading.{Fault, Bad, Stops, Reader, Filler, and_then, ◌>>=◌, gives_at, nothing_at, stopped_at, raw_bytes_at, all_bytes_at, fill_after, choose_at, given_at, optional_at, checked_at, first_byte_at, next_byte_at, elements_at, whole, measured_at, filled_at}
 
 -- what is read is spelled so, what is spelled so is read, whatever follows, and reading stops where the part does
 pub record Agrees {A : Type 0} (read : Reader A) (p : Part A) : Type 0 where
@@ -331,9 +331,6 @@ pub whole_fills : {A : Type 0} {p : Reader A} {g : Part A} → Agrees p g → Fi
 whole_fills {A} {p} {g} a = record { found = whole_found p g a; again = whole_again p g a; stopped = whole_stopped p g a; stops_again = whole_stops_again p g a }
 
 -- the first n bytes
-abbrev pub filled_at : {A : Type 0} → Filler A → ℕ → Reader A
-filled_at part n bytes = and_then (raw_bytes_at n bytes) (λ x. and_then (part x.0) (λ y. Ok (y, x.1)))
-
 module _ {A : Type 0} (p : Filler A) (g : Part A) (a : Fills p g) (n : ℕ) where
   filled_found : (bytes : List ℕ) (y : A) (rest : List ℕ) → filled_at p n bytes ≡ Ok (y, rest) → (front : List ℕ) × (bytes ≡ front ++ rest) × ((length front ≡ n) × g.spells front y)
   filled_found bytes y rest e =

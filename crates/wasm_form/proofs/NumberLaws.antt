@@ -7,13 +7,14 @@ use Rattle.std.specs.Option.{option_map}
 use Rattle.std.proofs.lemmas.Bool.{lt-ltb, le-ltb, lt-leb, leb-false, ltb-true, ltb-false}
 use Rattle.std.proofs.lemmas.Int.{ints}
 use Rattle.std.proofs.Math.Nat.{pow-succ'}
+use Rattle.std.proofs.lemmas.List.{length-append}
 use Rattle.wasm_spec.specs.declared.operators.What.{What}
 use Rattle.wasm_spec.specs.Numbers.{EndsOnce, sevens, signed_sum, most_bytes, last_or, SpellsUnsigned, SpellsSigned}
 use Rattle.wasm_spec.specs.Parts as part
 use Rattle.wasm_spec.specs.Parts.{Part}
-use Rattle.wasm_form.specs.Reading.{Fault, Bad, Stops, Reader, Filler, and_then, raw_bytes_at}
+use Rattle.wasm_form.specs.Reading.{Fault, Bad, Stops, Reader, Filler, and_then, raw_bytes_at, filled_at}
 use Rattle.wasm_form.specs.ReadingNumbers.{Found, number_bytes, found_as, found_at, unsigned_from, unsigned_at, signed_of, signed_from, signed_at, non_negative_from, non_negative_at, vector_at, counted_bytes_at, sized_at}
-use Rattle.wasm_form.proofs.Agrees.{Agrees, Fills, ok, err, test_ok, test_not_stops, bad_not_stops, same_agrees, filled_at, raw_bytes_agree, then_agrees, elements_agree, filled_agrees}
+use Rattle.wasm_form.proofs.Agrees.{Agrees, Fills, ok, err, test_ok, test_not_stops, bad_not_stops, same_agrees, raw_bytes_agree, then_agrees, elements_agree, filled_agrees}
 
 -- ---- the bytes of a number
 
@@ -79,6 +80,10 @@ module _ (k : ℕ) where
     stopped = λ bytes what e. unsigned_never (number_bytes (most_bytes k) bytes) what e;
     stops_again = λ bytes what s. absurd s;
   }
+
+-- a number takes its bytes
+pub number_shortens : (k : ℕ) (bytes : List ℕ) (n : ℕ) (rest : List ℕ) → unsigned_at k bytes ≡ Ok (n, rest) → length rest ≤ length bytes
+number_shortens k bytes n rest e = let f = (unsigned_agrees k).found bytes n rest e in omega (arith, ap length f.1, length-append f.0 rest)
 
 -- ---- signed numbers
 

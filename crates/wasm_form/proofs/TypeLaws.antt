@@ -41,7 +41,7 @@ heap_type_agrees =
         (choose_agrees (b == 0x65) (stopped_agrees what.Shared) concrete_agrees))
     (λ b y s. heap_type_filled (abstract_heap b) (b == 0x65) y s)
 
-reference_after_agrees : (b : ℕ) → Agrees (reference_after_at b) (grammar.reference_after b)
+pub reference_after_agrees : (b : ℕ) → Agrees (reference_after_at b) (grammar.reference_after b)
 unfolding reference_after_at
 reference_after_agrees b =
     choose_agrees (b == 0x63) (then_agrees heap_type_agrees (λ h. gives_agrees _))

@@ -3,12 +3,11 @@
 ghost use Rattle.std.specs.Prelude.{◌≡◌, ◌<◌, if◌then◌else◌};
 ghost use Rattle.wasm_spec.specs.TypeGrammar.{has_bit};
 ghost use Rattle.wasm_form.specs.Reading.{Gives, optional_at};
-ghost use Rattle.wasm_form.specs.ReadingNumbers.{unsigned_at, vector_at};
+ghost use Rattle.wasm_form.specs.ReadingNumbers.{unsigned_at};
 ghost use Rattle.wasm_form.specs.ReadingTypes.{memory_type_at, flagged_memory_type_at, table_limits_at, flagged_table_type_at};
 
 use crate::error::ReadError;
 use crate::numbers::{first_byte, u32_at, u64_at};
-use crate::vectors::vector;
 use std::alloc::Global;
 use wasm_spec::{MemoryType, RefType, TableType};
 
@@ -95,13 +94,6 @@ pub fn memory_type(_alloc: Global, bytes: &[u8]) -> Result<(MemoryType, &[u8]), 
         Some((flags, rest)) if flags < 16 => flagged_memory_type(flags, rest),
         _ => Err(ReadError::Malformed),
     }
-}
-
-/// A count, and that many memory types.
-pub fn memory_types(alloc: Global, bytes: &[u8]) -> Result<(Vec<MemoryType>, &[u8]), ReadError>
-    ensures { Gives (λ x. (x.0.items, x.1.now)) result (vector_at memory_type_at bytes.now) }
-{
-    vector(alloc, bytes, memory_type)
 }
 
 /// What follows the flags of a table.

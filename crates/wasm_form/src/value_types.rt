@@ -87,7 +87,7 @@ pub fn heap_type(bytes: &[u8]) -> Result<(HeapType, &[u8]), ReadError>
 
 /// What follows the first byte of a reference type; that of an abstract heap type alone is its nullable reference.
 #[tactic(auto, unfolding(crate::specs::ReadingTypes::reference_after_at))]
-fn reference_after(first: u8, bytes: &[u8]) -> Result<(RefType, &[u8]), ReadError>
+pub fn reference_after(first: u8, bytes: &[u8]) -> Result<(RefType, &[u8]), ReadError>
     ensures { Gives (λ x. (x.0, x.1.now)) result (reference_after_at first bytes.now) }
 {
     if first == NULLABLE || first == NOT_NULLABLE {

@@ -1,8 +1,8 @@
 //! Offsets of active data segments (core specification, 3.4.15 and 3.5.11).
 
-ghost use Rattle.std.specs.Prelude.{◌≡◌, ◌↔◌, map, All, IsTrue};
+ghost use Rattle.std.specs.Prelude.{◌≡◌, ◌↔◌, map, All, IsTrue, Some};
 ghost use Rattle.wasm_spec.specs.Module.{segments};
-ghost use Rattle.wasm_spec.specs.Rules.{HasOffset, HasClass, address_class};
+ghost use Rattle.wasm_spec.specs.Rules.{HasOffset, HasClass, class_of, address_class};
 ghost use Rattle.wasm_form.specs.Views.{expression_of, data_kind_of, segment_of, module_of};
 
 use crate::form::{ConstExpr, DataKind, DataSegment, Form};
@@ -50,8 +50,17 @@ fn is_address(expression: &ConstExpr, memory: &MemoryType) -> bool
     ensures { IsTrue result ↔ HasClass (expression_of expression.now) (address_class memory.now) }
 {
     match expression.ops.as_slice() {
-        [Operator::I32Const { .. }] => !memory.memory64,
-        [Operator::I64Const { .. }] => memory.memory64,
+        [operator] => pushes_address(operator, memory),
+        _ => false,
+    }
+}
+
+fn pushes_address(operator: &Operator, memory: &MemoryType) -> bool
+    ensures { IsTrue result ↔ (class_of operator.now ≡ Some (address_class memory.now)) }
+{
+    match operator {
+        Operator::I32Const { .. } => !memory.memory64,
+        Operator::I64Const { .. } => memory.memory64,
         _ => false,
     }
 }
