@@ -176,7 +176,8 @@ fn long_non_negative_s33_at(bytes: &[u8]) -> Result<(u32, &[u8]), ReadError>
     let Some((found, rest)) = sevens_at(bytes) else {
         return Err(ReadError::Malformed);
     };
-    if found.last % 128 >= 64 {
+    let is_negative = found.last % 128 >= 64;
+    if is_negative {
         return Err(ReadError::Malformed);
     }
     match u32::try_from(found.sum) {

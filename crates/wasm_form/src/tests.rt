@@ -5,6 +5,7 @@ mod large;
 mod linked;
 mod operators;
 mod rows;
+mod types;
 
 use crate::{DataKind, MemoryType, Operator, Payload, ReadError, What, read_module};
 use std::alloc::{AllocError, Global};
