@@ -128,7 +128,11 @@ module _ (g h : List ℕ → Part Payload) (p : Payload) (same : (n bytes : List
   custom_changed bytes s =
       let i = s.is_second.1 in
       record {
-        value = s.value; front = s.front; back = s.back; parts = s.parts; is_first = s.is_first;
+        value = s.value;
+        front = s.front;
+        back = s.back;
+        parts = s.parts;
+        is_first = s.is_first;
         is_second = (s.is_second.0, record { value = i.value; front = i.front; back = i.back; parts = i.parts; is_first = i.is_first; is_second = same i.value i.back i.is_second });
       }
 
@@ -151,7 +155,11 @@ module _ (g h : List ℕ → Part Payload) (w : What) (same : (n bytes : List �
   custom_stops bytes (inr s) =
       let i = s.stops_second in
       inr (record {
-        value = s.value; front = s.front; back = s.back; parts = s.parts; is_first = s.is_first;
+        value = s.value;
+        front = s.front;
+        back = s.back;
+        parts = s.parts;
+        is_first = s.is_first;
         stops_second = record { inside = i.inside; after = i.after; parts = i.parts; long = i.long; stops_inside = name_stops i.inside i.stops_inside };
       })
 
@@ -231,15 +239,23 @@ plain_or_stops place next (id ∷ front) p s = by_test (id == 0) s where
   by_name s true t =
       let i = s.is_second.1 in
       let named = interface_is i.value t in
-      inr (λ none. (let Q : Payload → Type 0 = IsNoInterface in subst Q i.is_second none) named, λ rest. inr (record {
-        value = s.value; front = s.front; back = s.back ++ rest;
-        parts = ap (λ (l : List ℕ). l ++ rest) s.parts ∙ append_assoc s.front s.back rest;
-        is_first = s.is_first;
-        stops_second = record {
-          inside = s.back; after = rest; parts = refl; long = s.is_second.0;
-          stops_inside = inr (record { value = i.value; front = i.front; back = i.back; parts = i.parts; is_first = i.is_first; stops_second = (named, refl) });
-        };
-      }))
+      inr (
+        λ none. (let Q : Payload → Type 0 = IsNoInterface in subst Q i.is_second none) named,
+        λ rest. inr (record {
+          value = s.value;
+          front = s.front;
+          back = s.back ++ rest;
+          parts = ap (λ (l : List ℕ). l ++ rest) s.parts ∙ append_assoc s.front s.back rest;
+          is_first = s.is_first;
+          stops_second = record {
+            inside = s.back;
+            after = rest;
+            parts = refl;
+            long = s.is_second.0;
+            stops_inside = inr (record { value = i.value; front = i.front; back = i.back; parts = i.parts; is_first = i.is_first; stops_second = (named, refl) });
+          };
+        }),
+      )
   by_name s false t =
       let i = s.is_second.1 in
       inl (let Q : Payload → Type 0 = IsNoInterface in subst Q (sym i.is_second) (λ h. let both : true ≡ false = sym (is_interface i.value h) ∙ t in absurd cc))

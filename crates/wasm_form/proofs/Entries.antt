@@ -215,8 +215,17 @@ all_types p ps = ap length (flat_map-append (λ (g : Group UnpackedIndex). g) (g
 
 all_more : (p : Payload) (ps : Module) → all_entries (p ∷ ps) ≡ entries p + all_entries ps
 all_more p ps =
-    omega (arith, all_types p ps, one_list imports_of_section p ps, one_list function_types_of_section p ps, one_list tables_of_section p ps,
-      one_list memories_of_section p ps, one_list tags_of_section p ps, one_list globals_of_section p ps, one_list segments_of_section p ps)
+    omega (
+      arith,
+      all_types p ps,
+      one_list imports_of_section p ps,
+      one_list function_types_of_section p ps,
+      one_list tables_of_section p ps,
+      one_list memories_of_section p ps,
+      one_list tags_of_section p ps,
+      one_list globals_of_section p ps,
+      one_list segments_of_section p ps,
+    )
 
 sections_few : (ps : Module) (place next : ℕ) (bytes : List ℕ) → SpellsSections place next bytes ps → all_entries ps ≤ length bytes
 sections_few [] place next bytes s = omega arith

@@ -58,12 +58,12 @@ same_steps (suc j) (suc k) place next (b ∷ bytes) l m =
     measured_then (section_at place next (b ∷ bytes)) (length (b ∷ bytes)) (λ p. others j place next p.0.1 (p.0.0, p.1))
     ∙ later (λ i n rest s t. same_steps j k i n rest s t) (section_at place next (b ∷ bytes)) refl
     ∙ sym (measured_then (section_at place next (b ∷ bytes)) (length (b ∷ bytes)) (λ p. others k place next p.0.1 (p.0.0, p.1))) where
-  later : ((i n : ℕ) (rest : List ℕ) → length rest ≤ j → length rest ≤ k → sections_at j i n rest ≡ sections_at k i n rest) → (r : Result (Payload × List ℕ) Fault) → section_at place next (b ∷ bytes) ≡ r
-      → and_then r (after_some j place next (b ∷ bytes)) ≡ and_then r (after_some k place next (b ∷ bytes))
-  later ih (Err fault) e = refl
-  later ih (Ok p) e =
-      let short = section_shortens place next (b ∷ bytes) p.0 p.1 e in
-      ap (λ (r : Result (List Payload) Fault). and_then r (λ ps. Ok (p.0 ∷ ps))) (ih (place + (length (b ∷ bytes) - length p.1)) (next_order next p.0) p.1 (omega arith) (omega arith))
+      later : ((i n : ℕ) (rest : List ℕ) → length rest ≤ j → length rest ≤ k → sections_at j i n rest ≡ sections_at k i n rest) → (r : Result (Payload × List ℕ) Fault) → section_at place next (b ∷ bytes) ≡ r
+          → and_then r (after_some j place next (b ∷ bytes)) ≡ and_then r (after_some k place next (b ∷ bytes))
+      later ih (Err fault) e = refl
+      later ih (Ok p) e =
+          let short = section_shortens place next (b ∷ bytes) p.0 p.1 e in
+          ap (λ (r : Result (List Payload) Fault). and_then r (λ ps. Ok (p.0 ∷ ps))) (ih (place + (length (b ∷ bytes) - length p.1)) (next_order next p.0) p.1 (omega arith) (omega arith))
 
 -- ---- one step of the loop
 
@@ -76,11 +76,11 @@ first_step place next [] some = absurd (some refl)
 first_step place next (c ∷ bytes) some =
     measured_then (section_at place next (c ∷ bytes)) (length (c ∷ bytes)) (λ p. others (length bytes) place next p.0.1 (p.0.0, p.1))
     ∙ later (section_at place next (c ∷ bytes)) refl where
-  later : (r : Result (Payload × List ℕ) Fault) → section_at place next (c ∷ bytes) ≡ r → and_then r (after_some (length bytes) place next (c ∷ bytes)) ≡ and_then r (all_others place next (c ∷ bytes))
-  later (Err fault) e = refl
-  later (Ok p) e =
-      let short = section_shortens place next (c ∷ bytes) p.0 p.1 e in
-      ap (λ (r : Result (List Payload) Fault). and_then r (λ ps. Ok (p.0 ∷ ps))) (same_steps (length bytes) (length p.1) (place + (length (c ∷ bytes) - length p.1)) (next_order next p.0) p.1 (omega arith) (omega arith))
+      later : (r : Result (Payload × List ℕ) Fault) → section_at place next (c ∷ bytes) ≡ r → and_then r (after_some (length bytes) place next (c ∷ bytes)) ≡ and_then r (all_others place next (c ∷ bytes))
+      later (Err fault) e = refl
+      later (Ok p) e =
+          let short = section_shortens place next (c ∷ bytes) p.0 p.1 e in
+          ap (λ (r : Result (List Payload) Fault). and_then r (λ ps. Ok (p.0 ∷ ps))) (same_steps (length bytes) (length p.1) (place + (length (c ∷ bytes) - length p.1)) (next_order next p.0) p.1 (omega arith) (omega arith))
 
 module _ (front : List Payload) (place next : ℕ) (bytes : List ℕ) (total : Result (List Payload) Fault) (so_far : with_payloads front (all_sections_at place next bytes) ≡ total) where
   -- the sections end where no byte is left

@@ -37,8 +37,8 @@ pub heap_type_agrees : Agrees heap_type_at grammar.heap_type
 unfolding heap_type_at
 heap_type_agrees =
     next_byte_agrees (λ b.
-        given_agrees (abstract_heap b) (λ h. first_byte_agrees (λ same. gives_agrees (Abstract h)))
-        (choose_agrees (b == 0x65) (stopped_agrees what.Shared) concrete_agrees))
+    given_agrees (abstract_heap b) (λ h. first_byte_agrees (λ same. gives_agrees (Abstract h)))
+    (choose_agrees (b == 0x65) (stopped_agrees what.Shared) concrete_agrees))
     (λ b y s. heap_type_filled (abstract_heap b) (b == 0x65) y s)
 
 pub reference_after_agrees : (b : ℕ) → Agrees (reference_after_at b) (grammar.reference_after b)

@@ -92,11 +92,7 @@ fn active_in_table(alloc: Global, bytes: &[u8]) -> Result<(ElementKind, &[u8]), 
 
 /// An element segment behind its flag.
 #[tactic(auto, unfolding(crate::specs::ReadingEntries::flagged_element_at))]
-fn flagged_element(
-    alloc: Global,
-    flag: u32,
-    bytes: &[u8],
-) -> Result<(Element, &[u8]), ReadError>
+fn flagged_element(alloc: Global, flag: u32, bytes: &[u8]) -> Result<(Element, &[u8]), ReadError>
     ensures { Gives (λ x. (element_of x.0, x.1.now)) result (flagged_element_at flag bytes.now) }
 {
     match flag {

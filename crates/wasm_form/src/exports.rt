@@ -44,10 +44,7 @@ fn export<'d>(_alloc: Global, bytes: &'d [u8]) -> Result<(Export<'d>, &'d [u8]),
 }
 
 /// The exports that fill a section.
-pub fn exports<'d>(
-    alloc: Global,
-    bytes: &'d [u8],
-) -> Result<(Vec<Export<'d>>, &'d [u8]), ReadError>
+pub fn exports<'d>(alloc: Global, bytes: &'d [u8]) -> Result<(Vec<Export<'d>>, &'d [u8]), ReadError>
     ensures { Gives (λ x. (map export_of x.0.items, x.1.now)) result (all_entries_at export_entry_at bytes.now) }
 {
     entries(alloc, bytes, export)

@@ -69,10 +69,7 @@ fn import<'d>(alloc: Global, bytes: &'d [u8]) -> Result<(Import<'d>, &'d [u8]), 
 }
 
 /// The imports that fill a section.
-pub fn imports<'d>(
-    alloc: Global,
-    bytes: &'d [u8],
-) -> Result<(Vec<Import<'d>>, &'d [u8]), ReadError>
+pub fn imports<'d>(alloc: Global, bytes: &'d [u8]) -> Result<(Vec<Import<'d>>, &'d [u8]), ReadError>
     ensures { Gives (λ x. (map import_of x.0.items, x.1.now)) result (all_entries_at import_entry_at bytes.now) }
 {
     entries(alloc, bytes, import)

@@ -98,7 +98,11 @@ pub fn memory_type(_alloc: Global, bytes: &[u8]) -> Result<(MemoryType, &[u8]), 
 
 /// What follows the flags of a table.
 #[tactic(auto, unfolding(crate::specs::ReadingTypes::flagged_table_type_at))]
-fn flagged_table_type(element_type: RefType, flags: u8, bytes: &[u8]) -> Result<(TableType, &[u8]), ReadError>
+fn flagged_table_type(
+    element_type: RefType,
+    flags: u8,
+    bytes: &[u8],
+) -> Result<(TableType, &[u8]), ReadError>
     ensures { Gives (λ x. (x.0, x.1.now)) result (flagged_table_type_at element_type flags bytes.now) }
 {
     let table64 = is_set(flags, IS_64);

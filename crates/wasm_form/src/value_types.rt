@@ -99,7 +99,13 @@ pub fn reference_after(first: u8, bytes: &[u8]) -> Result<(RefType, &[u8]), Read
         return Err(ReadError::Malformed);
     };
     let heap = HeapType::Abstract(heap);
-    Ok((RefType { nullable: true, heap }, bytes))
+    Ok((
+        RefType {
+            nullable: true,
+            heap,
+        },
+        bytes,
+    ))
 }
 
 /// A reference type.

@@ -5,7 +5,8 @@ use crate::types::{CompositeInnerType, RecGroup, SubType};
 use std::alloc::{AllocError, Global};
 use std::test::Fail;
 use wasm_spec::{
-    AbstractHeapType, GlobalType, HeapType, MemoryType, Operator, RefType, TableType, TypeRef, ValType,
+    AbstractHeapType, GlobalType, HeapType, MemoryType, Operator, RefType, TableType, TypeRef,
+    ValType,
 };
 
 const PAGE: MemoryType = MemoryType {

@@ -46,8 +46,14 @@ fn with_segment(
         offset: ConstExpr { ops },
     };
     let segments = vec![in alloc;
-        DataSegment { kind: DataKind::Passive, bytes: b"" },
-        DataSegment { kind: active, bytes: b"a" },
+        DataSegment {
+            kind: DataKind::Passive,
+            bytes: b""
+        },
+        DataSegment {
+            kind: active,
+            bytes: b"a"
+        },
     ]?;
     let payloads = vec![in alloc; Payload::Segments(segments)]?;
     let wasm = b"";
@@ -72,7 +78,12 @@ fn a_memory_and_its_segment_keep_the_rules(rt: HostRuntime) -> Result<(), Fail> 
         offset,
     };
     let memories = vec![in alloc; narrow(1, None, None)]?;
-    let segments = vec![in alloc; DataSegment { kind: active, bytes: b"a" }]?;
+    let segments = vec![in alloc;
+        DataSegment {
+            kind: active,
+            bytes: b"a"
+        },
+    ]?;
     let payloads = vec![in alloc; Payload::Memories(memories), Payload::Segments(segments)]?;
     let wasm = b"";
     assert_eq!(rt; check(alloc, &Form { wasm, payloads }), Ok(()));

@@ -1,12 +1,17 @@
 //! Each flag of an element segment.
 
-use crate::{AbstractHeapType, ElementItems, ElementKind, HeapType, Payload, RefType, read_module};
 use crate::tests::module;
+use crate::{AbstractHeapType, ElementItems, ElementKind, HeapType, Payload, RefType, read_module};
 use std::alloc::Global;
 use std::test::Fail;
 
 /// What a test looks at: the kind, the table that is named, how many functions, and of expressions their type and how many.
-type Seen = (&'static str, Option<u32>, Option<usize>, Option<(RefType, usize)>);
+type Seen = (
+    &'static str,
+    Option<u32>,
+    Option<usize>,
+    Option<(RefType, usize)>,
+);
 
 fn seen(kind: &ElementKind, items: &ElementItems) -> Seen {
     let (name, table) = match kind {
@@ -72,7 +77,11 @@ fn reads_each_flag_of_an_element_segment(rt: HostRuntime) -> Result<(), Fail> {
         ),
     ];
     for (section, expected) in cases {
-        assert_eq!(rt; first_segment(rt.alloc(), section)?, expected, "{section:?}");
+        assert_eq!(rt;
+            first_segment(rt.alloc(), section)?,
+            expected,
+            "{section:?}"
+        );
     }
     Ok(())
 }

@@ -1,7 +1,7 @@
 //! A module of a million functions.
 
-use crate::{Payload, read_module};
 use crate::tests::HEADER;
+use crate::{Payload, read_module};
 use std::alloc::AllocError;
 use std::test::Fail;
 
@@ -29,12 +29,7 @@ fn push_number(bytes: &mut Vec<u8>, number: u32) -> Result<(), AllocError> {
 }
 
 /// A section of a million entries that are alike.
-fn push_section(
-    bytes: &mut Vec<u8>,
-    id: u8,
-    size: u32,
-    entry: &[u8],
-) -> Result<(), AllocError> {
+fn push_section(bytes: &mut Vec<u8>, id: u8, size: u32, entry: &[u8]) -> Result<(), AllocError> {
     bytes.push(id)?;
     push_number(bytes, size)?;
     push_number(bytes, COUNT)?;

@@ -1,9 +1,9 @@
 //! Each operator of a constant expression.
 
+use crate::tests::module;
 use crate::{
     AbstractHeapType, HeapType, Operator, Payload, ReadError, UnpackedIndex, What, read_module,
 };
-use crate::tests::module;
 use std::alloc::Global;
 use std::test::Fail;
 
@@ -44,7 +44,9 @@ fn reads_each_operator(rt: HostRuntime) -> Result<(), Fail> {
             },
         ),
         (
-            &[0xFD, 12, 1, 2, 3, 4, 5, 6, 7, 8, 9, 10, 11, 12, 13, 14, 15, 16, 0x0B],
+            &[
+                0xFD, 12, 1, 2, 3, 4, 5, 6, 7, 8, 9, 10, 11, 12, 13, 14, 15, 16, 0x0B,
+            ],
             Operator::V128Const {
                 value: 0x100F0E0D0C0B0A090807060504030201,
             },
@@ -97,7 +99,11 @@ fn reads_each_operator(rt: HostRuntime) -> Result<(), Fail> {
         (&[0xFB, 0x9B, 0x00, 0x0B], Operator::ExternConvertAny),
     ];
     for (expression, expected) in cases {
-        assert_eq!(rt; first_operator(rt.alloc(), expression)?, expected, "{expression:?}");
+        assert_eq!(rt;
+            first_operator(rt.alloc(), expression)?,
+            expected,
+            "{expression:?}"
+        );
     }
     Ok(())
 }

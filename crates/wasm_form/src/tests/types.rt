@@ -2,8 +2,8 @@
 
 use super::{module, refusal};
 use crate::{
-    AbstractHeapType, CompositeInnerType, FieldType, HeapType, Payload, ReadError, RefType, StorageType,
-    UnpackedIndex, ValType, What, read_module,
+    AbstractHeapType, CompositeInnerType, FieldType, HeapType, Payload, ReadError, RefType,
+    StorageType, UnpackedIndex, ValType, What, read_module,
 };
 use std::alloc::Global;
 use std::test::Fail;
@@ -38,7 +38,10 @@ fn alone(group: usize, kind: Kind) -> Member {
 
 fn kind_of(composite: &CompositeInnerType) -> Kind {
     match composite {
-        CompositeInnerType::Func(function) => Kind::Func(function.params.len(), function.results.len()),
+        CompositeInnerType::Func(function) => Kind::Func(
+            function.params.len(),
+            function.results.len(),
+        ),
         CompositeInnerType::Struct(fields) => Kind::Struct(fields.len()),
         CompositeInnerType::Array(_) => Kind::Array,
         CompositeInnerType::Cont(index) => Kind::Cont(*index),
@@ -134,8 +137,14 @@ fn reads_each_value_type(rt: HostRuntime) -> Result<(), Fail> {
         (&[0x63, 0x3F], concrete_type(true, 63)),
         (&[0x64, 0xC0, 0x00], concrete_type(false, 64)),
         (&[0x64, 0xF0, 0x00], concrete_type(false, 112)),
-        (&[0x63, 0x80, 0x80, 0x80, 0x80, 0x00], concrete_type(true, 0)),
-        (&[0x63, 0xFF, 0xFF, 0xFF, 0xFF, 0x0F], concrete_type(true, 4294967295)),
+        (
+            &[0x63, 0x80, 0x80, 0x80, 0x80, 0x00],
+            concrete_type(true, 0),
+        ),
+        (
+            &[0x63, 0xFF, 0xFF, 0xFF, 0xFF, 0x0F],
+            concrete_type(true, 4294967295),
+        ),
     ];
     for (spelling, expected) in cases {
         let mut bytes = Vec::new(rt.alloc());
@@ -204,7 +213,12 @@ fn reads_groups(rt: HostRuntime) -> Result<(), Fail> {
             1,
             &[alone(0, Kind::Struct(2))],
         ),
-        ("an array", &[1, 4, 1, 0x5E, 0x77, 0], 1, &[alone(0, Kind::Array)]),
+        (
+            "an array",
+            &[1, 4, 1, 0x5E, 0x77, 0],
+            1,
+            &[alone(0, Kind::Array)],
+        ),
         (
             "a continuation",
             &[1, 3, 1, 0x5D, 7],
@@ -222,7 +236,11 @@ fn reads_groups(rt: HostRuntime) -> Result<(), Fail> {
             "a group of two, and one alone",
             &[1, 12, 2, 0x4E, 2, 0x60, 0, 0, 0x5F, 0, 0x4F, 0, 0x5F, 0],
             2,
-            &[alone(0, func), alone(0, Kind::Struct(0)), alone(1, Kind::Struct(0))],
+            &[
+                alone(0, func),
+                alone(0, Kind::Struct(0)),
+                alone(1, Kind::Struct(0)),
+            ],
         ),
     ];
     for (name, sections, count, expected) in cases {
@@ -240,26 +258,50 @@ fn refuses_other_types(rt: HostRuntime) -> Result<(), Fail> {
     let supertypes = ReadError::Unsupported(What::Supertypes);
     let cases: [(&str, &[u8], ReadError); 22] = [
         ("a shared composite type", &[0x65, 0x60, 0, 0], shared),
-        ("a shared type behind supertypes", &[0x50, 0, 0x65, 0x60, 0, 0], shared),
+        (
+            "a shared type behind supertypes",
+            &[0x50, 0, 0x65, 0x60, 0, 0],
+            shared,
+        ),
         ("a shared type in a group", &[0x4E, 1, 0x65], shared),
         ("a shared value type", &[0x60, 1, 0x65, 0x70, 0], shared),
         ("a shared field", &[0x5F, 1, 0x65, 0x70, 0], shared),
-        ("a shared heap type", &[0x60, 1, 0x63, 0x65, 0x70, 0], shared),
+        (
+            "a shared heap type",
+            &[0x60, 1, 0x63, 0x65, 0x70, 0],
+            shared,
+        ),
         ("two supertypes", &[0x50, 2, 0, 0, 0x60, 0, 0], supertypes),
         ("two supertypes, cut", &[0x4F, 2], supertypes),
         ("four hundred supertypes", &[0x4F, 0x90, 0x03], supertypes),
         ("no type", &[], bad),
         ("a value type alone", &[0x7F], bad),
         ("a group in a group", &[0x4E, 1, 0x4E, 0], bad),
-        ("a subtype in a subtype", &[0x50, 0, 0x50, 0, 0x60, 0, 0], bad),
+        (
+            "a subtype in a subtype",
+            &[0x50, 0, 0x50, 0, 0x60, 0, 0],
+            bad,
+        ),
         ("fewer members than counted", &[0x4E, 2, 0x60, 0, 0], bad),
-        ("more parameters than there are", &[0x60, 0xFF, 0xFF, 0xFF, 0xFF, 0x0F, 0x7F], bad),
+        (
+            "more parameters than there are",
+            &[0x60, 0xFF, 0xFF, 0xFF, 0xFF, 0x0F, 0x7F],
+            bad,
+        ),
         ("a packed parameter", &[0x60, 1, 0x78, 0], bad),
         ("no such heap type", &[0x60, 1, 0x63, 0x67, 0], bad),
         ("a number as a heap type", &[0x60, 1, 0x63, 0x7F, 0], bad),
         ("an index below zero", &[0x60, 1, 0x63, 0xFF, 0x7F, 0], bad),
-        ("an index past 32 bits", &[0x60, 1, 0x63, 0x80, 0x80, 0x80, 0x80, 0x10, 0], bad),
-        ("an index of six bytes", &[0x60, 1, 0x63, 0x80, 0x80, 0x80, 0x80, 0x80, 0, 0], bad),
+        (
+            "an index past 32 bits",
+            &[0x60, 1, 0x63, 0x80, 0x80, 0x80, 0x80, 0x10, 0],
+            bad,
+        ),
+        (
+            "an index of six bytes",
+            &[0x60, 1, 0x63, 0x80, 0x80, 0x80, 0x80, 0x80, 0, 0],
+            bad,
+        ),
         ("a mutability of 2", &[0x5E, 0x7F, 2], bad),
     ];
     for (name, bytes, expected) in cases {
