@@ -25,7 +25,7 @@ fn bytes_without_a_header_are_refused(rt: HostRuntime) -> Result<(), Fail> {
 /// Sections behind the header, and the line of the refusal.
 #[test]
 fn refused_modules(rt: HostRuntime) -> Result<(), Fail> {
-    let cases: [(&[u8], &str); 6] = [
+    let cases: [(&[u8], &str); 10] = [
         (
             &[0x01, 0x04, 0x01, 0x60, 0x00, 0x00],
             "refused unsupported section\n",
@@ -51,7 +51,23 @@ fn refused_modules(rt: HostRuntime) -> Result<(), Fail> {
             &[0x0B, 0x07, 0x01, 0x00, 0x41, 0x00, 0x0B, 0x01, 0x00],
             "refused invalid L9\n",
         ),
-        // An operator that is no constant.
+        (
+            &[0x01, 0x05, 0x01, 0x65, 0x60, 0x00, 0x00],
+            "refused unsupported shared\n",
+        ),
+        (
+            &[0x01, 0x08, 0x01, 0x50, 0x02, 0x00, 0x00, 0x60, 0x00, 0x00],
+            "refused unsupported supertypes\n",
+        ),
+        (
+            &[0x02, 0x07, 0x01, 0x01, 0x6D, 0x01, 0x66, 0x20, 0x00],
+            "refused unsupported exact import\n",
+        ),
+        (
+            b"\x00\x10\x0Fwebidl-bindings",
+            "refused unsupported interface types\n",
+        ),
+        // An operator that is no integer constant.
         (
             &[0x0B, 0x07, 0x01, 0x00, 0x23, 0x00, 0x0B, 0x01, 0x00],
             "refused unsupported operator\n",
