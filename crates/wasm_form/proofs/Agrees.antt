@@ -1,12 +1,12 @@
 -- A reader and a part of the grammar say the same; and the ways in which readers join keep this.
-use Rattle.std.proofs.Common.{◌≡◌, ℕ, zero, suc, ◌<◌, ◌≤◌, List, [], ◌∷◌, ◌++◌, length, take, drop, Option, Some, None, Result, Ok, Err, Bool, true, false, cond, ltb, eqb, refl, sym, ap, subst, ◌∙◌, append_assoc, arith, inl, inr}
+use Rattle.std.proofs.Common.{◌≡◌, ℕ, zero, suc, ◌≤◌, List, [], ◌∷◌, ◌++◌, length, take, drop, Option, Some, None, Result, Ok, Err, Bool, true, false, cond, ltb, eqb, refl, sym, ap, subst, ◌∙◌, append_assoc, arith, inl, inr}
 use Rattle.std.specs.Prelude.{◌⊎◌, IsTrue}
-use Rattle.std.proofs.lemmas.Bool.{lt-ltb, le-ltb, ltb-true, ltb-false, eqb-true}
+use Rattle.std.proofs.lemmas.Bool.{le-ltb, ltb-false, eqb-true}
 use Rattle.std.proofs.lemmas.List.{append-nil, nil_from_length, take_at, drop_at, take-append-drop, length-append, length-take}
 use Rattle.wasm_spec.specs.declared.operators.What.{What}
 use Rattle.wasm_spec.specs.Parts as part
 use Rattle.wasm_spec.specs.Parts.{Part, Joined, StopsLater, FilledStops}
-use Rattle.wasm_form.specs.Reading.{Fault, Bad, Stops, Reader, Filler, and_then, ◌>>=◌, gives_at, nothing_at, stopped_at, raw_bytes_at, all_bytes_at, fill_after, choose_at, given_at, optional_at, checked_at, first_byte_at, next_byte_at, elements_at, whole, measured_at, filled_at}
+use Rattle.wasm_form.specs.Reading.{Fault, Bad, Stops, Reader, Filler, and_then, ◌>>=◌, gives_at, nothing_at, stopped_at, raw_bytes_at, all_bytes_at, fill_after, choose_at, given_at, optional_at, checked_at, first_byte_at, next_byte_at, elements_at, whole, filled_at}
 
 -- what is read is spelled so, what is spelled so is read, whatever follows, and reading stops where the part does
 pub record Agrees {A : Type 0} (read : Reader A) (p : Part A) : Type 0 where

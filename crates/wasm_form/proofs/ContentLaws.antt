@@ -1,5 +1,5 @@
 -- Reading of sections agrees with the grammar, as far as they are taken: of custom sections those that are none of interface types.
-use Rattle.std.proofs.Common.{◌≡◌, ℕ, ◌+◌, List, [], ◌∷◌, ◌++◌, length, Option, Some, None, Result, Ok, Err, Bool, true, false, cond, refl, ap, subst, sym, ◌∙◌, append_assoc, arith, inl, inr}
+use Rattle.std.proofs.Common.{◌≡◌, ℕ, ◌+◌, List, [], ◌∷◌, ◌++◌, Option, Some, None, Ok, Err, Bool, true, false, cond, refl, ap, subst, sym, ◌∙◌, append_assoc, arith, inl, inr}
 use Rattle.std.specs.Prelude.{◌⊎◌, ◌==◌, ◌||◌, nat_le, Contains, codes, bytes_eq}
 use Rattle.std.proofs.lemmas.Bool.{cases_Bool}
 use Rattle.std.proofs.lemmas.List.Elements.{Contains-push_cases}
@@ -13,11 +13,11 @@ use Rattle.wasm_spec.specs.EntryGrammar.{name}
 use Rattle.wasm_spec.specs.Grammar as grammar
 use Rattle.wasm_spec.specs.Grammar.{interface_names, order_of}
 use Rattle.wasm_spec.specs.Valid.{IsNoInterface}
-use Rattle.wasm_form.specs.Reading.{Fault, Stops, Reader, Filler, fill_after, choose_at, first_byte_at, all_bytes_at}
+use Rattle.wasm_form.specs.Reading.{Stops, Reader, Filler, fill_after, choose_at, first_byte_at, all_bytes_at}
 use Rattle.wasm_form.specs.ReadingNumbers.{sized_at}
 use Rattle.wasm_form.specs.ReadingEntries.{name_at}
 use Rattle.wasm_form.specs.ReadingSections.{is_interface_name, custom_after_at, custom_contents_at, entries_at, code_at, section_contents_at, placed_section_at, section_at}
-use Rattle.wasm_form.proofs.Agrees.{Agrees, Fills, ok, err, ok_is, ok_not_err, nothing_agrees, then_agrees, choose_agrees, first_byte_agrees, fill_after_fills, all_bytes_fill}
+use Rattle.wasm_form.proofs.Agrees.{Agrees, Fills, err, ok_is, ok_not_err, nothing_agrees, then_agrees, choose_agrees, first_byte_agrees, fill_after_fills, all_bytes_fill}
 use Rattle.wasm_form.proofs.NumberLaws.{unsigned_agrees, vector_agrees, sized_agrees}
 use Rattle.wasm_form.proofs.MadeLaws.{sized_made, filled_made, measured_agrees}
 use Rattle.wasm_form.proofs.TypeLaws.{group_agrees, memory_type_agrees, tag_type_agrees}

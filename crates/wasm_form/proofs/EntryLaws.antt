@@ -1,12 +1,11 @@
 -- Reading of the entries of sections agrees with the grammar.
-use Rattle.std.proofs.Common.{◌≡◌, ℕ, Option, Some, None}
+use Rattle.std.proofs.Common.{ℕ, Option, Some, None}
 use Rattle.std.specs.Prelude.{◌==◌}
 use Rattle.std.specs.Str.{is_utf8}
 use Rattle.wasm_spec.specs.declared.types.RefType.{RefType}
 use Rattle.wasm_spec.specs.declared.entities.ExternalKind.TheVariants as kind
 use Rattle.wasm_spec.specs.declared.operators.What.TheVariants as what
 use Rattle.wasm_spec.specs.Module.{ElementKind, PassiveElement, DeclaredElement}
-use Rattle.wasm_spec.specs.Parts as part
 use Rattle.wasm_spec.specs.Parts.{Part}
 use Rattle.wasm_spec.specs.EntryGrammar as grammar
 use Rattle.wasm_spec.specs.EntryGrammar.{funcref}

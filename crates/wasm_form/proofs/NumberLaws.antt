@@ -1,5 +1,5 @@
 -- Reading of numbers, and of what they count, agrees with the grammar.
-use Rattle.std.proofs.Common.{◌≡◌, ℕ, zero, suc, ◌-◌, ◌^◌, ◌<◌, ◌≤◌, ◌%◌, List, [], ◌∷◌, ◌++◌, length, Option, Some, None, Result, Ok, Err, Bool, true, false, cond, ltb, leb, refl, sym, ap, subst, ◌∙◌, arith}
+use Rattle.std.proofs.Common.{◌≡◌, ℕ, zero, suc, ◌-◌, ◌^◌, ◌<◌, ◌≤◌, ◌%◌, List, [], ◌∷◌, ◌++◌, length, Option, Some, None, Result, Ok, Err, Bool, true, false, ltb, leb, refl, sym, ap, subst, ◌∙◌, arith}
 use lib.Dec.{T}
 use lib.Signed.{le_z_yes, lt_z_yes}
 use Rattle.std.specs.Prelude.{ℤ, pos, neg_ℤ, int_le, int_lt, ◌&&◌, ◌-ℤ◌, ◌≤ℤ◌, ◌<ℤ◌}
@@ -12,9 +12,9 @@ use Rattle.wasm_spec.specs.declared.operators.What.{What}
 use Rattle.wasm_spec.specs.Numbers.{EndsOnce, sevens, signed_sum, most_bytes, last_or, SpellsUnsigned, SpellsSigned}
 use Rattle.wasm_spec.specs.Parts as part
 use Rattle.wasm_spec.specs.Parts.{Part}
-use Rattle.wasm_form.specs.Reading.{Fault, Bad, Stops, Reader, Filler, and_then, raw_bytes_at, filled_at}
-use Rattle.wasm_form.specs.ReadingNumbers.{Found, number_bytes, found_as, found_at, unsigned_from, unsigned_at, signed_of, signed_from, signed_at, non_negative_from, non_negative_at, vector_at, counted_bytes_at, sized_at}
-use Rattle.wasm_form.proofs.Agrees.{Agrees, Fills, ok, err, test_ok, test_not_stops, bad_not_stops, same_agrees, raw_bytes_agree, then_agrees, elements_agree, filled_agrees}
+use Rattle.wasm_form.specs.Reading.{Fault, Stops, Reader, Filler, and_then, raw_bytes_at, filled_at}
+use Rattle.wasm_form.specs.ReadingNumbers.{number_bytes, found_as, found_at, unsigned_from, unsigned_at, signed_from, signed_at, non_negative_from, non_negative_at, vector_at, counted_bytes_at, sized_at}
+use Rattle.wasm_form.proofs.Agrees.{Agrees, Fills, test_ok, test_not_stops, bad_not_stops, same_agrees, raw_bytes_agree, then_agrees, elements_agree, filled_agrees}
 
 -- ---- the bytes of a number
 

@@ -1,5 +1,5 @@
 -- What the outcome of reading a module says of its bytes.
-use Rattle.std.proofs.Common.{◌≡◌, ℕ, List, Result, Ok, Err, refl, sym, ap, ◌∙◌, inl, inr}
+use Rattle.std.proofs.Common.{◌≡◌, ℕ, List, Result, Ok, Err, refl, sym, ◌∙◌, inl, inr}
 use Rattle.wasm_spec.specs.declared.operators.What.{What}
 use Rattle.wasm_spec.specs.Module.{Module}
 use Rattle.wasm_spec.specs.Grammar.{Spells, Stops as IsStopped}
@@ -7,9 +7,9 @@ use Rattle.wasm_spec.specs.Valid.{HasNoInterfaceTypes}
 use Rattle.wasm_form.specs.declared.form.Form.{Form}
 use Rattle.wasm_form.specs.declared.error.ReadError.{ReadError}
 use Rattle.wasm_form.specs.declared.error.ReadError.TheVariants as errors
-use Rattle.wasm_form.specs.Reading.{Fault, Bad, Stops, Fails}
+use Rattle.wasm_form.specs.Reading.{Bad, Stops, Fails}
 use Rattle.wasm_form.specs.ReadingSections.{module_at}
-use Rattle.wasm_form.proofs.Agrees.{ok_is, ok_not_err, bad_not_stops}
+use Rattle.wasm_form.proofs.Agrees.{ok_not_err, bad_not_stops}
 use Rattle.wasm_form.proofs.SectionLaws.{module_found, module_again, module_stopped, module_stops_again, module_once}
 
 pub error_is : (result : Result Form ReadError) (d e f : ReadError) → result ≡ Err d → d ≡ e → result ≡ Err f → e ≡ f

@@ -1,10 +1,9 @@
 -- Numbers of one byte.
-use Rattle.std.proofs.Common.{◌≡◌, ℕ, suc, ◌+◌, ◌*◌, ◌%◌, ◌^◌, ◌<◌, ◌≤◌, List, [], ◌∷◌, Option, Some, None, Ok, refl, ap, sym, ◌∙◌, arith, ltb, leb, true, false, lit<}
-use Rattle.std.specs.Prelude.{ℤ, pos, neg_ℤ, int_le, int_lt, ◌&&◌}
+use Rattle.std.proofs.Common.{◌≡◌, ℕ, suc, ◌+◌, ◌*◌, ◌%◌, ◌^◌, ◌<◌, List, Some, Ok, refl, arith, leb, false}
+use Rattle.std.specs.Prelude.{pos}
 use Rattle.std.proofs.lemmas.Bool.{lt-ltb, lt-leb}
-use Rattle.std.proofs.Math.Nat.{mod-eq_of_lt}
 use Rattle.wasm_form.specs.Reading.{uncons}
-use Rattle.wasm_form.specs.ReadingNumbers.{found_at, unsigned_from, unsigned_at, signed_from, signed_at, non_negative_from, non_negative_at, Found}
+use Rattle.wasm_form.specs.ReadingNumbers.{found_at, unsigned_at, signed_at, non_negative_at}
 use Rattle.wasm_form.proofs.Digits.{uncons_is}
 
 short-sum : (b : ℕ) → b < 128 → b % 128 + 128 * 0 ≡ b

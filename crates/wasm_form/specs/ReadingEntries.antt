@@ -1,5 +1,5 @@
 -- Reading of the entries of sections.
-use Rattle.std.specs.Prelude.{◌≡◌, ℕ, List, [], ◌∷◌, true, ◌==◌, Option, None, Some}
+use Rattle.std.specs.Prelude.{ℕ, List, ◌==◌, Option, None, Some}
 use Rattle.std.specs.Str.{is_utf8}
 use Rattle.wasm_spec.specs.declared.types.RefType.{RefType}
 use Rattle.wasm_spec.specs.declared.types.ValType.{ValType}

@@ -1,5 +1,5 @@
 -- Reading of constant expressions.
-use Rattle.std.specs.Prelude.{◌≡◌, ℕ, zero, suc, List, [], ◌∷◌, length, ◌==◌}
+use Rattle.std.specs.Prelude.{ℕ, zero, suc, [], ◌∷◌, length, ◌==◌}
 use Rattle.std.specs.Int.{from_le_bytes, w32, w64, w128}
 use Rattle.wasm_spec.specs.declared.operators.Operator.{Operator}
 use Rattle.wasm_spec.specs.declared.operators.Operator.TheVariants as op

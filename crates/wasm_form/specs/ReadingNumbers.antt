@@ -1,5 +1,5 @@
 -- Reading of numbers, and of what they count.
-use Rattle.std.specs.Prelude.{◌≡◌, ℕ, ℤ, pos, zero, suc, ◌-◌, ◌^◌, ◌%◌, ◌-ℤ◌, neg_ℤ, List, [], ◌∷◌, length, Option, Some, None, Result, Ok, Err, nat_lt, nat_le, int_le, int_lt, ◌&&◌, if◌then◌else◌}
+use Rattle.std.specs.Prelude.{ℕ, ℤ, pos, zero, suc, ◌-◌, ◌^◌, ◌%◌, ◌-ℤ◌, neg_ℤ, List, [], ◌∷◌, length, Option, Some, None, Result, Ok, Err, nat_lt, nat_le, int_le, int_lt, ◌&&◌, if◌then◌else◌}
 use Rattle.std.specs.Option.{option_map}
 use Rattle.wasm_spec.specs.Numbers.{sevens, last_or, most_bytes}
 use Rattle.wasm_form.specs.declared.numbers.Sevens.{Sevens}

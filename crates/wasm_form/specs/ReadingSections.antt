@@ -1,5 +1,5 @@
 -- Reading of sections and modules.
-use Rattle.std.specs.Prelude.{◌≡◌, ℕ, zero, suc, ◌+◌, ◌-◌, List, [], ◌∷◌, length, drop, Bool, ◌&&◌, ◌||◌, ◌==◌, nat_eq, nat_le, bytes_eq, codes, Option, Some, None, Ok, Err, if◌then◌else◌}
+use Rattle.std.specs.Prelude.{ℕ, zero, suc, ◌+◌, List, [], ◌∷◌, length, drop, Bool, ◌&&◌, ◌||◌, ◌==◌, nat_eq, nat_le, bytes_eq, codes, Option, Some, None, Ok, Err, if◌then◌else◌}
 use Rattle.std.specs.List.{starts_with}
 use Rattle.wasm_spec.specs.declared.operators.What.TheVariants as what
 use Rattle.wasm_spec.specs.Module.{Payload, Types, Imports, FunctionTypes, Tables, Memories, Tags, Globals, Exports, Start, Elements, DataCount, Code, Segments, Custom, Module}

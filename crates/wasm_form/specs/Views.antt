@@ -1,10 +1,9 @@
 -- What was read, as the plain values of the definitions.
-use Rattle.std.specs.Prelude.{◌≡◌, ℕ, List, map, Option, Result, Ok, Err}
+use Rattle.std.specs.Prelude.{◌≡◌, map, Result, Ok, Err}
 use Rattle.std.specs.Option.{option_map}
 use Rattle.wasm_spec.specs.declared.types.UnpackedIndex.{UnpackedIndex}
 use Rattle.wasm_spec.specs.TypeData as data_of
 use Rattle.wasm_spec.specs.Module as plain
-use Rattle.wasm_form.specs.declared.types.FuncType.{FuncType}
 use Rattle.wasm_form.specs.declared.types.CompositeInnerType.{CompositeInnerType}
 use Rattle.wasm_form.specs.declared.types.CompositeInnerType.TheVariants as composites
 use Rattle.wasm_form.specs.declared.types.SubType.{SubType}

@@ -1,6 +1,5 @@
 use Rattle.std.proofs.Common.{arith}
 use Rattle.std.proofs.lemmas.Result.{err_from_is_err_and}
-use Rattle.wasm_form.specs.Views.{module_of}
 use Rattle.wasm_form.specs.declared.error.ReadError.TheVariants as errors
 use Rattle.wasm_form.proofs.Entries.{few_entries}
 use Rattle.wasm_form.proofs.Outcomes.{error_is, read_spells, read_none, read_only, fails_spelled, fails_unsupported, fails_malformed, fails_nowhere}
