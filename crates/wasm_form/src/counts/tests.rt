@@ -70,7 +70,7 @@ fn payloads(alloc: Global) -> Result<Vec<Payload<'static>>, AllocError> {
             ops: vec![in alloc; Operator::I32Const { value: 0 }]?,
         },
     };
-    vec![in alloc;
+    Ok(vec![in alloc;
         Payload::Types(vec![in alloc; pair, alone]?),
         Payload::Imports(imports),
         Payload::Functions(vec![in alloc; 0, 0]?),
@@ -78,7 +78,7 @@ fn payloads(alloc: Global) -> Result<Vec<Payload<'static>>, AllocError> {
         Payload::Tags(vec![in alloc; 1]?),
         Payload::Globals(vec![in alloc; global]?),
         Payload::Start(0),
-    ]
+    ]?)
 }
 
 #[test]
