@@ -6,7 +6,7 @@ use Rattle.std.proofs.lemmas.List.{append-nil, nil_from_length, take_at, drop_at
 use Rattle.wasm_spec.specs.declared.operators.What.{What}
 use Rattle.wasm_spec.specs.Parts as part
 use Rattle.wasm_spec.specs.Parts.{Part, Joined, StopsLater, FilledStops}
-use Rattle.wasm_form.specs.Reading.{Fault, Bad, Stops, Reader, Filler, and_then, ◌>>=◌, gives_at, nothing_at, stopped_at, raw_bytes_at, all_bytes_at, fill_after, choose_at, optional_at, checked_at, first_byte_at, elements_at, whole}
+use Rattle.wasm_form.specs.Reading.{Fault, Bad, Stops, Reader, Filler, and_then, ◌>>=◌, gives_at, nothing_at, stopped_at, raw_bytes_at, all_bytes_at, fill_after, choose_at, given_at, optional_at, checked_at, first_byte_at, next_byte_at, elements_at, whole, measured_at, filled_at}
 
 -- what is read is spelled so, what is spelled so is read, whatever follows, and reading stops where the part does
 pub record Agrees {A : Type 0} (read : Reader A) (p : Part A) : Type 0 where
@@ -165,6 +165,11 @@ pub choose_agrees : {A : Type 0} {p q : Reader A} {g h : Part A} (test : Bool) �
 choose_agrees true a b = a
 choose_agrees false a b = b
 
+-- what a value asks for, where there is one
+pub given_agrees : {A B : Type 0} {p : A → Reader B} {q : Reader B} {g : A → Part B} {h : Part B} (o : Option A) → ((x : A) → Agrees (p x) (g x)) → Agrees q h → Agrees (given_at o p q) (part.given o g h)
+given_agrees (Some x) a b = a x
+given_agrees None a b = b
+
 -- the first is asked for only where the test passes, and the second where it fails
 pub optional_agrees : {A : Type 0} {p : Reader A} {g : Part A} (test : Bool) → Agrees p g → Agrees (optional_at test p) (part.optional test g)
 optional_agrees true a = then_agrees a (λ x. gives_agrees (Some x))
@@ -200,6 +205,9 @@ checked_agrees {A} {p} {g} test a = record {
 
 -- ---- a byte that says what follows
 
+cons_head : {A : Type 0} {x y : A} {xs ys : List A} → x ∷ xs ≡ y ∷ ys → x ≡ y
+cons_head e = cc
+
 module _ {A : Type 0} (p : ℕ → Reader A) (g : ℕ → Part A) (a : (b : ℕ) → Agrees (p b) (g b)) where
   first_found : (bytes : List ℕ) (y : A) (rest : List ℕ) → first_byte_at p bytes ≡ Ok (y, rest) → (front : List ℕ) × (bytes ≡ front ++ rest) × part.FirstSpells g front y
   first_found [] y rest e = absurd cc
@@ -219,6 +227,33 @@ module _ {A : Type 0} (p : ℕ → Reader A) (g : ℕ → Part A) (a : (b : ℕ)
 
 pub first_byte_agrees : {A : Type 0} {p : ℕ → Reader A} {g : ℕ → Part A} → ((b : ℕ) → Agrees (p b) (g b)) → Agrees (first_byte_at p) (part.first_byte g)
 first_byte_agrees {A} {p} {g} a = record { found = first_found p g a; again = first_again p g a; stopped = first_stopped p g a; stops_again = first_stops_again p g a }
+
+-- a byte that says what begins with it, which is never nothing
+module _ {A : Type 0} (p : ℕ → Reader A) (g : ℕ → Part A) (a : (b : ℕ) → Agrees (p b) (g b)) (filled : (b : ℕ) (y : A) → ¬ (g b).spells [] y) where
+  next_spells : (b : ℕ) (bytes front rest : List ℕ) (y : A) → b ∷ bytes ≡ front ++ rest → (g b).spells front y → part.NextSpells g front y
+  next_spells b bytes [] rest y e s = absurd (filled b y s)
+  next_spells b bytes (c ∷ front) rest y e s = subst (λ (d : ℕ). (g d).spells (c ∷ front) y) (cons_head e) s
+
+  next_found : (bytes : List ℕ) (y : A) (rest : List ℕ) → next_byte_at p bytes ≡ Ok (y, rest) → (front : List ℕ) × (bytes ≡ front ++ rest) × part.NextSpells g front y
+  next_found [] y rest e = absurd cc
+  next_found (b ∷ bytes) y rest e =
+      let f = (a b).found (b ∷ bytes) y rest e in
+      (f.0, f.1, next_spells b bytes f.0 rest y f.1 f.2)
+
+  next_again : (front : List ℕ) (y : A) (rest : List ℕ) → part.NextSpells g front y → next_byte_at p (front ++ rest) ≡ Ok (y, rest)
+  next_again [] y rest s = absurd s
+  next_again (b ∷ front) y rest s = (a b).again (b ∷ front) y rest s
+
+  next_stopped : (bytes : List ℕ) (what : What) → next_byte_at p bytes ≡ Err (Stops what) → part.NextStops g bytes what
+  next_stopped [] what e = absurd (bad_not_stops what e)
+  next_stopped (b ∷ bytes) what e = (a b).stopped (b ∷ bytes) what e
+
+  next_stops_again : (bytes : List ℕ) (what : What) → part.NextStops g bytes what → next_byte_at p bytes ≡ Err (Stops what)
+  next_stops_again [] what s = absurd s
+  next_stops_again (b ∷ bytes) what s = (a b).stops_again (b ∷ bytes) what s
+
+pub next_byte_agrees : {A : Type 0} {p : ℕ → Reader A} {g : ℕ → Part A} → ((b : ℕ) → Agrees (p b) (g b)) → ((b : ℕ) (y : A) → ¬ (g b).spells [] y) → Agrees (next_byte_at p) (part.next_byte g)
+next_byte_agrees {A} {p} {g} a filled = record { found = next_found p g a filled; again = next_again p g a filled; stopped = next_stopped p g a filled; stops_again = next_stops_again p g a filled }
 
 -- ---- n of them
 
@@ -296,9 +331,6 @@ pub whole_fills : {A : Type 0} {p : Reader A} {g : Part A} → Agrees p g → Fi
 whole_fills {A} {p} {g} a = record { found = whole_found p g a; again = whole_again p g a; stopped = whole_stopped p g a; stops_again = whole_stops_again p g a }
 
 -- the first n bytes
-abbrev pub filled_at : {A : Type 0} → Filler A → ℕ → Reader A
-filled_at part n bytes = and_then (raw_bytes_at n bytes) (λ x. and_then (part x.0) (λ y. Ok (y, x.1)))
-
 module _ {A : Type 0} (p : Filler A) (g : Part A) (a : Fills p g) (n : ℕ) where
   filled_found : (bytes : List ℕ) (y : A) (rest : List ℕ) → filled_at p n bytes ≡ Ok (y, rest) → (front : List ℕ) × (bytes ≡ front ++ rest) × ((length front ≡ n) × g.spells front y)
   filled_found bytes y rest e =

@@ -1,13 +1,14 @@
 -- What a loop over elements gives is what reading them as a list gives.
-use Rattle.std.proofs.Common.{◌≡◌, ℕ, zero, suc, List, [], ◌∷◌, ◌++◌, Result, Ok, Err, refl, sym, ap, ◌∙◌, subst, inl, inr, map}
+use Rattle.std.proofs.Common.{◌≡◌, ℕ, zero, suc, List, [], ◌∷◌, ◌++◌, length, Bool, true, false, cond, eqb, Result, Ok, Err, refl, sym, ap, ◌∙◌, subst, inl, inr, map}
 use Rattle.std.specs.Borrow.{Bor}
 use Rattle.std.specs.Global.{Vec}
 use Rattle.std.proofs.lemmas.List.{append-nil, map_push, map-id}
 use Rattle.wasm_form.specs.declared.error.ReadError.{ReadError}
 use Rattle.wasm_form.specs.declared.error.ReadError.TheVariants as errors
-use Rattle.wasm_form.specs.Reading.{and_then, Filler, Gives, Fails, Fault, elements_at}
+use Rattle.wasm_form.specs.Reading.{and_then, Gives, Fails, Fault, Bad, elements_at, whole}
 use Rattle.wasm_form.specs.ReadingNumbers.{unsigned_at, vector_at, counted_bytes_at, sized_at}
-use Rattle.wasm_form.specs.ReadingVectors.{Returned, Counted, VectorRead, SizedRead}
+use Rattle.wasm_form.specs.ReadingVectors.{Returned, Counted, VectorRead, EntriesRead}
+use Rattle.wasm_form.specs.ReadingSections.{all_entries_at}
 use Rattle.wasm_form.proofs.Loop.{with_front, regroup, all_so_far}
 
 fails_on : {A B : Type 0} (e : ReadError) (read : Result A Fault) (f : A → Result B Fault) → Fails e read → Fails e (and_then read f)
@@ -46,6 +47,25 @@ module _ {X A : Type 0} (view : X → A) (part : List ℕ → Result (A × List 
   vector_gives bytes r (inl (e, is, failed)) = subst (λ (q : Returned (Vec X)). Reads q (vector_at part bytes)) (sym is) (fails_on e (unsigned_at 32 bytes) (λ n. elements_at part n.0 n.1) failed)
   vector_gives bytes r (inr (count, rest, read, h)) = rw read (counted_gives count rest r h)
 
+  -- what was read, and the elements as the grammar has them
+  filled : (rest : Bor (List ℕ)) (x : Vec X × Bor (List ℕ)) (r : Returned (Vec X)) (t : Bool) → r ≡ cond t (Ok (x.0, rest)) (Err errors.Malformed)
+      → Reads r (and_then (cond t (Ok (map view x.0.items)) (Err Bad)) (λ y. Ok (y, rest.now)))
+  filled rest x r true is = subst (λ (q : Returned (Vec X)). Reads q (Ok (map view x.0.items, rest.now))) (sym is) refl
+  filled rest x r false is = subst (λ (q : Returned (Vec X)). Reads q (Err Bad)) (sym is) refl
+
+  pub entries_gives : (bytes : List ℕ) (r : Returned (Vec X)) → EntriesRead step (counted_bytes_at bytes) r → Reads r (all_entries_at part bytes)
+  unfolding sized_at whole
+  entries_gives bytes r (inl (e, is, failed)) =
+      subst (λ (q : Returned (Vec X)). Reads q (all_entries_at part bytes)) (sym is)
+      (fails_on e (counted_bytes_at bytes) (λ body. and_then (whole (vector_at part) body.0) (λ x. Ok (x, body.1))) failed)
+  entries_gives bytes r (inr (body, rest, Ok x, read, h, is)) =
+      let one : vector_at part body.now ≡ Ok (map view x.0.items, x.1.now) = vector_gives body.now (Ok x) h in
+      rw (read, one) (filled rest x r (eqb (length x.1.now) 0) is)
+  entries_gives bytes r (inr (body, rest, Err e, read, h, is)) =
+      let failed : Fails e (vector_at part body.now) = vector_gives body.now (Err e) h in
+      subst (λ (q : Returned (Vec X)). Reads q (all_entries_at part bytes)) (sym is)
+      (rw read (fails_on e (whole (vector_at part) body.now) (λ x. Ok (x, rest.now)) (fails_on e (vector_at part body.now) (λ x. cond (eqb (length x.1) 0) (Ok x.0) (Err Bad)) failed)))
+
 -- elements that are seen as they are
 module _ {X : Type 0} (part : List ℕ → Result (X × List ℕ) Fault) (step : Bor (List ℕ) → Returned X → Type 0)
     (steps : (at : Bor (List ℕ)) (one : Returned X) → step at one → Gives (λ x. (x.0, x.1.now)) one (part at.now)) where
@@ -56,16 +76,5 @@ module _ {X : Type 0} (part : List ℕ → Result (X × List ℕ) Fault) (step :
   pub plain_vector_gives : (bytes : List ℕ) (r : Returned (Vec X)) → VectorRead step (unsigned_at 32 bytes) r → Gives (λ x. (x.0.items, x.1.now)) r (vector_at part bytes)
   plain_vector_gives bytes r h = as_they_are r (vector_at part bytes) (vector_gives (λ x. x) part step steps bytes r h)
 
-module _ {X A : Type 0} (view : X → A) (part : Filler A) (step : Bor (List ℕ) → Result X ReadError → Type 0)
-    (steps : (at : Bor (List ℕ)) (one : Result X ReadError) → step at one → Gives view one (part at.now)) where
-  abbrev SizedReads : Returned X → Result (A × List ℕ) Fault → Type 0
-  SizedReads r read = Gives (λ x. (view x.0, x.1.now)) r read
-
-  pub sized_gives : (bytes : List ℕ) (r : Returned X) → SizedRead step (counted_bytes_at bytes) r → SizedReads r (sized_at part bytes)
-  unfolding sized_at
-  sized_gives bytes r (inl (e, is, failed)) =
-      subst (λ (q : Returned X). SizedReads q (sized_at part bytes)) (sym is) (fails_on e (counted_bytes_at bytes) (λ body. and_then (part body.0) (λ x. Ok (x, body.1))) failed)
-  sized_gives bytes r (inr (body, rest, Ok x, read, h, is)) =
-      subst (λ (q : Returned X). SizedReads q (sized_at part bytes)) (sym is) (let one : part body.now ≡ Ok (view x) = steps body (Ok x) h in rw (read, one) refl)
-  sized_gives bytes r (inr (body, rest, Err e, read, h, is)) =
-      subst (λ (q : Returned X). SizedReads q (sized_at part bytes)) (sym is) (rw read (fails_on e (part body.now) (λ x. Ok (x, rest.now)) (steps body (Err e) h)))
+  pub plain_entries_give : (bytes : List ℕ) (r : Returned (Vec X)) → EntriesRead step (counted_bytes_at bytes) r → Gives (λ x. (x.0.items, x.1.now)) r (all_entries_at part bytes)
+  plain_entries_give bytes r h = as_they_are r (all_entries_at part bytes) (entries_gives (λ x. x) part step steps bytes r h)

@@ -5,17 +5,14 @@ use Rattle.std.proofs.lemmas.Bool.{eqb-true, eqb-false, ne_eqb, eq-eqb}
 use Rattle.std.proofs.lemmas.List.{length-append, append-nil}
 use Rattle.wasm_spec.specs.declared.operators.What.{What}
 use Rattle.wasm_spec.specs.declared.operators.Operator.{Operator}
-use Rattle.wasm_spec.specs.declared.operators.Operator.TheVariants.{I32Const, I64Const}
-use Rattle.wasm_spec.specs.declared.operators.What.TheVariants as what
 use Rattle.wasm_spec.specs.Parts as part
 use Rattle.wasm_spec.specs.Parts.{Part, Joined}
 use Rattle.wasm_spec.specs.Module.{Expression}
-use Rattle.wasm_spec.specs.Grammar as grammar
-use Rattle.wasm_spec.specs.Grammar.{SpellsExpression, ExpressionStops}
-use Rattle.wasm_form.specs.Reading.{Fault, Bad, Stops, Reader, ◌>>=◌, and_then}
-use Rattle.wasm_form.specs.ReadingRows.{operator_after, operator_at, operators_at, expression_at}
-use Rattle.wasm_form.proofs.Agrees.{Agrees, ok, ok_is, step_ok, step_err, bad_not_stops, gives_agrees, nothing_agrees, stopped_agrees, then_agrees, choose_agrees, first_byte_agrees}
-use Rattle.wasm_form.proofs.NumberLaws.{signed_agrees}
+use Rattle.wasm_spec.specs.ExpressionGrammar as grammar
+use Rattle.wasm_spec.specs.ExpressionGrammar.{SpellsExpression, ExpressionStops}
+use Rattle.wasm_form.specs.ReadingExpressions.{operators_at, expression_at}
+use Rattle.wasm_form.proofs.Agrees.{Agrees, gives_agrees, nothing_agrees, then_agrees, choose_agrees, first_byte_agrees}
+use Rattle.wasm_form.proofs.OperatorLaws.{operator_after_agrees}
 
 -- ---- the front and the rest of a list of elements
 
@@ -34,18 +31,7 @@ elements_uncons {A} g x xs bytes s =
       cons_is : (x : A) (xs : List A) (y : A) (ys : List A) → x ∷ xs ≡ y ∷ ys → (x ≡ y) × (xs ≡ ys)
       cons_is x xs y ys e = (cc, cc)
 
--- ---- operators behind their first byte
-
--- a part behind its first byte
-abbrev pub behind : {A : Type 0} → Part A → ℕ → Part A
-behind g b = record { spells = λ bytes. g.spells (b ∷ bytes); stops = λ bytes. g.stops (b ∷ bytes) }
-
-pub operator_after_agrees : (b : ℕ) → Agrees (operator_after b) (behind grammar.operator b)
-unfolding operator_after
-operator_after_agrees b =
-    choose_agrees (b == 0x41) (then_agrees (signed_agrees 32) (λ value. gives_agrees (I32Const value)))
-    (choose_agrees (b == 0x42) (then_agrees (signed_agrees 64) (λ value. gives_agrees (I64Const value)))
-    (choose_agrees (b == 0x0B) nothing_agrees (stopped_agrees what.Operator)))
+-- ---- the end mark
 
 -- the end mark begins no operator
 not_end : (b : ℕ) (bytes : List ℕ) (op : Operator) → grammar.operator.spells (b ∷ bytes) op → (b == 0x0B) ≡ false
@@ -57,7 +43,7 @@ not_end_stops b bytes w s = ne_eqb b 0x0B (λ e. let P : ℕ → Type 0 = λ n. 
 -- ---- operators up to the end mark, in at most k steps
 
 abbrev step : Part Expression → ℕ → Bool → Part Expression
-step more b at_end = part.choose at_end (part.gives []) (part.◌>>=◌ (behind grammar.operator b) (λ op. part.◌>>=◌ more (λ ops. part.gives (op ∷ ops))))
+step more b at_end = part.choose at_end (part.gives []) (part.◌>>=◌ (grammar.operator_after b) (λ op. part.◌>>=◌ more (λ ops. part.gives (op ∷ ops))))
 
 abbrev steps : ℕ → Part Expression
 steps zero = part.nothing
@@ -125,7 +111,7 @@ steps_stop (suc k) (b ∷ bytes) w s = by_test (λ l v t. steps_stop k l v t) (b
   by_test ih true s = absurd s
   by_test ih false (inl s) = record { ops = []; front = []; back = b ∷ bytes; parts = refl; are_operators = (refl, refl); stops_next = s }
   by_test ih false (inr s) = later s (s.stops_second) where
-    later : (s : part.StopsLater (behind grammar.operator b) (λ op. part.◌>>=◌ (steps k) (λ ops. part.gives (op ∷ ops))) bytes w)
+    later : (s : part.StopsLater (grammar.operator_after b) (λ op. part.◌>>=◌ (steps k) (λ ops. part.gives (op ∷ ops))) bytes w)
         → ((steps k).stops s.back w ⊎ part.StopsLater (steps k) (λ ops. part.gives (s.value ∷ ops)) s.back w) → ExpressionStops (b ∷ bytes) w
     later s (inl t) =
         let i = ih s.back w t in

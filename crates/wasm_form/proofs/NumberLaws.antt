@@ -1,17 +1,20 @@
 -- Reading of numbers, and of what they count, agrees with the grammar.
-use Rattle.std.proofs.Common.{◌≡◌, ℕ, zero, suc, ◌-◌, ◌^◌, ◌<◌, ◌≤◌, List, [], ◌∷◌, ◌++◌, length, Option, Some, None, Result, Ok, Err, Bool, true, false, cond, ltb, refl, sym, ap, subst, ◌∙◌, arith}
+use Rattle.std.proofs.Common.{◌≡◌, ℕ, zero, suc, ◌-◌, ◌^◌, ◌<◌, ◌≤◌, ◌%◌, List, [], ◌∷◌, ◌++◌, length, Option, Some, None, Result, Ok, Err, Bool, true, false, cond, ltb, leb, refl, sym, ap, subst, ◌∙◌, arith}
 use lib.Dec.{T}
 use lib.Signed.{le_z_yes, lt_z_yes}
-use Rattle.std.specs.Prelude.{ℤ, pos, neg_ℤ, int_le, int_lt, ◌&&◌}
+use Rattle.std.specs.Prelude.{ℤ, pos, neg_ℤ, int_le, int_lt, ◌&&◌, ◌-ℤ◌, ◌≤ℤ◌, ◌<ℤ◌}
 use Rattle.std.specs.Option.{option_map}
-use Rattle.std.proofs.lemmas.Bool.{lt-ltb, le-ltb, ltb-true, ltb-false}
+use Rattle.std.proofs.lemmas.Bool.{lt-ltb, le-ltb, lt-leb, leb-false, ltb-true, ltb-false}
+use Rattle.std.proofs.lemmas.Int.{ints}
+use Rattle.std.proofs.Math.Nat.{pow-succ'}
+use Rattle.std.proofs.lemmas.List.{length-append}
 use Rattle.wasm_spec.specs.declared.operators.What.{What}
-use Rattle.wasm_spec.specs.Numbers.{EndsOnce, sevens, signed_sum, most_bytes, SpellsUnsigned, SpellsSigned}
+use Rattle.wasm_spec.specs.Numbers.{EndsOnce, sevens, signed_sum, most_bytes, last_or, SpellsUnsigned, SpellsSigned}
 use Rattle.wasm_spec.specs.Parts as part
 use Rattle.wasm_spec.specs.Parts.{Part}
-use Rattle.wasm_form.specs.Reading.{Fault, Bad, Stops, Reader, Filler, and_then, raw_bytes_at}
-use Rattle.wasm_form.specs.ReadingNumbers.{Found, number_bytes, found_as, found_at, unsigned_from, unsigned_at, signed_of, signed_from, signed_at, vector_at, counted_bytes_at, sized_at}
-use Rattle.wasm_form.proofs.Agrees.{Agrees, Fills, ok, err, test_ok, test_not_stops, bad_not_stops, same_agrees, filled_at, raw_bytes_agree, then_agrees, elements_agree, filled_agrees}
+use Rattle.wasm_form.specs.Reading.{Fault, Bad, Stops, Reader, Filler, and_then, raw_bytes_at, filled_at}
+use Rattle.wasm_form.specs.ReadingNumbers.{Found, number_bytes, found_as, found_at, unsigned_from, unsigned_at, signed_of, signed_from, signed_at, non_negative_from, non_negative_at, vector_at, counted_bytes_at, sized_at}
+use Rattle.wasm_form.proofs.Agrees.{Agrees, Fills, ok, err, test_ok, test_not_stops, bad_not_stops, same_agrees, raw_bytes_agree, then_agrees, elements_agree, filled_agrees}
 
 -- ---- the bytes of a number
 
@@ -78,6 +81,10 @@ module _ (k : ℕ) where
     stops_again = λ bytes what s. absurd s;
   }
 
+-- a number takes its bytes
+pub number_shortens : (k : ℕ) (bytes : List ℕ) (n : ℕ) (rest : List ℕ) → unsigned_at k bytes ≡ Ok (n, rest) → length rest ≤ length bytes
+number_shortens k bytes n rest e = let f = (unsigned_agrees k).found bytes n rest e in omega (arith, ap length f.1, length-append f.0 rest)
+
 -- ---- signed numbers
 
 both_true : (a b : Bool) → (a && b) ≡ true → T a × T b
@@ -117,6 +124,78 @@ module _ (k : ℕ) where
         let t : in_range (signed_sum front) ≡ true = both (int_le (neg_ℤ (pos (2 ^ (k - 1)))) (signed_sum front)) (int_lt (signed_sum front) (pos (2 ^ (k - 1)))) (rw (← s.value) s.low.le) (rw (← s.value) s.high.lt) in
         rw (number_again (most_bytes k) front rest s.form s.short, t, s.value) refl;
     stopped = λ bytes what e. signed_never (number_bytes (most_bytes k) bytes) what e;
+    stops_again = λ bytes what s. absurd s;
+  }
+
+-- ---- signed numbers that are not negative
+
+-- the sum is below 128 to the number of bytes
+sevens_below : (bytes : List ℕ) → sevens bytes < 128 ^ length bytes
+sevens_below [] = omega arith
+sevens_below (b ∷ bs) =
+    let ih = sevens_below bs in
+    let digit : b % 128 < 128 = omega arith in
+    rw (pow-succ' 128 (length bs)) (omega (arith, ih, digit))
+
+below_zero : (n s w : ℕ) → s < w → pos n ≡ pos s -ℤ pos w → ⊥
+below_zero n s w l e = absurd (omega (arith, ints, e, l))
+
+-- without a sign, the sum is the number
+unsigned_sum : (bytes : List ℕ) → leb 64 (last_or 0 bytes % 128) ≡ false → signed_sum bytes ≡ pos (sevens bytes)
+unsigned_sum bytes h = rw h refl
+
+no_sign : (n : ℕ) (bytes : List ℕ) (low : Bool) → leb 64 (last_or 0 bytes % 128) ≡ low → pos n ≡ signed_sum bytes → low ≡ false
+no_sign n bytes false h e = refl
+no_sign n bytes true h e = absurd (below_zero n (sevens bytes) (128 ^ length bytes) (sevens_below bytes) (rw h at e))
+
+pos_is : (m n : ℕ) → pos m ≡ pos n → m ≡ n
+pos_is m n e = cc
+
+above_below_zero : (m n : ℕ) → neg_ℤ (pos m) ≤ℤ pos n
+above_below_zero m n = omega (arith, ints)
+
+pos_less : (m n : ℕ) → m < n → pos m <ℤ pos n
+pos_less m n l = omega (arith, ints, l)
+
+less_pos : (m n : ℕ) → pos m <ℤ pos n → m < n
+less_pos m n l = omega (arith, ints, l)
+
+tests_true : (a b : Bool) → (a && b) ≡ true → (a ≡ true) × (b ≡ true)
+tests_true true b e = (refl, e)
+tests_true false b e = absurd cc
+
+module _ (k : ℕ) where
+  abbrev fits_signed : List ℕ → Bool
+  fits_signed bytes = ltb (last_or 0 bytes % 128) 64 && ltb (sevens bytes) (2 ^ (k - 1))
+
+  non_negative_fits : (bytes : List ℕ) (x : ℕ) (rest : List ℕ) (o : Option (List ℕ × List ℕ)) → number_bytes (most_bytes k) bytes ≡ o
+      → non_negative_from k (option_map found_as o) ≡ Ok (x, rest) → (front : List ℕ) × (bytes ≡ front ++ rest) × SpellsSigned k front (pos x)
+  non_negative_fits bytes x rest None n e = absurd cc
+  non_negative_fits bytes x rest (Some p) n e =
+      let is = number_found (most_bytes k) bytes p n in
+      let g = test_ok (fits_signed p.0) (sevens p.0, p.1) (x, rest) e in
+      let t = tests_true _ _ g.0 in
+      let v : sevens p.0 ≡ x = ap (λ (q : ℕ × List ℕ). q.0) g.1 in
+      let r : p.1 ≡ rest = ap (λ (q : ℕ × List ℕ). q.1) g.1 in
+      let s : signed_sum p.0 ≡ pos (sevens p.0) = unsigned_sum p.0 (lt-leb 64 (last_or 0 p.0 % 128) (ltb-true _ _ t.0)) in
+      let fits : x < 2 ^ (k - 1) = rw (← v) (ltb-true _ _ t.1) in
+      (p.0, is.parts ∙ ap (λ (l : List ℕ). p.0 ++ l) r, record { form = is.form; short = is.short; value = sym (s ∙ ap (λ (n : ℕ). pos n) v); low = above_below_zero _ x; high = pos_less x _ fits })
+
+  non_negative_never : (o : Option (List ℕ × List ℕ)) (what : What) → non_negative_from k (option_map found_as o) ≡ Err (Stops what) → ⊥
+  non_negative_never None what e = bad_not_stops what e
+  non_negative_never (Some p) what e = test_not_stops (fits_signed p.0) (sevens p.0, p.1) what e
+
+  pub non_negative_agrees : Agrees (non_negative_at k) (part.non_negative k)
+  unfolding non_negative_at found_at
+  non_negative_agrees = record {
+    found = λ bytes x rest e. non_negative_fits bytes x rest (number_bytes (most_bytes k) bytes) refl e;
+    again = λ front x rest s.
+        let no : leb 64 (last_or 0 front % 128) ≡ false = no_sign x front _ refl s.value in
+        let v : x ≡ sevens front = pos_is _ _ (s.value ∙ unsigned_sum front no) in
+        let low : ltb (last_or 0 front % 128) 64 ≡ true = lt-ltb _ _ (leb-false _ _ no) in
+        let t : ltb (sevens front) (2 ^ (k - 1)) ≡ true = lt-ltb _ _ (rw (← v) (less_pos x _ s.high)) in
+        rw (number_again (most_bytes k) front rest s.form s.short, low, t, v) refl;
+    stopped = λ bytes what e. non_negative_never (number_bytes (most_bytes k) bytes) what e;
     stops_again = λ bytes what s. absurd s;
   }
 

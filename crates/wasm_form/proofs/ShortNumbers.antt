@@ -4,7 +4,7 @@ use Rattle.std.specs.Prelude.{ℤ, pos, neg_ℤ, int_le, int_lt, ◌&&◌}
 use Rattle.std.proofs.lemmas.Bool.{lt-ltb, lt-leb}
 use Rattle.std.proofs.Math.Nat.{mod-eq_of_lt}
 use Rattle.wasm_form.specs.Reading.{uncons}
-use Rattle.wasm_form.specs.ReadingNumbers.{found_at, unsigned_from, unsigned_at, signed_from, signed_at, Found}
+use Rattle.wasm_form.specs.ReadingNumbers.{found_at, unsigned_from, unsigned_at, signed_from, signed_at, non_negative_from, non_negative_at, Found}
 use Rattle.wasm_form.proofs.Digits.{uncons_is}
 
 short-sum : (b : ℕ) → b < 128 → b % 128 + 128 * 0 ≡ b
@@ -43,3 +43,13 @@ short_s64 b rest bytes e h =
     let small : b < 128 = omega arith in
     let fits : b < 2 ^ 63 = omega arith in
     rw (short_found 9 b rest bytes e small, not_low b h, lt-ltb b (2 ^ 63) fits) refl
+
+low_bits : (b : ℕ) → b < 64 → b % 128 < 64
+low_bits b h = omega arith
+
+pub short_non_negative : (b : ℕ) (rest bytes : List ℕ) → Some (b, rest) ≡ uncons bytes → b < 64 → non_negative_at 33 bytes ≡ Ok (b, rest)
+unfolding non_negative_at
+short_non_negative b rest bytes e h =
+    let small : b < 128 = omega arith in
+    let fits : b < 2 ^ 32 = omega arith in
+    rw (short_found 4 b rest bytes e small, lt-ltb (b % 128) 64 (low_bits b h), lt-ltb b (2 ^ 32) fits) refl

@@ -1,5 +1,5 @@
 -- Reading from left to right, as functions on lists. Each part of the binary format has one, of the same name with `_at`.
-use Rattle.std.specs.Prelude.{◌≡◌, ℕ, zero, suc, List, [], ◌∷◌, length, take, drop, Bool, ◌==◌, nat_lt, Option, Some, None, Result, Ok, Err, if◌then◌else◌}
+use Rattle.std.specs.Prelude.{◌≡◌, ℕ, zero, suc, ◌-◌, List, [], ◌∷◌, length, take, drop, Bool, ◌==◌, nat_lt, Option, Some, None, Result, Ok, Err, if◌then◌else◌}
 use Rattle.wasm_spec.specs.declared.operators.What.{What}
 use Rattle.wasm_form.specs.declared.error.ReadError.{ReadError}
 use Rattle.wasm_form.specs.declared.error.ReadError.TheVariants as errors
@@ -63,8 +63,17 @@ abbrev pub ◌>>=◌ : {A B : Type 0} → Reader A → (A → Reader B) → Read
 abbrev pub fill_after : {A B : Type 0} → Reader A → (A → Filler B) → Filler B
 fill_after first second bytes = and_then (first bytes) (λ x. second x.0 x.1)
 
+-- a value with the number of its bytes
+abbrev pub measured_at : {A : Type 0} → Reader A → Reader (A × ℕ)
+measured_at p bytes = and_then (p bytes) (λ x. Ok ((x.0, length bytes - length x.1), x.1))
+
 abbrev pub choose_at : {A : Type 0} → Bool → Reader A → Reader A → Reader A
 choose_at test p q bytes = if test then p bytes else q bytes
+
+-- the reader that a value asks for, where there is one
+abbrev pub given_at : {A B : Type 0} → Option A → (A → Reader B) → Reader B → Reader B
+given_at (Some x) part other = part x
+given_at None part other = other
 
 abbrev pub optional_at : {A : Type 0} → Bool → Reader A → Reader (Option A)
 optional_at test p = choose_at test (p >>= λ x. gives_at (Some x)) (gives_at None)
@@ -84,6 +93,14 @@ after_byte part (Some x) = part x.0 x.1
 abbrev pub first_byte_at : {A : Type 0} → (ℕ → Reader A) → Reader A
 first_byte_at part bytes = after_byte part (uncons bytes)
 
+-- the reader that the first byte asks for, which begins with that byte
+abbrev pub at_byte : {A : Type 0} → (ℕ → Reader A) → List ℕ → Option (ℕ × List ℕ) → Result (A × List ℕ) Fault
+at_byte part bytes None = Err Bad
+at_byte part bytes (Some x) = part x.0 bytes
+
+abbrev pub next_byte_at : {A : Type 0} → (ℕ → Reader A) → Reader A
+next_byte_at part bytes = at_byte part bytes (uncons bytes)
+
 unfoldable pub elements_at : {A : Type 0} → Reader A → ℕ → Reader (List A)
 elements_at part zero = gives_at []
 elements_at part (suc n) = part >>= λ x. elements_at part n >>= λ xs. gives_at (x ∷ xs)
@@ -91,3 +108,7 @@ elements_at part (suc n) = part >>= λ x. elements_at part n >>= λ xs. gives_at
 -- all of the bytes
 unfoldable pub whole : {A : Type 0} → Reader A → Filler A
 whole p bytes = and_then (p bytes) (λ x. if length x.1 == 0 then Ok x.0 else Err Bad)
+
+-- contents that fill the first n bytes
+abbrev pub filled_at : {A : Type 0} → Filler A → ℕ → Reader A
+filled_at part n bytes = and_then (raw_bytes_at n bytes) (λ body. and_then (part body.0) (λ x. Ok (x, body.1)))

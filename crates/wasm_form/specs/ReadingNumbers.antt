@@ -52,6 +52,15 @@ signed_from k (Some x) =
 unfoldable pub signed_at : ℕ → Reader ℤ
 signed_at k bytes = signed_from k (found_at (most_bytes k) bytes)
 
+-- the number that was found, if it is not negative and fits as a signed one
+abbrev pub non_negative_from : ℕ → Option (Found × List ℕ) → Result (ℕ × List ℕ) Fault
+non_negative_from k None = Err Bad
+non_negative_from k (Some x) = if nat_lt (x.0.last % 128) 64 && nat_lt x.0.sum (2 ^ (k - 1)) then Ok (x.0.sum, x.1) else Err Bad
+
+-- signed numbers of k bits that are not negative
+unfoldable pub non_negative_at : ℕ → Reader ℕ
+non_negative_at k bytes = non_negative_from k (found_at (most_bytes k) bytes)
+
 unfoldable pub vector_at : {A : Type 0} → Reader A → Reader (List A)
 vector_at part = unsigned_at 32 >>= λ count. elements_at part count
 

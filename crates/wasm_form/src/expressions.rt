@@ -1,36 +1,17 @@
 //! Constant expressions (core specification, 5.4.9).
 
+ghost use Rattle.std.specs.Prelude.{map};
 ghost use Rattle.wasm_form.specs.Views.{expression_of};
 ghost use Rattle.wasm_form.specs.Reading.{Gives};
-ghost use Rattle.wasm_form.specs.ReadingRows.{operator_after, expression_at};
+ghost use Rattle.wasm_form.specs.ReadingNumbers.{vector_at};
+ghost use Rattle.wasm_form.specs.ReadingExpressions.{expression_at};
 
 use crate::error::ReadError;
 use crate::form::ConstExpr;
-use crate::numbers::{first_byte, s32_at, s64_at};
+use crate::numbers::first_byte;
+use crate::operators::{END, operator};
+use crate::vectors::vector;
 use std::alloc::Global;
-use wasm_spec::{Operator, What};
-
-/// The byte after the last operator.
-const END: u8 = 0x0B;
-
-/// The operator behind its first byte.
-#[tactic(auto, unfolding(crate::specs::ReadingRows::operator_after))]
-fn operator(first: u8, bytes: &[u8]) -> Result<(Operator, &[u8]), ReadError>
-    ensures { Gives (λ x. (x.0, x.1.now)) result (operator_after first bytes.now) }
-{
-    match first {
-        0x41 => {
-            let (value, rest) = s32_at(bytes)?;
-            Ok((Operator::I32Const { value }, rest))
-        }
-        0x42 => {
-            let (value, rest) = s64_at(bytes)?;
-            Ok((Operator::I64Const { value }, rest))
-        }
-        END => Err(ReadError::Malformed),
-        _ => Err(ReadError::Unsupported(What::Operator)),
-    }
-}
 
 /// The operators up to the end mark.
 pub fn expression(alloc: Global, bytes: &[u8]) -> Result<(ConstExpr, &[u8]), ReadError>
@@ -47,4 +28,11 @@ pub fn expression(alloc: Global, bytes: &[u8]) -> Result<(ConstExpr, &[u8]), Rea
         rest = after;
     }
     Err(ReadError::Malformed)
+}
+
+/// A count, and that many expressions.
+pub fn expressions(alloc: Global, bytes: &[u8]) -> Result<(Vec<ConstExpr>, &[u8]), ReadError>
+    ensures { Gives (λ x. (map expression_of x.0.items, x.1.now)) result (vector_at expression_at bytes.now) }
+{
+    vector(alloc, bytes, expression)
 }

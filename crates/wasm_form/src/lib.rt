@@ -1,18 +1,32 @@
 //! Reads the sections of a module, and checks its listed rules.
 #![tactic(auto)]
 
+mod code;
+mod contents;
 mod counts;
+mod elements;
+mod entity_types;
 mod error;
+mod exports;
 mod expressions;
+mod fields;
 mod form;
+mod globals;
+mod imports;
 mod laws;
 mod limits;
 mod module;
+mod names;
 mod numbers;
+mod operators;
 mod rules;
 mod sections;
 mod segments;
+mod tables;
+mod type_groups;
+mod type_lists;
 mod types;
+mod value_types;
 mod vectors;
 
 pub use error::{CheckError, ReadError};

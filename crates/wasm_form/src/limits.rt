@@ -1,16 +1,15 @@
-//! Memory types (core specification, 5.3.14).
+//! Memory types, and the limits of tables (core specification, 5.3.14 to 5.3.15).
 
 ghost use Rattle.std.specs.Prelude.{◌≡◌, ◌<◌, if◌then◌else◌};
-ghost use Rattle.wasm_spec.specs.Grammar.{has_bit};
+ghost use Rattle.wasm_spec.specs.TypeGrammar.{has_bit};
 ghost use Rattle.wasm_form.specs.Reading.{Gives, optional_at};
-ghost use Rattle.wasm_form.specs.ReadingNumbers.{unsigned_at, vector_at};
-ghost use Rattle.wasm_form.specs.ReadingRows.{memory_type_at, flagged_memory_type_at};
+ghost use Rattle.wasm_form.specs.ReadingNumbers.{unsigned_at};
+ghost use Rattle.wasm_form.specs.ReadingTypes.{memory_type_at, flagged_memory_type_at, table_limits_at, flagged_table_type_at};
 
 use crate::error::ReadError;
 use crate::numbers::{first_byte, u32_at, u64_at};
-use crate::vectors::vector;
 use std::alloc::Global;
-use wasm_spec::MemoryType;
+use wasm_spec::{MemoryType, RefType, TableType};
 
 /// Which bit of the flags says what.
 const HAS_MAXIMUM: u8 = 0;
@@ -68,7 +67,7 @@ fn page_size_at(present: bool, bytes: &[u8]) -> Result<(Option<u32>, &[u8]), Rea
 }
 
 /// What follows the flags of a memory type.
-#[tactic(auto, unfolding(crate::specs::ReadingRows::flagged_memory_type_at))]
+#[tactic(auto, unfolding(crate::specs::ReadingTypes::flagged_memory_type_at))]
 fn flagged_memory_type(flags: u8, bytes: &[u8]) -> Result<(MemoryType, &[u8]), ReadError>
     ensures { Gives (λ x. (x.0, x.1.now)) result (flagged_memory_type_at flags bytes.now) }
 {
@@ -87,8 +86,8 @@ fn flagged_memory_type(flags: u8, bytes: &[u8]) -> Result<(MemoryType, &[u8]), R
 }
 
 /// A memory type. Readers of elements all take the allocator.
-#[tactic(auto, unfolding(crate::specs::ReadingRows::memory_type_at))]
-fn memory_type(_alloc: Global, bytes: &[u8]) -> Result<(MemoryType, &[u8]), ReadError>
+#[tactic(auto, unfolding(crate::specs::ReadingTypes::memory_type_at))]
+pub fn memory_type(_alloc: Global, bytes: &[u8]) -> Result<(MemoryType, &[u8]), ReadError>
     ensures { Gives (λ x. (x.0, x.1.now)) result (memory_type_at bytes.now) }
 {
     match first_byte(bytes) {
@@ -97,9 +96,32 @@ fn memory_type(_alloc: Global, bytes: &[u8]) -> Result<(MemoryType, &[u8]), Read
     }
 }
 
-/// A count, and that many memory types.
-pub fn memory_types(alloc: Global, bytes: &[u8]) -> Result<(Vec<MemoryType>, &[u8]), ReadError>
-    ensures { Gives (λ x. (x.0.items, x.1.now)) result (vector_at memory_type_at bytes.now) }
+/// What follows the flags of a table.
+#[tactic(auto, unfolding(crate::specs::ReadingTypes::flagged_table_type_at))]
+fn flagged_table_type(element_type: RefType, flags: u8, bytes: &[u8]) -> Result<(TableType, &[u8]), ReadError>
+    ensures { Gives (λ x. (x.0, x.1.now)) result (flagged_table_type_at element_type flags bytes.now) }
 {
-    vector(alloc, bytes, memory_type)
+    let table64 = is_set(flags, IS_64);
+    let (initial, rest) = address_at(table64, bytes)?;
+    let (maximum, rest) = maximum_at(is_set(flags, HAS_MAXIMUM), table64, rest)?;
+    let table_type = TableType {
+        element_type,
+        table64,
+        initial,
+        maximum,
+    };
+    Ok((table_type, rest))
+}
+
+/// What follows the reference type of a table. Tables are never shared.
+#[tactic(auto, unfolding(crate::specs::ReadingTypes::table_limits_at))]
+pub fn table_limits(element_type: RefType, bytes: &[u8]) -> Result<(TableType, &[u8]), ReadError>
+    ensures { Gives (λ x. (x.0, x.1.now)) result (table_limits_at element_type bytes.now) }
+{
+    match first_byte(bytes) {
+        Some((flags, rest)) if flags < 8 && !is_set(flags, IS_SHARED) => {
+            flagged_table_type(element_type, flags, rest)
+        }
+        _ => Err(ReadError::Malformed),
+    }
 }

@@ -5,9 +5,10 @@ ghost use Rattle.wasm_spec.specs.declared.operators.What.{What};
 ghost use Rattle.wasm_spec.specs.Module.{Module};
 ghost use Rattle.wasm_spec.specs.Grammar.{Spells, Stops};
 ghost use Rattle.wasm_spec.specs.Rules.{HasFewEntries};
+ghost use Rattle.wasm_spec.specs.Valid.{HasNoInterfaceTypes};
 ghost use Rattle.wasm_form.specs.Views.{module_of, payload_of, ReadsAs};
 ghost use Rattle.wasm_form.specs.Reading.{Gives};
-ghost use Rattle.wasm_form.specs.ReadingRows.{is_component as spec_is_component, module_at};
+ghost use Rattle.wasm_form.specs.ReadingSections.{is_component as spec_is_component, module_at};
 
 use crate::error::ReadError;
 use crate::form::{Form, Payload};
@@ -35,12 +36,13 @@ fn is_component(bytes: &[u8]) -> bool
 }
 
 /// The sections behind the header.
-#[tactic(auto, unfolding(crate::specs::ReadingRows::module_at))]
+#[tactic(auto, unfolding(crate::specs::ReadingSections::module_at))]
 fn payloads<'d>(alloc: Global, bytes: &'d [u8]) -> Result<Vec<Payload<'d>>, ReadError>
+    requires { length bytes.now < 2 ^ 30 }
     ensures { Gives (λ x. map payload_of x.items) result (module_at bytes.now) }
 {
     if bytes.starts_with(&HEADER) {
-        return sections(alloc, &bytes[8..]);
+        return sections(alloc, HEADER.len(), &bytes[HEADER.len()..]);
     }
     if is_component(bytes) {
         return Err(ReadError::Unsupported(What::Component));
@@ -56,10 +58,12 @@ fn payloads<'d>(alloc: Global, bytes: &'d [u8]) -> Result<Vec<Payload<'d>>, Read
 pub fn read_module<'d>(alloc: Global, bytes: &'d [u8]) -> Result<Form<'d>, ReadError>
     // What is read is spelled so.
     ensures read { IfOk result (λ form. Spells bytes.now (module_of form)) }
+    // Custom sections of interface types are refused.
+    ensures no_interface_types { IfOk result (λ form. HasNoInterfaceTypes (module_of form)) }
     ensures whole { IfOk result (λ form. form.wasm.now ≡ bytes.now) }
     ensures few { IfOk result (λ form. HasFewEntries (module_of form)) }
     // What is spelled is read, unless memory runs out.
-    ensures complete { length bytes.now < 2 ^ 30 → (m : Module) → Spells bytes.now m → ReadsAs result m }
+    ensures complete { length bytes.now < 2 ^ 30 → (m : Module) → Spells bytes.now m → HasNoInterfaceTypes m → ReadsAs result m }
 
     ensures too_large { (result ≡ Err ReadError.TooLarge) ↔ (2 ^ 30 ≤ length bytes.now) }
     ensures unsupported { (what : What) → result ≡ Err (ReadError.Unsupported what) → Stops bytes.now what }

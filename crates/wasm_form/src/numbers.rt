@@ -3,7 +3,7 @@
 ghost use Rattle.std.specs.Prelude.{◌≡◌, ◌≤◌, ◌<◌, ◌^◌, IfSome};
 ghost use Rattle.std.specs.Option.{option_map};
 ghost use Rattle.wasm_form.specs.Reading.{Gives, uncons};
-ghost use Rattle.wasm_form.specs.ReadingNumbers.{unsigned_at, signed_at, signed_of, found_at, sevens_of, wide_sevens_of};
+ghost use Rattle.wasm_form.specs.ReadingNumbers.{unsigned_at, signed_at, non_negative_at, signed_of, found_at, sevens_of, wide_sevens_of};
 
 use crate::error::ReadError;
 
@@ -168,6 +168,23 @@ fn long_s64_at(bytes: &[u8]) -> Result<(i64, &[u8]), ReadError>
     }
 }
 
+/// A signed number of 33 bits that is not negative, and so below 2^32: bit 6 of the last byte is its sign.
+#[tactic(auto, unfolding(crate::specs::ReadingNumbers::non_negative_at))]
+fn long_non_negative_s33_at(bytes: &[u8]) -> Result<(u32, &[u8]), ReadError>
+    ensures { Gives (λ x. (x.0, x.1.now)) result (non_negative_at 33 bytes.now) }
+{
+    let Some((found, rest)) = sevens_at(bytes) else {
+        return Err(ReadError::Malformed);
+    };
+    if found.last % 128 >= 64 {
+        return Err(ReadError::Malformed);
+    }
+    match u32::try_from(found.sum) {
+        Ok(number) => Ok((number, rest)),
+        Err(_) => Err(ReadError::Malformed),
+    }
+}
+
 /// An unsigned number of 32 bits. Most numbers have one byte, so that has a path of its own.
 #[inline]
 pub fn u32_at(bytes: &[u8]) -> Result<(u32, &[u8]), ReadError>
@@ -209,5 +226,16 @@ pub fn s64_at(bytes: &[u8]) -> Result<(i64, &[u8]), ReadError>
     match first_byte(bytes) {
         Some((byte, rest)) if byte < 64 => Ok((i64::from(byte), rest)),
         _ => long_s64_at(bytes),
+    }
+}
+
+/// A signed number of 33 bits that is not negative, as the indices of heap types are.
+#[inline]
+pub fn non_negative_s33_at(bytes: &[u8]) -> Result<(u32, &[u8]), ReadError>
+    ensures { Gives (λ x. (x.0, x.1.now)) result (non_negative_at 33 bytes.now) }
+{
+    match first_byte(bytes) {
+        Some((byte, rest)) if byte < 64 => Ok((u32::from(byte), rest)),
+        _ => long_non_negative_s33_at(bytes),
     }
 }

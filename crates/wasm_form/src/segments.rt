@@ -3,18 +3,18 @@
 ghost use Rattle.std.specs.Prelude.{map};
 ghost use Rattle.wasm_form.specs.Views.{segment_of};
 ghost use Rattle.wasm_form.specs.Reading.{Gives};
-ghost use Rattle.wasm_form.specs.ReadingNumbers.{vector_at};
-ghost use Rattle.wasm_form.specs.ReadingRows.{active_segment_at, passive_segment_at, data_segment_at};
+ghost use Rattle.wasm_form.specs.ReadingEntries.{active_segment_at, passive_segment_at, data_segment_at};
+ghost use Rattle.wasm_form.specs.ReadingSections.{all_entries_at};
 
 use crate::error::ReadError;
 use crate::expressions::expression;
 use crate::form::{DataKind, DataSegment};
 use crate::numbers::u32_at;
-use crate::vectors::{counted_bytes, vector};
+use crate::vectors::{counted_bytes, entries};
 use std::alloc::Global;
 
 /// An offset into a memory, and bytes.
-#[tactic(auto, unfolding(crate::specs::ReadingRows::active_segment_at))]
+#[tactic(auto, unfolding(crate::specs::ReadingEntries::active_segment_at))]
 fn active_segment<'d>(
     alloc: Global,
     memory_index: u32,
@@ -32,7 +32,7 @@ fn active_segment<'d>(
 }
 
 /// Bytes that are kept for later.
-#[tactic(auto, unfolding(crate::specs::ReadingRows::passive_segment_at))]
+#[tactic(auto, unfolding(crate::specs::ReadingEntries::passive_segment_at))]
 fn passive_segment<'d>(bytes: &'d [u8]) -> Result<(DataSegment<'d>, &'d [u8]), ReadError>
     ensures { Gives (λ x. (segment_of x.0, x.1.now)) result (passive_segment_at bytes.now) }
 {
@@ -42,7 +42,7 @@ fn passive_segment<'d>(bytes: &'d [u8]) -> Result<(DataSegment<'d>, &'d [u8]), R
 }
 
 /// A data segment behind its flag.
-#[tactic(auto, unfolding(crate::specs::ReadingRows::data_segment_at, crate::specs::ReadingRows::flagged_segment_at))]
+#[tactic(auto, unfolding(crate::specs::ReadingEntries::data_segment_at, crate::specs::ReadingEntries::flagged_segment_at))]
 fn data_segment<'d>(
     alloc: Global,
     bytes: &'d [u8],
@@ -61,12 +61,12 @@ fn data_segment<'d>(
     }
 }
 
-/// A count, and that many data segments.
+/// The data segments that fill a section.
 pub fn data_segments<'d>(
     alloc: Global,
     bytes: &'d [u8],
 ) -> Result<(Vec<DataSegment<'d>>, &'d [u8]), ReadError>
-    ensures { Gives (λ x. (map segment_of x.0.items, x.1.now)) result (vector_at data_segment_at bytes.now) }
+    ensures { Gives (λ x. (map segment_of x.0.items, x.1.now)) result (all_entries_at data_segment_at bytes.now) }
 {
-    vector(alloc, bytes, data_segment)
+    entries(alloc, bytes, data_segment)
 }

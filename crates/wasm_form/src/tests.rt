@@ -1,5 +1,11 @@
 //! Modules, and what reading them gives.
 
+mod elements;
+mod large;
+mod linked;
+mod operators;
+mod rows;
+
 use crate::{DataKind, MemoryType, Operator, Payload, ReadError, What, read_module};
 use std::alloc::{AllocError, Global};
 use std::test::Fail;
@@ -129,16 +135,8 @@ fn refuses_other_headers(rt: HostRuntime) -> Result<(), Fail> {
 fn reads_or_refuses_sections(rt: HostRuntime) -> Result<(), Fail> {
     let bad = Some(ReadError::Malformed);
     let cases: [(&str, &[u8], Option<ReadError>); 29] = [
-        (
-            "types",
-            &[1, 4, 1, 0x60, 0, 0],
-            Some(ReadError::Unsupported(What::Section)),
-        ),
-        (
-            "types with no size",
-            &[1],
-            Some(ReadError::Unsupported(What::Section)),
-        ),
+        ("types", &[1, 4, 1, 0x60, 0, 0], None),
+        ("types with no size", &[1], bad),
         ("no such section", &[14, 0], bad),
         ("types after memories", &[5, 1, 0, 1, 4, 1, 0x60, 0, 0], bad),
         ("memories after data", &[11, 1, 0, 5, 1, 0], bad),
@@ -189,7 +187,7 @@ fn reads_or_refuses_sections(rt: HostRuntime) -> Result<(), Fail> {
         (
             "an offset by an import",
             &[11, 6, 1, 0, 0x23, 0, 0x0B, 0],
-            Some(ReadError::Unsupported(What::Operator)),
+            None,
         ),
         ("an offset with no end mark", &[11, 4, 1, 0, 0x41, 0], bad),
         (

@@ -1,5 +1,5 @@
 use Rattle.std.proofs.lemmas.Result.{err_from_is_err_and}
-use Rattle.wasm_form.specs.ReadingRows.{expression_at}
+use Rattle.wasm_form.specs.ReadingExpressions.{expression_at}
 use Rattle.wasm_form.proofs.Loop.{all_so_far}
 use Rattle.wasm_form.proofs.OperatorList.{op_more, op_end, op_fails, op_shorter, op_cut}
 use Rattle.wasm_form.proofs.expressions.expression.Goals as goal

@@ -1,5 +1,5 @@
 use Rattle.std.proofs.Common.{◌≡◌, length}
-use Rattle.wasm_form.specs.ReadingRows.{expression_at}
+use Rattle.wasm_form.specs.ReadingExpressions.{expression_at}
 use Rattle.wasm_form.proofs.Loop.{with_front}
 use Rattle.wasm_form.proofs.expressions.expression.Given as goal
 

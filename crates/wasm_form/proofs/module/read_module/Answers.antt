@@ -3,13 +3,13 @@ use Rattle.std.proofs.lemmas.Result.{err_from_is_err_and}
 use Rattle.wasm_form.specs.Views.{module_of}
 use Rattle.wasm_form.specs.declared.error.ReadError.TheVariants as errors
 use Rattle.wasm_form.proofs.Entries.{few_entries}
-use Rattle.wasm_form.proofs.Outcomes.{error_is, read_spells, read_only, fails_spelled, fails_unsupported, fails_malformed, fails_nowhere}
+use Rattle.wasm_form.proofs.Outcomes.{error_is, read_spells, read_none, read_only, fails_spelled, fails_unsupported, fails_malformed, fails_nowhere}
 use Rattle.wasm_form.proofs.module.read_module.Goals as goal
 
 pub returns-in_err-payloads-clause-complete : goal.returns-in_err-payloads-clause-complete
-returns-in_err-payloads-clause-complete c = λ short m s.
+returns-in_err-payloads-clause-complete c = λ short m s none.
     let p = err_from_is_err_and c.from_residual.result c.from_residual.ensures.1 in
-    rw (p.1, p.2) (fails_spelled c.args.bytes.now c.in_err-payloads.field-0.0 m c.in_err-payloads.ensures s)
+    rw (p.1, p.2) (fails_spelled c.args.bytes.now c.in_err-payloads.field-0.0 m c.in_err-payloads.ensures s none)
 
 pub returns-in_err-payloads-clause-unsupported : goal.returns-in_err-payloads-clause-unsupported
 returns-in_err-payloads-clause-unsupported c = λ w is.
@@ -29,8 +29,11 @@ returns-in_err-payloads-clause-stops_nowhere c = λ is w s.
 pub returns-clause-read : goal.returns-clause-read
 returns-clause-read c = read_spells c.args.bytes.now _ c.in_ok-payloads.ensures
 
+pub returns-clause-no_interface_types : goal.returns-clause-no_interface_types
+returns-clause-no_interface_types c = read_none c.args.bytes.now _ c.in_ok-payloads.ensures
+
 pub returns-clause-complete : goal.returns-clause-complete
-returns-clause-complete c = λ short m s. read_only c.args.bytes.now _ m c.in_ok-payloads.ensures s
+returns-clause-complete c = λ short m s none. read_only c.args.bytes.now _ m c.in_ok-payloads.ensures s
 
 pub returns-clause-few : goal.returns-clause-few
 returns-clause-few c = few_entries c.args.bytes.now _ (read_spells c.args.bytes.now _ c.in_ok-payloads.ensures) (omega arith)
