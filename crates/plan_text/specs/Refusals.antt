@@ -22,7 +22,11 @@ name_of_rule rule.L10 = codes "L10"
 abbrev pub name_of_spelling : What → List ℕ
 name_of_spelling what.Component = codes "component"
 name_of_spelling what.Section = codes "section"
+name_of_spelling what.Shared = codes "shared"
+name_of_spelling what.Supertypes = codes "supertypes"
 name_of_spelling what.Operator = codes "operator"
+name_of_spelling what.ExactImport = codes "exact import"
+name_of_spelling what.InterfaceTypes = codes "interface types"
 
 -- want of memory has no line
 abbrev pub text_of_refusal : TranslateError → List ℕ

@@ -14,7 +14,7 @@ pub enum TranslateError {
     Malformed,
     /// The module breaks a listed rule.
     Invalid(Rule),
-    /// Reading comes to a spelling that is not taken.
+    /// Reading comes to a spelling that is not taken, or the module holds what is not planned yet.
     Unsupported(What),
     /// The input has 2^30 bytes or more, or the runtime data pass 4294967295 bytes.
     TooLarge,

@@ -44,6 +44,10 @@ fn what_line(what: What) -> &'static str
     match what {
         What::Component => "refused unsupported component\n",
         What::Section => "refused unsupported section\n",
+        What::Shared => "refused unsupported shared\n",
+        What::Supertypes => "refused unsupported supertypes\n",
         What::Operator => "refused unsupported operator\n",
+        What::ExactImport => "refused unsupported exact import\n",
+        What::InterfaceTypes => "refused unsupported interface types\n",
     }
 }

@@ -6,7 +6,8 @@ use Rattle.std.proofs.lemmas.List.{append-nil, map-append, map_more, flat_map_mo
 use Rattle.std.proofs.lemmas.List.Concat.{flat_map-append}
 use Rattle.std.proofs.lemmas.List.Elements.{filter_map-append}
 use Rattle.wasm_spec.specs.declared.entities.MemoryType.{MemoryType}
-use Rattle.wasm_spec.specs.Module.{Segment, Module, memories, memories_of_section, segments, segments_of_section}
+use Rattle.wasm_spec.specs.Module.{Segment, Module, defined_memories, memories_of_section, segments, segments_of_section}
+use Rattle.wasm_spec.specs.Rules.{IsIntegerConstant}
 use Rattle.wasm_form.specs.declared.form.ConstExpr.{ConstExpr}
 use Rattle.wasm_form.specs.declared.form.DataKind.{DataKind}
 use Rattle.wasm_form.specs.declared.form.DataKind.TheVariants.{Active}
@@ -86,9 +87,9 @@ Adds-segment a b c ss i s lt is before one =
     let more = map_more segment_of ss i s lt ∙ ap (λ (x : DataSegment). map segment_of (take i ss) ++ segment_of x ∷ []) (sym is) in
     subst (Adds a c []) (sym more) (Adds-both a b c [] [] (map segment_of (take i ss)) (segment_of s ∷ []) before one)
 
--- what the sections of a module declare is added
+-- what the sections of a module define is added
 abbrev pub AddsModule : Filling → Filling → Module → Type 0
-AddsModule a b m = Adds a b (memories m) (segments m)
+AddsModule a b m = Adds a b (defined_memories m) (segments m)
 
 -- one section more
 pub Adds-section : (a b c : Filling) (ps : List Payload) (i : ℕ) (p : Payload) → i < length ps → p ≡ get_or ps i p
@@ -97,9 +98,9 @@ Adds-section a b c ps i p lt is before one =
     let front = map payload_of (take i ps) in
     let section = payload_of p in
     let more = map_more payload_of ps i p lt ∙ ap (λ (x : Payload). front ++ payload_of x ∷ []) (sym is) in
-    let both = Adds-both a b c (memories front) (memories_of_section section) (segments front) (segments_of_section section) before one in
+    let both = Adds-both a b c (defined_memories front) (memories_of_section section) (segments front) (segments_of_section section) before one in
     let added = subst (λ (ts : List MemoryType). Adds a c ts (segments front ++ segments_of_section section)) (flat_map_more memories_of_section [] front section) both in
-    subst (AddsModule a c) (sym more) (subst (Adds a c (memories (front ++ section ∷ []))) (flat_map_more segments_of_section [] front section) added)
+    subst (AddsModule a c) (sym more) (subst (Adds a c (defined_memories (front ++ section ∷ []))) (flat_map_more segments_of_section [] front section) added)
 
 -- ---- what can be added
 
@@ -123,17 +124,17 @@ pub CanAdd-next_segment : (a b : Filling) (ss : List DataSegment) (i : ℕ) (s :
 CanAdd-next_segment a b ss i s lt is can added =
     CanAdd-next a b [] [] [] [] (map segment_of ss) (map segment_of (take i ss)) (segment_of s ∷ []) (map segment_of (drop (suc i) ss)) refl (map_split segment_of ss i s lt is) can added
 
--- what the next section declares can be added
+-- what the next section defines can be added
 pub CanAdd-next_section : (a b : Filling) (ps : List Payload) (i : ℕ) (p : Payload) → i < length ps → p ≡ get_or ps i p
-    → CanAdd a (memories (map payload_of ps)) (segments (map payload_of ps)) → AddsModule a b (map payload_of (take i ps)) → CanAdd b (memories_of_section (payload_of p)) (segments_of_section (payload_of p))
+    → CanAdd a (defined_memories (map payload_of ps)) (segments (map payload_of ps)) → AddsModule a b (map payload_of (take i ps)) → CanAdd b (memories_of_section (payload_of p)) (segments_of_section (payload_of p))
 CanAdd-next_section a b ps i p lt is can added =
     let front = map payload_of (take i ps) in
     let back = map payload_of (drop (suc i) ps) in
     let section = payload_of p in
     let parts = map_split payload_of ps i p lt is in
-    CanAdd-next a b _ (memories front) (memories_of_section section) (memories back) _ (segments front) (segments_of_section section) (segments back)
+    CanAdd-next a b _ (defined_memories front) (memories_of_section section) (defined_memories back) _ (segments front) (segments_of_section section) (segments back)
     (ap (flat_map memories_of_section) parts ∙ flat_map-append memories_of_section front (section ∷ back)) (ap (flat_map segments_of_section) parts ∙ flat_map-append segments_of_section front (section ∷ back)) can added
 
 -- an active data segment can be added
-pub CanAdd-active : (f : Filling) (s : DataSegment) (memory : ℕ) (offset : ConstExpr) → CanAdd f [] (segment_of s ∷ []) → s.kind ≡ Active memory offset → (memory < 4294967295) × (length offset.ops.items ≡ 1)
+pub CanAdd-active : (f : Filling) (s : DataSegment) (memory : ℕ) (offset : ConstExpr) → CanAdd f [] (segment_of s ∷ []) → s.kind ≡ Active memory offset → (memory < 4294967295) × (length offset.ops.items ≡ 1) × All IsIntegerConstant offset.ops.items
 CanAdd-active f s memory offset can is = subst (λ (k : DataKind). CanBeAdded (data_kind_of k)) is (can.segments 0 (segment_of s) (omega arith))

@@ -1,25 +1,28 @@
 -- Why the layers below refuse, as why the whole does.
-use Rattle.std.proofs.Common.{◌≡◌, ◌≤◌, ◌<◌, ◌^◌, ℕ, List, length, Result, Ok, Err, refl, ap, subst, inl, inr, arith}
-use Rattle.std.specs.Prelude.{◌↔◌}
+use Rattle.std.proofs.Common.{◌≡◌, ◌≤◌, ◌<◌, ◌^◌, ℕ, List, length, Option, None, Some, Result, Ok, Err, refl, ap, subst, inl, inr, arith}
+use Rattle.std.specs.Prelude.{◌↔◌, MatchOption}
 use Rattle.wasm_spec.specs.declared.operators.What.{What}
+use Rattle.wasm_spec.specs.declared.operators.What.TheVariants as whats
+use Rattle.wasm_spec.specs.declared.rules.Rule.{Rule}
 use Rattle.wasm_spec.specs.Module.{Module, data_size}
 use Rattle.wasm_spec.specs.Grammar.{Spells, Stops}
-use Rattle.wasm_spec.specs.Rules.{Keeps}
-use Rattle.wasm_spec.specs.Valid.{IsValid}
+use Rattle.wasm_spec.specs.Rules.{OnlyPlannedSections, OnlyConstantOffsets, Kept, Keeps, KeepsBefore}
+use Rattle.wasm_spec.specs.Valid.{HasNoInterfaceTypes, IsValid}
 use Rattle.wasm_form.specs.declared.error.ReadError.{ReadError}
 use Rattle.wasm_form.specs.declared.error.ReadError.TheVariants as read
 use Rattle.wasm_form.specs.declared.error.CheckError.{CheckError}
+use Rattle.wasm_form.specs.declared.error.CheckError.TheVariants as checks
 use Rattle.wasm_form.specs.declared.form.Form.{Form}
 use Rattle.wasm_form.specs.Views.{module_of, ReadsAs, ChecksOrNoMemory}
 use Rattle.init_plan.specs.declared.error.PlanError.{PlanError}
 use Rattle.init_plan.specs.declared.error.PlanError.TheVariants as plan
 use Rattle.plan_text.specs.Errors.{error_of_read, error_of_check, error_of_plan}
 use Rattle.plan_text.specs.declared.error.TranslateError.TheVariants as refusal
-use Rattle.translate.specs.Planned.{HasCause}
+use Rattle.translate.specs.Planned.{IsReadable, IsUnplanned, HasCause}
 
 -- what reading promises of an answer
 pub record ReadingTells (bytes : List ℕ) (r : Result Form ReadError) : Type 0 where
-  pub complete : length bytes < 2 ^ 30 → (m : Module) → Spells bytes m → ReadsAs r m
+  pub complete : length bytes < 2 ^ 30 → (m : Module) → Spells bytes m → HasNoInterfaceTypes m → ReadsAs r m
   pub too_large : (r ≡ Err read.TooLarge) ↔ (2 ^ 30 ≤ length bytes)
   pub unsupported : (what : What) → r ≡ Err (read.Unsupported what) → Stops bytes what
   pub malformed : r ≡ Err read.Malformed → (m : Module) → ¬ Spells bytes m
@@ -27,23 +30,55 @@ pub record ReadingTells (bytes : List ℕ) (r : Result Form ReadError) : Type 0 
 
 pub read_cause : (bytes : List ℕ) (r : Result Form ReadError) (e : ReadError) → ReadingTells bytes r → r ≡ Err e → HasCause bytes (error_of_read e)
 read_cause bytes r read.Malformed t is = (t.malformed is, t.stops_nowhere is)
-read_cause bytes r (read.Unsupported what) t is = t.unsupported what is
+read_cause bytes r (read.Unsupported what) t is = inl (t.unsupported what is)
 read_cause bytes r read.TooLarge t is = inl (t.too_large.0 is)
 read_cause bytes r read.OutOfMemory t is = tt
 
--- valid input is refused for want of memory alone
-pub read_complete : (bytes : List ℕ) (r : Result Form ReadError) (e : ReadError) → ReadingTells bytes r → r ≡ Err e → IsValid bytes → error_of_read e ≡ refusal.OutOfMemory
-read_complete bytes r e t is v = ap error_of_read (subst (λ (q : Result Form ReadError). ReadsAs q v.meaning) is (t.complete v.short v.meaning v.spelled))
+pub readable : (bytes : List ℕ) → (v : IsValid bytes) → IsReadable bytes v.meaning
+readable bytes v = record { short = v.short; spelled = v.spelled; no_interface_types = v.no_interface_types }
 
--- the module that valid input spells is the one that was read
-pub read_as : (bytes : List ℕ) (form : Form) (t : ReadingTells bytes (Ok form)) → (v : IsValid bytes) → module_of form ≡ v.meaning
-read_as bytes form t v = t.complete v.short v.meaning v.spelled
+-- input that can be read is refused for want of memory alone
+pub read_complete : (bytes : List ℕ) (r : Result Form ReadError) (e : ReadError) (m : Module) → ReadingTells bytes r → r ≡ Err e → IsReadable bytes m → error_of_read e ≡ refusal.OutOfMemory
+read_complete bytes r e m t is can = ap error_of_read (subst (λ (q : Result Form ReadError). ReadsAs q m) is (t.complete can.short m can.spelled can.no_interface_types))
 
--- what was read was short
+-- the module that it spells is the one that was read
+pub read_as : (bytes : List ℕ) (form : Form) (m : Module) → ReadingTells bytes (Ok form) → IsReadable bytes m → module_of form ≡ m
+read_as bytes form m t can = t.complete can.short m can.spelled can.no_interface_types
+
+-- ---- what is not planned yet
+
+-- it has one name
+pub one_name : (m : Module) (named other : What) → IsUnplanned named m → IsUnplanned other m → named ≡ other
+one_name m whats.Section whats.Section a b = refl
+one_name m whats.Section whats.Operator a b = absurd (a b.0)
+one_name m whats.Operator whats.Section a b = absurd (b a.0)
+one_name m whats.Operator whats.Operator a b = refl
+one_name m whats.Section _ a b = absurd b
+one_name m whats.Operator _ a b = absurd b
+one_name m _ _ a b = absurd a
+
+pub all_planned : (m : Module) (what : What) → OnlyPlannedSections m → OnlyConstantOffsets m → IsUnplanned what m → ⊥
+all_planned m whats.Section sections constants un = un sections
+all_planned m whats.Operator sections constants un = un.1 constants
+all_planned m _ sections constants un = un
+
+-- where nothing is named, all is planned
+pub nothing_named : (m : Module) (o : Option What) → MatchOption o (OnlyPlannedSections m × OnlyConstantOffsets m) (λ what. IsUnplanned what m) → ((what : What) → o ≡ Some what → ⊥) → OnlyPlannedSections m × OnlyConstantOffsets m
+nothing_named m None told none = told
+nothing_named m (Some what) told none = absurd (none what refl)
+
+-- ---- what was read
+
+-- it was short
 pub was_short : (bytes : List ℕ) (form : Form) → ReadingTells bytes (Ok form) → length bytes < 2 ^ 30
 was_short bytes form t = let short : 2 ^ 30 ≤ length bytes → ⊥ = λ long. no_error (t.too_large.1 long) in omega arith where
   no_error : (let r : Result Form ReadError = Ok form in r) ≡ Err read.TooLarge → ⊥
   no_error e = absurd cc
+
+pub check_cause : (bytes : List ℕ) (m : Module) (r : Result (Unit {0}) CheckError) (e : CheckError) → r ≡ Err e → ((rule : Rule) → r ≡ Err (checks.Invalid rule) → ¬ Kept rule m)
+    → ((rule : Rule) → r ≡ Err (checks.Invalid rule) → KeepsBefore rule m) → Spells bytes m → HasCause bytes (error_of_check e)
+check_cause bytes m r (checks.Invalid rule) is broken first spelled = (m, spelled, (broken rule is, first rule is))
+check_cause bytes m r checks.OutOfMemory is broken first spelled = tt
 
 pub check_complete : (m : Module) (r : Result (Unit {0}) CheckError) (e : CheckError) → r ≡ Err e → (Keeps m → ChecksOrNoMemory r) → Keeps m → error_of_check e ≡ refusal.OutOfMemory
 check_complete m r e is complete kept = ap error_of_check (subst (λ (q : Result (Unit {0}) CheckError). ChecksOrNoMemory q) is (complete kept))

@@ -1,7 +1,8 @@
 -- A translation that is planned is the plan of its module.
-use Rattle.std.proofs.Common.{◌≡◌, ◌++◌, ℕ, List, length, map, Option, Some, None, refl, sym, ap, subst, ◌∙◌}
+use Rattle.std.proofs.Common.{◌≡◌, ◌++◌, ℕ, List, [], ◌∷◌, length, map, drop, Option, Some, None, refl, sym, ap, subst, ◌∙◌}
 use Rattle.std.specs.Prelude.{All, Contains, slice_get}
-use Rattle.wasm_spec.specs.Module.{Expression, DataKind, Passive, Active, Segment, Module, defined_memories, segments, data_size}
+use Rattle.wasm_spec.specs.Module.{Expression, DataKind, Passive, Active, Segment, Module, imported_memories, defined_memories, segments, data_size}
+use Rattle.wasm_types.specs.Memories.{memory_of}
 use Rattle.replay_spec.specs.Data.{ActiveSegment, active_segments, minimum_size}
 use Rattle.replay_spec.specs.Plan.{MemoryPlan, AgreesOver, Agrees, kept_segments, ranges_from, FindsPassive}
 use Rattle.init_plan.specs.declared.translation.ModuleTranslation.{ModuleTranslation}
@@ -46,13 +47,18 @@ finds plan ss found others index (Some s) e = by_kind s.kind refl where
       let none = others index (not_contained index ss (rw e (is_active memory offset is))) in
       subst (λ (k : DataKind). FindsPassive plan (plan.passive index) k s.bytes) (sym is) (not_found (plan.passive index) memory offset none)
 
+-- what follows the imports
+after_imports : {X Y : Type 0} (f : X → Y) (imported defined : List X) → drop (length imported) (map f (imported ++ defined)) ≡ map f defined
+after_imports f [] defined = refl
+after_imports f (x ∷ imported) defined = after_imports f imported defined
+
 module _ (bytes : List ℕ) (m : Module) (old : ModuleTranslation) (filled : Fills bytes m old) where
   -- how many bytes the data hold
   pub total_same : data_total old ≡ data_size m
   total_same = rw (filled.active, filled.passive) (sizes_add 0 (segments m))
 
   sizes_of_memories : defined_sizes old.module ≡ map minimum_size (defined_memories m)
-  sizes_of_memories = rw (filled.imports, filled.memories) (sizes_same (defined_memories m))
+  sizes_of_memories = rw (filled.imports, filled.memories, after_imports memory_of (imported_memories m) (defined_memories m)) (sizes_same (defined_memories m))
 
   module _ (new : ModuleTranslation) (planned : PlanningTells old new) where
     agrees_with : Agrees m (memory_plan_of new)

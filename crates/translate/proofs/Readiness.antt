@@ -1,7 +1,7 @@
 -- A filled translation holds the lists of its module, and is ready to be planned.
 use Rattle.std.proofs.Common.{◌≡◌, ℕ, ◌+◌, ◌<◌, ◌≤◌, ◌^◌, ◌⊎◌, List, [], ◌∷◌, ◌++◌, length, map, Option, Some, None, false, refl, sym, ap, subst, ◌∙◌, arith, inl, inr, get_or, Bor}
 use Rattle.std.specs.Prelude.{All, IfSome, slice_get, unwrap_or, nat_eq}
-use Rattle.std.specs.List.{IsDistinct, cons_option}
+use Rattle.std.specs.List.{IsDistinct, cons_option, filter_map}
 use Rattle.std.proofs.lemmas.Bool.{ne_eqb}
 use Rattle.std.proofs.lemmas.List.{length-map}
 use Rattle.std.proofs.lemmas.List.Elements.{All-nil, All-cons, All-head, All-tail, All-map, All-weaker, recursion_from_All}
@@ -9,8 +9,8 @@ use Rattle.std.proofs.lemmas.Map.Keys.{IsDistinct-cons}
 use Rattle.std.proofs.lemmas.Option.{slice_get_cases}
 use Rattle.wasm_spec.specs.declared.entities.MemoryType.{MemoryType}
 use Rattle.wasm_spec.specs.declared.rules.Rule.TheVariants.{L4, L6, L9}
-use Rattle.wasm_spec.specs.Module.{Expression, DataKind, Passive, Active, Segment, Module, memories, segments}
-use Rattle.wasm_spec.specs.Rules.{HasLimits, Class, class_of, HasClass, address_class, HasOffset, NamesMemory, HasFewEntries, Keeps}
+use Rattle.wasm_spec.specs.Module.{Expression, Import, DataKind, Passive, Active, Segment, Payload, Memories, Segments, Custom, Module, imports, imports_of_section, memory_import, imported_memories, defined_memories, memories, segments}
+use Rattle.wasm_spec.specs.Rules.{HasLimits, Class, class_of, HasClass, address_class, HasOffset, NamesMemory, IsPlannedSection, OnlyPlannedSections, HasConstantOffset, OnlyConstantOffsets, HasFewEntries, Keeps}
 use Rattle.wasm_types.specs.declared.memory.Memory.{Memory}
 use Rattle.wasm_types.specs.Memories.{memory_of, HasPageSize}
 use Rattle.replay_spec.specs.Data.{ActiveSegment, active_of_kind}
@@ -27,9 +27,9 @@ use Rattle.translate.proofs.Adding.{AddsModule}
 one_operator : (ops : Expression) (c : Class) → HasClass ops c → length ops ≡ 1
 one_operator ops c is = sym (length-map ops class_of) ∙ ap length is
 
-CanBeAdded-from_rules : (types : List MemoryType) (kind : DataKind) → length types < 2 ^ 30 → NamesMemory types kind → HasOffset types kind → CanBeAdded kind
-CanBeAdded-from_rules types Passive few named offset = tt
-CanBeAdded-from_rules types (Active memory ops) few named offset = (omega arith, by_memory (slice_get_cases types memory).1) where
+CanBeAdded-from_rules : (types : List MemoryType) (kind : DataKind) → length types < 2 ^ 30 → NamesMemory types kind → HasOffset types kind → HasConstantOffset kind → CanBeAdded kind
+CanBeAdded-from_rules types Passive few named offset constants = tt
+CanBeAdded-from_rules types (Active memory ops) few named offset constants = (omega arith, by_memory (slice_get_cases types memory).1, constants) where
   by_memory : ((t : MemoryType) × (memory < length types) × (slice_get types memory ≡ Some t) × (get_or types memory t ≡ t)) ⊎ ((length types ≤ memory) × (slice_get types memory ≡ None)) → length ops ≡ 1
   by_memory (inl found) = one_operator ops (address_class found.0) (subst (λ (o : Option MemoryType). IfSome o (λ t. HasClass ops (address_class t))) found.2 offset)
   by_memory (inr past) = absurd (omega arith)
@@ -96,27 +96,47 @@ page_sizes types h =
     All-map (λ (m : Memory). (m.page_size_log2 ≡ 0) ⊎ (m.page_size_log2 ≡ 16)) memory_of types
     (All-weaker HasPageSize (λ (t : MemoryType). (unwrap_or t.page_size_log2 16 ≡ 0) ⊎ (unwrap_or t.page_size_log2 16 ≡ 16)) (λ t p. page_size_of t.page_size_log2 p) types h)
 
+-- ---- imports
+
+-- a section that is planned so far has no imports
+no_imports_in : (p : Payload) → IsPlannedSection p → imports_of_section p ≡ []
+no_imports_in (Memories types) planned = refl
+no_imports_in (Segments ss) planned = refl
+no_imports_in (Custom text bytes) planned = refl
+no_imports_in _ planned = absurd planned
+
+no_imports_of : (m : Module) → OnlyPlannedSections m → imports m ≡ []
+no_imports_of [] planned = refl
+no_imports_of (p ∷ ps) planned =
+    ap (λ (is : List Import). is ++ imports ps) (no_imports_in p (All-head IsPlannedSection p ps planned)) ∙ no_imports_of ps (All-tail IsPlannedSection p ps planned)
+
+nothing_imported : (m : Module) → OnlyPlannedSections m → imported_memories m ≡ []
+nothing_imported m planned = ap (filter_map (λ (i : Import). memory_import i.type)) (no_imports_of m planned)
+
 -- ---- the whole
 
-module _ (m : Module) (kept : Keeps m) (few : HasFewEntries m) where
-  has_page_sizes : All HasPageSize (memories m)
-  has_page_sizes = All-weaker HasLimits HasPageSize (λ t limits. limits.page_size) (memories m) (kept L4)
+module _ (m : Module) (kept : Keeps m) (few : HasFewEntries m) (planned : OnlyPlannedSections m) (constants : OnlyConstantOffsets m) where
+  all_defined : memories m ≡ defined_memories m
+  all_defined = ap (λ (types : List MemoryType). types ++ defined_memories m) (nothing_imported m planned)
 
-  -- what the module declares can be added to an empty filling
-  pub CanAdd-all : (start : Filling) → IsEmpty start → CanAdd start (memories m) (segments m)
+  has_page_sizes : All HasPageSize (defined_memories m)
+  has_page_sizes = subst (All HasPageSize) all_defined (All-weaker HasLimits HasPageSize (λ t limits. limits.page_size) (memories m) (kept L4))
+
+  -- what the module defines can be added to an empty filling
+  pub CanAdd-all : (start : Filling) → IsEmpty start → CanAdd start (defined_memories m) (segments m)
   CanAdd-all start empty =
       let none = ap length empty.is_new.no_memories in
       record {
-        few_memories = omega (arith, none, few.memories);
+        few_memories = omega (arith, none, few.memories, ap length all_defined);
         page_sizes = has_page_sizes;
         few_segments = omega (arith, empty.from_zero, few.segments);
-        segments = λ k d lt. CanBeAdded-from_rules (memories m) _ few.memories (kept L9 k d lt) (kept L6 k d lt);
+        segments = λ k d lt. CanBeAdded-from_rules (memories m) _ few.memories (kept L9 k d lt) (kept L6 k d lt) (constants k d lt);
       }
 
   -- an empty filling to which all is added
   module _ (start done : Filling) (empty : IsEmpty start) (added : AddsModule start done m) where
     memories_same : done.translation.module.memories ≡ map memory_of (memories m)
-    memories_same = added.memories ∙ ap (λ (ms : List Memory). ms ++ map memory_of (memories m)) empty.is_new.no_memories
+    memories_same = added.memories ∙ ap (λ (ms : List Memory). ms ++ map memory_of (defined_memories m)) empty.is_new.no_memories ∙ sym (ap (map memory_of) all_defined)
 
     active_same : active_so_far done ≡ active_among (segments m)
     active_same = added.active ∙ ap (λ (ss : List ActiveSegment). ss ++ active_among (segments m)) empty.no_active
@@ -143,7 +163,7 @@ module _ (m : Module) (kept : Keeps m) (few : HasFewEntries m) where
         nothing_found = added.same.found ∙ empty.is_new.nothing_found;
         imports = omega (arith, no_imports);
         few_memories = omega (arith, memory_count, few.memories);
-        page_sizes = subst (All (λ (x : Memory). (x.page_size_log2 ≡ 0) ⊎ (x.page_size_log2 ≡ 16))) (sym memories_same) (page_sizes (memories m) has_page_sizes);
+        page_sizes = subst (All (λ (x : Memory). (x.page_size_log2 ≡ 0) ⊎ (x.page_size_log2 ≡ 16))) (sym memories_same) (page_sizes (memories m) (subst (All HasPageSize) (sym all_defined) has_page_sizes));
         few_segments = let count = ap length active_same in let le = few_active (segments m) in omega (arith, count, le, few.segments);
         in_range = subst (All (λ (s : ActiveSegment). s.memory < length done.translation.module.memories)) (sym active_same) (active_in_range _ (memories m) (segments m) (sym memory_count) (kept L9));
         few_passive = let count = ap length passive_same in let le = few_passive 0 (segments m) in omega (arith, count, le, few.segments);
@@ -152,7 +172,7 @@ module _ (m : Module) (kept : Keeps m) (few : HasFewEntries m) where
             (All-weaker (IsWithin 0 4294967295) (λ (p : ℕ × List ℕ). p.0 < 4294967295) (λ p within. within.1) (passive_from 0 (segments m)) (passive_within 0 4294967295 0 (segments m) (omega arith) (omega (arith, few.segments))));
       };
       memories = memories_same;
-      imports = no_imports;
+      imports = no_imports ∙ sym (ap length (nothing_imported m planned));
       active = active_same;
       passive = passive_same;
       wasm = refl;

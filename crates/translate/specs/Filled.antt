@@ -3,6 +3,7 @@ use Rattle.std.specs.Prelude.{◌≡◌, ℕ, ◌+◌, ◌^◌, ◌<◌, List, [
 use Rattle.std.specs.List.{filter_map}
 use Rattle.wasm_spec.specs.declared.entities.MemoryType.{MemoryType}
 use Rattle.wasm_spec.specs.Module.{DataKind, Passive, Active, Segment, Module, memories, imported_memories, segments}
+use Rattle.wasm_spec.specs.Rules.{IsIntegerConstant}
 use Rattle.wasm_index.specs.Index.{index_of}
 use Rattle.wasm_types.specs.Memories.{memory_of, HasPageSize}
 use Rattle.replay_spec.specs.Data.{ActiveSegment, active_of_kind, active_segments}
@@ -45,10 +46,10 @@ pub record IsEmpty (filling : Filling) : Type 0 where
   pub no_active : active_so_far filling ≡ []
   pub from_zero : filling.next_data ≡ 0
 
--- the memory of an active segment has an index, and its offset is one operator
+-- the memory of an active segment has an index, and its offset is one integer constant
 abbrev pub CanBeAdded : DataKind → Type 0
 CanBeAdded Passive = Unit {0}
-CanBeAdded (Active memory offset) = (memory < 4294967295) × (length offset ≡ 1)
+CanBeAdded (Active memory offset) = (memory < 4294967295) × (length offset ≡ 1) × All IsIntegerConstant offset
 
 -- there are numbers for these memories and data segments, and each can be added
 pub record CanAdd (filling : Filling) (types : List MemoryType) (ss : List Segment) : Type 0 where

@@ -3,8 +3,10 @@ use Rattle.std.specs.Prelude.{◌≡◌, ◌⊎◌, ℕ, ◌^◌, ◌<◌, ◌�
 use Rattle.std.specs.List.{filter_map}
 use Rattle.wasm_spec.specs.Module.{DataKind, Passive, Active, Segment, Module, memories, imported_memories, segments, data_size}
 use Rattle.wasm_spec.specs.Grammar.{Spells, Stops}
-use Rattle.wasm_spec.specs.Rules.{Kept, Keeps}
+use Rattle.wasm_spec.specs.Rules.{OnlyPlannedSections, OnlyConstantOffsets, Kept, Keeps, KeepsBefore}
+use Rattle.wasm_spec.specs.Valid.{HasNoInterfaceTypes}
 use Rattle.wasm_spec.specs.declared.operators.What.{What}
+use Rattle.wasm_spec.specs.declared.operators.What.TheVariants as what
 use Rattle.wasm_types.specs.Memories.{memory_of}
 use Rattle.replay_spec.specs.Data.{active_segments}
 use Rattle.replay_spec.specs.Plan.{MemoryPlan, Agrees, kept_segments, ranges_from, FindsPassive}
@@ -41,13 +43,28 @@ pub record IsPlanOf (bytes : List ℕ) (m : Module) (plan : Plan) : Type 0 where
   pub passive : (index : ℕ) → Finds (memory_plan_of plan.translation) ((memory_plan_of plan.translation).passive index) (slice_get (segments m) index)
   pub wasm : plan.translation.wasm.now ≡ bytes
 
--- the bytes, fewer than 2 ^ 30, spell a module that keeps the listed rules, and the plan is its plan
+-- the bytes, fewer than 2 ^ 30, spell a module of those that are planned so far, which keeps the listed rules, and the plan is its plan
 pub record IsPlanned (bytes : List ℕ) (plan : Plan) : Type 0 where
   pub meaning : Module
   pub short : length bytes < 2 ^ 30
   pub spelled : Spells bytes meaning
+  pub no_interface_types : HasNoInterfaceTypes meaning
+  pub only_sections : OnlyPlannedSections meaning
+  pub only_constants : OnlyConstantOffsets meaning
   pub kept : Keeps meaning
   pub planned : IsPlanOf bytes meaning plan
+
+-- the bytes, fewer than 2 ^ 30, spell the module, and reading them does not stop at interface types
+pub record IsReadable (bytes : List ℕ) (m : Module) : Type 0 where
+  pub short : length bytes < 2 ^ 30
+  pub spelled : Spells bytes m
+  pub no_interface_types : HasNoInterfaceTypes m
+
+-- the module holds what is not planned yet: another section, or else another operator in a data offset
+abbrev pub IsUnplanned : What → Module → Type 0
+IsUnplanned what.Section m = ¬ OnlyPlannedSections m
+IsUnplanned what.Operator m = OnlyPlannedSections m × ¬ OnlyConstantOffsets m
+IsUnplanned _ m = ⊥
 
 -- the bytes spell a module of which a fact holds
 abbrev pub SpellsSome : List ℕ → (Module → Type 0) → Type 0
@@ -56,11 +73,17 @@ SpellsSome bytes P = (m : Module) × Spells bytes m × P m
 -- why the bytes are refused
 abbrev pub HasCause : List ℕ → TranslateError → Type 0
 HasCause bytes refusal.Malformed = ((m : Module) → ¬ Spells bytes m) × ((what : What) → ¬ Stops bytes what)
-HasCause bytes (refusal.Invalid rule) = SpellsSome bytes (λ m. ¬ Kept rule m)
-HasCause bytes (refusal.Unsupported what) = Stops bytes what
+-- the rule that is named is the first that is broken
+HasCause bytes (refusal.Invalid rule) = SpellsSome bytes (λ m. ¬ Kept rule m × KeepsBefore rule m)
+HasCause bytes (refusal.Unsupported what) = Stops bytes what ⊎ SpellsSome bytes (IsUnplanned what)
 HasCause bytes refusal.TooLarge = (2 ^ 30 ≤ length bytes) ⊎ SpellsSome bytes (λ m. 2 ^ 32 ≤ data_size m)
 HasCause bytes refusal.OffsetOverflow = ⊥
 HasCause bytes refusal.OutOfMemory = Unit {0}
+
+-- this is the refusal, or there is no memory to find it
+abbrev pub IsRefusedAs : Result Plan TranslateError → TranslateError → Type 0
+IsRefusedAs (Ok plan) named = ⊥
+IsRefusedAs (Err e) named = (e ≡ named) ⊎ (e ≡ refusal.OutOfMemory)
 
 -- there is a plan, or no memory for it
 abbrev pub SucceedsOrNoMemory : Result Plan TranslateError → Type 0

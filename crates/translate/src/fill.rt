@@ -1,8 +1,8 @@
 //! A form becomes a translation.
 
-ghost use Rattle.std.specs.Prelude.{◌≡◌, [], ◌∷◌, length, map, IfOk, OnOk};
+ghost use Rattle.std.specs.Prelude.{◌≡◌, [], ◌∷◌, length, map, All, IfOk, OnOk};
 ghost use Rattle.wasm_spec.specs.Module.{memories_of_section, segments_of_section};
-ghost use Rattle.wasm_spec.specs.Rules.{Keeps, HasFewEntries};
+ghost use Rattle.wasm_spec.specs.Rules.{OnlyPlannedSections, IsIntegerConstant, OnlyConstantOffsets, Keeps, HasFewEntries};
 ghost use Rattle.wasm_form.specs.Views.{module_of, payload_of, segment_of};
 ghost use Rattle.wasm_types.specs.Constants.{operator_of, expression_of};
 ghost use Rattle.translate.specs.Filled.{Fills, IsEmpty, CanAdd, Adds};
@@ -14,8 +14,10 @@ use wasm_form::{DataKind, DataSegment, Form, MemoryType, Operator, Payload};
 use wasm_index::{DataIndex, MemoryIndex, StaticModuleIndex};
 use wasm_types::{ConstExpr, ConstOp, Memory};
 
-/// The translation of a module that keeps the rules, with nothing planned yet.
+/// The translation of a module of those that are planned so far, which keeps the rules, with nothing planned yet.
 pub(crate) fn fill<'d>(alloc: Global, form: Form<'d>) -> Result<ModuleTranslation<'d>, OutOfMemory>
+    requires planned { OnlyPlannedSections (module_of form) }
+    requires constants { OnlyConstantOffsets (module_of form) }
     requires kept { Keeps (module_of form) }
     requires few { HasFewEntries (module_of form) }
     ensures { IfOk result (Fills form.entry.wasm.now (module_of form.entry)) }
@@ -56,7 +58,7 @@ impl<'d> Filling<'d> {
         match payload {
             Payload::Memories(types) => self.add_memories(types),
             Payload::Segments(segments) => self.add_segments(alloc, segments),
-            Payload::Custom(_) => Ok(()),
+            _ => Ok(()),
         }
     }
 
@@ -124,9 +126,10 @@ impl<'d> Filling<'d> {
     }
 }
 
-/// The same expression, where it is one operator.
+/// The same expression, where it is one integer constant.
 fn expression(alloc: Global, offset: &wasm_form::ConstExpr) -> Result<ConstExpr, OutOfMemory>
-    requires { length offset.now.ops.items ≡ 1 }
+    requires single { length offset.now.ops.items ≡ 1 }
+    requires constants { All IsIntegerConstant offset.now.ops.items }
     ensures { IfOk result (λ e. expression_of e ≡ offset.now.ops.items) }
 {
     match offset.ops.as_slice() {
@@ -136,10 +139,12 @@ fn expression(alloc: Global, offset: &wasm_form::ConstExpr) -> Result<ConstExpr,
 }
 
 fn constant(operator: Operator) -> ConstOp
+    requires { IsIntegerConstant operator }
     ensures { operator_of result ≡ operator }
 {
     match operator {
         Operator::I32Const { value } => ConstOp::I32Const(value),
         Operator::I64Const { value } => ConstOp::I64Const(value),
+        _ => unreachable!(),
     }
 }

@@ -2,6 +2,7 @@
 #![tactic(auto)]
 
 mod fill;
+mod planned;
 mod running;
 mod translating;
 mod words;

@@ -2,10 +2,13 @@
 
 ghost use Rattle.std.specs.Prelude.{◌≡◌, ◌⊎◌, ◌^◌, ◌≤◌, length, Err, IfOk, IfErr, IsFalse};
 ghost use Rattle.std.specs.Int.{IsPowerOfTwo};
+ghost use Rattle.wasm_spec.specs.declared.operators.What.{What};
+ghost use Rattle.wasm_spec.specs.Module.{Module};
 ghost use Rattle.wasm_spec.specs.Valid.{IsValid};
-ghost use Rattle.translate.specs.Planned.{IsPlanned, HasCause, SucceedsOrNoMemory};
+ghost use Rattle.translate.specs.Planned.{IsPlanned, IsReadable, IsUnplanned, HasCause, IsRefusedAs, SucceedsOrNoMemory};
 
 use crate::fill::fill;
+use crate::planned::first_unplanned;
 use crate::words::Collector;
 use plan_text::{Plan, TranslateError};
 use std::alloc::Global;
@@ -16,8 +19,8 @@ use wasm_types::Tunables;
 /// target, the page size of images and the size from which on an image must be half full of data.
 ///
 /// # Errors
-/// `Malformed`, `Unsupported` and `TooLarge` by what the bytes spell and by their length, `Invalid` where the module breaks a listed rule,
-/// `TooLarge` also where its data pass 4294967295 bytes.
+/// `Malformed`, `Unsupported` and `TooLarge` by what the bytes spell and by their length, `Unsupported` also where the module holds what is
+/// not planned yet, `Invalid` where it breaks a listed rule, `TooLarge` also where its data pass 4294967295 bytes.
 pub fn translate_module<'d>(
     alloc: Global,
     tunables: &Tunables,
@@ -34,12 +37,17 @@ pub fn translate_module<'d>(
     ensures planned { IfOk result (IsPlanned bytes.now) }
     ensures cause { IfErr result (HasCause bytes.now) }
     ensures too_long { 2 ^ 30 ≤ length bytes.now → result ≡ Err TranslateError.TooLarge }
+    // What is read and not planned yet is refused by its name, unless memory runs out.
+    ensures unplanned { (m : Module) (what : What) → IsReadable bytes.now m → IsUnplanned what m → IsRefusedAs result (TranslateError.Unsupported what) }
     // Valid input has a plan, unless memory runs out.
     ensures complete { IsValid bytes.now → SucceedsOrNoMemory result }
 {
     let _ = collector;
     let _ = ptr;
     let form = read_module(alloc, bytes)?;
+    if let Some(what) = first_unplanned(&form) {
+        return Err(TranslateError::Unsupported(what));
+    }
     check(alloc, &form)?;
     let mut translation = fill(alloc, form)?;
     translation.finalize_memory_init(alloc, tunables, page_size, max_image)?;

@@ -1,94 +1,29 @@
-//! Index spaces of a form that is made by hand.
+//! Index spaces of a module with imports.
 
-use crate::form::{ConstExpr, Counts, Form, GlobalDef, Import, Payload};
-use crate::types::{CompositeInnerType, RecGroup, SubType};
-use std::alloc::{AllocError, Global};
+use crate::form::Counts;
+use crate::read_module;
 use std::test::Fail;
-use wasm_spec::{
-    AbstractHeapType, GlobalType, HeapType, MemoryType, Operator, RefType, TableType, TypeRef,
-    ValType,
-};
-
-const PAGE: MemoryType = MemoryType {
-    memory64: false,
-    shared: false,
-    initial: 1,
-    maximum: None,
-    page_size_log2: None,
-};
-
-const TABLE: TableType = TableType {
-    element_type: RefType {
-        nullable: true,
-        heap: HeapType::Abstract(AbstractHeapType::Func),
-    },
-    table64: false,
-    initial: 0,
-    maximum: None,
-};
-
-const NUMBER: GlobalType = GlobalType {
-    content_type: ValType::I32,
-    mutable: false,
-};
-
-fn import(ty: TypeRef) -> Import<'static> {
-    Import {
-        module: "",
-        name: "",
-        ty,
-    }
-}
-
-fn structure(alloc: Global) -> SubType {
-    SubType {
-        is_final: true,
-        supertype: None,
-        composite: CompositeInnerType::Struct(Vec::new(alloc)),
-    }
-}
 
 /// A group of two types and a group of one, an import of each kind and a second memory, and what is defined: two functions, a memory, a
-/// global and a tag.
-fn payloads(alloc: Global) -> Result<Vec<Payload<'static>>, AllocError> {
-    let pair = RecGroup {
-        types: vec![in alloc; structure(alloc), structure(alloc)]?,
-    };
-    let alone = RecGroup {
-        types: vec![in alloc; structure(alloc)]?,
-    };
-    let imports = vec![in alloc;
-        import(TypeRef::Func(0)),
-        import(TypeRef::Table(TABLE)),
-        import(TypeRef::Memory(PAGE)),
-        import(TypeRef::Memory(PAGE)),
-        import(TypeRef::Global(NUMBER)),
-        import(TypeRef::Tag(1)),
-    ]?;
-    let global = GlobalDef {
-        ty: NUMBER,
-        init: ConstExpr {
-            ops: vec![in alloc; Operator::I32Const { value: 0 }]?,
-        },
-    };
-    Ok(vec![in alloc;
-        Payload::Types(vec![in alloc; pair, alone]?),
-        Payload::Imports(imports),
-        Payload::Functions(vec![in alloc; 0, 0]?),
-        Payload::Memories(vec![in alloc; PAGE]?),
-        Payload::Tags(vec![in alloc; 1]?),
-        Payload::Globals(vec![in alloc; global]?),
-        Payload::Start(0),
-    ]?)
-}
+/// tag and a global.
+const MODULE: &[u8] = &[
+    0x00, 0x61, 0x73, 0x6D, 0x01, 0x00, 0x00, 0x00, // the header
+    0x01, 0x09, 0x02, 0x4E, 0x02, 0x5F, 0x00, 0x5F, 0x00, 0x5F, 0x00, // types
+    0x02, 0x1F, 0x06, // six imports
+    0x00, 0x00, 0x00, 0x00, // a function
+    0x00, 0x00, 0x01, 0x70, 0x00, 0x00, // a table
+    0x00, 0x00, 0x02, 0x00, 0x01, // a memory
+    0x00, 0x00, 0x02, 0x00, 0x01, // a memory
+    0x00, 0x00, 0x03, 0x7F, 0x00, // a global
+    0x00, 0x00, 0x04, 0x00, 0x01, // a tag
+    0x03, 0x03, 0x02, 0x00, 0x00, // functions
+    0x05, 0x03, 0x01, 0x00, 0x01, // a memory
+    0x0D, 0x03, 0x01, 0x00, 0x01, // a tag
+    0x06, 0x06, 0x01, 0x7F, 0x00, 0x41, 0x00, 0x0B, // a global
+];
 
 #[test]
 fn imports_are_counted_with_what_is_defined(rt: HostRuntime) -> Result<(), Fail> {
-    let payloads = payloads(rt.alloc())?;
-    let form = Form {
-        wasm: b"",
-        payloads,
-    };
     let counts = Counts {
         types: 3,
         functions: 3,
@@ -97,6 +32,6 @@ fn imports_are_counted_with_what_is_defined(rt: HostRuntime) -> Result<(), Fail>
         globals: 2,
         tags: 2,
     };
-    assert_eq!(rt; form.counts(), counts);
+    assert_eq!(rt; read_module(rt.alloc(), MODULE)?.counts(), counts);
     Ok(())
 }

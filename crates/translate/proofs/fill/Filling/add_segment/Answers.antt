@@ -6,4 +6,4 @@ pub from_u32-requires : goal.from_u32-requires
 from_u32-requires c = let can = CanAdd-active c.args.self.now c.args.segment.now c.in-Active.memory_index c.in-Active.offset c.requires c.in-Active.is in omega (arith, can.0)
 
 pub expression-requires : goal.expression-requires
-expression-requires c = let can = CanAdd-active c.args.self.now c.args.segment.now c.in-Active.memory_index c.in-Active.offset c.requires c.in-Active.is in can.1
+expression-requires c = let can = CanAdd-active c.args.self.now c.args.segment.now c.in-Active.memory_index c.in-Active.offset c.requires c.in-Active.is in record { single = can.1; constants = can.2 }
