@@ -1,6 +1,6 @@
 //! Function types.
 
-ghost use Rattle.std.specs.Prelude.{◌≡◌, ◌↔◌, ◌≤◌, ◌+◌, IsTrue, IfOk, Some, All, map, length, count_by, vec_len};
+ghost use Rattle.std.specs.Prelude.{◌≡◌, ◌↔◌, ◌≤◌, ◌+◌, IsTrue, IsOk, IfOk, Some, All, map, length, count_by, vec_len};
 ghost use Rattle.std.specs.Borrow.{sem};
 ghost use Rattle.std.specs.Option.{option_copied_mut};
 ghost use Rattle.entity_map.specs.Cow.{value_of};
@@ -156,11 +156,12 @@ impl WasmFuncType {
     /// and points to the top of its hierarchy. Where that changes nothing, it is borrowed.
     ///
     /// # Errors
-    /// `OutOfMemory` where a changed type finds no memory.
+    /// `OutOfMemory` where a changed type finds no memory; a borrowed one needs none.
     #[tactic(auto, using(crate::proofs::Trampolined::mapped_parts))]
     pub fn trampoline_type(&self, alloc: Global) -> Result<TryCow<'_, Self>, OutOfMemory>
         ensures value { IfOk result (λ t. value_of t ≡ trampoline_of self.now) }
         ensures kept { IfOk result (λ t. IsTrue (is_borrowed t) ↔ (trampoline_of self.now ≡ self.now)) }
+        ensures kept_without_memory { trampoline_of self.now ≡ self.now → IsOk result }
     {
         if self.is_trampoline_type() {
             return Ok(TryCow::Borrowed(self));
