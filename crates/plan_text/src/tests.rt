@@ -122,7 +122,10 @@ fn each_refusal_has_its_line(rt: HostRuntime) {
         (What::Supertypes, "refused unsupported supertypes\n"),
         (What::Operator, "refused unsupported operator\n"),
         (What::ExactImport, "refused unsupported exact import\n"),
-        (What::InterfaceTypes, "refused unsupported interface types\n"),
+        (
+            What::InterfaceTypes,
+            "refused unsupported interface types\n",
+        ),
     ] {
         assert_eq!(rt; refusal_line(&TranslateError::Unsupported(what)), line);
     }

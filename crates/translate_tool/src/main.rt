@@ -5,9 +5,8 @@ mod adapters;
 
 use adapters::{StdSink, StdSource};
 use std::alloc::AllocError;
-use std::env;
-use std::io;
 use std::process::ExitCode;
+use std::{env, io};
 use translate::run;
 
 /// The status where the list of words finds no memory.
