@@ -2,18 +2,14 @@
 use Rattle.std.proofs.Common.{◌≡◌, ◌⊎◌, ◌∙◌, List, [], ◌∷◌, ◌++◌, Result, Ok, Err, refl, sym, ap, subst, inl, inr}
 use Rattle.std.specs.Bool.{⊤}
 use Rattle.std.specs.Fn.{Mut, Called, Takes}
+use Rattle.std.proofs.lemmas.List.Elements.{filter_map-append}
 use Rattle.wasm_index.specs.declared.index.Index.{Index}
 use Rattle.wasm_index.specs.declared.spaces.VMSharedTypeSpace.{VMSharedTypeSpace}
 use Rattle.wasm_types.specs.declared.index.EngineOrModuleTypeIndex.{EngineOrModuleTypeIndex}
 use Rattle.wasm_types.specs.declared.index.EngineOrModuleTypeIndex.TheVariants.{Engine, Module, RecGroup}
+use Rattle.wasm_types.specs.Views.{engine_index}
 use Rattle.wasm_trace.specs.Canonical.{engine_edges, AtEngineEdge}
 use Rattle.wasm_trace.specs.Runs.{Run, MayRun}
-
-engine_edges-append : (xs ys : List EngineOrModuleTypeIndex) → engine_edges (xs ++ ys) ≡ engine_edges xs ++ engine_edges ys
-engine_edges-append [] ys = refl
-engine_edges-append (Engine i ∷ xs) ys = ap (λ es. i ∷ es) (engine_edges-append xs ys)
-engine_edges-append (Module i ∷ xs) ys = engine_edges-append xs ys
-engine_edges-append (RecGroup i ∷ xs) ys = engine_edges-append xs ys
 
 -- the outer visitor holds the inner one, `held`, by a reference of one name
 module _ {S F E N : Type 0} (inner : Mut F (Index VMSharedTypeSpace × Unit {0}) (Result (Unit {0}) E)) (held : S → F) (name : S → N) where
@@ -55,6 +51,6 @@ module _ {S F E N : Type 0} (inner : Mut F (Index VMSharedTypeSpace × Unit {0})
         → (past rest : List EngineOrModuleTypeIndex) (e : EngineOrModuleTypeIndex) (now : S) → es ≡ past ++ e ∷ rest → Run outer s past (Ok tt) now
         → AtEngineEdge (λ i. Takes inner (held now) (i, tt)) e
     Run-comes es s may past rest (Engine i) now split run =
-        may.at (engine_edges past) (engine_edges rest) i (held now) (ap engine_edges split ∙ engine_edges-append past (Engine i ∷ rest)) (Run-engine past s (Ok tt) now run).0
+        may.at (engine_edges past) (engine_edges rest) i (held now) (ap engine_edges split ∙ filter_map-append engine_index past (Engine i ∷ rest)) (Run-engine past s (Ok tt) now run).0
     Run-comes es s may past rest (Module i) now split run = tt
     Run-comes es s may past rest (RecGroup i) now split run = tt

@@ -1,3 +1,5 @@
 pub mod Runs
 pub mod EngineRuns
 pub mod Tables
+pub mod Joined
+pub mod Items

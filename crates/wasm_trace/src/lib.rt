@@ -1,6 +1,7 @@
 //! Visits of the type indices that stand in types: its edges to other types.
 #![tactic(auto)]
 
+mod lists;
 mod trace;
 mod value;
 
