@@ -4,25 +4,25 @@ use Rattle.std.specs.Fn.{Mut, Called, CalledAtMut, Takes}
 use Rattle.wasm_trace.specs.Runs.{Run, MayRun, RunMut, MayRunMut}
 
 module _ {F Edge E : Type 0} (visitor : Mut F (Edge × Unit {0}) (Result (Unit {0}) E)) where
-  pub Run-then : (xs ys : List Edge) (f g : F) (r : Result (Unit {0}) E) (h : F) → Run visitor f xs (Ok tt) g → Run visitor g ys r h → Run visitor f (xs ++ ys) r h
-  Run-then [] ys f g r h first second = subst (λ s. Run visitor s ys r h) first.1 second
-  Run-then (x ∷ xs) ys f g r h (inl stop) second = let impossible : Err stop.0 ≡ Ok tt = sym stop.2 in cc
-  Run-then (x ∷ xs) ys f g r h (inr more) second = inr (more.0, more.1, Run-then xs ys more.0 g r h more.2 second)
+  pub run_then : (xs ys : List Edge) (f g : F) (r : Result (Unit {0}) E) (h : F) → Run visitor f xs (Ok tt) g → Run visitor g ys r h → Run visitor f (xs ++ ys) r h
+  run_then [] ys f g r h first second = subst (λ s. Run visitor s ys r h) first.1 second
+  run_then (x ∷ xs) ys f g r h (inl stop) second = let impossible : Err stop.0 ≡ Ok tt = sym stop.2 in cc
+  run_then (x ∷ xs) ys f g r h (inr more) second = inr (more.0, more.1, run_then xs ys more.0 g r h more.2 second)
 
-  pub Run-stop : (xs ys : List Edge) (f g : F) (x : E) → Run visitor f xs (Err x) g → Run visitor f (xs ++ ys) (Err x) g
-  Run-stop [] ys f g x run = let impossible : Err x ≡ Ok tt = run.0 in cc
-  Run-stop (e ∷ xs) ys f g x (inl stop) = inl stop
-  Run-stop (e ∷ xs) ys f g x (inr more) = inr (more.0, more.1, Run-stop xs ys more.0 g x more.2)
+  pub run_stop : (xs ys : List Edge) (f g : F) (x : E) → Run visitor f xs (Err x) g → Run visitor f (xs ++ ys) (Err x) g
+  run_stop [] ys f g x run = let impossible : Err x ≡ Ok tt = run.0 in cc
+  run_stop (e ∷ xs) ys f g x (inl stop) = inl stop
+  run_stop (e ∷ xs) ys f g x (inr more) = inr (more.0, more.1, run_stop xs ys more.0 g x more.2)
 
-  pub MayRun-first : (xs ys : List Edge) (f : F) → MayRun visitor f (xs ++ ys) → MayRun visitor f xs
-  MayRun-first xs ys f may = record {
+  pub may_run_first : (xs ys : List Edge) (f : F) → MayRun visitor f (xs ++ ys) → MayRun visitor f xs
+  may_run_first xs ys f may = record {
     at = λ past rest e now split run. may.at past (rest ++ ys) e now (ap (λ l. l ++ ys) split ∙ append_assoc past (e ∷ rest) ys) run
   }
 
-  pub MayRun-then : (xs ys : List Edge) (f g : F) → MayRun visitor f (xs ++ ys) → Run visitor f xs (Ok tt) g → MayRun visitor g ys
-  MayRun-then xs ys f g may first = record {
+  pub may_run_then : (xs ys : List Edge) (f g : F) → MayRun visitor f (xs ++ ys) → Run visitor f xs (Ok tt) g → MayRun visitor g ys
+  may_run_then xs ys f g may first = record {
     at = λ past rest e now split run.
-        may.at (xs ++ past) rest e now (ap (λ l. xs ++ l) split ∙ sym (append_assoc xs past (e ∷ rest))) (Run-then xs past f g (Ok tt) now first run)
+        may.at (xs ++ past) rest e now (ap (λ l. xs ++ l) split ∙ sym (append_assoc xs past (e ∷ rest))) (run_then xs past f g (Ok tt) now first run)
   }
 
   -- in the midst of a run over `all` from `first`: `rest` is left, from `now`
@@ -35,35 +35,35 @@ module _ {F Edge E : Type 0} (visitor : Mut F (Edge × Unit {0}) (Result (Unit {
 
   pub Midst-more : (first : F) (all : List Edge) (now : F) (xs ys : List Edge) (next : F) → Midst first all now (xs ++ ys) → Run visitor now xs (Ok tt) next → Midst first all next ys
   Midst-more first all now xs ys next midst here = record {
-    may = MayRun-then xs ys now next midst.may here;
-    run = λ r after run. midst.run r after (Run-then xs ys now next r after here run)
+    may = may_run_then xs ys now next midst.may here;
+    run = λ r after run. midst.run r after (run_then xs ys now next r after here run)
   }
 
   pub Midst-stop : (first : F) (all : List Edge) (now : F) (xs ys : List Edge) (x : E) (after : F) → Midst first all now (xs ++ ys) → Run visitor now xs (Err x) after → Run visitor first all (Err x) after
-  Midst-stop first all now xs ys x after midst here = midst.run (Err x) after (Run-stop xs ys now after x here)
+  Midst-stop first all now xs ys x after midst here = midst.run (Err x) after (run_stop xs ys now after x here)
 
 module _ {F Edge E : Type 0} (visitor : Mut F (MutBor Edge × Unit {0}) (Result (Unit {0}) E × (MutBor Edge × Unit {0}))) where
-  pub RunMut-then : (xs ys : List Edge) (f g : F) (r : Result (Unit {0}) E) (h : F) (xs' ys' : List Edge) → RunMut visitor f xs (Ok tt) g xs' → RunMut visitor g ys r h ys' → RunMut visitor f (xs ++ ys) r h (xs' ++ ys')
-  RunMut-then [] ys f g r h xs' ys' first second = rw (first.2, ← first.1) second
-  RunMut-then (x ∷ xs) ys f g r h xs' ys' (inl stop) second = let impossible : Err stop.0 ≡ Ok tt = sym stop.3 in cc
-  RunMut-then (x ∷ xs) ys f g r h xs' ys' (inr more) second =
-      inr (more.0, more.1, more.2 ++ ys', more.3, RunMut-then xs ys more.0 g r h more.2 ys' more.4 second, ap (λ l. l ++ ys') more.5)
+  pub run_then_mut : (xs ys : List Edge) (f g : F) (r : Result (Unit {0}) E) (h : F) (xs' ys' : List Edge) → RunMut visitor f xs (Ok tt) g xs' → RunMut visitor g ys r h ys' → RunMut visitor f (xs ++ ys) r h (xs' ++ ys')
+  run_then_mut [] ys f g r h xs' ys' first second = rw (first.2, ← first.1) second
+  run_then_mut (x ∷ xs) ys f g r h xs' ys' (inl stop) second = let impossible : Err stop.0 ≡ Ok tt = sym stop.3 in cc
+  run_then_mut (x ∷ xs) ys f g r h xs' ys' (inr more) second =
+      inr (more.0, more.1, more.2 ++ ys', more.3, run_then_mut xs ys more.0 g r h more.2 ys' more.4 second, ap (λ l. l ++ ys') more.5)
 
-  pub RunMut-stop : (xs ys : List Edge) (f g : F) (x : E) (xs' : List Edge) → RunMut visitor f xs (Err x) g xs' → RunMut visitor f (xs ++ ys) (Err x) g (xs' ++ ys)
-  RunMut-stop [] ys f g x xs' run = let impossible : Err x ≡ Ok tt = run.0 in cc
-  RunMut-stop (e ∷ xs) ys f g x xs' (inl stop) = inl (stop.0, stop.1, stop.2, stop.3, ap (λ l. l ++ ys) stop.4)
-  RunMut-stop (e ∷ xs) ys f g x xs' (inr more) = inr (more.0, more.1, more.2 ++ ys, more.3, RunMut-stop xs ys more.0 g x more.2 more.4, ap (λ l. l ++ ys) more.5)
+  pub run_stop_mut : (xs ys : List Edge) (f g : F) (x : E) (xs' : List Edge) → RunMut visitor f xs (Err x) g xs' → RunMut visitor f (xs ++ ys) (Err x) g (xs' ++ ys)
+  run_stop_mut [] ys f g x xs' run = let impossible : Err x ≡ Ok tt = run.0 in cc
+  run_stop_mut (e ∷ xs) ys f g x xs' (inl stop) = inl (stop.0, stop.1, stop.2, stop.3, ap (λ l. l ++ ys) stop.4)
+  run_stop_mut (e ∷ xs) ys f g x xs' (inr more) = inr (more.0, more.1, more.2 ++ ys, more.3, run_stop_mut xs ys more.0 g x more.2 more.4, ap (λ l. l ++ ys) more.5)
 
-  pub MayRunMut-first : (xs ys : List Edge) (f : F) → MayRunMut visitor f (xs ++ ys) → MayRunMut visitor f xs
-  MayRunMut-first xs ys f may = record {
+  pub may_run_first_mut : (xs ys : List Edge) (f : F) → MayRunMut visitor f (xs ++ ys) → MayRunMut visitor f xs
+  may_run_first_mut xs ys f may = record {
     at = λ past rest e now new split run. may.at past (rest ++ ys) e now new (ap (λ l. l ++ ys) split ∙ append_assoc past (e.now ∷ rest) ys) run
   }
 
-  pub MayRunMut-then : (xs ys : List Edge) (f g : F) (xs' : List Edge) → MayRunMut visitor f (xs ++ ys) → RunMut visitor f xs (Ok tt) g xs' → MayRunMut visitor g ys
-  MayRunMut-then xs ys f g xs' may first = record {
+  pub may_run_then_mut : (xs ys : List Edge) (f g : F) (xs' : List Edge) → MayRunMut visitor f (xs ++ ys) → RunMut visitor f xs (Ok tt) g xs' → MayRunMut visitor g ys
+  may_run_then_mut xs ys f g xs' may first = record {
     at = λ past rest e now new split run.
         may.at (xs ++ past) rest e now (xs' ++ new) (ap (λ l. xs ++ l) split ∙ sym (append_assoc xs past (e.now ∷ rest)))
-            (RunMut-then xs past f g (Ok tt) now xs' new first run)
+            (run_then_mut xs past f g (Ok tt) now xs' new first run)
   }
 
   -- in the midst of a run over `all` from `first`: those that were visited are now `done`, and `rest` is left, from `now`
@@ -77,13 +77,13 @@ module _ {F Edge E : Type 0} (visitor : Mut F (MutBor Edge × Unit {0}) (Result 
   pub MidstMut-more : (first : F) (all : List Edge) (now : F) (done xs ys : List Edge) (next : F) (xs' : List Edge) → MidstMut first all now done (xs ++ ys)
       → RunMut visitor now xs (Ok tt) next xs' → MidstMut first all next (done ++ xs') ys
   MidstMut-more first all now done xs ys next xs' midst here = record {
-    may = MayRunMut-then xs ys now next xs' midst.may here;
-    run = λ r after new run. rw (append_assoc done xs' new) (midst.run r after (xs' ++ new) (RunMut-then xs ys now next r after xs' new here run))
+    may = may_run_then_mut xs ys now next xs' midst.may here;
+    run = λ r after new run. rw (append_assoc done xs' new) (midst.run r after (xs' ++ new) (run_then_mut xs ys now next r after xs' new here run))
   }
 
   pub MidstMut-stop : (first : F) (all : List Edge) (now : F) (done xs ys : List Edge) (x : E) (after : F) (xs' : List Edge) → MidstMut first all now done (xs ++ ys)
       → RunMut visitor now xs (Err x) after xs' → RunMut visitor first all (Err x) after (done ++ (xs' ++ ys))
-  MidstMut-stop first all now done xs ys x after xs' midst here = midst.run (Err x) after (xs' ++ ys) (RunMut-stop xs ys now after x xs' here)
+  MidstMut-stop first all now done xs ys x after xs' midst here = midst.run (Err x) after (xs' ++ ys) (run_stop_mut xs ys now after x xs' here)
 
   pub MidstMut-end : (first : F) (all : List Edge) (now : F) (done : List Edge) → MidstMut first all now done [] → RunMut visitor first all (Ok tt) now done
   MidstMut-end first all now done midst = rw (← append-nil done) (midst.run (Ok tt) now [] (refl, refl, refl))

@@ -17,6 +17,16 @@ module _ {F Edge E : Type 0} (visitor : Mut F (Edge × Unit {0}) (Result (Unit {
   pub may_visit : (f : F) (e : Edge) (es : List Edge) → MayRun visitor f es → es ≡ e ∷ [] → Takes visitor f (e, tt)
   may_visit f e es may one = may.at [] [] e f one (refl, refl)
 
+  -- the first of several edges may be visited
+  pub may_visit_first : (f : F) (e : Edge) (es : List Edge) → MayRun visitor f (e ∷ es) → Takes visitor f (e, tt)
+  may_visit_first f e es may = may.at [] es e f refl (refl, refl)
+
+  -- and then the others
+  pub may_go_on : (f : F) (e : Edge) (es : List Edge) (g : F) → MayRun visitor f (e ∷ es) → Called visitor f (e, tt) (Ok tt) g → MayRun visitor g es
+  may_go_on f e es g may called = record {
+    at = λ past rest x now split run. may.at (e ∷ past) rest x now (ap (λ l. e ∷ l) split) (inr (g, called, run))
+  }
+
   -- a visitor that answers Ok exactly where P holds tells whether it holds of every edge
   pub Run-tests : (P : Edge → Type 0) → ((f : F) (e : Edge) (r : Result (Unit {0}) E) (f' : F) → Called visitor f (e, tt) r f' → IsOk r ↔ P e)
       → (es : List Edge) (f : F) (r : Result (Unit {0}) E) (f' : F) → Run visitor f es r f' → IsOk r ↔ All P es
@@ -34,6 +44,16 @@ module _ {F Edge E : Type 0} (visitor : Mut F (MutBor Edge × Unit {0}) (Result 
   -- the only edge may be visited
   pub may_visit_mut : (f : F) (e : Edge) (es : List Edge) → MayRunMut visitor f es → es ≡ e ∷ [] → (p : MutBor Edge) → p.now ≡ e → Takes visitor f (p, tt)
   may_visit_mut f e es may one p here = may.at [] [] p f [] (one ∙ ap (λ x. x ∷ []) (sym here)) (refl, refl, refl)
+
+  -- the first of several edges may be visited
+  pub may_visit_first_mut : (f : F) (e : Edge) (es : List Edge) → MayRunMut visitor f (e ∷ es) → (p : MutBor Edge) → p.now ≡ e → Takes visitor f (p, tt)
+  may_visit_first_mut f e es may p here = may.at [] es p f [] (ap (λ x. x ∷ es) (sym here)) (refl, refl, refl)
+
+  -- and then the others
+  pub may_go_on_mut : (f : F) (e : Edge) (es : List Edge) (g : F) (e' : Edge) → MayRunMut visitor f (e ∷ es) → CalledAtMut visitor f e (Ok tt) g e' → MayRunMut visitor g es
+  may_go_on_mut f e es g e' may called = record {
+    at = λ past rest x now new split run. may.at (e ∷ past) rest x now (e' ∷ new) (ap (λ l. e ∷ l) split) (inr (g, e', new, called, run, refl))
+  }
 
   -- one visit is a run
   pub one_visit : (f : F) (e : Edge) (r : Result (Unit {0}) E) (f' : F) (e' : Edge) → CalledAtMut visitor f e r f' e' → RunMut visitor f (e ∷ []) r f' (e' ∷ [])
