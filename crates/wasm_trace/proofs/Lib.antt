@@ -3,3 +3,4 @@ pub mod EngineRuns
 pub mod Tables
 pub mod Joined
 pub mod Items
+pub mod FuncRuns

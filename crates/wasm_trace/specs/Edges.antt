@@ -1,5 +1,5 @@
 -- The edges of a value: the type indices that stand in it, in order. Its frame is all else: the value with one and the same index in place of each.
-use Rattle.std.specs.Prelude.{List, [], ◌∷◌, ◌++◌, Option, Some, None, map}
+use Rattle.std.specs.Prelude.{ℕ, List, [], ◌∷◌, ◌++◌, Option, Some, None, map}
 use Rattle.std.specs.List.{flat_map}
 use Rattle.std.specs.Option.{option_to_list, option_map}
 use Rattle.wasm_index.specs.Index.{index_of}
@@ -8,7 +8,6 @@ use Rattle.wasm_types.specs.declared.index.EngineOrModuleTypeIndex.TheVariants.{
 use Rattle.wasm_types.specs.declared.heap.WasmHeapType.{WasmHeapType}
 use Rattle.wasm_types.specs.declared.value.WasmRefType.{WasmRefType}
 use Rattle.wasm_types.specs.declared.value.WasmValType.{WasmValType}
-use Rattle.wasm_types.specs.declared.value.WasmValType.TheVariants as val
 use Rattle.wasm_types.specs.declared.field.WasmStorageType.{WasmStorageType}
 use Rattle.wasm_types.specs.declared.field.WasmStorageType.TheVariants as storage
 use Rattle.wasm_types.specs.declared.field.WasmFieldType.{WasmFieldType}
@@ -27,7 +26,7 @@ use Rattle.wasm_types.specs.declared.table.Table.{Table}
 use Rattle.wasm_types.specs.declared.tag.Tag.{Tag}
 use Rattle.wasm_types.specs.declared.entity.EntityType.{EntityType}
 use Rattle.wasm_types.specs.declared.entity.EntityType.TheVariants as entity
-use Rattle.wasm_types.specs.Indices.{heap_index, heap_with_index, cont_index, cont_of}
+use Rattle.wasm_types.specs.Indices.{heap_index, heap_with_index, val_index, val_with_index, func_with_index, cont_index, cont_of}
 
 -- the index that stands in a frame
 abbrev pub no_edge : EngineOrModuleTypeIndex
@@ -47,14 +46,12 @@ ref_edges r = heap_edges r.heap_type
 abbrev pub ref_frame : WasmRefType → WasmRefType
 ref_frame r = record r { heap_type = heap_frame r.heap_type }
 
--- of a value type: those of a reference
+-- of a value type: that of a reference
 abbrev pub val_edges : WasmValType → List EngineOrModuleTypeIndex
-val_edges (val.Ref r) = ref_edges r
-val_edges _ = []
+val_edges t = option_to_list (val_index t)
 
 abbrev pub val_frame : WasmValType → WasmValType
-val_frame (val.Ref r) = val.Ref (ref_frame r)
-val_frame t = t
+val_frame t = val_with_index t no_edge
 
 -- of a function type: the parameters', then the results'
 abbrev pub func_edges : WasmFuncType → List EngineOrModuleTypeIndex
@@ -62,6 +59,11 @@ func_edges t = flat_map val_edges t.params ++ flat_map val_edges t.results
 
 abbrev pub func_frame : WasmFuncType → WasmFuncType
 func_frame t = record { params = map val_frame t.params; results = map val_frame t.results }
+
+-- a function type whose edge at a place of the parameters and then the results is the given one, if any
+abbrev pub func_with_edges_at : WasmFuncType → ℕ → List EngineOrModuleTypeIndex → WasmFuncType
+func_with_edges_at t at [] = t
+func_with_edges_at t at (new ∷ _) = func_with_index t at new
 
 -- of a continuation type: that of its function type
 abbrev pub cont_edges : WasmContType → List EngineOrModuleTypeIndex

@@ -1,6 +1,11 @@
 //! The edges of a function type.
 
-ghost use Rattle.wasm_trace.specs.Edges.{func_edges, func_frame};
+ghost use Rattle.std.specs.Prelude.{◌≡◌, List};
+ghost use Rattle.std.specs.Option.{option_to_list};
+ghost use Rattle.wasm_types.specs.Indices.{index_at};
+ghost use Rattle.wasm_types.specs.declared.index.EngineOrModuleTypeIndex.{EngineOrModuleTypeIndex};
+ghost use Rattle.wasm_trace.specs.Edges.{func_edges, func_frame, func_with_edges_at};
+ghost use Rattle.wasm_trace.specs.Runs.{RunMut, MayRunMut};
 
 use crate::lists::trace_all;
 use crate::trace::TypeTrace;
@@ -26,10 +31,23 @@ impl TypeTrace for WasmFuncType {
     {
         let count = self.params().len() + self.results().len();
         for at in 0..count {
-            if let Some(index) = self.index_mut(at) {
-                func(index)?;
-            }
+            trace_at_mut(self, at, func)?;
         }
         Ok(())
+    }
+}
+
+// Visits the edge at a place of the parameters and then the results, if one stands there, for writing.
+fn trace_at_mut<F, E>(ty: &mut WasmFuncType, at: usize, func: &mut F) -> Result<(), E>
+where
+    F: FnMut(&mut EngineOrModuleTypeIndex) -> Result<(), E>
+    requires { MayRunMut F.FnMut func.old (option_to_list (index_at ty.old at)) }
+    ensures { (new : List EngineOrModuleTypeIndex)
+        × RunMut F.FnMut func.old (option_to_list (index_at ty.old at)) result func.new new
+        × (ty.new ≡ func_with_edges_at ty.old at new) }
+{
+    match ty.index_mut(at) {
+        Some(index) => func(index),
+        None => Ok(()),
     }
 }
