@@ -1,7 +1,7 @@
 -- Runs over joined lists: the run over the first and, where that answers Ok, the run over the second.
-use Rattle.std.proofs.Common.{◌≡◌, ◌⊎◌, ◌∙◌, List, [], ◌∷◌, ◌++◌, Result, Ok, Err, refl, sym, ap, subst, inl, inr, append_assoc, append-nil, MutBor}
+use Rattle.std.proofs.Common.{◌≡◌, ◌⊎◌, ◌↔◌, ◌∙◌, List, [], ◌∷◌, ◌++◌, Result, Ok, Err, refl, sym, ap, subst, inl, inr, append_assoc, append-nil, MutBor}
 use Rattle.std.specs.Fn.{Mut, Called, CalledAtMut, Takes}
-use Rattle.wasm_trace.specs.Runs.{Run, MayRun, RunMut, MayRunMut}
+use Rattle.wasm_trace.specs.Runs.{Run, RunBoth, MayRun, RunMut, RunBothMut, ChangesNothing, MayRunMut}
 
 module _ {F Edge E : Type 0} (visitor : Mut F (Edge × Unit {0}) (Result (Unit {0}) E)) where
   pub run_then : (xs ys : List Edge) (f g : F) (r : Result (Unit {0}) E) (h : F) → Run visitor f xs (Ok tt) g → Run visitor g ys r h → Run visitor f (xs ++ ys) r h
@@ -13,6 +13,22 @@ module _ {F Edge E : Type 0} (visitor : Mut F (Edge × Unit {0}) (Result (Unit {
   run_stop [] ys f g x run = let impossible : Err x ≡ Ok tt = run.0 in cc
   run_stop (e ∷ xs) ys f g x (inl stop) = inl stop
   run_stop (e ∷ xs) ys f g x (inr more) = inr (more.0, more.1, run_stop xs ys more.0 g x more.2)
+
+  run_split : (xs ys : List Edge) (f : F) (r : Result (Unit {0}) E) (h : F) → Run visitor f (xs ++ ys) r h → RunBoth visitor f xs ys r h
+  run_split [] ys f r h run = inr (f, (refl, refl), run)
+  run_split (e ∷ xs) ys f r h (inl stop) = inl (stop.0, inl (stop.0, stop.1, refl), stop.2)
+  run_split (e ∷ xs) ys f r h (inr more) = longer (run_split xs ys more.0 r h more.2)
+    where
+      longer : RunBoth visitor more.0 xs ys r h → RunBoth visitor f (e ∷ xs) ys r h
+      longer (inl stop) = inl (stop.0, inr (more.0, more.1, stop.1), stop.2)
+      longer (inr both) = inr (both.0, inr (more.0, more.1, both.1), both.2)
+
+  run_joined : (xs ys : List Edge) (f : F) (r : Result (Unit {0}) E) (h : F) → RunBoth visitor f xs ys r h → Run visitor f (xs ++ ys) r h
+  run_joined xs ys f r h (inl stop) = subst (λ s. Run visitor f (xs ++ ys) s h) (sym stop.2) (run_stop xs ys f h stop.0 stop.1)
+  run_joined xs ys f r h (inr both) = run_then xs ys f both.0 r h both.1 both.2
+
+  pub run_both : (xs ys : List Edge) (f : F) (r : Result (Unit {0}) E) (h : F) → Run visitor f (xs ++ ys) r h ↔ RunBoth visitor f xs ys r h
+  run_both xs ys f r h = (run_split xs ys f r h, run_joined xs ys f r h)
 
   pub may_run_first : (xs ys : List Edge) (f : F) → MayRun visitor f (xs ++ ys) → MayRun visitor f xs
   may_run_first xs ys f may = record {
@@ -53,6 +69,31 @@ module _ {F Edge E : Type 0} (visitor : Mut F (MutBor Edge × Unit {0}) (Result 
   run_stop_mut [] ys f g x xs' run = let impossible : Err x ≡ Ok tt = run.0 in cc
   run_stop_mut (e ∷ xs) ys f g x xs' (inl stop) = inl (stop.0, stop.1, stop.2, stop.3, ap (λ l. l ++ ys) stop.4)
   run_stop_mut (e ∷ xs) ys f g x xs' (inr more) = inr (more.0, more.1, more.2 ++ ys, more.3, run_stop_mut xs ys more.0 g x more.2 more.4, ap (λ l. l ++ ys) more.5)
+
+  run_split_mut : (xs ys : List Edge) (f : F) (r : Result (Unit {0}) E) (h : F) (new : List Edge) → RunMut visitor f (xs ++ ys) r h new → RunBothMut visitor f xs ys r h new
+  run_split_mut [] ys f r h new run = inr (f, [], new, (refl, refl, refl), run, refl)
+  run_split_mut (e ∷ xs) ys f r h new (inl stop) = inl (stop.0, stop.1 ∷ xs, inl (stop.0, stop.1, stop.2, refl, refl), stop.3, stop.4)
+  run_split_mut (e ∷ xs) ys f r h new (inr more) = longer (run_split_mut xs ys more.0 r h more.2 more.4)
+    where
+      longer : RunBothMut visitor more.0 xs ys r h more.2 → RunBothMut visitor f (e ∷ xs) ys r h new
+      longer (inl stop) =
+          inl (stop.0, more.1 ∷ stop.1, inr (more.0, more.1, stop.1, more.3, stop.2, refl), stop.3, more.5 ∙ ap (λ es. more.1 ∷ es) stop.4)
+      longer (inr both) =
+          inr (both.0, more.1 ∷ both.1, both.2, inr (more.0, more.1, both.1, more.3, both.3, refl), both.4, more.5 ∙ ap (λ es. more.1 ∷ es) both.5)
+
+  run_joined_mut : (xs ys : List Edge) (f : F) (r : Result (Unit {0}) E) (h : F) (new : List Edge) → RunBothMut visitor f xs ys r h new → RunMut visitor f (xs ++ ys) r h new
+  run_joined_mut xs ys f r h new (inl stop) = rw (stop.3, stop.4) (run_stop_mut xs ys f h stop.0 stop.1 stop.2)
+  run_joined_mut xs ys f r h new (inr both) = rw both.5 (run_then_mut xs ys f both.0 r h both.1 both.2 both.3 both.4)
+
+  pub run_both_mut : (xs ys : List Edge) (f : F) (r : Result (Unit {0}) E) (h : F) (new : List Edge) → RunMut visitor f (xs ++ ys) r h new ↔ RunBothMut visitor f xs ys r h new
+  run_both_mut xs ys f r h new = (run_split_mut xs ys f r h new, run_joined_mut xs ys f r h new)
+
+  -- where no visit changes an edge, the edges are the same after a run
+  pub run_unchanged : (es : List Edge) (f : F) (r : Result (Unit {0}) E) (h : F) (new : List Edge) → ChangesNothing visitor → RunMut visitor f es r h new → new ≡ es
+  run_unchanged [] f r h new unchanging run = run.2
+  run_unchanged (e ∷ es) f r h new unchanging (inl stop) = stop.4 ∙ ap (λ x. x ∷ es) (unchanging.at f h e stop.1 (Err stop.0) stop.2)
+  run_unchanged (e ∷ es) f r h new unchanging (inr more) =
+      more.5 ∙ ap (λ x. x ∷ more.2) (unchanging.at f more.0 e more.1 (Ok tt) more.3) ∙ ap (λ l. e ∷ l) (run_unchanged es more.0 r h more.2 unchanging more.4)
 
   pub may_run_first_mut : (xs ys : List Edge) (f : F) → MayRunMut visitor f (xs ++ ys) → MayRunMut visitor f xs
   may_run_first_mut xs ys f may = record {

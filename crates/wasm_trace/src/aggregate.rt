@@ -1,6 +1,7 @@
 //! The edges of struct and exception types.
 
 ghost use Rattle.wasm_trace.specs.Edges.{struct_edges, struct_frame, exn_edges, exn_frame};
+ghost use Rattle.wasm_trace.specs.Restored.{is_determined, struct_restored, exn_restored};
 
 use crate::lists::{trace_all, trace_all_mut};
 use crate::trace::TypeTrace;
@@ -24,6 +25,8 @@ impl TypeTrace for WasmStructType {
     {
         trace_all_mut(self.fields.as_mut_slice(), func)
     }
+
+    ghost determined = { is_determined struct_restored };
 }
 
 impl TypeTrace for WasmExnType {
@@ -48,4 +51,6 @@ impl TypeTrace for WasmExnType {
         func(&mut self.func_ty)?;
         trace_all_mut(self.fields.as_mut_slice(), func)
     }
+
+    ghost determined = { is_determined exn_restored };
 }

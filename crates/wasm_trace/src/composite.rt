@@ -4,6 +4,7 @@ ghost use Rattle.std.specs.Prelude.{◌≡◌};
 ghost use Rattle.std.specs.Option.{option_map, option_to_list};
 ghost use Rattle.wasm_trace.specs.Edges.{inner_edges, inner_frame, composite_edges, composite_frame, sub_edges, sub_frame, group_edges, group_frame, no_edge};
 ghost use Rattle.wasm_trace.specs.Runs.{Run, MayRun, RunMut, MayRunMut};
+ghost use Rattle.wasm_trace.specs.Restored.{is_determined, composite_restored, sub_restored, group_restored};
 
 use crate::lists::{trace_all, trace_all_mut};
 use crate::trace::TypeTrace;
@@ -29,6 +30,8 @@ impl TypeTrace for WasmCompositeType {
     {
         trace_inner_mut(&mut self.inner, func)
     }
+
+    ghost determined = { is_determined composite_restored };
 }
 
 // Visits each edge of a composite type without its share flag.
@@ -115,6 +118,8 @@ impl TypeTrace for WasmSubType {
         trace_option_mut(&mut self.supertype, func)?;
         self.composite_type.trace_mut(func)
     }
+
+    ghost determined = { is_determined sub_restored };
 }
 
 impl TypeTrace for WasmRecGroup {
@@ -135,4 +140,6 @@ impl TypeTrace for WasmRecGroup {
     {
         trace_all_mut(self.types.as_mut_slice(), func)
     }
+
+    ghost determined = { is_determined group_restored };
 }

@@ -1,6 +1,7 @@
 //! The edge of a continuation type.
 
 ghost use Rattle.wasm_trace.specs.Edges.{cont_edges, cont_frame};
+ghost use Rattle.wasm_trace.specs.Restored.{is_determined, cont_restored};
 
 use crate::trace::TypeTrace;
 use wasm_types::{EngineOrModuleTypeIndex, WasmContType};
@@ -25,4 +26,6 @@ impl TypeTrace for WasmContType {
     {
         func(self.index_mut())
     }
+
+    ghost determined = { is_determined cont_restored };
 }

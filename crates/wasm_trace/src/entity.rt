@@ -1,6 +1,7 @@
 //! The edges of globals, tables, tags and the types of entities.
 
 ghost use Rattle.wasm_trace.specs.Edges.{global_edges, global_frame, table_edges, table_frame, tag_edges, tag_frame, entity_edges, entity_frame};
+ghost use Rattle.wasm_trace.specs.Restored.{is_determined, global_restored, table_restored, tag_restored, entity_restored};
 
 use crate::trace::TypeTrace;
 use wasm_types::{EngineOrModuleTypeIndex, EntityType, Global, Table, Tag};
@@ -23,6 +24,8 @@ impl TypeTrace for Global {
     {
         self.wasm_ty.trace_mut(func)
     }
+
+    ghost determined = { is_determined global_restored };
 }
 
 impl TypeTrace for Table {
@@ -43,6 +46,8 @@ impl TypeTrace for Table {
     {
         self.ref_type.trace_mut(func)
     }
+
+    ghost determined = { is_determined table_restored };
 }
 
 impl TypeTrace for Tag {
@@ -67,6 +72,8 @@ impl TypeTrace for Tag {
         func(&mut self.signature)?;
         func(&mut self.exception)
     }
+
+    ghost determined = { is_determined tag_restored };
 }
 
 impl TypeTrace for EntityType {
@@ -101,4 +108,6 @@ impl TypeTrace for EntityType {
             EntityType::Function(index) => func(index),
         }
     }
+
+    ghost determined = { is_determined entity_restored };
 }

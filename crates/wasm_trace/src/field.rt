@@ -1,6 +1,7 @@
 //! The edges of storage, field and array types.
 
 ghost use Rattle.wasm_trace.specs.Edges.{storage_edges, storage_frame, field_edges, field_frame, array_edges, array_frame};
+ghost use Rattle.wasm_trace.specs.Restored.{is_determined, storage_restored, field_restored, array_restored};
 
 use crate::trace::TypeTrace;
 use wasm_types::{EngineOrModuleTypeIndex, WasmArrayType, WasmFieldType, WasmStorageType};
@@ -29,6 +30,8 @@ impl TypeTrace for WasmStorageType {
             _ => Ok(()),
         }
     }
+
+    ghost determined = { is_determined storage_restored };
 }
 
 impl TypeTrace for WasmFieldType {
@@ -49,6 +52,8 @@ impl TypeTrace for WasmFieldType {
     {
         self.element_type.trace_mut(func)
     }
+
+    ghost determined = { is_determined field_restored };
 }
 
 impl TypeTrace for WasmArrayType {
@@ -69,4 +74,6 @@ impl TypeTrace for WasmArrayType {
     {
         self.0.trace_mut(func)
     }
+
+    ghost determined = { is_determined array_restored };
 }

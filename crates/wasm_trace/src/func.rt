@@ -6,6 +6,7 @@ ghost use Rattle.wasm_types.specs.Indices.{index_at};
 ghost use Rattle.wasm_types.specs.declared.index.EngineOrModuleTypeIndex.{EngineOrModuleTypeIndex};
 ghost use Rattle.wasm_trace.specs.Edges.{func_edges, func_frame, func_with_edges_at};
 ghost use Rattle.wasm_trace.specs.Runs.{RunMut, MayRunMut};
+ghost use Rattle.wasm_trace.specs.Restored.{is_determined, func_restored};
 
 use crate::lists::trace_all;
 use crate::trace::TypeTrace;
@@ -35,6 +36,8 @@ impl TypeTrace for WasmFuncType {
         }
         Ok(())
     }
+
+    ghost determined = { is_determined func_restored };
 }
 
 // Visits the edge at a place of the parameters and then the results, if one stands there, for writing.

@@ -7,8 +7,12 @@ mod cont;
 mod entity;
 mod field;
 mod func;
+mod laws;
 mod lists;
 mod trace;
+#[cfg(test)]
+mod tests;
 mod value;
 
+pub use laws::{run_laws, run_mut_laws, unchanged_law};
 pub use trace::TypeTrace;

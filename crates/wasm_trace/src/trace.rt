@@ -135,4 +135,6 @@ pub trait TypeTrace {
         })
         .is_ok()
     }
+    /// A value is determined by its frame and its edges.
+    ghost determined: { (x y : Self) → frame x ≡ frame y → edges x ≡ edges y → x ≡ y };
 }

@@ -1,6 +1,7 @@
 //! The edges of heap, reference and value types.
 
 ghost use Rattle.wasm_trace.specs.Edges.{heap_edges, heap_frame, ref_edges, ref_frame, val_edges, val_frame};
+ghost use Rattle.wasm_trace.specs.Restored.{is_determined, heap_restored, ref_restored, val_restored};
 
 use crate::trace::TypeTrace;
 use wasm_types::{EngineOrModuleTypeIndex, WasmHeapType, WasmRefType, WasmValType};
@@ -39,6 +40,8 @@ impl TypeTrace for WasmHeapType {
             _ => Ok(()),
         }
     }
+
+    ghost determined = { is_determined heap_restored };
 }
 
 impl TypeTrace for WasmRefType {
@@ -59,6 +62,8 @@ impl TypeTrace for WasmRefType {
     {
         self.heap_type.trace_mut(func)
     }
+
+    ghost determined = { is_determined ref_restored };
 }
 
 impl TypeTrace for WasmValType {
@@ -85,4 +90,6 @@ impl TypeTrace for WasmValType {
             _ => Ok(()),
         }
     }
+
+    ghost determined = { is_determined val_restored };
 }
