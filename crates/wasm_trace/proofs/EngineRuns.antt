@@ -19,7 +19,7 @@ module _ {S F E N : Type 0} (inner : Mut F (Index VMSharedTypeSpace × Unit {0})
   PassesOn s _ r s' = (r ≡ Ok tt) × (held s' ≡ held s)
 
   module _ (outer : Mut S (EngineOrModuleTypeIndex × Unit {0}) (Result (Unit {0}) E))
-    (visits : (s : S) (e : EngineOrModuleTypeIndex) (r : Result (Unit {0}) E) (s' : S) → Called outer s (e, tt) r s' → PassesOn s e r s' × (name s' ≡ name s)) where
+      (visits : (s : S) (e : EngineOrModuleTypeIndex) (r : Result (Unit {0}) E) (s' : S) → Called outer s (e, tt) r s' → PassesOn s e r s' × (name s' ≡ name s)) where
     -- an edge that is passed over
     over : (es : List EngineOrModuleTypeIndex) (s t : S) (r : Result (Unit {0}) E) (s' : S) → (held t ≡ held s) × (name t ≡ name s)
         → Run inner (held t) (engine_edges es) r (held s') × (name s' ≡ name t) → Run inner (held s) (engine_edges es) r (held s') × (name s' ≡ name s)

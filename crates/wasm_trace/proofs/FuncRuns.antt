@@ -74,7 +74,7 @@ module _ {F E : Type 0} (visitor : Mut F (MutBor EngineOrModuleTypeIndex × Unit
         type = val_with_index t new;
         edges = ap option_to_list (val_index-written t old new has);
         frame = val_frame-written t new;
-        is = rw (length-take-le params types within, take-append-drop params types, with_index-set types at t new there) refl
+        is = rw (length-take-le params types within, take-append-drop params types, with_index-set types at t new there) refl;
       }
 
       by_index : (i : Option EngineOrModuleTypeIndex) → val_index t ≡ i → (new : List EngineOrModuleTypeIndex) → RunMut visitor now (option_to_list i) r next new → Written types params at t new
@@ -84,7 +84,7 @@ module _ {F E : Type 0} (visitor : Mut F (MutBor EngineOrModuleTypeIndex × Unit
             type = t;
             edges = ap option_to_list has;
             frame = refl;
-            is = ap (split_types params) (sym (set-there types at t there))
+            is = ap (split_types params) (sym (set-there types at t there));
           })
       by_index (Some old) has new (inl stop) = subst (λ es. Written types params at t es) (sym stop.4) (one_written old stop.1 has)
       by_index (Some old) has new (inr more) =
@@ -107,7 +107,7 @@ func_frame-split t types kept =
     rw (params, results) refl
 
 module _ {F E : Type 0} (visitor : Mut F (MutBor EngineOrModuleTypeIndex × Unit {0}) (Result (Unit {0}) E × (MutBor EngineOrModuleTypeIndex × Unit {0})))
-  (first : F) (t : FuncParts) where
+    (first : F) (t : FuncParts) where
   -- in the midst of a run over the edges of t, from `first`: those before the place `at` were visited, and t is now `changed`
   pub record FuncMidst (now : F) (changed : FuncParts) (at : ℕ) : Type 0 where
     pub types : List WasmValType
@@ -120,7 +120,7 @@ module _ {F E : Type 0} (visitor : Mut F (MutBor EngineOrModuleTypeIndex × Unit
     types = t.params ++ t.results;
     is = sym (split_types-joined t);
     kept = refl;
-    midst = rw (flat_map-append val_edges t.params t.results) (MidstMut-begin visitor first (func_edges t) may)
+    midst = rw (flat_map-append val_edges t.params t.results) (MidstMut-begin visitor first (func_edges t) may);
   }
 
   module _ (now : F) (changed : FuncParts) (at : ℕ) (m : FuncMidst now changed at) where
@@ -184,7 +184,7 @@ module _ {F E : Type 0} (visitor : Mut F (MutBor EngineOrModuleTypeIndex × Unit
           kept = kept_left;
           midst =
               rw (flat_map-take-set val_edges m.types at left.type within-types, drop-set-lt (at + 1) m.types at left.type (omega arith), left.edges)
-                (MidstMut-more visitor first _ now _ _ _ next new midst_here (rw went at run_here))
+              (MidstMut-more visitor first _ now _ _ _ next new midst_here (rw went at run_here));
         }
 
         -- the run ends with this visit
@@ -192,7 +192,7 @@ module _ {F E : Type 0} (visitor : Mut F (MutBor EngineOrModuleTypeIndex × Unit
         unfolding types_left
         FuncMidst-stop x stopped =
             rw (is_left, func_edges-split (length t.params) types_left, flat_map-set val_edges m.types at left.type within-types, left.edges)
-              (MidstMut-stop visitor first _ now _ _ _ x next new midst_here (rw stopped at run_here))
+            (MidstMut-stop visitor first _ now _ _ _ x next new midst_here (rw stopped at run_here))
 
         pub FuncMidst-stop-frame : func_frame (func_with_edges_at changed at new) ≡ func_frame t
         FuncMidst-stop-frame = ap func_frame is_left ∙ func_frame-split t types_left kept_left
@@ -204,7 +204,7 @@ module _ {F E : Type 0} (visitor : Mut F (MutBor EngineOrModuleTypeIndex × Unit
           let done = take_all at m.types (omega (arith, length-types)) in
           let none_left = drop_all at m.types (omega (arith, length-types)) in
           subst (λ es. RunMut visitor first (func_edges t) (Ok tt) now es) (sym (ap func_edges m.is ∙ func_edges-split (length t.params) m.types))
-            (MidstMut-end visitor first _ now _ (rw (done, none_left) at m.midst))
+          (MidstMut-end visitor first _ now _ (rw (done, none_left) at m.midst))
 
       pub FuncMidst-end-frame : func_frame changed ≡ func_frame t
       FuncMidst-end-frame = ap func_frame m.is ∙ func_frame-split t m.types m.kept

@@ -32,13 +32,13 @@ module _ {F Edge E : Type 0} (visitor : Mut F (Edge × Unit {0}) (Result (Unit {
 
   pub may_run_first : (xs ys : List Edge) (f : F) → MayRun visitor f (xs ++ ys) → MayRun visitor f xs
   may_run_first xs ys f may = record {
-    at = λ past rest e now split run. may.at past (rest ++ ys) e now (ap (λ l. l ++ ys) split ∙ append_assoc past (e ∷ rest) ys) run
+    at = λ past rest e now split run. may.at past (rest ++ ys) e now (ap (λ l. l ++ ys) split ∙ append_assoc past (e ∷ rest) ys) run;
   }
 
   pub may_run_then : (xs ys : List Edge) (f g : F) → MayRun visitor f (xs ++ ys) → Run visitor f xs (Ok tt) g → MayRun visitor g ys
   may_run_then xs ys f g may first = record {
     at = λ past rest e now split run.
-        may.at (xs ++ past) rest e now (ap (λ l. xs ++ l) split ∙ sym (append_assoc xs past (e ∷ rest))) (run_then xs past f g (Ok tt) now first run)
+        may.at (xs ++ past) rest e now (ap (λ l. xs ++ l) split ∙ sym (append_assoc xs past (e ∷ rest))) (run_then xs past f g (Ok tt) now first run);
   }
 
   -- in the midst of a run over `all` from `first`: `rest` is left, from `now`
@@ -52,7 +52,7 @@ module _ {F Edge E : Type 0} (visitor : Mut F (Edge × Unit {0}) (Result (Unit {
   pub Midst-more : (first : F) (all : List Edge) (now : F) (xs ys : List Edge) (next : F) → Midst first all now (xs ++ ys) → Run visitor now xs (Ok tt) next → Midst first all next ys
   Midst-more first all now xs ys next midst here = record {
     may = may_run_then xs ys now next midst.may here;
-    run = λ r after run. midst.run r after (run_then xs ys now next r after here run)
+    run = λ r after run. midst.run r after (run_then xs ys now next r after here run);
   }
 
   pub Midst-stop : (first : F) (all : List Edge) (now : F) (xs ys : List Edge) (x : E) (after : F) → Midst first all now (xs ++ ys) → Run visitor now xs (Err x) after → Run visitor first all (Err x) after
@@ -97,14 +97,14 @@ module _ {F Edge E : Type 0} (visitor : Mut F (MutBor Edge × Unit {0}) (Result 
 
   pub may_run_first_mut : (xs ys : List Edge) (f : F) → MayRunMut visitor f (xs ++ ys) → MayRunMut visitor f xs
   may_run_first_mut xs ys f may = record {
-    at = λ past rest e now new split run. may.at past (rest ++ ys) e now new (ap (λ l. l ++ ys) split ∙ append_assoc past (e.now ∷ rest) ys) run
+    at = λ past rest e now new split run. may.at past (rest ++ ys) e now new (ap (λ l. l ++ ys) split ∙ append_assoc past (e.now ∷ rest) ys) run;
   }
 
   pub may_run_then_mut : (xs ys : List Edge) (f g : F) (xs' : List Edge) → MayRunMut visitor f (xs ++ ys) → RunMut visitor f xs (Ok tt) g xs' → MayRunMut visitor g ys
   may_run_then_mut xs ys f g xs' may first = record {
     at = λ past rest e now new split run.
         may.at (xs ++ past) rest e now (xs' ++ new) (ap (λ l. xs ++ l) split ∙ sym (append_assoc xs past (e.now ∷ rest)))
-            (run_then_mut xs past f g (Ok tt) now xs' new first run)
+        (run_then_mut xs past f g (Ok tt) now xs' new first run);
   }
 
   -- in the midst of a run over `all` from `first`: those that were visited are now `done`, and `rest` is left, from `now`
@@ -119,7 +119,7 @@ module _ {F Edge E : Type 0} (visitor : Mut F (MutBor Edge × Unit {0}) (Result 
       → RunMut visitor now xs (Ok tt) next xs' → MidstMut first all next (done ++ xs') ys
   MidstMut-more first all now done xs ys next xs' midst here = record {
     may = may_run_then_mut xs ys now next xs' midst.may here;
-    run = λ r after new run. rw (append_assoc done xs' new) (midst.run r after (xs' ++ new) (run_then_mut xs ys now next r after xs' new here run))
+    run = λ r after new run. rw (append_assoc done xs' new) (midst.run r after (xs' ++ new) (run_then_mut xs ys now next r after xs' new here run));
   }
 
   pub MidstMut-stop : (first : F) (all : List Edge) (now : F) (done xs ys : List Edge) (x : E) (after : F) (xs' : List Edge) → MidstMut first all now done (xs ++ ys)

@@ -24,7 +24,7 @@ module _ {F Edge E : Type 0} (visitor : Mut F (Edge × Unit {0}) (Result (Unit {
   -- and then the others
   pub may_go_on : (f : F) (e : Edge) (es : List Edge) (g : F) → MayRun visitor f (e ∷ es) → Called visitor f (e, tt) (Ok tt) g → MayRun visitor g es
   may_go_on f e es g may called = record {
-    at = λ past rest x now split run. may.at (e ∷ past) rest x now (ap (λ l. e ∷ l) split) (inr (g, called, run))
+    at = λ past rest x now split run. may.at (e ∷ past) rest x now (ap (λ l. e ∷ l) split) (inr (g, called, run));
   }
 
   -- a visitor that answers Ok exactly where P holds tells whether it holds of every edge
@@ -32,9 +32,10 @@ module _ {F Edge E : Type 0} (visitor : Mut F (Edge × Unit {0}) (Result (Unit {
       → (es : List Edge) (f : F) (r : Result (Unit {0}) E) (f' : F) → Run visitor f es r f' → IsOk r ↔ All P es
   Run-tests P tests [] f r f' run = (λ ok. All-nil P, λ all. subst (λ v. IsOk v) (sym run.0) refl)
   Run-tests P tests (e ∷ es) f r f' (inl stop) =
-      let here = tests f e (Err stop.0) f' stop.1 in
-      ( (λ ok. let impossible : false ≡ true = subst (λ v. IsOk v) stop.2 ok in cc)
-      , (λ all. let impossible : false ≡ true = here.1 (All-head P e es all) in cc) )
+      let here = tests f e (Err stop.0) f' stop.1 in (
+        (λ ok. let impossible : false ≡ true = subst (λ v. IsOk v) stop.2 ok in cc),
+        (λ all. let impossible : false ≡ true = here.1 (All-head P e es all) in cc),
+      )
   Run-tests P tests (e ∷ es) f r f' (inr more) =
       let here = tests f e (Ok tt) more.0 more.1 in
       let rest = Run-tests P tests es more.0 r f' more.2 in
@@ -52,7 +53,7 @@ module _ {F Edge E : Type 0} (visitor : Mut F (MutBor Edge × Unit {0}) (Result 
   -- and then the others
   pub may_go_on_mut : (f : F) (e : Edge) (es : List Edge) (g : F) (e' : Edge) → MayRunMut visitor f (e ∷ es) → CalledAtMut visitor f e (Ok tt) g e' → MayRunMut visitor g es
   may_go_on_mut f e es g e' may called = record {
-    at = λ past rest x now new split run. may.at (e ∷ past) rest x now (e' ∷ new) (ap (λ l. e ∷ l) split) (inr (g, e', new, called, run, refl))
+    at = λ past rest x now new split run. may.at (e ∷ past) rest x now (e' ∷ new) (ap (λ l. e ∷ l) split) (inr (g, e', new, called, run, refl));
   }
 
   -- one visit is a run
@@ -62,8 +63,8 @@ module _ {F Edge E : Type 0} (visitor : Mut F (MutBor Edge × Unit {0}) (Result 
 
 -- a visitor that stays as it is, answers Ok and relates each edge to the new one by Q, wherever P holds
 module _ {F Edge E : Type 0} (P : Edge → Type 0) (Q : Edge → Edge → Type 0)
-  (visitor : Mut F (MutBor Edge × Unit {0}) (Result (Unit {0}) E × (MutBor Edge × Unit {0}))) (f : F)
-  (visits : (e : Edge) (r : Result (Unit {0}) E) (f' : F) (e' : Edge) → P e → CalledAtMut visitor f e r f' e' → (f' ≡ f) × (r ≡ Ok tt) × Q e e') where
+    (visitor : Mut F (MutBor Edge × Unit {0}) (Result (Unit {0}) E × (MutBor Edge × Unit {0}))) (f : F)
+    (visits : (e : Edge) (r : Result (Unit {0}) E) (f' : F) (e' : Edge) → P e → CalledAtMut visitor f e r f' e' → (f' ≡ f) × (r ≡ Ok tt) × Q e e') where
   -- rewrites every edge
   pub RunMut-rewrites : (es : List Edge) → All P es → (r : Result (Unit {0}) E) (f' : F) (new : List Edge) → RunMut visitor f es r f' new → (f' ≡ f) × (r ≡ Ok tt) × AllZip Q es new
   RunMut-rewrites [] all r f' new run = (run.1, run.0, subst (λ n. AllZip Q [] n) (sym run.2) tt)

@@ -40,7 +40,7 @@ is_determined {edges = edges} {frame = frame} r x y frames all =
 
 -- two parts, the edges of one before those of the other
 module _ {T U : Type 0} {edges : T → List EngineOrModuleTypeIndex} {frame : T → T} {edges' : U → List EngineOrModuleTypeIndex} {frame' : U → U}
-  (r : Restored edges frame) (r' : Restored edges' frame') where
+    (r : Restored edges frame) (r' : Restored edges' frame') where
   first : T → List EngineOrModuleTypeIndex → T
   first t es = r.put t (take (length (edges t)) es)
 
@@ -120,7 +120,7 @@ pub ref_restored : Restored ref_edges ref_frame
 ref_restored = record {
   put = λ r es. record r { heap_type = heap_put r.heap_type es };
   back = λ r. ap (λ h. record r { heap_type = h }) (heap_back r.heap_type);
-  counts = λ r. heap_counts r.heap_type
+  counts = λ r. heap_counts r.heap_type;
 }
 
 val_put : WasmValType → List EngineOrModuleTypeIndex → WasmValType
@@ -147,9 +147,9 @@ func_restored =
       put = λ t es. record { params = first types types t.params es; results = second types types t.params t.results es };
       back = λ t.
           ap (λ params. record { params = params; results = second types types (map val_frame t.params) (map val_frame t.results) (func_edges t) })
-            (first-back types types t.params t.results)
+          (first-back types types t.params t.results)
           ∙ ap (λ results. record { params = t.params; results = results }) (second-back types types t.params t.results);
-      counts = λ t. count-both types types t.params t.results
+      counts = λ t. count-both types types t.params t.results;
     }
 
 -- continuation types
@@ -182,14 +182,14 @@ pub field_restored : Restored field_edges field_frame
 field_restored = record {
   put = λ t es. record t { element_type = storage_put t.element_type es };
   back = λ t. ap (λ s. record t { element_type = s }) (storage_back t.element_type);
-  counts = λ t. storage_counts t.element_type
+  counts = λ t. storage_counts t.element_type;
 }
 
 pub array_restored : Restored array_edges array_frame
 array_restored = record {
   put = λ t es. record { 0 = field_restored.put t.0 es };
   back = λ t. ap (λ f. record { 0 = f }) (field_restored.back t.0);
-  counts = λ t. field_restored.counts t.0
+  counts = λ t. field_restored.counts t.0;
 }
 
 -- struct and exception types
@@ -205,7 +205,7 @@ unfolding exn_put
 exn_restored = record {
   put = exn_put;
   back = λ t. ap (λ fields. record { func_ty = t.func_ty; fields = fields }) (all_back field_restored t.fields);
-  counts = λ t. ap suc (all_counts field_restored t.fields)
+  counts = λ t. ap suc (all_counts field_restored t.fields);
 }
 
 -- composite types
@@ -235,7 +235,7 @@ pub composite_restored : Restored composite_edges composite_frame
 composite_restored = record {
   put = λ t es. record t { inner = inner_put t.inner es };
   back = λ t. ap (λ i. record t { inner = i }) (inner_back t.inner);
-  counts = λ t. inner_counts t.inner
+  counts = λ t. inner_counts t.inner;
 }
 
 -- subtypes and recursion groups
@@ -259,15 +259,15 @@ pub sub_restored : Restored sub_edges sub_frame
 sub_restored = record {
   put = λ t es. record t {
     supertype = first option_restored composite_restored t.supertype es;
-    composite_type = second option_restored composite_restored t.supertype t.composite_type es
+    composite_type = second option_restored composite_restored t.supertype t.composite_type es;
   };
   back = λ t.
       ap (λ supertype. record t {
         supertype = supertype;
-        composite_type = second option_restored composite_restored (option_map (λ i. no_edge) t.supertype) (composite_frame t.composite_type) (sub_edges t)
+        composite_type = second option_restored composite_restored (option_map (λ i. no_edge) t.supertype) (composite_frame t.composite_type) (sub_edges t);
       }) (first-back option_restored composite_restored t.supertype t.composite_type)
       ∙ ap (λ composite_type. record t { composite_type = composite_type }) (second-back option_restored composite_restored t.supertype t.composite_type);
-  counts = λ t. count-both option_restored composite_restored t.supertype t.composite_type
+  counts = λ t. count-both option_restored composite_restored t.supertype t.composite_type;
 }
 
 pub group_restored : Restored group_edges group_frame
@@ -278,14 +278,14 @@ pub global_restored : Restored global_edges global_frame
 global_restored = record {
   put = λ g es. record g { wasm_ty = val_put g.wasm_ty es };
   back = λ g. ap (λ t. record g { wasm_ty = t }) (val_back g.wasm_ty);
-  counts = λ g. val_counts g.wasm_ty
+  counts = λ g. val_counts g.wasm_ty;
 }
 
 pub table_restored : Restored table_edges table_frame
 table_restored = record {
   put = λ t es. record t { ref_type = ref_restored.put t.ref_type es };
   back = λ t. ap (λ r. record t { ref_type = r }) (ref_restored.back t.ref_type);
-  counts = λ t. ref_restored.counts t.ref_type
+  counts = λ t. ref_restored.counts t.ref_type;
 }
 
 tag_put : Tag → List EngineOrModuleTypeIndex → Tag

@@ -37,7 +37,7 @@ impl TypeTrace for WasmCompositeType {
 // Visits each edge of a composite type without its share flag.
 fn trace_inner<F, E>(inner: &WasmCompositeInnerType, func: &mut F) -> Result<(), E>
 where
-    F: FnMut(EngineOrModuleTypeIndex) -> Result<(), E>
+    F: FnMut(EngineOrModuleTypeIndex) -> Result<(), E>,
     requires { MayRun F.FnMut func.old (inner_edges inner.now) }
     ensures { Run F.FnMut func.old (inner_edges inner.now) result func.new }
 {
@@ -53,7 +53,7 @@ where
 // Visits each edge of a composite type without its share flag, for writing.
 fn trace_inner_mut<F, E>(inner: &mut WasmCompositeInnerType, func: &mut F) -> Result<(), E>
 where
-    F: FnMut(&mut EngineOrModuleTypeIndex) -> Result<(), E>
+    F: FnMut(&mut EngineOrModuleTypeIndex) -> Result<(), E>,
     requires { MayRunMut F.FnMut func.old (inner_edges inner.old) }
     ensures kept { inner_frame inner.new ≡ inner_frame inner.old }
     ensures run { RunMut F.FnMut func.old (inner_edges inner.old) result func.new (inner_edges inner.new) }
@@ -71,7 +71,7 @@ where
 #[tactic(auto, using(crate::proofs::Runs::may_visit))]
 fn trace_option<F, E>(index: Option<EngineOrModuleTypeIndex>, func: &mut F) -> Result<(), E>
 where
-    F: FnMut(EngineOrModuleTypeIndex) -> Result<(), E>
+    F: FnMut(EngineOrModuleTypeIndex) -> Result<(), E>,
     requires { MayRun F.FnMut func.old (option_to_list index) }
     ensures { Run F.FnMut func.old (option_to_list index) result func.new }
 {
@@ -83,9 +83,12 @@ where
 
 // Visits an index, if there is one, for writing.
 #[tactic(auto, using(crate::proofs::Runs::one_visit, crate::proofs::Runs::may_visit_mut))]
-fn trace_option_mut<F, E>(index: &mut Option<EngineOrModuleTypeIndex>, func: &mut F) -> Result<(), E>
+fn trace_option_mut<F, E>(
+    index: &mut Option<EngineOrModuleTypeIndex>,
+    func: &mut F,
+) -> Result<(), E>
 where
-    F: FnMut(&mut EngineOrModuleTypeIndex) -> Result<(), E>
+    F: FnMut(&mut EngineOrModuleTypeIndex) -> Result<(), E>,
     requires { MayRunMut F.FnMut func.old (option_to_list index.old) }
     ensures kept { option_map (λ i. no_edge) index.new ≡ option_map (λ i. no_edge) index.old }
     ensures run { RunMut F.FnMut func.old (option_to_list index.old) result func.new (option_to_list index.new) }

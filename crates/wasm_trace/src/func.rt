@@ -43,7 +43,7 @@ impl TypeTrace for WasmFuncType {
 // Visits the edge at a place of the parameters and then the results, if one stands there, for writing.
 fn trace_at_mut<F, E>(ty: &mut WasmFuncType, at: usize, func: &mut F) -> Result<(), E>
 where
-    F: FnMut(&mut EngineOrModuleTypeIndex) -> Result<(), E>
+    F: FnMut(&mut EngineOrModuleTypeIndex) -> Result<(), E>,
     requires { MayRunMut F.FnMut func.old (option_to_list (index_at ty.old at)) }
     ensures { (new : List EngineOrModuleTypeIndex)
         × RunMut F.FnMut func.old (option_to_list (index_at ty.old at)) result func.new new

@@ -9,10 +9,12 @@ mod field;
 mod func;
 mod laws;
 mod lists;
-mod trace;
 #[cfg(test)]
 mod tests;
+mod trace;
 mod value;
+mod worked;
 
 pub use laws::{run_laws, run_mut_laws, unchanged_law};
 pub use trace::TypeTrace;
+pub use worked::{worked_canonical_edges, worked_edges};

@@ -10,7 +10,7 @@ use wasm_types::EngineOrModuleTypeIndex;
 // Visits each edge of the items.
 pub(crate) fn trace_all<T: TypeTrace, F, E>(items: &[T], func: &mut F) -> Result<(), E>
 where
-    F: FnMut(EngineOrModuleTypeIndex) -> Result<(), E>
+    F: FnMut(EngineOrModuleTypeIndex) -> Result<(), E>,
     requires { MayRun F.FnMut func.old (flat_map T.edges items.now) }
     ensures { Run F.FnMut func.old (flat_map T.edges items.now) result func.new }
 {
@@ -23,7 +23,7 @@ where
 // Visits each edge of the items, for writing.
 pub(crate) fn trace_all_mut<T: TypeTrace, F, E>(items: &mut [T], func: &mut F) -> Result<(), E>
 where
-    F: FnMut(&mut EngineOrModuleTypeIndex) -> Result<(), E>
+    F: FnMut(&mut EngineOrModuleTypeIndex) -> Result<(), E>,
     requires { MayRunMut F.FnMut func.old (flat_map T.edges items.old) }
     ensures kept { map T.frame items.new ≡ map T.frame items.old }
     ensures run { RunMut F.FnMut func.old (flat_map T.edges items.old) result func.new (flat_map T.edges items.new) }

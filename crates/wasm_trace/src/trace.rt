@@ -24,7 +24,7 @@ pub trait TypeTrace {
     /// Visits each edge, in order. It stops at the first `Err` that a visit answers.
     fn trace<F, E>(&self, func: &mut F) -> Result<(), E>
     where
-        F: FnMut(EngineOrModuleTypeIndex) -> Result<(), E>
+        F: FnMut(EngineOrModuleTypeIndex) -> Result<(), E>,
         requires { MayRun F.FnMut func.old (edges self.now) }
         ensures { Run F.FnMut func.old (edges self.now) result func.new };
 
@@ -32,7 +32,7 @@ pub trait TypeTrace {
     /// was written until then stays.
     fn trace_mut<F, E>(&mut self, func: &mut F) -> Result<(), E>
     where
-        F: FnMut(&mut EngineOrModuleTypeIndex) -> Result<(), E>
+        F: FnMut(&mut EngineOrModuleTypeIndex) -> Result<(), E>,
         requires { MayRunMut F.FnMut func.old (edges self.old) }
         ensures kept { frame self.new ≡ frame self.old }
         ensures run { RunMut F.FnMut func.old (edges self.old) result func.new (edges self.new) };
@@ -40,37 +40,46 @@ pub trait TypeTrace {
     /// Visits each edge that is an engine's, in order. It stops at the first `Err` that a visit answers.
     fn trace_engine_indices<F, E>(&self, func: &mut F) -> Result<(), E>
     where
-        F: FnMut(VMSharedTypeIndex) -> Result<(), E>
+        F: FnMut(VMSharedTypeIndex) -> Result<(), E>,
         requires { MayRun F.FnMut func.old (engine_edges (edges self.now)) }
         ensures { Run F.FnMut func.old (engine_edges (edges self.now)) result func.new }
     {
-        self.trace(&mut |edge: EngineOrModuleTypeIndex|
-            requires { AtEngineEdge (F.pre func.now) edge }
-        {
-            match edge {
-                EngineOrModuleTypeIndex::Engine(index) => func(index),
-                EngineOrModuleTypeIndex::Module(_) | EngineOrModuleTypeIndex::RecGroup(_) => Ok(()),
-            }
-        })
+        self.trace(
+            &mut |edge: EngineOrModuleTypeIndex|
+                requires { AtEngineEdge (F.pre func.now) edge }
+            {
+                match edge {
+                    EngineOrModuleTypeIndex::Engine(index) => func(index),
+                    EngineOrModuleTypeIndex::Module(_) | EngineOrModuleTypeIndex::RecGroup(_) => Ok(
+                        (),
+                    ),
+                }
+            },
+        )
     }
 
     /// Rewrites each edge into a module's types to the engine's index of that type. No edge may be into a
     /// recursion group.
     fn canonicalize_for_runtime_usage<F>(&mut self, module_to_engine: &F)
     where
-        F: Fn(ModuleInternedTypeIndex) -> VMSharedTypeIndex
+        F: Fn(ModuleInternedTypeIndex) -> VMSharedTypeIndex,
         requires { All (CanBeRuntimeEdge (F.pre module_to_engine.now)) (edges self.old) }
         ensures kept { frame self.new ≡ frame self.old }
         ensures rewritten { AllZip (IsRuntimeEdge (F.post module_to_engine.now)) (edges self.old) (edges self.new) }
     {
-        self.trace_mut::<_, ()>(&mut |edge: &mut EngineOrModuleTypeIndex|
-            requires { CanBeRuntimeEdge (F.pre module_to_engine.now) edge.old }
-        {
-            if let EngineOrModuleTypeIndex::Module(index) = *edge {
-                *edge = EngineOrModuleTypeIndex::Engine(module_to_engine(index));
-            }
-            Ok(())
-        })
+        self.trace_mut::<_, ()>(
+            &mut |edge: &mut EngineOrModuleTypeIndex|
+                requires { CanBeRuntimeEdge (F.pre module_to_engine.now) edge.old }
+            {
+                *edge = match *edge {
+                    EngineOrModuleTypeIndex::Module(index) => {
+                        EngineOrModuleTypeIndex::Engine(module_to_engine(index))
+                    }
+                    canonical => canonical,
+                };
+                Ok(())
+            },
+        )
         .unwrap()
     }
 
@@ -97,28 +106,33 @@ pub trait TypeTrace {
         module_to_engine: &F,
     )
     where
-        F: Fn(ModuleInternedTypeIndex) -> VMSharedTypeIndex
+        F: Fn(ModuleInternedTypeIndex) -> VMSharedTypeIndex,
         requires { All (CanBeConsedEdge (F.pre module_to_engine.now) (number_of rec_group_range.start) (number_of rec_group_range.end)) (edges self.old) }
         ensures kept { frame self.new ≡ frame self.old }
         ensures rewritten { AllZip (IsConsedEdge (F.post module_to_engine.now) (number_of rec_group_range.start)) (edges self.old) (edges self.new) }
     {
         let start = rec_group_range.start.as_u32();
         let end = rec_group_range.end.as_u32();
-        self.trace_mut::<_, ()>(&mut |edge: &mut EngineOrModuleTypeIndex|
-            requires { CanBeConsedEdge (F.pre module_to_engine.now) start end edge.old }
-        {
-            if let EngineOrModuleTypeIndex::Module(index) = *edge {
-                let number = index.as_u32();
-                *edge = if start <= number {
-                    prove!(number < end);
-                    let relative = RecGroupRelativeTypeIndex::from_u32(number - start);
-                    EngineOrModuleTypeIndex::RecGroup(relative)
-                } else {
-                    EngineOrModuleTypeIndex::Engine(module_to_engine(index))
+        self.trace_mut::<_, ()>(
+            &mut |edge: &mut EngineOrModuleTypeIndex|
+                requires { CanBeConsedEdge (F.pre module_to_engine.now) start end edge.old }
+            {
+                *edge = match *edge {
+                    EngineOrModuleTypeIndex::Module(index) if start <= index.as_u32() => {
+                        let number = index.as_u32();
+                        prove!(number < end);
+                        EngineOrModuleTypeIndex::RecGroup(RecGroupRelativeTypeIndex::from_u32(
+                            number - start,
+                        ))
+                    }
+                    EngineOrModuleTypeIndex::Module(index) => {
+                        EngineOrModuleTypeIndex::Engine(module_to_engine(index))
+                    }
+                    other => other,
                 };
-            }
-            Ok(())
-        })
+                Ok(())
+            },
+        )
         .unwrap()
     }
 

@@ -12,8 +12,8 @@ trace_mut-requires g c = record {
       let start = number_of c.args.rec_group_range.start in
       let end = number_of c.args.rec_group_range.end in
       let here = RunMut-comes (CanBeConsedEdge (may_ask g.F.Fn table) start end) (IsConsedEdge (may_answer g.F.Fn table) start) _ _
-          (λ e r f' e' can called. (search rules, search rules, search rules)) _ past rest e.now now new c.requires split run in
-      search rules
+      (λ e r f' e' can called. (search rules, search rules, search rules)) _ past rest e.now now new c.requires split run in
+      search rules;
 }
 
 pub unwrap-requires : goal.unwrap-requires
@@ -22,7 +22,7 @@ unwrap-requires g c =
     let start = number_of c.args.rec_group_range.start in
     let end = number_of c.args.rec_group_range.end in
     let ran = RunMut-rewrites (CanBeConsedEdge (may_ask g.F.Fn table) start end) (IsConsedEdge (may_answer g.F.Fn table) start) _ _
-        (λ e r f' e' can called. (search rules, search rules, search rules)) _ c.requires _ _ _ c.trace_mut.ensures.run in
+    (λ e r f' e' can called. (search rules, search rules, search rules)) _ c.requires _ _ _ c.trace_mut.ensures.run in
     search rules
 
 pub returns-clause-rewritten : goal.returns-clause-rewritten
@@ -31,5 +31,5 @@ returns-clause-rewritten g c =
     let start = number_of c.args.rec_group_range.start in
     let end = number_of c.args.rec_group_range.end in
     let ran = RunMut-rewrites (CanBeConsedEdge (may_ask g.F.Fn table) start end) (IsConsedEdge (may_answer g.F.Fn table) start) _ _
-        (λ e r f' e' can called. (search rules, search rules, search rules)) _ c.requires _ _ _ c.trace_mut.ensures.run in
+    (λ e r f' e' can called. (search rules, search rules, search rules)) _ c.requires _ _ _ c.trace_mut.ensures.run in
     ran.2

@@ -9,20 +9,20 @@ trace_mut-requires g c = record {
   at = λ past rest e now new split run.
       let table = c.args.module_to_engine.now in
       let here = RunMut-comes (CanBeRuntimeEdge (may_ask g.F.Fn table)) (IsRuntimeEdge (may_answer g.F.Fn table)) _ _
-          (λ e r f' e' can called. (search rules, search rules, search rules)) _ past rest e.now now new c.requires split run in
-      search rules
+      (λ e r f' e' can called. (search rules, search rules, search rules)) _ past rest e.now now new c.requires split run in
+      search rules;
 }
 
 pub unwrap-requires : goal.unwrap-requires
 unwrap-requires g c =
     let table = c.args.module_to_engine.now in
     let ran = RunMut-rewrites (CanBeRuntimeEdge (may_ask g.F.Fn table)) (IsRuntimeEdge (may_answer g.F.Fn table)) _ _
-        (λ e r f' e' can called. (search rules, search rules, search rules)) _ c.requires _ _ _ c.trace_mut.ensures.run in
+    (λ e r f' e' can called. (search rules, search rules, search rules)) _ c.requires _ _ _ c.trace_mut.ensures.run in
     search rules
 
 pub returns-clause-rewritten : goal.returns-clause-rewritten
 returns-clause-rewritten g c =
     let table = c.args.module_to_engine.now in
     let ran = RunMut-rewrites (CanBeRuntimeEdge (may_ask g.F.Fn table)) (IsRuntimeEdge (may_answer g.F.Fn table)) _ _
-        (λ e r f' e' can called. (search rules, search rules, search rules)) _ c.requires _ _ _ c.trace_mut.ensures.run in
+    (λ e r f' e' can called. (search rules, search rules, search rules)) _ c.requires _ _ _ c.trace_mut.ensures.run in
     ran.2

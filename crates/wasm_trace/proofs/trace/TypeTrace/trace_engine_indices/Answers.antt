@@ -6,7 +6,7 @@ pub trace-requires : goal.trace-requires
 trace-requires g c = record {
   at = λ past rest e now split run.
       let here = Run-comes g.F.FnMut (λ s. s.0.now) (λ s. s.0.ghost_name) _ (λ s e r s' called. (search rules, search rules)) _ _ c.requires past rest e now split run in
-      search rules
+      search rules;
 }
 
 pub returns : goal.returns
