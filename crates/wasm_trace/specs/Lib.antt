@@ -1,0 +1,4 @@
+pub mod Runs
+pub mod Edges
+pub mod Canonical
+pub mod Restored

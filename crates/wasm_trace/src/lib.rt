@@ -1,0 +1,20 @@
+//! Visits of the type indices that stand in types: its edges to other types.
+#![tactic(auto)]
+
+mod aggregate;
+mod composite;
+mod cont;
+mod entity;
+mod field;
+mod func;
+mod laws;
+mod lists;
+#[cfg(test)]
+mod tests;
+mod trace;
+mod value;
+mod worked;
+
+pub use laws::{run_laws, run_mut_laws, unchanged_law};
+pub use trace::TypeTrace;
+pub use worked::{worked_canonical_edges, worked_edges};
