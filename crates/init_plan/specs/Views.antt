@@ -10,7 +10,7 @@ use Rattle.wasm_index.specs.declared.spaces.RuntimeDataSpace.{RuntimeDataSpace}
 use Rattle.wasm_index.specs.declared.spaces.StaticModuleSpace.{StaticModuleSpace}
 use Rattle.wasm_index.specs.Index.{number_of}
 use Rattle.wasm_types.specs.Memories.{minimum_bytes}
-use Rattle.wasm_types.specs.Constants.{expression_of}
+use Rattle.wasm_convert.specs.Constants.{expression_of}
 use Rattle.replay_spec.specs.Data.{ActiveSegment}
 use Rattle.replay_spec.specs.Plan.{PlannedOffset, Expr, Static, PlannedSegment, MemoryPlan}
 use Rattle.init_plan.specs.declared.module.Module.{Module}

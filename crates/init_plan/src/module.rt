@@ -6,7 +6,8 @@ ghost use Rattle.init_plan.specs.Views.{IsSegmented};
 use entity_map::PrimaryMap;
 use std::ops::Range;
 use wasm_index::{MemoryIndex, RuntimeDataIndex, StaticModuleIndex};
-use wasm_types::{ConstExpr, Memory};
+use wasm_convert::ConstExpr;
+use wasm_types::Memory;
 
 /// A translated module.
 #[derive(Drop)]

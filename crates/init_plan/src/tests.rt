@@ -12,7 +12,8 @@ use entity_map::{EntityRef, OutOfMemory};
 use std::alloc::Global;
 use std::test::Fail;
 use wasm_index::{DataIndex, MemoryIndex, RuntimeDataIndex, StaticModuleIndex};
-use wasm_types::{ConstExpr, ConstOp, IndexType, Limits, Memory, Tunables};
+use wasm_convert::{ConstExpr, ConstOp};
+use wasm_types::{IndexType, Limits, Memory, Tunables};
 
 const ONE_PAGE: Memory = Memory {
     idx_type: IndexType::I32,

@@ -8,7 +8,7 @@ use crate::module::{MemoryInitialization, MemoryInitializer, Module};
 use entity_map::{OutOfMemory, PrimaryMap, SecondaryMap};
 use std::alloc::Global;
 use wasm_index::{DataIndex, MemoryIndex, RuntimeDataIndex, StaticModuleIndex};
-use wasm_types::ConstExpr;
+use wasm_convert::ConstExpr;
 
 /// A translated module, and what is known of it only while it is compiled.
 #[derive(Drop)]

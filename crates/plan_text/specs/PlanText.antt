@@ -2,8 +2,8 @@
 use Rattle.std.specs.Prelude.{ℕ, ◌+◌, ◌-◌, List, [], ◌∷◌, ◌++◌, length, Option, Some, None, codes, decimal}
 use Rattle.std.specs.Fmt.{signed_decimal}
 use Rattle.std.specs.List.{flat_map, join_by}
-use Rattle.wasm_types.specs.declared.constants.ConstOp.{ConstOp}
-use Rattle.wasm_types.specs.declared.constants.ConstOp.TheVariants as ops
+use Rattle.wasm_convert.specs.declared.operators.ConstOp.{ConstOp}
+use Rattle.wasm_convert.specs.declared.operators.ConstOp.TheVariants as ops
 use Rattle.wasm_index.specs.declared.index.Index.{Index}
 use Rattle.wasm_index.specs.declared.spaces.RuntimeDataSpace.{RuntimeDataSpace}
 use Rattle.wasm_index.specs.Index.{number_of}

@@ -6,7 +6,7 @@ ghost use Rattle.plan_text.specs.PlanText.{operator_text, expression_text, offse
 use crate::text::Text;
 use entity_map::OutOfMemory;
 use init_plan::MemorySegmentOffset;
-use wasm_types::{ConstExpr, ConstOp};
+use wasm_convert::{ConstExpr, ConstOp};
 
 fn append_operator(text: &mut Text, operator: ConstOp) -> Result<(), OutOfMemory>
     ensures { OnOk result (text.new ≡ text.old ++ operator_text operator) }

@@ -9,7 +9,8 @@ use std::alloc::Global;
 use std::test::Fail;
 use wasm_form::{Rule, What};
 use wasm_index::{DataIndex, MemoryIndex, StaticModuleIndex};
-use wasm_types::{ConstExpr, ConstOp, IndexType, Limits, Memory};
+use wasm_convert::{ConstExpr, ConstOp};
+use wasm_types::{IndexType, Limits, Memory};
 
 const PAGE: Memory = Memory {
     idx_type: IndexType::I32,

@@ -8,7 +8,7 @@ ghost use Rattle.plan_text.specs.Refusals.{text_of_refusal};
 use crate::error::TranslateError;
 use init_plan::MemorySegmentOffset;
 use wasm_form::{Rule, What};
-use wasm_types::ConstOp;
+use wasm_convert::ConstOp;
 
 /// Constants are signed, and operators are joined by a semicolon and a space.
 pub fn worked_expressions()

@@ -4,7 +4,8 @@ ghost use Rattle.std.specs.Prelude.{◌≡◌, [], ◌∷◌, length, map, All, 
 ghost use Rattle.wasm_spec.specs.Module.{memories_of_section, segments_of_section};
 ghost use Rattle.wasm_spec.specs.Rules.{OnlyPlannedSections, IsIntegerConstant, OnlyConstantOffsets, Keeps, HasFewEntries};
 ghost use Rattle.wasm_form.specs.Views.{module_of, payload_of, segment_of};
-ghost use Rattle.wasm_types.specs.Constants.{operator_of, expression_of};
+ghost use Rattle.wasm_convert.specs.Operators.{operator_of};
+ghost use Rattle.wasm_convert.specs.Constants.{expression_of};
 ghost use Rattle.translate.specs.Filled.{Fills, IsEmpty, CanAdd, Adds};
 
 use entity_map::{EntityRef, OutOfMemory};
@@ -12,7 +13,8 @@ use init_plan::{MemoryInit, MemoryInitializer, ModuleTranslation};
 use std::alloc::Global;
 use wasm_form::{DataKind, DataSegment, Form, MemoryType, Operator, Payload};
 use wasm_index::{DataIndex, MemoryIndex, StaticModuleIndex};
-use wasm_types::{ConstExpr, ConstOp, Memory};
+use wasm_convert::{ConstExpr, ConstOp};
+use wasm_types::Memory;
 
 /// The translation of a module of those that are planned so far, which keeps the rules, with nothing planned yet.
 pub(crate) fn fill<'d>(alloc: Global, form: Form<'d>) -> Result<ModuleTranslation<'d>, OutOfMemory>

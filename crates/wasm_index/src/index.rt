@@ -1,6 +1,6 @@
 //! An index into the list that its space names.
 
-ghost use Rattle.std.specs.Prelude.{refl};
+ghost use Rattle.std.specs.Prelude.{◌≡◌, refl};
 ghost use Rattle.wasm_index.specs.Index.{number_of, index_of};
 
 use entity_map::{EntityRef, ReservedValue};
@@ -49,5 +49,14 @@ impl<Space> ReservedValue for Index<Space> {
 
     fn is_reserved_value(&self) -> bool {
         self.number == u32::MAX
+    }
+}
+
+/// The reserved value, which fills the unused room of a short list.
+impl<Space> Default for Index<Space> {
+    ghost is_default = { λ x. number_of x ≡ 4294967295 };
+
+    fn default() -> Self {
+        Self::reserved_value()
     }
 }

@@ -26,15 +26,3 @@ impl Index<VMSharedTypeSpace> {
         self.number
     }
 }
-
-/// The reserved value.
-impl Default for Index<VMSharedTypeSpace> {
-    ghost is_default = { λ x. number_of x ≡ 4294967295 };
-
-    fn default() -> Self {
-        Index {
-            space: PhantomData,
-            number: u32::MAX,
-        }
-    }
-}

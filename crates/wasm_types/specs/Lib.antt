@@ -1,5 +1,4 @@
 pub mod Memories
-pub mod Constants
 pub mod Parts
 pub mod Tops
 pub mod Collected

@@ -3,7 +3,6 @@
 
 mod aggregate;
 mod composite;
-mod constants;
 mod cont;
 mod entity;
 mod field;
@@ -27,7 +26,6 @@ mod worked;
 
 pub use aggregate::{WasmArrayType, WasmExnType, WasmStructType};
 pub use composite::{WasmCompositeInnerType, WasmCompositeType};
-pub use constants::{ConstExpr, ConstOp};
 pub use cont::WasmContType;
 pub use entity::{EntityIndex, EntityType};
 pub use field::{WasmFieldType, WasmStorageType};

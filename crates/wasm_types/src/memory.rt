@@ -6,7 +6,7 @@ ghost use Rattle.wasm_types.specs.Memories.{memory_of, HasPageSize};
 use crate::limits::{IndexType, Limits};
 use wasm_form::MemoryType;
 
-/// A memory (core specification, 2.3.15).
+/// A memory (core specification, 2.3, memory types).
 #[derive(Clone, Copy, Debug, PartialEq, Eq, Hash)]
 pub struct Memory {
     pub idx_type: IndexType,

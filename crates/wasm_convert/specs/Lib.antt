@@ -1,0 +1,4 @@
+pub mod Conversion
+pub mod Known
+pub mod Operators
+pub mod Constants

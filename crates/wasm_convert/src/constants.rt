@@ -1,0 +1,134 @@
+//! Constant expressions and their values.
+
+ghost use Rattle.std.specs.Prelude.{◌≡◌, ◌↔◌, ◌<◌, ◌++◌, length, All, IsTrue, IfOk, IfSome, OnOk};
+ghost use Rattle.std.specs.Option.{option_to_list};
+ghost use Rattle.wasm_index.specs.Index.{number_of};
+ghost use Rattle.wasm_convert.specs.Constants.{constant_value, IsNonzeroI32, const_ops_of, function_in, functions_of};
+ghost use Rattle.wasm_convert.specs.Operators.{KnowsOperator};
+
+use crate::convert::TypeConvert;
+use crate::operators::ConstOp;
+use entity_map::{EntityRef, OutOfMemory};
+use smallvec::SmallVec;
+use std::alloc::Global;
+use std::marker::Model;
+use wasm_form::Operator;
+use wasm_index::FuncIndex;
+
+/// The value of a global that is known before any code runs. Floats and vectors are their bits.
+#[derive(Clone, Copy, Debug)]
+pub enum GlobalConstValue {
+    I32(i32),
+    I64(i64),
+    F32(u32),
+    F64(u64),
+    V128(u128),
+}
+
+/// A constant expression: its operators, of which there is at least one. Two are kept without an allocation.
+#[derive(Debug, Drop)]
+pub struct ConstExpr {
+    ops: SmallVec<ConstOp, 2>,
+}
+
+/// A contract sees the list of the operators.
+impl Model for ConstExpr {
+    ghost use Rattle.std.specs.Prelude.{List, ◌<◌, length};
+    ghost use Rattle.wasm_convert.specs.declared.operators.ConstOp.{ConstOp};
+
+    ghost Value = { List ConstOp };
+
+    ghost view = { λ e. e.ops.items };
+
+    ghost invariant = { λ e. 0 < length e.ops.items };
+}
+
+// Appends the function to which the operator makes a reference, if it makes one.
+fn push_function(escaped: &mut SmallVec<FuncIndex, 1>, op: &Operator) -> Result<(), OutOfMemory>
+    requires { IfSome (function_in op.now) (λ function. number_of function < u32.MAX) }
+    ensures { OnOk result (escaped.new.items ≡ escaped.old.items ++ option_to_list (function_in op.now)) }
+{
+    if let Operator::RefFunc { function_index } = op {
+        escaped.push(FuncIndex::from_u32(*function_index))?;
+    }
+    Ok(())
+}
+
+impl ConstExpr {
+    /// The expression of these operators.
+    ///
+    /// # Errors
+    /// `OutOfMemory` where more than two operators find no memory.
+    pub fn new(alloc: Global, ops: &[ConstOp]) -> Result<Self, OutOfMemory>
+        requires { 0 < length ops.now }
+        ensures { IfOk result (λ e. e ≡ ops.now) }
+    {
+        Ok(ConstExpr {
+            ops: SmallVec::from_slice(alloc, ops)?,
+        })
+    }
+
+    /// The expression that was read, each operator converted, and the functions to which it makes references, in order: those escape.
+    ///
+    /// # Errors
+    /// `OutOfMemory` where more than two operators, or more than one function, find no memory.
+    pub fn from_wasmparser(
+        alloc: Global,
+        env: &dyn TypeConvert,
+        expr: &wasm_form::ConstExpr,
+    ) -> Result<(Self, SmallVec<FuncIndex, 1>), OutOfMemory>
+        requires some { 0 < length expr.now.ops.items }
+        requires known { All (KnowsOperator (knows env.now)) expr.now.ops.items }
+        ensures { IfOk result (λ r. (r.0 ≡ const_ops_of (look_up env.now) expr.now.ops.items) × (r.1.items ≡ functions_of expr.now.ops.items)) }
+    {
+        let mut ops = SmallVec::new(alloc);
+        let mut escaped = SmallVec::new(alloc);
+        for op in &expr.ops {
+            push_function(&mut escaped, op)?;
+            ops.push(ConstOp::from_wasmparser(env, op))?;
+        }
+        Ok((ConstExpr { ops }, escaped))
+    }
+
+    /// The operators, of which there is at least one.
+    pub fn ops(&self) -> &[ConstOp]
+        ensures listed { result.now ≡ self.now }
+        ensures some { 0 < length result.now }
+    {
+        self.ops.as_slice()
+    }
+
+    /// The value of the expression where it is one constant.
+    pub fn const_eval(&self) -> Option<GlobalConstValue>
+        ensures { result ≡ constant_value self.now }
+    {
+        match self.ops() {
+            [ConstOp::I32Const(value)] => Some(GlobalConstValue::I32(*value)),
+            [ConstOp::I64Const(value)] => Some(GlobalConstValue::I64(*value)),
+            [ConstOp::F32Const(bits)] => Some(GlobalConstValue::F32(*bits)),
+            [ConstOp::F64Const(bits)] => Some(GlobalConstValue::F64(*bits)),
+            [ConstOp::V128Const(value)] => Some(GlobalConstValue::V128(*value)),
+            _ => None,
+        }
+    }
+
+    /// Whether the expression is one `i32.const` of another number than 0.
+    pub fn provably_nonzero_i32(&self) -> bool
+        ensures { IsTrue result ↔ IsNonzeroI32 self.now }
+    {
+        match self.const_eval() {
+            Some(GlobalConstValue::I32(value)) => value != 0,
+            _ => false,
+        }
+    }
+
+    /// An equal expression.
+    ///
+    /// # Errors
+    /// `OutOfMemory` where more than two operators find no memory.
+    pub fn try_clone(&self, alloc: Global) -> Result<Self, OutOfMemory>
+        ensures { IfOk result (λ e. e ≡ self.now) }
+    {
+        Self::new(alloc, self.ops())
+    }
+}
