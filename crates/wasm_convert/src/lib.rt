@@ -3,8 +3,14 @@
 
 mod constants;
 mod convert;
+mod laws;
 mod operators;
+#[cfg(test)]
+mod tests;
+mod worked;
 
 pub use constants::{ConstExpr, GlobalConstValue};
 pub use convert::TypeConvert;
+pub use laws::back_conversion_law;
 pub use operators::ConstOp;
+pub use worked::{worked_constants, worked_conversions};
