@@ -37,7 +37,8 @@ impl<'d> ModuleTranslation<'d> {
         ensures planned { OnOk result ((memory_plan_of self.new).segments ≡ planned_from 0 (initializers_of self.old)) }
 
         // The plan leaves what the segments leave, over any contents of the imported memories.
-        ensures agrees { OnOk result (AgreesOver self.old.module.num_imported_memories (defined_sizes self.old.module) (initializers_of self.old) (memory_plan_of self.new)) }
+        ensures agrees { OnOk result (AgreesOver self.old.module.num_imported_memories (defined_sizes self.old.module)
+            (initializers_of self.old) (memory_plan_of self.new)) }
 
         // Runtime data are the active segments and then the passive ones, end to end from 0.
         ensures runtime { OnOk result ((memory_plan_of self.new).runtime ≡ active_bytes self.old ++ passive_bytes self.old) }
@@ -45,7 +46,8 @@ impl<'d> ModuleTranslation<'d> {
 
         // Each passive segment is found with its bytes, and no other.
         ensures found { OnOk result (All (FindsData (memory_plan_of self.new)) (passive_data_of self.old)) }
-        ensures others { OnOk result ((index : ℕ) → ¬ Contains (map (λ p. p.0) (passive_data_of self.old)) index → (memory_plan_of self.new).passive index ≡ None) }
+        ensures others { OnOk result ((index : ℕ) → ¬ Contains (map (λ p. p.0) (passive_data_of self.old)) index →
+            (memory_plan_of self.new).passive index ≡ None) }
 
         ensures same { OnOk result (OnlyMemoryInitChanges self.old self.new) }
         ensures fits { OnOk result (data_total self.old < 2 ^ 32) }

@@ -23,7 +23,8 @@ pub(crate) fn check_total(
     passive: &[(DataIndex, &[u8])],
 ) -> Result<(), PlanError>
     ensures fits { OnOk result (total_bytes (map active_segment_of active.now) (map passive_segment_of passive.now) < 2 ^ 32) }
-    ensures too_large { IfErr result (λ error. (error ≡ PlanError.TooLarge) × (2 ^ 32 ≤ total_bytes (map active_segment_of active.now) (map passive_segment_of passive.now))) }
+    ensures too_large { IfErr result (λ error. (error ≡ PlanError.TooLarge)
+        × (2 ^ 32 ≤ total_bytes (map active_segment_of active.now) (map passive_segment_of passive.now))) }
 {
     let total = active_length(active)?;
     with_passive_lengths(total, passive)?;
@@ -32,7 +33,8 @@ pub(crate) fn check_total(
 
 fn active_length(active: &[MemoryInitializer]) -> Result<u32, PlanError>
     ensures total { IfOk result (λ total. total ≡ sum_by (λ s. length s.bytes.now) active.now) }
-    ensures too_large { IfErr result (λ error. (error ≡ PlanError.TooLarge) × (2 ^ 32 ≤ sum_by (λ s. length s.bytes.now) active.now)) }
+    ensures too_large { IfErr result (λ error. (error ≡ PlanError.TooLarge)
+        × (2 ^ 32 ≤ sum_by (λ s. length s.bytes.now) active.now)) }
 {
     let mut total = 0;
     for segment in active {
@@ -43,7 +45,8 @@ fn active_length(active: &[MemoryInitializer]) -> Result<u32, PlanError>
 
 fn with_passive_lengths(before: u32, passive: &[(DataIndex, &[u8])]) -> Result<u32, PlanError>
     ensures total { IfOk result (λ total. total ≡ before + sum_by (λ p. length p.1.now) passive.now) }
-    ensures too_large { IfErr result (λ error. (error ≡ PlanError.TooLarge) × (2 ^ 32 ≤ before + sum_by (λ p. length p.1.now) passive.now)) }
+    ensures too_large { IfErr result (λ error. (error ≡ PlanError.TooLarge)
+        × (2 ^ 32 ≤ before + sum_by (λ p. length p.1.now) passive.now)) }
 {
     let mut total = before;
     for (_, bytes) in passive {
@@ -70,8 +73,10 @@ pub(crate) fn keep_active<'d>(
     runtime_data: &mut PrimaryMap<RuntimeDataIndex, RuntimeBytes<'d>>,
 ) -> Result<Vec<(MemoryIndex, MemorySegmentOffset, RuntimeDataIndex)>, OutOfMemory>
     requires { length runtime_data.old + length segments.items < u32.MAX }
-    ensures kept { IfOk result (λ kept. map planned_segment_of kept.items ≡ planned_from (length runtime_data.old) (map active_segment_of segments.entry.items)) }
-    ensures runtime { OnOk result (map bytes_of runtime_data.new ≡ map bytes_of runtime_data.old ++ map (λ s. s.bytes) (map active_segment_of segments.entry.items)) }
+    ensures kept { IfOk result (λ kept. map planned_segment_of kept.items ≡
+        planned_from (length runtime_data.old) (map active_segment_of segments.entry.items)) }
+    ensures runtime { OnOk result (map bytes_of runtime_data.new
+        ≡ map bytes_of runtime_data.old ++ map (λ s. s.bytes) (map active_segment_of segments.entry.items)) }
 {
     let mut kept = Vec::with_capacity(alloc, segments.len())?;
     for segment in segments {
@@ -91,9 +96,12 @@ pub(crate) fn keep_passive<'d>(
     requires room { length runtime_data.old + length segments.now < u32.MAX }
     requires numbered { All (λ p. p.0 < u32.MAX) (map passive_segment_of segments.now) }
     requires distinct { IsDistinct nat_eq (map (λ p. p.0) (map passive_segment_of segments.now)) }
-    ensures runtime { OnOk result (map bytes_of runtime_data.new ≡ map bytes_of runtime_data.old ++ map (λ p. p.1) (map passive_segment_of segments.now)) }
-    ensures found { OnOk result (All (λ p. FindsRuntime (map bytes_of runtime_data.new) (option_map number_of (value_at found.new p.0)) p.1) (map passive_segment_of segments.now)) }
-    ensures others { OnOk result ((n : ℕ) → ¬ Contains (map (λ p. p.0) (map passive_segment_of segments.now)) n → value_at found.new n ≡ value_at found.old n) }
+    ensures runtime { OnOk result (map bytes_of runtime_data.new
+        ≡ map bytes_of runtime_data.old ++ map (λ p. p.1) (map passive_segment_of segments.now)) }
+    ensures found { OnOk result (All (λ p. FindsRuntime (map bytes_of runtime_data.new) (option_map number_of (value_at found.new p.0)) p.1)
+        (map passive_segment_of segments.now)) }
+    ensures others { OnOk result ((n : ℕ) → ¬ Contains (map (λ p. p.0) (map passive_segment_of segments.now)) n →
+        value_at found.new n ≡ value_at found.old n) }
 {
     for (index, bytes) in segments {
         let place = runtime_data.push(RuntimeBytes::Borrowed(*bytes))?;

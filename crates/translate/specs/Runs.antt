@@ -9,7 +9,8 @@ use Rattle.plan_text.specs.Refusals.{text_of_refusal}
 use Rattle.translate.specs.Planned.{IsPlanned, HasCause}
 
 -- status 0
-pub record IsSuccess (bytes : List ℕ) (left : Option (List ℕ)) (plan : Option Plan) (refusal : Option TranslateError) (before after : Option (List ℕ)) : Type 0 where
+pub record IsSuccess (bytes : List ℕ) (left : Option (List ℕ)) (plan : Option Plan) (refusal : Option TranslateError)
+    (before after : Option (List ℕ)) : Type 0 where
   -- the bytes that were read spell a module that keeps the listed rules, and the plan is its plan
   pub planned : IsSomeAnd plan (IsPlanned bytes)
   pub no_refusal : refusal ≡ None
@@ -23,7 +24,8 @@ abbrev pub ReadEnough : List ℕ → Option (List ℕ) → Type 0
 ReadEnough bytes left = NothingLeft left ⊎ (length bytes ≡ 2 ^ 30)
 
 -- status 1
-pub record IsRefusal (bytes : List ℕ) (left : Option (List ℕ)) (plan : Option Plan) (refusal : Option TranslateError) (before after : Option (List ℕ)) : Type 0 where
+pub record IsRefusal (bytes : List ℕ) (left : Option (List ℕ)) (plan : Option Plan) (refusal : Option TranslateError)
+    (before after : Option (List ℕ)) : Type 0 where
   pub no_plan : plan ≡ None
   -- the refusal is not want of memory, and has its cause in the bytes that were read
   pub not_memory : refusal ≢ Some OutOfMemory
@@ -36,7 +38,8 @@ pub record IsRefusal (bytes : List ℕ) (left : Option (List ℕ)) (plan : Optio
 -- status 4: the sink gained a part of the text of the plan, or of the line of the refusal, whichever is kept
 abbrev pub IsCutShort : List ℕ → Option (List ℕ) → Option Plan → Option TranslateError → Option (List ℕ) → Option (List ℕ) → Type 0
 IsCutShort bytes left (Some plan) None before after = NothingLeft left × IsPlanned bytes plan × AppendsPart before (text_of_plan plan) after
-IsCutShort bytes left None (Some e) before after = ReadEnough bytes left × (e ≢ OutOfMemory) × HasCause bytes e × AppendsPart before (text_of_refusal e) after
+IsCutShort bytes left None (Some e) before after =
+    ReadEnough bytes left × (e ≢ OutOfMemory) × HasCause bytes e × AppendsPart before (text_of_refusal e) after
 IsCutShort bytes left (Some plan) (Some e) before after = ⊥
 IsCutShort bytes left None None before after = ⊥
 

@@ -55,7 +55,8 @@ impl<'d> Filling<'d> {
     /// Adds what a section declares.
     fn add_section(&mut self, alloc: Global, payload: &Payload<'d>) -> Result<(), OutOfMemory>
         requires { let section = payload_of payload.now in CanAdd self.old (memories_of_section section) (segments_of_section section) }
-        ensures { let section = payload_of payload.now in OnOk result (Adds self.old self.new (memories_of_section section) (segments_of_section section)) }
+        ensures { let section = payload_of payload.now in
+            OnOk result (Adds self.old self.new (memories_of_section section) (segments_of_section section)) }
     {
         match payload {
             Payload::Memories(types) => self.add_memories(types),

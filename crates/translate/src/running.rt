@@ -45,10 +45,12 @@ pub fn run<'d, S: Source, K: Sink>(
     ensures bytes { TellsFront (S.left source.old) result.bytes.now (S.left source.new) }
 
     // When it reports success, the bytes spell a module that keeps the rules, the plan is kept, and its text is written.
-    ensures success { result.status ≡ 0 → IsSuccess result.bytes.now (S.left source.new) result.plan result.refusal (K.held sink.old) (K.held sink.new) }
+    ensures success { result.status ≡ 0 →
+        IsSuccess result.bytes.now (S.left source.new) result.plan result.refusal (K.held sink.old) (K.held sink.new) }
 
     // Each refusal has its cause.
-    ensures refused { result.status ≡ 1 → IsRefusal result.bytes.now (S.left source.new) result.plan result.refusal (K.held sink.old) (K.held sink.new) }
+    ensures refused { result.status ≡ 1 →
+        IsRefusal result.bytes.now (S.left source.new) result.plan result.refusal (K.held sink.old) (K.held sink.new) }
 
     // The words name no command, exactly; then nothing was touched.
     ensures usage { (result.status ≡ 2) ↔ ((command : Command) → ¬ Names (map string_bytes words.now) command) }
@@ -56,16 +58,19 @@ pub fn run<'d, S: Source, K: Sink>(
 
     ensures read_failed { result.status ≡ 3 → Rose (S.faults source.old) (S.faults source.new) }
     ensures write_failed { result.status ≡ 4 → Rose (K.faults sink.old) (K.faults sink.new) }
-    ensures cut_short { result.status ≡ 4 → IsCutShort result.bytes.now (S.left source.new) result.plan result.refusal (K.held sink.old) (K.held sink.new) }
+    ensures cut_short { result.status ≡ 4 →
+        IsCutShort result.bytes.now (S.left source.new) result.plan result.refusal (K.held sink.old) (K.held sink.new) }
 
     // Where there is neither a plan nor a refusal, nothing was written.
-    ensures nothing { (result.status ≡ 2) ⊎ (result.status ≡ 3) ⊎ (result.status ≡ 5) → IsNone result.plan × IsNone result.refusal × (sink.new ≡ sink.old) }
+    ensures nothing { (result.status ≡ 2) ⊎ (result.status ≡ 3) ⊎ (result.status ≡ 5) →
+        IsNone result.plan × IsNone result.refusal × (sink.new ≡ sink.old) }
 
     ensures reads_counted { S.faults source.old ≤ S.faults source.new }
     ensures writes_counted { K.faults sink.old ≤ K.faults sink.new }
 
     // Valid input succeeds or runs out of memory, where no read and no write failed.
-    ensures complete { (command : Command) (input : List ℕ) → Names (map string_bytes words.now) command → S.left source.old ≡ Some input → IsValid input
+    ensures complete { (command : Command) (input : List ℕ) →
+        Names (map string_bytes words.now) command → S.left source.old ≡ Some input → IsValid input
         → ¬ Rose (S.faults source.old) (S.faults source.new) → ¬ Rose (K.faults sink.old) (K.faults sink.new)
         → (result.status ≡ 0) ⊎ (result.status ≡ 5) }
 {
@@ -102,9 +107,12 @@ fn answer<'d, K: Sink>(
     requires { CanTranslate command.now }
     ensures bytes { result.bytes.now ≡ bytes.now }
     ensures statuses { IsAnswer result.status }
-    ensures success { result.status ≡ 0 → (left : Option (List ℕ)) → ReadEnough bytes.now left → IsSuccess bytes.now left result.plan result.refusal (K.held sink.old) (K.held sink.new) }
-    ensures refused { result.status ≡ 1 → (left : Option (List ℕ)) → ReadEnough bytes.now left → IsRefusal bytes.now left result.plan result.refusal (K.held sink.old) (K.held sink.new) }
-    ensures cut_short { result.status ≡ 4 → (left : Option (List ℕ)) → ReadEnough bytes.now left → IsCutShort bytes.now left result.plan result.refusal (K.held sink.old) (K.held sink.new) }
+    ensures success { result.status ≡ 0 → (left : Option (List ℕ)) → ReadEnough bytes.now left →
+        IsSuccess bytes.now left result.plan result.refusal (K.held sink.old) (K.held sink.new) }
+    ensures refused { result.status ≡ 1 → (left : Option (List ℕ)) → ReadEnough bytes.now left →
+        IsRefusal bytes.now left result.plan result.refusal (K.held sink.old) (K.held sink.new) }
+    ensures cut_short { result.status ≡ 4 → (left : Option (List ℕ)) → ReadEnough bytes.now left →
+        IsCutShort bytes.now left result.plan result.refusal (K.held sink.old) (K.held sink.new) }
     ensures write_failed { result.status ≡ 4 → Rose (K.faults sink.old) (K.faults sink.new) }
     ensures nothing { result.status ≡ 5 → IsNone result.plan × IsNone result.refusal × (sink.new ≡ sink.old) }
     ensures counted { K.faults sink.old ≤ K.faults sink.new }

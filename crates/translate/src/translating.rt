@@ -38,7 +38,8 @@ pub fn translate_module<'d>(
     ensures cause { IfErr result (HasCause bytes.now) }
     ensures too_long { 2 ^ 30 ≤ length bytes.now → result ≡ Err TranslateError.TooLarge }
     // What is read and not planned yet is refused by its name, unless memory runs out.
-    ensures unplanned { (m : Module) (what : What) → IsReadable bytes.now m → IsUnplanned what m → IsRefusedAs result (TranslateError.Unsupported what) }
+    ensures unplanned { (m : Module) (what : What) → IsReadable bytes.now m → IsUnplanned what m
+        → IsRefusedAs result (TranslateError.Unsupported what) }
     // Valid input has a plan, unless memory runs out.
     ensures complete { IsValid bytes.now → SucceedsOrNoMemory result }
 {

@@ -47,7 +47,8 @@ val_frame-written (val.Ref r) new = ap (λ h. val.Ref (record r { heap_type = h 
 val_frame-written t new = refl
 
 -- the list with an index written at a place
-with_index-set : (types : List WasmValType) (at : ℕ) (t : WasmValType) (new : EngineOrModuleTypeIndex) → slice_get types at ≡ Some t → with_index types at new ≡ slice_set types at (val_with_index t new)
+with_index-set : (types : List WasmValType) (at : ℕ) (t : WasmValType) (new : EngineOrModuleTypeIndex) → slice_get types at ≡ Some t
+    → with_index types at new ≡ slice_set types at (val_with_index t new)
 with_index-set [] at t new there = cc
 with_index-set (x ∷ types) zero t new there = let same : x ≡ t = cc in rw same refl
 with_index-set (x ∷ types) (suc at) t new there = ap (λ l. x ∷ l) (with_index-set types at t new there)
@@ -57,7 +58,8 @@ set-there [] at t there = cc
 set-there (x ∷ types) zero t there = let same : x ≡ t = cc in rw same refl
 set-there (x ∷ types) (suc at) t there = ap (λ l. x ∷ l) (set-there types at t there)
 
-module _ {F E : Type 0} (visitor : Mut F (MutBor EngineOrModuleTypeIndex × Unit {0}) (Result (Unit {0}) E × (MutBor EngineOrModuleTypeIndex × Unit {0}))) where
+module _ {F E : Type 0} (visitor : Mut F (MutBor EngineOrModuleTypeIndex × Unit {0})
+    (Result (Unit {0}) E × (MutBor EngineOrModuleTypeIndex × Unit {0}))) where
   -- what a run over the edge of one of the types leaves: a type with the new edge, at its place
   record Written (types : List WasmValType) (params at : ℕ) (t : WasmValType) (new : List EngineOrModuleTypeIndex) : Type 0 where
     pub type : WasmValType
@@ -66,8 +68,10 @@ module _ {F E : Type 0} (visitor : Mut F (MutBor EngineOrModuleTypeIndex × Unit
     pub is : func_with_edges_at (split_types params types) at new ≡ split_types params (slice_set types at type)
 
   written : (types : List WasmValType) (params at : ℕ) (t : WasmValType) → params ≤ length types → at < length types → slice_get types at ≡ Some t
-      → (now : F) (r : Result (Unit {0}) E) (next : F) (new : List EngineOrModuleTypeIndex) → RunMut visitor now (val_edges t) r next new → Written types params at t new
-  written types params at t within here there now r next new run = by_index (val_index t) refl new (subst (λ i. RunMut visitor now (option_to_list i) r next new) refl run)
+      → (now : F) (r : Result (Unit {0}) E) (next : F) (new : List EngineOrModuleTypeIndex) → RunMut visitor now (val_edges t) r next new
+          → Written types params at t new
+  written types params at t within here there now r next new run = by_index (val_index t) refl new
+      (subst (λ i. RunMut visitor now (option_to_list i) r next new) refl run)
     where
       one_written : (old new : EngineOrModuleTypeIndex) → val_index t ≡ Some old → Written types params at t (new ∷ [])
       one_written old new has = record {
@@ -77,7 +81,8 @@ module _ {F E : Type 0} (visitor : Mut F (MutBor EngineOrModuleTypeIndex × Unit
         is = rw (length-take-le params types within, take-append-drop params types, with_index-set types at t new there) refl;
       }
 
-      by_index : (i : Option EngineOrModuleTypeIndex) → val_index t ≡ i → (new : List EngineOrModuleTypeIndex) → RunMut visitor now (option_to_list i) r next new → Written types params at t new
+      by_index : (i : Option EngineOrModuleTypeIndex) → val_index t ≡ i → (new : List EngineOrModuleTypeIndex)
+          → RunMut visitor now (option_to_list i) r next new → Written types params at t new
       by_index None has new run =
           let none_left : [] ≡ new = sym run.2 in
           subst (λ es. Written types params at t es) none_left (record {
@@ -98,15 +103,19 @@ split_types-joined t = rw (take-append_seam t.params t.results, drop-append_seam
 func_edges-split : (n : ℕ) (types : List WasmValType) → func_edges (split_types n types) ≡ flat_map val_edges types
 func_edges-split n types = sym (flat_map-append val_edges (take n types) (drop n types)) ∙ ap (flat_map val_edges) (take-append-drop n types)
 
-func_frame-split : (t : FuncParts) (types : List WasmValType) → map val_frame types ≡ map val_frame (t.params ++ t.results) → func_frame (split_types (length t.params) types) ≡ func_frame t
+func_frame-split : (t : FuncParts) (types : List WasmValType) → map val_frame types ≡ map val_frame (t.params ++ t.results)
+    → func_frame (split_types (length t.params) types) ≡ func_frame t
 func_frame-split t types kept =
     let n = length t.params in
     let all = t.params ++ t.results in
-    let params = sym (take-map val_frame n types) ∙ ap (take n) kept ∙ take-map val_frame n all ∙ ap (map val_frame) (take-append_seam t.params t.results) in
-    let results = sym (drop-map val_frame n types) ∙ ap (drop n) kept ∙ drop-map val_frame n all ∙ ap (map val_frame) (drop-append_seam t.params t.results) in
+    let params = sym (take-map val_frame n types) ∙ ap (take n) kept ∙ take-map val_frame n all
+        ∙ ap (map val_frame) (take-append_seam t.params t.results) in
+    let results = sym (drop-map val_frame n types) ∙ ap (drop n) kept ∙ drop-map val_frame n all
+        ∙ ap (map val_frame) (drop-append_seam t.params t.results) in
     rw (params, results) refl
 
-module _ {F E : Type 0} (visitor : Mut F (MutBor EngineOrModuleTypeIndex × Unit {0}) (Result (Unit {0}) E × (MutBor EngineOrModuleTypeIndex × Unit {0})))
+module _ {F E : Type 0} (visitor : Mut F (MutBor EngineOrModuleTypeIndex × Unit {0})
+    (Result (Unit {0}) E × (MutBor EngineOrModuleTypeIndex × Unit {0})))
     (first : F) (t : FuncParts) where
   -- in the midst of a run over the edges of t, from `first`: those before the place `at` were visited, and t is now `changed`
   pub record FuncMidst (now : F) (changed : FuncParts) (at : ℕ) : Type 0 where
@@ -151,13 +160,15 @@ module _ {F E : Type 0} (visitor : Mut F (MutBor EngineOrModuleTypeIndex × Unit
           ∙ ap (λ x. option_to_list (option_and_then val_index x)) slice_get-types
 
       -- the edges that are left begin with that of the type at the place
-      midst_here : MidstMut visitor first (func_edges t) now (flat_map val_edges (take at m.types)) (val_edges here ++ flat_map val_edges (drop (at + 1) m.types))
+      midst_here : MidstMut visitor first (func_edges t) now (flat_map val_edges (take at m.types))
+          (val_edges here ++ flat_map val_edges (drop (at + 1) m.types))
       midst_here = rw drop-types at m.midst
 
       pub FuncMidst-may : MayRunMut visitor now (option_to_list (index_at changed at))
       FuncMidst-may = rw edges_here (may_run_first_mut visitor _ _ now midst_here.may)
 
-      module _ (r : Result (Unit {0}) E) (next : F) (new : List EngineOrModuleTypeIndex) (run : RunMut visitor now (option_to_list (index_at changed at)) r next new) where
+      module _ (r : Result (Unit {0}) E) (next : F) (new : List EngineOrModuleTypeIndex)
+          (run : RunMut visitor now (option_to_list (index_at changed at)) r next new) where
         run_here : RunMut visitor now (val_edges here) r next new
         run_here = rw edges_here at run
 

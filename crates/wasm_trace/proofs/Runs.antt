@@ -43,30 +43,36 @@ module _ {F Edge E : Type 0} (visitor : Mut F (Edge × Unit {0}) (Result (Unit {
 
 module _ {F Edge E : Type 0} (visitor : Mut F (MutBor Edge × Unit {0}) (Result (Unit {0}) E × (MutBor Edge × Unit {0}))) where
   -- the only edge may be visited
-  pub may_visit_mut : (f : F) (e : Edge) (es : List Edge) → MayRunMut visitor f es → es ≡ e ∷ [] → (p : MutBor Edge) → p.now ≡ e → Takes visitor f (p, tt)
+  pub may_visit_mut : (f : F) (e : Edge) (es : List Edge) → MayRunMut visitor f es → es ≡ e ∷ [] → (p : MutBor Edge) → p.now ≡ e
+      → Takes visitor f (p, tt)
   may_visit_mut f e es may one p here = may.at [] [] p f [] (one ∙ ap (λ x. x ∷ []) (sym here)) (refl, refl, refl)
 
   -- the first of several edges may be visited
-  pub may_visit_first_mut : (f : F) (e : Edge) (es : List Edge) → MayRunMut visitor f (e ∷ es) → (p : MutBor Edge) → p.now ≡ e → Takes visitor f (p, tt)
+  pub may_visit_first_mut : (f : F) (e : Edge) (es : List Edge) → MayRunMut visitor f (e ∷ es) → (p : MutBor Edge) → p.now ≡ e
+      → Takes visitor f (p, tt)
   may_visit_first_mut f e es may p here = may.at [] es p f [] (ap (λ x. x ∷ es) (sym here)) (refl, refl, refl)
 
   -- and then the others
-  pub may_go_on_mut : (f : F) (e : Edge) (es : List Edge) (g : F) (e' : Edge) → MayRunMut visitor f (e ∷ es) → CalledAtMut visitor f e (Ok tt) g e' → MayRunMut visitor g es
+  pub may_go_on_mut : (f : F) (e : Edge) (es : List Edge) (g : F) (e' : Edge) → MayRunMut visitor f (e ∷ es)
+      → CalledAtMut visitor f e (Ok tt) g e' → MayRunMut visitor g es
   may_go_on_mut f e es g e' may called = record {
     at = λ past rest x now new split run. may.at (e ∷ past) rest x now (e' ∷ new) (ap (λ l. e ∷ l) split) (inr (g, e', new, called, run, refl));
   }
 
   -- one visit is a run
-  pub one_visit : (f : F) (e : Edge) (r : Result (Unit {0}) E) (f' : F) (e' : Edge) → CalledAtMut visitor f e r f' e' → RunMut visitor f (e ∷ []) r f' (e' ∷ [])
+  pub one_visit : (f : F) (e : Edge) (r : Result (Unit {0}) E) (f' : F) (e' : Edge) → CalledAtMut visitor f e r f' e'
+      → RunMut visitor f (e ∷ []) r f' (e' ∷ [])
   one_visit f e (Ok u) f' e' called = inr (f', e', [], called, (refl, refl, refl), refl)
   one_visit f e (Err x) f' e' called = inl (x, e', called, refl, refl)
 
 -- a visitor that stays as it is, answers Ok and relates each edge to the new one by Q, wherever P holds
 module _ {F Edge E : Type 0} (P : Edge → Type 0) (Q : Edge → Edge → Type 0)
     (visitor : Mut F (MutBor Edge × Unit {0}) (Result (Unit {0}) E × (MutBor Edge × Unit {0}))) (f : F)
-    (visits : (e : Edge) (r : Result (Unit {0}) E) (f' : F) (e' : Edge) → P e → CalledAtMut visitor f e r f' e' → (f' ≡ f) × (r ≡ Ok tt) × Q e e') where
+    (visits : (e : Edge) (r : Result (Unit {0}) E) (f' : F) (e' : Edge) → P e → CalledAtMut visitor f e r f' e' → (f' ≡ f) × (r ≡ Ok tt)
+        × Q e e') where
   -- rewrites every edge
-  pub RunMut-rewrites : (es : List Edge) → All P es → (r : Result (Unit {0}) E) (f' : F) (new : List Edge) → RunMut visitor f es r f' new → (f' ≡ f) × (r ≡ Ok tt) × AllZip Q es new
+  pub RunMut-rewrites : (es : List Edge) → All P es → (r : Result (Unit {0}) E) (f' : F) (new : List Edge) → RunMut visitor f es r f' new
+      → (f' ≡ f) × (r ≡ Ok tt) × AllZip Q es new
   RunMut-rewrites [] all r f' new run = (run.1, run.0, subst (λ n. AllZip Q [] n) (sym run.2) tt)
   RunMut-rewrites (e ∷ es) all r f' new (inl stop) =
       let impossible : Err stop.0 ≡ Ok tt = (visits e (Err stop.0) f' stop.1 (All-head P e es all) stop.2).1 in cc
@@ -76,7 +82,8 @@ module _ {F Edge E : Type 0} (P : Edge → Type 0) (Q : Edge → Edge → Type 0
       (rest.0, rest.1, subst (λ n. AllZip Q (e ∷ es) n) (sym more.5) (here.2, rest.2))
 
   -- comes as it was to every edge, and P holds there
-  pub RunMut-comes : (es past rest : List Edge) (e : Edge) (now : F) (new : List Edge) → All P es → es ≡ past ++ e ∷ rest → RunMut visitor f past (Ok tt) now new → P e × (now ≡ f)
+  pub RunMut-comes : (es past rest : List Edge) (e : Edge) (now : F) (new : List Edge) → All P es → es ≡ past ++ e ∷ rest
+      → RunMut visitor f past (Ok tt) now new → P e × (now ≡ f)
   RunMut-comes es past rest e now new all split run =
       let parts = All-split P past (e ∷ rest) (subst (λ l. All P l) split all) in
       (All-head P e rest parts.1, (RunMut-rewrites past parts.0 (Ok tt) now new run).0)

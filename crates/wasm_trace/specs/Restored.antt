@@ -34,7 +34,8 @@ pub record Restored {T : Type 0} (edges : T → List EngineOrModuleTypeIndex) (f
   pub back : (t : T) → put (frame t) (edges t) ≡ t
   pub counts : (t : T) → length (edges (frame t)) ≡ length (edges t)
 
-pub is_determined : {T : Type 0} {edges : T → List EngineOrModuleTypeIndex} {frame : T → T} → Restored edges frame → (x y : T) → frame x ≡ frame y → edges x ≡ edges y → x ≡ y
+pub is_determined : {T : Type 0} {edges : T → List EngineOrModuleTypeIndex} {frame : T → T} → Restored edges frame
+    → (x y : T) → frame x ≡ frame y → edges x ≡ edges y → x ≡ y
 is_determined {edges = edges} {frame = frame} r x y frames all =
     sym (r.back x) ∙ ap (λ t. r.put t (edges x)) frames ∙ ap (r.put (frame y)) all ∙ r.back y
 
@@ -76,7 +77,8 @@ module _ {T : Type 0} {edges : T → List EngineOrModuleTypeIndex} {frame : T �
   all_back [] = refl
   all_back (t ∷ ts) =
       ap (λ n. r.put (frame t) (take n (flat_map edges (t ∷ ts))) ∷ all_put (map frame ts) (drop n (flat_map edges (t ∷ ts)))) (r.counts t)
-      ∙ ap (λ es. r.put (frame t) es ∷ all_put (map frame ts) (drop (length (edges t)) (flat_map edges (t ∷ ts)))) (take-append_seam (edges t) (flat_map edges ts))
+      ∙ ap (λ es. r.put (frame t) es ∷ all_put (map frame ts) (drop (length (edges t)) (flat_map edges (t ∷ ts))))
+      (take-append_seam (edges t) (flat_map edges ts))
       ∙ ap (λ es. r.put (frame t) (edges t) ∷ all_put (map frame ts) es) (drop-append_seam (edges t) (flat_map edges ts))
       ∙ ap (λ x. x ∷ all_put (map frame ts) (flat_map edges ts)) (r.back t)
       ∙ ap (λ xs. t ∷ xs) (all_back ts)
@@ -264,9 +266,11 @@ sub_restored = record {
   back = λ t.
       ap (λ supertype. record t {
         supertype = supertype;
-        composite_type = second option_restored composite_restored (option_map (λ i. no_edge) t.supertype) (composite_frame t.composite_type) (sub_edges t);
+        composite_type = second option_restored composite_restored
+            (option_map (λ i. no_edge) t.supertype) (composite_frame t.composite_type) (sub_edges t);
       }) (first-back option_restored composite_restored t.supertype t.composite_type)
-      ∙ ap (λ composite_type. record t { composite_type = composite_type }) (second-back option_restored composite_restored t.supertype t.composite_type);
+      ∙ ap (λ composite_type. record t { composite_type = composite_type })
+      (second-back option_restored composite_restored t.supertype t.composite_type);
   counts = λ t. count-both option_restored composite_restored t.supertype t.composite_type;
 }
 

@@ -58,7 +58,9 @@ module _ {X : Type 0} (p : X → Bool) (xs : List X) (at : ℕ) (old new : X) (t
       ∙ sum-map counted (drop n xs)
 
 -- so the counts of a function type stay
-pub IsCounted-with_index : (types : List WasmValType) (params in_params in_results at : ℕ) (old : WasmValType) (new : EngineOrModuleTypeIndex) → slice_get types at ≡ Some old → IsCounted types params in_params in_results → IsCounted (slice_set types at (val_with_index old new)) params in_params in_results
+pub IsCounted-with_index : (types : List WasmValType) (params in_params in_results at : ℕ) (old : WasmValType)
+    (new : EngineOrModuleTypeIndex) → slice_get types at ≡ Some old → IsCounted types params in_params in_results
+    → IsCounted (slice_set types at (val_with_index old new)) params in_params in_results
 IsCounted-with_index types params in_params in_results at old new there counts =
     let alike = val_is_object-with_index old new in
     let long = length-set types at (val_with_index old new) in
@@ -74,22 +76,27 @@ pub set-there : (types : List WasmValType) (at : ℕ) (old : WasmValType) → sl
 set-there types at old there = rw (get_or_from_slice_get types at old old there) at (set-get_or types at old)
 
 -- a write of the index is one of the type
-with_index-set : (types : List WasmValType) (at : ℕ) (old : WasmValType) (new : EngineOrModuleTypeIndex) → slice_get types at ≡ Some old → with_index types at new ≡ slice_set types at (val_with_index old new)
+with_index-set : (types : List WasmValType) (at : ℕ) (old : WasmValType) (new : EngineOrModuleTypeIndex) → slice_get types at ≡ Some old
+    → with_index types at new ≡ slice_set types at (val_with_index old new)
 with_index-set [] at old new there = cc
 with_index-set (t ∷ ts) zero old new there = let same : t ≡ old = cc in rw same refl
 with_index-set (t ∷ ts) (suc at) old new there = ap (λ us. t ∷ us) (with_index-set ts at old new there)
 
 -- a write to the joined types is one to the function type
-pub split_types-with_index : (types : List WasmValType) (params at : ℕ) (old : WasmValType) (new : EngineOrModuleTypeIndex) → params ≤ length types → slice_get types at ≡ Some old → split_types params (slice_set types at (val_with_index old new)) ≡ func_with_index (split_types params types) at new
+pub split_types-with_index : (types : List WasmValType) (params at : ℕ) (old : WasmValType) (new : EngineOrModuleTypeIndex)
+    → params ≤ length types → slice_get types at ≡ Some old → split_types params
+    (slice_set types at (val_with_index old new)) ≡ func_with_index (split_types params types) at new
 split_types-with_index types params at old new within there =
     rw (length-take-le params types within, take-append-drop params types, with_index-set types at old new there) refl
 
 -- the index that stands in a function type stands in the joined types
-pub index_at-split_types : (types : List WasmValType) (params at : ℕ) → index_at (split_types params types) at ≡ option_and_then val_index (slice_get types at)
+pub index_at-split_types : (types : List WasmValType) (params at : ℕ) → index_at (split_types params types) at ≡ option_and_then val_index
+    (slice_get types at)
 index_at-split_types types params at = rw (take-append-drop params types) refl
 
 -- what a loan of the index leaves, where the result has a name or is None
-pub lent-with_index : (name : Named GName) (types : List WasmValType) (params at : ℕ) (old : WasmValType) → params ≤ length types → slice_get types at ≡ Some old
+pub lent-with_index : (name : Named GName) (types : List WasmValType) (params at : ℕ) (old : WasmValType) → params ≤ length types
+    → slice_get types at ≡ Some old
     → read_of name (λ new. split_types params (slice_set types at (val_with_index old new))) (split_types params (slice_set types at old))
     ≡ read_of name (func_with_index (split_types params types) at) (split_types params types)
 lent-with_index name types params at old within there =

@@ -47,10 +47,16 @@ pub fn worked_references()
     } }
     ensures second_index { func_with_index (record {
       params = WasmValType.I32 ∷ [];
-      results = WasmValType.Ref (record { nullable = true; heap_type = WasmHeapType.ConcreteStruct (EngineOrModuleTypeIndex.Module (index_of 3)) }) ∷ [];
+      results = WasmValType.Ref (record {
+        nullable = true;
+        heap_type = WasmHeapType.ConcreteStruct (EngineOrModuleTypeIndex.Module (index_of 3));
+      }) ∷ [];
     }) 1 (EngineOrModuleTypeIndex.Engine (index_of 8)) ≡ record {
       params = WasmValType.I32 ∷ [];
-      results = WasmValType.Ref (record { nullable = true; heap_type = WasmHeapType.ConcreteStruct (EngineOrModuleTypeIndex.Engine (index_of 8)) }) ∷ [];
+      results = WasmValType.Ref (record {
+        nullable = true;
+        heap_type = WasmHeapType.ConcreteStruct (EngineOrModuleTypeIndex.Engine (index_of 8));
+      }) ∷ [];
     } }
 {}
 
