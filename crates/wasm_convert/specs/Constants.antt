@@ -1,4 +1,4 @@
--- Constant expressions of a translated module: where they come from, and their values.
+-- Constant expressions of a translated module (core specification, 5.4.9): where they come from, and their values (4.6.1).
 use Rattle.std.specs.Prelude.{◌≡◌, List, [], ◌∷◌, map, Option, Some, None, pos}
 use Rattle.std.specs.List.{filter_map}
 use Rattle.wasm_spec.specs.declared.operators.Operator.{Operator}

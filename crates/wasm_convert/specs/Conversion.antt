@@ -1,4 +1,4 @@
--- Types that were read, as types of a translated module: an index becomes what it is looked up to, and all else stays.
+-- Types that were read, as types of a translated module (core specification, 2.3): an index becomes what it is looked up to, and all else stays.
 use Rattle.std.specs.Prelude.{List, map, Option, Some, None, false, if◌then◌else◌, unwrap_or}
 use Rattle.std.specs.Option.{option_map}
 use Rattle.wasm_spec.specs.declared.types.UnpackedIndex.{UnpackedIndex}

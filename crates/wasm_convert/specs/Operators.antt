@@ -1,5 +1,5 @@
--- Operators of a translated module, and the operators that were read.
-use Rattle.std.specs.Prelude.{◌<◌, ℕ, ⊤}
+-- Operators of constant expressions (core specification, 3.4.15) in a translated module, and the operators that were read.
+use Rattle.std.specs.Prelude.{◌<◌, ⊤}
 use Rattle.wasm_spec.specs.declared.types.UnpackedIndex.{UnpackedIndex}
 use Rattle.wasm_spec.specs.declared.types.HeapType.TheVariants.{Abstract}
 use Rattle.wasm_spec.specs.declared.types.AbstractHeapType.TheVariants.{Any}

@@ -1,4 +1,4 @@
-use Rattle.std.proofs.Common.{◌≡◌, take, length}
+use Rattle.std.proofs.Common.{◌≡◌, take}
 use Rattle.wasm_convert.specs.Constants.{const_ops_of, functions_of}
 use Rattle.wasm_convert.proofs.constants.ConstExpr.from_wasmparser.Given as goal
 

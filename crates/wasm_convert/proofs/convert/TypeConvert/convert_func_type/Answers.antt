@@ -22,8 +22,8 @@ returns g c =
     let slice : c.as_slice.result.now ≡ map convert (params ++ results) = c.as_slice.ensures.value ∙ types in
     let first : c.split_at.result.0.now ≡ map convert params =
     c.split_at.ensures.front ∙ ap (λ n. take n c.as_slice.result.now) count ∙ ap (take (length params)) slice
-        ∙ first-converted convert params results in
+    ∙ first-converted convert params results in
     let second : c.split_at.result.1.now ≡ map convert results =
     c.split_at.ensures.back ∙ ap (λ n. drop n c.as_slice.result.now) count ∙ ap (drop (length params)) slice
-        ∙ second-converted convert params results in
+    ∙ second-converted convert params results in
     search rules
