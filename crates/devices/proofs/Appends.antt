@@ -3,7 +3,8 @@ use Rattle.std.proofs.Common.{◌≡◌, ℕ, List, ◌++◌, Option, Some, None
 use Rattle.devices.specs.Device.{AppendsFront}
 
 -- what was appended by two writes
-pub AppendsFront-then : (old between new : Option (List ℕ)) (first second whole : List ℕ) → first ++ second ≡ whole → AppendsFront old first between → AppendsFront between second new → AppendsFront old whole new
+pub AppendsFront-then : (old between new : Option (List ℕ)) (first second whole : List ℕ) → first ++ second ≡ whole
+    → AppendsFront old first between → AppendsFront between second new → AppendsFront old whole new
 AppendsFront-then (Some old) (Some between) (Some new) first second whole joined p q =
     q ∙ ap (λ (l : List ℕ). l ++ second) p ∙ append_assoc old first second ∙ ap (λ (l : List ℕ). old ++ l) joined
 AppendsFront-then (Some old) (Some between) None first second whole joined p q = q

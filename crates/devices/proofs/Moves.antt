@@ -9,18 +9,22 @@ take-front n left rest within =
     take-append-le n (take n left) rest n_in_front ∙ take-take n n left (omega arith)
 
 -- what a buffer begins with and what is left are what was left
-pub front-and-rest : (n : ℕ) (left rest buffer new : List ℕ) → n ≤ length left → buffer ≡ take n left ++ rest → new ≡ drop n left → left ≡ take n buffer ++ new
+pub front-and-rest : (n : ℕ) (left rest buffer new : List ℕ) → n ≤ length left → buffer ≡ take n left ++ rest → new ≡ drop n left
+    → left ≡ take n buffer ++ new
 front-and-rest n left rest buffer new within moved kept =
     rw (moved, kept, take-front n left rest within) (sym (take-append-drop n left))
 
 -- the same of a read that answers how many bytes it moved
-pub front-and-rest-on-ok : {E : Type 0} (r : Result ℕ E) (count : ℕ) (left buffer filled new : List ℕ) → count ≤ length left → IfOk r (λ n. n ≡ count) → IfOk r (λ n. filled ≡ take n left ++ drop n buffer) → IfOk r (λ n. new ≡ drop n left) → IfOk r (λ n. left ≡ take n filled ++ new)
+pub front-and-rest-on-ok : {E : Type 0} (r : Result ℕ E) (count : ℕ) (left buffer filled new : List ℕ) → count ≤ length left
+    → IfOk r (λ n. n ≡ count) → IfOk r (λ n. filled ≡ take n left ++ drop n buffer) → IfOk r (λ n. new ≡ drop n left)
+    → IfOk r (λ n. left ≡ take n filled ++ new)
 front-and-rest-on-ok (Ok n) count left buffer filled new within is moved kept =
     front-and-rest n left (drop n buffer) filled new (omega arith) moved kept
 front-and-rest-on-ok (Err e) count left buffer filled new within is moved kept = tt
 
 -- where a part of a buffer was filled, the buffer was filled
-pub fill-part : (n m : ℕ) (left buffer part : List ℕ) → n ≤ m → m ≤ length buffer → part ≡ take n left ++ drop n (take m buffer) → part ++ drop m buffer ≡ take n left ++ drop n buffer
+pub fill-part : (n m : ℕ) (left buffer part : List ℕ) → n ≤ m → m ≤ length buffer → part ≡ take n left ++ drop n (take m buffer)
+    → part ++ drop m buffer ≡ take n left ++ drop n buffer
 fill-part n m left buffer part below within filled =
     let n_in_part : n ≤ length (take m buffer) = omega (arith, length-take-le m buffer within) in
     rw (filled, append_assoc, ← drop-append-le n (take m buffer) (drop m buffer) n_in_part, take-append-drop m buffer) refl

@@ -16,29 +16,35 @@ get-middle (b ∷ before) after x = get-middle before after x
 
 module _ (plan : MemoryPlan) where
   -- the bytes of a segment are the runtime data of its number
-  bytes-at : (before after : List (List ℕ)) (bytes : List ℕ) (n : ℕ) → n ≡ length before → plan.runtime ≡ before ++ bytes ∷ after → runtime_bytes plan n ≡ bytes
+  bytes-at : (before after : List (List ℕ)) (bytes : List ℕ) (n : ℕ) → n ≡ length before → plan.runtime ≡ before ++ bytes ∷ after
+      → runtime_bytes plan n ≡ bytes
   bytes-at before after bytes n at is = rw (is, at, get-middle before after bytes) refl
 
   -- the runtime data before the next segment
-  next-runtime : (before after : List (List ℕ)) (bytes : List ℕ) → plan.runtime ≡ before ++ bytes ∷ after → plan.runtime ≡ (before ++ bytes ∷ []) ++ after
+  next-runtime : (before after : List (List ℕ)) (bytes : List ℕ) → plan.runtime ≡ before ++ bytes ∷ after
+      → plan.runtime ≡ (before ++ bytes ∷ []) ++ after
   next-runtime before after bytes is = is ∙ sym (append_assoc before (bytes ∷ []) after)
 
   -- what is kept are the segments
-  kept : (active : List ActiveSegment) (before after : List (List ℕ)) (n : ℕ) → n ≡ length before → plan.runtime ≡ before ++ (bytes_of_all active ++ after)
+  kept : (active : List ActiveSegment) (before after : List (List ℕ)) (n : ℕ) → n ≡ length before
+      → plan.runtime ≡ before ++ (bytes_of_all active ++ after)
       → filter_map (λ s. left_to_write plan s.offset s.memory s.index) (planned_from n active) ≡ active
   kept [] before after n at is = refl
   kept (s ∷ ss) before after n at is =
       let here = bytes-at before (bytes_of_all ss ++ after) s.bytes n at is in
-      let more = kept ss (before ++ s.bytes ∷ []) after (n + 1) (omega (arith, length_push before s.bytes)) (next-runtime before (bytes_of_all ss ++ after) s.bytes is) in
+      let more = kept ss (before ++ s.bytes ∷ []) after (n + 1) (omega (arith, length_push before s.bytes))
+      (next-runtime before (bytes_of_all ss ++ after) s.bytes is) in
       rw (here, more) refl
 
   -- the pieces of all entries are those of the segments
-  pieces : (active : List ActiveSegment) (before after : List (List ℕ)) (n : ℕ) → n ≡ length before → plan.runtime ≡ before ++ (bytes_of_all active ++ after)
+  pieces : (active : List ActiveSegment) (before after : List (List ℕ)) (n : ℕ) → n ≡ length before
+      → plan.runtime ≡ before ++ (bytes_of_all active ++ after)
       → map (planned_piece plan) (planned_from n active) ≡ map piece_of active
   pieces [] before after n at is = refl
   pieces (s ∷ ss) before after n at is =
       let here = bytes-at before (bytes_of_all ss ++ after) s.bytes n at is in
-      let more = pieces ss (before ++ s.bytes ∷ []) after (n + 1) (omega (arith, length_push before s.bytes)) (next-runtime before (bytes_of_all ss ++ after) s.bytes is) in
+      let more = pieces ss (before ++ s.bytes ∷ []) after (n + 1) (omega (arith, length_push before s.bytes))
+      (next-runtime before (bytes_of_all ss ++ after) s.bytes is) in
       rw (here, more) refl
 
 same_as_itself : {A : Type 0} (phase : Phase A) → SamePhase phase phase
@@ -52,10 +58,12 @@ pub record KeepsAll (defined : List ℕ) (active : List ActiveSegment) (plan : M
   pub passive : List (List ℕ)
   pub runtime : plan.runtime ≡ bytes_of_all active ++ passive
 
-pub kept_segments-all : (defined : List ℕ) (active : List ActiveSegment) (plan : MemoryPlan) → KeepsAll defined active plan → kept_segments plan ≡ active
+pub kept_segments-all : (defined : List ℕ) (active : List ActiveSegment) (plan : MemoryPlan) → KeepsAll defined active plan
+    → kept_segments plan ≡ active
 kept_segments-all defined active plan h = rw h.segments (kept plan active [] h.passive 0 refl h.runtime)
 
-pub AgreesOver-kept : (imports : ℕ) (defined : List ℕ) (active : List ActiveSegment) (plan : MemoryPlan) → KeepsAll defined active plan → AgreesOver imports defined active plan
+pub AgreesOver-kept : (imports : ℕ) (defined : List ℕ) (active : List ActiveSegment) (plan : MemoryPlan) → KeepsAll defined active plan
+    → AgreesOver imports defined active plan
 AgreesOver-kept imports defined active plan h =
     let all : kept_segments plan ≡ active = kept_segments-all defined active plan h in
     let listed : map (planned_piece plan) plan.segments ≡ map piece_of active = rw h.segments (pieces plan active [] h.passive 0 refl h.runtime) in

@@ -49,12 +49,14 @@ pub bad_not_stops : {A : Type 0} (what : What) → err {A = A} Bad ≡ Err (Stop
 bad_not_stops what e = absurd cc
 
 -- the value of a step that did not fail
-pub step_ok : {A B : Type 0} (r : Result A Fault) (next : A → Result B Fault) (y : B) → and_then r next ≡ Ok y → (x : A) × (r ≡ Ok x) × (next x ≡ Ok y)
+pub step_ok : {A B : Type 0} (r : Result A Fault) (next : A → Result B Fault) (y : B) → and_then r next ≡ Ok y
+    → (x : A) × (r ≡ Ok x) × (next x ≡ Ok y)
 step_ok (Ok x) next y e = (x, refl, e)
 step_ok (Err fault) next y e = absurd cc
 
 -- a step that failed, or the one after it
-pub step_err : {A B : Type 0} (r : Result A Fault) (next : A → Result B Fault) (fault : Fault) → and_then r next ≡ Err fault → (r ≡ Err fault) ⊎ ((x : A) × (r ≡ Ok x) × (next x ≡ Err fault))
+pub step_err : {A B : Type 0} (r : Result A Fault) (next : A → Result B Fault) (fault : Fault) → and_then r next ≡ Err fault
+    → (r ≡ Err fault) ⊎ ((x : A) × (r ≡ Ok x) × (next x ≡ Err fault))
 step_err (Ok x) next fault e = inr (x, refl, e)
 step_err {A = A} {B} (Err other) next fault e = inl (same e) where
   same : err {A = B} other ≡ Err fault → err {A = A} other ≡ Err fault
@@ -107,7 +109,13 @@ stopped_agrees {A} here = record {
 
 pub raw_bytes_agree : (n : ℕ) → Agrees (raw_bytes_at n) (part.raw_bytes n)
 unfolding raw_bytes_at
-raw_bytes_agree n = record { found = found; again = again; stopped = λ bytes what e. absurd (never (ltb (length bytes) n) (take n bytes, drop n bytes) what e); stops_again = λ bytes what s. absurd s } where
+raw_bytes_agree n = record {
+  found = found;
+  again = again;
+  stopped =
+      λ bytes what e. absurd (never (ltb (length bytes) n) (take n bytes, drop n bytes) what e);
+  stops_again = λ bytes what s. absurd s;
+} where
   fits : (test : Bool) (x y : List ℕ × List ℕ) → cond test (Err Bad) (ok x) ≡ Ok y → (test ≡ false) × (x ≡ y)
   fits true x y e = absurd cc
   fits false x y e = (refl, cc)
@@ -132,12 +140,17 @@ raw_bytes_agree n = record { found = found; again = again; stopped = λ bytes wh
 -- ---- one after another
 
 module _ {A B : Type 0} (p : Reader A) (q : A → Reader B) (g : Part A) (h : A → Part B) (a : Agrees p g) (b : (x : A) → Agrees (q x) (h x)) where
-  then_found : (bytes : List ℕ) (y : B) (rest : List ℕ) → (p >>= q) bytes ≡ Ok (y, rest) → (front : List ℕ) × (bytes ≡ front ++ rest) × Joined g h front y
+  then_found : (bytes : List ℕ) (y : B) (rest : List ℕ) → (p >>= q) bytes ≡ Ok (y, rest)
+      → (front : List ℕ) × (bytes ≡ front ++ rest) × Joined g h front y
   then_found bytes y rest e =
       let s = step_ok (p bytes) (λ x. q x.0 x.1) (y, rest) e in
       let f = a.found bytes s.0.0 s.0.1 s.1 in
-      let t = (b s.0.0).found s.0.1 y rest s.2 in
-      (f.0 ++ t.0, f.1 ∙ ap (λ (l : List ℕ). f.0 ++ l) t.1 ∙ sym (append_assoc f.0 t.0 rest), record { value = s.0.0; front = f.0; back = t.0; parts = refl; is_first = f.2; is_second = t.2 })
+      let t = (b s.0.0).found s.0.1 y rest s.2 in (
+        f.0 ++ t.0,
+        f.1 ∙ ap (λ (l : List ℕ). f.0 ++ l) t.1
+            ∙ sym (append_assoc f.0 t.0 rest),
+        record { value = s.0.0; front = f.0; back = t.0; parts = refl; is_first = f.2; is_second = t.2 },
+      )
 
   then_again : (front : List ℕ) (y : B) (rest : List ℕ) → Joined g h front y → (p >>= q) (front ++ rest) ≡ Ok (y, rest)
   then_again front y rest t =
@@ -156,17 +169,26 @@ module _ {A B : Type 0} (p : Reader A) (q : A → Reader B) (g : Part A) (h : A 
   then_stops_again bytes what (inl s) = rw (a.stops_again bytes what s) refl
   then_stops_again bytes what (inr s) = rw (s.parts, a.again s.front s.value s.back s.is_first) ((b s.value).stops_again s.back what s.stops_second)
 
-pub then_agrees : {A B : Type 0} {p : Reader A} {q : A → Reader B} {g : Part A} {h : A → Part B} → Agrees p g → ((x : A) → Agrees (q x) (h x)) → Agrees (p >>= q) (part.◌>>=◌ g h)
-then_agrees {A} {B} {p} {q} {g} {h} a b = record { found = then_found p q g h a b; again = then_again p q g h a b; stopped = then_stopped p q g h a b; stops_again = then_stops_again p q g h a b }
+pub then_agrees : {A B : Type 0} {p : Reader A} {q : A → Reader B} {g : Part A} {h : A → Part B} → Agrees p g
+    → ((x : A) → Agrees (q x) (h x)) → Agrees (p >>= q) (part.◌>>=◌ g h)
+then_agrees {A} {B} {p} {q} {g} {h} a b = record {
+  found = then_found p q g h a b;
+  again = then_again p q g h a b;
+  stopped =
+      then_stopped p q g h a b;
+  stops_again = then_stops_again p q g h a b;
+}
 
 -- ---- one of two
 
-pub choose_agrees : {A : Type 0} {p q : Reader A} {g h : Part A} (test : Bool) → Agrees p g → Agrees q h → Agrees (choose_at test p q) (part.choose test g h)
+pub choose_agrees : {A : Type 0} {p q : Reader A} {g h : Part A} (test : Bool) → Agrees p g → Agrees q h
+    → Agrees (choose_at test p q) (part.choose test g h)
 choose_agrees true a b = a
 choose_agrees false a b = b
 
 -- what a value asks for, where there is one
-pub given_agrees : {A B : Type 0} {p : A → Reader B} {q : Reader B} {g : A → Part B} {h : Part B} (o : Option A) → ((x : A) → Agrees (p x) (g x)) → Agrees q h → Agrees (given_at o p q) (part.given o g h)
+pub given_agrees : {A B : Type 0} {p : A → Reader B} {q : Reader B} {g : A → Part B} {h : Part B} (o : Option A)
+    → ((x : A) → Agrees (p x) (g x)) → Agrees q h → Agrees (given_at o p q) (part.given o g h)
 given_agrees (Some x) a b = a x
 given_agrees None a b = b
 
@@ -178,7 +200,8 @@ optional_agrees false a = gives_agrees None
 -- ---- a test of the value
 
 module _ {A : Type 0} (test : A → Bool) (p : Reader A) (g : Part A) (a : Agrees p g) where
-  checked_found : (bytes : List ℕ) (y : A) (rest : List ℕ) → checked_at test p bytes ≡ Ok (y, rest) → (front : List ℕ) × (bytes ≡ front ++ rest) × (g.spells front y × IsTrue (test y))
+  checked_found : (bytes : List ℕ) (y : A) (rest : List ℕ) → checked_at test p bytes ≡ Ok (y, rest)
+      → (front : List ℕ) × (bytes ≡ front ++ rest) × (g.spells front y × IsTrue (test y))
   checked_found bytes y rest e =
       let s = step_ok (p bytes) (λ x. cond (test x.0) (Ok x) (Err Bad)) (y, rest) e in
       let t = test_ok (test s.0.0) s.0 (y, rest) s.2 in
@@ -209,7 +232,8 @@ cons_head : {A : Type 0} {x y : A} {xs ys : List A} → x ∷ xs ≡ y ∷ ys �
 cons_head e = cc
 
 module _ {A : Type 0} (p : ℕ → Reader A) (g : ℕ → Part A) (a : (b : ℕ) → Agrees (p b) (g b)) where
-  first_found : (bytes : List ℕ) (y : A) (rest : List ℕ) → first_byte_at p bytes ≡ Ok (y, rest) → (front : List ℕ) × (bytes ≡ front ++ rest) × part.FirstSpells g front y
+  first_found : (bytes : List ℕ) (y : A) (rest : List ℕ) → first_byte_at p bytes ≡ Ok (y, rest)
+      → (front : List ℕ) × (bytes ≡ front ++ rest) × part.FirstSpells g front y
   first_found [] y rest e = absurd cc
   first_found (b ∷ bytes) y rest e = let f = (a b).found bytes y rest e in (b ∷ f.0, ap (λ (l : List ℕ). b ∷ l) f.1, f.2)
 
@@ -225,8 +249,15 @@ module _ {A : Type 0} (p : ℕ → Reader A) (g : ℕ → Part A) (a : (b : ℕ)
   first_stops_again [] what s = absurd s
   first_stops_again (b ∷ bytes) what s = (a b).stops_again bytes what s
 
-pub first_byte_agrees : {A : Type 0} {p : ℕ → Reader A} {g : ℕ → Part A} → ((b : ℕ) → Agrees (p b) (g b)) → Agrees (first_byte_at p) (part.first_byte g)
-first_byte_agrees {A} {p} {g} a = record { found = first_found p g a; again = first_again p g a; stopped = first_stopped p g a; stops_again = first_stops_again p g a }
+pub first_byte_agrees : {A : Type 0} {p : ℕ → Reader A} {g : ℕ → Part A} → ((b : ℕ) → Agrees (p b) (g b))
+    → Agrees (first_byte_at p) (part.first_byte g)
+first_byte_agrees {A} {p} {g} a = record {
+  found = first_found p g a;
+  again = first_again p g a;
+  stopped = first_stopped p g a;
+  stops_again =
+      first_stops_again p g a;
+}
 
 -- a byte that says what begins with it, which is never nothing
 module _ {A : Type 0} (p : ℕ → Reader A) (g : ℕ → Part A) (a : (b : ℕ) → Agrees (p b) (g b)) (filled : (b : ℕ) (y : A) → ¬ (g b).spells [] y) where
@@ -234,7 +265,8 @@ module _ {A : Type 0} (p : ℕ → Reader A) (g : ℕ → Part A) (a : (b : ℕ)
   next_spells b bytes [] rest y e s = absurd (filled b y s)
   next_spells b bytes (c ∷ front) rest y e s = subst (λ (d : ℕ). (g d).spells (c ∷ front) y) (cons_head e) s
 
-  next_found : (bytes : List ℕ) (y : A) (rest : List ℕ) → next_byte_at p bytes ≡ Ok (y, rest) → (front : List ℕ) × (bytes ≡ front ++ rest) × part.NextSpells g front y
+  next_found : (bytes : List ℕ) (y : A) (rest : List ℕ) → next_byte_at p bytes ≡ Ok (y, rest)
+      → (front : List ℕ) × (bytes ≡ front ++ rest) × part.NextSpells g front y
   next_found [] y rest e = absurd cc
   next_found (b ∷ bytes) y rest e =
       let f = (a b).found (b ∷ bytes) y rest e in
@@ -252,8 +284,15 @@ module _ {A : Type 0} (p : ℕ → Reader A) (g : ℕ → Part A) (a : (b : ℕ)
   next_stops_again [] what s = absurd s
   next_stops_again (b ∷ bytes) what s = (a b).stops_again (b ∷ bytes) what s
 
-pub next_byte_agrees : {A : Type 0} {p : ℕ → Reader A} {g : ℕ → Part A} → ((b : ℕ) → Agrees (p b) (g b)) → ((b : ℕ) (y : A) → ¬ (g b).spells [] y) → Agrees (next_byte_at p) (part.next_byte g)
-next_byte_agrees {A} {p} {g} a filled = record { found = next_found p g a filled; again = next_again p g a filled; stopped = next_stopped p g a filled; stops_again = next_stops_again p g a filled }
+pub next_byte_agrees : {A : Type 0} {p : ℕ → Reader A} {g : ℕ → Part A} → ((b : ℕ) → Agrees (p b) (g b))
+    → ((b : ℕ) (y : A) → ¬ (g b).spells [] y) → Agrees (next_byte_at p) (part.next_byte g)
+next_byte_agrees {A} {p} {g} a filled = record {
+  found = next_found p g a filled;
+  again = next_again p g a filled;
+  stopped =
+      next_stopped p g a filled;
+  stops_again = next_stops_again p g a filled;
+}
 
 -- ---- n of them
 
@@ -287,8 +326,15 @@ module _ {A B : Type 0} (p : Reader A) (q : A → Filler B) (g : Part A) (h : A 
   fill_stops_again bytes what (inl s) = rw (a.stops_again bytes what s) refl
   fill_stops_again bytes what (inr s) = rw (s.parts, a.again s.front s.value s.back s.is_first) ((b s.value).stops_again s.back what s.stops_second)
 
-pub fill_after_fills : {A B : Type 0} {p : Reader A} {q : A → Filler B} {g : Part A} {h : A → Part B} → Agrees p g → ((x : A) → Fills (q x) (h x)) → Fills (fill_after p q) (part.◌>>=◌ g h)
-fill_after_fills {A} {B} {p} {q} {g} {h} a b = record { found = fill_found p q g h a b; again = fill_again p q g h a b; stopped = fill_stopped p q g h a b; stops_again = fill_stops_again p q g h a b }
+pub fill_after_fills : {A B : Type 0} {p : Reader A} {q : A → Filler B} {g : Part A} {h : A → Part B} → Agrees p g
+    → ((x : A) → Fills (q x) (h x)) → Fills (fill_after p q) (part.◌>>=◌ g h)
+fill_after_fills {A} {B} {p} {q} {g} {h} a b = record {
+  found = fill_found p q g h a b;
+  again = fill_again p q g h a b;
+  stopped =
+      fill_stopped p q g h a b;
+  stops_again = fill_stops_again p q g h a b;
+}
 
 pub all_bytes_fill : {A : Type 0} (f : List ℕ → A) → Fills (all_bytes_at f) (part.all_bytes_as f)
 all_bytes_fill f = record {
@@ -328,11 +374,18 @@ module _ {A : Type 0} (p : Reader A) (g : Part A) (a : Agrees p g) where
   whole_stops_again bytes what s = rw (a.stops_again bytes what s) refl
 
 pub whole_fills : {A : Type 0} {p : Reader A} {g : Part A} → Agrees p g → Fills (whole p) g
-whole_fills {A} {p} {g} a = record { found = whole_found p g a; again = whole_again p g a; stopped = whole_stopped p g a; stops_again = whole_stops_again p g a }
+whole_fills {A} {p} {g} a = record {
+  found = whole_found p g a;
+  again = whole_again p g a;
+  stopped = whole_stopped p g a;
+  stops_again =
+      whole_stops_again p g a;
+}
 
 -- the first n bytes
 module _ {A : Type 0} (p : Filler A) (g : Part A) (a : Fills p g) (n : ℕ) where
-  filled_found : (bytes : List ℕ) (y : A) (rest : List ℕ) → filled_at p n bytes ≡ Ok (y, rest) → (front : List ℕ) × (bytes ≡ front ++ rest) × ((length front ≡ n) × g.spells front y)
+  filled_found : (bytes : List ℕ) (y : A) (rest : List ℕ) → filled_at p n bytes ≡ Ok (y, rest)
+      → (front : List ℕ) × (bytes ≡ front ++ rest) × ((length front ≡ n) × g.spells front y)
   filled_found bytes y rest e =
       let s = step_ok (raw_bytes_at n bytes) (λ x. and_then (p x.0) (λ y. Ok (y, x.1))) (y, rest) e in
       let t = step_ok (p s.0.0) (λ y. Ok (y, s.0.1)) (y, rest) s.2 in
@@ -351,14 +404,26 @@ module _ {A : Type 0} (p : Filler A) (g : Part A) (a : Fills p g) (n : ℕ) wher
     | inr (x, k, l) ↦ inside x k (step_err (p x.0) (λ y. Ok (y, x.1)) (Stops what) l)
   ]
     where
-      inside : (x : List ℕ × List ℕ) → raw_bytes_at n bytes ≡ Ok x → ((p x.0 ≡ Err (Stops what)) ⊎ ((y : A) × (p x.0 ≡ Ok y) × (ok {A = A × List ℕ} (y, x.1) ≡ Err (Stops what)))) → FilledStops g n bytes what
+      inside : (x : List ℕ × List ℕ) → raw_bytes_at n bytes ≡ Ok x
+          → ((p x.0 ≡ Err (Stops what)) ⊎ ((y : A) × (p x.0 ≡ Ok y) × (ok {A = A × List ℕ} (y, x.1) ≡ Err (Stops what)))) → FilledStops g n bytes what
       inside x k (inl m) =
           let f = (raw_bytes_agree n).found bytes x.0 x.1 k in
           record { inside = x.0; after = x.1; parts = f.1 ∙ ap (λ (l : List ℕ). l ++ x.1) f.2.0; long = f.2.1; stops_inside = a.stopped x.0 what m }
       inside x k (inr (y, m, never)) = absurd (ok_not_err (y, x.1) (Stops what) never)
 
   filled_stops_again : (bytes : List ℕ) (what : What) → FilledStops g n bytes what → filled_at p n bytes ≡ Err (Stops what)
-  filled_stops_again bytes what s = rw (s.parts, (raw_bytes_agree n).again s.inside s.inside s.after (refl, s.long), a.stops_again s.inside what s.stops_inside) refl
+  filled_stops_again bytes what s = rw (
+    s.parts,
+    (raw_bytes_agree n).again s.inside s.inside s.after
+        (refl, s.long),
+    a.stops_again s.inside what s.stops_inside,
+  ) refl
 
 pub filled_agrees : {A : Type 0} {p : Filler A} {g : Part A} → Fills p g → (n : ℕ) → Agrees (filled_at p n) (part.filled g n)
-filled_agrees {A} {p} {g} a n = record { found = filled_found p g a n; again = filled_again p g a n; stopped = filled_stopped p g a n; stops_again = filled_stops_again p g a n }
+filled_agrees {A} {p} {g} a n = record {
+  found = filled_found p g a n;
+  again = filled_again p g a n;
+  stopped =
+      filled_stopped p g a n;
+  stops_again = filled_stops_again p g a n;
+}

@@ -28,7 +28,8 @@ Within P p = All P (segments_of_section (payload_of p))
 All-segments : (P : Segment → Type 0) (ps : List Payload) → All (Within P) ps → All P (segments (map payload_of ps))
 All-segments P [] all = All-nil P
 All-segments P (p ∷ ps) all =
-    All-append P (segments_of_section (payload_of p)) (segments (map payload_of ps)) (All-head (Within P) p ps all) (All-segments P ps (All-tail (Within P) p ps all))
+    All-append P (segments_of_section (payload_of p)) (segments (map payload_of ps)) (All-head (Within P) p ps all)
+    (All-segments P ps (All-tail (Within P) p ps all))
 
 All-from_segments : (P : Segment → Type 0) (ps : List Payload) → All P (segments (map payload_of ps)) → All (Within P) ps
 All-from_segments P [] all = All-nil (Within P)
@@ -40,9 +41,11 @@ All-from_segments P (p ∷ ps) all =
 -- ---- tests
 
 -- a test of the values that are seen by a view
-pub tells_of_map : {X Y : Type 0} (P : X → Type 0) (f : Y → X) (ys : List Y) (b : Bool) → IsTrue b ↔ All (λ y. P (f y)) ys → IsTrue b ↔ All P (map f ys)
+pub tells_of_map : {X Y : Type 0} (P : X → Type 0) (f : Y → X) (ys : List Y) (b : Bool) → IsTrue b ↔ All (λ y. P (f y)) ys
+    → IsTrue b ↔ All P (map f ys)
 tells_of_map P f ys b tells = (λ answered. All-map P f ys (tells.0 answered), λ all. tells.1 (All-from_map P f ys all))
 
 -- a test of section after section
-pub tells_of_segments : (P : Segment → Type 0) (ps : List Payload) (b : Bool) → IsTrue b ↔ All (Within P) ps → IsTrue b ↔ All P (segments (map payload_of ps))
+pub tells_of_segments : (P : Segment → Type 0) (ps : List Payload) (b : Bool) → IsTrue b ↔ All (Within P) ps
+    → IsTrue b ↔ All P (segments (map payload_of ps))
 tells_of_segments P ps b tells = (λ answered. All-segments P ps (tells.0 answered), λ all. tells.1 (All-from_segments P ps all))

@@ -25,12 +25,14 @@ use Rattle.wasm_form.proofs.EntryLaws.{name_agrees, import_entry_agrees, export_
 
 -- ---- sections that are no custom ones
 
-entries_agree : {A : Type 0} {p : Reader A} {g : Part A} (make : List A → Payload) → Agrees p g → Agrees (entries_at p make) (grammar.entries_as g make)
+entries_agree : {A : Type 0} {p : Reader A} {g : Part A} (make : List A → Payload) → Agrees p g
+    → Agrees (entries_at p make) (grammar.entries_as g make)
 entries_agree make a = sized_made make (vector_agrees a)
 
 code_agrees : (place : ℕ) → Agrees (code_at place) (grammar.code_at place)
 unfolding code_at
-code_agrees place = then_agrees (measured_agrees (unsigned_agrees 32)) (λ size. filled_made size.0 (Code (place + size.1)) (vector_agrees body_agrees))
+code_agrees place = then_agrees (measured_agrees (unsigned_agrees 32))
+    (λ size. filled_made size.0 (Code (place + size.1)) (vector_agrees body_agrees))
 
 section_contents_agree : (place id : ℕ) → Agrees (section_contents_at place id) (grammar.section_contents place id)
 unfolding section_contents_at
@@ -49,7 +51,8 @@ section_contents_agree place id =
     (choose_agrees (id == 10) (code_agrees place)
     (choose_agrees (id == 11) (entries_agree Segments data_segment_agrees) nothing_agrees))))))))))))
 
-placed_section_agrees : (place next id : ℕ) (order : Option ℕ) → Agrees (placed_section_at place next id order) (grammar.placed_section place next id order)
+placed_section_agrees : (place next id : ℕ) (order : Option ℕ)
+    → Agrees (placed_section_at place next id order) (grammar.placed_section place next id order)
 placed_section_agrees place next id None = nothing_agrees
 placed_section_agrees place next id (Some order) = choose_agrees (nat_le next order) (section_contents_agree (place + 1) id) nothing_agrees
 
@@ -63,7 +66,8 @@ choose_plain : (test : Bool) (g h : Part Payload) → Plain g → Plain h → Pl
 choose_plain true g h a b = a
 choose_plain false g h a b = b
 
-made_plain : {A : Type 0} (g : Part A) (make : A → Payload) → ((x : A) → IsNoInterface (make x)) → Plain (part.sized (part.◌>>=◌ g (λ x. part.gives (make x))))
+made_plain : {A : Type 0} (g : Part A) (make : A → Payload) → ((x : A) → IsNoInterface (make x))
+    → Plain (part.sized (part.◌>>=◌ g (λ x. part.gives (make x))))
 made_plain g make plain bytes p s = let inside = s.is_second.1 in subst IsNoInterface (sym inside.is_second.1) (plain inside.value)
 
 code_plain : (place : ℕ) → Plain (grammar.code_at place)
@@ -93,7 +97,8 @@ placed_section_plain place next id (Some order) = choose_plain (nat_le next orde
 
 interface_is : (n : List ℕ) → is_interface_name n ≡ true → Contains interface_names n
 interface_is n t = by_test (bytes_eq n (codes "webidl-bindings")) refl t where
-  by_test : (b : Bool) → bytes_eq n (codes "webidl-bindings") ≡ b → (b || bytes_eq n (codes "wasm-interface-types")) ≡ true → Contains interface_names n
+  by_test : (b : Bool) → bytes_eq n (codes "webidl-bindings") ≡ b → (b || bytes_eq n (codes "wasm-interface-types")) ≡ true
+      → Contains interface_names n
   by_test true e t = (0, omega arith, sym ((bytes_eq-Decides n (codes "webidl-bindings")).0 e))
   by_test false e t = (1, omega arith, sym ((bytes_eq-Decides n (codes "wasm-interface-types")).0 t))
 
@@ -114,13 +119,17 @@ is_interface n h = elim (Contains-push_cases (codes "webidl-bindings" ∷ []) (c
 
 -- a section whose custom ones are spelled otherwise behind their names
 abbrev section_by : (List ℕ → Part Payload) → ℕ → ℕ → Part Payload
-section_by after place next = part.first_byte (λ id. part.choose (id == 0) (part.sized (part.◌>>=◌ name after)) (grammar.placed_section place next id (order_of id)))
+section_by after place next = part.first_byte (λ id. part.choose (id == 0) (part.sized (part.◌>>=◌ name after))
+    (grammar.placed_section place next id (order_of id)))
 
 abbrev section_by_at : (List ℕ → Filler Payload) → ℕ → ℕ → Reader Payload
-section_by_at after place next = first_byte_at (λ id. choose_at (id == 0) (sized_at (fill_after name_at after)) (placed_section_at place next id (order_of id)))
+section_by_at after place next = first_byte_at (λ id. choose_at (id == 0) (sized_at (fill_after name_at after))
+    (placed_section_at place next id (order_of id)))
 
-section_by_agrees : {p : List ℕ → Filler Payload} {g : List ℕ → Part Payload} → ((n : List ℕ) → Fills (p n) (g n)) → (place next : ℕ) → Agrees (section_by_at p place next) (section_by g place next)
-section_by_agrees a place next = first_byte_agrees (λ id. choose_agrees (id == 0) (sized_agrees (fill_after_fills name_agrees a)) (placed_section_agrees place next id (order_of id)))
+section_by_agrees : {p : List ℕ → Filler Payload} {g : List ℕ → Part Payload} → ((n : List ℕ) → Fills (p n) (g n)) → (place next : ℕ)
+    → Agrees (section_by_at p place next) (section_by g place next)
+section_by_agrees a place next = first_byte_agrees
+    (λ id. choose_agrees (id == 0) (sized_agrees (fill_after_fills name_agrees a)) (placed_section_agrees place next id (order_of id)))
 
 -- one spelling of custom sections for another, where they hold the same
 module _ (g h : List ℕ → Part Payload) (p : Payload) (same : (n bytes : List ℕ) → (g n).spells bytes p → (h n).spells bytes p) where
@@ -133,10 +142,23 @@ module _ (g h : List ℕ → Part Payload) (p : Payload) (same : (n bytes : List
         back = s.back;
         parts = s.parts;
         is_first = s.is_first;
-        is_second = (s.is_second.0, record { value = i.value; front = i.front; back = i.back; parts = i.parts; is_first = i.is_first; is_second = same i.value i.back i.is_second });
+        is_second = (
+          s.is_second.0,
+          record {
+            value = i.value;
+            front = i.front;
+            back = i.back;
+            parts = i.parts;
+            is_first =
+                i.is_first;
+            is_second = same i.value i.back i.is_second;
+          },
+        );
       }
 
-  chosen_changed : (test : Bool) (other : Part Payload) (bytes : List ℕ) → (part.choose test (part.sized (part.◌>>=◌ name g)) other).spells bytes p → (part.choose test (part.sized (part.◌>>=◌ name h)) other).spells bytes p
+  chosen_changed : (test : Bool) (other : Part Payload) (bytes : List ℕ)
+      → (part.choose test (part.sized (part.◌>>=◌ name g)) other).spells bytes p
+      → (part.choose test (part.sized (part.◌>>=◌ name h)) other).spells bytes p
   chosen_changed true other bytes s = custom_changed bytes s
   chosen_changed false other bytes s = s
 
@@ -148,7 +170,15 @@ module _ (g h : List ℕ → Part Payload) (p : Payload) (same : (n bytes : List
 module _ (g h : List ℕ → Part Payload) (w : What) (same : (n bytes : List ℕ) → (g n).stops bytes w → (h n).stops bytes w) where
   name_stops : (bytes : List ℕ) → (part.◌>>=◌ name g).stops bytes w → (part.◌>>=◌ name h).stops bytes w
   name_stops bytes (inl s) = inl s
-  name_stops bytes (inr s) = inr (record { value = s.value; front = s.front; back = s.back; parts = s.parts; is_first = s.is_first; stops_second = same s.value s.back s.stops_second })
+  name_stops bytes (inr s) = inr (record {
+    value = s.value;
+    front = s.front;
+    back = s.back;
+    parts = s.parts;
+    is_first =
+        s.is_first;
+    stops_second = same s.value s.back s.stops_second;
+  })
 
   custom_stops : (bytes : List ℕ) → (part.sized (part.◌>>=◌ name g)).stops bytes w → (part.sized (part.◌>>=◌ name h)).stops bytes w
   custom_stops bytes (inl s) = inl s
@@ -160,10 +190,19 @@ module _ (g h : List ℕ → Part Payload) (w : What) (same : (n bytes : List �
         back = s.back;
         parts = s.parts;
         is_first = s.is_first;
-        stops_second = record { inside = i.inside; after = i.after; parts = i.parts; long = i.long; stops_inside = name_stops i.inside i.stops_inside };
+        stops_second = record {
+          inside = i.inside;
+          after = i.after;
+          parts = i.parts;
+          long = i.long;
+          stops_inside =
+              name_stops i.inside i.stops_inside;
+        };
       })
 
-  chosen_stops : (test : Bool) (other : Part Payload) (bytes : List ℕ) → (part.choose test (part.sized (part.◌>>=◌ name g)) other).stops bytes w → (part.choose test (part.sized (part.◌>>=◌ name h)) other).stops bytes w
+  chosen_stops : (test : Bool) (other : Part Payload) (bytes : List ℕ)
+      → (part.choose test (part.sized (part.◌>>=◌ name g)) other).stops bytes w
+      → (part.choose test (part.sized (part.◌>>=◌ name h)) other).stops bytes w
   chosen_stops true other bytes s = custom_stops bytes s
   chosen_stops false other bytes s = s
 
@@ -181,8 +220,15 @@ pub section_taken : ℕ → ℕ → Part Payload
 section_taken place next = section_by custom_taken place next
 
 custom_taken_fills : (n : List ℕ) → Fills (custom_after_at n) (custom_taken n)
-custom_taken_fills n = record { found = λ bytes p e. found (is_interface_name n) refl bytes p e; again = again; stopped = λ bytes w e. stopped (is_interface_name n) refl bytes w e; stops_again = stops_again } where
-  found : (t : Bool) → is_interface_name n ≡ t → (bytes : List ℕ) (p : Payload) → cond t (err (Stops what.InterfaceTypes)) (Ok (Custom n bytes)) ≡ Ok p → (p ≡ Custom n bytes) × (¬ Contains interface_names n)
+custom_taken_fills n = record {
+  found = λ bytes p e. found (is_interface_name n) refl bytes p e;
+  again = again;
+  stopped =
+      λ bytes w e. stopped (is_interface_name n) refl bytes w e;
+  stops_again = stops_again;
+} where
+  found : (t : Bool) → is_interface_name n ≡ t → (bytes : List ℕ) (p : Payload)
+      → cond t (err (Stops what.InterfaceTypes)) (Ok (Custom n bytes)) ≡ Ok p → (p ≡ Custom n bytes) × (¬ Contains interface_names n)
   found true t bytes p e = absurd (ok_not_err p (Stops what.InterfaceTypes) (sym e))
   found false t bytes p e = (sym (ok_is (Custom n bytes) p e), λ h. let both : true ≡ false = sym (is_interface n h) ∙ t in absurd cc)
 
@@ -192,7 +238,8 @@ custom_taken_fills n = record { found = λ bytes p e. found (is_interface_name n
     | inr f ↦ rw (f, s.0) refl
   ]
 
-  stopped : (t : Bool) → is_interface_name n ≡ t → (bytes : List ℕ) (w : What) → cond t (err (Stops what.InterfaceTypes)) (Ok (Custom n bytes)) ≡ Err (Stops w) → Contains interface_names n × (w ≡ what.InterfaceTypes)
+  stopped : (t : Bool) → is_interface_name n ≡ t → (bytes : List ℕ) (w : What)
+      → cond t (err (Stops what.InterfaceTypes)) (Ok (Custom n bytes)) ≡ Err (Stops w) → Contains interface_names n × (w ≡ what.InterfaceTypes)
   stopped true t bytes w e = (interface_is n t, same w e) where
     same : (w : What) → err {A = Payload} (Stops what.InterfaceTypes) ≡ Err (Stops w) → w ≡ what.InterfaceTypes
     same w e = cc
@@ -206,18 +253,26 @@ unfolding section_at custom_contents_at section_taken
 section_agrees place next = section_by_agrees custom_taken_fills place next
 
 -- what is taken is spelled, and holds no interface types
-pub taken_spells : (place next : ℕ) (bytes : List ℕ) (p : Payload) → (section_taken place next).spells bytes p → (grammar.section place next).spells bytes p × IsNoInterface p
+pub taken_spells : (place next : ℕ) (bytes : List ℕ) (p : Payload) → (section_taken place next).spells bytes p
+    → (grammar.section place next).spells bytes p × IsNoInterface p
 unfolding section_taken
 taken_spells place next [] p s = absurd s
-taken_spells place next (id ∷ bytes) p s = (section_changed custom_taken grammar.custom_after p (λ n bytes t. t.0) place next (id ∷ bytes) s, plain (id == 0) s) where
-  plain : (test : Bool) → (part.choose test (part.sized (part.◌>>=◌ name custom_taken)) (grammar.placed_section place next id (order_of id))).spells bytes p → IsNoInterface p
+taken_spells place next (id ∷ bytes) p s = (
+  section_changed custom_taken grammar.custom_after p (λ n bytes t. t.0) place next
+      (id ∷ bytes) s,
+  plain (id == 0) s,
+) where
+  plain : (test : Bool) → (part.choose test (part.sized (part.◌>>=◌ name custom_taken))
+      (grammar.placed_section place next id (order_of id))).spells bytes p → IsNoInterface p
   plain true s = let last = s.is_second.1.is_second in subst IsNoInterface (sym last.0) last.1
   plain false s = placed_section_plain place next id (order_of id) bytes p s
 
-pub spelled_is_taken : (place next : ℕ) (bytes : List ℕ) (p : Payload) → (grammar.section place next).spells bytes p → IsNoInterface p → (section_taken place next).spells bytes p
+pub spelled_is_taken : (place next : ℕ) (bytes : List ℕ) (p : Payload) → (grammar.section place next).spells bytes p → IsNoInterface p
+    → (section_taken place next).spells bytes p
 unfolding section_taken
 spelled_is_taken place next bytes p s none =
-    section_changed grammar.custom_after custom_taken p (λ n bytes e. (e, let Q : Payload → Type 0 = IsNoInterface in subst Q e none)) place next bytes s
+    section_changed grammar.custom_after custom_taken p
+    (λ n bytes e. (e, let Q : Payload → Type 0 = IsNoInterface in subst Q e none)) place next bytes s
 
 -- ---- where reading stops
 
@@ -252,16 +307,28 @@ plain_or_stops place next (id ∷ front) p s = by_test (id == 0) s where
             after = rest;
             parts = refl;
             long = s.is_second.0;
-            stops_inside = inr (record { value = i.value; front = i.front; back = i.back; parts = i.parts; is_first = i.is_first; stops_second = (named, refl) });
+            stops_inside = inr (record {
+              value = i.value;
+              front = i.front;
+              back = i.back;
+              parts = i.parts;
+              is_first =
+                  i.is_first;
+              stops_second = (named, refl);
+            });
           };
         }),
       )
   by_name s false t =
       let i = s.is_second.1 in
-      inl (let Q : Payload → Type 0 = IsNoInterface in subst Q (sym i.is_second) (λ h. let both : true ≡ false = sym (is_interface i.value h) ∙ t in absurd cc))
+      inl (let Q : Payload → Type 0 = IsNoInterface in
+      subst Q (sym i.is_second) (λ h. let both : true ≡ false = sym (is_interface i.value h) ∙ t in absurd cc))
 
-  by_test : (test : Bool) → (part.choose test (part.sized grammar.custom_contents) (grammar.placed_section place next id (order_of id))).spells front p
-      → IsNoInterface p ⊎ ((¬ IsNoInterface p) × ((rest : List ℕ) → (part.choose test (part.sized grammar.custom_contents) (grammar.placed_section place next id (order_of id))).stops (front ++ rest) what.InterfaceTypes))
+  by_test : (test : Bool) → (part.choose test (part.sized grammar.custom_contents)
+      (grammar.placed_section place next id (order_of id))).spells front p
+      → IsNoInterface p ⊎ ((¬ IsNoInterface p) × ((rest : List ℕ)
+      → (part.choose test (part.sized grammar.custom_contents) (grammar.placed_section place next id (order_of id))).stops
+      (front ++ rest) what.InterfaceTypes))
   by_test true s = by_name s (is_interface_name s.is_second.1.value) refl
   by_test false s = inl (placed_section_plain place next id (order_of id) front p s)
 
@@ -272,9 +339,11 @@ abbrev any_custom : List ℕ → Part Payload
 any_custom n = part.all_bytes_as (Custom n)
 
 -- what is spelled at the front of bytes is spelled there once
-pub section_once : (place next : ℕ) (f g b c : List ℕ) (p q : Payload) → (grammar.section place next).spells f p → (grammar.section place next).spells g q → f ++ b ≡ g ++ c → (p ≡ q) × (b ≡ c)
+pub section_once : (place next : ℕ) (f g b c : List ℕ) (p q : Payload) → (grammar.section place next).spells f p
+    → (grammar.section place next).spells g q → f ++ b ≡ g ++ c → (p ≡ q) × (b ≡ c)
 section_once place next f g b c p q s t e =
-    let agrees : Agrees (section_by_at (λ n. all_bytes_at (Custom n)) place next) (section_by any_custom place next) = section_by_agrees (λ n. all_bytes_fill (Custom n)) place next in
+    let agrees : Agrees (section_by_at (λ n. all_bytes_at (Custom n)) place next) (section_by any_custom place next) =
+    section_by_agrees (λ n. all_bytes_fill (Custom n)) place next in
     let one = agrees.again f p b (section_changed grammar.custom_after any_custom p (λ n l h. h) place next f s) in
     let other = agrees.again g q c (section_changed grammar.custom_after any_custom q (λ n l h. h) place next g t) in
     let same : (p, b) ≡ (q, c) = ok_is (p, b) (q, c) (sym one ∙ ap (section_by_at (λ n. all_bytes_at (Custom n)) place next) e ∙ other) in

@@ -26,16 +26,19 @@ begun-same a b c d l r e f = cc
 
 after-cons : (s w l b : ℕ) (p : List ℕ × List ℕ) → after s w l (b ∷ p.0, p.1) ≡ after (s + b % 128 * w) (w * 128) b p
 after-cons s w l b p =
-    begun-same _ _ _ _ (last_or b p.0) p.1 (sum-cons s w (b % 128) (sevens p.0)) (rw (pow-succ' 128 (length p.0)) (sym (mul_assoc w 128 (128 ^ length p.0))))
+    begun-same _ _ _ _ (last_or b p.0) p.1 (sum-cons s w (b % 128) (sevens p.0))
+    (rw (pow-succ' 128 (length p.0)) (sym (mul_assoc w 128 (128 ^ length p.0))))
 
-after-map : (s w l b : ℕ) (o : Option (List ℕ × List ℕ)) → option_map (after s w l) (option_map (λ p. (b ∷ p.0, p.1)) o) ≡ option_map (after (s + b % 128 * w) (w * 128) b) o
+after-map : (s w l b : ℕ) (o : Option (List ℕ × List ℕ))
+    → option_map (after s w l) (option_map (λ p. (b ∷ p.0, p.1)) o) ≡ option_map (after (s + b % 128 * w) (w * 128) b) o
 after-map s w l b None = refl
 after-map s w l b (Some p) = ap Some (after-cons s w l b p)
 
 goes_on : (s w l k b : ℕ) (bs : List ℕ) → 128 ≤ b → remaining s w l (suc k) (b ∷ bs) ≡ remaining (s + b % 128 * w) (w * 128) b k bs
 goes_on s w l k b bs h = rw (le-ltb b 128 h) (after-map s w l b (number_bytes k bs))
 
-ends : (s w l k b : ℕ) (bs : List ℕ) → b < 128 → remaining s w l (suc k) (b ∷ bs) ≡ Some (record { sum = s + b % 128 * w; weight = w * 128; last = b }, bs)
+ends : (s w l k b : ℕ) (bs : List ℕ) → b < 128 → remaining s w l (suc k) (b ∷ bs)
+    ≡ Some (record { sum = s + b % 128 * w; weight = w * 128; last = b }, bs)
 ends s w l k b bs h = rw (lt-ltb b 128 h) (ap (λ (n : ℕ). Some (record { sum = n; weight = w * 128; last = b }, bs)) (grind arith))
 
 begins : (p : List ℕ × List ℕ) → after 0 1 0 p ≡ found_as p

@@ -33,7 +33,10 @@ number_takes k = record { takes = some } where
   some (b ∷ bytes) n s = omega arith
 
 then_takes : {A B : Type 0} (first : Part A) (second : A → Part B) → TakesBytes first → TakesBytes (first >>= second)
-then_takes first second t = record { takes = λ bytes x s. let n = t.takes s.front s.value s.is_first in omega (arith, ap length s.parts, length-append s.front s.back) }
+then_takes first second t = record {
+  takes = λ bytes x s. let n = t.takes s.front s.value s.is_first in
+      omega (arith, ap length s.parts, length-append s.front s.back);
+}
 
 name_takes : TakesBytes name
 name_takes = let t = then_takes (unsigned 32) _ (number_takes 32) in record { takes = λ bytes x s. t.takes bytes x s.0 }
@@ -67,7 +70,8 @@ total count (x ∷ xs) = count x + total count xs
 abbrev CountsBytes : {A : Type 0} → (A → ℕ) → Part A → Type 0
 CountsBytes {A} count part = (bytes : List ℕ) (x : A) → part.spells bytes x → count x ≤ length bytes
 
-elements_count : {A : Type 0} (count : A → ℕ) (part : Part A) → CountsBytes count part → (n : ℕ) (bytes : List ℕ) (xs : List A) → (elements part n).spells bytes xs → total count xs ≤ length bytes
+elements_count : {A : Type 0} (count : A → ℕ) (part : Part A) → CountsBytes count part → (n : ℕ) (bytes : List ℕ) (xs : List A)
+    → (elements part n).spells bytes xs → total count xs ≤ length bytes
 elements_count count part counts zero bytes xs s = rw s.1 (omega arith)
 elements_count count part counts (suc n) bytes xs s =
     let first = counts s.front s.value s.is_first in
@@ -75,7 +79,8 @@ elements_count count part counts (suc n) bytes xs s =
     let others = elements_count count part counts n t.front t.value t.is_first in
     rw t.is_second.1 (omega (arith, ap length s.parts, length-append s.front s.back, ap length t.parts, length-append t.front t.back))
 
-vector_counts : {A : Type 0} (count : A → ℕ) (part : Part A) → CountsBytes count part → (bytes : List ℕ) (xs : List A) → (vector part).spells bytes xs → total count xs ≤ length bytes
+vector_counts : {A : Type 0} (count : A → ℕ) (part : Part A) → CountsBytes count part → (bytes : List ℕ) (xs : List A)
+    → (vector part).spells bytes xs → total count xs ≤ length bytes
 vector_counts count part counts bytes xs s =
     let n = elements_count count part counts s.value s.back xs s.is_second in
     omega (arith, ap length s.parts, length-append s.front s.back)
@@ -85,13 +90,15 @@ total_ones [] = refl
 total_ones (x ∷ xs) = let ones = total_ones xs in omega (arith, ones)
 
 -- elements that take bytes are no more than their bytes
-vector_few : {A : Type 0} (part : Part A) → TakesBytes part → (bytes : List ℕ) (xs : List A) → (vector part).spells bytes xs → length xs ≤ length bytes
+vector_few : {A : Type 0} (part : Part A) → TakesBytes part → (bytes : List ℕ) (xs : List A) → (vector part).spells bytes xs
+    → length xs ≤ length bytes
 vector_few part t bytes xs s = let n = vector_counts (λ x. 1) part t.takes bytes xs s in omega (arith, n, total_ones xs)
 
 -- ---- groups of types
 
 -- a choice is one of the two
-chosen : {A : Type 0} (b : Bool) (p q : Part A) (bytes : List ℕ) (x : A) (n : ℕ) → (p.spells bytes x → n ≤ length bytes) → (q.spells bytes x → n ≤ length bytes) → (choose b p q).spells bytes x → n ≤ length bytes
+chosen : {A : Type 0} (b : Bool) (p q : Part A) (bytes : List ℕ) (x : A) (n : ℕ) → (p.spells bytes x → n ≤ length bytes)
+    → (q.spells bytes x → n ≤ length bytes) → (choose b p q).spells bytes x → n ≤ length bytes
 chosen true p q bytes x n one other s = one s
 chosen false p q bytes x n one other s = other s
 
@@ -102,7 +109,8 @@ one_member b bytes g s = ap length s.is_second.1
 group_counts : CountsBytes length group
 group_counts [] g s = absurd s
 group_counts (b ∷ bytes) g s = by_first (b == 0x4E) s where
-  by_first : (many : Bool) → (choose many (vector (first_byte sub_type_after)) (sub_type_after b >>= λ t. gives (t ∷ []))).spells bytes g → length g ≤ length (b ∷ bytes)
+  by_first : (many : Bool) → (choose many (vector (first_byte sub_type_after)) (sub_type_after b >>= λ t. gives (t ∷ []))).spells bytes g
+      → length g ≤ length (b ∷ bytes)
   by_first true s = let n = vector_few (first_byte sub_type_after) (first_takes sub_type_after) bytes g s in omega (arith, n)
   by_first false s = let n = one_member b bytes g s in omega (arith, n)
 
@@ -118,18 +126,21 @@ groups_few bytes gs s = let n = vector_counts length group group_counts bytes gs
 -- how many entries a section has in all lists together
 abbrev entries : Payload → ℕ
 entries p =
-    length (flat_map (λ g. g) (groups_of_section p)) + length (imports_of_section p) + length (function_types_of_section p) + length (tables_of_section p)
+    length (flat_map (λ g. g) (groups_of_section p)) + length (imports_of_section p) + length (function_types_of_section p)
+    + length (tables_of_section p)
     + length (memories_of_section p) + length (tags_of_section p) + length (globals_of_section p) + length (segments_of_section p)
 
 -- what is made of a list has as many entries as its bytes at most
 abbrev Few : (List ℕ → Payload → Type 0) → Type 0
 Few spelled = (bytes : List ℕ) (p : Payload) → spelled bytes p → entries p ≤ length bytes
 
-entries_as_few : {A : Type 0} (part : Part A) (make : List A → Payload) → ((bytes : List ℕ) (xs : List A) → (vector part).spells bytes xs → entries (make xs) ≤ length bytes) → Few (entries_as part make).spells
+entries_as_few : {A : Type 0} (part : Part A) (make : List A → Payload)
+    → ((bytes : List ℕ) (xs : List A) → (vector part).spells bytes xs → entries (make xs) ≤ length bytes) → Few (entries_as part make).spells
 entries_as_few part make few bytes p s =
     let inside = s.is_second.1 in
     let n = few inside.front inside.value inside.is_first in
-    rw inside.is_second.1 (omega (arith, n, ap length s.parts, length-append s.front s.back, ap length inside.parts, length-append inside.front inside.back))
+    rw inside.is_second.1
+    (omega (arith, n, ap length s.parts, length-append s.front s.back, ap length inside.parts, length-append inside.front inside.back))
 
 types_few : Few (entries_as group Types).spells
 types_few = entries_as_few group Types (λ bytes gs s. let n = groups_few bytes gs s in omega (arith, n))
@@ -138,7 +149,8 @@ imports_few : Few (entries_as import_entry Imports).spells
 imports_few = entries_as_few import_entry Imports (λ bytes is s. let n = vector_few import_entry import_entry_takes bytes is s in omega (arith, n))
 
 function_types_few : Few (entries_as (unsigned 32) FunctionTypes).spells
-function_types_few = entries_as_few (unsigned 32) FunctionTypes (λ bytes ts s. let n = vector_few (unsigned 32) (number_takes 32) bytes ts s in omega (arith, n))
+function_types_few = entries_as_few (unsigned 32) FunctionTypes
+    (λ bytes ts s. let n = vector_few (unsigned 32) (number_takes 32) bytes ts s in omega (arith, n))
 
 tables_few : Few (entries_as table_entry Tables).spells
 tables_few = entries_as_few table_entry Tables (λ bytes ts s. let n = vector_few table_entry table_entry_takes bytes ts s in omega (arith, n))
@@ -192,11 +204,13 @@ contents_few place id bytes p =
 
 placed_few : (place next id : ℕ) (o : Option ℕ) → Few (placed_section place next id o).spells
 placed_few place next id None bytes p s = absurd s
-placed_few place next id (Some order) bytes p s = chosen (nat_le next order) _ _ bytes p (entries p) (contents_few (place + 1) id bytes p) (λ t. absurd t) s
+placed_few place next id (Some order) bytes p s = chosen (nat_le next order) _ _ bytes p (entries p) (contents_few (place + 1) id bytes p)
+    (λ t. absurd t) s
 
 section_few : (place next : ℕ) → Few (section place next).spells
 section_few place next [] p s = absurd s
-section_few place next (id ∷ bytes) p s = let n = chosen (id == 0) _ _ bytes p (entries p) (customs_few bytes p) (placed_few place next id (order_of id) bytes p) s in omega (arith, n)
+section_few place next (id ∷ bytes) p s = let n = chosen (id == 0) _ _ bytes p (entries p) (customs_few bytes p)
+    (placed_few place next id (order_of id) bytes p) s in omega (arith, n)
 
 -- ---- modules
 
@@ -204,14 +218,17 @@ section_few place next (id ∷ bytes) p s = let n = chosen (id == 0) _ _ bytes p
 abbrev all_entries : Module → ℕ
 all_entries m =
     length (types m) + length (imports m) + length (flat_map function_types_of_section m) + length (flat_map tables_of_section m)
-    + length (flat_map memories_of_section m) + length (flat_map tags_of_section m) + length (flat_map globals_of_section m) + length (flat_map segments_of_section m)
+    + length (flat_map memories_of_section m) + length (flat_map tags_of_section m) + length (flat_map globals_of_section m)
+    + length (flat_map segments_of_section m)
 
 -- of one list, the entries of the first section and those of the others
-one_list : {A : Type 0} (list : Payload → List A) (p : Payload) (ps : Module) → length (flat_map list (p ∷ ps)) ≡ length (list p) + length (flat_map list ps)
+one_list : {A : Type 0} (list : Payload → List A) (p : Payload) (ps : Module)
+    → length (flat_map list (p ∷ ps)) ≡ length (list p) + length (flat_map list ps)
 one_list list p ps = length-append (list p) (flat_map list ps)
 
 all_types : (p : Payload) (ps : Module) → length (types (p ∷ ps)) ≡ length (flat_map (λ g. g) (groups_of_section p)) + length (types ps)
-all_types p ps = ap length (flat_map-append (λ (g : Group UnpackedIndex). g) (groups_of_section p) (groups ps)) ∙ length-append (flat_map (λ g. g) (groups_of_section p)) (types ps)
+all_types p ps = ap length (flat_map-append (λ (g : Group UnpackedIndex). g) (groups_of_section p) (groups ps))
+    ∙ length-append (flat_map (λ g. g) (groups_of_section p)) (types ps)
 
 all_more : (p : Payload) (ps : Module) → all_entries (p ∷ ps) ≡ entries p + all_entries ps
 all_more p ps =
@@ -238,12 +255,14 @@ sections_few (p ∷ ps) place next bytes (front, back, parts, is, later) =
 imported_few : {A : Type 0} (kind : TypeRef → Option A) (is : List Import) → length (filter_map (λ i. kind i.type) is) ≤ length is
 imported_few kind [] = omega arith
 imported_few {A} kind (i ∷ is) = by_kind (kind i.type) (imported_few kind is) where
-  by_kind : (o : Option A) → length (filter_map (λ j. kind j.type) is) ≤ length is → length (cons_option o (filter_map (λ j. kind j.type) is)) ≤ length (i ∷ is)
+  by_kind : (o : Option A) → length (filter_map (λ j. kind j.type) is) ≤ length is
+      → length (cons_option o (filter_map (λ j. kind j.type) is)) ≤ length (i ∷ is)
   by_kind None few = omega (arith, few)
   by_kind (Some x) few = omega (arith, few)
 
 -- an index space is no longer than the imports and what is defined
-space_few : {A : Type 0} (kind : TypeRef → Option A) (m : Module) (defined : List A) → length (imported_of kind m ++ defined) ≤ length (imports m) + length defined
+space_few : {A : Type 0} (kind : TypeRef → Option A) (m : Module) (defined : List A)
+    → length (imported_of kind m ++ defined) ≤ length (imports m) + length defined
 space_few kind m defined = let n = imported_few kind (imports m) in omega (arith, n, length-append (imported_of kind m) defined)
 
 pub few_entries : (bytes : List ℕ) (m : Module) → Spells bytes m → length bytes < 2 ^ 30 → HasFewEntries m
@@ -254,9 +273,11 @@ few_entries bytes m s short =
       types = omega (arith, n);
       imports = omega (arith, n);
       functions = let f = space_few function_import m (flat_map function_types_of_section m) in omega (arith, n, f);
-      tables = let f = space_few table_import m (map (λ t. t.type) (flat_map tables_of_section m)) in omega (arith, n, f, length-map (flat_map tables_of_section m) (λ t. t.type));
+      tables = let f = space_few table_import m (map (λ t. t.type) (flat_map tables_of_section m)) in
+          omega (arith, n, f, length-map (flat_map tables_of_section m) (λ t. t.type));
       memories = let f = space_few memory_import m (flat_map memories_of_section m) in omega (arith, n, f);
-      globals = let f = space_few global_import m (map (λ g. g.type) (flat_map globals_of_section m)) in omega (arith, n, f, length-map (flat_map globals_of_section m) (λ g. g.type));
+      globals = let f = space_few global_import m (map (λ g. g.type) (flat_map globals_of_section m)) in
+          omega (arith, n, f, length-map (flat_map globals_of_section m) (λ g. g.type));
       tags = let f = space_few tag_import m (flat_map tags_of_section m) in omega (arith, n, f);
       segments = omega (arith, n);
     }

@@ -34,7 +34,8 @@ imported_after_agrees b =
 
 pub import_entry_agrees : Agrees import_entry_at grammar.import_entry
 unfolding import_entry_at
-import_entry_agrees = then_agrees name_agrees (λ space. then_agrees name_agrees (λ field. then_agrees (first_byte_agrees imported_after_agrees) (λ type. gives_agrees _)))
+import_entry_agrees = then_agrees name_agrees (λ space. then_agrees name_agrees
+    (λ field. then_agrees (first_byte_agrees imported_after_agrees) (λ type. gives_agrees _)))
 
 external_kind_agrees : Agrees external_kind_at grammar.external_kind
 unfolding external_kind_at
@@ -47,14 +48,16 @@ external_kind_agrees = first_byte_agrees (λ b.
 
 pub export_entry_agrees : Agrees export_entry_at grammar.export_entry
 unfolding export_entry_at
-export_entry_agrees = then_agrees name_agrees (λ text. then_agrees external_kind_agrees (λ kind. then_agrees (unsigned_agrees 32) (λ index. gives_agrees _)))
+export_entry_agrees = then_agrees name_agrees (λ text. then_agrees external_kind_agrees
+    (λ kind. then_agrees (unsigned_agrees 32) (λ index. gives_agrees _)))
 
 -- ---- tables and globals
 
 initialised_table_agrees : Agrees initialised_table_at grammar.initialised_table
 unfolding initialised_table_at
 initialised_table_agrees =
-    first_byte_agrees (λ zero. choose_agrees (zero == 0x00) (then_agrees table_type_agrees (λ t. then_agrees expression_agrees (λ e. gives_agrees _))) nothing_agrees)
+    first_byte_agrees (λ zero. choose_agrees (zero == 0x00)
+    (then_agrees table_type_agrees (λ t. then_agrees expression_agrees (λ e. gives_agrees _))) nothing_agrees)
 
 pub table_entry_agrees : Agrees table_entry_at grammar.table_entry
 unfolding table_entry_at
@@ -96,7 +99,8 @@ flagged_element_agrees flag =
     (choose_agrees (flag == 3) (after_function_kind_agrees (functions_as_agree DeclaredElement))
     (choose_agrees (flag == 4) (then_agrees (active_in_agrees None) (λ kind. expressions_as_agree kind funcref))
     (choose_agrees (flag == 5) (then_agrees reference_type_agrees (λ type. expressions_as_agree PassiveElement type))
-    (choose_agrees (flag == 6) (then_agrees active_in_named_agrees (λ kind. then_agrees reference_type_agrees (λ type. expressions_as_agree kind type)))
+    (choose_agrees (flag == 6) (then_agrees active_in_named_agrees
+    (λ kind. then_agrees reference_type_agrees (λ type. expressions_as_agree kind type)))
     (choose_agrees (flag == 7) (then_agrees reference_type_agrees (λ type. expressions_as_agree DeclaredElement type))
     nothing_agrees)))))))
 

@@ -7,12 +7,14 @@ use Rattle.wasm_form.specs.Reading.{and_then, Fault}
 abbrev pub with_front : {A : Type 0} → List A → Result (List A × List ℕ) Fault → Result (List A × List ℕ) Fault
 with_front front read = and_then read (λ x. Ok (front ++ x.0, x.1))
 
-pub regroup : {A : Type 0} (front : List A) (n : A) (read : Result (List A × List ℕ) Fault) → with_front front (and_then read (λ x. Ok (n ∷ x.0, x.1))) ≡ with_front (front ++ n ∷ []) read
+pub regroup : {A : Type 0} (front : List A) (n : A) (read : Result (List A × List ℕ) Fault)
+    → with_front front (and_then read (λ x. Ok (n ∷ x.0, x.1))) ≡ with_front (front ++ n ∷ []) read
 regroup {A} front n (Ok x) = ap (λ (ns : List A). Ok (ns, x.1)) (simp append_assoc)
 regroup front n (Err f) = refl
 
 -- what is read is what was read before, and nothing more
-pub so_far_ends : {A : Type 0} (front : List A) (bytes : List ℕ) (total : Result (List A × List ℕ) Fault) → with_front front (Ok ([], bytes)) ≡ total → total ≡ Ok (front, bytes)
+pub so_far_ends : {A : Type 0} (front : List A) (bytes : List ℕ) (total : Result (List A × List ℕ) Fault)
+    → with_front front (Ok ([], bytes)) ≡ total → total ≡ Ok (front, bytes)
 so_far_ends {A} front bytes total e = sym e ∙ ap (λ (xs : List A). Ok (xs, bytes)) (append-nil front)
 
 -- nothing was read before

@@ -25,18 +25,21 @@ not_memory (Global type) other = refl
 not_memory (Tag type) other = refl
 
 -- one import more
-pub memories_of_more_imports : (front : List MemoryType) (is : List Import) (k : ℕ) (d : Import) (o : Option MemoryType) → k < length is → memory_import (get_or is k d).ty ≡ o
+pub memories_of_more_imports : (front : List MemoryType) (is : List Import) (k : ℕ) (d : Import) (o : Option MemoryType) → k < length is
+    → memory_import (get_or is k d).ty ≡ o
     → front ++ memories_among (map import_of (take (k + 1) is)) ≡ (front ++ memories_among (map import_of (take k is))) ++ cons_option o []
 memories_of_more_imports front is k d o lt imported =
     let before = map import_of (take k is) in
     ap (λ (js : List plain.Import). front ++ memories_among js) (map_more import_of is k d lt)
-    ∙ ap (λ (ts : List MemoryType). front ++ ts) (filter_map-append (λ (i : plain.Import). memory_import i.type) before (import_of (get_or is k d) ∷ []))
+    ∙ ap (λ (ts : List MemoryType). front ++ ts) (filter_map-append (λ (i : plain.Import). memory_import i.type) before
+    (import_of (get_or is k d) ∷ []))
     ∙ ap (λ (x : Option MemoryType). front ++ (memories_among before ++ cons_option x [])) imported
     ∙ sym (append_assoc front (memories_among before) (cons_option o []))
 
 -- one section more
 pub imported_memories_of_more : (ps : List Payload) (k : ℕ) (p : Payload) → k < length ps → p ≡ get_or ps k p
-    → imported_memories (map payload_of (take (k + 1) ps)) ≡ imported_memories (map payload_of (take k ps)) ++ memories_among (imports_of_section (payload_of p))
+    → imported_memories (map payload_of (take (k + 1) ps))
+    ≡ imported_memories (map payload_of (take k ps)) ++ memories_among (imports_of_section (payload_of p))
 imported_memories_of_more ps k p lt at =
     let before = map payload_of (take k ps) in
     ap imported_memories (map_more payload_of ps k p lt ∙ ap (λ (x : Payload). before ++ payload_of x ∷ []) (sym at))

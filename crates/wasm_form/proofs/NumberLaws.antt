@@ -37,7 +37,8 @@ number_found : (k : ℕ) (bytes : List ℕ) (p : List ℕ × List ℕ) → numbe
 number_found zero bytes p e = absurd cc
 number_found (suc k) [] p e = absurd cc
 number_found (suc k) (b ∷ bs) p e = by_test (λ q n. number_found k bs q n) (ltb b 128) refl where
-  prefix : ((q : List ℕ × List ℕ) → number_bytes k bs ≡ Some q → IsNumber k bs q) → (o : Option (List ℕ × List ℕ)) → number_bytes k bs ≡ o → 128 ≤ b → option_map (λ q. (b ∷ q.0, q.1)) o ≡ Some p → IsNumber (suc k) (b ∷ bs) p
+  prefix : ((q : List ℕ × List ℕ) → number_bytes k bs ≡ Some q → IsNumber k bs q) → (o : Option (List ℕ × List ℕ)) → number_bytes k bs ≡ o
+      → 128 ≤ b → option_map (λ q. (b ∷ q.0, q.1)) o ≡ Some p → IsNumber (suc k) (b ∷ bs) p
   prefix ih None n h f = absurd cc
   prefix ih (Some q) n h f = subst (IsNumber (suc k) (b ∷ bs)) (some_is (b ∷ q.0, q.1) p f) (more_number k b bs q h (ih q n))
 
@@ -63,8 +64,17 @@ module _ (k : ℕ) where
       let is = number_found (most_bytes k) bytes p n in
       let g = test_ok (ltb (sevens p.0) (2 ^ k)) (sevens p.0, p.1) (x, rest) e in
       let v : sevens p.0 ≡ x = ap (λ (q : ℕ × List ℕ). q.0) g.1 in
-      let r : p.1 ≡ rest = ap (λ (q : ℕ × List ℕ). q.1) g.1 in
-      (p.0, is.parts ∙ ap (λ (l : List ℕ). p.0 ++ l) r, record { form = is.form; short = is.short; value = sym v; fits = rw (← v) (ltb-true _ _ g.0) })
+      let r : p.1 ≡ rest = ap (λ (q : ℕ × List ℕ). q.1) g.1 in (
+        p.0,
+        is.parts ∙ ap (λ (l : List ℕ). p.0 ++ l) r,
+        record {
+          form = is.form;
+          short = is.short;
+          value = sym v;
+          fits =
+              rw (← v) (ltb-true _ _ g.0);
+        },
+      )
 
   unsigned_never : (o : Option (List ℕ × List ℕ)) (what : What) → unsigned_from k (option_map found_as o) ≡ Err (Stops what) → ⊥
   unsigned_never None what e = bad_not_stops what e
@@ -109,8 +119,18 @@ module _ (k : ℕ) where
       let g = test_ok (in_range (signed_sum p.0)) (signed_sum p.0, p.1) (x, rest) e in
       let t = both_true _ _ g.0 in
       let v : signed_sum p.0 ≡ x = ap (λ (q : ℤ × List ℕ). q.0) g.1 in
-      let r : p.1 ≡ rest = ap (λ (q : ℤ × List ℕ). q.1) g.1 in
-      (p.0, is.parts ∙ ap (λ (l : List ℕ). p.0 ++ l) r, record { form = is.form; short = is.short; value = sym v; low = rw (← v) (le_z_yes t.0); high = rw (← v) (lt_z_yes t.1) })
+      let r : p.1 ≡ rest = ap (λ (q : ℤ × List ℕ). q.1) g.1 in (
+        p.0,
+        is.parts ∙ ap (λ (l : List ℕ). p.0 ++ l) r,
+        record {
+          form = is.form;
+          short = is.short;
+          value = sym v;
+          low =
+              rw (← v) (le_z_yes t.0);
+          high = rw (← v) (lt_z_yes t.1);
+        },
+      )
 
   signed_never : (o : Option (List ℕ × List ℕ)) (what : What) → signed_from k (option_map found_as o) ≡ Err (Stops what) → ⊥
   signed_never None what e = bad_not_stops what e
@@ -121,7 +141,9 @@ module _ (k : ℕ) where
   signed_agrees = record {
     found = λ bytes x rest e. signed_fits bytes x rest (number_bytes (most_bytes k) bytes) refl e;
     again = λ front x rest s.
-        let t : in_range (signed_sum front) ≡ true = both (int_le (neg_ℤ (pos (2 ^ (k - 1)))) (signed_sum front)) (int_lt (signed_sum front) (pos (2 ^ (k - 1)))) (rw (← s.value) s.low.le) (rw (← s.value) s.high.lt) in
+        let t : in_range (signed_sum front) ≡ true =
+        both (int_le (neg_ℤ (pos (2 ^ (k - 1)))) (signed_sum front)) (int_lt (signed_sum front) (pos (2 ^ (k - 1))))
+        (rw (← s.value) s.low.le) (rw (← s.value) s.high.lt) in
         rw (number_again (most_bytes k) front rest s.form s.short, t, s.value) refl;
     stopped = λ bytes what e. signed_never (number_bytes (most_bytes k) bytes) what e;
     stops_again = λ bytes what s. absurd s;
@@ -178,8 +200,18 @@ module _ (k : ℕ) where
       let v : sevens p.0 ≡ x = ap (λ (q : ℕ × List ℕ). q.0) g.1 in
       let r : p.1 ≡ rest = ap (λ (q : ℕ × List ℕ). q.1) g.1 in
       let s : signed_sum p.0 ≡ pos (sevens p.0) = unsigned_sum p.0 (lt-leb 64 (last_or 0 p.0 % 128) (ltb-true _ _ t.0)) in
-      let fits : x < 2 ^ (k - 1) = rw (← v) (ltb-true _ _ t.1) in
-      (p.0, is.parts ∙ ap (λ (l : List ℕ). p.0 ++ l) r, record { form = is.form; short = is.short; value = sym (s ∙ ap (λ (n : ℕ). pos n) v); low = above_below_zero _ x; high = pos_less x _ fits })
+      let fits : x < 2 ^ (k - 1) = rw (← v) (ltb-true _ _ t.1) in (
+        p.0,
+        is.parts ∙ ap (λ (l : List ℕ). p.0 ++ l) r,
+        record {
+          form = is.form;
+          short = is.short;
+          value =
+              sym (s ∙ ap (λ (n : ℕ). pos n) v);
+          low = above_below_zero _ x;
+          high = pos_less x _ fits;
+        },
+      )
 
   non_negative_never : (o : Option (List ℕ × List ℕ)) (what : What) → non_negative_from k (option_map found_as o) ≡ Err (Stops what) → ⊥
   non_negative_never None what e = bad_not_stops what e

@@ -14,7 +14,8 @@ use Rattle.wasm_form.proofs.Loop.{with_front, regroup, so_far_ends}
 
 -- ---- as many steps as there are bytes are enough
 
-pub operator_shortens : (b : ℕ) (bytes : List ℕ) (op : Operator) (rest : List ℕ) → operator_after_at b bytes ≡ Ok (op, rest) → length rest ≤ length bytes
+pub operator_shortens : (b : ℕ) (bytes : List ℕ) (op : Operator) (rest : List ℕ) → operator_after_at b bytes ≡ Ok (op, rest)
+    → length rest ≤ length bytes
 operator_shortens b bytes op rest e = let f = (operator_after_agrees b).found bytes op rest e in omega (arith, ap length f.1, length-append f.0 rest)
 
 -- the operators after one that was read, in at most k steps
@@ -29,29 +30,34 @@ same_steps (suc j) zero [] l m = refl
 same_steps (suc j) (suc k) [] l m = refl
 same_steps zero (suc k) (b ∷ bytes) l m = absurd (omega arith)
 same_steps (suc j) zero (b ∷ bytes) l m = absurd (omega arith)
-same_steps (suc j) (suc k) (b ∷ bytes) l m = ap (λ (r : Result (Expression × List ℕ) Fault). cond (eqb b 0x0B) (Ok ([], bytes)) r) (later (λ rest s t. same_steps j k rest s t) (operator_after_at b bytes) refl) where
-  later : ((rest : List ℕ) → length rest ≤ j → length rest ≤ k → operators_at j rest ≡ operators_at k rest) → (r : Result (Operator × List ℕ) Fault) → operator_after_at b bytes ≡ r
-      → and_then r (others j) ≡ and_then r (others k)
-  later ih (Err fault) e = refl
-  later ih (Ok op) e =
-      let short = operator_shortens b bytes op.0 op.1 e in
-      ap (λ (r : Result (Expression × List ℕ) Fault). and_then r (λ ops. Ok (op.0 ∷ ops.0, ops.1))) (ih op.1 (omega arith) (omega arith))
+same_steps (suc j) (suc k) (b ∷ bytes) l m = ap (λ (r : Result (Expression × List ℕ) Fault). cond (eqb b 0x0B) (Ok ([], bytes)) r)
+    (later (λ rest s t. same_steps j k rest s t) (operator_after_at b bytes) refl) where
+      later : ((rest : List ℕ) → length rest ≤ j → length rest ≤ k → operators_at j rest ≡ operators_at k rest)
+          → (r : Result (Operator × List ℕ) Fault) → operator_after_at b bytes ≡ r
+          → and_then r (others j) ≡ and_then r (others k)
+      later ih (Err fault) e = refl
+      later ih (Ok op) e =
+          let short = operator_shortens b bytes op.0 op.1 e in
+          ap (λ (r : Result (Expression × List ℕ) Fault). and_then r (λ ops. Ok (op.0 ∷ ops.0, ops.1))) (ih op.1 (omega arith) (omega arith))
 
 -- ---- one step of the loop
 
 all_others : Operator × List ℕ → Result (Expression × List ℕ) Fault
 all_others op = and_then (expression_at op.1) (λ ops. Ok (op.0 ∷ ops.0, ops.1))
 
-module _ (front : Expression) (bytes : List ℕ) (total : Result (Expression × List ℕ) Fault) (so_far : with_front front (expression_at bytes) ≡ total) (b : ℕ) (after : List ℕ) (e : Some (b, after) ≡ uncons bytes) where
+module _ (front : Expression) (bytes : List ℕ) (total : Result (Expression × List ℕ) Fault)
+    (so_far : with_front front (expression_at bytes) ≡ total) (b : ℕ) (after : List ℕ) (e : Some (b, after) ≡ uncons bytes) where
   first_step : (b ≡ 0x0B → ⊥) → expression_at bytes ≡ and_then (operator_after_at b after) all_others
   unfolding operators_at all_others
   first_step differs = rw (uncons_is bytes b after e, ne_eqb b 0x0B differs) (later (operator_after_at b after) refl) where
     later : (r : Result (Operator × List ℕ) Fault) → operator_after_at b after ≡ r → and_then r (others (length after)) ≡ and_then r all_others
     later (Err fault) f = refl
     later (Ok op) f =
-        ap (λ (r : Result (Expression × List ℕ) Fault). and_then r (λ ops. Ok (op.0 ∷ ops.0, ops.1))) (same_steps (length after) (length op.1) op.1 (operator_shortens b after op.0 op.1 f) (omega arith))
+        ap (λ (r : Result (Expression × List ℕ) Fault). and_then r (λ ops. Ok (op.0 ∷ ops.0, ops.1)))
+        (same_steps (length after) (length op.1) op.1 (operator_shortens b after op.0 op.1 f) (omega arith))
 
-  pub op_more : (op : Operator) (rest : List ℕ) → (b ≡ 0x0B → ⊥) → operator_after_at b after ≡ Ok (op, rest) → with_front (front ++ op ∷ []) (expression_at rest) ≡ total
+  pub op_more : (op : Operator) (rest : List ℕ) → (b ≡ 0x0B → ⊥) → operator_after_at b after ≡ Ok (op, rest)
+      → with_front (front ++ op ∷ []) (expression_at rest) ≡ total
   unfolding all_others
   op_more op rest differs h = sym (regroup front op (expression_at rest)) ∙ sym (ap (with_front front) (first_step differs ∙ rw h refl)) ∙ so_far
 
@@ -75,7 +81,8 @@ module _ (front : Expression) (bytes : List ℕ) (total : Result (Expression × 
       omega arith
 
 -- no end mark is left
-pub op_cut : (front : Expression) (bytes : List ℕ) (total : Result (Expression × List ℕ) Fault) → with_front front (expression_at bytes) ≡ total → None ≡ uncons bytes → total ≡ Err Bad
+pub op_cut : (front : Expression) (bytes : List ℕ) (total : Result (Expression × List ℕ) Fault)
+    → with_front front (expression_at bytes) ≡ total → None ≡ uncons bytes → total ≡ Err Bad
 unfolding operators_at
 op_cut front [] total so_far e = sym so_far
 op_cut front (b ∷ bytes) total so_far e = absurd cc

@@ -9,10 +9,12 @@ use Rattle.wasm_form.specs.declared.error.CheckError.{CheckError}
 use Rattle.wasm_form.specs.declared.error.CheckError.TheVariants.{Invalid}
 
 -- a test of the memories that were gathered, which are those of the module
-pub holds_of_all : (P : List MemoryType → Type 0) (types all : List MemoryType) (answer : Bool) → types ≡ all → IsTrue answer ↔ P types → answer ≡ true → P all
+pub holds_of_all : (P : List MemoryType → Type 0) (types all : List MemoryType) (answer : Bool) → types ≡ all → IsTrue answer ↔ P types
+    → answer ≡ true → P all
 holds_of_all P types all answer same tells is = subst P same (tells.0 is)
 
-pub fails_of_all : (P : List MemoryType → Type 0) (types all : List MemoryType) (answer : Bool) → types ≡ all → IsTrue answer ↔ P types → answer ≡ false → P all → ⊥
+pub fails_of_all : (P : List MemoryType → Type 0) (types all : List MemoryType) (answer : Bool) → types ≡ all → IsTrue answer ↔ P types
+    → answer ≡ false → P all → ⊥
 fails_of_all P types all answer same tells is holds = let answered : answer ≡ true = tells.1 (subst P (sym same) holds) in absurd cc
 
 -- the rules that a planned section can break are all kept

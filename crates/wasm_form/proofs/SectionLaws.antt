@@ -55,7 +55,8 @@ sections_found (suc k) place next (b ∷ bytes) ps e =
     let f = (one_agrees place next).found (b ∷ bytes) s.0.0 s.0.1 s.1 in
     let is = taken_spells place next f.0 p f.2.0 in
     let later = sections_found k (place + s.0.0.1) (next_order next p) s.0.1 t.0 t.1 in
-    let are : SpellsSections (place + length f.0) (next_order next p) s.0.1 t.0 = let P : ℕ → Type 0 = λ n. SpellsSections (place + n) (next_order next p) s.0.1 t.0 in subst P f.2.1 later.0 in
+    let are : SpellsSections (place + length f.0) (next_order next p) s.0.1 t.0 = let P : ℕ
+    → Type 0 = λ n. SpellsSections (place + n) (next_order next p) s.0.1 t.0 in subst P f.2.1 later.0 in
     subst (Found place next (b ∷ bytes)) (ok_is (p ∷ t.0) ps t.2) ((f.0, s.0.1, f.1, is.0, are), All-cons IsNoInterface p t.0 is.1 later.1)
 
 -- reading stops, in some spelling
@@ -67,30 +68,43 @@ abbrev pub ReadOrStopped : Module → Result Module Fault → Type 0
 ReadOrStopped ps r = (r ≡ Ok ps) ⊎ ((¬ HasNoInterfaceTypes ps) × Stopped r)
 
 -- a section that is none of interface types is read
-read_plain : (place next : ℕ) (front rest : List ℕ) (p : Payload) → (grammar.section place next).spells front p → IsNoInterface p → measured_at (section_at place next) (front ++ rest) ≡ Ok ((p, length front), rest)
-read_plain place next front rest p is none = (one_agrees place next).again front (p, length front) rest (spelled_is_taken place next front p is none, refl)
+read_plain : (place next : ℕ) (front rest : List ℕ) (p : Payload) → (grammar.section place next).spells front p → IsNoInterface p
+    → measured_at (section_at place next) (front ++ rest) ≡ Ok ((p, length front), rest)
+read_plain place next front rest p is none = (one_agrees place next).again front (p, length front) rest
+    (spelled_is_taken place next front p is none, refl)
 
 -- in a section that stops reading stops
-read_stops : (place next : ℕ) (bytes : List ℕ) (w : What) → (grammar.section place next).stops bytes w → measured_at (section_at place next) bytes ≡ Err (Stops w)
+read_stops : (place next : ℕ) (bytes : List ℕ) (w : What) → (grammar.section place next).stops bytes w
+    → measured_at (section_at place next) bytes ≡ Err (Stops w)
 read_stops place next bytes w s = (one_agrees place next).stops_again bytes w (stops_taken place next bytes w s)
 
-sections_again : (ps : Module) (k place next : ℕ) (bytes : List ℕ) → SpellsSections place next bytes ps → length bytes ≤ k → ReadOrStopped ps (sections_at k place next bytes)
+sections_again : (ps : Module) (k place next : ℕ) (bytes : List ℕ) → SpellsSections place next bytes ps → length bytes ≤ k
+    → ReadOrStopped ps (sections_at k place next bytes)
 unfolding sections_at
 sections_again [] zero place next bytes s l = inl (rw s refl)
 sections_again [] (suc k) place next bytes s l = inl (rw s refl)
 sections_again (p ∷ ps) k place next bytes ([], back, parts, is, later) l = absurd is
-sections_again (p ∷ ps) zero place next bytes (c ∷ cs, back, parts, is, later) l = absurd (let m : length bytes ≡ suc (length (cs ++ back)) = rw parts refl in omega arith)
+sections_again (p ∷ ps) zero place next bytes (c ∷ cs, back, parts, is, later) l =
+    absurd (let m : length bytes ≡ suc (length (cs ++ back)) = rw parts refl in omega arith)
 sections_again (p ∷ ps) (suc k) place next bytes (c ∷ cs, back, parts, is, later) l =
     let long : length bytes ≡ suc (length cs + length back) = rw parts (ap suc (length-append cs back)) in
-    rw parts (first (plain_or_stops place next (c ∷ cs) p is) (sections_again ps k (place + length (c ∷ cs)) (next_order next p) back later (omega arith))) where
-      rest : ReadOrStopped ps (sections_at k (place + length (c ∷ cs)) (next_order next p) back) → measured_at (section_at place next) (c ∷ (cs ++ back)) ≡ Ok ((p, length (c ∷ cs)), back) → ReadOrStopped (p ∷ ps) (sections_at (suc k) place next (c ∷ (cs ++ back)))
+    rw parts (first (plain_or_stops place next (c ∷ cs) p is)
+    (sections_again ps k (place + length (c ∷ cs)) (next_order next p) back later (omega arith))) where
+      rest : ReadOrStopped ps (sections_at k (place + length (c ∷ cs)) (next_order next p) back)
+          → measured_at (section_at place next) (c ∷ (cs ++ back)) ≡ Ok ((p, length (c ∷ cs)), back)
+          → ReadOrStopped (p ∷ ps) (sections_at (suc k) place next (c ∷ (cs ++ back)))
       rest (inl e) one = inl (rw (one, e) refl)
       rest (inr (some, (w, e))) one = inr (λ none. some (All-tail IsNoInterface p ps none), (w, rw (one, e) refl))
 
-      first : (IsNoInterface p ⊎ ((¬ IsNoInterface p) × ((rest : List ℕ) → (grammar.section place next).stops ((c ∷ cs) ++ rest) what.InterfaceTypes)))
-          → ReadOrStopped ps (sections_at k (place + length (c ∷ cs)) (next_order next p) back) → ReadOrStopped (p ∷ ps) (sections_at (suc k) place next (c ∷ (cs ++ back)))
+      first : (IsNoInterface p ⊎ ((¬ IsNoInterface p)
+          × ((rest : List ℕ) → (grammar.section place next).stops ((c ∷ cs) ++ rest) what.InterfaceTypes)))
+          → ReadOrStopped ps (sections_at k (place + length (c ∷ cs)) (next_order next p) back)
+          → ReadOrStopped (p ∷ ps) (sections_at (suc k) place next (c ∷ (cs ++ back)))
       first (inl none) i = rest i (read_plain place next (c ∷ cs) back p is none)
-      first (inr stops) i = inr (λ none. stops.0 (All-head IsNoInterface p ps none), (what.InterfaceTypes, rw (read_stops place next (c ∷ (cs ++ back)) what.InterfaceTypes (stops.1 back)) refl))
+      first (inr stops) i = inr (
+        λ none. stops.0 (All-head IsNoInterface p ps none),
+        (what.InterfaceTypes, rw (read_stops place next (c ∷ (cs ++ back)) what.InterfaceTypes (stops.1 back)) refl),
+      )
 
 sections_stopped : (k place next : ℕ) (bytes : List ℕ) (w : What) → sections_at k place next bytes ≡ Err (Stops w) → StopFrom place next bytes w
 unfolding sections_at
@@ -98,13 +112,19 @@ sections_stopped zero place next [] w e = absurd (ok_not_err [] (Stops w) e)
 sections_stopped (suc k) place next [] w e = absurd (ok_not_err [] (Stops w) e)
 sections_stopped zero place next (b ∷ bytes) w e = absurd (bad_not_stops w e)
 sections_stopped (suc k) place next (b ∷ bytes) w e =
-    here (λ i m l h. sections_stopped k i m l w h) (step_err (measured_at (section_at place next) (b ∷ bytes)) (later_at k place next) (Stops w) e) where
-      there : ((i m : ℕ) (l : List ℕ) → sections_at k i m l ≡ Err (Stops w) → StopFrom i m l w) → (p : (Payload × ℕ) × List ℕ) → measured_at (section_at place next) (b ∷ bytes) ≡ Ok p
-          → ((sections_at k (place + p.0.1) (next_order next p.0.0) p.1 ≡ Err (Stops w)) ⊎ ((ps : Module) × (sections_at k (place + p.0.1) (next_order next p.0.0) p.1 ≡ Ok ps) × (ok (p.0.0 ∷ ps) ≡ Err (Stops w)))) → StopFrom place next (b ∷ bytes) w
+    here (λ i m l h. sections_stopped k i m l w h)
+    (step_err (measured_at (section_at place next) (b ∷ bytes)) (later_at k place next) (Stops w) e) where
+      there : ((i m : ℕ) (l : List ℕ) → sections_at k i m l ≡ Err (Stops w) → StopFrom i m l w) → (p : (Payload × ℕ) × List ℕ)
+          → measured_at (section_at place next) (b ∷ bytes) ≡ Ok p
+          → ((sections_at k (place + p.0.1) (next_order next p.0.0) p.1 ≡ Err (Stops w))
+          ⊎ ((ps : Module) × (sections_at k (place + p.0.1) (next_order next p.0.0) p.1 ≡ Ok ps) × (ok (p.0.0 ∷ ps) ≡ Err (Stops w))))
+          → StopFrom place next (b ∷ bytes) w
       there ih p h (inr (ps, g, never)) = absurd (ok_not_err (p.0.0 ∷ ps) (Stops w) never)
       there ih p h (inl g) =
           let f = (one_agrees place next).found (b ∷ bytes) p.0 p.1 h in
-          let i : StopFrom (place + length f.0) (next_order next p.0.0) p.1 w = let P : ℕ → Type 0 = λ n. StopFrom (place + n) (next_order next p.0.0) p.1 w in subst P f.2.1 (ih (place + p.0.1) (next_order next p.0.0) p.1 g) in
+          let i : StopFrom (place + length f.0) (next_order next p.0.0) p.1 w = let P : ℕ
+          → Type 0 = λ n. StopFrom (place + n) (next_order next p.0.0) p.1 w in
+          subst P f.2.1 (ih (place + p.0.1) (next_order next p.0.0) p.1 g) in
           let there : (place + length f.0) + length i.front ≡ place + length (f.0 ++ i.front) = omega (arith, length-append f.0 i.front) in
           record {
             before = p.0.0 ∷ i.before;
@@ -112,39 +132,53 @@ sections_stopped (suc k) place next (b ∷ bytes) w e =
             back = i.back;
             parts = f.1 ∙ ap (λ (l : List ℕ). f.0 ++ l) i.parts ∙ sym (append_assoc f.0 i.front i.back);
             are_sections = (f.0, i.front, refl, (taken_spells place next f.0 p.0.0 f.2.0).0, i.are_sections);
-            stops_next = let P : ℕ → Type 0 = λ n. (grammar.section n (order_after_all (next_order next p.0.0) i.before)).stops i.back w in subst P there i.stops_next;
+            stops_next = let P : ℕ → Type 0 = λ n. (grammar.section n (order_after_all (next_order next p.0.0) i.before)).stops i.back w in
+                subst P there i.stops_next;
           }
 
       here : ((i m : ℕ) (l : List ℕ) → sections_at k i m l ≡ Err (Stops w) → StopFrom i m l w)
-          → ((measured_at (section_at place next) (b ∷ bytes) ≡ Err (Stops w)) ⊎ ((p : (Payload × ℕ) × List ℕ) × (measured_at (section_at place next) (b ∷ bytes) ≡ Ok p) × (later_at k place next p ≡ Err (Stops w)))) → StopFrom place next (b ∷ bytes) w
+          → ((measured_at (section_at place next) (b ∷ bytes) ≡ Err (Stops w))
+          ⊎ ((p : (Payload × ℕ) × List ℕ) × (measured_at (section_at place next) (b ∷ bytes) ≡ Ok p)
+          × (later_at k place next p ≡ Err (Stops w)))) → StopFrom place next (b ∷ bytes) w
       here ih (inl h) =
-          let stops : (grammar.section (place + 0) next).stops (b ∷ bytes) w = let P : ℕ → Type 0 = λ n. (grammar.section n next).stops (b ∷ bytes) w in let same : place ≡ place + 0 = omega arith in subst P same (taken_stops place next (b ∷ bytes) w ((one_agrees place next).stopped (b ∷ bytes) w h)) in
+          let stops : (grammar.section (place + 0) next).stops (b ∷ bytes) w = let P : ℕ
+          → Type 0 = λ n. (grammar.section n next).stops (b ∷ bytes) w in let same : place ≡ place + 0 = omega arith in
+          subst P same (taken_stops place next (b ∷ bytes) w ((one_agrees place next).stopped (b ∷ bytes) w h)) in
           record { before = []; front = []; back = b ∷ bytes; parts = refl; are_sections = refl; stops_next = stops }
-      here ih (inr (p, h, g)) = there ih p h (step_err (sections_at k (place + p.0.1) (next_order next p.0.0) p.1) (λ ps. Ok (p.0.0 ∷ ps)) (Stops w) g)
+      here ih (inr (p, h, g)) = there ih p h (step_err (sections_at k (place + p.0.1) (next_order next p.0.0) p.1) (λ ps. Ok (p.0.0 ∷ ps))
+          (Stops w) g)
 
 -- reading stops there, or in a section of interface types before
-sections_stop_again : (before : Module) (k place next : ℕ) (front back : List ℕ) (w : What) → SpellsSections place next front before → (grammar.section (place + length front) (order_after_all next before)).stops back w
+sections_stop_again : (before : Module) (k place next : ℕ) (front back : List ℕ) (w : What) → SpellsSections place next front before
+    → (grammar.section (place + length front) (order_after_all next before)).stops back w
     → length (front ++ back) ≤ k → Stopped (sections_at k place next (front ++ back))
 unfolding sections_at
 sections_stop_again [] k place next front [] w s t l = absurd t
-sections_stop_again [] zero place next front (c ∷ back) w s t l = absurd (let long : length (front ++ c ∷ back) ≡ suc (length back) = rw s refl in omega arith)
+sections_stop_again [] zero place next front (c ∷ back) w s t l =
+    absurd (let long : length (front ++ c ∷ back) ≡ suc (length back) = rw s refl in omega arith)
 sections_stop_again [] (suc k) place next front (c ∷ back) w s t l =
     let same : place + length front ≡ place = rw s (omega arith) in
-    let stops : (grammar.section place next).stops (c ∷ back) w = let P : ℕ → Type 0 = λ n. (grammar.section n next).stops (c ∷ back) w in subst P same t in
+    let stops : (grammar.section place next).stops (c ∷ back) w = let P : ℕ
+    → Type 0 = λ n. (grammar.section n next).stops (c ∷ back) w in subst P same t in
     (w, rw (s, read_stops place next (c ∷ back) w stops) refl)
 sections_stop_again (p ∷ ps) k place next front back w ([], b, parts, is, later) t l = absurd is
-sections_stop_again (p ∷ ps) zero place next front back w (c ∷ f, b, parts, is, later) t l = absurd (let long : length (front ++ back) ≡ suc (length ((f ++ b) ++ back)) = rw parts refl in omega arith)
+sections_stop_again (p ∷ ps) zero place next front back w (c ∷ f, b, parts, is, later) t l =
+    absurd (let long : length (front ++ back) ≡ suc (length ((f ++ b) ++ back)) = rw parts refl in omega arith)
 sections_stop_again (p ∷ ps) (suc k) place next front back w (c ∷ f, b, parts, is, later) t l =
     let all : front ++ back ≡ c ∷ (f ++ (b ++ back)) = rw parts (ap (λ (l : List ℕ). c ∷ l) (append_assoc f b back)) in
     let long : length (front ++ back) ≡ suc (length f + length (b ++ back)) = rw all (ap suc (length-append f (b ++ back))) in
     let there : place + length front ≡ (place + length (c ∷ f)) + length b = rw parts (omega (arith, length-append f b)) in
     let stops = let P : ℕ → Type 0 = λ n. (grammar.section n (order_after_all (next_order next p) ps)).stops back w in subst P there t in
-    rw all (first (plain_or_stops place next (c ∷ f) p is) (sections_stop_again ps k (place + length (c ∷ f)) (next_order next p) b back w later stops (omega arith))) where
-      rest : Stopped (sections_at k (place + length (c ∷ f)) (next_order next p) (b ++ back)) → measured_at (section_at place next) (c ∷ (f ++ (b ++ back))) ≡ Ok ((p, length (c ∷ f)), b ++ back) → Stopped (sections_at (suc k) place next (c ∷ (f ++ (b ++ back))))
+    rw all (first (plain_or_stops place next (c ∷ f) p is)
+    (sections_stop_again ps k (place + length (c ∷ f)) (next_order next p) b back w later stops (omega arith))) where
+      rest : Stopped (sections_at k (place + length (c ∷ f)) (next_order next p) (b ++ back))
+          → measured_at (section_at place next) (c ∷ (f ++ (b ++ back))) ≡ Ok ((p, length (c ∷ f)), b ++ back)
+          → Stopped (sections_at (suc k) place next (c ∷ (f ++ (b ++ back))))
       rest (v, e) one = (v, rw (one, e) refl)
 
       first : (IsNoInterface p ⊎ ((¬ IsNoInterface p) × ((rest : List ℕ) → (grammar.section place next).stops ((c ∷ f) ++ rest) what.InterfaceTypes)))
-          → Stopped (sections_at k (place + length (c ∷ f)) (next_order next p) (b ++ back)) → Stopped (sections_at (suc k) place next (c ∷ (f ++ (b ++ back))))
+          → Stopped (sections_at k (place + length (c ∷ f)) (next_order next p) (b ++ back))
+          → Stopped (sections_at (suc k) place next (c ∷ (f ++ (b ++ back))))
       first (inl none) i = rest i (read_plain place next (c ∷ f) (b ++ back) p is none)
       first (inr stops) i = (what.InterfaceTypes, rw (read_stops place next (c ∷ (f ++ (b ++ back))) what.InterfaceTypes (stops.1 (b ++ back))) refl)
 
@@ -175,7 +209,8 @@ component_is : (bytes : List ℕ) → is_component bytes ≡ true → IsComponen
 component_is bytes t =
     let both = and_parts _ _ t in
     let first : bytes ≡ magic ++ drop 4 bytes = (starts_is Decides-eqb bytes magic (starts_with nat_eq bytes magic) refl).0 both.0 in
-    let second : drop 6 bytes ≡ 0x01 ∷ 0x00 ∷ drop 2 (drop 6 bytes) = (starts_is Decides-eqb (drop 6 bytes) (0x01 ∷ 0x00 ∷ []) (starts_with nat_eq (drop 6 bytes) (0x01 ∷ 0x00 ∷ [])) refl).0 both.1 in
+    let second : drop 6 bytes ≡ 0x01 ∷ 0x00 ∷ drop 2 (drop 6 bytes) =
+    (starts_is Decides-eqb (drop 6 bytes) (0x01 ∷ 0x00 ∷ []) (starts_with nat_eq (drop 6 bytes) (0x01 ∷ 0x00 ∷ [])) refl).0 both.1 in
     version (drop 4 bytes) (drop 2 (drop 6 bytes)) first (sym (ap (drop 6) first) ∙ second) where
       version : (body rest : List ℕ) → bytes ≡ magic ++ body → drop 2 body ≡ 0x01 ∷ 0x00 ∷ rest → IsComponent bytes
       version [] rest e f = absurd cc
@@ -200,7 +235,9 @@ module_found bytes m e = by_test (starts_with nat_eq bytes header) refl e where
   no_component true e = absurd cc
   no_component false e = absurd cc
 
-  by_test : (t : Bool) → starts_with nat_eq bytes header ≡ t → cond t (sections_at (length (drop 8 bytes)) 8 0 (drop 8 bytes)) (component (is_component bytes)) ≡ Ok m → Spells bytes m × HasNoInterfaceTypes m
+  by_test : (t : Bool) → starts_with nat_eq bytes header ≡ t
+      → cond t (sections_at (length (drop 8 bytes)) 8 0 (drop 8 bytes)) (component (is_component bytes)) ≡ Ok m
+      → Spells bytes m × HasNoInterfaceTypes m
   by_test true t e =
       let f = sections_found (length (drop 8 bytes)) 8 0 (drop 8 bytes) m e in
       (record { body = drop 8 bytes; parts = header_is bytes t; are_sections = f.0 }, f.1)
@@ -221,17 +258,27 @@ module_stopped bytes w e = by_test (starts_with nat_eq bytes header) refl e wher
   by_component true t e = inl (component_is bytes t, what_is what.Component e)
   by_component false t e = absurd (bad_not_stops w e)
 
-  by_test : (t : Bool) → starts_with nat_eq bytes header ≡ t → cond t (sections_at (length (drop 8 bytes)) 8 0 (drop 8 bytes)) (component (is_component bytes)) ≡ Err (Stops w) → IsStopped bytes w
+  by_test : (t : Bool) → starts_with nat_eq bytes header ≡ t
+      → cond t (sections_at (length (drop 8 bytes)) 8 0 (drop 8 bytes)) (component (is_component bytes)) ≡ Err (Stops w) → IsStopped bytes w
   by_test true t e =
       let s = sections_stopped (length (drop 8 bytes)) 8 0 (drop 8 bytes) w e in
-      inr (record { before = s.before; front = s.front; back = s.back; parts = header_is bytes t ∙ ap (λ (l : List ℕ). header ++ l) s.parts; are_sections = s.are_sections; stops_next = s.stops_next })
+      inr (record {
+        before = s.before;
+        front = s.front;
+        back = s.back;
+        parts = header_is bytes t
+            ∙ ap (λ (l : List ℕ). header ++ l) s.parts;
+        are_sections = s.are_sections;
+        stops_next = s.stops_next;
+      })
   by_test false t e = by_component (is_component bytes) refl e
 
 -- where the grammar stops, reading stops
 pub module_stops_again : (bytes : List ℕ) (w : What) → IsStopped bytes w → Stopped (module_at bytes)
 unfolding module_at
 module_stops_again bytes w (inl (c, e)) = (what.Component, rw (c.parts, no_module c.version c.revision c.rest) refl)
-module_stops_again bytes w (inr s) = rw s.parts (sections_stop_again s.before (length (s.front ++ s.back)) 8 0 s.front s.back w s.are_sections s.stops_next (omega arith))
+module_stops_again bytes w (inr s) = rw s.parts (sections_stop_again s.before
+    (length (s.front ++ s.back)) 8 0 s.front s.back w s.are_sections s.stops_next (omega arith))
 
 pub module_once : (bytes : List ℕ) (m n : Module) → Spells bytes m → Spells bytes n → m ≡ n
 module_once bytes m n s t =

@@ -10,7 +10,8 @@ short-sum : (b : ℕ) → b < 128 → b % 128 + 128 * 0 ≡ b
 short-sum b h = omega arith
 
 -- a byte below 128 is a number
-pub short_found : (m b : ℕ) (rest bytes : List ℕ) → Some (b, rest) ≡ uncons bytes → b < 128 → found_at (suc m) bytes ≡ Some (record { sum = b; weight = 128 ^ 1; last = b }, rest)
+pub short_found : (m b : ℕ) (rest bytes : List ℕ) → Some (b, rest) ≡ uncons bytes → b < 128
+    → found_at (suc m) bytes ≡ Some (record { sum = b; weight = 128 ^ 1; last = b }, rest)
 unfolding found_at
 short_found m b rest bytes e h = rw (uncons_is bytes b rest e, lt-ltb b 128 h, short-sum b h) refl
 

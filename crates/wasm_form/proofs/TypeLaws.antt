@@ -28,7 +28,8 @@ concrete_filled y s = over s.front s.back s.parts s.is_first.form where
 
 -- the byte of a heap type spells some of it
 heap_type_filled : (o : Option AbstractHeapType) (shared : Bool) (y : HeapType)
-    → ¬ (part.given o (λ h. part.first_byte (λ same. part.gives (Abstract h))) (part.choose shared (part.stops_at what.Shared) grammar.concrete)).spells [] y
+    → ¬ (part.given o (λ h. part.first_byte (λ same. part.gives (Abstract h)))
+    (part.choose shared (part.stops_at what.Shared) grammar.concrete)).spells [] y
 heap_type_filled (Some h) shared y s = s
 heap_type_filled None true y s = s
 heap_type_filled None false y s = concrete_filled y s
@@ -72,7 +73,8 @@ storage_type_agrees = first_byte_agrees (λ b.
 
 pub mutability_agrees : Agrees mutability_at grammar.mutability
 unfolding mutability_at
-mutability_agrees = first_byte_agrees (λ b. choose_agrees (b == 0x00) (gives_agrees false) (choose_agrees (b == 0x01) (gives_agrees true) nothing_agrees))
+mutability_agrees = first_byte_agrees (λ b. choose_agrees (b == 0x00) (gives_agrees false)
+    (choose_agrees (b == 0x01) (gives_agrees true) nothing_agrees))
 
 field_type_agrees : Agrees field_type_at grammar.field_type
 unfolding field_type_at
@@ -80,7 +82,8 @@ field_type_agrees = then_agrees storage_type_agrees (λ element_type. then_agree
 
 function_type_agrees : Agrees function_type_at grammar.function_type
 unfolding function_type_at
-function_type_agrees = then_agrees (vector_agrees value_type_agrees) (λ params. then_agrees (vector_agrees value_type_agrees) (λ results. gives_agrees _))
+function_type_agrees = then_agrees (vector_agrees value_type_agrees)
+    (λ params. then_agrees (vector_agrees value_type_agrees) (λ results. gives_agrees _))
 
 composite_after_agrees : (b : ℕ) → Agrees (composite_after_at b) (grammar.composite_after b)
 unfolding composite_after_at
@@ -99,7 +102,8 @@ supertype_agrees = then_agrees (unsigned_agrees 32) (λ count.
 
 with_supertype_agrees : (is_final : Bool) → Agrees (with_supertype_at is_final) (grammar.with_supertype is_final)
 unfolding with_supertype_at
-with_supertype_agrees is_final = then_agrees supertype_agrees (λ super. then_agrees (first_byte_agrees composite_after_agrees) (λ kind. gives_agrees _))
+with_supertype_agrees is_final = then_agrees supertype_agrees
+    (λ super. then_agrees (first_byte_agrees composite_after_agrees) (λ kind. gives_agrees _))
 
 sub_type_after_agrees : (b : ℕ) → Agrees (sub_type_after_at b) (grammar.sub_type_after b)
 unfolding sub_type_after_at
@@ -134,7 +138,8 @@ flagged_table_type_agrees element flags =
 
 pub table_limits_agree : (element : RefType) → Agrees (table_limits_at element) (grammar.table_limits element)
 unfolding table_limits_at
-table_limits_agree element = first_byte_agrees (λ flags. choose_agrees (nat_lt flags 8 && not (has_bit 1 flags)) (flagged_table_type_agrees element flags) nothing_agrees)
+table_limits_agree element = first_byte_agrees (λ flags. choose_agrees (nat_lt flags 8 && not (has_bit 1 flags))
+    (flagged_table_type_agrees element flags) nothing_agrees)
 
 pub table_type_agrees : Agrees table_type_at grammar.table_type
 unfolding table_type_at

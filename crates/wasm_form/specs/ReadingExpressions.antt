@@ -28,7 +28,8 @@ object_operator_at n =
     (stopped_at what.Operator))))))))
 
 unfoldable pub vector_operator_at : ℕ → Reader Operator
-vector_operator_at n = choose_at (n == 12) (raw_bytes_at 16 >>= λ bytes. gives_at (op.V128Const (from_le_bytes w128 bytes))) (stopped_at what.Operator)
+vector_operator_at n = choose_at (n == 12) (raw_bytes_at 16 >>= λ bytes. gives_at (op.V128Const (from_le_bytes w128 bytes)))
+    (stopped_at what.Operator)
 
 unfoldable pub arithmetic_after_at : ℕ → Reader Operator
 arithmetic_after_at b =

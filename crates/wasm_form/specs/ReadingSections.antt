@@ -32,7 +32,8 @@ abbrev pub number_at : (ℕ → Payload) → Reader Payload
 number_at make = sized_at (whole (unsigned_at 32)) >>= λ n. gives_at (make n)
 
 unfoldable pub code_at : ℕ → Reader Payload
-code_at place = measured_at (unsigned_at 32) >>= λ size. filled_at (whole (vector_at body_at)) size.0 >>= λ bodies. gives_at (Code (place + size.1) bodies)
+code_at place =
+    measured_at (unsigned_at 32) >>= λ size. filled_at (whole (vector_at body_at)) size.0 >>= λ bodies. gives_at (Code (place + size.1) bodies)
 
 unfoldable pub section_contents_at : ℕ → ℕ → Reader Payload
 section_contents_at place id =
@@ -64,7 +65,8 @@ unfoldable pub sections_at : ℕ → ℕ → ℕ → Filler Module
 sections_at k place next [] = Ok []
 sections_at zero place next (b ∷ bytes) = Err Bad
 sections_at (suc k) place next (b ∷ bytes) =
-    and_then (measured_at (section_at place next) (b ∷ bytes)) (λ p. and_then (sections_at k (place + p.0.1) (next_order next p.0.0) p.1) (λ ps. Ok (p.0.0 ∷ ps)))
+    and_then (measured_at (section_at place next) (b ∷ bytes))
+    (λ p. and_then (sections_at k (place + p.0.1) (next_order next p.0.0) p.1) (λ ps. Ok (p.0.0 ∷ ps)))
 
 -- each section takes a byte at least
 abbrev pub all_sections_at : ℕ → ℕ → Filler Module

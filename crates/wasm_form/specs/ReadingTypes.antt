@@ -116,7 +116,8 @@ flagged_table_type_at element flags = do
   gives_at (record { element_type = element; table64 = has_bit 2 flags; initial = initial; maximum = maximum })
 
 unfoldable pub table_limits_at : RefType → Reader TableType
-table_limits_at element = first_byte_at (λ flags. choose_at (nat_lt flags 8 && not (has_bit 1 flags)) (flagged_table_type_at element flags) nothing_at)
+table_limits_at element = first_byte_at (λ flags.
+    choose_at (nat_lt flags 8 && not (has_bit 1 flags)) (flagged_table_type_at element flags) nothing_at)
 
 unfoldable pub table_type_at : Reader TableType
 table_type_at = reference_type_at >>= λ element. table_limits_at element

@@ -19,12 +19,12 @@ module _ {S F E N : Type 0} (inner : Mut F (Index VMSharedTypeSpace × Unit {0})
   PassesOn s _ r s' = (r ≡ Ok tt) × (held s' ≡ held s)
 
   module _ (outer : Mut S (EngineOrModuleTypeIndex × Unit {0}) (Result (Unit {0}) E))
-      (visits : (s : S) (e : EngineOrModuleTypeIndex) (r : Result (Unit {0}) E) (s' : S) → Called outer s (e, tt) r s' → PassesOn s e r s'
-          × (name s' ≡ name s)) where
+      (visits : (s : S) (e : EngineOrModuleTypeIndex) (r : Result (Unit {0}) E) (s' : S) → Called outer s (e, tt) r s'
+      → PassesOn s e r s' × (name s' ≡ name s)) where
     -- an edge that is passed over
     over : (es : List EngineOrModuleTypeIndex) (s t : S) (r : Result (Unit {0}) E) (s' : S) → (held t ≡ held s) × (name t ≡ name s)
-        → Run inner (held t) (engine_edges es) r (held s') × (name s' ≡ name t) → Run inner (held s) (engine_edges es) r (held s')
-            × (name s' ≡ name s)
+        → Run inner (held t) (engine_edges es) r (held s') × (name s' ≡ name t)
+        → Run inner (held s) (engine_edges es) r (held s') × (name s' ≡ name s)
     over es s t r s' here rest = (subst (λ f. Run inner f (engine_edges es) r (held s')) here.0 rest.0, rest.1 ∙ here.1)
 
     pub Run-engine : (es : List EngineOrModuleTypeIndex) (s : S) (r : Result (Unit {0}) E) (s' : S) → Run outer s es r s'
@@ -53,7 +53,7 @@ module _ {S F E N : Type 0} (inner : Mut F (Index VMSharedTypeSpace × Unit {0})
         → (past rest : List EngineOrModuleTypeIndex) (e : EngineOrModuleTypeIndex) (now : S) → es ≡ past ++ e ∷ rest → Run outer s past (Ok tt) now
         → AtEngineEdge (λ i. Takes inner (held now) (i, tt)) e
     Run-comes es s may past rest (Engine i) now split run =
-        may.at (engine_edges past) (engine_edges rest) i (held now) (ap engine_edges split
-            ∙ filter_map-append engine_index past (Engine i ∷ rest)) (Run-engine past s (Ok tt) now run).0
+        may.at (engine_edges past) (engine_edges rest) i (held now)
+        (ap engine_edges split ∙ filter_map-append engine_index past (Engine i ∷ rest)) (Run-engine past s (Ok tt) now run).0
     Run-comes es s may past rest (Module i) now split run = tt
     Run-comes es s may past rest (RecGroup i) now split run = tt

@@ -69,9 +69,9 @@ module _ {F E : Type 0} (visitor : Mut F (MutBor EngineOrModuleTypeIndex × Unit
 
   written : (types : List WasmValType) (params at : ℕ) (t : WasmValType) → params ≤ length types → at < length types → slice_get types at ≡ Some t
       → (now : F) (r : Result (Unit {0}) E) (next : F) (new : List EngineOrModuleTypeIndex) → RunMut visitor now (val_edges t) r next new
-          → Written types params at t new
-  written types params at t within here there now r next new run = by_index (val_index t) refl new
-      (subst (λ i. RunMut visitor now (option_to_list i) r next new) refl run)
+      → Written types params at t new
+  written types params at t within here there now r next new run =
+      by_index (val_index t) refl new (subst (λ i. RunMut visitor now (option_to_list i) r next new) refl run)
     where
       one_written : (old new : EngineOrModuleTypeIndex) → val_index t ≡ Some old → Written types params at t (new ∷ [])
       one_written old new has = record {
@@ -109,9 +109,9 @@ func_frame-split t types kept =
     let n = length t.params in
     let all = t.params ++ t.results in
     let params = sym (take-map val_frame n types) ∙ ap (take n) kept ∙ take-map val_frame n all
-        ∙ ap (map val_frame) (take-append_seam t.params t.results) in
+    ∙ ap (map val_frame) (take-append_seam t.params t.results) in
     let results = sym (drop-map val_frame n types) ∙ ap (drop n) kept ∙ drop-map val_frame n all
-        ∙ ap (map val_frame) (drop-append_seam t.params t.results) in
+    ∙ ap (map val_frame) (drop-append_seam t.params t.results) in
     rw (params, results) refl
 
 module _ {F E : Type 0} (visitor : Mut F (MutBor EngineOrModuleTypeIndex × Unit {0})

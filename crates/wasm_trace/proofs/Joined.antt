@@ -73,8 +73,8 @@ module _ {F Edge E : Type 0} (visitor : Mut F (MutBor Edge × Unit {0}) (Result 
       → RunMut visitor f (xs ++ ys) (Err x) g (xs' ++ ys)
   run_stop_mut [] ys f g x xs' run = let impossible : Err x ≡ Ok tt = run.0 in cc
   run_stop_mut (e ∷ xs) ys f g x xs' (inl stop) = inl (stop.0, stop.1, stop.2, stop.3, ap (λ l. l ++ ys) stop.4)
-  run_stop_mut (e ∷ xs) ys f g x xs' (inr more) = inr (more.0, more.1, more.2 ++ ys, more.3, run_stop_mut xs ys more.0 g x more.2 more.4, ap
-      (λ l. l ++ ys) more.5)
+  run_stop_mut (e ∷ xs) ys f g x xs' (inr more) = inr
+      (more.0, more.1, more.2 ++ ys, more.3, run_stop_mut xs ys more.0 g x more.2 more.4, ap (λ l. l ++ ys) more.5)
 
   run_split_mut : (xs ys : List Edge) (f : F) (r : Result (Unit {0}) E) (h : F) (new : List Edge) → RunMut visitor f (xs ++ ys) r h new
       → RunBothMut visitor f xs ys r h new
@@ -104,7 +104,7 @@ module _ {F Edge E : Type 0} (visitor : Mut F (MutBor Edge × Unit {0}) (Result 
   run_unchanged (e ∷ es) f r h new unchanging (inl stop) = stop.4 ∙ ap (λ x. x ∷ es) (unchanging.at f h e stop.1 (Err stop.0) stop.2)
   run_unchanged (e ∷ es) f r h new unchanging (inr more) =
       more.5 ∙ ap (λ x. x ∷ more.2) (unchanging.at f more.0 e more.1 (Ok tt) more.3)
-          ∙ ap (λ l. e ∷ l) (run_unchanged es more.0 r h more.2 unchanging more.4)
+      ∙ ap (λ l. e ∷ l) (run_unchanged es more.0 r h more.2 unchanging more.4)
 
   pub may_run_first_mut : (xs ys : List Edge) (f : F) → MayRunMut visitor f (xs ++ ys) → MayRunMut visitor f xs
   may_run_first_mut xs ys f may = record {

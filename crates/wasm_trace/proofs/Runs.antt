@@ -68,8 +68,8 @@ module _ {F Edge E : Type 0} (visitor : Mut F (MutBor Edge × Unit {0}) (Result 
 -- a visitor that stays as it is, answers Ok and relates each edge to the new one by Q, wherever P holds
 module _ {F Edge E : Type 0} (P : Edge → Type 0) (Q : Edge → Edge → Type 0)
     (visitor : Mut F (MutBor Edge × Unit {0}) (Result (Unit {0}) E × (MutBor Edge × Unit {0}))) (f : F)
-    (visits : (e : Edge) (r : Result (Unit {0}) E) (f' : F) (e' : Edge) → P e → CalledAtMut visitor f e r f' e' → (f' ≡ f) × (r ≡ Ok tt)
-        × Q e e') where
+    (visits : (e : Edge) (r : Result (Unit {0}) E) (f' : F) (e' : Edge) → P e → CalledAtMut visitor f e r f' e'
+    → (f' ≡ f) × (r ≡ Ok tt) × Q e e') where
   -- rewrites every edge
   pub RunMut-rewrites : (es : List Edge) → All P es → (r : Result (Unit {0}) E) (f' : F) (new : List Edge) → RunMut visitor f es r f' new
       → (f' ≡ f) × (r ≡ Ok tt) × AllZip Q es new

@@ -10,7 +10,8 @@ writes-preserved g c =
     let before = c.writes.written in
     let count = c.in_ok-written.field-0 in
     record {
-      appended = AppendsFront-then _ _ _ (take before text) _ _ (sym (take-add before count text)) c.writes.invariant.appended (rw (← c.split_at.ensures.back) c.in_ok-written.ensures.appends);
+      appended = AppendsFront-then _ _ _ (take before text) _ _ (sym (take-add before count text)) c.writes.invariant.appended
+          (rw (← c.split_at.ensures.back) c.in_ok-written.ensures.appends);
       counted = omega (arith, c.in_ok-written.ensures.counted);
       within = omega (arith, c.in_ok-written.ensures.takes, c.split_at.ensures.back_len);
       untouched = λ none. absurd (omega (arith, c.in_ok-written.ensures.takes));

@@ -29,7 +29,8 @@ returns-then-last-lt128-clause-small c =
 pub returns-then-last-lt128-clause-found : goal.returns-then-last-lt128-clause-found
 unfolding found_at
 returns-then-last-lt128-clause-found c =
-    rw c.from.ensures (stop c.bytes.sum c.bytes.weight c.bytes.last 5 c.bytes.counter c.in_ok-byte.byte c.bytes.rest.now c.in_ok-byte.after.now _ c.in_ok-byte.ensures (omega arith) c.if-last-lt128.true c.bytes.invariant.so_far)
+    rw c.from.ensures (stop c.bytes.sum c.bytes.weight c.bytes.last 5 c.bytes.counter c.in_ok-byte.byte c.bytes.rest.now
+    c.in_ok-byte.after.now _ c.in_ok-byte.ensures (omega arith) c.if-last-lt128.true c.bytes.invariant.so_far)
 
 pub bytes-preserved : goal.bytes-preserved
 bytes-preserved c = record {
@@ -38,5 +39,6 @@ bytes-preserved c = record {
       let w = weight_small c.bytes.counter c.bytes.weight c.bytes.invariant.weight_is (omega arith) in
       let d = digit_small c.from.result c.bytes.weight (omega arith) in
       omega (arith, c.bytes.invariant.below);
-  so_far = rw c.from.ensures (step c.bytes.sum c.bytes.weight c.bytes.last 5 c.bytes.counter c.in_ok-byte.byte c.bytes.rest.now c.in_ok-byte.after.now _ c.in_ok-byte.ensures (omega arith) (omega arith) c.bytes.invariant.so_far);
+  so_far = rw c.from.ensures (step c.bytes.sum c.bytes.weight c.bytes.last 5 c.bytes.counter c.in_ok-byte.byte c.bytes.rest.now
+      c.in_ok-byte.after.now _ c.in_ok-byte.ensures (omega arith) (omega arith) c.bytes.invariant.so_far);
 }

@@ -6,4 +6,6 @@ use Rattle.wasm_form.specs.ReadingVectors.{Counted}
 use Rattle.wasm_form.proofs.vectors.counted.Given as goal
 
 abbrev pub invariant-parts : goal.invariant-parts
-invariant-parts g l = (r : Result (Vec g.row.X.Denot × Bor (List ℕ)) ReadError) → Counted (λ b one. g.F.Fn.post l.part (l.alloc, (b, tt)) one) (l.count - l.counter) l.rest l.all.items r → Counted (λ b one. g.F.Fn.post l.part (l.alloc, (b, tt)) one) l.count l.fn.bytes [] r
+invariant-parts g l = (r : Result (Vec g.row.X.Denot × Bor (List ℕ)) ReadError)
+    → Counted (λ b one. g.F.Fn.post l.part (l.alloc, (b, tt)) one) (l.count - l.counter) l.rest l.all.items r
+    → Counted (λ b one. g.F.Fn.post l.part (l.alloc, (b, tt)) one) l.count l.fn.bytes [] r

@@ -23,8 +23,11 @@ loop-at-preserved g c =
     let kept = map-set_same g.T.TypeTrace.frame c.loop-at.items c.loop-at.at c.trace_mut.new.self c.index-items-at.result c.trace_mut.ensures.kept in
     let midst = rw (drop_more c.loop-at.items c.loop-at.at c.index-items-at.result (omega arith)) at c.loop-at.invariant.1 in (
       kept ∙ c.loop-at.invariant.0,
-      rw (flat_map-take-set g.T.TypeTrace.edges c.loop-at.items c.loop-at.at c.trace_mut.new.self (omega arith), drop-set-lt
-          (c.loop-at.at + 1) c.loop-at.items c.loop-at.at c.trace_mut.new.self (omega arith))
+      rw (
+        flat_map-take-set g.T.TypeTrace.edges c.loop-at.items c.loop-at.at c.trace_mut.new.self (omega arith),
+        drop-set-lt
+            (c.loop-at.at + 1) c.loop-at.items c.loop-at.at c.trace_mut.new.self (omega arith),
+      )
           (MidstMut-more g.F.FnMut _ _ _ _ _ _ _ _ midst c.in_ok-trace_mut.ensures.run),
     )
 

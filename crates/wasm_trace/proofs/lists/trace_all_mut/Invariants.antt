@@ -7,4 +7,4 @@ abbrev pub invariant-loop-at : goal.invariant-loop-at
 invariant-loop-at g l =
     (map g.T.TypeTrace.frame l.items ≡ map g.T.TypeTrace.frame l.fn.items)
     × MidstMut g.F.FnMut l.fn.func (flat_map g.T.TypeTrace.edges l.fn.items) l.func (flat_map g.T.TypeTrace.edges (take l.at l.items))
-        (flat_map g.T.TypeTrace.edges (drop l.at l.items))
+    (flat_map g.T.TypeTrace.edges (drop l.at l.items))

@@ -11,7 +11,8 @@ read-tells g c =
     let count = min (min (length c.args.buf.now) source.piece) (length source.left) in
     record {
       within = IfOk-weaker c.result _ _ (λ n e. omega arith) c.ensures.count;
-      moves = front-and-rest-on-ok c.result count source.left c.args.buf.now _ _ (omega arith) c.ensures.count c.ensures.bytes (IfOk-weaker c.result _ _ (λ n e. ap (λ s. s.left) e) c.ensures.ok);
+      moves = front-and-rest-on-ok c.result count source.left c.args.buf.now _ _ (omega arith) c.ensures.count c.ensures.bytes
+          (IfOk-weaker c.result _ _ (λ n e. ap (λ s. s.left) e) c.ensures.ok);
       ends = c.ensures.ends;
       stays = on_err_weaker c.result (λ e. ap (λ s. Some s.left) e) c.ensures.err;
       counted = c.ensures.counted;

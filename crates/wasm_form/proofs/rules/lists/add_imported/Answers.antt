@@ -9,12 +9,14 @@ pub loop-import-preserved : goal.loop-import-preserved
 loop-import-preserved c =
     elim c.match-import.branch [
       | in-Memory+in_ok-push w ↦
-          let more = memories_of_more_imports c.args.types.now.items c.args.imports.now c.loop-import.import-index _ (Some w.in-Memory.ty) c.loop-import-test.true (ap memory_import w.in-Memory.is) in
+          let more = memories_of_more_imports c.args.types.now.items c.args.imports.now c.loop-import.import-index _
+          (Some w.in-Memory.ty) c.loop-import-test.true (ap memory_import w.in-Memory.is) in
           let pushed = w.in_ok-push.ensures.items in
           let grown = ap (λ v. v.items) w.types-is in
           cc
       | in_default w ↦
-          let more = memories_of_more_imports c.args.types.now.items c.args.imports.now c.loop-import.import-index _ None c.loop-import-test.true (not_memory _ w.in_default.not-Memory) in
+          let more = memories_of_more_imports c.args.types.now.items c.args.imports.now c.loop-import.import-index _ None
+          c.loop-import-test.true (not_memory _ w.in_default.not-Memory) in
           let grown = ap (λ v. v.items) w.types-is in
           grown ∙ c.loop-import.invariant ∙ sym (more ∙ append-nil _)
     ]
