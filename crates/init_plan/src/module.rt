@@ -5,8 +5,8 @@ ghost use Rattle.init_plan.specs.Views.{IsSegmented};
 
 use entity_map::PrimaryMap;
 use std::ops::Range;
-use wasm_index::{MemoryIndex, RuntimeDataIndex, StaticModuleIndex};
 use wasm_convert::ConstExpr;
+use wasm_index::{MemoryIndex, RuntimeDataIndex, StaticModuleIndex};
 use wasm_types::Memory;
 
 /// A translated module.

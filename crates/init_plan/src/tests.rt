@@ -11,8 +11,8 @@ use crate::{
 use entity_map::{EntityRef, OutOfMemory};
 use std::alloc::Global;
 use std::test::Fail;
-use wasm_index::{DataIndex, MemoryIndex, RuntimeDataIndex, StaticModuleIndex};
 use wasm_convert::{ConstExpr, ConstOp};
+use wasm_index::{DataIndex, MemoryIndex, RuntimeDataIndex, StaticModuleIndex};
 use wasm_types::{IndexType, Limits, Memory, Tunables};
 
 const ONE_PAGE: Memory = Memory {

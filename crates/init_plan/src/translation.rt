@@ -7,8 +7,8 @@ ghost use Rattle.init_plan.specs.Views.{bytes_of, passive_data_of, IsNewTranslat
 use crate::module::{MemoryInitialization, MemoryInitializer, Module};
 use entity_map::{OutOfMemory, PrimaryMap, SecondaryMap};
 use std::alloc::Global;
-use wasm_index::{DataIndex, MemoryIndex, RuntimeDataIndex, StaticModuleIndex};
 use wasm_convert::ConstExpr;
+use wasm_index::{DataIndex, MemoryIndex, RuntimeDataIndex, StaticModuleIndex};
 
 /// A translated module, and what is known of it only while it is compiled.
 #[derive(Drop)]
