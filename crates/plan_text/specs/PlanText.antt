@@ -1,9 +1,6 @@
 -- The text of a plan, line by line.
 use Rattle.std.specs.Prelude.{ℕ, ◌+◌, ◌-◌, List, [], ◌∷◌, ◌++◌, length, Option, Some, None, codes, decimal}
-use Rattle.std.specs.Fmt.{signed_decimal}
-use Rattle.std.specs.List.{flat_map, join_by}
-use Rattle.wasm_convert.specs.declared.operators.ConstOp.{ConstOp}
-use Rattle.wasm_convert.specs.declared.operators.ConstOp.TheVariants as ops
+use Rattle.std.specs.List.{flat_map}
 use Rattle.wasm_index.specs.declared.index.Index.{Index}
 use Rattle.wasm_index.specs.declared.spaces.RuntimeDataSpace.{RuntimeDataSpace}
 use Rattle.wasm_index.specs.Index.{number_of}
@@ -12,9 +9,9 @@ use Rattle.init_plan.specs.declared.module.MemoryInitialization.TheVariants as i
 use Rattle.init_plan.specs.declared.translation.MemoryInit.{MemoryInit}
 use Rattle.init_plan.specs.declared.translation.MemoryInit.TheVariants as init
 use Rattle.init_plan.specs.declared.translation.MemorySegmentOffset.{MemorySegmentOffset}
-use Rattle.init_plan.specs.declared.translation.MemorySegmentOffset.TheVariants as offset
 use Rattle.init_plan.specs.Views.{ranges_of}
 use Rattle.plan_text.specs.declared.plan.Plan.{Plan}
+use Rattle.plan_text.specs.Expressions.{offset_text}
 
 -- a line for each item, which is told its number
 abbrev pub numbered : {X : Type 0} → (ℕ → X → List ℕ) → ℕ → List X → List ℕ
@@ -28,19 +25,6 @@ memories_line imported all = codes "memories " ++ decimal imported ++ codes " " 
 abbrev pub initialization_line : MemoryInitialization → List ℕ
 initialization_line initialization.Segmented = codes "memory-init segmented\n"
 initialization_line (initialization.Static images) = codes "memory-init static\n"
-
--- numbers of constants are signed
-abbrev pub operator_text : ConstOp → List ℕ
-operator_text (ops.I32Const value) = codes "i32.const " ++ signed_decimal value
-operator_text (ops.I64Const value) = codes "i64.const " ++ signed_decimal value
-
--- operators, joined by a semicolon and a space
-abbrev pub expression_text : List ConstOp → List ℕ
-expression_text e = join_by operator_text (codes "; ") e
-
-abbrev pub offset_text : MemorySegmentOffset → List ℕ
-offset_text (offset.Expr e) = expression_text e
-offset_text (offset.Static place) = codes "static " ++ decimal place
 
 -- a planned segment: its memory, its runtime data and its place
 unfoldable pub segment_line : ℕ → ℕ → MemorySegmentOffset → List ℕ

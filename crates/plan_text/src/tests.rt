@@ -1,16 +1,19 @@
 //! Texts of plans that are made by hand, and the line of each refusal.
 
-ghost use Rattle.std.specs.Prelude.{◌≤◌, length};
+ghost use Rattle.std.specs.Prelude.{◌<◌, ◌≤◌, length};
 
 use crate::{Plan, TranslateError, plan_text, refusal_line};
 use entity_map::{EntityRef, OutOfMemory, PrimaryMap};
 use init_plan::{MemoryInit, MemoryInitialization, MemorySegmentOffset, ModuleTranslation};
 use std::alloc::Global;
 use std::test::Fail;
-use wasm_form::{Rule, What};
-use wasm_index::{DataIndex, MemoryIndex, StaticModuleIndex};
 use wasm_convert::{ConstExpr, ConstOp};
-use wasm_types::{IndexType, Limits, Memory};
+use wasm_form::{Rule, What};
+use wasm_index::{
+    DataIndex, FuncIndex, GlobalIndex, MemoryIndex, ModuleInternedTypeIndex, RuntimeDataIndex,
+    StaticModuleIndex, TypeIndex,
+};
+use wasm_types::{EngineOrModuleTypeIndex, IndexType, Limits, Memory, WasmHeapType};
 
 const PAGE: Memory = Memory {
     idx_type: IndexType::I32,
@@ -37,6 +40,11 @@ passive-data 2 1
 runtime 0 0 12
 runtime 1 12 20
 ";
+
+const BEFORE_PLACE: &str = "\
+memories 0 0
+memory-init segmented
+segment 0 0 at ";
 
 fn text_of(alloc: Global, translation: ModuleTranslation<'static>) -> Result<String, Fail>
     requires { translation.module.num_imported_memories ≤ length translation.module.memories }
@@ -97,6 +105,100 @@ fn images_wide_constants_and_passive_data(rt: HostRuntime) -> Result<(), Fail> {
     translation.runtime_data_map.insert(passive, Some(second))?;
     let text = text_of(alloc, translation)?;
     assert_eq!(rt; text.as_str(), WITH_IMAGES);
+    Ok(())
+}
+
+// The text of a plan that keeps one segment, at the place that these operators compute.
+fn text_at(alloc: Global, operators: &[ConstOp]) -> Result<String, Fail>
+    requires { 0 < length operators.now }
+{
+    let mut translation = ModuleTranslation::new(alloc, StaticModuleIndex::new(0))?;
+    let place = MemorySegmentOffset::Expr(ConstExpr::new(alloc, operators)?);
+    let segment = (MemoryIndex::new(0), place, RuntimeDataIndex::new(0));
+    translation.memory_init = MemoryInit::Processed(vec![in alloc; segment]?);
+    text_of(alloc, translation)
+}
+
+#[test]
+fn each_operator_has_its_text(rt: HostRuntime) -> Result<(), Fail> {
+    let alloc = rt.alloc();
+    let declared = TypeIndex::new(6);
+    let interned = EngineOrModuleTypeIndex::Module(ModuleInternedTypeIndex::new(5));
+    for (operator, words) in [
+        (ConstOp::I32Const(i32::MIN), "i32.const -2147483648"),
+        (ConstOp::I64Const(i64::MAX), "i64.const 9223372036854775807"),
+        (ConstOp::F32Const(1), "f32.const 0x00000001"),
+        (ConstOp::F32Const(0xFF80_0000), "f32.const 0xff800000"),
+        (
+            ConstOp::F64Const(0x000F_EDCB_A987_6543),
+            "f64.const 0x000fedcba9876543",
+        ),
+        (
+            ConstOp::V128Const(15),
+            "v128.const 0x0000000000000000000000000000000f",
+        ),
+        (
+            ConstOp::V128Const(u128::MAX),
+            "v128.const 0xffffffffffffffffffffffffffffffff",
+        ),
+        (
+            ConstOp::GlobalGet(GlobalIndex::new(4294967294)),
+            "global.get 4294967294",
+        ),
+        (ConstOp::RefI31, "ref.i31"),
+        (
+            ConstOp::RefNull(WasmHeapType::NoExtern),
+            "ref.null noextern",
+        ),
+        (
+            ConstOp::RefNull(WasmHeapType::ConcreteStruct(interned)),
+            "ref.null struct (module 5)",
+        ),
+        (ConstOp::RefFunc(FuncIndex::new(0)), "ref.func 0"),
+        (ConstOp::I32Add, "i32.add"),
+        (ConstOp::I32Sub, "i32.sub"),
+        (ConstOp::I32Mul, "i32.mul"),
+        (ConstOp::I64Add, "i64.add"),
+        (ConstOp::I64Sub, "i64.sub"),
+        (ConstOp::I64Mul, "i64.mul"),
+        (
+            ConstOp::StructNew {
+                struct_type_index: declared,
+            },
+            "struct.new 6",
+        ),
+        (
+            ConstOp::StructNewDefault {
+                struct_type_index: declared,
+            },
+            "struct.new_default 6",
+        ),
+        (
+            ConstOp::ArrayNew {
+                array_type_index: declared,
+            },
+            "array.new 6",
+        ),
+        (
+            ConstOp::ArrayNewDefault {
+                array_type_index: declared,
+            },
+            "array.new_default 6",
+        ),
+        (
+            ConstOp::ArrayNewFixed {
+                array_type_index: declared,
+                array_size: 12,
+            },
+            "array.new_fixed 6 12",
+        ),
+        (ConstOp::ExternConvertAny, "extern.convert_any"),
+        (ConstOp::AnyConvertExtern, "any.convert_extern"),
+    ] {
+        let text = text_at(alloc, &[ConstOp::I32Const(0), operator])?;
+        let expected = format!(in alloc; "{BEFORE_PLACE}i32.const 0; {words}\n")?;
+        assert_eq!(rt; text.as_str(), expected.as_str());
+    }
     Ok(())
 }
 

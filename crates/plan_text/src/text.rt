@@ -1,10 +1,13 @@
 //! A text that grows in memory.
 
-ghost use Rattle.std.specs.Prelude.{◌≡◌, ◌++◌, ◌∷◌, [], OnOk};
+ghost use Rattle.std.specs.Prelude.{◌≡◌, ◌<◌, ◌≤◌, ◌++◌, ◌∷◌, [], false, OnOk};
+ghost use Rattle.std.specs.Fmt.{digit_glyph, AppendsText};
+ghost use Rattle.plan_text.specs.Expressions.{hexadecimal};
 
 use entity_map::OutOfMemory;
 use itoa::{Buffer, Integer};
 use std::alloc::Global;
+use std::fmt::{self, Display, Write};
 use std::marker::Model;
 
 /// Bytes that are written from the first to the last. After a failure the text may end anywhere.
@@ -63,5 +66,49 @@ impl Text {
     {
         let mut buffer = Buffer::new();
         self.push_str(buffer.format(number))
+    }
+
+    /// Appends the last digits of a number in base 16, so many of them, with zeros in front where it has fewer.
+    pub(crate) fn push_hexadecimal(
+        &mut self,
+        number: u128,
+        digits: usize,
+    ) -> Result<(), OutOfMemory>
+        requires { digits ≤ 32 }
+        ensures { OnOk result (self.new ≡ self.old ++ hexadecimal digits number) }
+    {
+        for place in (0..digits).rev() {
+            let digit = (number >> (4 * place)) % 16;
+            self.push_byte(hexadecimal_digit(digit as u8))?;
+        }
+        Ok(())
+    }
+
+    /// Appends what a value displays.
+    #[inline]
+    pub(crate) fn push_display<D: Display + Drop>(&mut self, value: D) -> Result<(), OutOfMemory>
+        ensures { OnOk result (AppendsText self.old self.new (D.output value)) }
+    {
+        write!(self, "{value}").map_err(|_| OutOfMemory)
+    }
+}
+
+/// A write fails only for want of memory.
+impl Write for Text {
+    ghost write_str_gives = { λ text words longer. longer ≡ text ++ words };
+
+    fn write_str(&mut self, words: &str) -> fmt::Result {
+        self.push_str(words).map_err(|_| fmt::Error)
+    }
+}
+
+fn hexadecimal_digit(digit: u8) -> u8
+    requires { digit < 16 }
+    ensures { result ≡ digit_glyph false digit }
+{
+    if digit < 10 {
+        b'0' + digit
+    } else {
+        b'a' + (digit - 10)
     }
 }

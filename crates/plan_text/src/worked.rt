@@ -2,18 +2,27 @@
 
 ghost use Rattle.std.specs.Prelude.{◌≡◌, [], ◌∷◌, Some, None, pos, negsuc, codes};
 ghost use Rattle.wasm_index.specs.Index.{index_of};
-ghost use Rattle.plan_text.specs.PlanText.{memories_line, operator_text, expression_text, segment_line, passive_line, runtime_line};
+ghost use Rattle.plan_text.specs.Expressions.{operator_text, expression_text};
+ghost use Rattle.plan_text.specs.PlanText.{memories_line, segment_line, passive_line, runtime_line};
 ghost use Rattle.plan_text.specs.Refusals.{text_of_refusal};
 
 use crate::error::TranslateError;
 use init_plan::MemorySegmentOffset;
-use wasm_form::{Rule, What};
 use wasm_convert::ConstOp;
+use wasm_form::{Rule, What};
+use wasm_types::{EngineOrModuleTypeIndex, WasmHeapType};
 
-/// Constants are signed, and operators are joined by a semicolon and a space.
+/// Integers are signed, floats and vectors are their bits, and operators are joined by a semicolon and a space.
 pub fn worked_expressions()
     ensures minus_one { operator_text (ConstOp.I32Const (negsuc 0)) ≡ codes "i32.const -1" }
     ensures wide { operator_text (ConstOp.I64Const (pos 20)) ≡ codes "i64.const 20" }
+    ensures leading_zeros { operator_text (ConstOp.F32Const 0xabc) ≡ codes "f32.const 0x00000abc" }
+    ensures one_and_a_half { operator_text (ConstOp.F64Const 0x3ff8_0000_0000_0000) ≡ codes "f64.const 0x3ff8000000000000" }
+    ensures vector { operator_text (ConstOp.V128Const 0x0102_0304_0506_0708_090a_0b0c_0d0e_0f10)
+        ≡ codes "v128.const 0x0102030405060708090a0b0c0d0e0f10" }
+    ensures null_of_module_type { operator_text (ConstOp.RefNull (WasmHeapType.ConcreteFunc (EngineOrModuleTypeIndex.Module (index_of 7))))
+        ≡ codes "ref.null func (module 7)" }
+    ensures fixed_array { operator_text (ConstOp.ArrayNewFixed (index_of 3) 2) ≡ codes "array.new_fixed 3 2" }
     ensures two { expression_text (ConstOp.I32Const (pos 1) ∷ ConstOp.I64Const (negsuc 1) ∷ [])
         ≡ codes "i32.const 1; i64.const -2" }
 {}

@@ -1,6 +1,6 @@
 use Rattle.std.proofs.Common.{◌≡◌, ◌++◌, take, codes}
 use Rattle.std.specs.List.{flat_map}
-use Rattle.plan_text.specs.PlanText.{operator_text}
+use Rattle.plan_text.specs.Expressions.{operator_text}
 use Rattle.plan_text.proofs.expressions.append_expression.Given as goal
 
 abbrev pub invariant-loop-operator : goal.invariant-loop-operator
