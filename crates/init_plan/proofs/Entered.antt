@@ -14,7 +14,8 @@ use Rattle.wasm_index.specs.Index.{number_of, index_of}
 use Rattle.init_plan.specs.Views.{FindsRuntime}
 
 -- what holds of a list's values holds of the value of each element
-pub All-read_map : {X Y : Type 0} (f : X → Y) (P : Y → Type 0) (xs : List X) (i : ℕ) (d : X) → i < length xs → All P (map f xs) → P (f (get_or xs i d))
+pub All-read_map : {X Y : Type 0} (f : X → Y) (P : Y → Type 0) (xs : List X) (i : ℕ) (d : X) → i < length xs → All P (map f xs)
+    → P (f (get_or xs i d))
 All-read_map f P xs i d within h = subst P (get_or-map f xs i d (f d) within) (h i (f d) (omega (arith, length-map xs f)))
 
 -- ---- a map with one place written
@@ -25,7 +26,8 @@ read-written d [] (suc n) v = read-written d [] n v
 read-written d (x ∷ xs) zero v = refl
 read-written d (x ∷ xs) (suc n) v = read-written d xs n v
 
-other-written : {V : Type 0} (d : V) (xs : List V) (n k : ℕ) (v : V) → (k ≡ n → ⊥) → unwrap_or (slice_get (written d xs n v) k) d ≡ unwrap_or (slice_get xs k) d
+other-written : {V : Type 0} (d : V) (xs : List V) (n k : ℕ) (v : V) → (k ≡ n → ⊥)
+    → unwrap_or (slice_get (written d xs n v) k) d ≡ unwrap_or (slice_get xs k) d
 other-written d [] zero zero v ne = absurd (ne refl)
 other-written d [] zero (suc k) v ne = refl
 other-written d [] (suc n) zero v ne = refl
@@ -61,7 +63,11 @@ entered-apart n m (k ∷ ks) q apart =
 
 IsApart-from_absent : (ks : List ℕ) (q : ℕ) → ¬ Contains ks q → IsApart q ks
 IsApart-from_absent [] q absent = tt
-IsApart-from_absent (k ∷ ks) q absent = (ne_eqb q k (λ e. absent (0, omega arith, sym e)), IsApart-from_absent ks q (λ c. absent (suc c.0, (let h = c.1 in omega arith), c.2)))
+IsApart-from_absent (k ∷ ks) q absent = (
+  ne_eqb q k (λ e. absent (0, omega arith, sym e)),
+  IsApart-from_absent ks q
+      (λ c. absent (suc c.0, (let h = c.1 in omega arith), c.2)),
+)
 
 -- where no key is q, the map is as it was
 pub entered-others : (n : ℕ) (m : RuntimeDataMap) (ks : List ℕ) (q : ℕ) → ¬ Contains ks q → value_at (entered n m ks) q ≡ value_at m q
@@ -76,19 +82,23 @@ get-middle : {X : Type 0} (before after : List X) (x : X) → slice_get (before 
 get-middle [] after x = refl
 get-middle (b ∷ before) after x = get-middle before after x
 
-each-found : (before : List (List ℕ)) (n : ℕ) (m : RuntimeDataMap) (ps : List (ℕ × List ℕ)) → n ≡ length before → IsDistinct nat_eq (map (λ p. p.0) ps)
+each-found : (before : List (List ℕ)) (n : ℕ) (m : RuntimeDataMap) (ps : List (ℕ × List ℕ)) → n ≡ length before
+    → IsDistinct nat_eq (map (λ p. p.0) ps)
     → AllByRecursion (IsFoundIn (before ++ map (λ p. p.1) ps) (entered n m (map (λ p. p.0) ps))) ps
 each-found before n m [] at distinct = tt
 each-found before n m (p ∷ ps) at distinct =
     let ks : List ℕ = map (λ p. p.0) ps in
     let m' : RuntimeDataMap = with_value m p.0 (Some (index_of n)) in
     let apart : IsApart p.0 ks = IsDistinct-head nat_eq p.0 ks distinct in
-    let entry : value_at (entered (n + 1) m' ks) p.0 ≡ Some (index_of n) = entered-apart (n + 1) m' ks p.0 apart ∙ value_at-with_value m p.0 (Some (index_of n)) in
+    let entry : value_at (entered (n + 1) m' ks) p.0 ≡ Some (index_of n) = entered-apart (n + 1) m' ks p.0 apart
+    ∙ value_at-with_value m p.0 (Some (index_of n)) in
     let here : IsFoundIn (before ++ p.1 ∷ map (λ p. p.1) ps) (entered (n + 1) m' ks) p = rw (entry, at) (get-middle before (map (λ p. p.1) ps) p.1) in
     let rest = each-found (before ++ p.1 ∷ []) (n + 1) m' ps (omega (arith, length_push before p.1)) (IsDistinct-tail nat_eq p.0 ks distinct) in
     (here, rw append_assoc at rest)
 
 -- each segment is found with its bytes
-pub entered-found : (before : List (List ℕ)) (n : ℕ) (m : RuntimeDataMap) (ps : List (ℕ × List ℕ)) → n ≡ length before → IsDistinct nat_eq (map (λ p. p.0) ps)
+pub entered-found : (before : List (List ℕ)) (n : ℕ) (m : RuntimeDataMap) (ps : List (ℕ × List ℕ)) → n ≡ length before
+    → IsDistinct nat_eq (map (λ p. p.0) ps)
     → All (IsFoundIn (before ++ map (λ p. p.1) ps) (entered n m (map (λ p. p.0) ps))) ps
-entered-found before n m ps at distinct = All-from_recursion (IsFoundIn (before ++ map (λ p. p.1) ps) (entered n m (map (λ p. p.0) ps))) ps (each-found before n m ps at distinct)
+entered-found before n m ps at distinct = All-from_recursion (IsFoundIn (before ++ map (λ p. p.1) ps) (entered n m (map (λ p. p.0) ps))) ps
+    (each-found before n m ps at distinct)

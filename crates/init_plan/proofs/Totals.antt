@@ -11,10 +11,13 @@ sum_by-map : {X Y : Type 0} (g : Y → ℕ) (f : X → Y) (xs : List X) → sum_
 sum_by-map g f [] = refl
 sum_by-map g f (x ∷ xs) = sum_by-cons g (f x) (map f xs) ∙ ap (λ n. g (f x) + n) (sum_by-map g f xs) ∙ sym (sum_by-cons (λ y. g (f y)) x xs)
 
-pub active_total : (segments : List MemoryInitializer) → sum_by length (map (λ s. s.bytes) (map active_segment_of segments)) ≡ sum_by (λ s. length s.bytes.now) segments
-active_total segments = sum_by-map length (λ s. s.bytes) (map active_segment_of segments) ∙ sum_by-map (λ s. length s.bytes) active_segment_of segments
+pub active_total : (segments : List MemoryInitializer)
+    → sum_by length (map (λ s. s.bytes) (map active_segment_of segments)) ≡ sum_by (λ s. length s.bytes.now) segments
+active_total segments = sum_by-map length (λ s. s.bytes) (map active_segment_of segments)
+    ∙ sum_by-map (λ s. length s.bytes) active_segment_of segments
 
-pub passive_total : (segments : List (Index DataSpace × Bor (List ℕ))) → sum_by length (map (λ p. p.1) (map passive_segment_of segments)) ≡ sum_by (λ p. length p.1.now) segments
+pub passive_total : (segments : List (Index DataSpace × Bor (List ℕ)))
+    → sum_by length (map (λ p. p.1) (map passive_segment_of segments)) ≡ sum_by (λ p. length p.1.now) segments
 passive_total segments = sum_by-map length (λ p. p.1) (map passive_segment_of segments) ∙ sum_by-map (λ p. length p.1) passive_segment_of segments
 
 pub ruleset totals = (active_total, passive_total)

@@ -38,8 +38,10 @@ pub readable : (bytes : List ℕ) → (v : IsValid bytes) → IsReadable bytes v
 readable bytes v = record { short = v.short; spelled = v.spelled; no_interface_types = v.no_interface_types }
 
 -- input that can be read is refused for want of memory alone
-pub read_complete : (bytes : List ℕ) (r : Result Form ReadError) (e : ReadError) (m : Module) → ReadingTells bytes r → r ≡ Err e → IsReadable bytes m → error_of_read e ≡ refusal.OutOfMemory
-read_complete bytes r e m t is can = ap error_of_read (subst (λ (q : Result Form ReadError). ReadsAs q m) is (t.complete can.short m can.spelled can.no_interface_types))
+pub read_complete : (bytes : List ℕ) (r : Result Form ReadError) (e : ReadError) (m : Module) → ReadingTells bytes r → r ≡ Err e
+    → IsReadable bytes m → error_of_read e ≡ refusal.OutOfMemory
+read_complete bytes r e m t is can = ap error_of_read
+    (subst (λ (q : Result Form ReadError). ReadsAs q m) is (t.complete can.short m can.spelled can.no_interface_types))
 
 -- the module that it spells is the one that was read
 pub read_as : (bytes : List ℕ) (form : Form) (m : Module) → ReadingTells bytes (Ok form) → IsReadable bytes m → module_of form ≡ m
@@ -63,7 +65,9 @@ all_planned m whats.Operator sections constants un = un.1 constants
 all_planned m _ sections constants un = un
 
 -- where nothing is named, all is planned
-pub nothing_named : (m : Module) (o : Option What) → MatchOption o (OnlyPlannedSections m × OnlyConstantOffsets m) (λ what. IsUnplanned what m) → ((what : What) → o ≡ Some what → ⊥) → OnlyPlannedSections m × OnlyConstantOffsets m
+pub nothing_named : (m : Module) (o : Option What)
+    → MatchOption o (OnlyPlannedSections m × OnlyConstantOffsets m) (λ what. IsUnplanned what m) → ((what : What) → o ≡ Some what → ⊥)
+    → OnlyPlannedSections m × OnlyConstantOffsets m
 nothing_named m None told none = told
 nothing_named m (Some what) told none = absurd (none what refl)
 
@@ -75,19 +79,23 @@ was_short bytes form t = let short : 2 ^ 30 ≤ length bytes → ⊥ = λ long. 
   no_error : (let r : Result Form ReadError = Ok form in r) ≡ Err read.TooLarge → ⊥
   no_error e = absurd cc
 
-pub check_cause : (bytes : List ℕ) (m : Module) (r : Result (Unit {0}) CheckError) (e : CheckError) → r ≡ Err e → ((rule : Rule) → r ≡ Err (checks.Invalid rule) → ¬ Kept rule m)
+pub check_cause : (bytes : List ℕ) (m : Module) (r : Result (Unit {0}) CheckError) (e : CheckError) → r ≡ Err e
+    → ((rule : Rule) → r ≡ Err (checks.Invalid rule) → ¬ Kept rule m)
     → ((rule : Rule) → r ≡ Err (checks.Invalid rule) → KeepsBefore rule m) → Spells bytes m → HasCause bytes (error_of_check e)
 check_cause bytes m r (checks.Invalid rule) is broken first spelled = (m, spelled, (broken rule is, first rule is))
 check_cause bytes m r checks.OutOfMemory is broken first spelled = tt
 
-pub check_complete : (m : Module) (r : Result (Unit {0}) CheckError) (e : CheckError) → r ≡ Err e → (Keeps m → ChecksOrNoMemory r) → Keeps m → error_of_check e ≡ refusal.OutOfMemory
+pub check_complete : (m : Module) (r : Result (Unit {0}) CheckError) (e : CheckError) → r ≡ Err e → (Keeps m → ChecksOrNoMemory r) → Keeps m
+    → error_of_check e ≡ refusal.OutOfMemory
 check_complete m r e is complete kept = ap error_of_check (subst (λ (q : Result (Unit {0}) CheckError). ChecksOrNoMemory q) is (complete kept))
 
 -- the data of the module pass their limit
-pub plan_cause : (bytes : List ℕ) (m : Module) (total : ℕ) (r : Result (Unit {0}) PlanError) (e : PlanError) → r ≡ Err e → (r ≡ Err plan.TooLarge → 2 ^ 32 ≤ total) → total ≡ data_size m → Spells bytes m → HasCause bytes (error_of_plan e)
+pub plan_cause : (bytes : List ℕ) (m : Module) (total : ℕ) (r : Result (Unit {0}) PlanError) (e : PlanError) → r ≡ Err e
+    → (r ≡ Err plan.TooLarge → 2 ^ 32 ≤ total) → total ≡ data_size m → Spells bytes m → HasCause bytes (error_of_plan e)
 plan_cause bytes m total r plan.TooLarge is too_large same spelled = inr (m, spelled, let h = too_large is in omega (arith, same))
 plan_cause bytes m total r plan.OutOfMemory is too_large same spelled = tt
 
-pub plan_complete : (m : Module) (total : ℕ) (r : Result (Unit {0}) PlanError) (e : PlanError) → r ≡ Err e → (r ≡ Err plan.TooLarge → 2 ^ 32 ≤ total) → total ≡ data_size m → data_size m < 2 ^ 32 → error_of_plan e ≡ refusal.OutOfMemory
+pub plan_complete : (m : Module) (total : ℕ) (r : Result (Unit {0}) PlanError) (e : PlanError) → r ≡ Err e
+    → (r ≡ Err plan.TooLarge → 2 ^ 32 ≤ total) → total ≡ data_size m → data_size m < 2 ^ 32 → error_of_plan e ≡ refusal.OutOfMemory
 plan_complete m total r plan.TooLarge is too_large same small = absurd (let h = too_large is in omega (arith, same))
 plan_complete m total r plan.OutOfMemory is too_large same small = refl

@@ -21,12 +21,15 @@ pub record PlanningTells (old new : ModuleTranslation) : Type 0 where
   pub others : (index : ℕ) → ¬ Contains (map (λ p. p.0) (passive_data_of old)) index → (memory_plan_of new).passive index ≡ None
   pub same : OnlyMemoryInitChanges old new
 
-same_over : (i j : ℕ) (d e : List ℕ) (a b : List ActiveSegment) (plan : MemoryPlan) → i ≡ j → d ≡ e → a ≡ b → AgreesOver i d a plan → AgreesOver j e b plan
+same_over : (i j : ℕ) (d e : List ℕ) (a b : List ActiveSegment) (plan : MemoryPlan) → i ≡ j → d ≡ e → a ≡ b → AgreesOver i d a plan
+    → AgreesOver j e b plan
 same_over i j d e a b plan p q r h =
-    subst (λ (n : ℕ). AgreesOver n e b plan) p (subst (λ (ns : List ℕ). AgreesOver i ns b plan) q (subst (λ (ss : List ActiveSegment). AgreesOver i d ss plan) r h))
+    subst (λ (n : ℕ). AgreesOver n e b plan) p (subst (λ (ns : List ℕ). AgreesOver i ns b plan) q
+    (subst (λ (ss : List ActiveSegment). AgreesOver i d ss plan) r h))
 
 -- a data segment is found where it is passive, and not otherwise
-finds : (plan : MemoryPlan) (ss : List Segment) → All (FindsData plan) (passive_from 0 ss) → ((index : ℕ) → ¬ Contains (map (λ p. p.0) (passive_from 0 ss)) index → plan.passive index ≡ None)
+finds : (plan : MemoryPlan) (ss : List Segment) → All (FindsData plan) (passive_from 0 ss)
+    → ((index : ℕ) → ¬ Contains (map (λ p. p.0) (passive_from 0 ss)) index → plan.passive index ≡ None)
     → (index : ℕ) (o : Option Segment) → slice_get ss index ≡ o → Finds plan (plan.passive index) o
 finds plan ss found others index None e = others index (not_contained index ss (rw e tt))
 finds plan ss found others index (Some s) e = by_kind s.kind refl where
@@ -42,7 +45,8 @@ finds plan ss found others index (Some s) e = by_kind s.kind refl where
   not_found (Some n) memory offset e = e
 
   by_kind : (kind : DataKind) → s.kind ≡ kind → FindsPassive plan (plan.passive index) s.kind s.bytes
-  by_kind Passive is = subst (λ (k : DataKind). FindsPassive plan (plan.passive index) k s.bytes) (sym is) (is_found (plan.passive index) (passive_has (FindsData plan) index ss s found e is))
+  by_kind Passive is = subst (λ (k : DataKind). FindsPassive plan (plan.passive index) k s.bytes) (sym is)
+      (is_found (plan.passive index) (passive_has (FindsData plan) index ss s found e is))
   by_kind (Active memory offset) is =
       let none = others index (not_contained index ss (rw e (is_active memory offset is))) in
       subst (λ (k : DataKind). FindsPassive plan (plan.passive index) k s.bytes) (sym is) (not_found (plan.passive index) memory offset none)
@@ -58,7 +62,8 @@ module _ (bytes : List ℕ) (m : Module) (old : ModuleTranslation) (filled : Fil
   total_same = rw (filled.active, filled.passive) (sizes_add 0 (segments m))
 
   sizes_of_memories : defined_sizes old.module ≡ map minimum_size (defined_memories m)
-  sizes_of_memories = rw (filled.imports, filled.memories, after_imports memory_of (imported_memories m) (defined_memories m)) (sizes_same (defined_memories m))
+  sizes_of_memories = rw (filled.imports, filled.memories, after_imports memory_of (imported_memories m) (defined_memories m))
+      (sizes_same (defined_memories m))
 
   module _ (new : ModuleTranslation) (planned : PlanningTells old new) where
     agrees_with : Agrees m (memory_plan_of new)
@@ -66,9 +71,11 @@ module _ (bytes : List ℕ) (m : Module) (old : ModuleTranslation) (filled : Fil
 
     runtime_same : (memory_plan_of new).runtime ≡ runtime_data m
     runtime_same =
-        let active : active_bytes old ≡ map (λ s. s.bytes) (active_segments m) = ap (λ (ss : List ActiveSegment). map (λ s. s.bytes) ss) filled.active in
+        let active : active_bytes old ≡ map (λ s. s.bytes) (active_segments m) =
+        ap (λ (ss : List ActiveSegment). map (λ s. s.bytes) ss) filled.active in
         let passive = ap (λ (ps : List (ℕ × List ℕ)). map (λ p. p.1) ps) filled.passive ∙ passive_bytes_same 0 (segments m) in
-        planned.runtime ∙ ap (λ (bs : List (List ℕ)). bs ++ passive_bytes old) active ∙ ap (λ (bs : List (List ℕ)). map (λ s. s.bytes) (active_segments m) ++ bs) passive
+        planned.runtime ∙ ap (λ (bs : List (List ℕ)). bs ++ passive_bytes old) active
+        ∙ ap (λ (bs : List (List ℕ)). map (λ s. s.bytes) (active_segments m) ++ bs) passive
 
     pub is_plan : IsPlanOf bytes m (record { translation = new })
     is_plan = record {
@@ -79,6 +86,7 @@ module _ (bytes : List ℕ) (m : Module) (old : ModuleTranslation) (filled : Fil
       runtime = runtime_same;
       ranges = planned.ranges ∙ ap (λ (bs : List (List ℕ)). ranges_from 0 (map length bs)) runtime_same;
       passive = λ index. finds (memory_plan_of new) (segments m) (subst (All (FindsData (memory_plan_of new))) filled.passive planned.found)
-          (λ i none. planned.others i (subst (λ (ps : List (ℕ × List ℕ)). ¬ Contains (map (λ p. p.0) ps) i) (sym filled.passive) none)) index (slice_get (segments m) index) refl;
+          (λ i none. planned.others i (subst (λ (ps : List (ℕ × List ℕ)). ¬ Contains (map (λ p. p.0) ps) i)
+          (sym filled.passive) none)) index (slice_get (segments m) index) refl;
       wasm = planned.same.wasm ∙ filled.wasm;
     }

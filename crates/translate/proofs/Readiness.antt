@@ -27,27 +27,35 @@ use Rattle.translate.proofs.Adding.{AddsModule}
 one_operator : (ops : Expression) (c : Class) → HasClass ops c → length ops ≡ 1
 one_operator ops c is = sym (length-map ops class_of) ∙ ap length is
 
-CanBeAdded-from_rules : (types : List MemoryType) (kind : DataKind) → length types < 2 ^ 30 → NamesMemory types kind → HasOffset types kind → HasConstantOffset kind → CanBeAdded kind
+CanBeAdded-from_rules : (types : List MemoryType) (kind : DataKind) → length types < 2 ^ 30 → NamesMemory types kind → HasOffset types kind
+    → HasConstantOffset kind → CanBeAdded kind
 CanBeAdded-from_rules types Passive few named offset constants = tt
-CanBeAdded-from_rules types (Active memory ops) few named offset constants = (omega arith, by_memory (slice_get_cases types memory).1, constants) where
-  by_memory : ((t : MemoryType) × (memory < length types) × (slice_get types memory ≡ Some t) × (get_or types memory t ≡ t)) ⊎ ((length types ≤ memory) × (slice_get types memory ≡ None)) → length ops ≡ 1
-  by_memory (inl found) = one_operator ops (address_class found.0) (subst (λ (o : Option MemoryType). IfSome o (λ t. HasClass ops (address_class t))) found.2 offset)
-  by_memory (inr past) = absurd (omega arith)
+CanBeAdded-from_rules types (Active memory ops) few named offset constants =
+    (omega arith, by_memory (slice_get_cases types memory).1, constants) where
+      by_memory : ((t : MemoryType) × (memory < length types) × (slice_get types memory ≡ Some t) × (get_or types memory t ≡ t))
+          ⊎ ((length types ≤ memory) × (slice_get types memory ≡ None)) → length ops ≡ 1
+      by_memory (inl found) = one_operator ops (address_class found.0)
+          (subst (λ (o : Option MemoryType). IfSome o (λ t. HasClass ops (address_class t))) found.2 offset)
+      by_memory (inr past) = absurd (omega arith)
 
 -- ---- active segments
 
-active_in_range : (n : ℕ) (types : List MemoryType) (ss : List Segment) → length types ≡ n → All (λ (s : Segment). NamesMemory types s.kind) ss → All (λ (s : ActiveSegment). s.memory < n) (active_among ss)
+active_in_range : (n : ℕ) (types : List MemoryType) (ss : List Segment) → length types ≡ n
+    → All (λ (s : Segment). NamesMemory types s.kind) ss → All (λ (s : ActiveSegment). s.memory < n) (active_among ss)
 active_in_range n types [] is named = All-nil (λ (s : ActiveSegment). s.memory < n)
 active_in_range n types (s ∷ ss) is named =
-    with_kind s.kind (All-head (λ (x : Segment). NamesMemory types x.kind) s ss named) (active_in_range n types ss is (All-tail (λ (x : Segment). NamesMemory types x.kind) s ss named)) where
-      with_kind : (kind : DataKind) → NamesMemory types kind → All (λ (x : ActiveSegment). x.memory < n) (active_among ss) → All (λ (x : ActiveSegment). x.memory < n) (cons_option (active_of_kind kind s.bytes) (active_among ss))
+    with_kind s.kind (All-head (λ (x : Segment). NamesMemory types x.kind) s ss named)
+    (active_in_range n types ss is (All-tail (λ (x : Segment). NamesMemory types x.kind) s ss named)) where
+      with_kind : (kind : DataKind) → NamesMemory types kind → All (λ (x : ActiveSegment). x.memory < n) (active_among ss)
+          → All (λ (x : ActiveSegment). x.memory < n) (cons_option (active_of_kind kind s.bytes) (active_among ss))
       with_kind Passive named others = others
       with_kind (Active memory offset) named others = All-cons (λ (x : ActiveSegment). x.memory < n) _ (active_among ss) (omega arith) others
 
 few_active : (ss : List Segment) → length (active_among ss) ≤ length ss
 few_active [] = omega arith
 few_active (s ∷ ss) = with_kind s.kind (few_active ss) where
-  with_kind : (kind : DataKind) → length (active_among ss) ≤ length ss → length (cons_option (active_of_kind kind s.bytes) (active_among ss)) ≤ length (s ∷ ss)
+  with_kind : (kind : DataKind) → length (active_among ss) ≤ length ss
+      → length (cons_option (active_of_kind kind s.bytes) (active_among ss)) ≤ length (s ∷ ss)
   with_kind Passive few = omega arith
   with_kind (Active memory offset) few = omega arith
 
@@ -56,7 +64,8 @@ few_active (s ∷ ss) = with_kind s.kind (few_active ss) where
 few_passive : (n : ℕ) (ss : List Segment) → length (passive_from n ss) ≤ length ss
 few_passive n [] = omega arith
 few_passive n (s ∷ ss) = with_kind s.kind (few_passive (n + 1) ss) where
-  with_kind : (kind : DataKind) → length (passive_from (n + 1) ss) ≤ length ss → length (passive_of_kind kind n s.bytes ++ passive_from (n + 1) ss) ≤ length (s ∷ ss)
+  with_kind : (kind : DataKind) → length (passive_from (n + 1) ss) ≤ length ss
+      → length (passive_of_kind kind n s.bytes ++ passive_from (n + 1) ss) ≤ length (s ∷ ss)
   with_kind Passive few = omega arith
   with_kind (Active memory offset) few = omega arith
 
@@ -67,7 +76,8 @@ IsWithin low high p = (low ≤ p.0) × (p.0 < high)
 passive_within : (low high n : ℕ) (ss : List Segment) → low ≤ n → n + length ss ≤ high → All (IsWithin low high) (passive_from n ss)
 passive_within low high n [] from to = All-nil (IsWithin low high)
 passive_within low high n (s ∷ ss) from to = with_kind s.kind (passive_within low high (n + 1) ss (omega arith) (omega arith)) where
-  with_kind : (kind : DataKind) → All (IsWithin low high) (passive_from (n + 1) ss) → All (IsWithin low high) (passive_of_kind kind n s.bytes ++ passive_from (n + 1) ss)
+  with_kind : (kind : DataKind) → All (IsWithin low high) (passive_from (n + 1) ss)
+      → All (IsWithin low high) (passive_of_kind kind n s.bytes ++ passive_from (n + 1) ss)
   with_kind Passive others = All-cons (IsWithin low high) (n, s.bytes) (passive_from (n + 1) ss) (omega arith, omega arith) others
   with_kind (Active memory offset) others = others
 
@@ -78,11 +88,14 @@ passive_distinct n (s ∷ ss) = with_kind s.kind (passive_distinct (n + 1) ss) w
   others_differ : (p : ℕ × List ℕ) → IsWithin (n + 1) (n + 1 + length ss) p → nat_eq n p.0 ≡ false
   others_differ p within = ne_eqb n p.0 (λ e. omega arith)
 
-  with_kind : (kind : DataKind) → IsDistinct nat_eq (map (λ p. p.0) (passive_from (n + 1) ss)) → IsDistinct nat_eq (map (λ p. p.0) (passive_of_kind kind n s.bytes ++ passive_from (n + 1) ss))
+  with_kind : (kind : DataKind) → IsDistinct nat_eq (map (λ p. p.0) (passive_from (n + 1) ss))
+      → IsDistinct nat_eq (map (λ p. p.0) (passive_of_kind kind n s.bytes ++ passive_from (n + 1) ss))
   with_kind Passive others =
       let within = passive_within (n + 1) (n + 1 + length ss) (n + 1) ss (omega arith) (omega arith) in
-      let differ = All-weaker (IsWithin (n + 1) (n + 1 + length ss)) (λ (p : ℕ × List ℕ). nat_eq n p.0 ≡ false) others_differ (passive_from (n + 1) ss) within in
-      IsDistinct-cons nat_eq n _ (recursion_from_All (λ (k : ℕ). nat_eq n k ≡ false) _ (All-map (λ (k : ℕ). nat_eq n k ≡ false) (λ (p : ℕ × List ℕ). p.0) (passive_from (n + 1) ss) differ)) others
+      let differ = All-weaker (IsWithin (n + 1) (n + 1 + length ss)) (λ (p : ℕ × List ℕ). nat_eq n p.0 ≡ false) others_differ
+      (passive_from (n + 1) ss) within in
+      IsDistinct-cons nat_eq n _ (recursion_from_All (λ (k : ℕ). nat_eq n k ≡ false) _
+      (All-map (λ (k : ℕ). nat_eq n k ≡ false) (λ (p : ℕ × List ℕ). p.0) (passive_from (n + 1) ss) differ)) others
   with_kind (Active memory offset) others = others
 
 -- ---- memories
@@ -91,10 +104,12 @@ page_size_of : (o : Option ℕ) → IfSome o (λ log2. (log2 ≡ 0) ⊎ (log2 �
 page_size_of None h = inr refl
 page_size_of (Some log2) h = h
 
-page_sizes : (types : List MemoryType) → All HasPageSize types → All (λ (m : Memory). (m.page_size_log2 ≡ 0) ⊎ (m.page_size_log2 ≡ 16)) (map memory_of types)
+page_sizes : (types : List MemoryType) → All HasPageSize types
+    → All (λ (m : Memory). (m.page_size_log2 ≡ 0) ⊎ (m.page_size_log2 ≡ 16)) (map memory_of types)
 page_sizes types h =
     All-map (λ (m : Memory). (m.page_size_log2 ≡ 0) ⊎ (m.page_size_log2 ≡ 16)) memory_of types
-    (All-weaker HasPageSize (λ (t : MemoryType). (unwrap_or t.page_size_log2 16 ≡ 0) ⊎ (unwrap_or t.page_size_log2 16 ≡ 16)) (λ t p. page_size_of t.page_size_log2 p) types h)
+    (All-weaker HasPageSize (λ (t : MemoryType). (unwrap_or t.page_size_log2 16 ≡ 0) ⊎ (unwrap_or t.page_size_log2 16 ≡ 16))
+    (λ t p. page_size_of t.page_size_log2 p) types h)
 
 -- ---- imports
 
@@ -108,7 +123,8 @@ no_imports_in _ planned = absurd planned
 no_imports_of : (m : Module) → OnlyPlannedSections m → imports m ≡ []
 no_imports_of [] planned = refl
 no_imports_of (p ∷ ps) planned =
-    ap (λ (is : List Import). is ++ imports ps) (no_imports_in p (All-head IsPlannedSection p ps planned)) ∙ no_imports_of ps (All-tail IsPlannedSection p ps planned)
+    ap (λ (is : List Import). is ++ imports ps) (no_imports_in p (All-head IsPlannedSection p ps planned))
+    ∙ no_imports_of ps (All-tail IsPlannedSection p ps planned)
 
 nothing_imported : (m : Module) → OnlyPlannedSections m → imported_memories m ≡ []
 nothing_imported m planned = ap (filter_map (λ (i : Import). memory_import i.type)) (no_imports_of m planned)
@@ -136,7 +152,8 @@ module _ (m : Module) (kept : Keeps m) (few : HasFewEntries m) (planned : OnlyPl
   -- an empty filling to which all is added
   module _ (start done : Filling) (empty : IsEmpty start) (added : AddsModule start done m) where
     memories_same : done.translation.module.memories ≡ map memory_of (memories m)
-    memories_same = added.memories ∙ ap (λ (ms : List Memory). ms ++ map memory_of (defined_memories m)) empty.is_new.no_memories ∙ sym (ap (map memory_of) all_defined)
+    memories_same = added.memories ∙ ap (λ (ms : List Memory). ms ++ map memory_of (defined_memories m)) empty.is_new.no_memories
+        ∙ sym (ap (map memory_of) all_defined)
 
     active_same : active_so_far done ≡ active_among (segments m)
     active_same = added.active ∙ ap (λ (ss : List ActiveSegment). ss ++ active_among (segments m)) empty.no_active
@@ -163,13 +180,16 @@ module _ (m : Module) (kept : Keeps m) (few : HasFewEntries m) (planned : OnlyPl
         nothing_found = added.same.found ∙ empty.is_new.nothing_found;
         imports = omega (arith, no_imports);
         few_memories = omega (arith, memory_count, few.memories);
-        page_sizes = subst (All (λ (x : Memory). (x.page_size_log2 ≡ 0) ⊎ (x.page_size_log2 ≡ 16))) (sym memories_same) (page_sizes (memories m) (subst (All HasPageSize) (sym all_defined) has_page_sizes));
+        page_sizes = subst (All (λ (x : Memory). (x.page_size_log2 ≡ 0) ⊎ (x.page_size_log2 ≡ 16))) (sym memories_same)
+            (page_sizes (memories m) (subst (All HasPageSize) (sym all_defined) has_page_sizes));
         few_segments = let count = ap length active_same in let le = few_active (segments m) in omega (arith, count, le, few.segments);
-        in_range = subst (All (λ (s : ActiveSegment). s.memory < length done.translation.module.memories)) (sym active_same) (active_in_range _ (memories m) (segments m) (sym memory_count) (kept L9));
+        in_range = subst (All (λ (s : ActiveSegment). s.memory < length done.translation.module.memories)) (sym active_same)
+            (active_in_range _ (memories m) (segments m) (sym memory_count) (kept L9));
         few_passive = let count = ap length passive_same in let le = few_passive 0 (segments m) in omega (arith, count, le, few.segments);
         distinct = subst (λ (ps : List (ℕ × List ℕ)). IsDistinct nat_eq (map (λ p. p.0) ps)) (sym passive_same) (passive_distinct 0 (segments m));
         numbered = subst (All (λ (p : ℕ × List ℕ). p.0 < 4294967295)) (sym passive_same)
-            (All-weaker (IsWithin 0 4294967295) (λ (p : ℕ × List ℕ). p.0 < 4294967295) (λ p within. within.1) (passive_from 0 (segments m)) (passive_within 0 4294967295 0 (segments m) (omega arith) (omega (arith, few.segments))));
+            (All-weaker (IsWithin 0 4294967295) (λ (p : ℕ × List ℕ). p.0 < 4294967295) (λ p within. within.1) (passive_from 0 (segments m))
+            (passive_within 0 4294967295 0 (segments m) (omega arith) (omega (arith, few.segments))));
       };
       memories = memories_same;
       imports = no_imports ∙ sym (ap length (nothing_imported m planned));

@@ -11,9 +11,9 @@ ghost use Rattle.translate.specs.Filled.{Fills, IsEmpty, CanAdd, Adds};
 use entity_map::{EntityRef, OutOfMemory};
 use init_plan::{MemoryInit, MemoryInitializer, ModuleTranslation};
 use std::alloc::Global;
+use wasm_convert::{ConstExpr, ConstOp};
 use wasm_form::{DataKind, DataSegment, Form, MemoryType, Operator, Payload};
 use wasm_index::{DataIndex, MemoryIndex, StaticModuleIndex};
-use wasm_convert::{ConstExpr, ConstOp};
 use wasm_types::Memory;
 
 /// The translation of a module of those that are planned so far, which keeps the rules, with nothing planned yet.

@@ -10,5 +10,6 @@ invariant-loop-bytes l = record {
   is_finite : (goal.iterator-loop-bytes).is_finite l.bytes-iterator;
   room : length l.ranges + length l.bytes-iterator ≡ length l.runtime_data;
   end : l.end + sum_by length (map bytes_of l.bytes-iterator) ≡ sum_by length (map bytes_of l.runtime_data);
-  ranges : map (λ r. (r.start, r.end)) l.ranges ++ ranges_from l.end (map length (map bytes_of l.bytes-iterator)) ≡ ranges_from 0 (map length (map bytes_of l.runtime_data));
+  ranges : map (λ r. (r.start, r.end)) l.ranges ++ ranges_from l.end (map length (map bytes_of l.bytes-iterator))
+      ≡ ranges_from 0 (map length (map bytes_of l.runtime_data));
 }

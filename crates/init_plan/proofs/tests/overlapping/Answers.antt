@@ -29,11 +29,14 @@ returns c =
       nothing_found = grind (arith, common_steps);
       imports = grind (arith, common_steps);
       few_memories = omega arith;
-      page_sizes = rw (same.record_of_module, c.in_ok-push.ensures.ok, empty.no_memories) (All-one (λ (m : Memory). (m.page_size_log2 ≡ 0) ⊎ (m.page_size_log2 ≡ 16)) _ (inr refl));
+      page_sizes = rw (same.record_of_module, c.in_ok-push.ensures.ok, empty.no_memories)
+          (All-one (λ (m : Memory). (m.page_size_log2 ≡ 0) ⊎ (m.page_size_log2 ≡ 16)) _ (inr refl));
       few_segments = rw (c.in_ok-push-3.ensures.items, c.in_ok-push-2.ensures.items, c.new-segments.ensures.items) (omega arith);
       in_range = rw (c.in_ok-push-3.ensures.items, c.in_ok-push-2.ensures.items, c.new-segments.ensures.items)
-          (All-cons InRange first (second ∷ []) (omega (arith, c.in_ok-segment_at.ensures)) (All-one InRange second (omega (arith, c.in_ok-segment_at-2.ensures))));
+          (All-cons InRange first (second ∷ []) (omega (arith, c.in_ok-segment_at.ensures))
+          (All-one InRange second (omega (arith, c.in_ok-segment_at-2.ensures))));
       few_passive = rw (passive, empty.no_passive) (omega arith);
       distinct = rw (passive, empty.no_passive) (IsDistinct-one _);
-      numbered = rw (passive, empty.no_passive) (All-one (λ (p : ℕ × List ℕ). p.0 < 4294967295) _ (omega (arith, ap (λ i. i.number) c.from_u32-2.ensures)));
+      numbered = rw (passive, empty.no_passive) (All-one (λ (p : ℕ × List ℕ). p.0 < 4294967295) _
+          (omega (arith, ap (λ i. i.number) c.from_u32-2.ensures)));
     }

@@ -5,4 +5,5 @@ use Rattle.plan_text.specs.PlanText.{segment_line}
 use Rattle.plan_text.proofs.lines.append_segments.Given as goal
 
 abbrev pub invariant-loop-memory : goal.invariant-loop-memory
-invariant-loop-memory l = l.text ≡ l.initial.text ++ flat_map (λ s. segment_line (number_of s.0) (number_of s.2) s.1) (take l.memory-index l.memory-items)
+invariant-loop-memory l = l.text ≡ l.initial.text
+    ++ flat_map (λ s. segment_line (number_of s.0) (number_of s.2) s.1) (take l.memory-index l.memory-items)

@@ -6,4 +6,5 @@ use Rattle.wasm_form.proofs.AllSegments.{tells_of_map}
 use Rattle.translate.proofs.planned.has_constant_offsets.Goals as goal
 
 pub returns-in-Segments : goal.returns-in-Segments
-returns-in-Segments c = rw c.in-Segments.is (tells_of_map (λ (s : Segment). HasConstantOffset s.kind) segment_of c.in-Segments.segments.items c.all.result (search rules))
+returns-in-Segments c = rw c.in-Segments.is (tells_of_map
+    (λ (s : Segment). HasConstantOffset s.kind) segment_of c.in-Segments.segments.items c.all.result (search rules))

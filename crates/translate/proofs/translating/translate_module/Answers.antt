@@ -17,7 +17,14 @@ returns-in_err-form-clause-cause c =
     let p = err_from_is_err_and c.from_residual.result c.from_residual.ensures.1 in
     let e = c.read_module.ensures in
     let tells : ReadingTells c.args.bytes.now c.read_module.result =
-    record { complete = e.complete; too_large = e.too_large; unsupported = e.unsupported; malformed = e.malformed; stops_nowhere = e.stops_nowhere } in
+    record {
+      complete = e.complete;
+      too_large = e.too_large;
+      unsupported = e.unsupported;
+      malformed = e.malformed;
+      stops_nowhere =
+          e.stops_nowhere;
+    } in
     rw (p.1, p.2) (read_cause c.args.bytes.now c.read_module.result c.in_err-form.field-0.0 tells c.in_err-form.was)
 
 pub returns-in_err-form-clause-unplanned : goal.returns-in_err-form-clause-unplanned
@@ -25,7 +32,14 @@ returns-in_err-form-clause-unplanned c = λ m what can un.
     let p = err_from_is_err_and c.from_residual.result c.from_residual.ensures.1 in
     let e = c.read_module.ensures in
     let tells : ReadingTells c.args.bytes.now c.read_module.result =
-    record { complete = e.complete; too_large = e.too_large; unsupported = e.unsupported; malformed = e.malformed; stops_nowhere = e.stops_nowhere } in
+    record {
+      complete = e.complete;
+      too_large = e.too_large;
+      unsupported = e.unsupported;
+      malformed = e.malformed;
+      stops_nowhere =
+          e.stops_nowhere;
+    } in
     rw p.1 (inr (p.2 ∙ read_complete c.args.bytes.now c.read_module.result c.in_err-form.field-0.0 m tells c.in_err-form.was can))
 
 pub returns-in_err-form-clause-complete : goal.returns-in_err-form-clause-complete
@@ -33,8 +47,16 @@ returns-in_err-form-clause-complete c = λ valid.
     let p = err_from_is_err_and c.from_residual.result c.from_residual.ensures.1 in
     let e = c.read_module.ensures in
     let tells : ReadingTells c.args.bytes.now c.read_module.result =
-    record { complete = e.complete; too_large = e.too_large; unsupported = e.unsupported; malformed = e.malformed; stops_nowhere = e.stops_nowhere } in
-    rw p.1 (p.2 ∙ read_complete c.args.bytes.now c.read_module.result c.in_err-form.field-0.0 valid.meaning tells c.in_err-form.was (readable c.args.bytes.now valid))
+    record {
+      complete = e.complete;
+      too_large = e.too_large;
+      unsupported = e.unsupported;
+      malformed = e.malformed;
+      stops_nowhere =
+          e.stops_nowhere;
+    } in
+    rw p.1 (p.2 ∙ read_complete c.args.bytes.now c.read_module.result c.in_err-form.field-0.0 valid.meaning tells c.in_err-form.was
+    (readable c.args.bytes.now valid))
 
 -- ---- it holds what is not planned yet
 
@@ -45,11 +67,13 @@ pub returns-in-Some-clause-unplanned : goal.returns-in-Some-clause-unplanned
 returns-in-Some-clause-unplanned c = λ m what can un.
     let same : module_of c.in_ok-form.form ≡ m = c.in_ok-form.ensures.complete can.short m can.spelled can.no_interface_types in
     let found : IsUnplanned c.in-Some.what m = subst (IsUnplanned c.in-Some.what) same c.in-Some.ensures in
-    inl (let e : (let r : TranslateError = Unsupported c.in-Some.what in r) ≡ Unsupported what = ap Unsupported (one_name m c.in-Some.what what found un) in e)
+    inl (let e : (let r : TranslateError = Unsupported c.in-Some.what in r) ≡ Unsupported what =
+    ap Unsupported (one_name m c.in-Some.what what found un) in e)
 
 pub returns-in-Some-clause-complete : goal.returns-in-Some-clause-complete
 returns-in-Some-clause-complete c = λ valid.
-    let same : module_of c.in_ok-form.form ≡ valid.meaning = c.in_ok-form.ensures.complete valid.short valid.meaning valid.spelled valid.no_interface_types in
+    let same : module_of c.in_ok-form.form ≡ valid.meaning =
+    c.in_ok-form.ensures.complete valid.short valid.meaning valid.spelled valid.no_interface_types in
     absurd (all_planned valid.meaning c.in-Some.what valid.planned valid.constants (subst (IsUnplanned c.in-Some.what) same c.in-Some.ensures))
 
 -- ---- it breaks a rule
@@ -63,7 +87,8 @@ pub returns-in_err-check-clause-cause : goal.returns-in_err-check-clause-cause
 returns-in_err-check-clause-cause c =
     let p = err_from_is_err_and c.from_residual-in_err-check.result c.from_residual-in_err-check.ensures.1 in
     let e = c.check.ensures in
-    rw (p.1, p.2) (check_cause c.args.bytes.now (module_of c.in_ok-form.form) c.check.result c.in_err-check.field-0.0 c.in_err-check.was e.broken e.first c.in_ok-form.ensures.read)
+    rw (p.1, p.2) (check_cause c.args.bytes.now (module_of c.in_ok-form.form) c.check.result c.in_err-check.field-0.0
+    c.in_err-check.was e.broken e.first c.in_ok-form.ensures.read)
 
 pub returns-in_err-check-clause-unplanned : goal.returns-in_err-check-clause-unplanned
 returns-in_err-check-clause-unplanned c = λ m what can un.
@@ -74,8 +99,10 @@ returns-in_err-check-clause-unplanned c = λ m what can un.
 pub returns-in_err-check-clause-complete : goal.returns-in_err-check-clause-complete
 returns-in_err-check-clause-complete c = λ valid.
     let p = err_from_is_err_and c.from_residual-in_err-check.result c.from_residual-in_err-check.ensures.1 in
-    let same : module_of c.in_ok-form.form ≡ valid.meaning = c.in_ok-form.ensures.complete valid.short valid.meaning valid.spelled valid.no_interface_types in
-    rw p.1 (p.2 ∙ check_complete (module_of c.in_ok-form.form) c.check.result c.in_err-check.field-0.0 c.in_err-check.was c.check.ensures.complete (subst Keeps (sym same) valid.kept))
+    let same : module_of c.in_ok-form.form ≡ valid.meaning =
+    c.in_ok-form.ensures.complete valid.short valid.meaning valid.spelled valid.no_interface_types in
+    rw p.1 (p.2 ∙ check_complete (module_of c.in_ok-form.form) c.check.result c.in_err-check.field-0.0 c.in_err-check.was
+    c.check.ensures.complete (subst Keeps (sym same) valid.kept))
 
 -- ---- it is not planned
 
@@ -83,8 +110,11 @@ pub returns-in_err-finalize_memory_init-clause-cause : goal.returns-in_err-final
 returns-in_err-finalize_memory_init-clause-cause c =
     let p = err_from_is_err_and c.from_residual-in_err-finalize_memory_init.result c.from_residual-in_err-finalize_memory_init.ensures.1 in
     let m = module_of c.in_ok-form.form in
-    let filled : Fills c.args.bytes.now m c.in_ok-translation.translation = subst (λ (bs : List ℕ). Fills bs m c.in_ok-translation.translation) c.in_ok-form.ensures.whole c.in_ok-translation.ensures in
-    rw (p.1, p.2) (plan_cause c.args.bytes.now m _ c.finalize_memory_init.result c.in_err-finalize_memory_init.field-0.0 c.in_err-finalize_memory_init.was c.finalize_memory_init.ensures.too_large (total_same c.args.bytes.now m c.in_ok-translation.translation filled) c.in_ok-form.ensures.read)
+    let filled : Fills c.args.bytes.now m c.in_ok-translation.translation =
+    subst (λ (bs : List ℕ). Fills bs m c.in_ok-translation.translation) c.in_ok-form.ensures.whole c.in_ok-translation.ensures in
+    rw (p.1, p.2) (plan_cause c.args.bytes.now m _ c.finalize_memory_init.result c.in_err-finalize_memory_init.field-0.0
+    c.in_err-finalize_memory_init.was c.finalize_memory_init.ensures.too_large
+    (total_same c.args.bytes.now m c.in_ok-translation.translation filled) c.in_ok-form.ensures.read)
 
 pub returns-in_err-finalize_memory_init-clause-unplanned : goal.returns-in_err-finalize_memory_init-clause-unplanned
 returns-in_err-finalize_memory_init-clause-unplanned c = λ m what can un.
@@ -96,9 +126,11 @@ pub returns-in_err-finalize_memory_init-clause-complete : goal.returns-in_err-fi
 returns-in_err-finalize_memory_init-clause-complete c = λ valid.
     let p = err_from_is_err_and c.from_residual-in_err-finalize_memory_init.result c.from_residual-in_err-finalize_memory_init.ensures.1 in
     let m = module_of c.in_ok-form.form in
-    let filled : Fills c.args.bytes.now m c.in_ok-translation.translation = subst (λ (bs : List ℕ). Fills bs m c.in_ok-translation.translation) c.in_ok-form.ensures.whole c.in_ok-translation.ensures in
+    let filled : Fills c.args.bytes.now m c.in_ok-translation.translation =
+    subst (λ (bs : List ℕ). Fills bs m c.in_ok-translation.translation) c.in_ok-form.ensures.whole c.in_ok-translation.ensures in
     let same : m ≡ valid.meaning = c.in_ok-form.ensures.complete valid.short valid.meaning valid.spelled valid.no_interface_types in
-    rw p.1 (p.2 ∙ plan_complete m _ c.finalize_memory_init.result c.in_err-finalize_memory_init.field-0.0 c.in_err-finalize_memory_init.was c.finalize_memory_init.ensures.too_large (total_same c.args.bytes.now m c.in_ok-translation.translation filled) (rw same valid.data_fits))
+    rw p.1 (p.2 ∙ plan_complete m _ c.finalize_memory_init.result c.in_err-finalize_memory_init.field-0.0 c.in_err-finalize_memory_init.was
+    c.finalize_memory_init.ensures.too_large (total_same c.args.bytes.now m c.in_ok-translation.translation filled) (rw same valid.data_fits))
 
 -- ---- it is planned
 
@@ -106,12 +138,21 @@ pub returns-clause-planned : goal.returns-clause-planned
 returns-clause-planned c =
     let m = module_of c.in_ok-form.form in
     let e = c.in_ok-form.ensures in
-    let filled : Fills c.args.bytes.now m c.in_ok-translation.translation = subst (λ (bs : List ℕ). Fills bs m c.in_ok-translation.translation) e.whole c.in_ok-translation.ensures in
+    let filled : Fills c.args.bytes.now m c.in_ok-translation.translation =
+    subst (λ (bs : List ℕ). Fills bs m c.in_ok-translation.translation) e.whole c.in_ok-translation.ensures in
     let f = c.in_ok-finalize_memory_init.ensures in
     let all = nothing_named m c.first_unplanned.result c.first_unplanned.ensures c.in_default.not-Some in
     record {
       meaning = m;
-      short = was_short c.args.bytes.now c.in_ok-form.form (record { complete = e.complete; too_large = e.too_large; unsupported = e.unsupported; malformed = e.malformed; stops_nowhere = e.stops_nowhere });
+      short = was_short c.args.bytes.now c.in_ok-form.form
+          (record {
+            complete = e.complete;
+            too_large = e.too_large;
+            unsupported = e.unsupported;
+            malformed = e.malformed;
+            stops_nowhere =
+                e.stops_nowhere;
+          });
       spelled = e.read;
       no_interface_types = e.no_interface_types;
       only_sections = all.0;
