@@ -68,7 +68,8 @@ impl ConstExpr {
         })
     }
 
-    /// The expression that was read, each operator converted, and the functions to which it makes references, in order: those escape.
+    /// The expression that was read, each operator converted, and the functions to which it makes references,
+    /// in order: those escape. Of the expression each heap type must be known, and each index below `u32::MAX`.
     ///
     /// # Errors
     /// `OutOfMemory` where more than two operators, or more than one function, find no memory.
@@ -79,7 +80,8 @@ impl ConstExpr {
     ) -> Result<(Self, SmallVec<FuncIndex, 1>), OutOfMemory>
         requires some { 0 < length expr.now.ops.items }
         requires known { All (KnowsOperator (knows env.now)) expr.now.ops.items }
-        ensures { IfOk result (λ r. (r.0 ≡ const_ops_of (look_up env.now) expr.now.ops.items) × (r.1.items ≡ functions_of expr.now.ops.items)) }
+        ensures converted { IfOk result (λ r. r.0 ≡ const_ops_of (look_up env.now) expr.now.ops.items) }
+        ensures escaping { IfOk result (λ r. r.1.items ≡ functions_of expr.now.ops.items) }
     {
         let mut ops = SmallVec::new(alloc);
         let mut escaped = SmallVec::new(alloc);
