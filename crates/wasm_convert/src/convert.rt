@@ -65,13 +65,9 @@ pub trait TypeConvert {
         requires { KnowsSub (knows self.now) (look_up self.now) ty.now }
         ensures { IfOk result (λ t. t ≡ sub_type_of (look_up self.now) ty.now) }
     {
-        let supertype = match ty.supertype {
-            Some(index) => Some(self.lookup_type_index(index)),
-            None => None,
-        };
         Ok(WasmSubType {
             is_final: ty.is_final,
-            supertype,
+            supertype: ty.supertype.map(|index| self.lookup_type_index(index)),
             composite_type: self.convert_composite_type(alloc, &ty.composite)?,
         })
     }
