@@ -1,6 +1,6 @@
 //! Constant expressions and their values.
 
-ghost use Rattle.std.specs.Prelude.{◌≡◌, ◌↔◌, ◌<◌, ◌++◌, length, All, IsTrue, IfOk, IfSome, OnOk};
+ghost use Rattle.std.specs.Prelude.{◌≡◌, ◌↔◌, ◌<◌, ◌≤◌, ◌++◌, length, All, IsTrue, IsOk, IfOk, IfSome, OnOk};
 ghost use Rattle.std.specs.Option.{option_to_list};
 ghost use Rattle.wasm_index.specs.Index.{number_of};
 ghost use Rattle.wasm_convert.specs.Constants.{constant_value, IsNonzeroI32, const_ops_of, function_in, functions_of};
@@ -61,7 +61,8 @@ impl ConstExpr {
     /// `OutOfMemory` where more than two operators find no memory.
     pub fn new(alloc: Global, ops: &[ConstOp]) -> Result<Self, OutOfMemory>
         requires { 0 < length ops.now }
-        ensures { IfOk result (λ e. e ≡ ops.now) }
+        ensures listed { IfOk result (λ e. e ≡ ops.now) }
+        ensures without_memory { length ops.now ≤ 2 → IsOk result }
     {
         Ok(ConstExpr {
             ops: SmallVec::from_slice(alloc, ops)?,
@@ -129,7 +130,8 @@ impl ConstExpr {
     /// # Errors
     /// `OutOfMemory` where more than two operators find no memory.
     pub fn try_clone(&self, alloc: Global) -> Result<Self, OutOfMemory>
-        ensures { IfOk result (λ e. e ≡ self.now) }
+        ensures equal { IfOk result (λ e. e ≡ self.now) }
+        ensures without_memory { length self.now ≤ 2 → IsOk result }
     {
         Self::new(alloc, self.ops())
     }

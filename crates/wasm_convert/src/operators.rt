@@ -1,6 +1,7 @@
 //! Operators of constant expressions.
 
-ghost use Rattle.std.specs.Prelude.{◌≡◌};
+ghost use Rattle.std.specs.Prelude.{◌≡◌, pos};
+ghost use Rattle.wasm_convert.specs.declared.operators.ConstOp.TheVariants.{I32Const};
 ghost use Rattle.wasm_convert.specs.Operators.{operator_of, const_op_of, KnowsOperator};
 
 use crate::convert::TypeConvert;
@@ -49,6 +50,8 @@ pub enum ConstOp {
 
 /// The constant 0, which fills the unused room of a short list.
 impl Default for ConstOp {
+    ghost is_default = { λ op. op ≡ I32Const (pos 0) };
+
     fn default() -> Self {
         ConstOp::I32Const(0)
     }
