@@ -14,7 +14,7 @@ ghost use Rattle.plan_text.specs.PlanText.{
 };
 
 use crate::expressions::append_offset;
-use crate::plan::Plan;
+use plan::Plan;
 use crate::text::Text;
 use entity_map::{EntityRef, OutOfMemory, PrimaryMap, SecondaryMap};
 use init_plan::{MemoryInit, MemoryInitialization, MemorySegmentOffset};

@@ -8,7 +8,8 @@ use init_plan::{MemoryInit, MemoryInitialization, MemorySegmentOffset, ModuleTra
 use std::alloc::Global;
 use std::test::Fail;
 use wasm_convert::{ConstExpr, ConstOp};
-use wasm_form::{Rule, What};
+use rule_spec::Rule;
+use wasm_spec::What;
 use wasm_index::{
     DataIndex, FuncIndex, GlobalIndex, MemoryIndex, ModuleInternedTypeIndex, RuntimeDataIndex,
     StaticModuleIndex, TypeIndex,

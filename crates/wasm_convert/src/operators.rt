@@ -6,7 +6,7 @@ ghost use Rattle.wasm_convert.specs.Operators.{operator_of, const_op_of, KnowsOp
 
 use crate::convert::TypeConvert;
 use entity_map::EntityRef;
-use wasm_form::{AbstractHeapType, HeapType, Operator};
+use wasm_spec::{AbstractHeapType, HeapType, Operator};
 use wasm_index::{FuncIndex, GlobalIndex, TypeIndex};
 use wasm_types::WasmHeapType;
 
