@@ -12,7 +12,7 @@ use Rattle.wasm_spec.specs.Parts.{Part, Joined, StopsLater, FilledStops}
 use Rattle.wasm_spec.specs.EntryGrammar.{name}
 use Rattle.wasm_spec.specs.Grammar as grammar
 use Rattle.wasm_spec.specs.Grammar.{interface_names, order_of}
-use Rattle.wasm_spec.specs.Valid.{IsNoInterface}
+use Rattle.wasm_spec.specs.Interfaces.{IsNoInterface}
 use Rattle.form_reader.specs.Reading.{Stops, Reader, Filler, fill_after, choose_at, first_byte_at, all_bytes_at}
 use Rattle.form_reader.specs.ReadingNumbers.{sized_at}
 use Rattle.form_reader.specs.ReadingEntries.{name_at}
