@@ -8,10 +8,10 @@ ghost use Rattle.form_reader.specs.ReadingEntries.{locals_run_at, body_contents_
 ghost use Rattle.form_reader.specs.ReadingSections.{code_at};
 
 use crate::error::ReadError;
-use form_data::{FunctionBody, Payload};
 use crate::numbers::u32_at;
 use crate::value_types::value_type;
 use crate::vectors::{counted_bytes, raw_bytes, vector};
+use form_data::{FunctionBody, Payload};
 use std::alloc::Global;
 use wasm_spec::ValType;
 

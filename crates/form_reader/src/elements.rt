@@ -9,10 +9,10 @@ ghost use Rattle.form_reader.specs.ReadingSections.{all_entries_at};
 
 use crate::error::ReadError;
 use crate::expressions::{expression, expressions};
-use form_data::{Element, ElementItems, ElementKind};
 use crate::numbers::{first_byte, u32_at};
 use crate::value_types::reference_type;
 use crate::vectors::{entries, indices};
+use form_data::{Element, ElementItems, ElementKind};
 use std::alloc::Global;
 use wasm_spec::{AbstractHeapType, HeapType, RefType};
 

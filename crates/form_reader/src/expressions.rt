@@ -7,10 +7,10 @@ ghost use Rattle.form_reader.specs.ReadingNumbers.{vector_at};
 ghost use Rattle.form_reader.specs.ReadingExpressions.{expression_at};
 
 use crate::error::ReadError;
-use form_data::ConstExpr;
 use crate::numbers::first_byte;
 use crate::operators::{END, operator};
 use crate::vectors::vector;
+use form_data::ConstExpr;
 use std::alloc::Global;
 
 /// The operators up to the end mark.

@@ -8,8 +8,8 @@ ghost use Rattle.form_reader.specs.ReadingSections.{section_at, all_sections_at}
 
 use crate::contents::{custom, section_contents};
 use crate::error::ReadError;
-use form_data::Payload;
 use crate::numbers::first_byte;
+use form_data::Payload;
 use std::alloc::Global;
 
 /// The id of custom sections.

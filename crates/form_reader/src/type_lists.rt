@@ -11,8 +11,8 @@ use crate::entity_types::tag_type;
 use crate::error::ReadError;
 use crate::limits::memory_type;
 use crate::type_groups::group;
-use form_data::RecGroup;
 use crate::vectors::{entries, index};
+use form_data::RecGroup;
 use std::alloc::Global;
 use wasm_spec::MemoryType;
 
