@@ -1,5 +1,5 @@
 -- How large the lists of a module and its memories are.
-use Rattle.std.specs.Prelude.{ℕ, ◌*◌, ◌^◌, ◌<◌, length, unwrap_or}
+use Rattle.std.specs.Prelude.{ℕ, ◌^◌, ◌<◌, length, unwrap_or}
 use Rattle.std.specs.List.{flat_map}
 use Rattle.wasm_spec.specs.declared.entities.MemoryType.{MemoryType}
 use Rattle.wasm_spec.specs.Module.{Module, groups, types, imports, functions, tables, memories, globals, tags, segments, exports_of_section, elements_of_section, bodies_of_section}
