@@ -1,4 +1,4 @@
-//! Function bodies (core specification, 5.5.13).
+//! Function bodies (core specification, 5.5, code section).
 
 ghost use Rattle.std.specs.Prelude.{◌≡◌, ◌+◌, ◌<◌, ◌^◌, length, map};
 ghost use Rattle.form_data.specs.Views.{body_of, payload_of};

@@ -1,4 +1,4 @@
-//! What sections hold, by their ids (core specification, 5.5.2 to 5.5.16).
+//! What sections hold, by their ids (core specification, 5.5, sections).
 
 ghost use Rattle.std.specs.Prelude.{◌≡◌, ◌+◌, ◌<◌, ◌^◌, length};
 ghost use Rattle.wasm_spec.specs.Module.{Types, Imports, FunctionTypes, Tables, Memories, Tags, Globals, Exports, Start, Elements, DataCount, Segments};

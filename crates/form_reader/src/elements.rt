@@ -1,4 +1,4 @@
-//! Element segments (core specification, 5.5.12).
+//! Element segments (core specification, 5.5, element section).
 
 ghost use Rattle.std.specs.Prelude.{◌≡◌, map};
 ghost use Rattle.wasm_spec.specs.EntryGrammar.{funcref};

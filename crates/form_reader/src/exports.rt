@@ -1,4 +1,4 @@
-//! Exports (core specification, 5.5.10).
+//! Exports (core specification, 5.5, export section).
 
 ghost use Rattle.std.specs.Prelude.{map};
 ghost use Rattle.form_data.specs.Views.{export_of};

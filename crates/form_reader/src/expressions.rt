@@ -1,4 +1,4 @@
-//! Constant expressions (core specification, 5.4.9).
+//! Constant expressions (core specification, 5.4, expressions).
 
 ghost use Rattle.std.specs.Prelude.{map};
 ghost use Rattle.form_data.specs.Views.{expression_of};

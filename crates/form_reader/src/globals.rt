@@ -1,4 +1,4 @@
-//! Globals (core specification, 5.5.9).
+//! Globals (core specification, 5.5, global section).
 
 ghost use Rattle.std.specs.Prelude.{map};
 ghost use Rattle.form_data.specs.Views.{global_of};

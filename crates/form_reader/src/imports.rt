@@ -1,4 +1,4 @@
-//! Imports (core specification, 5.5.5).
+//! Imports (core specification, 5.5, import section).
 
 ghost use Rattle.std.specs.Prelude.{map};
 ghost use Rattle.form_data.specs.Views.{import_of};

@@ -1,4 +1,4 @@
-//! Modules (core specification, 5.5.17).
+//! Modules (core specification, 5.5, modules).
 
 ghost use Rattle.std.specs.Prelude.{◌≡◌, ◌↔◌, ◌^◌, ◌<◌, ◌≤◌, length, map, IfOk, Err};
 ghost use Rattle.wasm_spec.specs.declared.operators.What.{What};

@@ -1,4 +1,4 @@
-//! Sections, one after another (core specification, 5.5.2).
+//! Sections, one after another (core specification, 5.5, sections).
 
 ghost use Rattle.std.specs.Prelude.{◌≡◌, ◌+◌, ◌<◌, ◌^◌, length, map};
 ghost use Rattle.wasm_spec.specs.Grammar.{order_of as spec_order_of, section_id as spec_section_id, next_order as spec_next_order};

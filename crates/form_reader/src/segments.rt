@@ -1,4 +1,4 @@
-//! Data segments (core specification, 5.5.16).
+//! Data segments (core specification, 5.5, data section).
 
 ghost use Rattle.std.specs.Prelude.{map};
 ghost use Rattle.form_data.specs.Views.{segment_of};

@@ -1,4 +1,4 @@
-//! Tables (core specification, 5.5.7).
+//! Tables (core specification, 5.5, table section).
 
 ghost use Rattle.std.specs.Prelude.{map};
 ghost use Rattle.form_data.specs.Views.{table_of};

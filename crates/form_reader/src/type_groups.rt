@@ -1,4 +1,4 @@
-//! Composite types, subtypes and groups (core specification, 5.3.9 to 5.3.11).
+//! Composite types, subtypes and groups (core specification, 5.3, composite and recursive types).
 
 ghost use Rattle.std.specs.Prelude.{◌≡◌, map};
 ghost use Rattle.form_data.specs.Views.{composite_of, sub_type_of, group_of};

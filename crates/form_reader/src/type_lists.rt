@@ -1,4 +1,4 @@
-//! Sections of types and of indices alone (core specification, 5.5.4 to 5.5.8).
+//! Sections of types and of indices alone (core specification, 5.5, sections of types).
 
 ghost use Rattle.std.specs.Prelude.{map};
 ghost use Rattle.form_data.specs.Views.{group_of};

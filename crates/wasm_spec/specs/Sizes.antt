@@ -4,7 +4,7 @@ use Rattle.std.specs.List.{flat_map}
 use Rattle.wasm_spec.specs.declared.entities.MemoryType.{MemoryType}
 use Rattle.wasm_spec.specs.Module.{Module, groups, types, imports, functions, tables, memories, globals, tags, segments, exports_of_section, elements_of_section, bodies_of_section}
 
--- the exponent of a memory's page size, which is 65536 where the type names none (2.3.15)
+-- the exponent of a memory's page size, which is 65536 where the type names none (2.3, memory types)
 abbrev pub page_log2 : MemoryType → ℕ
 page_log2 t = unwrap_or t.page_size_log2 16
 
