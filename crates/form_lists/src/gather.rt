@@ -9,8 +9,8 @@ ghost use Rattle.form_lists.specs.Gathered.{AddsImports, AddsDefined};
 
 use crate::lists::{Declared, Lists, Spaces};
 use crate::sections::{groups_of, imports_of};
-use std::alloc::{AllocError, Global};
 use form_data::{Form, GlobalDef, Import, Payload, RecGroup, TableDef};
+use std::alloc::{AllocError, Global};
 use wasm_spec::{GlobalType, TableType, TypeRef};
 
 /// The lists of a module.

@@ -3,8 +3,8 @@
 ghost use Rattle.std.specs.Prelude.{◌≡◌};
 ghost use Rattle.form_rules.specs.declared.error.CheckError.TheVariants as checks;
 
-use std::alloc::AllocError;
 use rule_spec::Rule;
+use std::alloc::AllocError;
 
 /// Why the listed rules could not be found to hold.
 #[derive(Clone, Copy, Debug, PartialEq, Eq)]

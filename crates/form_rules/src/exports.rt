@@ -1,4 +1,4 @@
-//! Exports (core specification, 3.5.14 and 3.6.1).
+//! Exports (core specification, 3.5.14, and 3.5, modules).
 
 ghost use Rattle.std.specs.Prelude.{◌≡◌, ◌↔◌, ◌++◌, List, map, All, IsTrue, IfOk};
 ghost use Rattle.std.specs.Bool.{MatchBool};
@@ -11,10 +11,10 @@ ghost use Rattle.rule_spec.specs.Rules.{AreExported, AreDistinct};
 ghost use Rattle.form_lists.specs.Views.{lists_of};
 ghost use Rattle.form_rules.specs.Names.{HasNames};
 
-use std::alloc::{AllocError, Global};
-use std::collections::HashSet;
 use form_data::Export;
 use form_lists::{Lists, exports_of};
+use std::alloc::{AllocError, Global};
+use std::collections::HashSet;
 use wasm_spec::ExternalKind;
 
 /// Whether each export names an entry of its index space, and no two have one name.

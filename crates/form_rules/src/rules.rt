@@ -17,11 +17,11 @@ use crate::references::references_hold;
 use crate::start::starts_hold;
 use crate::tables::initialisers_hold;
 use crate::type_rules::{types_are_named, types_hold};
-use form_typing::expressions_hold;
-use std::alloc::{AllocError, Global};
 use form_data::Form;
 use form_lists::{Lists, gather_lists};
+use form_typing::expressions_hold;
 use rule_spec::Rule;
+use std::alloc::{AllocError, Global};
 
 /// The listed rules, in the order in which they are asked.
 const RULES: [Rule; 10] = [
