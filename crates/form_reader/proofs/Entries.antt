@@ -7,10 +7,10 @@ use Rattle.std.proofs.lemmas.List.Concat.{flat_map-append}
 use Rattle.wasm_spec.specs.declared.entities.TypeRef.{TypeRef}
 use Rattle.wasm_spec.specs.declared.types.UnpackedIndex.{UnpackedIndex}
 use Rattle.wasm_spec.specs.Numbers.{SpellsUnsigned}
-use Rattle.wasm_spec.specs.Parts.{Part, ◌>>=◌, choose, gives, first_byte, unsigned, elements, vector, sized}
+use Rattle.wasm_spec.specs.Parts.{Part, ◌>>=◌, choose, gives, first_byte, unsigned, non_negative, elements, vector, sized}
 use Rattle.wasm_spec.specs.TypeData.{Group}
 use Rattle.wasm_spec.specs.Module.{Import, Payload, Types, Imports, FunctionTypes, Tables, Memories, Tags, Globals, Exports, Start, Elements, DataCount, Code, Segments, Module, groups, groups_of_section, imports, imports_of_section, imported_of, function_types_of_section, tables_of_section, memories_of_section, tags_of_section, globals_of_section, exports_of_section, elements_of_section, bodies_of_section, segments_of_section, types, function_import, table_import, memory_import, global_import, tag_import}
-use Rattle.wasm_spec.specs.TypeGrammar.{value_type, group, sub_type_after, memory_type, global_type, tag_type}
+use Rattle.wasm_spec.specs.TypeGrammar.{value_type, storage_type, field_type, composite_after, supertype, with_supertype, group, sub_type_after, memory_type, global_type, tag_type}
 use Rattle.wasm_spec.specs.EntryGrammar.{name, import_entry, export_entry, table_entry, global_entry, element_segment, body, data_segment}
 use Rattle.wasm_spec.specs.Grammar.{custom_contents, entries_as, number_as, code_at, section_contents, placed_section, order_of, section, next_order, SpellsSections, Spells, header}
 use Rattle.wasm_spec.specs.Sizes.{HasFewEntries}
@@ -111,31 +111,72 @@ chosen : {A : Type 0} (b : Bool) (p q : Part A) (bytes : List ℕ) (x : A) (n : 
 chosen true p q bytes x n one other s = one s
 chosen false p q bytes x n one other s = other s
 
-one_member : (b : ℕ) (bytes : List ℕ) (g : Group UnpackedIndex UnpackedIndex) → (sub_type_after b >>= λ t. gives (t ∷ [])).spells bytes g → length g ≡ 1
-one_member b bytes g s = ap length s.is_second.1
+chosen_takes : {A : Type 0} (b : Bool) (p q : Part A) → TakesBytes p → TakesBytes q → TakesBytes (choose b p q)
+chosen_takes true p q one other = one
+chosen_takes false p q one other = other
 
--- each member of a group takes a byte
-group_counts : CountsBytes length group
+non_negative_takes : (k : ℕ) → TakesBytes (non_negative k)
+non_negative_takes k = record { takes = some } where
+  some : (bytes : List ℕ) (n : ℕ) → (non_negative k).spells bytes n → 1 ≤ length bytes
+  some [] n s = absurd s.form
+  some (b ∷ bytes) n s = omega arith
+
+vector_takes : {A : Type 0} (part : Part A) → TakesBytes (vector part)
+vector_takes part = then_takes (unsigned 32) _ (number_takes 32)
+
+unspelled_takes : {A : Type 0} (part : Part A) → ((bytes : List ℕ) (x : A) → ¬ part.spells bytes x) → TakesBytes part
+unspelled_takes part none = record { takes = λ bytes x s. absurd (none bytes x s) }
+
+-- a type takes a byte after its first
+composite_after_takes : (b : ℕ) → TakesBytes (composite_after b)
+composite_after_takes b =
+    chosen_takes (b == 0x60) _ _ (then_takes (vector value_type) _ (vector_takes value_type))
+    (chosen_takes (b == 0x5F) _ _ (then_takes (vector field_type) _ (vector_takes field_type))
+    (chosen_takes (b == 0x5E) _ _ (then_takes field_type _ (then_takes storage_type _ (first_takes _)))
+    (chosen_takes (b == 0x5D) _ _ (then_takes (non_negative 33) _ (non_negative_takes 33))
+    (chosen_takes (b == 0x65) _ _ (unspelled_takes _ (λ bytes x s. s)) (unspelled_takes _ (λ bytes x s. s))))))
+
+with_supertype_takes : (is_final : Bool) → TakesBytes (with_supertype is_final)
+with_supertype_takes is_final = then_takes supertype _ (then_takes (unsigned 32) _ (number_takes 32))
+
+sub_type_after_takes : (b : ℕ) → TakesBytes (sub_type_after b)
+sub_type_after_takes b =
+    chosen_takes (b == 0x50) _ _ (with_supertype_takes false)
+    (chosen_takes (b == 0x4F) _ _ (with_supertype_takes true)
+    (then_takes (composite_after b) _ (composite_after_takes b)))
+
+one_member : (b : ℕ) (bytes : List ℕ) (g : Group UnpackedIndex UnpackedIndex) → (sub_type_after b >>= λ t. gives (t ∷ [])).spells bytes g
+    → 1 + length g ≤ 1 + length bytes
+one_member b bytes g s =
+    let one : length g ≡ 1 = ap length s.is_second.1 in
+    let after = (sub_type_after_takes b).takes s.front s.value s.is_first in
+    omega (arith, one, after, ap length s.parts, length-append s.front s.back)
+
+-- a group and each of its members take a byte
+group_counts : CountsBytes (λ g. 1 + length g) group
 group_counts [] g s = absurd s
 group_counts (b ∷ bytes) g s = by_first (b == 0x4E) s where
   by_first : (many : Bool) → (choose many (vector (first_byte sub_type_after)) (sub_type_after b >>= λ t. gives (t ∷ []))).spells bytes g
-      → length g ≤ length (b ∷ bytes)
+      → 1 + length g ≤ length (b ∷ bytes)
   by_first true s = let n = vector_few (first_byte sub_type_after) (first_takes sub_type_after) bytes g s in omega (arith, n)
   by_first false s = let n = one_member b bytes g s in omega (arith, n)
 
-total_members : (gs : List (Group UnpackedIndex UnpackedIndex)) → total length gs ≡ length (flat_map (λ g. g) gs)
+total_members : (gs : List (Group UnpackedIndex UnpackedIndex)) → total (λ g. 1 + length g) gs ≡ length gs + length (flat_map (λ g. g) gs)
 total_members [] = refl
-total_members (g ∷ gs) = let members = total_members gs in omega (arith, members, length-append g (flat_map (λ (h : Group UnpackedIndex UnpackedIndex). h) gs))
+total_members (g ∷ gs) =
+    let members = total_members gs in
+    omega (arith, members, length-append g (flat_map (λ (h : Group UnpackedIndex UnpackedIndex). h) gs))
 
-groups_few : (bytes : List ℕ) (gs : List (Group UnpackedIndex UnpackedIndex)) → (vector group).spells bytes gs → length (flat_map (λ g. g) gs) ≤ length bytes
-groups_few bytes gs s = let n = vector_counts length group group_counts bytes gs s in omega (arith, n, total_members gs)
+groups_few : (bytes : List ℕ) (gs : List (Group UnpackedIndex UnpackedIndex)) → (vector group).spells bytes gs
+    → length gs + length (flat_map (λ g. g) gs) ≤ length bytes
+groups_few bytes gs s = let n = vector_counts (λ g. 1 + length g) group group_counts bytes gs s in omega (arith, n, total_members gs)
 
 -- ---- sections
 
 -- how many entries a section has in all lists together
 abbrev entries : Payload → ℕ
 entries p =
-    length (flat_map (λ g. g) (groups_of_section p)) + length (imports_of_section p) + length (function_types_of_section p)
+    length (groups_of_section p) + length (flat_map (λ g. g) (groups_of_section p)) + length (imports_of_section p) + length (function_types_of_section p)
     + length (tables_of_section p)
     + length (memories_of_section p) + length (tags_of_section p) + length (globals_of_section p) + length (exports_of_section p)
     + length (elements_of_section p) + length (bodies_of_section p) + length (segments_of_section p)
@@ -231,7 +272,7 @@ section_few place next (id ∷ bytes) p s = let n = chosen (id == 0) _ _ bytes p
 -- the entries of all lists of a module
 abbrev all_entries : Module → ℕ
 all_entries m =
-    length (types m) + length (imports m) + length (flat_map function_types_of_section m) + length (flat_map tables_of_section m)
+    length (groups m) + length (types m) + length (imports m) + length (flat_map function_types_of_section m) + length (flat_map tables_of_section m)
     + length (flat_map memories_of_section m) + length (flat_map tags_of_section m) + length (flat_map globals_of_section m)
     + length (flat_map exports_of_section m) + length (flat_map elements_of_section m) + length (flat_map bodies_of_section m)
     + length (flat_map segments_of_section m)
@@ -249,6 +290,7 @@ all_more : (p : Payload) (ps : Module) → all_entries (p ∷ ps) ≡ entries p 
 all_more p ps =
     omega (
       arith,
+      one_list groups_of_section p ps,
       all_types p ps,
       one_list imports_of_section p ps,
       one_list function_types_of_section p ps,
@@ -288,6 +330,7 @@ few_entries bytes m s short =
     let n = sections_few m 8 0 s.body s.are_sections in
     let body : length s.body ≤ length bytes = omega (arith, ap length s.parts, length-append header s.body) in
     record {
+      groups = omega (arith, n);
       types = omega (arith, n);
       imports = omega (arith, n);
       functions = let f = space_few function_import m (flat_map function_types_of_section m) in omega (arith, n, f);

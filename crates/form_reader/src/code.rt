@@ -1,4 +1,4 @@
-//! Function bodies (core specification, 5.5.13).
+//! Function bodies (core specification, 5.5, code section).
 
 ghost use Rattle.std.specs.Prelude.{◌≡◌, ◌+◌, ◌<◌, ◌^◌, length, map};
 ghost use Rattle.form_data.specs.Views.{body_of, payload_of};
@@ -8,10 +8,10 @@ ghost use Rattle.form_reader.specs.ReadingEntries.{locals_run_at, body_contents_
 ghost use Rattle.form_reader.specs.ReadingSections.{code_at};
 
 use crate::error::ReadError;
-use form_data::{FunctionBody, Payload};
 use crate::numbers::u32_at;
 use crate::value_types::value_type;
 use crate::vectors::{counted_bytes, raw_bytes, vector};
+use form_data::{FunctionBody, Payload};
 use std::alloc::Global;
 use wasm_spec::ValType;
 

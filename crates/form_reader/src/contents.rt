@@ -1,4 +1,4 @@
-//! What sections hold, by their ids (core specification, 5.5.2 to 5.5.16).
+//! What sections hold, by their ids (core specification, 5.5, sections).
 
 ghost use Rattle.std.specs.Prelude.{◌≡◌, ◌+◌, ◌<◌, ◌^◌, length};
 ghost use Rattle.wasm_spec.specs.Module.{Types, Imports, FunctionTypes, Tables, Memories, Tags, Globals, Exports, Start, Elements, DataCount, Segments};
@@ -13,7 +13,6 @@ use crate::code::code;
 use crate::elements::elements as element_list;
 use crate::error::ReadError;
 use crate::exports::exports as export_list;
-use form_data::{Custom, Payload};
 use crate::globals::globals as global_list;
 use crate::imports::imports as import_list;
 use crate::names::name;
@@ -22,6 +21,7 @@ use crate::segments::data_segments;
 use crate::tables::tables as table_list;
 use crate::type_lists::{function_types, groups, memory_types, tag_types};
 use crate::vectors::counted_bytes;
+use form_data::{Custom, Payload};
 use std::alloc::Global;
 use wasm_spec::What;
 

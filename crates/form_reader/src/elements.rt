@@ -1,4 +1,4 @@
-//! Element segments (core specification, 5.5.12).
+//! Element segments (core specification, 5.5, element section).
 
 ghost use Rattle.std.specs.Prelude.{◌≡◌, map};
 ghost use Rattle.wasm_spec.specs.EntryGrammar.{funcref};
@@ -9,10 +9,10 @@ ghost use Rattle.form_reader.specs.ReadingSections.{all_entries_at};
 
 use crate::error::ReadError;
 use crate::expressions::{expression, expressions};
-use form_data::{Element, ElementItems, ElementKind};
 use crate::numbers::{first_byte, u32_at};
 use crate::value_types::reference_type;
 use crate::vectors::{entries, indices};
+use form_data::{Element, ElementItems, ElementKind};
 use std::alloc::Global;
 use wasm_spec::{AbstractHeapType, HeapType, RefType};
 

@@ -1,4 +1,4 @@
-//! Table, global and tag types (core specification, 5.3.15 to 5.3.17).
+//! Table, global and tag types (core specification, 5.3, table, global and tag types).
 
 ghost use Rattle.std.specs.Prelude.{◌≡◌};
 ghost use Rattle.form_reader.specs.Reading.{Gives};

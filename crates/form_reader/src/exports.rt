@@ -1,4 +1,4 @@
-//! Exports (core specification, 5.5.10).
+//! Exports (core specification, 5.5, export section).
 
 ghost use Rattle.std.specs.Prelude.{map};
 ghost use Rattle.form_data.specs.Views.{export_of};
@@ -7,10 +7,10 @@ ghost use Rattle.form_reader.specs.ReadingEntries.{external_kind_at, export_entr
 ghost use Rattle.form_reader.specs.ReadingSections.{all_entries_at};
 
 use crate::error::ReadError;
-use form_data::Export;
 use crate::names::name;
 use crate::numbers::{first_byte, u32_at};
 use crate::vectors::entries;
+use form_data::Export;
 use std::alloc::Global;
 use wasm_spec::ExternalKind;
 

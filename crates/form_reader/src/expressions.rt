@@ -1,4 +1,4 @@
-//! Constant expressions (core specification, 5.4.9).
+//! Constant expressions (core specification, 5.4, expressions).
 
 ghost use Rattle.std.specs.Prelude.{map};
 ghost use Rattle.form_data.specs.Views.{expression_of};
@@ -7,10 +7,10 @@ ghost use Rattle.form_reader.specs.ReadingNumbers.{vector_at};
 ghost use Rattle.form_reader.specs.ReadingExpressions.{expression_at};
 
 use crate::error::ReadError;
-use form_data::ConstExpr;
 use crate::numbers::first_byte;
 use crate::operators::{END, operator};
 use crate::vectors::vector;
+use form_data::ConstExpr;
 use std::alloc::Global;
 
 /// The operators up to the end mark.

@@ -1,4 +1,4 @@
-//! Storage and field types (core specification, 5.3.7 to 5.3.8).
+//! Storage and field types (core specification, 5.3, composite types).
 
 ghost use Rattle.std.specs.Prelude.{◌≡◌};
 ghost use Rattle.form_reader.specs.Reading.{Gives};

@@ -1,4 +1,4 @@
-//! Globals (core specification, 5.5.9).
+//! Globals (core specification, 5.5, global section).
 
 ghost use Rattle.std.specs.Prelude.{map};
 ghost use Rattle.form_data.specs.Views.{global_of};
@@ -9,8 +9,8 @@ ghost use Rattle.form_reader.specs.ReadingSections.{all_entries_at};
 use crate::entity_types::global_type;
 use crate::error::ReadError;
 use crate::expressions::expression;
-use form_data::GlobalDef;
 use crate::vectors::entries;
+use form_data::GlobalDef;
 use std::alloc::Global;
 
 /// A global, and its first value.

@@ -1,4 +1,4 @@
-//! Imports (core specification, 5.5.5).
+//! Imports (core specification, 5.5, import section).
 
 ghost use Rattle.std.specs.Prelude.{map};
 ghost use Rattle.form_data.specs.Views.{import_of};
@@ -8,11 +8,11 @@ ghost use Rattle.form_reader.specs.ReadingSections.{all_entries_at};
 
 use crate::entity_types::{global_type, table_type, tag_type};
 use crate::error::ReadError;
-use form_data::Import;
 use crate::limits::memory_type;
 use crate::names::name;
 use crate::numbers::{first_byte, u32_at};
 use crate::vectors::entries;
+use form_data::Import;
 use std::alloc::Global;
 use wasm_spec::{TypeRef, What};
 

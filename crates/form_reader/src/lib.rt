@@ -29,5 +29,3 @@ pub use error::ReadError;
 pub use laws::spelling_is_unique;
 pub use module::{MAX_MODULE_SIZE, read_module};
 
-#[cfg(test)]
-mod tests;

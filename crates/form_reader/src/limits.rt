@@ -1,4 +1,4 @@
-//! Memory types, and the limits of tables (core specification, 5.3.14 to 5.3.15).
+//! Memory types, and the limits of tables (core specification, 5.3, limits).
 
 ghost use Rattle.std.specs.Prelude.{◌≡◌, ◌<◌, if◌then◌else◌};
 ghost use Rattle.wasm_spec.specs.TypeGrammar.{has_bit};

@@ -1,4 +1,4 @@
-//! Modules (core specification, 5.5.17).
+//! Modules (core specification, 5.5, modules).
 
 ghost use Rattle.std.specs.Prelude.{◌≡◌, ◌↔◌, ◌^◌, ◌<◌, ◌≤◌, length, map, IfOk, Err};
 ghost use Rattle.wasm_spec.specs.declared.operators.What.{What};
@@ -12,8 +12,8 @@ ghost use Rattle.form_reader.specs.Reading.{Gives};
 ghost use Rattle.form_reader.specs.ReadingSections.{is_component as spec_is_component, module_at};
 
 use crate::error::ReadError;
-use form_data::{Form, Payload};
 use crate::sections::sections;
+use form_data::{Form, Payload};
 use std::alloc::Global;
 use wasm_spec::What;
 

@@ -1,4 +1,4 @@
-//! Names (core specification, 5.2.4).
+//! Names (core specification, 5.2, names).
 
 ghost use Rattle.form_reader.specs.Reading.{Gives};
 ghost use Rattle.form_reader.specs.ReadingEntries.{name_at};

@@ -1,4 +1,4 @@
-//! Numbers at the front of bytes (core specification, 5.2.2).
+//! Numbers at the front of bytes (core specification, 5.2, integers).
 
 ghost use Rattle.std.specs.Prelude.{◌≡◌, ◌≤◌, ◌<◌, ◌^◌, IfSome};
 ghost use Rattle.std.specs.Option.{option_map};

@@ -1,4 +1,4 @@
-//! Operators of constant expressions (core specification, 5.4.6 to 5.4.8).
+//! Operators of constant expressions (core specification, 5.4, instructions).
 
 ghost use Rattle.form_reader.specs.Reading.{Gives};
 ghost use Rattle.form_reader.specs.ReadingExpressions.{operator_after_at, constant_after_at, arithmetic_after_at, object_operator_at, fixed_array_at, vector_operator_at};

@@ -1,4 +1,4 @@
-//! Sections, one after another (core specification, 5.5.2).
+//! Sections, one after another (core specification, 5.5, sections).
 
 ghost use Rattle.std.specs.Prelude.{◌≡◌, ◌+◌, ◌<◌, ◌^◌, length, map};
 ghost use Rattle.wasm_spec.specs.Grammar.{order_of as spec_order_of, section_id as spec_section_id, next_order as spec_next_order};
@@ -8,8 +8,8 @@ ghost use Rattle.form_reader.specs.ReadingSections.{section_at, all_sections_at}
 
 use crate::contents::{custom, section_contents};
 use crate::error::ReadError;
-use form_data::Payload;
 use crate::numbers::first_byte;
+use form_data::Payload;
 use std::alloc::Global;
 
 /// The id of custom sections.

@@ -1,4 +1,4 @@
-//! Data segments (core specification, 5.5.16).
+//! Data segments (core specification, 5.5, data section).
 
 ghost use Rattle.std.specs.Prelude.{map};
 ghost use Rattle.form_data.specs.Views.{segment_of};
@@ -8,9 +8,9 @@ ghost use Rattle.form_reader.specs.ReadingSections.{all_entries_at};
 
 use crate::error::ReadError;
 use crate::expressions::expression;
-use form_data::{DataKind, DataSegment};
 use crate::numbers::u32_at;
 use crate::vectors::{counted_bytes, entries};
+use form_data::{DataKind, DataSegment};
 use std::alloc::Global;
 
 /// An offset into a memory, and bytes.

@@ -1,4 +1,4 @@
-//! Tables (core specification, 5.5.7).
+//! Tables (core specification, 5.5, table section).
 
 ghost use Rattle.std.specs.Prelude.{map};
 ghost use Rattle.form_data.specs.Views.{table_of};
@@ -9,11 +9,11 @@ ghost use Rattle.form_reader.specs.ReadingSections.{all_entries_at};
 use crate::entity_types::table_type;
 use crate::error::ReadError;
 use crate::expressions::expression;
-use form_data::TableDef;
 use crate::limits::table_limits;
 use crate::numbers::first_byte;
 use crate::value_types::reference_after;
 use crate::vectors::entries;
+use form_data::TableDef;
 use std::alloc::Global;
 
 /// The byte before a table that says what its cells hold at first, and the byte after that one.

@@ -1,4 +1,4 @@
-//! Composite types, subtypes and groups (core specification, 5.3.9 to 5.3.11).
+//! Composite types, subtypes and groups (core specification, 5.3, composite and recursive types).
 
 ghost use Rattle.std.specs.Prelude.{◌≡◌, map};
 ghost use Rattle.form_data.specs.Views.{composite_of, sub_type_of, group_of};
@@ -9,9 +9,9 @@ ghost use Rattle.form_reader.specs.ReadingTypes.{function_type_at, composite_aft
 use crate::error::ReadError;
 use crate::fields::{field_type, field_types};
 use crate::numbers::{first_byte, non_negative_s33_at, u32_at};
-use form_data::{CompositeInnerType, FuncType, RecGroup, SubType};
 use crate::value_types::{SHARED, value_types};
 use crate::vectors::vector;
+use form_data::{CompositeInnerType, FuncType, RecGroup, SubType};
 use std::alloc::Global;
 use wasm_spec::{UnpackedIndex, What};
 

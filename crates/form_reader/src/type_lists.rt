@@ -1,4 +1,4 @@
-//! Sections of types and of indices alone (core specification, 5.5.4 to 5.5.8).
+//! Sections of types and of indices alone (core specification, 5.5, sections of types).
 
 ghost use Rattle.std.specs.Prelude.{map};
 ghost use Rattle.form_data.specs.Views.{group_of};
@@ -11,8 +11,8 @@ use crate::entity_types::tag_type;
 use crate::error::ReadError;
 use crate::limits::memory_type;
 use crate::type_groups::group;
-use form_data::RecGroup;
 use crate::vectors::{entries, index};
+use form_data::RecGroup;
 use std::alloc::Global;
 use wasm_spec::MemoryType;
 

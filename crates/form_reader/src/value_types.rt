@@ -1,4 +1,4 @@
-//! Heap, reference and value types (core specification, 5.3.1 to 5.3.5).
+//! Heap, reference and value types (core specification, 5.3, value types).
 
 ghost use Rattle.std.specs.Prelude.{◌≡◌};
 ghost use Rattle.wasm_spec.specs.TypeGrammar.{named_by, number_types, abstract_heap as spec_abstract_heap};

@@ -1,4 +1,4 @@
-//! What a number counts: elements and bytes (core specification, 5.1.3).
+//! What a number counts: elements and bytes (core specification, 5.1, grammar).
 
 ghost use Rattle.std.specs.Prelude.{◌≡◌, []};
 ghost use Rattle.form_reader.specs.Reading.{Gives, raw_bytes_at};

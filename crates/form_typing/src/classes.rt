@@ -7,10 +7,10 @@ ghost use Rattle.rule_spec.specs.Typing.{class_of, field_class, value_has_defaul
 ghost use Rattle.form_lists.specs.Views.{lists_of};
 ghost use Rattle.form_typing.specs.Defaults.{defaults_of, defaults as defaults_of_types};
 
-use rule_spec::Class;
-use std::alloc::{AllocError, Global};
 use form_data::CompositeInnerType;
 use form_lists::Lists;
+use rule_spec::Class;
+use std::alloc::{AllocError, Global};
 use wasm_spec::{FieldType, StorageType, ValType};
 
 /// The class of the values of a type.

@@ -12,12 +12,12 @@ ghost use Rattle.form_typing.specs.Defaults.{defaults as defaults_of_types};
 
 use crate::classes::{class_of, struct_defaults};
 use crate::typing::is_typed;
-use rule_spec::Class;
-use std::alloc::{AllocError, Global};
 use form_data::{
     ConstExpr, DataKind, DataSegment, Element, ElementItems, ElementKind, GlobalDef, TableDef,
 };
 use form_lists::{Lists, elements_of, globals_of, segments_of, tables_of};
+use rule_spec::Class;
+use std::alloc::{AllocError, Global};
 use wasm_spec::GlobalType;
 
 /// Whether each constant expression has the class of its place.

@@ -15,9 +15,9 @@ ghost use Rattle.form_typing.specs.Defaults.{defaults as defaults_of_types, defa
 
 use crate::classes::{class_of, field_class, has_default};
 use crate::stack::{pop, pop_fields, pop_many, pop_two};
-use rule_spec::Class;
 use form_data::CompositeInnerType;
 use form_lists::Lists;
+use rule_spec::Class;
 use wasm_spec::{FieldType, GlobalType, Operator};
 
 // ---- what indices name

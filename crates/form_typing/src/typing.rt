@@ -7,10 +7,10 @@ ghost use Rattle.form_lists.specs.Views.{lists_of};
 ghost use Rattle.form_typing.specs.Defaults.{defaults as defaults_of_types};
 
 use crate::operators::take_operands;
-use rule_spec::Class;
-use std::alloc::AllocError;
 use form_data::ConstExpr;
 use form_lists::Lists;
+use rule_spec::Class;
+use std::alloc::AllocError;
 use wasm_spec::GlobalType;
 
 /// Whether the expression leads from the empty stack to one value of the class, where these globals are visible.

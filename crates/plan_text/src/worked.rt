@@ -6,10 +6,10 @@ ghost use Rattle.plan_text.specs.Expressions.{operator_text, expression_text};
 ghost use Rattle.plan_text.specs.PlanText.{memories_line, segment_line, passive_line, runtime_line};
 ghost use Rattle.plan_text.specs.Refusals.{text_of_refusal};
 
-use plan::TranslateError;
 use init_plan::MemorySegmentOffset;
-use wasm_convert::ConstOp;
+use plan::TranslateError;
 use rule_spec::Rule;
+use wasm_convert::ConstOp;
 use wasm_spec::What;
 use wasm_types::{EngineOrModuleTypeIndex, WasmHeapType};
 

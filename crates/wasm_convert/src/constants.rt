@@ -12,8 +12,8 @@ use entity_map::{EntityRef, OutOfMemory};
 use smallvec::SmallVec;
 use std::alloc::Global;
 use std::marker::Model;
-use wasm_spec::Operator;
 use wasm_index::FuncIndex;
+use wasm_spec::Operator;
 
 /// The value of a global that is known before any code runs. Floats and vectors are their bits.
 #[derive(Clone, Copy, Debug)]

@@ -10,11 +10,11 @@ use crate::{ConstExpr, ConstOp, GlobalConstValue, TypeConvert};
 use entity_map::EntityRef;
 use form_data::{CompositeInnerType, FuncType, SubType};
 use std::test::Fail;
+use wasm_index::{FuncIndex, ModuleInternedTypeIndex};
 use wasm_spec::{
     AbstractHeapType, FieldType, GlobalType, HeapType, Operator, RefType, StorageType, TableType,
     UnpackedIndex, ValType,
 };
-use wasm_index::{FuncIndex, ModuleInternedTypeIndex};
 use wasm_types::{EngineOrModuleTypeIndex, IndexType, WasmHeapType, WasmStorageType, WasmValType};
 
 // Knows the first hundred types of a module, each as the function type of its number.

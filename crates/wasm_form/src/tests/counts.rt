@@ -1,7 +1,6 @@
 //! Index spaces of a module with imports.
 
-use crate::Counts;
-use crate::read_module;
+use crate::{Counts, read_module};
 use std::test::Fail;
 
 /// A group of two types and a group of one, an import of each kind and a second memory, and what is defined: two functions, a memory, a
