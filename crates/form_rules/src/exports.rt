@@ -1,4 +1,4 @@
-//! Exports (core specification, 3.5.14 and 3.6.1).
+//! Exports (core specification, 3.5.14, and 3.5, modules).
 
 ghost use Rattle.std.specs.Prelude.{◌≡◌, ◌↔◌, ◌++◌, List, map, All, IsTrue, IfOk};
 ghost use Rattle.std.specs.Bool.{MatchBool};
