@@ -1,8 +1,8 @@
 -- A number that has every bit of another.
-use Rattle.std.proofs.Common.{◌≡◌, ◌∙◌, ◌<◌, ◌*◌, ◌^◌, ◌↔◌, ℕ, min, refl, ap, sym, arith, ⊎_elim, zero-mul}
-use Rattle.std.specs.Prelude.{bit_and}
+use Rattle.std.proofs.Common.{◌≡◌, ◌∙◌, ◌<◌, ◌*◌, ◌^◌, ◌↔◌, ℕ, min, eqb, refl, ap, sym, arith, ⊎_elim, zero-mul}
+use Rattle.std.specs.Prelude.{bit_and, IsTrue}
 use Rattle.std.specs.Int.{IsBitSet, bit_at}
-use Rattle.std.proofs.lemmas.Bool.{cases_lt}
+use Rattle.std.proofs.lemmas.Bool.{cases_lt, eqb-true, eq-eqb}
 use Rattle.std.proofs.lemmas.Nat.{pow_pos}
 use Rattle.std.proofs.lemmas.Nat.Bits.{bit_at_and, and_pow, bit_at-lt, same_from_bits}
 use Rattle.gc_layout.specs.Kinds.{HasBitsOf}
@@ -33,3 +33,7 @@ and-from_bits n m all = same_from_bits (bit_and n m) m (λ k. at_place k)
         bit_at_and n m k ∙ ⊎_elim
         (λ holds. let other = bit_at-from_set n k (all k (set-from_bit_at m k holds)) in omega (arith, other, bit_at-lt n k, bit_at-lt m k))
         (λ none. omega (arith, none)) (cases_lt 0 (bit_at m k))
+
+-- the test that finds it
+pub matches_by_and : (n m : ℕ) → IsTrue (eqb (bit_and n m) m) ↔ HasBitsOf n m
+matches_by_and n m = (λ same. bits-from_and n m (eqb-true _ _ same), λ all. eq-eqb _ _ (and-from_bits n m all))
