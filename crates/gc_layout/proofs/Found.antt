@@ -36,7 +36,7 @@ option_map-same (Some x) = refl
 pub kind_found : (x : ℕ) (found : Option VMGcKind) → option_map (λ kind. kind) found ≡ find (has_number x) all_kinds
     → (kind : VMGcKind) → (found ≡ Some kind) ↔ (kind_number kind ≡ x)
 kind_found x found mapped kind =
-  let is : found ≡ find (has_number x) all_kinds = sym (option_map-same found) ∙ mapped in (
-  λ some. eqb-true (kind_number kind) x (find-passes (has_number x) all_kinds kind (sym is ∙ some)),
-  λ same. is ∙ ap (λ x. find (has_number x) all_kinds) (sym same) ∙ find-number kind
-)
+    let is : found ≡ find (has_number x) all_kinds = sym (option_map-same found) ∙ mapped in (
+      λ some. eqb-true (kind_number kind) x (find-passes (has_number x) all_kinds kind (sym is ∙ some)),
+      λ same. is ∙ ap (λ x. find (has_number x) all_kinds) (sym same) ∙ find-number kind,
+    )

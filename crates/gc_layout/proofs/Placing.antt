@@ -50,7 +50,7 @@ fields_align-append xs ys = ap (fold max 8) (map-append field_size xs ys) ∙ fo
 pub placed_more : (header : ℕ) (fields : List WasmFieldType) (n : ℕ) (d : WasmFieldType) (end align : ℕ) (placed : List GcStructLayoutField)
     → n < length fields → ArePlaced header (take n fields) end align placed
     → ArePlaced header (take (n + 1) fields) (end_after end (get_or fields n d)) (max align (field_size (get_or fields n d)))
-        (placed ++ placed_after end (get_or fields n d) ∷ [])
+    (placed ++ placed_after end (get_or fields n d) ∷ [])
 placed_more header fields n d end align placed lt before =
     let field = get_or fields n d in
     let more = take-more fields n d lt in
@@ -79,8 +79,8 @@ placed_step header fields n d end align placed size offset field_end next_align 
     let at_end : field_end ≡ end_after end field = ended ∙ ap (λ offset. offset + size) at_offset ∙ ap (λ size. next_multiple_of end (field_size field) + size) sized in
     let at_align : next_align ≡ max align (field_size field) = most ∙ ap (max align) sized in
     let at_place : next_placed ≡ placed ++ placed_after end field ∷ [] = listed
-        ∙ ap (λ offset. placed ++ (record { offset = offset; is_gc_ref = marked }) ∷ []) at_offset
-        ∙ ap (λ marked. placed ++ (record { offset = next_multiple_of end (field_size field); is_gc_ref = marked }) ∷ []) refs in
+    ∙ ap (λ offset. placed ++ (record { offset = offset; is_gc_ref = marked }) ∷ []) at_offset
+    ∙ ap (λ marked. placed ++ (record { offset = next_multiple_of end (field_size field); is_gc_ref = marked }) ∷ []) refs in
     let more = placed_more header fields n d end align placed lt before in
     record {
       ends = at_end ∙ more.ends;
@@ -104,7 +104,7 @@ le-fields_end header (field ∷ fields) =
 pub fields_end-take-le : (header : ℕ) (fields : List WasmFieldType) (n : ℕ) → fields_end header (take n fields) ≤ fields_end header fields
 fields_end-take-le header fields n =
     let joined : fields_end header fields ≡ fields_end (fields_end header (take n fields)) (drop n fields) =
-      ap (fields_end header) (sym (take-append-drop n fields)) ∙ fold-append end_after header (take n fields) (drop n fields) in
+    ap (fields_end header) (sym (take-append-drop n fields)) ∙ fold-append end_after header (take n fields) (drop n fields) in
     omega (arith, joined, le-fields_end (fields_end header (take n fields)) (drop n fields))
 
 -- where a field passes a limit, so does the size
@@ -113,7 +113,7 @@ pub past_field : (header : ℕ) (fields : List WasmFieldType) (is_exception : Bo
     → limit < (fields_layout header fields is_exception).size
 past_field header fields is_exception n d limit lt past =
     let step : fields_end header (take (n + 1) fields) ≡ end_after (fields_end header (take n fields)) (get_or fields n d) =
-      ap (fields_end header) (take-more fields n d lt) ∙ fold-append end_after header (take n fields) (get_or fields n d ∷ []) in
+    ap (fields_end header) (take-more fields n d lt) ∙ fold-append end_after header (take n fields) (get_or fields n d ∷ []) in
     omega (arith, step, fields_end-take-le header fields (n + 1), le-next_multiple_of (fields_end header fields) (fields_align fields))
 
 -- the alignment is not 0
@@ -134,7 +134,7 @@ past_offset header fields is_exception n d end size lt ended sized wide =
     let positive : 0 < size = rw sized (storage_size_positive field.element_type) in
     let past : 4294967296 ≤ next_multiple_of end size = ⊎_elim (λ fits. absurd (wide (positive, fits))) (λ past. past) (cases_lt (next_multiple_of end size) 4294967296) in
     let at_offset : next_multiple_of end size ≡ next_multiple_of (fields_end header (take n fields)) (field_size field) =
-      ap (λ end. next_multiple_of end size) ended ∙ ap (next_multiple_of (fields_end header (take n fields))) sized in
+    ap (λ end. next_multiple_of end size) ended ∙ ap (next_multiple_of (fields_end header (take n fields))) sized in
     past_field header fields is_exception n d 4294967295 lt (omega (arith, at_offset, past))
 
 pub past_end : (header : ℕ) (fields : List WasmFieldType) (is_exception : Bool) (n : ℕ) (d : WasmFieldType) (end size offset : ℕ)
@@ -145,7 +145,7 @@ past_end header fields is_exception n d end size offset lt ended sized begun wid
     let field = get_or fields n d in
     let past : 4294967296 ≤ offset + size = ⊎_elim (λ fits. absurd (wide fits)) (λ past. past) (cases_lt (offset + size) 4294967296) in
     let at_offset : offset ≡ next_multiple_of (fields_end header (take n fields)) (field_size field) =
-      begun ∙ ap (λ end. next_multiple_of end size) ended ∙ ap (next_multiple_of (fields_end header (take n fields))) sized in
+    begun ∙ ap (λ end. next_multiple_of end size) ended ∙ ap (next_multiple_of (fields_end header (take n fields))) sized in
     past_field header fields is_exception n d 4294967295 lt (omega (arith, at_offset, sized, past))
 
 -- a size that does not fit
@@ -160,5 +160,5 @@ past_size header fields is_exception n end align placed done walked wide =
     let positive : 0 < align = rw aligned (fields_align_positive fields) in
     let past : 4294967296 ≤ next_multiple_of end align = ⊎_elim (λ fits. absurd (wide (positive, fits))) (λ past. past) (cases_lt (next_multiple_of end align) 4294967296) in
     let at_size : next_multiple_of end align ≡ next_multiple_of (fields_end header fields) (fields_align fields) =
-      ap (λ end. next_multiple_of end align) ended ∙ ap (next_multiple_of (fields_end header fields)) aligned in
+    ap (λ end. next_multiple_of end align) ended ∙ ap (next_multiple_of (fields_end header fields)) aligned in
     omega (arith, at_size, past)

@@ -1,5 +1,5 @@
 -- Where the fields of structs and exceptions stand. Numbers are exact: no offset and no size wraps.
-use Rattle.std.specs.Prelude.{ℕ, ◌+◌, max, Bool, true, false, List, fold, map}
+use Rattle.std.specs.Prelude.{◌≡◌, ◌≤◌, ℕ, ◌+◌, ◌%◌, max, Bool, true, false, List, fold, map, slice_index}
 use Rattle.std.specs.Int.{next_multiple_of}
 use Rattle.std.specs.List.{scan}
 use Rattle.wasm_types.specs.Collected.{storage_is_object}
@@ -59,3 +59,17 @@ struct_layout_of header fields = fields_layout header fields false
 -- those of an exception stand behind the header and two indices of 4 bytes, which name its tag
 abbrev pub exn_layout_of : ℕ → WasmExnType → FieldsLayout
 exn_layout_of header exn = fields_layout (header + 8) exn.fields true
+
+-- the offset of the field at a place of a layout
+abbrev pub offset_at : FieldsLayout → ℕ → ℕ
+offset_at layout i = slice_index (map (λ field. field.offset) layout.fields) i
+
+-- the size of the field at a place
+abbrev pub size_at : List WasmFieldType → ℕ → ℕ
+size_at fields i = slice_index (map field_size fields) i
+
+-- m is the least multiple of a size that is not below n
+pub record IsLeastMultiple (size n m : ℕ) : Type 0 where
+  pub multiple : m % size ≡ 0
+  pub not_below : n ≤ m
+  pub least : (k : ℕ) → k % size ≡ 0 → n ≤ k → m ≤ k

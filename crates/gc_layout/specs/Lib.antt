@@ -3,3 +3,4 @@ pub mod Fields
 pub mod Arrays
 pub mod Objects
 pub mod Kinds
+pub mod Worked

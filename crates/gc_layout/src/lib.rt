@@ -28,9 +28,12 @@ pub use header::{
     VM_GC_HEADER_KIND_OFFSET, VM_GC_HEADER_SIZE, VM_GC_HEADER_TYPE_INDEX_OFFSET,
 };
 pub use kind::{VM_GC_KIND_SIZE, VMGcKind};
-pub use laws::{fields_never_overlap, kinds_are_a_tree, prefixes_agree};
+pub use laws::{
+    alignments_are_greatest, fields_never_overlap, fields_stand_at_least_multiples,
+    kinds_are_a_tree, prefixes_agree,
+};
 pub use layout::Layout;
 pub use null::NullTypeLayouts;
 pub use object::GcLayout;
 pub use sizes::byte_size_of_wasm_ty_in_gc_heap;
-pub use worked::{worked_arrays, worked_fields, worked_kinds};
+pub use worked::{worked_arrays, worked_exceptions, worked_fields};
