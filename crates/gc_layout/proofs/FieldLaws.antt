@@ -51,7 +51,7 @@ pub apart : (header : ℕ) (fields : List WasmFieldType) (is_exception : Bool) (
     → offset_at (fields_layout header fields is_exception) i + size_at fields i ≤ offset_at (fields_layout header fields is_exception) j
 apart header fields is_exception i j before lt =
     let shorter : fields_end header (take (suc i) fields) ≤ fields_end header (take j fields) =
-      rw (← ap (fields_end header) (take-take (suc i) j fields (omega arith))) (fields_end-take-le header (take j fields) (suc i)) in
+    rw (← ap (fields_end header) (take-take (suc i) j fields (omega arith))) (fields_end-take-le header (take j fields) (suc i)) in
     omega (arith, end_at_is header fields is_exception i (omega arith), shorter, (offset_is_least header fields is_exception j lt).not_below)
 
 pub within : (header : ℕ) (fields : List WasmFieldType) (is_exception : Bool) (i : ℕ) → i < length fields

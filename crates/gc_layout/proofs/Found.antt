@@ -21,7 +21,7 @@ find-passes test (y ∷ ys) x found =
     (λ no. find-passes test ys x (rw no at found))
     (cases_Bool (test y))
 
-find-number : (kind : VMGcKind) → find (has_number (kind_number kind)) all_kinds ≡ Some kind
+pub find-number : (kind : VMGcKind) → find (has_number (kind_number kind)) all_kinds ≡ Some kind
 find-number ExternRef = refl
 find-number AnyRef = refl
 find-number EqRef = refl

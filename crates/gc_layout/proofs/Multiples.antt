@@ -10,7 +10,7 @@ use Rattle.gc_layout.specs.Fields.{IsLeastMultiple}
 next-at_multiple : (n size : ℕ) → 0 < size → n % size ≡ 0 → next_multiple_of n size ≡ n
 next-at_multiple n size positive whole =
     let none : (size - n % size) % size ≡ 0 =
-      ap (λ rest. (size - rest) % size) whole ∙ ap (λ k. k % size) (omega arith) ∙ mul-mod_left 1 size in
+    ap (λ rest. (size - rest) % size) whole ∙ ap (λ k. k % size) (omega arith) ∙ mul-mod_left 1 size in
     omega (arith, none)
 
 -- between two multiples it is the upper one
@@ -34,13 +34,13 @@ pub least_multiple : (size n : ℕ) → 0 < size → IsLeastMultiple size n (nex
 least_multiple size n positive =
     ⊎_elim
     (λ rest. let is = next-between n size positive rest in record {
-        multiple = ap (λ m. m % size) is ∙ mul-mod_left (n / size + 1) size;
-        not_below = omega arith;
-        least = λ k whole above. let up = above_quotient n size k rest whole above in omega (arith, is, up);
-      })
+      multiple = ap (λ m. m % size) is ∙ mul-mod_left (n / size + 1) size;
+      not_below = omega arith;
+      least = λ k whole above. let up = above_quotient n size k rest whole above in omega (arith, is, up);
+    })
     (λ none. let whole : n % size ≡ 0 = omega arith in let is = next-at_multiple n size positive whole in record {
-        multiple = ap (λ m. m % size) is ∙ whole;
-        not_below = omega arith;
-        least = λ k _ above. omega (arith, is, above);
-      })
+      multiple = ap (λ m. m % size) is ∙ whole;
+      not_below = omega arith;
+      least = λ k _ above. omega (arith, is, above);
+    })
     (cases_lt 0 (n % size))

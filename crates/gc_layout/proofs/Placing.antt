@@ -117,7 +117,7 @@ past_field header fields is_exception n d limit lt past =
     omega (arith, step, fields_end-take-le header fields (n + 1), le-next_multiple_of (fields_end header fields) (fields_align fields))
 
 -- the alignment is not 0
-le-fold_max : (a : ℕ) (xs : List ℕ) → a ≤ fold max a xs
+pub le-fold_max : (a : ℕ) (xs : List ℕ) → a ≤ fold max a xs
 le-fold_max a [] = omega arith
 le-fold_max a (x ∷ xs) = omega (arith, le-fold_max (max a x) xs)
 

@@ -1,7 +1,7 @@
 //! Layouts of arrays.
 
-ghost use Rattle.std.specs.Prelude.{◌≡◌, ◌+◌, ◌*◌, ◌^◌, ◌<◌, IsTrue};
-ghost use Rattle.std.specs.Int.{is_power_of_two};
+ghost use Rattle.std.specs.Prelude.{◌≡◌, ◌+◌, ◌*◌, ◌^◌, ◌<◌};
+ghost use Rattle.std.specs.Int.{IsPowerOfTwo};
 ghost use Rattle.std.specs.Option.{SomeIff};
 ghost use Rattle.gc_layout.specs.Arrays.{array_layout_of};
 
@@ -57,7 +57,7 @@ impl GcArrayLayout {
     /// alignment is no power of two.
     pub fn layout(&self, len: u32) -> Option<Layout>
         ensures { let size = self.now.base_size + len * self.now.elem_size in
-            SomeIff result ((size < 2 ^ 32) × IsTrue (is_power_of_two self.now.align)) (record { size = size; align = self.now.align }) }
+            SomeIff result ((size < 2 ^ 32) × IsPowerOfTwo self.now.align) (record { size = size; align = self.now.align }) }
     {
         let size = self.size_for_len(len)?;
         if !self.align.is_power_of_two() {

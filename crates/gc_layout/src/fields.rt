@@ -1,7 +1,7 @@
 //! Layouts of structs and exceptions.
 
-ghost use Rattle.std.specs.Prelude.{◌≡◌, ◌<◌, ◌≤◌, IfOk, OnOk, Err, IsTrue};
-ghost use Rattle.std.specs.Int.{is_power_of_two};
+ghost use Rattle.std.specs.Prelude.{◌≡◌, ◌<◌, ◌≤◌, IfOk, OnOk, Err};
+ghost use Rattle.std.specs.Int.{IsPowerOfTwo};
 ghost use Rattle.gc_layout.specs.Fields.{fields_layout};
 
 use crate::error::LayoutError;
@@ -89,7 +89,7 @@ impl GcStructLayout {
 
     /// The size and the alignment of the object.
     pub fn layout(&self) -> Layout
-        requires { IsTrue (is_power_of_two self.now.align) }
+        requires { IsPowerOfTwo self.now.align }
         ensures { result ≡ record { size = self.now.size; align = self.now.align } }
     {
         Layout {

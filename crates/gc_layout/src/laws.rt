@@ -1,7 +1,7 @@
 //! What holds of every layout, and of the kinds of objects.
 
-ghost use Rattle.std.specs.Prelude.{◌≡◌, ◌+◌, ◌<◌, ◌≤◌, ◌⊎◌, ◌↔◌, ℕ, Bool, List, length, map, take, IsTrue, Contains};
-ghost use Rattle.std.specs.Int.{is_power_of_two};
+ghost use Rattle.std.specs.Prelude.{◌≡◌, ◌+◌, ◌<◌, ◌≤◌, ◌⊎◌, ◌↔◌, ℕ, Bool, List, length, map, take, Contains};
+ghost use Rattle.std.specs.Int.{IsPowerOfTwo};
 ghost use Rattle.gc_layout.specs.Fields.{fields_layout, fields_end, fields_align, offset_at, size_at, IsLeastMultiple};
 ghost use Rattle.gc_layout.specs.Kinds.{MatchesKind, kinds_from};
 ghost use Rattle.gc_layout.specs.Sizes.{field_size};
@@ -44,7 +44,7 @@ pub fn alignments_are_greatest()
     ensures of_each { (fields : List WasmFieldType) (i : ℕ) → i < length fields → size_at fields i ≤ fields_align fields }
     ensures one_of { (fields : List WasmFieldType)
         → (fields_align fields ≡ 8) ⊎ Contains (map field_size fields) (fields_align fields) }
-    ensures power_of_two { (fields : List WasmFieldType) → IsTrue (is_power_of_two (fields_align fields)) }
+    ensures power_of_two { (fields : List WasmFieldType) → IsPowerOfTwo (fields_align fields) }
 {}
 
 /// By the bits of their numbers the kinds are ordered, and as the tree of subtypes orders them: arrays and structs are below
