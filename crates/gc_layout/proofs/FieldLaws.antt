@@ -4,6 +4,8 @@ use Rattle.std.proofs.lemmas.List.{take-take, take-map}
 use Rattle.std.proofs.lemmas.Bool.{cases_lt}
 use Rattle.std.specs.Int.{next_multiple_of}
 use Rattle.std.specs.List.{fold, scan}
+use Rattle.wasm_types.specs.declared.aggregate.WasmArrayType.{WasmArrayType}
+use Rattle.gc_layout.specs.Arrays.{array_layout_of}
 use Rattle.wasm_types.specs.declared.field.WasmFieldType.{WasmFieldType}
 use Rattle.gc_layout.specs.declared.fields.GcStructLayoutField.{GcStructLayoutField}
 use Rattle.gc_layout.specs.Sizes.{field_size}
@@ -81,3 +83,7 @@ agree_on_prefix header fields others n same =
     ap (map offset_of) (take-placed header fields n) ∙ offsets_by_sizes header (take n fields)
     ∙ ap (scan end_of_size next_multiple_of header) same
     ∙ sym (offsets_by_sizes header (take n others)) ∙ sym (ap (map offset_of) (take-placed header others n))
+
+pub elements_are_least : (header : ℕ) (array : WasmArrayType)
+    → IsLeastMultiple (field_size array.0) (header + 4) (array_layout_of header array).base_size
+elements_are_least header array = least_multiple _ _ (storage_size_positive array.0.element_type)

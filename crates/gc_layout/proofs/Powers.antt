@@ -29,13 +29,13 @@ power_below (suc most) n below one =
     let halves = div-add-mod' n 2 in
     ⊎_elim
     (λ odd.
-      let rest : n / 2 ≡ 0 = zero_from_ones (n / 2) (omega (arith, step, one)) in
-      (0, omega (arith, halves, rest)))
+    let rest : n / 2 ≡ 0 = zero_from_ones (n / 2) (omega (arith, step, one)) in
+    (0, omega (arith, halves, rest)))
     (λ even.
-      let positive : 0 < n = ⊎_elim (λ positive. positive) (λ none.
-        let zero_is : n ≡ 0 = omega arith in absurd (omega (arith, sym one ∙ ap ones zero_is ∙ ones_zero))) (cases_lt 0 n) in
-      let half = power_below most (n / 2) (omega (arith, halves)) (omega (arith, step, one)) in
-      (suc half.0, omega (arith, halves, half.1, pow-suc 2 half.0)))
+    let positive : 0 < n = ⊎_elim (λ positive. positive) (λ none.
+    let zero_is : n ≡ 0 = omega arith in absurd (omega (arith, sym one ∙ ap ones zero_is ∙ ones_zero))) (cases_lt 0 n) in
+    let half = power_below most (n / 2) (omega (arith, halves)) (omega (arith, step, one)) in
+    (suc half.0, omega (arith, halves, half.1, pow-suc 2 half.0)))
     (cases_lt 0 (n % 2))
 
 pub power-from_test : (n : ℕ) → is_power_of_two n ≡ true → IsPowerOfTwo n

@@ -48,18 +48,13 @@ pub trait GcTypeLayouts {
         ensures fits { OnOk result (fixed_size (gc_layout_of header_size ty.now.inner) ≤ 4294967295) }
         ensures overflow { result ≡ Err LayoutError.OffsetOverflow → 4294967295 < fixed_size (gc_layout_of header_size ty.now.inner) }
     {
-        Ok(match &ty.inner {
-            WasmCompositeInnerType::Array(ty) => Some(self.array_layout(ty).into()),
-            WasmCompositeInnerType::Struct(ty) => Some(Rc::new(
-                alloc,
-                self.struct_layout(alloc, ty)?,
-            )?.into()),
-            WasmCompositeInnerType::Exn(ty) => Some(Rc::new(
-                alloc,
-                self.exn_layout(alloc, ty)?,
-            )?.into()),
-            WasmCompositeInnerType::Func(_) | WasmCompositeInnerType::Cont(_) => None,
-        })
+        let fields = match &ty.inner {
+            WasmCompositeInnerType::Array(ty) => return Ok(Some(self.array_layout(ty).into())),
+            WasmCompositeInnerType::Struct(ty) => self.struct_layout(alloc, ty)?,
+            WasmCompositeInnerType::Exn(ty) => self.exn_layout(alloc, ty)?,
+            WasmCompositeInnerType::Func(_) | WasmCompositeInnerType::Cont(_) => return Ok(None),
+        };
+        Ok(Some(Rc::new(alloc, fields)?.into()))
     }
 
     /// The layout of the arrays of a type.

@@ -4,7 +4,7 @@ ghost use Rattle.std.specs.Prelude.{◌≡◌, ◌≤◌, ◌↔◌, IsTrue, bit
 ghost use Rattle.gc_layout.specs.Kinds.{kind_number, MatchesKind};
 
 /// The kind of an object, in the highest six bits of a number of 32 bits. A kind has the bits of each kind above it in the
-/// tree of subtypes (core specification, 3.1, matching), so that one `and` finds whether an object is of a type.
+/// tree of subtypes (core specification, 3.3, heap types), so that one `and` finds whether an object is of a type.
 #[derive(Clone, Copy, Debug, PartialEq, Eq)]
 pub enum VMGcKind {
     /// A value of the host.

@@ -2,19 +2,24 @@
 
 ghost use Rattle.std.specs.Prelude.{◌≡◌, ◌+◌, ◌<◌, ◌≤◌, ◌⊎◌, ◌↔◌, ℕ, Bool, List, length, map, take, Contains};
 ghost use Rattle.std.specs.Int.{IsPowerOfTwo};
+ghost use Rattle.gc_layout.specs.Arrays.{array_layout_of};
 ghost use Rattle.gc_layout.specs.Fields.{fields_layout, fields_end, fields_align, offset_at, size_at, IsLeastMultiple};
 ghost use Rattle.gc_layout.specs.Kinds.{MatchesKind, kinds_from};
 ghost use Rattle.gc_layout.specs.Sizes.{field_size};
 ghost use Rattle.gc_layout.specs.declared.kind.VMGcKind.{VMGcKind};
+ghost use Rattle.wasm_types.specs.declared.aggregate.WasmArrayType.{WasmArrayType};
 ghost use Rattle.wasm_types.specs.declared.field.WasmFieldType.{WasmFieldType};
 
 /// Each field begins at the least multiple of its size that is not below the end of the fields before it, and the size is
-/// the least multiple of the alignment that is not below the end of all.
-pub fn fields_stand_at_least_multiples()
+/// the least multiple of the alignment that is not below the end of all. Elements begin at the least multiple of their size
+/// that is not below the end of the length.
+pub fn offsets_are_least_multiples()
     ensures offset { (header : ℕ) (fields : List WasmFieldType) (is_exception : Bool) (i : ℕ) → i < length fields
         → IsLeastMultiple (size_at fields i) (fields_end header (take i fields)) (offset_at (fields_layout header fields is_exception) i) }
     ensures size { (header : ℕ) (fields : List WasmFieldType) (is_exception : Bool)
         → IsLeastMultiple (fields_align fields) (fields_end header fields) (fields_layout header fields is_exception).size }
+    ensures elements { (header : ℕ) (array : WasmArrayType)
+        → IsLeastMultiple (field_size array.0) (header + 4) (array_layout_of header array).base_size }
 {}
 
 /// Fields stand behind the header, end before a later field begins, and end within the object.

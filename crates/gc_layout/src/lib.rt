@@ -29,8 +29,8 @@ pub use header::{
 };
 pub use kind::{VM_GC_KIND_SIZE, VMGcKind};
 pub use laws::{
-    alignments_are_greatest, fields_never_overlap, fields_stand_at_least_multiples,
-    kinds_are_a_tree, prefixes_agree,
+    alignments_are_greatest, fields_never_overlap, kinds_are_a_tree, offsets_are_least_multiples,
+    prefixes_agree,
 };
 pub use layout::Layout;
 pub use null::NullTypeLayouts;
