@@ -1,9 +1,8 @@
 -- The offsets of fields, one by one.
-use Rattle.std.proofs.Common.{◌≡◌, ◌∙◌, ◌<◌, ◌≤◌, ◌⊎◌, ◌+◌, ℕ, zero, suc, Bool, List, [], ◌∷◌, length, map, max, take, refl, ap, sym, get_or, arith, ⊎_elim, inl, inr}
-use Rattle.std.proofs.lemmas.List.{take-take, take-map}
-use Rattle.std.proofs.lemmas.Bool.{cases_lt}
+use Rattle.std.proofs.Common.{◌≡◌, ◌∙◌, ◌<◌, ◌≤◌, ◌+◌, ℕ, zero, suc, Bool, List, [], ◌∷◌, length, map, take, refl, ap, sym, arith}
+use Rattle.std.proofs.lemmas.List.{take-take}
 use Rattle.std.specs.Int.{next_multiple_of}
-use Rattle.std.specs.List.{fold, scan}
+use Rattle.std.specs.List.{scan}
 use Rattle.wasm_types.specs.declared.aggregate.WasmArrayType.{WasmArrayType}
 use Rattle.gc_layout.specs.Arrays.{array_layout_of}
 use Rattle.wasm_types.specs.declared.field.WasmFieldType.{WasmFieldType}
@@ -11,7 +10,7 @@ use Rattle.gc_layout.specs.declared.fields.GcStructLayoutField.{GcStructLayoutFi
 use Rattle.gc_layout.specs.Sizes.{field_size}
 use Rattle.gc_layout.specs.Fields.{end_after, placed_after, placed_fields, fields_end, fields_align, fields_layout, offset_at, size_at, IsLeastMultiple}
 use Rattle.gc_layout.proofs.Multiples.{least_multiple}
-use Rattle.gc_layout.proofs.Placing.{storage_size_positive, fields_align_positive, fields_end-take-le, le-fields_end, le-next_multiple_of}
+use Rattle.gc_layout.proofs.Placing.{storage_size_positive, fields_align_positive, fields_end-take-le, le-fields_end}
 
 abbrev offset_of : GcStructLayoutField → ℕ
 offset_of field = field.offset

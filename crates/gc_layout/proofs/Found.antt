@@ -1,5 +1,5 @@
 -- The kind of a number, as a search through the kinds finds it.
-use Rattle.std.proofs.Common.{◌≡◌, ◌∙◌, ◌↔◌, ℕ, Bool, true, false, List, [], ◌∷◌, Option, Some, None, option_map, eqb, refl, ap, sym, ⊎_elim}
+use Rattle.std.proofs.Common.{◌≡◌, ◌∙◌, ◌↔◌, ℕ, Bool, true, List, [], ◌∷◌, Option, Some, None, option_map, eqb, refl, ap, sym, ⊎_elim}
 use Rattle.std.proofs.lemmas.Bool.{eqb-true, cases_Bool}
 use Rattle.std.specs.List.{find}
 use Rattle.gc_layout.specs.declared.kind.VMGcKind.{VMGcKind}

@@ -2,4 +2,4 @@ use Rattle.std.proofs.Common.{refl}
 use Rattle.gc_layout.proofs.tests.shared_layouts_tell_size_and_alignment.Goals as goal
 
 pub layout-requires : goal.layout-requires
-layout-requires c = (4, refl)
+layout-requires g c = (4, refl)

@@ -1,4 +1,4 @@
-use Rattle.std.proofs.Common.{◌≡◌, ◌∙◌, ap, sym, ℕ}
+use Rattle.std.proofs.Common.{◌∙◌, ap, sym, ℕ}
 use Rattle.gc_layout.specs.declared.layout.Layout.{Layout}
 use Rattle.gc_layout.proofs.Powers.{power-from_test, test-from_power}
 use Rattle.gc_layout.proofs.array.GcArrayLayout.layout.Goals as goal
