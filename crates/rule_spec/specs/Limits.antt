@@ -1,4 +1,4 @@
--- Limits of memories and tables (core specification, 3.2.13; pages of one byte are a proposal).
+-- Limits of memories and tables (core specification, 3.2, limits and memory types; pages of one byte are a proposal).
 use Rattle.std.specs.Prelude.{◌≡◌, ◌⊎◌, ℕ, ◌*◌, ◌^◌, ◌≤◌, IsTrue, IfSome, IsSome, if◌then◌else◌}
 use Rattle.wasm_spec.specs.declared.entities.MemoryType.{MemoryType}
 use Rattle.wasm_spec.specs.declared.entities.TableType.{TableType}

@@ -16,22 +16,22 @@ pub record TypesAreNamed (l : Lists) : Type 0 where
   pub functions : All (NamesFunctionType l) l.functions
   pub tags : All (NamesFunctionType l) l.tags
 
--- how many locals a body has (5.5.13)
+-- how many locals a body has (5.5, code section)
 abbrev pub locals : Body → ℕ
 locals b = sum_by (λ (run : ℕ × ValType). run.0) b.locals
 
--- as many bodies as functions, as many data segments as are said, and locals of 32 bits (5.5.13 and 5.5.17)
+-- as many bodies as functions, as many data segments as are said, and locals of 32 bits (5.5, code section and modules)
 pub record CountsAgree (l : Lists) : Type 0 where
   pub bodies : length l.functions ≡ l.imported_functions + length l.bodies
   pub data_segments : All (λ count. count ≡ length l.segments) l.data_counts
   pub locals : All (λ b. locals b ≤ 4294967295) l.bodies
 
--- limits of tables and memories (3.2.13)
+-- limits of tables and memories (3.2, limits)
 pub record HaveLimits (l : Lists) : Type 0 where
   pub tables : All IsOrdered l.table_types
   pub memories : All HasLimits l.memories
 
--- a table whose cells cannot be null says what they hold at first (3.5.4)
+-- a table whose cells cannot be null says what they hold at first (3.5, tables)
 abbrev pub IsInitialised : TableDef → Type 0
 IsInitialised t = (t.type.element_type.nullable ≡ false) → IsSome t.init
 
@@ -39,12 +39,12 @@ IsInitialised t = (t.type.element_type.nullable ≡ false) → IsSome t.init
 abbrev pub AreDistinct : List Export → Type 0
 AreDistinct es = AllPairs (λ (a b : Export). a.name ≢ b.name) es
 
--- exports name what there is, each by a name of its own (3.5.14)
+-- exports name what there is, each by a name of its own (3.5, exports)
 pub record AreExported (l : Lists) : Type 0 where
   pub in_space : All (IsInSpace l) l.exports
   pub distinct : AreDistinct l.exports
 
--- what segments name is in range (3.5.10 and 3.5.11)
+-- what segments name is in range (3.5, element and data segments)
 pub record AreInRange (l : Lists) : Type 0 where
   pub elements : All (IsElementInRange l) l.elements
   pub segments : All (λ (s : Segment). NamesMemory l s.kind) l.segments

@@ -36,14 +36,14 @@ abbrev pub IndexNamesFunctionType : Lists → UnpackedIndex → Type 0
 IndexNamesFunctionType l (Module index) = NamesFunctionType l index
 IndexNamesFunctionType l _ = ⊥
 
--- a continuation names a function type (3.2.10)
+-- a continuation names a function type (3.2, composite types)
 abbrev pub ContinuesFunction : Lists → Composite UnpackedIndex UnpackedIndex → Type 0
 ContinuesFunction l (Cont function) = IndexNamesFunctionType l function
 ContinuesFunction l _ = Unit {0}
 
 -- ---- declared types
 
--- indices below the end of the type's own group, a supertype at a lower index, and a continuation of a function type (3.2.12)
+-- indices below the end of the type's own group, a supertype at a lower index, and a continuation of a function type (3.2, recursive types)
 pub record IsDeclaredWell (l : Lists) (d : Declared) : Type 0 where
   pub indices : KindIsBelow d.group_end d.type.composite.inner
   pub supertype : IfSome d.type.supertype (IsBelow d.index)

@@ -1,4 +1,4 @@
--- Coarse typing of constant expressions: of a value only its class counts (core specification, 3.4.15).
+-- Coarse typing of constant expressions: of a value only its class counts (core specification, 3.4, constant expressions).
 use Rattle.std.specs.Prelude.{◌≡◌, ℕ, Bool, true, false, ◌∷◌, [], ◌++◌, List, map, length, replicate, nat_lt, slice_get, Option, None, Some, if◌then◌else◌}
 use Rattle.std.specs.Option.{option_and_then}
 use Rattle.std.specs.List.{list_all}
