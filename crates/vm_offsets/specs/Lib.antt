@@ -1,0 +1,6 @@
+pub mod Arrays
+pub mod Context
+pub mod Entries
+pub mod Regions
+pub mod Steps
+pub mod Layouts

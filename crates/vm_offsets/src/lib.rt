@@ -1,0 +1,16 @@
+//! The layout of an instance's context.
+#![tactic(auto)]
+
+mod arrays;
+mod fields;
+mod offsets;
+mod overflow;
+mod pointer;
+mod row;
+mod table;
+
+pub use arrays::{ArrayOffsets, VmctxArrayIndex};
+pub use fields::VMOffsetsFields;
+pub use offsets::VMOffsets;
+pub use overflow::OffsetOverflow;
+pub use pointer::GetPtrSize;
