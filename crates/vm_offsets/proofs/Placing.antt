@@ -2,9 +2,12 @@
 use Rattle.std.proofs.Common.{◌≡◌, ℕ, suc, ◌+◌, ◌*◌, ◌<◌, ◌≤◌, List, [], ◌∷◌, ◌++◌, length, map, take, drop, get_or, slice_set, Option, None, Some, refl, sym, ap, ◌∙◌, append_assoc, append-nil, add-one, drop-cons, arith}
 use Rattle.std.proofs.lemmas.List.{map-append, take_more_set, take_all, drop_all}
 use Rattle.std.specs.Int.{next_multiple_of}
+use Rattle.vm_structs.specs.Fields.{end_of}
+use Rattle.vm_structs.specs.Structs.{static_context}
+use Rattle.vm_offsets.specs.declared.fields.VMOffsetsFields.{VMOffsetsFields}
 use Rattle.vm_offsets.specs.declared.table.Entry.{Entry}
 use Rattle.vm_offsets.specs.declared.row.Row.{Row as KeptRow}
-use Rattle.vm_offsets.specs.Context.{Row, align, entry, Placed, placed_from, end_from}
+use Rattle.vm_offsets.specs.Context.{Row, align, entry, Placed, placed_from, end_from, context_table, context_entries, context_size}
 use Rattle.vm_offsets.specs.Entries.{rows_of, after_step, kept_extent, placed_extent, without_texts}
 use Rattle.vm_offsets.specs.Steps.{begin_at}
 
@@ -95,3 +98,20 @@ all_placed at entries total rows i past all before =
     ∙ ap (λ front. map kept_extent front ++ []) (sym (take_all i entries all))
     ∙ ap (λ left. map kept_extent (take i entries) ++ map placed_extent (placed_from at (rows_of left))) (sym (drop_all i rows past))
     ∙ before
+
+-- the rows of the table, placed after the static part, are a context
+pub laid-entries : {P : Type 0} (pointer : ℕ) (c : VMOffsetsFields P) (rows : List KeptRow)
+    → rows_of rows ≡ without_texts (context_table pointer c)
+    → map placed_extent (placed_from (end_of static_context pointer) (rows_of rows)) ≡ map placed_extent (context_entries pointer c)
+unfolding context_entries
+laid-entries pointer c rows same =
+    ap (λ rows. map placed_extent (placed_from (end_of static_context pointer) rows)) same
+    ∙ placed_from-without_texts (end_of static_context pointer) (context_table pointer c)
+
+pub laid-size : {P : Type 0} (pointer : ℕ) (c : VMOffsetsFields P) (rows : List KeptRow)
+    → rows_of rows ≡ without_texts (context_table pointer c)
+    → end_from (end_of static_context pointer) (rows_of rows) ≡ context_size pointer c
+unfolding context_size
+laid-size pointer c rows same =
+    ap (end_from (end_of static_context pointer)) same
+    ∙ end_from-without_texts (end_of static_context pointer) (context_table pointer c)

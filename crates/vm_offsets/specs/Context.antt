@@ -13,7 +13,7 @@ pub data Row : Type 0 where
   entry : (description : List ℕ) → (count size : ℕ) → Row
 
 -- the one table of the entries that depend on a module, at a size of pointers and the module's counts
-abbrev pub context_table : {P : Type 0} → ℕ → VMOffsetsFields P → List Row
+unfoldable pub context_table : {P : Type 0} → ℕ → VMOffsetsFields P → List Row
 context_table pointer c =
     entry (codes "imported memories") c.num_imported_memories (size_of memory_import pointer)
     ∷ entry (codes "defined memories") c.num_defined_memories pointer
@@ -55,11 +55,11 @@ end_from at (align to ∷ rows) = end_from (next_multiple_of at to) rows
 end_from at (entry description count size ∷ rows) = end_from (at + count * size) rows
 
 -- the entries of a context, which follow its static part
-abbrev pub context_entries : {P : Type 0} → ℕ → VMOffsetsFields P → List Placed
+unfoldable pub context_entries : {P : Type 0} → ℕ → VMOffsetsFields P → List Placed
 context_entries pointer c = placed_from (end_of static_context pointer) (context_table pointer c)
 
 -- the size of a context
-abbrev pub context_size : {P : Type 0} → ℕ → VMOffsetsFields P → ℕ
+unfoldable pub context_size : {P : Type 0} → ℕ → VMOffsetsFields P → ℕ
 context_size pointer c = end_from (end_of static_context pointer) (context_table pointer c)
 
 -- the entry of a description among these

@@ -1,7 +1,7 @@
 //! What the layout of a context depends on.
 
 /// The size of pointers, and the counts of a module.
-#[derive(Clone, Copy, Debug)]
+#[derive(Clone, Copy, Debug, Drop)]
 pub struct VMOffsetsFields<P> {
     /// The size of pointers.
     pub ptr: P,

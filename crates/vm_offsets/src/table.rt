@@ -2,14 +2,14 @@
 
 ghost use Rattle.std.specs.Prelude.{◌≡◌, ◌<◌, ◌≤◌, ◌+◌, IfOk, OnErr};
 ghost use Rattle.vm_structs.specs.Fields.{IsPointerSize};
-ghost use Rattle.vm_offsets.specs.Context.{context_table, placed_from, end_from};
+ghost use Rattle.vm_offsets.specs.Context.{context_table, context_entries, context_size, placed_from, end_from};
 ghost use Rattle.vm_offsets.specs.Entries.{without_texts, rows_of, KeepsEntries};
 
 use crate::fields::VMOffsetsFields;
 use crate::overflow::OffsetOverflow;
 use crate::row::Row;
 use vm_structs::offsets::{
-    VMFuncRef, VMFunctionImport, VMGlobalDefinition, VMGlobalImport, VMMemoryDefinition,
+    VMContext, VMFuncRef, VMFunctionImport, VMGlobalDefinition, VMGlobalImport, VMMemoryDefinition,
     VMMemoryImport, VMTableDefinition, VMTableImport, VMTagDefinition, VMTagImport,
 };
 
@@ -22,7 +22,8 @@ pub struct Entry {
 }
 
 // The table, at a size of pointers and counts.
-pub(crate) fn table<P>(pointer: u8, fields: &VMOffsetsFields<P>) -> [Row; 14]
+#[tactic(auto, unfolding(crate::specs::Context::context_table))]
+fn table<P>(pointer: u8, fields: &VMOffsetsFields<P>) -> [Row; 14]
     requires { IsPointerSize pointer }
     ensures { rows_of result ≡ without_texts (context_table pointer fields.now) }
 {
@@ -56,7 +57,7 @@ pub(crate) fn table<P>(pointer: u8, fields: &VMOffsetsFields<P>) -> [Row; 14]
 }
 
 // The entries of a table that begins at a byte, and where it ends.
-pub(crate) fn place(begin: u8, rows: &[Row; 14]) -> Result<([Entry; 14], u32), OffsetOverflow>
+fn place(begin: u8, rows: &[Row; 14]) -> Result<([Entry; 14], u32), OffsetOverflow>
     ensures entries { IfOk result (λ placed. KeepsEntries placed.0 (placed_from begin (rows_of rows.now))) }
     ensures size { IfOk result (λ placed. placed.1 ≡ end_from begin (rows_of rows.now)) }
     ensures fits { IfOk result (λ _. end_from begin (rows_of rows.now) ≤ u32.MAX) }
@@ -81,4 +82,18 @@ pub(crate) fn place(begin: u8, rows: &[Row; 14]) -> Result<([Entry; 14], u32), O
         };
     }
     Ok((entries, end as u32))
+}
+
+// The entries of a context, and its size.
+pub(crate) fn lay_out<P>(
+    pointer: u8,
+    fields: &VMOffsetsFields<P>,
+) -> Result<([Entry; 14], u32), OffsetOverflow>
+    requires { IsPointerSize pointer }
+    ensures entries { IfOk result (λ placed. KeepsEntries placed.0 (context_entries pointer fields.now)) }
+    ensures size { IfOk result (λ placed. placed.1 ≡ context_size pointer fields.now) }
+    ensures fits { IfOk result (λ _. context_size pointer fields.now ≤ u32.MAX) }
+    ensures overflow { OnErr result (u32.MAX < context_size pointer fields.now) }
+{
+    place(VMContext(pointer).end_of_static_fields(), &table(pointer, fields))
 }
