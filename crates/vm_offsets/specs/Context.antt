@@ -62,12 +62,12 @@ context_entries pointer c = placed_from (end_of static_context pointer) (context
 unfoldable pub context_size : {P : Type 0} → ℕ → VMOffsetsFields P → ℕ
 context_size pointer c = end_from (end_of static_context pointer) (context_table pointer c)
 
+-- stands for an entry that is not there
+abbrev pub no_entry : Placed
+no_entry = record { description = []; begin = 0; stride = 0; count = 0 }
+
 -- the entry of a description among these
 abbrev pub entry_named : List ℕ → List Placed → Placed
-entry_named description [] = record { description = description; begin = 0; stride = 0; count = 0 }
+entry_named description [] = no_entry
 entry_named description (placed ∷ others) =
     if bytes_eq placed.description description then placed else entry_named description others
-
--- the entry of a description
-abbrev pub context_entry : {P : Type 0} → ℕ → VMOffsetsFields P → List ℕ → Placed
-context_entry pointer c description = entry_named description (context_entries pointer c)

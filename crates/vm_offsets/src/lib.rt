@@ -1,6 +1,7 @@
 //! The layout of an instance's context.
 #![tactic(auto)]
 
+mod accessors;
 mod arrays;
 mod fields;
 mod offsets;
