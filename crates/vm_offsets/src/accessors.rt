@@ -16,18 +16,31 @@ use wasm_index::{
 
 // The places of the entries in the table.
 const IMPORTED_MEMORIES: usize = 0;
+
 const MEMORIES: usize = 1;
+
 const OWNED_MEMORIES: usize = 2;
+
 const IMPORTED_FUNCTIONS: usize = 3;
+
 const IMPORTED_TABLES: usize = 4;
+
 const IMPORTED_GLOBALS: usize = 5;
+
 const IMPORTED_TAGS: usize = 6;
+
 const TABLES: usize = 7;
+
 const GLOBALS: usize = 8;
+
 const TAGS: usize = 9;
+
 const FUNC_REFS: usize = 10;
+
 const STARTUP_FUNC_REF: usize = 11;
+
 const RUNTIME_DATA_BASES: usize = 12;
+
 const RUNTIME_DATA_LENGTHS: usize = 13;
 
 impl<P: PtrSize> VMOffsets<P> {
@@ -53,7 +66,6 @@ impl<P: PtrSize> VMOffsets<P> {
 
 #[tactic(auto, unfolding(crate::specs::Context::context_entries, crate::specs::Context::context_table))]
 impl<P: PtrSize> VMOffsets<P> {
-
     /// The imported memories.
     pub fn imported_memories(&self) -> ArrayOffsets<MemoryIndex>
         ensures { result ≡ entry_array (entry_named (codes "imported memories") (entries_of self.now)) }
@@ -126,7 +138,8 @@ impl<P: PtrSize> VMOffsets<P> {
 
     /// The references to the functions that escape.
     pub fn func_refs(&self) -> ArrayOffsets<FuncIndex>
-        ensures { result ≡ entry_array (entry_named (codes "module functions") (entries_of self.now)) }
+        ensures array { result ≡ entry_array (entry_named (codes "module functions") (entries_of self.now)) }
+        ensures aligned { begin_of result % pointer_of self.now ≡ 0 }
     {
         self.array(FUNC_REFS)
     }
@@ -135,13 +148,15 @@ impl<P: PtrSize> VMOffsets<P> {
     pub fn startup_func_ref(&self) -> u32
         requires { IsTrue (fields_of self.now).has_startup_func }
         ensures begin { result ≡ (entry_named (codes "startup funcref") (entries_of self.now)).begin }
+        ensures aligned { result % pointer_of self.now ≡ 0 }
     {
         self.entry(STARTUP_FUNC_REF).begin
     }
 
     /// The pointers to the pieces of data that are kept for run time.
     pub fn runtime_data_bases(&self) -> ArrayOffsets<RuntimeDataIndex>
-        ensures { result ≡ entry_array (entry_named (codes "runtime data base pointers") (entries_of self.now)) }
+        ensures array { result ≡ entry_array (entry_named (codes "runtime data base pointers") (entries_of self.now)) }
+        ensures aligned { begin_of result % pointer_of self.now ≡ 0 }
     {
         self.array(RUNTIME_DATA_BASES)
     }

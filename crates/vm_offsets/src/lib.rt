@@ -3,6 +3,7 @@
 
 mod accessors;
 mod arrays;
+mod counts;
 mod fields;
 mod offsets;
 mod overflow;

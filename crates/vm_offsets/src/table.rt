@@ -95,5 +95,8 @@ pub(crate) fn lay_out<P>(
     ensures fits { IfOk result (λ _. context_size pointer fields.now ≤ u32.MAX) }
     ensures overflow { OnErr result (u32.MAX < context_size pointer fields.now) }
 {
-    place(VMContext(pointer).end_of_static_fields(), &table(pointer, fields))
+    place(
+        VMContext(pointer).end_of_static_fields(),
+        &table(pointer, fields),
+    )
 }
