@@ -3,4 +3,5 @@ pub mod Context
 pub mod Entries
 pub mod Regions
 pub mod Steps
+pub mod Falls
 pub mod Layouts

@@ -15,37 +15,37 @@ use wasm_index::{
 };
 
 // The places of the entries in the table.
-const IMPORTED_MEMORIES: usize = 0;
+pub(crate) const IMPORTED_MEMORIES: usize = 0;
 
-const MEMORIES: usize = 1;
+pub(crate) const MEMORIES: usize = 1;
 
-const OWNED_MEMORIES: usize = 2;
+pub(crate) const OWNED_MEMORIES: usize = 2;
 
-const IMPORTED_FUNCTIONS: usize = 3;
+pub(crate) const IMPORTED_FUNCTIONS: usize = 3;
 
-const IMPORTED_TABLES: usize = 4;
+pub(crate) const IMPORTED_TABLES: usize = 4;
 
-const IMPORTED_GLOBALS: usize = 5;
+pub(crate) const IMPORTED_GLOBALS: usize = 5;
 
-const IMPORTED_TAGS: usize = 6;
+pub(crate) const IMPORTED_TAGS: usize = 6;
 
-const TABLES: usize = 7;
+pub(crate) const TABLES: usize = 7;
 
-const GLOBALS: usize = 8;
+pub(crate) const GLOBALS: usize = 8;
 
-const TAGS: usize = 9;
+pub(crate) const TAGS: usize = 9;
 
-const FUNC_REFS: usize = 10;
+pub(crate) const FUNC_REFS: usize = 10;
 
-const STARTUP_FUNC_REF: usize = 11;
+pub(crate) const STARTUP_FUNC_REF: usize = 11;
 
-const RUNTIME_DATA_BASES: usize = 12;
+pub(crate) const RUNTIME_DATA_BASES: usize = 12;
 
-const RUNTIME_DATA_LENGTHS: usize = 13;
+pub(crate) const RUNTIME_DATA_LENGTHS: usize = 13;
 
 impl<P: PtrSize> VMOffsets<P> {
     // The entry at a place in the table.
-    fn entry(&self, place: usize) -> Entry
+    pub(crate) fn entry(&self, place: usize) -> Entry
         requires { place < 14 }
         ensures begin { result.begin ≡ (slice_index_or (entries_of self.now) place no_entry).begin }
         ensures stride { result.stride ≡ (slice_index_or (entries_of self.now) place no_entry).stride }

@@ -7,7 +7,9 @@ mod counts;
 mod fields;
 mod offsets;
 mod overflow;
+mod part;
 mod pointer;
+mod regions;
 mod row;
 mod table;
 
@@ -16,3 +18,4 @@ pub use fields::VMOffsetsFields;
 pub use offsets::VMOffsets;
 pub use overflow::OffsetOverflow;
 pub use pointer::GetPtrSize;
+pub use regions::RegionSizes;
