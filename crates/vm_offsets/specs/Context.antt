@@ -40,6 +40,10 @@ pub record Placed : Type 0 where
   pub stride : ℕ
   pub count : ℕ
 
+-- where its last element ends
+abbrev pub entry_end : Placed → ℕ
+entry_end placed = placed.begin + placed.count * placed.stride
+
 -- the entries of a table that begins at a byte: each begins where the rows before it end
 abbrev pub placed_from : ℕ → List Row → List Placed
 placed_from at [] = []

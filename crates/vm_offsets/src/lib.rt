@@ -5,6 +5,7 @@ mod accessors;
 mod arrays;
 mod counts;
 mod fields;
+mod laws;
 mod offsets;
 mod overflow;
 mod part;
@@ -15,6 +16,7 @@ mod table;
 
 pub use arrays::{ArrayOffsets, VmctxArrayIndex};
 pub use fields::VMOffsetsFields;
+pub use laws::{entry_laws, region_laws};
 pub use offsets::VMOffsets;
 pub use overflow::OffsetOverflow;
 pub use pointer::GetPtrSize;
