@@ -3,5 +3,6 @@ pub mod Context
 pub mod Entries
 pub mod Regions
 pub mod Steps
+pub mod Examples
 pub mod Falls
 pub mod Layouts

@@ -13,6 +13,9 @@ mod pointer;
 mod regions;
 mod row;
 mod table;
+#[cfg(test)]
+mod tests;
+mod worked;
 
 pub use arrays::{ArrayOffsets, VmctxArrayIndex};
 pub use fields::VMOffsetsFields;
@@ -21,3 +24,4 @@ pub use offsets::VMOffsets;
 pub use overflow::OffsetOverflow;
 pub use pointer::GetPtrSize;
 pub use regions::RegionSizes;
+pub use worked::{worked_empty_module, worked_programs, worked_table};
