@@ -4,16 +4,17 @@ ghost use Rattle.std.specs.Prelude.{◌<◌};
 ghost use Rattle.wasm_index.specs.Index.{index_of};
 ghost use Rattle.wasm_spec.specs.declared.types.UnpackedIndex.TheVariants as index;
 ghost use Rattle.wasm_types.specs.declared.index.EngineOrModuleTypeIndex.TheVariants.{Module};
-ghost use Rattle.wasm_types.specs.declared.heap.WasmHeapType.TheVariants.{ConcreteFunc, NoFunc};
+ghost use Rattle.type_data.specs.Names.{FuncName};
 
 use crate::{ConstExpr, ConstOp, GlobalConstValue, TypeConvert};
 use entity_map::EntityRef;
+use form_data::{CompositeInnerType, FuncType, SubType};
 use std::test::Fail;
-use wasm_form::{
-    AbstractHeapType, CompositeInnerType, FieldType, FuncType, GlobalType, HeapType, Operator,
-    RefType, StorageType, SubType, TableType, UnpackedIndex, ValType,
-};
 use wasm_index::{FuncIndex, ModuleInternedTypeIndex};
+use wasm_spec::{
+    AbstractHeapType, FieldType, GlobalType, HeapType, Operator, RefType, StorageType, TableType,
+    UnpackedIndex, ValType,
+};
 use wasm_types::{EngineOrModuleTypeIndex, IndexType, WasmHeapType, WasmStorageType, WasmValType};
 
 // Knows the first hundred types of a module, each as the function type of its number.
@@ -22,10 +23,11 @@ struct Functions;
 impl TypeConvert for Functions {
     ghost knows = { λ c. elim [ index.Module n ↦ n < 100 | index.RecGroup n ↦ ⊥ | index.Id n ↦ ⊥ ] };
 
-    ghost look_up = { λ c. record {
-      heap_type = elim [ index.Module n ↦ ConcreteFunc (Module (index_of n)) | index.RecGroup n ↦ NoFunc | index.Id n ↦ NoFunc ];
-      type_index = elim [ index.Module n ↦ Module (index_of n) | index.RecGroup n ↦ Module (index_of n) | index.Id n ↦ Module (index_of 0) ];
-    } };
+    ghost look_up = { λ c. elim [
+      | index.Module n ↦ record { kind = FuncName; index = Module (index_of n) }
+      | index.RecGroup n ↦ record { kind = FuncName; index = Module (index_of n) }
+      | index.Id n ↦ record { kind = FuncName; index = Module (index_of 0) }
+    ] };
 
     fn lookup_heap_type(&self, index: UnpackedIndex) -> WasmHeapType {
         WasmHeapType::ConcreteFunc(self.lookup_type_index(index))
@@ -132,7 +134,7 @@ fn globals_and_tables_keep_their_flags(rt: HostRuntime) {
 #[test]
 fn escaping_functions_are_listed(rt: HostRuntime) -> Result<(), Fail> {
     let alloc = rt.alloc();
-    let read = wasm_form::ConstExpr {
+    let read = form_data::ConstExpr {
         ops: vec![in alloc; Operator::RefFunc { function_index: 4 }]?,
     };
     let (expression, escaped) = ConstExpr::from_wasmparser(alloc, &Functions, &read)?;

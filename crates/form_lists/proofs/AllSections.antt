@@ -1,0 +1,105 @@
+-- What holds of each entry, where the entries stand in sections.
+use Rattle.std.proofs.Common.{◌≡◌, ◌↔◌, ℕ, ◌+◌, ◌<◌, ◌≤◌, Bool, List, [], ◌∷◌, ◌++◌, length, map, take, drop, get_or, All, IsTrue, sym, ap, subst, ◌∙◌, arith}
+use Rattle.std.proofs.lemmas.List.{map-append, map_more, take-append-drop, length-append}
+use Rattle.std.proofs.lemmas.List.Concat.{flat_map-append}
+use Rattle.std.specs.List.{flat_map}
+use Rattle.std.proofs.lemmas.List.Elements.{All-nil, All-cons, All-head, All-tail, All-append, All-map, All-same, All-get_or, All-push}
+use Rattle.wasm_spec.specs.Module as plain
+use Rattle.form_data.specs.declared.form.Payload.{Payload}
+use Rattle.form_data.specs.Views.{payload_of}
+use Rattle.form_lists.proofs.Gathering.{entries_of_more}
+
+-- ---- parts of lists
+
+-- all of two lists joined
+pub All-joined : {X : Type 0} (P : X → Type 0) (xs ys : List X) → All P (xs ++ ys) ↔ (All P xs × All P ys)
+All-joined {X = X} P xs ys = (λ all. (left xs all, right xs all), λ both. All-append P xs ys both.0 both.1) where
+  left : (zs : List X) → All P (zs ++ ys) → All P zs
+  left [] all = All-nil P
+  left (z ∷ zs) all = All-cons P z zs (All-head P z (zs ++ ys) all) (left zs (All-tail P z (zs ++ ys) all))
+
+  right : (zs : List X) → All P (zs ++ ys) → All P ys
+  right [] all = all
+  right (z ∷ zs) all = right zs (All-tail P z (zs ++ ys) all)
+
+pub All-from_map : {X Y : Type 0} (P : X → Type 0) (f : Y → X) (ys : List Y) → All P (map f ys) → All (λ y. P (f y)) ys
+All-from_map P f [] all = All-nil (λ y. P (f y))
+All-from_map P f (y ∷ ys) all = All-cons (λ z. P (f z)) y ys (All-head P (f y) (map f ys) all) (All-from_map P f ys (All-tail P (f y) (map f ys) all))
+
+-- all of what each element has
+pub All-parts : {X Y : Type 0} (P : X → Type 0) (f : Y → List X) (ys : List Y) → All P (flat_map f ys) ↔ All (λ y. All P (f y)) ys
+All-parts P f [] = (λ all. All-nil (λ y. All P (f y)), λ all. All-nil P)
+All-parts {Y = Y} P f (y ∷ ys) =
+    let Q : Y → Type 0 = λ y. All P (f y) in
+    let joined = All-joined P (f y) (flat_map f ys) in
+    let rest = All-parts P f ys in (
+      λ all. let both = joined.0 all in All-cons Q y ys both.0 (rest.0 both.1),
+      λ all. joined.1 (All-head Q y ys all, rest.1 (All-tail Q y ys all)),
+    )
+
+All-sections : {X : Type 0} (P : X → Type 0) (f : plain.Payload → List X) (ps : List Payload)
+    → All P (flat_map f (map payload_of ps)) ↔ All (λ p. All P (f (payload_of p))) ps
+All-sections P f ps =
+    let Q : plain.Payload → Type 0 = λ p. All P (f p) in
+    let parts = All-parts P f (map payload_of ps) in (
+      λ all. All-from_map Q payload_of ps (parts.0 all),
+      λ all. parts.1 (All-map Q payload_of ps all),
+    )
+
+-- ---- tests
+
+-- a test of the values that are seen by a view
+pub tells_of_map : {X Y : Type 0} (P : X → Type 0) (f : Y → X) (ys : List Y) (b : Bool) → IsTrue b ↔ All (λ y. P (f y)) ys
+    → IsTrue b ↔ All P (map f ys)
+tells_of_map P f ys b tells = (λ answered. All-map P f ys (tells.0 answered), λ all. tells.1 (All-from_map P f ys all))
+
+-- a test of section after section
+pub tells_of_sections : {X : Type 0} (P : X → Type 0) (f : plain.Payload → List X) (ps : List Payload) (b : Bool)
+    → IsTrue b ↔ All (λ p. All P (f (payload_of p))) ps → IsTrue b ↔ All P (flat_map f (map payload_of ps))
+tells_of_sections P f ps b tells = (λ answered. (All-sections P f ps).1 (tells.0 answered), λ all. tells.1 ((All-sections P f ps).0 all))
+
+-- ---- loops over sections
+
+-- the entries of one section more
+pub all_more : {X : Type 0} (P : X → Type 0) (f : plain.Payload → List X) (ps : List Payload) (k : ℕ) (p : Payload) (xs : List X) → k < length ps
+    → p ≡ get_or ps k p → xs ≡ f (payload_of p) → All P xs → All P (flat_map f (map payload_of (take k ps)))
+    → All P (flat_map f (map payload_of (take (k + 1) ps)))
+all_more P f ps k p xs lt at same here before =
+    All-same P _ _ (entries_of_more f ps k p lt at ∙ ap (λ ys. flat_map f (map payload_of (take k ps)) ++ ys) (sym same))
+    (All-append P (flat_map f (map payload_of (take k ps))) xs before here)
+
+-- an entry of one section fails
+pub all_fails : {X : Type 0} (P : X → Type 0) (f : plain.Payload → List X) (ps : List Payload) (k : ℕ) (p : Payload) (xs : List X) → k < length ps
+    → p ≡ get_or ps k p → xs ≡ f (payload_of p) → (All P xs → ⊥) → All P (flat_map f (map payload_of ps)) → ⊥
+all_fails P f ps k p xs lt at same fails all =
+    fails (All-same P _ _ (same ∙ ap (λ (q : Payload). f (payload_of q)) at)
+    (All-get_or (λ (q : Payload). All P (f (payload_of q))) ps k p lt ((All-sections P f ps).0 all)))
+
+-- the entries so far and those of one section more are no more than all
+pub length_more_le : {X : Type 0} (f : plain.Payload → List X) (ps : List Payload) (k : ℕ) (p : Payload) → k < length ps → p ≡ get_or ps k p
+    → length (flat_map f (map payload_of (take k ps))) + length (f (payload_of p)) ≤ length (flat_map f (map payload_of ps))
+length_more_le f ps k p lt at =
+    let before = flat_map f (map payload_of (take k ps)) in
+    let through : flat_map f (map payload_of (take (k + 1) ps)) ≡ before ++ f (payload_of p) = entries_of_more f ps k p lt at in
+    let whole : flat_map f (map payload_of ps) ≡ flat_map f (map payload_of (take (k + 1) ps)) ++ flat_map f (map payload_of (drop (k + 1) ps)) =
+    ap (λ (qs : List Payload). flat_map f (map payload_of qs)) (sym (take-append-drop (k + 1) ps))
+    ∙ ap (flat_map f) (map-append payload_of (take (k + 1) ps) (drop (k + 1) ps))
+    ∙ flat_map-append f (map payload_of (take (k + 1) ps)) (map payload_of (drop (k + 1) ps)) in
+    omega (
+      arith,
+      ap length through ∙ length-append before (f (payload_of p)),
+      ap length whole ∙ length-append (flat_map f (map payload_of (take (k + 1) ps))) (flat_map f (map payload_of (drop (k + 1) ps))),
+    )
+
+-- ---- loops over the entries of one section
+
+-- one entry more
+pub items_more : {X Y : Type 0} (P : X → Type 0) (f : Y → X) (ys : List Y) (k : ℕ) (y : Y) → k < length ys → y ≡ get_or ys k y → P (f y)
+    → All P (map f (take k ys)) → All P (map f (take (k + 1) ys))
+items_more P f ys k y lt at here before =
+    All-same P _ _ (map_more f ys k y lt ∙ ap (λ x. map f (take k ys) ++ f x ∷ []) (sym at)) (All-push P (map f (take k ys)) (f y) before here)
+
+-- one entry fails
+pub items_fail : {X Y : Type 0} (P : X → Type 0) (f : Y → X) (ys : List Y) (k : ℕ) (y : Y) → k < length ys → y ≡ get_or ys k y → (P (f y) → ⊥)
+    → All P (map f ys) → ⊥
+items_fail P f ys k y lt at fails all = fails (subst (λ x. P (f x)) (sym at) (All-get_or (λ x. P (f x)) ys k y lt (All-from_map P f ys all)))
