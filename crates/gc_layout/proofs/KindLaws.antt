@@ -55,4 +55,6 @@ matches_as_tree a b = (
 pub matches_antisymmetric : (a b : VMGcKind) → MatchesKind a b → MatchesKind b a → a ≡ b
 matches_antisymmetric a b down up =
     kind_number-injective a b
-    (sym (and-from_bits (kind_number b) (kind_number a) up) ∙ and_comm (kind_number b) (kind_number a) ∙ and-from_bits (kind_number a) (kind_number b) down)
+    (sym (and-from_bits (kind_number b) (kind_number a) up)
+    ∙ and_comm (kind_number b) (kind_number a)
+    ∙ and-from_bits (kind_number a) (kind_number b) down)

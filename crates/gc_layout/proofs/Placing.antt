@@ -76,7 +76,9 @@ pub placed_step : (header : ℕ) (fields : List WasmFieldType) (n : ℕ) (d : Wa
 placed_step header fields n d end align placed size offset field_end next_align marked next_placed lt before sized begun ended most refs listed =
     let field = get_or fields n d in
     let at_offset : offset ≡ next_multiple_of end (field_size field) = begun ∙ ap (next_multiple_of end) sized in
-    let at_end : field_end ≡ end_after end field = ended ∙ ap (λ offset. offset + size) at_offset ∙ ap (λ size. next_multiple_of end (field_size field) + size) sized in
+    let at_end : field_end ≡ end_after end field = ended
+    ∙ ap (λ offset. offset + size) at_offset
+    ∙ ap (λ size. next_multiple_of end (field_size field) + size) sized in
     let at_align : next_align ≡ max align (field_size field) = most ∙ ap (max align) sized in
     let at_place : next_placed ≡ placed ++ placed_after end field ∷ [] = listed
     ∙ ap (λ offset. placed ++ (record { offset = offset; is_gc_ref = marked }) ∷ []) at_offset
@@ -124,6 +126,10 @@ le-fold_max a (x ∷ xs) = omega (arith, le-fold_max (max a x) xs)
 pub fields_align_positive : (fields : List WasmFieldType) → 0 < fields_align fields
 fields_align_positive fields = omega (arith, le-fold_max 8 (map field_size fields))
 
+-- what is not below a limit is at least the limit
+not_below : (n limit : ℕ) → (n < limit → ⊥) → limit ≤ n
+not_below n limit wide = ⊎_elim (λ fits. absurd (wide fits)) (λ past. past) (cases_lt n limit)
+
 -- an offset or an end that does not fit 32 bits
 pub past_offset : (header : ℕ) (fields : List WasmFieldType) (is_exception : Bool) (n : ℕ) (d : WasmFieldType) (end size : ℕ)
     → n < length fields → end ≡ fields_end header (take n fields) → size ≡ field_size (get_or fields n d)
@@ -132,7 +138,8 @@ pub past_offset : (header : ℕ) (fields : List WasmFieldType) (is_exception : B
 past_offset header fields is_exception n d end size lt ended sized wide =
     let field = get_or fields n d in
     let positive : 0 < size = rw sized (storage_size_positive field.element_type) in
-    let past : 4294967296 ≤ next_multiple_of end size = ⊎_elim (λ fits. absurd (wide (positive, fits))) (λ past. past) (cases_lt (next_multiple_of end size) 4294967296) in
+    let past : 4294967296 ≤ next_multiple_of end size =
+    not_below (next_multiple_of end size) 4294967296 (λ fits. wide (positive, fits)) in
     let at_offset : next_multiple_of end size ≡ next_multiple_of (fields_end header (take n fields)) (field_size field) =
     ap (λ end. next_multiple_of end size) ended ∙ ap (next_multiple_of (fields_end header (take n fields))) sized in
     past_field header fields is_exception n d 4294967295 lt (omega (arith, at_offset, past))
@@ -143,7 +150,7 @@ pub past_end : (header : ℕ) (fields : List WasmFieldType) (is_exception : Bool
     → 4294967295 < (fields_layout header fields is_exception).size
 past_end header fields is_exception n d end size offset lt ended sized begun wide =
     let field = get_or fields n d in
-    let past : 4294967296 ≤ offset + size = ⊎_elim (λ fits. absurd (wide fits)) (λ past. past) (cases_lt (offset + size) 4294967296) in
+    let past : 4294967296 ≤ offset + size = not_below (offset + size) 4294967296 wide in
     let at_offset : offset ≡ next_multiple_of (fields_end header (take n fields)) (field_size field) =
     begun ∙ ap (λ end. next_multiple_of end size) ended ∙ ap (next_multiple_of (fields_end header (take n fields))) sized in
     past_field header fields is_exception n d 4294967295 lt (omega (arith, at_offset, sized, past))
@@ -158,7 +165,8 @@ past_size header fields is_exception n end align placed done walked wide =
     let ended : end ≡ fields_end header fields = walked.ends ∙ ap (fields_end header) all in
     let aligned : align ≡ fields_align fields = walked.aligned ∙ ap fields_align all in
     let positive : 0 < align = rw aligned (fields_align_positive fields) in
-    let past : 4294967296 ≤ next_multiple_of end align = ⊎_elim (λ fits. absurd (wide (positive, fits))) (λ past. past) (cases_lt (next_multiple_of end align) 4294967296) in
+    let past : 4294967296 ≤ next_multiple_of end align =
+    not_below (next_multiple_of end align) 4294967296 (λ fits. wide (positive, fits)) in
     let at_size : next_multiple_of end align ≡ next_multiple_of (fields_end header fields) (fields_align fields) =
     ap (λ end. next_multiple_of end align) ended ∙ ap (next_multiple_of (fields_end header fields)) aligned in
     omega (arith, at_size, past)
