@@ -1,4 +1,5 @@
--- Iso-recursive equality of types, over lists of groups in which a reference is a place in the joined list.
+-- Iso-recursive equality of types (core specification, 3.1, recursive types), over lists of groups in which a reference is a place in the
+-- joined list.
 use Rattle.std.specs.Prelude.{◌≡◌, ℕ, zero, suc, ◌+◌, ◌-◌, Bool, true, false, nat_eq, nat_le, nat_lt, ◌&&◌, List, [], ◌∷◌, length, if◌then◌else◌}
 use Rattle.std.specs.Cmp.Lexicographic.{pointwise}
 use Rattle.wasm_spec.specs.TypeData.{Group}
