@@ -32,6 +32,13 @@ use Rattle.wasm_types.specs.Indices.{heap_index, heap_with_index, val_index, val
 abbrev pub no_edge : EngineOrModuleTypeIndex
 no_edge = Engine (index_of 0)
 
+-- of an index: itself
+abbrev pub edge_edges : EngineOrModuleTypeIndex → List EngineOrModuleTypeIndex
+edge_edges i = i ∷ []
+
+abbrev pub edge_frame : EngineOrModuleTypeIndex → EngineOrModuleTypeIndex
+edge_frame i = no_edge
+
 -- of a heap type: that of a concrete one
 abbrev pub heap_edges : WasmHeapType → List EngineOrModuleTypeIndex
 heap_edges h = option_to_list (heap_index h)

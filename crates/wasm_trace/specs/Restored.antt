@@ -26,7 +26,7 @@ use Rattle.wasm_types.specs.declared.entity.EntityType.{EntityType}
 use Rattle.wasm_types.specs.declared.entity.EntityType.TheVariants as entity
 use Rattle.wasm_types.specs.Indices.{heap_with_index, val_with_index, cont_of}
 use Rattle.wasm_types.specs.Parts.{FuncParts, ExnParts}
-use Rattle.wasm_trace.specs.Edges.{no_edge, heap_edges, heap_frame, ref_edges, ref_frame, val_edges, val_frame, func_edges, func_frame, storage_edges, storage_frame, field_edges, field_frame, array_edges, array_frame, struct_edges, struct_frame, exn_edges, exn_frame, cont_edges, cont_frame, inner_edges, inner_frame, composite_edges, composite_frame, sub_edges, sub_frame, group_edges, group_frame, global_edges, global_frame, table_edges, table_frame, tag_edges, tag_frame, entity_edges, entity_frame}
+use Rattle.wasm_trace.specs.Edges.{no_edge, edge_edges, edge_frame, heap_edges, heap_frame, ref_edges, ref_frame, val_edges, val_frame, func_edges, func_frame, storage_edges, storage_frame, field_edges, field_frame, array_edges, array_frame, struct_edges, struct_frame, exn_edges, exn_frame, cont_edges, cont_frame, inner_edges, inner_frame, composite_edges, composite_frame, sub_edges, sub_frame, group_edges, group_frame, global_edges, global_frame, table_edges, table_frame, tag_edges, tag_frame, entity_edges, entity_frame}
 
 -- how the edges of a value are put back into its frame, which has as many edges
 pub record Restored {T : Type 0} (edges : T → List EngineOrModuleTypeIndex) (frame : T → T) : Type 0 where
@@ -66,6 +66,15 @@ module _ {T U : Type 0} {edges : T → List EngineOrModuleTypeIndex} {frame : T 
       ∙ ap (λ n. n + length (edges' (frame' u))) (r.counts t) ∙ ap (λ n. length (edges t) + n) (r'.counts u)
       ∙ sym (length-append (edges t) (edges' u))
 
+  pub both_restored : Restored (λ (p : T × U). edges p.0 ++ edges' p.1) (λ (p : T × U). (frame p.0, frame' p.1))
+  both_restored = record {
+    put = λ p es. (first p.0 es, second p.0 p.1 es);
+    back = λ p.
+        ap (λ t. (t, second (frame p.0) (frame' p.1) (edges p.0 ++ edges' p.1))) (first-back p.0 p.1)
+        ∙ ap (λ u. (p.0, u)) (second-back p.0 p.1);
+    counts = λ p. count-both p.0 p.1;
+  }
+
 -- the items of a list
 module _ {T : Type 0} {edges : T → List EngineOrModuleTypeIndex} {frame : T → T} (r : Restored edges frame) where
   all_put : List T → List EngineOrModuleTypeIndex → List T
@@ -92,6 +101,15 @@ module _ {T : Type 0} {edges : T → List EngineOrModuleTypeIndex} {frame : T �
 
   pub all_restored : Restored (flat_map edges) (map frame)
   all_restored = record { put = all_put; back = all_back; counts = all_counts }
+
+-- indices
+edge_put : EngineOrModuleTypeIndex → List EngineOrModuleTypeIndex → EngineOrModuleTypeIndex
+edge_put i [] = i
+edge_put i (e ∷ es) = e
+
+pub edge_restored : Restored edge_edges edge_frame
+unfolding edge_put
+edge_restored = record { put = edge_put; back = λ i. refl; counts = λ i. refl }
 
 -- heap, reference and value types
 heap_put : WasmHeapType → List EngineOrModuleTypeIndex → WasmHeapType

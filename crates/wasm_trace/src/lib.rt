@@ -7,6 +7,7 @@ mod cont;
 mod entity;
 mod field;
 mod func;
+mod index;
 mod laws;
 mod lists;
 #[cfg(test)]
@@ -16,5 +17,6 @@ mod value;
 mod worked;
 
 pub use laws::{run_laws, run_mut_laws, unchanged_law};
+pub use lists::{trace_all, trace_all_mut};
 pub use trace::TypeTrace;
 pub use worked::{worked_canonical_edges, worked_edges};
