@@ -13,11 +13,11 @@ use wasm_index::DefinedFuncIndex;
 #[derive(Drop)]
 pub struct DefinedFuncIndices {
     next: usize,
-    count: usize,
+    left: usize,
 }
 
 impl Model for DefinedFuncIndices {
-    ghost use Rattle.std.specs.Prelude.{◌<◌, ◌≤◌, ◌-◌, List, map};
+    ghost use Rattle.std.specs.Prelude.{◌+◌, ◌<◌, List, map};
     ghost use Rattle.std.specs.List.{range_with_len};
     ghost use Rattle.wasm_index.specs.Index.{index_of};
     ghost use Rattle.wasm_index.specs.declared.index.Index.{Index};
@@ -25,9 +25,9 @@ impl Model for DefinedFuncIndices {
 
     ghost Value = { List (Index DefinedFuncSpace) };
 
-    ghost view = { λ it. map index_of (range_with_len it.next (it.count - it.next)) };
+    ghost view = { λ it. map index_of (range_with_len it.next it.left) };
 
-    ghost invariant = { λ it. (it.next ≤ it.count) × (it.count < 4294967295) };
+    ghost invariant = { λ it. it.next + it.left < 4294967295 };
 }
 
 impl Iterator for DefinedFuncIndices {
@@ -37,12 +37,14 @@ impl Iterator for DefinedFuncIndices {
 
     ghost remaining = { item_count (λ left. left) };
 
+    #[tactic(auto, using(crate::proofs::Counting::range_first))]
     fn next(&mut self) -> Option<DefinedFuncIndex> {
-        if self.next == self.count {
+        if self.left == 0 {
             return None;
         }
         let index = DefinedFuncIndex::new(self.next);
         self.next += 1;
+        self.left -= 1;
         Some(index)
     }
 }
@@ -53,10 +55,9 @@ impl Module {
         requires { self.now.num_imported_funcs ≤ length self.now.functions }
         ensures { result ≡ first_indices (length self.now.functions - self.now.num_imported_funcs) }
     {
-        let _below = self.functions.len();
         DefinedFuncIndices {
             next: 0,
-            count: self.num_defined_funcs(),
+            left: self.num_defined_funcs(),
         }
     }
 }

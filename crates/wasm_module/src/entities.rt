@@ -1,6 +1,6 @@
 //! The entities of a module: which there are, which are imported, and which are exported.
 
-ghost use Rattle.std.specs.Prelude.{◌≡◌, ◌↔◌, ◌≤◌, ◌-◌, length, Some, IsTrue, IsSome};
+ghost use Rattle.std.specs.Prelude.{◌≡◌, ◌↔◌, ◌<◌, ◌≤◌, ◌-◌, length, Some, IsTrue, IsSome};
 ghost use Rattle.wasm_module.specs.Entities.{entity_type, IsImported, IsExported};
 ghost use Rattle.wasm_module.specs.Record.{record_of};
 
@@ -116,7 +116,8 @@ impl Module {
     /// How many functions the module defines.
     pub fn num_defined_funcs(&self) -> usize
         requires { self.now.num_imported_funcs ≤ length self.now.functions }
-        ensures { result ≡ length self.now.functions - self.now.num_imported_funcs }
+        ensures count { result ≡ length self.now.functions - self.now.num_imported_funcs }
+        ensures below { result < u32.MAX }
     {
         self.functions.len() - self.num_imported_funcs
     }
@@ -124,7 +125,8 @@ impl Module {
     /// How many tables the module defines.
     pub fn num_defined_tables(&self) -> usize
         requires { self.now.num_imported_tables ≤ length self.now.tables }
-        ensures { result ≡ length self.now.tables - self.now.num_imported_tables }
+        ensures count { result ≡ length self.now.tables - self.now.num_imported_tables }
+        ensures below { result < u32.MAX }
     {
         self.tables.len() - self.num_imported_tables
     }
@@ -132,7 +134,8 @@ impl Module {
     /// How many memories the module defines.
     pub fn num_defined_memories(&self) -> usize
         requires { self.now.num_imported_memories ≤ length self.now.memories }
-        ensures { result ≡ length self.now.memories - self.now.num_imported_memories }
+        ensures count { result ≡ length self.now.memories - self.now.num_imported_memories }
+        ensures below { result < u32.MAX }
     {
         self.memories.len() - self.num_imported_memories
     }
@@ -140,7 +143,8 @@ impl Module {
     /// How many globals the module defines.
     pub fn num_defined_globals(&self) -> usize
         requires { self.now.num_imported_globals ≤ length self.now.globals }
-        ensures { result ≡ length self.now.globals - self.now.num_imported_globals }
+        ensures count { result ≡ length self.now.globals - self.now.num_imported_globals }
+        ensures below { result < u32.MAX }
     {
         self.globals.len() - self.num_imported_globals
     }
@@ -148,7 +152,8 @@ impl Module {
     /// How many tags the module defines.
     pub fn num_defined_tags(&self) -> usize
         requires { self.now.num_imported_tags ≤ length self.now.tags }
-        ensures { result ≡ length self.now.tags - self.now.num_imported_tags }
+        ensures count { result ≡ length self.now.tags - self.now.num_imported_tags }
+        ensures below { result < u32.MAX }
     {
         self.tags.len() - self.num_imported_tags
     }

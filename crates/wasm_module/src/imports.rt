@@ -1,6 +1,6 @@
 //! The imports of a module.
 
-ghost use Rattle.std.specs.Prelude.{◌≡◌, All, IfSome, slice_get, option_and_then};
+ghost use Rattle.std.specs.Prelude.{◌≡◌, All, Some, IfSome, slice_get, option_and_then};
 ghost use Rattle.std.specs.Iterator.{YieldsFirstBy, item_count};
 ghost use Rattle.std.specs.Option.{option_map};
 ghost use Rattle.wasm_module.specs.Imports.{IsResolved, import_of, imports_of, lent_import, entity_at, IsFirstImport};
@@ -15,21 +15,20 @@ use wasm_types::{EntityIndex, EntityType};
 #[derive(Drop)]
 pub struct Imports<'a> {
     module: &'a Module,
-    // The place of the first that is left.
-    next: usize,
+    rest: &'a [Initializer],
 }
 
 impl<'a> Model for Imports<'a> {
-    ghost use Rattle.std.specs.Prelude.{ℕ, List, All, drop};
+    ghost use Rattle.std.specs.Prelude.{ℕ, List, All};
     ghost use Rattle.wasm_types.specs.declared.entity.EntityType.{EntityType};
     ghost use Rattle.wasm_module.specs.Imports.{IsResolved, imports_of};
     ghost use Rattle.wasm_module.specs.Record.{record_of};
 
     ghost Value = { List (List ℕ × List ℕ × EntityType) };
 
-    ghost view = { λ it. imports_of (record_of it.module.now) (drop it.next (record_of it.module.now).initializers) };
+    ghost view = { λ it. imports_of (record_of it.module.now) it.rest.now };
 
-    ghost invariant = { λ it. All (IsResolved (record_of it.module.now)) (drop it.next (record_of it.module.now).initializers) };
+    ghost invariant = { λ it. All (IsResolved (record_of it.module.now)) it.rest.now };
 }
 
 impl<'a> Iterator for Imports<'a> {
@@ -40,10 +39,9 @@ impl<'a> Iterator for Imports<'a> {
     ghost remaining = { item_count (λ left. left) };
 
     fn next(&mut self) -> Option<(&'a str, &'a str, EntityType)> {
-        let module = self.module;
-        let import = module.import(self.next)?;
-        self.next += 1;
-        Some(import)
+        let (first, others) = self.rest.split_first()?;
+        self.rest = others;
+        Some(self.module.resolved(first))
     }
 }
 
@@ -55,7 +53,7 @@ impl Module {
     {
         Imports {
             module: self,
-            next: 0,
+            rest: self.initializers.as_slice(),
         }
     }
 
@@ -66,12 +64,21 @@ impl Module {
         ensures { option_map lent_import result
             ≡ option_and_then (import_of (record_of self.now)) (slice_get (record_of self.now).initializers i) }
     {
-        let Initializer::Import { name, field, index } = self.initializers.get(i)?;
-        Some((
+        let initializer = self.initializers.get(i)?;
+        Some(self.resolved(initializer))
+    }
+
+    // An import, by the texts of its names and the type of its entity.
+    fn resolved(&self, initializer: &Initializer) -> (&str, &str, EntityType)
+        requires { IsResolved (record_of self.now) initializer.now }
+        ensures { import_of (record_of self.now) initializer.now ≡ Some (lent_import result) }
+    {
+        let Initializer::Import { name, field, index } = initializer;
+        (
             self.strings.get(*name),
             self.strings.get(*field),
             self.type_of(*index),
-        ))
+        )
     }
 
     /// The entity that the import at a place brings.

@@ -1,6 +1,7 @@
 //! Indices of entities, and indices of those that the module defines.
 
-ghost use Rattle.std.specs.Prelude.{◌≡◌, ◌<◌, ◌≤◌, ◌+◌, ◌-◌, length};
+ghost use Rattle.std.specs.Prelude.{◌≡◌, ◌<◌, ◌≤◌, ◌+◌, length, not};
+ghost use Rattle.std.specs.List.{filter};
 ghost use Rattle.wasm_index.specs.Index.{number_of};
 ghost use Rattle.wasm_module.specs.Entities.{owned_memories};
 ghost use Rattle.wasm_module.specs.Record.{record_of};
@@ -12,6 +13,7 @@ use wasm_index::{
     DefinedFuncIndex, DefinedGlobalIndex, DefinedMemoryIndex, DefinedTableIndex, DefinedTagIndex,
     FuncIndex, GlobalIndex, Index, MemoryIndex, OwnedMemoryIndex, TableIndex, TagIndex,
 };
+use wasm_types::Memory;
 
 // The index of a defined entity, after so many imported ones.
 fn after_imports<Defined, Space>(imported: usize, defined: Index<Defined>) -> Index<Space>
@@ -31,6 +33,14 @@ fn among_defined<Space, Defined>(imported: usize, index: Index<Space>) -> Option
     } else {
         Some(EntityRef::new(index.index() - imported))
     }
+}
+
+// How many of some memories are not shared.
+fn owned_among(memories: &[Memory]) -> usize
+    ensures count { result ≡ length (filter (λ memory. not memory.shared) memories.now) }
+    ensures within { result ≤ length memories.now }
+{
+    memories.iter().filter(|memory| !memory.shared).count()
 }
 
 impl Module {
@@ -87,14 +97,10 @@ impl Module {
         requires { self.now.num_imported_memories + number_of i < length self.now.memories }
         ensures { number_of result ≡ owned_memories (record_of self.now) (number_of i) }
     {
-        let before = self
-            .memories
-            .values()
-            .skip(self.num_imported_memories)
-            .take(i.index())
-            .filter(|memory| !memory.shared)
-            .count();
-        OwnedMemoryIndex::new(before)
+        prove!(i.index() < self.num_defined_memories());
+        let first = self.num_imported_memories;
+        let before = &self.memories.as_slice()[first..first + i.index()];
+        OwnedMemoryIndex::new(owned_among(before))
     }
 
     /// The index of a defined global. It must be below `u32::MAX`.

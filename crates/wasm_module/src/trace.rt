@@ -1,5 +1,8 @@
 //! The edges of functions, startups and modules.
 
+ghost use Rattle.std.specs.Prelude.{◌≡◌, map};
+ghost use Rattle.std.specs.List.{flat_map};
+ghost use Rattle.wasm_trace.specs.Runs.{Run, MayRun, RunMut, MayRunMut};
 ghost use Rattle.wasm_trace.specs.Restored.{is_determined};
 ghost use Rattle.wasm_module.specs.Edges.{function_edges, function_frame, startup_edges, startup_frame, module_edges, module_frame};
 ghost use Rattle.wasm_module.specs.Restored.{function_restored, startup_restored, module_determined};
@@ -7,6 +10,7 @@ ghost use Rattle.wasm_module.specs.Restored.{function_restored, startup_restored
 use crate::function::FunctionType;
 use crate::module::Module;
 use crate::startup::ModuleStartup;
+use entity_map::{EntityRef, PrimaryMap};
 use wasm_trace::{TypeTrace, trace_all, trace_all_mut};
 use wasm_types::EngineOrModuleTypeIndex;
 
@@ -62,6 +66,33 @@ impl TypeTrace for ModuleStartup {
     ghost determined = { is_determined startup_restored };
 }
 
+// Visits each edge of the values of a list.
+fn trace_list<K: EntityRef, V: TypeTrace, F, E>(
+    list: &PrimaryMap<K, V>,
+    func: &mut F,
+) -> Result<(), E>
+where
+    F: FnMut(EngineOrModuleTypeIndex) -> Result<(), E>,
+    requires { MayRun F.FnMut func.old (flat_map V.edges list.now) }
+    ensures { Run F.FnMut func.old (flat_map V.edges list.now) result func.new }
+{
+    trace_all(list.as_slice(), func)
+}
+
+// Visits each edge of the values of a list, for writing.
+fn trace_list_mut<K: EntityRef, V: TypeTrace, F, E>(
+    list: &mut PrimaryMap<K, V>,
+    func: &mut F,
+) -> Result<(), E>
+where
+    F: FnMut(&mut EngineOrModuleTypeIndex) -> Result<(), E>,
+    requires { MayRunMut F.FnMut func.old (flat_map V.edges list.old) }
+    ensures kept { map V.frame list.new ≡ map V.frame list.old }
+    ensures run { RunMut F.FnMut func.old (flat_map V.edges list.old) result func.new (flat_map V.edges list.new) }
+{
+    trace_all_mut(list.as_mut_slice(), func)
+}
+
 /// The types of passive elements are no edges.
 impl TypeTrace for Module {
     ghost edges = { module_edges };
@@ -73,11 +104,11 @@ impl TypeTrace for Module {
     where
         F: FnMut(EngineOrModuleTypeIndex) -> Result<(), E>,
     {
-        trace_all(self.types.as_slice(), func)?;
-        trace_all(self.functions.as_slice(), func)?;
-        trace_all(self.tables.as_slice(), func)?;
-        trace_all(self.globals.as_slice(), func)?;
-        trace_all(self.tags.as_slice(), func)?;
+        trace_list(&self.types, func)?;
+        trace_list(&self.functions, func)?;
+        trace_list(&self.tables, func)?;
+        trace_list(&self.globals, func)?;
+        trace_list(&self.tags, func)?;
         self.startup.trace(func)
     }
 
@@ -86,11 +117,11 @@ impl TypeTrace for Module {
     where
         F: FnMut(&mut EngineOrModuleTypeIndex) -> Result<(), E>,
     {
-        trace_all_mut(self.types.as_mut_slice(), func)?;
-        trace_all_mut(self.functions.as_mut_slice(), func)?;
-        trace_all_mut(self.tables.as_mut_slice(), func)?;
-        trace_all_mut(self.globals.as_mut_slice(), func)?;
-        trace_all_mut(self.tags.as_mut_slice(), func)?;
+        trace_list_mut(&mut self.types, func)?;
+        trace_list_mut(&mut self.functions, func)?;
+        trace_list_mut(&mut self.tables, func)?;
+        trace_list_mut(&mut self.globals, func)?;
+        trace_list_mut(&mut self.tags, func)?;
         self.startup.trace_mut(func)
     }
 
