@@ -3,6 +3,7 @@
 
 mod cow;
 mod entity;
+mod filling;
 mod laws;
 mod memory;
 mod packed;

@@ -1,4 +1,3 @@
-pub mod Errors
 pub mod Refusals
 pub mod Expressions
 pub mod PlanText

@@ -10,7 +10,7 @@ use Rattle.init_plan.specs.declared.translation.MemoryInit.{MemoryInit}
 use Rattle.init_plan.specs.declared.translation.MemoryInit.TheVariants as init
 use Rattle.init_plan.specs.declared.translation.MemorySegmentOffset.{MemorySegmentOffset}
 use Rattle.init_plan.specs.Views.{ranges_of}
-use Rattle.plan_text.specs.declared.plan.Plan.{Plan}
+use Rattle.plan.specs.declared.plan.Plan.{Plan}
 use Rattle.plan_text.specs.Expressions.{offset_text}
 
 -- a line for each item, which is told its number

@@ -1,11 +1,11 @@
 -- The line of each refusal.
 use Rattle.std.specs.Prelude.{ℕ, List, [], ◌++◌, codes}
-use Rattle.wasm_spec.specs.declared.rules.Rule.{Rule}
-use Rattle.wasm_spec.specs.declared.rules.Rule.TheVariants as rule
+use Rattle.rule_spec.specs.declared.rules.Rule.{Rule}
+use Rattle.rule_spec.specs.declared.rules.Rule.TheVariants as rule
 use Rattle.wasm_spec.specs.declared.operators.What.{What}
 use Rattle.wasm_spec.specs.declared.operators.What.TheVariants as what
-use Rattle.plan_text.specs.declared.error.TranslateError.{TranslateError}
-use Rattle.plan_text.specs.declared.error.TranslateError.TheVariants as refusal
+use Rattle.plan.specs.declared.error.TranslateError.{TranslateError}
+use Rattle.plan.specs.declared.error.TranslateError.TheVariants as refusal
 
 abbrev pub name_of_rule : Rule → List ℕ
 name_of_rule rule.L1 = codes "L1"

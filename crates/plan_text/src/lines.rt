@@ -14,10 +14,10 @@ ghost use Rattle.plan_text.specs.PlanText.{
 };
 
 use crate::expressions::append_offset;
-use crate::plan::Plan;
 use crate::text::Text;
 use entity_map::{EntityRef, OutOfMemory, PrimaryMap, SecondaryMap};
 use init_plan::{MemoryInit, MemoryInitialization, MemorySegmentOffset};
+use plan::Plan;
 use std::alloc::Global;
 use std::ops::Range;
 use wasm_index::{DataIndex, MemoryIndex, RuntimeDataIndex};

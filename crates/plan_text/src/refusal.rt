@@ -3,8 +3,9 @@
 ghost use Rattle.std.specs.Prelude.{◌≡◌, ◌≢◌};
 ghost use Rattle.plan_text.specs.Refusals.{text_of_refusal};
 
-use crate::error::TranslateError;
-use wasm_form::{Rule, What};
+use plan::TranslateError;
+use rule_spec::Rule;
+use wasm_spec::What;
 
 /// The line that says why there is no plan, with its line feed. Want of memory has no line.
 pub fn refusal_line(refusal: &TranslateError) -> &'static str

@@ -5,14 +5,15 @@ ghost use Rattle.std.specs.Prelude.{◌<◌, ◌≤◌, length};
 use crate::{Plan, TranslateError, plan_text, refusal_line};
 use entity_map::{EntityRef, OutOfMemory, PrimaryMap};
 use init_plan::{MemoryInit, MemoryInitialization, MemorySegmentOffset, ModuleTranslation};
+use rule_spec::Rule;
 use std::alloc::Global;
 use std::test::Fail;
 use wasm_convert::{ConstExpr, ConstOp};
-use wasm_form::{Rule, What};
 use wasm_index::{
     DataIndex, FuncIndex, GlobalIndex, MemoryIndex, ModuleInternedTypeIndex, RuntimeDataIndex,
     StaticModuleIndex, TypeIndex,
 };
+use wasm_spec::What;
 use wasm_types::{EngineOrModuleTypeIndex, IndexType, Limits, Memory, WasmHeapType};
 
 const PAGE: Memory = Memory {

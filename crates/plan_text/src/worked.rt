@@ -6,10 +6,11 @@ ghost use Rattle.plan_text.specs.Expressions.{operator_text, expression_text};
 ghost use Rattle.plan_text.specs.PlanText.{memories_line, segment_line, passive_line, runtime_line};
 ghost use Rattle.plan_text.specs.Refusals.{text_of_refusal};
 
-use crate::error::TranslateError;
 use init_plan::MemorySegmentOffset;
+use plan::TranslateError;
+use rule_spec::Rule;
 use wasm_convert::ConstOp;
-use wasm_form::{Rule, What};
+use wasm_spec::What;
 use wasm_types::{EngineOrModuleTypeIndex, WasmHeapType};
 
 /// Integers are signed, floats and vectors are their bits, and operators are joined by a semicolon and a space.

@@ -1,4 +1,4 @@
--- The values of constant expressions (core specification, 4.4.1 and 4.6.1).
+-- The values of constant expressions (core specification, 4.6, evaluation of expressions).
 use Rattle.std.specs.Prelude.{ℕ, [], ◌∷◌, Option, None, Some}
 use Rattle.std.specs.Int.{cast_unsigned, w32, w64}
 use Rattle.wasm_spec.specs.declared.operators.Operator.{Operator}

@@ -14,10 +14,10 @@ use Rattle.wasm_spec.specs.declared.types.StorageType.TheVariants as storage
 use Rattle.wasm_spec.specs.declared.types.FieldType.{FieldType}
 use Rattle.wasm_spec.specs.declared.entities.TableType.{TableType}
 use Rattle.wasm_spec.specs.declared.entities.GlobalType.{GlobalType}
-use Rattle.wasm_form.specs.declared.types.FuncType.{FuncType}
-use Rattle.wasm_form.specs.declared.types.CompositeInnerType.{CompositeInnerType}
-use Rattle.wasm_form.specs.declared.types.CompositeInnerType.TheVariants as composite
-use Rattle.wasm_form.specs.declared.types.SubType.{SubType}
+use Rattle.form_data.specs.declared.types.FuncType.{FuncType}
+use Rattle.form_data.specs.declared.types.CompositeInnerType.{CompositeInnerType}
+use Rattle.form_data.specs.declared.types.CompositeInnerType.TheVariants as composite
+use Rattle.form_data.specs.declared.types.SubType.{SubType}
 use Rattle.wasm_types.specs.declared.index.EngineOrModuleTypeIndex.{EngineOrModuleTypeIndex}
 use Rattle.wasm_types.specs.declared.heap.WasmHeapType.{WasmHeapType}
 use Rattle.wasm_types.specs.declared.heap.WasmHeapType.TheVariants as wasm_heap

@@ -10,10 +10,10 @@ use Rattle.wasm_spec.specs.declared.types.ValType.TheVariants as val
 use Rattle.wasm_spec.specs.declared.types.StorageType.{StorageType}
 use Rattle.wasm_spec.specs.declared.types.StorageType.TheVariants as storage
 use Rattle.wasm_spec.specs.declared.types.FieldType.{FieldType}
-use Rattle.wasm_form.specs.declared.types.FuncType.{FuncType}
-use Rattle.wasm_form.specs.declared.types.CompositeInnerType.{CompositeInnerType}
-use Rattle.wasm_form.specs.declared.types.CompositeInnerType.TheVariants as composite
-use Rattle.wasm_form.specs.declared.types.SubType.{SubType}
+use Rattle.form_data.specs.declared.types.FuncType.{FuncType}
+use Rattle.form_data.specs.declared.types.CompositeInnerType.{CompositeInnerType}
+use Rattle.form_data.specs.declared.types.CompositeInnerType.TheVariants as composite
+use Rattle.form_data.specs.declared.types.SubType.{SubType}
 use Rattle.wasm_convert.specs.Conversion.{LookUp, function_index}
 
 module _ (known : UnpackedIndex → Type 0) where

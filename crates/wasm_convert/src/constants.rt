@@ -12,8 +12,8 @@ use entity_map::{EntityRef, OutOfMemory};
 use smallvec::SmallVec;
 use std::alloc::Global;
 use std::marker::Model;
-use wasm_form::Operator;
 use wasm_index::FuncIndex;
+use wasm_spec::Operator;
 
 /// The value of a global that is known before any code runs. Floats and vectors are their bits.
 #[derive(Clone, Copy, Debug)]
@@ -77,7 +77,7 @@ impl ConstExpr {
     pub fn from_wasmparser(
         alloc: Global,
         env: &dyn TypeConvert,
-        expr: &wasm_form::ConstExpr,
+        expr: &form_data::ConstExpr,
     ) -> Result<(Self, SmallVec<FuncIndex, 1>), OutOfMemory>
         requires some { 0 < length expr.now.ops.items }
         requires known { All (KnowsOperator (knows env.now)) expr.now.ops.items }

@@ -7,10 +7,11 @@ ghost use Rattle.wasm_convert.specs.Conversion.{LookUp, heap_type_of, ref_type_o
 ghost use Rattle.wasm_convert.specs.Known.{CanLookUp, KnowsHeap, KnowsRef, KnowsVal, KnowsStorage, KnowsField, KnowsFunc, KnowsCont, KnowsComposite, KnowsSub};
 
 use entity_map::OutOfMemory;
+use form_data::{CompositeInnerType, FuncType, SubType};
 use std::alloc::Global as Heap;
-use wasm_form::{
-    AbstractHeapType, CompositeInnerType, FieldType, FuncType, GlobalType, HeapType, RefType,
-    StorageType, SubType, TableType, UnpackedIndex, ValType,
+use wasm_spec::{
+    AbstractHeapType, FieldType, GlobalType, HeapType, RefType, StorageType, TableType,
+    UnpackedIndex, ValType,
 };
 use wasm_types::{
     EngineOrModuleTypeIndex, Global, IndexType, Limits, Table, WasmArrayType,

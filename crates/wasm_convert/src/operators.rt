@@ -6,8 +6,8 @@ ghost use Rattle.wasm_convert.specs.Operators.{operator_of, const_op_of, KnowsOp
 
 use crate::convert::TypeConvert;
 use entity_map::EntityRef;
-use wasm_form::{AbstractHeapType, HeapType, Operator};
 use wasm_index::{FuncIndex, GlobalIndex, TypeIndex};
+use wasm_spec::{AbstractHeapType, HeapType, Operator};
 use wasm_types::WasmHeapType;
 
 /// An operator of a constant expression (core specification, 3.4.15). Floats and vectors are their bits.

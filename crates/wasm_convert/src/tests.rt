@@ -8,12 +8,13 @@ ghost use Rattle.wasm_types.specs.declared.heap.WasmHeapType.TheVariants.{Concre
 
 use crate::{ConstExpr, ConstOp, GlobalConstValue, TypeConvert};
 use entity_map::EntityRef;
+use form_data::{CompositeInnerType, FuncType, SubType};
 use std::test::Fail;
-use wasm_form::{
-    AbstractHeapType, CompositeInnerType, FieldType, FuncType, GlobalType, HeapType, Operator,
-    RefType, StorageType, SubType, TableType, UnpackedIndex, ValType,
-};
 use wasm_index::{FuncIndex, ModuleInternedTypeIndex};
+use wasm_spec::{
+    AbstractHeapType, FieldType, GlobalType, HeapType, Operator, RefType, StorageType, TableType,
+    UnpackedIndex, ValType,
+};
 use wasm_types::{EngineOrModuleTypeIndex, IndexType, WasmHeapType, WasmStorageType, WasmValType};
 
 // Knows the first hundred types of a module, each as the function type of its number.
@@ -132,7 +133,7 @@ fn globals_and_tables_keep_their_flags(rt: HostRuntime) {
 #[test]
 fn escaping_functions_are_listed(rt: HostRuntime) -> Result<(), Fail> {
     let alloc = rt.alloc();
-    let read = wasm_form::ConstExpr {
+    let read = form_data::ConstExpr {
         ops: vec![in alloc; Operator::RefFunc { function_index: 4 }]?,
     };
     let (expression, escaped) = ConstExpr::from_wasmparser(alloc, &Functions, &read)?;

@@ -9,7 +9,7 @@ ghost use Rattle.wasm_convert.specs.Constants.{functions_of, constant_value, IsN
 
 use crate::constants::GlobalConstValue;
 use crate::operators::ConstOp;
-use wasm_form::{AbstractHeapType, HeapType, Operator, StorageType, UnpackedIndex};
+use wasm_spec::{AbstractHeapType, HeapType, Operator, StorageType, UnpackedIndex};
 use wasm_types::{EngineOrModuleTypeIndex, IndexType, WasmHeapType, WasmStorageType};
 
 /// Types over a look-up that takes each index to the function type 7.

@@ -1,46 +1,17 @@
-//! Reads the sections of a module, and checks its listed rules.
+//! Modules in the binary format: what reads them, what checks them, and what they are as they were read.
 #![tactic(auto)]
 
-mod code;
-mod contents;
-mod counts;
-mod elements;
-mod entity_types;
-mod error;
-mod exports;
-mod expressions;
-mod fields;
-mod form;
-mod globals;
-mod imports;
-mod laws;
-mod limits;
-mod module;
-mod names;
-mod numbers;
-mod operators;
-mod rules;
-mod sections;
-mod segments;
-mod tables;
-mod type_groups;
-mod type_lists;
-mod types;
-mod value_types;
-mod vectors;
-
-pub use error::{CheckError, ReadError};
-pub use form::{
-    ConstExpr, Counts, Custom, DataKind, DataSegment, Element, ElementItems, ElementKind, Export,
-    Form, FunctionBody, GlobalDef, Import, Payload, TableDef,
+pub use form_data::{
+    CompositeInnerType, ConstExpr, Counts, Custom, DataKind, DataSegment, Element, ElementItems,
+    ElementKind, Export, Form, FuncType, FunctionBody, GlobalDef, Import, Payload, RecGroup,
+    SubType, TableDef,
 };
-pub use laws::spelling_is_unique;
-pub use module::{MAX_MODULE_SIZE, read_module};
-pub use rules::check;
-pub use types::{CompositeInnerType, FuncType, RecGroup, SubType};
+pub use form_reader::{MAX_MODULE_SIZE, ReadError, read_module, spelling_is_unique};
+pub use form_rules::{CheckError, check};
+pub use rule_spec::Rule;
 pub use wasm_spec::{
     AbstractHeapType, CoreTypeId, ExternalKind, FieldType, GlobalType, HeapType, MemoryType,
-    Operator, RefType, Rule, StorageType, TableType, TypeRef, UnpackedIndex, ValType, What,
+    Operator, RefType, StorageType, TableType, TypeRef, UnpackedIndex, ValType, What,
 };
 
 #[cfg(test)]

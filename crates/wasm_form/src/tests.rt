@@ -1,5 +1,6 @@
 //! Modules, and what reading them gives.
 
+mod counts;
 mod elements;
 mod large;
 mod linked;

@@ -36,7 +36,7 @@ fn alone(group: usize, kind: Kind) -> Member {
     }
 }
 
-fn kind_of(composite: &CompositeInnerType) -> Kind {
+fn composite_of(composite: &CompositeInnerType) -> Kind {
     match composite {
         CompositeInnerType::Func(function) => Kind::Func(
             function.params.len(),
@@ -71,7 +71,7 @@ fn members(alloc: Global, sections: &[u8]) -> Result<(usize, Vec<Member>), Fail>
                 group,
                 is_final: sub_type.is_final,
                 supertype: sub_type.supertype,
-                kind: kind_of(&sub_type.composite),
+                kind: composite_of(&sub_type.composite),
             })?;
         }
     }

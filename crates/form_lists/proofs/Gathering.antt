@@ -1,0 +1,106 @@
+-- Index spaces, gathered one import and one section at a time.
+use Rattle.std.proofs.Common.{◌≡◌, ℕ, ◌+◌, ◌<◌, List, [], ◌∷◌, ◌++◌, length, map, take, get_or, refl, sym, ap, subst, ◌∙◌, append_assoc}
+use Rattle.std.specs.List.{flat_map}
+use Rattle.std.proofs.lemmas.List.{append-nil, map_more, map-append, flat_map_more}
+use Rattle.std.proofs.lemmas.List.Concat.{flat_map-append}
+use Rattle.std.proofs.lemmas.List.Elements.{filter_map-append}
+use Rattle.wasm_spec.specs.Module as plain
+use Rattle.wasm_spec.specs.Module.{function_import, table_import, memory_import, global_import, tag_import, function_types_of_section, tables_of_section, memories_of_section, globals_of_section, tags_of_section}
+use Rattle.wasm_spec.specs.declared.entities.TableType.{TableType}
+use Rattle.wasm_spec.specs.declared.entities.GlobalType.{GlobalType}
+use Rattle.form_data.specs.declared.form.Import.{Import}
+use Rattle.form_data.specs.declared.form.TableDef.{TableDef}
+use Rattle.form_data.specs.declared.form.GlobalDef.{GlobalDef}
+use Rattle.form_data.specs.declared.form.Payload.{Payload}
+use Rattle.form_data.specs.Views.{import_of, table_of, global_of, payload_of}
+use Rattle.form_lists.specs.declared.lists.Spaces.{Spaces}
+use Rattle.form_lists.specs.Gathered.{AddsImports, AddsDefined}
+
+-- ---- lists
+
+-- a list that grew twice
+pub grown : {A : Type 0} (a b c xs ys zs : List A) → b ≡ a ++ xs → c ≡ b ++ ys → zs ≡ xs ++ ys → c ≡ a ++ zs
+grown {A = A} a b c xs ys zs first second both =
+    second ∙ ap (λ (l : List A). l ++ ys) first ∙ append_assoc a xs ys ∙ ap (λ (l : List A). a ++ l) (sym both)
+
+-- the entries of one section more
+pub entries_of_more : {A : Type 0} (f : plain.Payload → List A) (ps : List Payload) (k : ℕ) (p : Payload) → k < length ps → p ≡ get_or ps k p
+    → flat_map f (map payload_of (take (k + 1) ps)) ≡ flat_map f (map payload_of (take k ps)) ++ f (payload_of p)
+entries_of_more f ps k p lt at =
+    let before = map payload_of (take k ps) in
+    ap (flat_map f) (map_more payload_of ps k p lt ∙ ap (λ (x : Payload). before ++ payload_of x ∷ []) (sym at))
+    ∙ sym (flat_map_more f [] before (payload_of p))
+
+-- ---- imports
+
+pub AddsImports-none : (s : Spaces) → AddsImports s s []
+AddsImports-none s = record {
+  functions = sym (append-nil s.functions.items);
+  table_types = sym (append-nil s.table_types.items);
+  memories = sym (append-nil s.memories.items);
+  global_types = sym (append-nil s.global_types.items);
+  tags = sym (append-nil s.tags.items);
+}
+
+pub AddsImports-then : (a b c : Spaces) (is js : List plain.Import) → AddsImports a b is → AddsImports b c js → AddsImports a c (is ++ js)
+AddsImports-then a b c is js first second = record {
+  functions = grown _ _ _ _ _ _ first.functions second.functions (filter_map-append (λ (i : plain.Import). function_import i.type) is js);
+  table_types = grown _ _ _ _ _ _ first.table_types second.table_types (filter_map-append (λ (i : plain.Import). table_import i.type) is js);
+  memories = grown _ _ _ _ _ _ first.memories second.memories (filter_map-append (λ (i : plain.Import). memory_import i.type) is js);
+  global_types = grown _ _ _ _ _ _ first.global_types second.global_types (filter_map-append (λ (i : plain.Import). global_import i.type) is js);
+  tags = grown _ _ _ _ _ _ first.tags second.tags (filter_map-append (λ (i : plain.Import). tag_import i.type) is js);
+}
+
+-- one import more
+pub AddsImports-more : (a b c : Spaces) (is : List Import) (k : ℕ) (i : Import) → k < length is → i ≡ get_or is k i
+    → AddsImports a b (map import_of (take k is)) → AddsImports b c (import_of i ∷ []) → AddsImports a c (map import_of (take (k + 1) is))
+AddsImports-more a b c is k i lt at first second =
+    subst (AddsImports a c) (sym (map_more import_of is k i lt ∙ ap (λ (x : Import). map import_of (take k is) ++ import_of x ∷ []) (sym at)))
+    (AddsImports-then a b c (map import_of (take k is)) (import_of i ∷ []) first second)
+
+-- the imports of one section more
+pub AddsImports-section : (a b c : Spaces) (ps : List Payload) (k : ℕ) (p : Payload) (is : List plain.Import) → k < length ps → p ≡ get_or ps k p
+    → is ≡ plain.imports_of_section (payload_of p)
+    → AddsImports a b (plain.imports (map payload_of (take k ps))) → AddsImports b c is
+    → AddsImports a c (plain.imports (map payload_of (take (k + 1) ps)))
+AddsImports-section a b c ps k p is lt at same first second =
+    subst (AddsImports a c) (sym (entries_of_more plain.imports_of_section ps k p lt at ∙ ap (λ (js : List plain.Import). plain.imports (map payload_of (take k ps)) ++ js) (sym same)))
+    (AddsImports-then a b c (plain.imports (map payload_of (take k ps))) is first second)
+
+-- ---- what is defined
+
+pub AddsDefined-none : (s : Spaces) → AddsDefined s s []
+AddsDefined-none s = record {
+  functions = sym (append-nil s.functions.items);
+  table_types = sym (append-nil s.table_types.items);
+  memories = sym (append-nil s.memories.items);
+  global_types = sym (append-nil s.global_types.items);
+  tags = sym (append-nil s.tags.items);
+}
+
+-- a section without entries of these kinds
+pub AddsDefined-then : (a b c : Spaces) (m n : plain.Module) → AddsDefined a b m → AddsDefined b c n → AddsDefined a c (m ++ n)
+AddsDefined-then a b c m n first second = record {
+  functions = grown _ _ _ _ _ _ first.functions second.functions (flat_map-append function_types_of_section m n);
+  table_types = grown _ _ _ _ _ _ first.table_types second.table_types
+      (ap (map (λ (t : plain.TableDef). t.type)) (flat_map-append tables_of_section m n) ∙ map-append (λ (t : plain.TableDef). t.type) (flat_map tables_of_section m) (flat_map tables_of_section n));
+  memories = grown _ _ _ _ _ _ first.memories second.memories (flat_map-append memories_of_section m n);
+  global_types = grown _ _ _ _ _ _ first.global_types second.global_types
+      (ap (map (λ (g : plain.GlobalDef). g.type)) (flat_map-append globals_of_section m n) ∙ map-append (λ (g : plain.GlobalDef). g.type) (flat_map globals_of_section m) (flat_map globals_of_section n));
+  tags = grown _ _ _ _ _ _ first.tags second.tags (flat_map-append tags_of_section m n);
+}
+
+pub types_of_tables : (ts : List TableDef) → map (λ (t : plain.TableDef). t.type) (map table_of ts) ≡ map (λ (t : TableDef). t.ty) ts
+types_of_tables [] = refl
+types_of_tables (t ∷ ts) = ap (λ (us : List TableType). t.ty ∷ us) (types_of_tables ts)
+
+pub types_of_globals : (gs : List GlobalDef) → map (λ (g : plain.GlobalDef). g.type) (map global_of gs) ≡ map (λ (g : GlobalDef). g.ty) gs
+types_of_globals [] = refl
+types_of_globals (g ∷ gs) = ap (λ (us : List GlobalType). g.ty ∷ us) (types_of_globals gs)
+
+-- one section more
+pub AddsDefined-more : (a b c : Spaces) (ps : List Payload) (k : ℕ) (p : Payload) → k < length ps → p ≡ get_or ps k p
+    → AddsDefined a b (map payload_of (take k ps)) → AddsDefined b c (payload_of p ∷ []) → AddsDefined a c (map payload_of (take (k + 1) ps))
+AddsDefined-more a b c ps k p lt at first second =
+    subst (AddsDefined a c) (sym (map_more payload_of ps k p lt ∙ ap (λ (x : Payload). map payload_of (take k ps) ++ payload_of x ∷ []) (sym at)))
+    (AddsDefined-then a b c (map payload_of (take k ps)) (payload_of p ∷ []) first second)

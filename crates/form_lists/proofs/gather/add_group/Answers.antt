@@ -1,0 +1,11 @@
+use Rattle.std.proofs.Common.{length, ap, refl, ◌∙◌, arith}
+use Rattle.std.proofs.lemmas.List.{length_push}
+use Rattle.form_lists.proofs.DeclaredLists.{member_added}
+use Rattle.form_lists.proofs.gather.add_group.Goals as goal
+
+pub loop-ty-preserved : goal.loop-ty-preserved
+loop-ty-preserved c = record {
+  counted = omega (arith, ap length c.in_ok-push.ensures.items ∙ length_push c.loop-ty.types.items _);
+  added = member_added c.args.types.now.items c.loop-ty.types.items c.push.new.self.items _ c.loop-ty.ty-index _ c.deref-ty-items.result.now
+      c.ty-item.result _ c.loop-ty-test.true c.ty-item.is refl (omega arith) c.in_ok-push.ensures.items c.loop-ty.invariant.added;
+}

@@ -1,0 +1,150 @@
+//! Gathers the lists of a module, once, over the sections of its form.
+
+ghost use Rattle.std.specs.Prelude.{◌≡◌, ◌++◌, ◌∷◌, [], map, length, IfOk, OnOk};
+ghost use Rattle.wasm_spec.specs.Module.{imports, groups};
+ghost use Rattle.rule_spec.specs.Lists.{declared_from, declared_groups, lists_of_module};
+ghost use Rattle.form_data.specs.Views.{import_of, table_of, global_of, group_of, payload_of, module_of};
+ghost use Rattle.form_lists.specs.Views.{declared_of, lists_of};
+ghost use Rattle.form_lists.specs.Gathered.{AddsImports, AddsDefined};
+
+use crate::lists::{Declared, Lists, Spaces};
+use crate::sections::{groups_of, imports_of};
+use form_data::{Form, GlobalDef, Import, Payload, RecGroup, TableDef};
+use std::alloc::{AllocError, Global};
+use wasm_spec::{GlobalType, TableType, TypeRef};
+
+/// The lists of a module.
+pub fn gather_lists<'f, 'd>(alloc: Global, form: &'f Form<'d>) -> Result<Lists<'f, 'd>, AllocError>
+    ensures { IfOk result (λ l. lists_of l ≡ lists_of_module (module_of form.now)) }
+{
+    let types = declared_types(alloc, form)?;
+    let mut spaces = Spaces {
+        functions: Vec::new(alloc),
+        table_types: Vec::new(alloc),
+        memories: Vec::new(alloc),
+        global_types: Vec::new(alloc),
+        tags: Vec::new(alloc),
+    };
+    add_all_imports(&mut spaces, form)?;
+    let imported_functions = spaces.functions.len();
+    let imported_globals = spaces.global_types.len();
+    add_all_defined(&mut spaces, form)?;
+    Ok(Lists {
+        form,
+        types,
+        spaces,
+        imported_functions,
+        imported_globals,
+    })
+}
+
+/// The declared types, in the order of their indices.
+fn declared_types<'f>(alloc: Global, form: &'f Form<'_>) -> Result<Vec<Declared<'f>>, AllocError>
+    ensures { IfOk result (λ types. map declared_of types.items ≡ declared_groups 0 (groups (module_of form.now))) }
+{
+    let mut types = Vec::new(alloc);
+    for payload in &form.payloads {
+        add_groups(&mut types, groups_of(payload))?;
+    }
+    Ok(types)
+}
+
+fn add_groups<'f>(types: &mut Vec<Declared<'f>>, groups: &'f [RecGroup]) -> Result<(), AllocError>
+    ensures { OnOk result
+        (map declared_of types.new.items ≡ map declared_of types.old.items
+        ++ declared_groups (length types.old.items) (map group_of groups.now)) }
+{
+    for group in groups {
+        add_group(types, group)?;
+    }
+    Ok(())
+}
+
+fn add_group<'f>(types: &mut Vec<Declared<'f>>, group: &'f RecGroup) -> Result<(), AllocError>
+    ensures { OnOk result
+        (map declared_of types.new.items ≡ map declared_of types.old.items
+        ++ declared_groups (length types.old.items) (group_of group.now ∷ [])) }
+{
+    let group_end = types.len() + group.types.len();
+    for ty in &group.types {
+        let index = types.len();
+        types.push(Declared {
+            ty,
+            index,
+            group_end,
+        })?;
+    }
+    Ok(())
+}
+
+fn add_all_imports(spaces: &mut Spaces, form: &Form<'_>) -> Result<(), AllocError>
+    ensures { OnOk result (AddsImports spaces.old spaces.new (imports (module_of form.now))) }
+{
+    for payload in &form.payloads {
+        add_imports(spaces, imports_of(payload))?;
+    }
+    Ok(())
+}
+
+fn add_imports(spaces: &mut Spaces, imports: &[Import<'_>]) -> Result<(), AllocError>
+    ensures { OnOk result (AddsImports spaces.old spaces.new (map import_of imports.now)) }
+{
+    for import in imports {
+        add_import(spaces, import)?;
+    }
+    Ok(())
+}
+
+fn add_import(spaces: &mut Spaces, import: &Import<'_>) -> Result<(), AllocError>
+    ensures { OnOk result (AddsImports spaces.old spaces.new (import_of import.now ∷ [])) }
+{
+    match import.ty {
+        TypeRef::Func(ty) => spaces.functions.push(ty)?,
+        TypeRef::Table(ty) => spaces.table_types.push(ty)?,
+        TypeRef::Memory(ty) => spaces.memories.push(ty)?,
+        TypeRef::Global(ty) => spaces.global_types.push(ty)?,
+        TypeRef::Tag(ty) => spaces.tags.push(ty)?,
+    }
+    Ok(())
+}
+
+fn add_all_defined(spaces: &mut Spaces, form: &Form<'_>) -> Result<(), AllocError>
+    ensures { OnOk result (AddsDefined spaces.old spaces.new (module_of form.now)) }
+{
+    for payload in &form.payloads {
+        add_defined(spaces, payload)?;
+    }
+    Ok(())
+}
+
+fn add_defined(spaces: &mut Spaces, payload: &Payload<'_>) -> Result<(), AllocError>
+    ensures { OnOk result (AddsDefined spaces.old spaces.new (payload_of payload.now ∷ [])) }
+{
+    match payload {
+        Payload::Functions(types) => spaces.functions.extend_from_slice(types)?,
+        Payload::Tables(tables) => add_tables(&mut spaces.table_types, tables)?,
+        Payload::Memories(types) => spaces.memories.extend_from_slice(types)?,
+        Payload::Tags(types) => spaces.tags.extend_from_slice(types)?,
+        Payload::Globals(globals) => add_globals(&mut spaces.global_types, globals)?,
+        _ => {}
+    }
+    Ok(())
+}
+
+fn add_tables(types: &mut Vec<TableType>, tables: &[TableDef]) -> Result<(), AllocError>
+    ensures { OnOk result (types.new.items ≡ types.old.items ++ map (λ t. t.type) (map table_of tables.now)) }
+{
+    for table in tables {
+        types.push(table.ty)?;
+    }
+    Ok(())
+}
+
+fn add_globals(types: &mut Vec<GlobalType>, globals: &[GlobalDef]) -> Result<(), AllocError>
+    ensures { OnOk result (types.new.items ≡ types.old.items ++ map (λ g. g.type) (map global_of globals.now)) }
+{
+    for global in globals {
+        types.push(global.ty)?;
+    }
+    Ok(())
+}

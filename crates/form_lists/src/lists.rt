@@ -1,0 +1,51 @@
+//! The lists of a module of which the rules speak.
+
+ghost use Rattle.std.specs.Prelude.{◌≡◌};
+ghost use Rattle.std.specs.Option.{option_map};
+ghost use Rattle.form_data.specs.Views.{composite_of};
+ghost use Rattle.rule_spec.specs.Lists.{kind_at};
+ghost use Rattle.form_lists.specs.Views.{lists_of};
+
+use form_data::{CompositeInnerType, Form, SubType};
+use wasm_spec::{GlobalType, MemoryType, TableType};
+
+/// A declared type, its index, and the index after the last member of its group.
+#[derive(Clone, Copy)]
+pub struct Declared<'f> {
+    pub ty: &'f SubType,
+    pub index: usize,
+    pub group_end: usize,
+}
+
+/// The index spaces of functions, tables, memories, globals and tags: imports of the kind in order, and then what is defined.
+#[derive(Drop)]
+pub struct Spaces {
+    /// A function by the index of its type.
+    pub functions: Vec<u32>,
+    pub table_types: Vec<TableType>,
+    pub memories: Vec<MemoryType>,
+    pub global_types: Vec<GlobalType>,
+    /// A tag by the index of its type.
+    pub tags: Vec<u32>,
+}
+
+/// A module, its types and its index spaces.
+#[derive(Drop)]
+pub struct Lists<'f, 'd> {
+    /// The entries of the sections stay where they are.
+    pub form: &'f Form<'d>,
+    pub types: Vec<Declared<'f>>,
+    pub spaces: Spaces,
+    pub imported_functions: usize,
+    pub imported_globals: usize,
+}
+
+impl<'f> Lists<'f, '_> {
+    /// The kind of the declared type that has this index.
+    pub fn kind_at(&self, index: u32) -> Option<&'f CompositeInnerType>
+        ensures { option_map (λ k. composite_of k.now) result ≡ kind_at (lists_of self.now) index }
+    {
+        let declared = self.types.get(index as usize)?;
+        Some(&declared.ty.composite)
+    }
+}

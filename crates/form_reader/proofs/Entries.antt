@@ -1,0 +1,347 @@
+-- A module has no more entries in its lists than bytes.
+use Rattle.std.proofs.Common.{◌≡◌, ◌≤◌, ◌<◌, ◌+◌, ◌^◌, ℕ, zero, suc, List, [], ◌∷◌, ◌++◌, length, map, Bool, true, false, Option, Some, None, refl, ap, ◌∙◌, arith, length-append}
+use Rattle.std.specs.Prelude.{nat_le, ◌==◌}
+use Rattle.std.specs.List.{flat_map, filter_map, cons_option}
+use Rattle.std.proofs.lemmas.List.{length-map}
+use Rattle.std.proofs.lemmas.List.Concat.{flat_map-append}
+use Rattle.wasm_spec.specs.declared.entities.TypeRef.{TypeRef}
+use Rattle.wasm_spec.specs.declared.types.UnpackedIndex.{UnpackedIndex}
+use Rattle.wasm_spec.specs.Numbers.{SpellsUnsigned}
+use Rattle.wasm_spec.specs.Parts.{Part, ◌>>=◌, choose, gives, first_byte, unsigned, non_negative, elements, vector, sized}
+use Rattle.wasm_spec.specs.TypeData.{Group}
+use Rattle.wasm_spec.specs.Module.{Import, Payload, Types, Imports, FunctionTypes, Tables, Memories, Tags, Globals, Exports, Start, Elements, DataCount, Code, Segments, Module, groups, groups_of_section, imports, imports_of_section, imported_of, function_types_of_section, tables_of_section, memories_of_section, tags_of_section, globals_of_section, exports_of_section, elements_of_section, bodies_of_section, segments_of_section, types, function_import, table_import, memory_import, global_import, tag_import}
+use Rattle.wasm_spec.specs.TypeGrammar.{value_type, storage_type, field_type, composite_after, supertype, with_supertype, group, sub_type_after, memory_type, global_type, tag_type}
+use Rattle.wasm_spec.specs.EntryGrammar.{name, import_entry, export_entry, table_entry, global_entry, element_segment, body, data_segment}
+use Rattle.wasm_spec.specs.Grammar.{custom_contents, entries_as, number_as, code_at, section_contents, placed_section, order_of, section, next_order, SpellsSections, Spells, header}
+use Rattle.wasm_spec.specs.Sizes.{HasFewEntries}
+
+-- ---- parts of at least one byte
+
+pub record TakesBytes {A : Type 0} (part : Part A) : Type 0 where
+  pub takes : (bytes : List ℕ) (x : A) → part.spells bytes x → 1 ≤ length bytes
+
+first_takes : {A : Type 0} (part : ℕ → Part A) → TakesBytes (first_byte part)
+first_takes {A} part = record { takes = some } where
+  some : (bytes : List ℕ) (x : A) → (first_byte part).spells bytes x → 1 ≤ length bytes
+  some [] x s = absurd s
+  some (b ∷ bytes) x s = omega arith
+
+number_takes : (k : ℕ) → TakesBytes (unsigned k)
+number_takes k = record { takes = some } where
+  some : (bytes : List ℕ) (n : ℕ) → SpellsUnsigned k bytes n → 1 ≤ length bytes
+  some [] n s = absurd s.form
+  some (b ∷ bytes) n s = omega arith
+
+then_takes : {A B : Type 0} (first : Part A) (second : A → Part B) → TakesBytes first → TakesBytes (first >>= second)
+then_takes first second t = record {
+  takes = λ bytes x s. let n = t.takes s.front s.value s.is_first in
+      omega (arith, ap length s.parts, length-append s.front s.back);
+}
+
+name_takes : TakesBytes name
+name_takes = let t = then_takes (unsigned 32) _ (number_takes 32) in record { takes = λ bytes x s. t.takes bytes x s.0 }
+
+import_entry_takes : TakesBytes import_entry
+import_entry_takes = then_takes name _ name_takes
+
+table_entry_takes : TakesBytes table_entry
+table_entry_takes = first_takes _
+
+memory_type_takes : TakesBytes memory_type
+memory_type_takes = first_takes _
+
+tag_type_takes : TakesBytes tag_type
+tag_type_takes = first_takes _
+
+global_entry_takes : TakesBytes global_entry
+global_entry_takes = then_takes global_type _ (then_takes value_type _ (first_takes _))
+
+export_entry_takes : TakesBytes export_entry
+export_entry_takes = then_takes name _ name_takes
+
+element_segment_takes : TakesBytes element_segment
+element_segment_takes = then_takes (unsigned 32) _ (number_takes 32)
+
+body_takes : TakesBytes body
+body_takes = then_takes (unsigned 32) _ (number_takes 32)
+
+data_segment_takes : TakesBytes data_segment
+data_segment_takes = then_takes (unsigned 32) _ (number_takes 32)
+
+-- ---- elements
+
+-- the sum of what each element counts
+abbrev total : {A : Type 0} → (A → ℕ) → List A → ℕ
+total count [] = 0
+total count (x ∷ xs) = count x + total count xs
+
+-- an element counts at most its bytes
+abbrev CountsBytes : {A : Type 0} → (A → ℕ) → Part A → Type 0
+CountsBytes {A} count part = (bytes : List ℕ) (x : A) → part.spells bytes x → count x ≤ length bytes
+
+elements_count : {A : Type 0} (count : A → ℕ) (part : Part A) → CountsBytes count part → (n : ℕ) (bytes : List ℕ) (xs : List A)
+    → (elements part n).spells bytes xs → total count xs ≤ length bytes
+elements_count count part counts zero bytes xs s = rw s.1 (omega arith)
+elements_count count part counts (suc n) bytes xs s =
+    let first = counts s.front s.value s.is_first in
+    let t = s.is_second in
+    let others = elements_count count part counts n t.front t.value t.is_first in
+    rw t.is_second.1 (omega (arith, ap length s.parts, length-append s.front s.back, ap length t.parts, length-append t.front t.back))
+
+vector_counts : {A : Type 0} (count : A → ℕ) (part : Part A) → CountsBytes count part → (bytes : List ℕ) (xs : List A)
+    → (vector part).spells bytes xs → total count xs ≤ length bytes
+vector_counts count part counts bytes xs s =
+    let n = elements_count count part counts s.value s.back xs s.is_second in
+    omega (arith, ap length s.parts, length-append s.front s.back)
+
+total_ones : {A : Type 0} (xs : List A) → total (λ x. 1) xs ≡ length xs
+total_ones [] = refl
+total_ones (x ∷ xs) = let ones = total_ones xs in omega (arith, ones)
+
+-- elements that take bytes are no more than their bytes
+vector_few : {A : Type 0} (part : Part A) → TakesBytes part → (bytes : List ℕ) (xs : List A) → (vector part).spells bytes xs
+    → length xs ≤ length bytes
+vector_few part t bytes xs s = let n = vector_counts (λ x. 1) part t.takes bytes xs s in omega (arith, n, total_ones xs)
+
+-- ---- groups of types
+
+-- a choice is one of the two
+chosen : {A : Type 0} (b : Bool) (p q : Part A) (bytes : List ℕ) (x : A) (n : ℕ) → (p.spells bytes x → n ≤ length bytes)
+    → (q.spells bytes x → n ≤ length bytes) → (choose b p q).spells bytes x → n ≤ length bytes
+chosen true p q bytes x n one other s = one s
+chosen false p q bytes x n one other s = other s
+
+chosen_takes : {A : Type 0} (b : Bool) (p q : Part A) → TakesBytes p → TakesBytes q → TakesBytes (choose b p q)
+chosen_takes true p q one other = one
+chosen_takes false p q one other = other
+
+non_negative_takes : (k : ℕ) → TakesBytes (non_negative k)
+non_negative_takes k = record { takes = some } where
+  some : (bytes : List ℕ) (n : ℕ) → (non_negative k).spells bytes n → 1 ≤ length bytes
+  some [] n s = absurd s.form
+  some (b ∷ bytes) n s = omega arith
+
+vector_takes : {A : Type 0} (part : Part A) → TakesBytes (vector part)
+vector_takes part = then_takes (unsigned 32) _ (number_takes 32)
+
+unspelled_takes : {A : Type 0} (part : Part A) → ((bytes : List ℕ) (x : A) → ¬ part.spells bytes x) → TakesBytes part
+unspelled_takes part none = record { takes = λ bytes x s. absurd (none bytes x s) }
+
+-- a type takes a byte after its first
+composite_after_takes : (b : ℕ) → TakesBytes (composite_after b)
+composite_after_takes b =
+    chosen_takes (b == 0x60) _ _ (then_takes (vector value_type) _ (vector_takes value_type))
+    (chosen_takes (b == 0x5F) _ _ (then_takes (vector field_type) _ (vector_takes field_type))
+    (chosen_takes (b == 0x5E) _ _ (then_takes field_type _ (then_takes storage_type _ (first_takes _)))
+    (chosen_takes (b == 0x5D) _ _ (then_takes (non_negative 33) _ (non_negative_takes 33))
+    (chosen_takes (b == 0x65) _ _ (unspelled_takes _ (λ bytes x s. s)) (unspelled_takes _ (λ bytes x s. s))))))
+
+with_supertype_takes : (is_final : Bool) → TakesBytes (with_supertype is_final)
+with_supertype_takes is_final = then_takes supertype _ (then_takes (unsigned 32) _ (number_takes 32))
+
+sub_type_after_takes : (b : ℕ) → TakesBytes (sub_type_after b)
+sub_type_after_takes b =
+    chosen_takes (b == 0x50) _ _ (with_supertype_takes false)
+    (chosen_takes (b == 0x4F) _ _ (with_supertype_takes true)
+    (then_takes (composite_after b) _ (composite_after_takes b)))
+
+one_member : (b : ℕ) (bytes : List ℕ) (g : Group UnpackedIndex UnpackedIndex) → (sub_type_after b >>= λ t. gives (t ∷ [])).spells bytes g
+    → 1 + length g ≤ 1 + length bytes
+one_member b bytes g s =
+    let one : length g ≡ 1 = ap length s.is_second.1 in
+    let after = (sub_type_after_takes b).takes s.front s.value s.is_first in
+    omega (arith, one, after, ap length s.parts, length-append s.front s.back)
+
+-- a group and each of its members take a byte
+group_counts : CountsBytes (λ g. 1 + length g) group
+group_counts [] g s = absurd s
+group_counts (b ∷ bytes) g s = by_first (b == 0x4E) s where
+  by_first : (many : Bool) → (choose many (vector (first_byte sub_type_after)) (sub_type_after b >>= λ t. gives (t ∷ []))).spells bytes g
+      → 1 + length g ≤ length (b ∷ bytes)
+  by_first true s = let n = vector_few (first_byte sub_type_after) (first_takes sub_type_after) bytes g s in omega (arith, n)
+  by_first false s = let n = one_member b bytes g s in omega (arith, n)
+
+total_members : (gs : List (Group UnpackedIndex UnpackedIndex)) → total (λ g. 1 + length g) gs ≡ length gs + length (flat_map (λ g. g) gs)
+total_members [] = refl
+total_members (g ∷ gs) =
+    let members = total_members gs in
+    omega (arith, members, length-append g (flat_map (λ (h : Group UnpackedIndex UnpackedIndex). h) gs))
+
+groups_few : (bytes : List ℕ) (gs : List (Group UnpackedIndex UnpackedIndex)) → (vector group).spells bytes gs
+    → length gs + length (flat_map (λ g. g) gs) ≤ length bytes
+groups_few bytes gs s = let n = vector_counts (λ g. 1 + length g) group group_counts bytes gs s in omega (arith, n, total_members gs)
+
+-- ---- sections
+
+-- how many entries a section has in all lists together
+abbrev entries : Payload → ℕ
+entries p =
+    length (groups_of_section p) + length (flat_map (λ g. g) (groups_of_section p)) + length (imports_of_section p) + length (function_types_of_section p)
+    + length (tables_of_section p)
+    + length (memories_of_section p) + length (tags_of_section p) + length (globals_of_section p) + length (exports_of_section p)
+    + length (elements_of_section p) + length (bodies_of_section p) + length (segments_of_section p)
+
+-- what is made of a list has as many entries as its bytes at most
+abbrev Few : (List ℕ → Payload → Type 0) → Type 0
+Few spelled = (bytes : List ℕ) (p : Payload) → spelled bytes p → entries p ≤ length bytes
+
+entries_as_few : {A : Type 0} (part : Part A) (make : List A → Payload)
+    → ((bytes : List ℕ) (xs : List A) → (vector part).spells bytes xs → entries (make xs) ≤ length bytes) → Few (entries_as part make).spells
+entries_as_few part make few bytes p s =
+    let inside = s.is_second.1 in
+    let n = few inside.front inside.value inside.is_first in
+    rw inside.is_second.1
+    (omega (arith, n, ap length s.parts, length-append s.front s.back, ap length inside.parts, length-append inside.front inside.back))
+
+types_few : Few (entries_as group Types).spells
+types_few = entries_as_few group Types (λ bytes gs s. let n = groups_few bytes gs s in omega (arith, n))
+
+imports_few : Few (entries_as import_entry Imports).spells
+imports_few = entries_as_few import_entry Imports (λ bytes is s. let n = vector_few import_entry import_entry_takes bytes is s in omega (arith, n))
+
+function_types_few : Few (entries_as (unsigned 32) FunctionTypes).spells
+function_types_few = entries_as_few (unsigned 32) FunctionTypes
+    (λ bytes ts s. let n = vector_few (unsigned 32) (number_takes 32) bytes ts s in omega (arith, n))
+
+tables_few : Few (entries_as table_entry Tables).spells
+tables_few = entries_as_few table_entry Tables (λ bytes ts s. let n = vector_few table_entry table_entry_takes bytes ts s in omega (arith, n))
+
+memories_few : Few (entries_as memory_type Memories).spells
+memories_few = entries_as_few memory_type Memories (λ bytes ts s. let n = vector_few memory_type memory_type_takes bytes ts s in omega (arith, n))
+
+tags_few : Few (entries_as tag_type Tags).spells
+tags_few = entries_as_few tag_type Tags (λ bytes ts s. let n = vector_few tag_type tag_type_takes bytes ts s in omega (arith, n))
+
+globals_few : Few (entries_as global_entry Globals).spells
+globals_few = entries_as_few global_entry Globals (λ bytes gs s. let n = vector_few global_entry global_entry_takes bytes gs s in omega (arith, n))
+
+segments_few : Few (entries_as data_segment Segments).spells
+segments_few = entries_as_few data_segment Segments (λ bytes ss s. let n = vector_few data_segment data_segment_takes bytes ss s in omega (arith, n))
+
+exports_few : Few (entries_as export_entry Exports).spells
+exports_few = entries_as_few export_entry Exports (λ bytes es s. let n = vector_few export_entry export_entry_takes bytes es s in omega (arith, n))
+
+elements_few : Few (entries_as element_segment Elements).spells
+elements_few = entries_as_few element_segment Elements
+    (λ bytes es s. let n = vector_few element_segment element_segment_takes bytes es s in omega (arith, n))
+
+start_few : Few (number_as Start).spells
+start_few bytes p s = rw s.is_second.1.is_second.1 (omega arith)
+
+data_count_few : Few (number_as DataCount).spells
+data_count_few bytes p s = rw s.is_second.1.is_second.1 (omega arith)
+
+code_few : (place : ℕ) → Few (code_at place).spells
+code_few place bytes p s =
+    let inside = s.is_second.1 in
+    let n = vector_few body body_takes inside.front inside.value inside.is_first in
+    rw inside.is_second.1
+    (omega (arith, n, ap length s.parts, length-append s.front s.back, ap length inside.parts, length-append inside.front inside.back))
+
+customs_few : Few (sized custom_contents).spells
+customs_few bytes p s = rw s.is_second.1.is_second (omega arith)
+
+contents_few : (place id : ℕ) → Few (section_contents place id).spells
+contents_few place id bytes p =
+    chosen (id == 1) _ _ bytes p (entries p) (types_few bytes p)
+    (chosen (id == 2) _ _ bytes p (entries p) (imports_few bytes p)
+    (chosen (id == 3) _ _ bytes p (entries p) (function_types_few bytes p)
+    (chosen (id == 4) _ _ bytes p (entries p) (tables_few bytes p)
+    (chosen (id == 5) _ _ bytes p (entries p) (memories_few bytes p)
+    (chosen (id == 13) _ _ bytes p (entries p) (tags_few bytes p)
+    (chosen (id == 6) _ _ bytes p (entries p) (globals_few bytes p)
+    (chosen (id == 7) _ _ bytes p (entries p) (exports_few bytes p)
+    (chosen (id == 8) _ _ bytes p (entries p) (start_few bytes p)
+    (chosen (id == 9) _ _ bytes p (entries p) (elements_few bytes p)
+    (chosen (id == 12) _ _ bytes p (entries p) (data_count_few bytes p)
+    (chosen (id == 10) _ _ bytes p (entries p) (code_few place bytes p)
+    (chosen (id == 11) _ _ bytes p (entries p) (segments_few bytes p) (λ s. absurd s)))))))))))))
+
+placed_few : (place next id : ℕ) (o : Option ℕ) → Few (placed_section place next id o).spells
+placed_few place next id None bytes p s = absurd s
+placed_few place next id (Some order) bytes p s = chosen (nat_le next order) _ _ bytes p (entries p) (contents_few (place + 1) id bytes p)
+    (λ t. absurd t) s
+
+section_few : (place next : ℕ) → Few (section place next).spells
+section_few place next [] p s = absurd s
+section_few place next (id ∷ bytes) p s = let n = chosen (id == 0) _ _ bytes p (entries p) (customs_few bytes p)
+    (placed_few place next id (order_of id) bytes p) s in omega (arith, n)
+
+-- ---- modules
+
+-- the entries of all lists of a module
+abbrev all_entries : Module → ℕ
+all_entries m =
+    length (groups m) + length (types m) + length (imports m) + length (flat_map function_types_of_section m) + length (flat_map tables_of_section m)
+    + length (flat_map memories_of_section m) + length (flat_map tags_of_section m) + length (flat_map globals_of_section m)
+    + length (flat_map exports_of_section m) + length (flat_map elements_of_section m) + length (flat_map bodies_of_section m)
+    + length (flat_map segments_of_section m)
+
+-- of one list, the entries of the first section and those of the others
+one_list : {A : Type 0} (list : Payload → List A) (p : Payload) (ps : Module)
+    → length (flat_map list (p ∷ ps)) ≡ length (list p) + length (flat_map list ps)
+one_list list p ps = length-append (list p) (flat_map list ps)
+
+all_types : (p : Payload) (ps : Module) → length (types (p ∷ ps)) ≡ length (flat_map (λ g. g) (groups_of_section p)) + length (types ps)
+all_types p ps = ap length (flat_map-append (λ (g : Group UnpackedIndex UnpackedIndex). g) (groups_of_section p) (groups ps))
+    ∙ length-append (flat_map (λ g. g) (groups_of_section p)) (types ps)
+
+all_more : (p : Payload) (ps : Module) → all_entries (p ∷ ps) ≡ entries p + all_entries ps
+all_more p ps =
+    omega (
+      arith,
+      one_list groups_of_section p ps,
+      all_types p ps,
+      one_list imports_of_section p ps,
+      one_list function_types_of_section p ps,
+      one_list tables_of_section p ps,
+      one_list memories_of_section p ps,
+      one_list tags_of_section p ps,
+      one_list globals_of_section p ps,
+      one_list exports_of_section p ps,
+      one_list elements_of_section p ps,
+      one_list bodies_of_section p ps,
+      one_list segments_of_section p ps,
+    )
+
+sections_few : (ps : Module) (place next : ℕ) (bytes : List ℕ) → SpellsSections place next bytes ps → all_entries ps ≤ length bytes
+sections_few [] place next bytes s = omega arith
+sections_few (p ∷ ps) place next bytes (front, back, parts, is, later) =
+    let one = section_few place next front p is in
+    let others = sections_few ps (place + length front) (next_order next p) back later in
+    omega (arith, one, others, all_more p ps, ap length parts, length-append front back)
+
+-- the imports of one kind are some of all imports
+imported_few : {A : Type 0} (kind : TypeRef → Option A) (is : List Import) → length (filter_map (λ i. kind i.type) is) ≤ length is
+imported_few kind [] = omega arith
+imported_few {A} kind (i ∷ is) = by_kind (kind i.type) (imported_few kind is) where
+  by_kind : (o : Option A) → length (filter_map (λ j. kind j.type) is) ≤ length is
+      → length (cons_option o (filter_map (λ j. kind j.type) is)) ≤ length (i ∷ is)
+  by_kind None few = omega (arith, few)
+  by_kind (Some x) few = omega (arith, few)
+
+-- an index space is no longer than the imports and what is defined
+space_few : {A : Type 0} (kind : TypeRef → Option A) (m : Module) (defined : List A)
+    → length (imported_of kind m ++ defined) ≤ length (imports m) + length defined
+space_few kind m defined = let n = imported_few kind (imports m) in omega (arith, n, length-append (imported_of kind m) defined)
+
+pub few_entries : (bytes : List ℕ) (m : Module) → Spells bytes m → length bytes < 2 ^ 30 → HasFewEntries m
+few_entries bytes m s short =
+    let n = sections_few m 8 0 s.body s.are_sections in
+    let body : length s.body ≤ length bytes = omega (arith, ap length s.parts, length-append header s.body) in
+    record {
+      groups = omega (arith, n);
+      types = omega (arith, n);
+      imports = omega (arith, n);
+      functions = let f = space_few function_import m (flat_map function_types_of_section m) in omega (arith, n, f);
+      tables = let f = space_few table_import m (map (λ t. t.type) (flat_map tables_of_section m)) in
+          omega (arith, n, f, length-map (flat_map tables_of_section m) (λ t. t.type));
+      memories = let f = space_few memory_import m (flat_map memories_of_section m) in omega (arith, n, f);
+      globals = let f = space_few global_import m (map (λ g. g.type) (flat_map globals_of_section m)) in
+          omega (arith, n, f, length-map (flat_map globals_of_section m) (λ g. g.type));
+      tags = let f = space_few tag_import m (flat_map tags_of_section m) in omega (arith, n, f);
+      exports = omega (arith, n);
+      elements = omega (arith, n);
+      bodies = omega (arith, n);
+      segments = omega (arith, n);
+    }

@@ -1,0 +1,36 @@
+//! Why a module could not be read.
+
+ghost use Rattle.std.specs.Prelude.{◌≡◌};
+ghost use Rattle.form_reader.specs.declared.error.ReadError.TheVariants as read;
+
+use std::alloc::{AllocError, AllocFailed};
+use wasm_spec::What;
+
+/// Why bytes are not read as a module.
+#[derive(Clone, Copy, Debug, PartialEq, Eq)]
+pub enum ReadError {
+    /// The bytes spell no module, and reading them comes to no spelling that is not taken.
+    Malformed,
+    /// Reading comes to a spelling that is not taken.
+    Unsupported(What),
+    /// The input has 2^30 bytes or more.
+    TooLarge,
+    /// There was no memory.
+    OutOfMemory,
+}
+
+impl From<AllocError> for ReadError {
+    ghost from_gives = { λ _ e. e ≡ read.OutOfMemory };
+
+    fn from(_e: AllocError) -> ReadError {
+        ReadError::OutOfMemory
+    }
+}
+
+impl<T: Drop> From<AllocFailed<T>> for ReadError {
+    ghost from_gives = { λ _ e. e ≡ read.OutOfMemory };
+
+    fn from(_e: AllocFailed<T>) -> ReadError {
+        ReadError::OutOfMemory
+    }
+}

@@ -1,0 +1,31 @@
+//! Reads the sections of a module.
+#![tactic(auto)]
+
+mod code;
+mod contents;
+mod elements;
+mod entity_types;
+mod error;
+mod exports;
+mod expressions;
+mod fields;
+mod globals;
+mod imports;
+mod laws;
+mod limits;
+mod module;
+mod names;
+mod numbers;
+mod operators;
+mod sections;
+mod segments;
+mod tables;
+mod type_groups;
+mod type_lists;
+mod value_types;
+mod vectors;
+
+pub use error::ReadError;
+pub use laws::spelling_is_unique;
+pub use module::{MAX_MODULE_SIZE, read_module};
+

@@ -1,0 +1,82 @@
+//! Modules (core specification, 5.5, modules).
+
+ghost use Rattle.std.specs.Prelude.{◌≡◌, ◌↔◌, ◌^◌, ◌<◌, ◌≤◌, length, map, IfOk, Err};
+ghost use Rattle.wasm_spec.specs.declared.operators.What.{What};
+ghost use Rattle.wasm_spec.specs.Module.{Module};
+ghost use Rattle.wasm_spec.specs.Grammar.{Spells, Stops};
+ghost use Rattle.wasm_spec.specs.Sizes.{HasFewEntries};
+ghost use Rattle.wasm_spec.specs.Interfaces.{HasNoInterfaceTypes};
+ghost use Rattle.form_data.specs.Views.{module_of, payload_of};
+ghost use Rattle.form_reader.specs.Outcomes.{ReadsAs};
+ghost use Rattle.form_reader.specs.Reading.{Gives};
+ghost use Rattle.form_reader.specs.ReadingSections.{is_component as spec_is_component, module_at};
+
+use crate::error::ReadError;
+use crate::sections::sections;
+use form_data::{Form, Payload};
+use std::alloc::Global;
+use wasm_spec::What;
+
+/// Input of this many bytes, 2^30, and of more is too large.
+pub const MAX_MODULE_SIZE: usize = 1073741824;
+
+/// The first bytes of modules and components.
+const MAGIC: [u8; 4] = [0x00, 0x61, 0x73, 0x6D];
+
+/// Those bytes, and the version of modules.
+const HEADER: [u8; 8] = [0x00, 0x61, 0x73, 0x6D, 0x01, 0x00, 0x00, 0x00];
+
+/// The end of a component's version.
+const COMPONENT_LAYER: [u8; 2] = [0x01, 0x00];
+
+/// Whether the bytes begin as those of a component, whatever its version.
+fn is_component(bytes: &[u8]) -> bool
+    ensures { result ≡ spec_is_component bytes.now }
+{
+    bytes.starts_with(&MAGIC) && bytes.len() > 6 && bytes[6..].starts_with(&COMPONENT_LAYER)
+}
+
+/// The sections behind the header.
+#[tactic(auto, unfolding(crate::specs::ReadingSections::module_at))]
+fn payloads<'d>(alloc: Global, bytes: &'d [u8]) -> Result<Vec<Payload<'d>>, ReadError>
+    requires { length bytes.now < 2 ^ 30 }
+    ensures { Gives (λ x. map payload_of x.items) result (module_at bytes.now) }
+{
+    if bytes.starts_with(&HEADER) {
+        return sections(alloc, HEADER.len(), &bytes[HEADER.len()..]);
+    }
+    if is_component(bytes) {
+        return Err(ReadError::Unsupported(What::Component));
+    }
+    Err(ReadError::Malformed)
+}
+
+/// The module that the bytes spell.
+///
+/// # Errors
+/// `TooLarge` exactly for 2^30 bytes or more; `Unsupported` where reading comes to a spelling that is not taken; `Malformed` where no
+/// module is spelled and reading comes to no such spelling.
+pub fn read_module<'d>(alloc: Global, bytes: &'d [u8]) -> Result<Form<'d>, ReadError>
+    // What is read is spelled so.
+    ensures read { IfOk result (λ form. Spells bytes.now (module_of form)) }
+    // Custom sections of interface types are refused.
+    ensures no_interface_types { IfOk result (λ form. HasNoInterfaceTypes (module_of form)) }
+    ensures whole { IfOk result (λ form. form.wasm.now ≡ bytes.now) }
+    ensures few { IfOk result (λ form. HasFewEntries (module_of form)) }
+    // What is spelled is read, unless memory runs out.
+    ensures complete { length bytes.now < 2 ^ 30 → (m : Module) → Spells bytes.now m → HasNoInterfaceTypes m → ReadsAs result m }
+
+    ensures too_large { (result ≡ Err ReadError.TooLarge) ↔ (2 ^ 30 ≤ length bytes.now) }
+    ensures unsupported { (what : What) → result ≡ Err (ReadError.Unsupported what) → Stops bytes.now what }
+    ensures malformed { result ≡ Err ReadError.Malformed → (m : Module) → ¬ Spells bytes.now m }
+    ensures stops_nowhere { result ≡ Err ReadError.Malformed → (what : What) → ¬ Stops bytes.now what }
+{
+    if bytes.len() >= MAX_MODULE_SIZE {
+        return Err(ReadError::TooLarge);
+    }
+    let payloads = payloads(alloc, bytes)?;
+    Ok(Form {
+        wasm: bytes,
+        payloads,
+    })
+}

@@ -1,0 +1,104 @@
+//! Sections, one after another (core specification, 5.5, sections).
+
+ghost use Rattle.std.specs.Prelude.{◌≡◌, ◌+◌, ◌<◌, ◌^◌, length, map};
+ghost use Rattle.wasm_spec.specs.Grammar.{order_of as spec_order_of, section_id as spec_section_id, next_order as spec_next_order};
+ghost use Rattle.form_data.specs.Views.{payload_of};
+ghost use Rattle.form_reader.specs.Reading.{Gives};
+ghost use Rattle.form_reader.specs.ReadingSections.{section_at, all_sections_at};
+
+use crate::contents::{custom, section_contents};
+use crate::error::ReadError;
+use crate::numbers::first_byte;
+use form_data::Payload;
+use std::alloc::Global;
+
+/// The id of custom sections.
+const CUSTOM: u8 = 0;
+
+/// The other ids in the order in which sections stand; custom sections stand anywhere.
+const ORDER: [u8; 13] = [1, 2, 3, 4, 5, 13, 6, 7, 8, 9, 12, 10, 11];
+
+/// Where an id stands in that order.
+fn order_of(id: u8) -> Option<usize>
+    ensures { result ≡ spec_order_of id }
+{
+    ORDER.iter().position(|other| *other == id)
+}
+
+/// The id of the section that a payload is read from.
+fn section_id(payload: &Payload<'_>) -> u8
+    ensures { result ≡ spec_section_id (payload_of payload.now) }
+{
+    match payload {
+        Payload::Types(_) => 1,
+        Payload::Imports(_) => 2,
+        Payload::Functions(_) => 3,
+        Payload::Tables(_) => 4,
+        Payload::Memories(_) => 5,
+        Payload::Tags(_) => 13,
+        Payload::Globals(_) => 6,
+        Payload::Exports(_) => 7,
+        Payload::Start(_) => 8,
+        Payload::Elements(_) => 9,
+        Payload::DataCount(_) => 12,
+        Payload::Code { .. } => 10,
+        Payload::Segments(_) => 11,
+        Payload::Custom(_) => CUSTOM,
+    }
+}
+
+/// The least order of a section after this one.
+fn next_order(next: usize, payload: &Payload<'_>) -> usize
+    ensures { result ≡ spec_next_order next (payload_of payload.now) }
+{
+    match order_of(section_id(payload)) {
+        Some(order) => order + 1,
+        None => next,
+    }
+}
+
+/// A section that stands at a place of the input, where the next one has at least the order `next`.
+#[tactic(auto, unfolding(crate::specs::ReadingSections::section_at))]
+fn section<'d>(
+    alloc: Global,
+    place: usize,
+    next: usize,
+    bytes: &'d [u8],
+) -> Result<(Payload<'d>, &'d [u8]), ReadError>
+    requires { place + length bytes.now < 2 ^ 30 }
+    ensures { Gives (λ x. (payload_of x.0, x.1.now)) result (section_at place next bytes.now) }
+{
+    let Some((id, rest)) = first_byte(bytes) else {
+        return Err(ReadError::Malformed);
+    };
+    if id == CUSTOM {
+        return custom(rest);
+    }
+    match order_of(id) {
+        Some(order) if next <= order => section_contents(alloc, place + 1, id, rest),
+        _ => Err(ReadError::Malformed),
+    }
+}
+
+/// The sections up to the end of the bytes, which begin at a place of the input.
+pub fn sections<'d>(
+    alloc: Global,
+    start: usize,
+    bytes: &'d [u8],
+) -> Result<Vec<Payload<'d>>, ReadError>
+    requires { start + length bytes.now < 2 ^ 30 }
+    ensures { Gives (λ x. map payload_of x.items) result (all_sections_at start 0 bytes.now) }
+{
+    let mut payloads = Vec::new(alloc);
+    let mut rest = bytes;
+    let mut place = start;
+    let mut next = 0;
+    while !rest.is_empty() {
+        let (payload, after) = section(alloc, place, next, rest)?;
+        place += rest.len() - after.len();
+        next = next_order(next, &payload);
+        payloads.push(payload)?;
+        rest = after;
+    }
+    Ok(payloads)
+}

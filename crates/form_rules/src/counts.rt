@@ -1,0 +1,120 @@
+//! Counts of bodies, locals and data segments (core specification, 3.4 and 5.5.13 to 5.5.17).
+
+ghost use Rattle.std.specs.Prelude.{◌≡◌, ◌↔◌, ◌+◌, ◌≤◌, length, map, sum_by, All, IsTrue};
+ghost use Rattle.std.specs.List.{flat_map};
+ghost use Rattle.wasm_spec.specs.Module.{bodies_of_section, data_counts_of_section, segments, segments_of_section};
+ghost use Rattle.form_data.specs.Views.{body_of, payload_of, module_of};
+ghost use Rattle.rule_spec.specs.Rules.{CountsAgree, locals};
+ghost use Rattle.form_lists.specs.Views.{lists_of};
+
+use form_data::{FunctionBody, Payload};
+use form_lists::{Lists, bodies_of, segments_of};
+use wasm_spec::ValType;
+
+/// Whether bodies, data segments and locals are as many as they are said or allowed to be.
+pub fn counts_agree(lists: &Lists<'_, '_>) -> bool
+    ensures { IsTrue result ↔ CountsAgree (lists_of lists.now) }
+{
+    bodies_hold(lists) && data_counts_hold(lists) && locals_hold(lists)
+}
+
+/// Whether there is a body for each function that is not imported.
+fn bodies_hold(lists: &Lists<'_, '_>) -> bool
+    ensures { IsTrue result
+        ↔ (length lists.now.spaces.functions.items
+        ≡ lists.now.imported_functions + length (flat_map bodies_of_section (module_of lists.now.form.now))) }
+{
+    let functions = lists.spaces.functions.len();
+    lists.imported_functions <= functions && has_bodies(lists, functions - lists.imported_functions)
+}
+
+/// Whether there are so many bodies.
+fn has_bodies(lists: &Lists<'_, '_>, count: usize) -> bool
+    ensures { IsTrue result ↔ (count ≡ length (flat_map bodies_of_section (module_of lists.now.form.now))) }
+{
+    let mut left = count;
+    for payload in &lists.form.payloads {
+        let here = bodies_of(payload).len();
+        if left < here {
+            return false;
+        }
+        left -= here;
+    }
+    left == 0
+}
+
+/// Whether each number of data segments that is said is the number of data segments.
+fn data_counts_hold(lists: &Lists<'_, '_>) -> bool
+    ensures { IsTrue result
+        ↔ All (λ count. count ≡ length (segments (module_of lists.now.form.now)))
+        (flat_map data_counts_of_section (module_of lists.now.form.now)) }
+{
+    lists
+        .form
+        .payloads
+        .iter()
+        .all(|payload| data_count_holds(lists, payload))
+}
+
+fn data_count_holds(lists: &Lists<'_, '_>, payload: &Payload<'_>) -> bool
+    ensures { IsTrue result
+        ↔ All (λ count. count ≡ length (segments (module_of lists.now.form.now)))
+        (data_counts_of_section (payload_of payload.now)) }
+{
+    match payload {
+        Payload::DataCount(count) => has_segments(lists, *count as usize),
+        _ => true,
+    }
+}
+
+/// Whether there are so many data segments.
+fn has_segments(lists: &Lists<'_, '_>, count: usize) -> bool
+    ensures { IsTrue result ↔ (count ≡ length (segments (module_of lists.now.form.now))) }
+{
+    let mut left = count;
+    for payload in &lists.form.payloads {
+        let here = segments_of(payload).len();
+        if left < here {
+            return false;
+        }
+        left -= here;
+    }
+    left == 0
+}
+
+fn locals_hold(lists: &Lists<'_, '_>) -> bool
+    ensures { IsTrue result
+        ↔ All (λ b. locals b ≤ 4294967295) (flat_map bodies_of_section (module_of lists.now.form.now)) }
+{
+    lists
+        .form
+        .payloads
+        .iter()
+        .all(|payload| all_locals_fit(bodies_of(payload)))
+}
+
+fn all_locals_fit(bodies: &[FunctionBody<'_>]) -> bool
+    ensures { IsTrue result ↔ All (λ b. locals b ≤ 4294967295) (map body_of bodies.now) }
+{
+    bodies.iter().all(|body| body_fits(body))
+}
+
+fn body_fits(body: &FunctionBody<'_>) -> bool
+    ensures { IsTrue result ↔ (locals (body_of body.now) ≤ 4294967295) }
+{
+    locals_fit(&body.locals)
+}
+
+/// Whether the runs of locals add up to at most 4294967295.
+fn locals_fit(runs: &[(u32, ValType)]) -> bool
+    ensures { IsTrue result ↔ (sum_by (λ run. run.0) runs.now ≤ 4294967295) }
+{
+    let mut left = u32::MAX;
+    for (count, _) in runs {
+        if left < *count {
+            return false;
+        }
+        left -= *count;
+    }
+    true
+}

@@ -1,0 +1,92 @@
+//! Exports (core specification, 3.5.14 and 3.6.1).
+
+ghost use Rattle.std.specs.Prelude.{◌≡◌, ◌↔◌, ◌++◌, List, map, All, IsTrue, IfOk};
+ghost use Rattle.std.specs.Bool.{MatchBool};
+ghost use Rattle.std.specs.List.{flat_map};
+ghost use Rattle.wasm_spec.specs.Module.{exports_of_section};
+ghost use Rattle.wasm_spec.specs.Module as plain;
+ghost use Rattle.form_data.specs.Views.{export_of, module_of};
+ghost use Rattle.rule_spec.specs.Indices.{IsInSpace, space_size};
+ghost use Rattle.rule_spec.specs.Rules.{AreExported, AreDistinct};
+ghost use Rattle.form_lists.specs.Views.{lists_of};
+ghost use Rattle.form_rules.specs.Names.{HasNames};
+
+use form_data::Export;
+use form_lists::{Lists, exports_of};
+use std::alloc::{AllocError, Global};
+use std::collections::HashSet;
+use wasm_spec::ExternalKind;
+
+/// Whether each export names an entry of its index space, and no two have one name.
+pub fn exports_hold(alloc: Global, lists: &Lists<'_, '_>) -> Result<bool, AllocError>
+    ensures { IfOk result (λ hold. IsTrue hold ↔ AreExported (lists_of lists.now)) }
+{
+    if !in_space_hold(lists) {
+        return Ok(false);
+    }
+    names_are_distinct(alloc, lists)
+}
+
+/// Whether no two exports have one name.
+fn names_are_distinct(alloc: Global, lists: &Lists<'_, '_>) -> Result<bool, AllocError>
+    ensures { IfOk result (λ distinct. IsTrue distinct
+        ↔ AreDistinct (flat_map exports_of_section (module_of lists.now.form.now))) }
+{
+    let mut names = HashSet::new(alloc);
+    for payload in &lists.form.payloads {
+        if !add_names(&mut names, exports_of(payload))? {
+            return Ok(false);
+        }
+    }
+    Ok(true)
+}
+
+/// Adds the names of exports, and says whether each is new.
+fn add_names<'d>(names: &mut HashSet<&'d str>, exports: &[Export<'d>]) -> Result<bool, AllocError>
+    ensures { IfOk result (λ new. (before : List plain.Export) → HasNames names.old before
+        → MatchBool new (HasNames names.new (before ++ map export_of exports.now))
+        (¬ AreDistinct (before ++ map export_of exports.now))) }
+{
+    for export in exports {
+        if !names.insert(export.name)? {
+            return Ok(false);
+        }
+    }
+    Ok(true)
+}
+
+/// Whether each export names an entry of its index space.
+fn in_space_hold(lists: &Lists<'_, '_>) -> bool
+    ensures { IsTrue result ↔ All (IsInSpace (lists_of lists.now)) (flat_map exports_of_section (module_of lists.now.form.now)) }
+{
+    lists
+        .form
+        .payloads
+        .iter()
+        .all(|payload| all_in_space(lists, exports_of(payload)))
+}
+
+fn all_in_space(lists: &Lists<'_, '_>, exports: &[Export<'_>]) -> bool
+    ensures { IsTrue result ↔ All (IsInSpace (lists_of lists.now)) (map export_of exports.now) }
+{
+    exports.iter().all(|export| is_in_space(lists, export))
+}
+
+fn is_in_space(lists: &Lists<'_, '_>, export: &Export<'_>) -> bool
+    ensures { IsTrue result ↔ IsInSpace (lists_of lists.now) (export_of export.now) }
+{
+    (export.index as usize) < space_size(lists, export.kind)
+}
+
+/// How many entries the index space of a kind has.
+fn space_size(lists: &Lists<'_, '_>, kind: ExternalKind) -> usize
+    ensures { result ≡ space_size (lists_of lists.now) kind }
+{
+    match kind {
+        ExternalKind::Func => lists.spaces.functions.len(),
+        ExternalKind::Table => lists.spaces.table_types.len(),
+        ExternalKind::Memory => lists.spaces.memories.len(),
+        ExternalKind::Global => lists.spaces.global_types.len(),
+        ExternalKind::Tag => lists.spaces.tags.len(),
+    }
+}

@@ -1,0 +1,95 @@
+//! Indices of segments (core specification, 3.5.10 and 3.5.11).
+
+ghost use Rattle.std.specs.Prelude.{◌≡◌, ◌↔◌, ◌<◌, length, map, All, IsTrue};
+ghost use Rattle.std.specs.List.{flat_map};
+ghost use Rattle.wasm_spec.specs.Module.{segments, elements_of_section};
+ghost use Rattle.form_data.specs.Views.{element_of, element_kind_of, items_of, data_kind_of, segment_of, module_of};
+ghost use Rattle.rule_spec.specs.Indices.{NamesMemory, NamesTable, NamesFunctions, IsElementInRange};
+ghost use Rattle.rule_spec.specs.Rules.{AreInRange};
+ghost use Rattle.form_lists.specs.Views.{lists_of};
+
+use form_data::{DataKind, DataSegment, Element, ElementItems, ElementKind};
+use form_lists::{Lists, elements_of, segments_of};
+
+/// Whether what segments name is in range.
+pub fn indices_hold(lists: &Lists<'_, '_>) -> bool
+    ensures { IsTrue result ↔ AreInRange (lists_of lists.now) }
+{
+    elements_hold(lists) && segments_hold(lists)
+}
+
+fn elements_hold(lists: &Lists<'_, '_>) -> bool
+    ensures { IsTrue result
+        ↔ All (IsElementInRange (lists_of lists.now)) (flat_map elements_of_section (module_of lists.now.form.now)) }
+{
+    lists.form.payloads.iter().all(|payload| all_elements_in_range(lists, elements_of(payload)))
+}
+
+fn all_elements_in_range(lists: &Lists<'_, '_>, elements: &[Element]) -> bool
+    ensures { IsTrue result ↔ All (IsElementInRange (lists_of lists.now)) (map element_of elements.now) }
+{
+    elements.iter().all(|element| is_in_range(lists, element))
+}
+
+fn is_in_range(lists: &Lists<'_, '_>, element: &Element) -> bool
+    ensures { IsTrue result ↔ IsElementInRange (lists_of lists.now) (element_of element.now) }
+{
+    names_table(lists, &element.kind) && names_functions(lists, &element.items)
+}
+
+fn names_table(lists: &Lists<'_, '_>, kind: &ElementKind) -> bool
+    ensures { IsTrue result ↔ NamesTable (lists_of lists.now) (element_kind_of kind.now) }
+{
+    match kind {
+        ElementKind::Passive | ElementKind::Declared => true,
+        ElementKind::Active { table_index, .. } => {
+            (table_index.unwrap_or(0) as usize) < lists.spaces.table_types.len()
+        }
+    }
+}
+
+fn names_functions(lists: &Lists<'_, '_>, items: &ElementItems) -> bool
+    ensures { IsTrue result ↔ NamesFunctions (lists_of lists.now) (items_of items.now) }
+{
+    match items {
+        ElementItems::Functions(indices) => all_below(indices, lists.spaces.functions.len()),
+        ElementItems::Expressions(..) => true,
+    }
+}
+
+fn all_below(indices: &[u32], bound: usize) -> bool
+    ensures { IsTrue result ↔ All (λ i. i < bound) indices.now }
+{
+    indices.iter().all(|index| (*index as usize) < bound)
+}
+
+fn segments_hold(lists: &Lists<'_, '_>) -> bool
+    ensures { IsTrue result
+        ↔ All (λ s. NamesMemory (lists_of lists.now) s.kind) (segments (module_of lists.now.form.now)) }
+{
+    lists
+        .form
+        .payloads
+        .iter()
+        .all(|payload| all_name_memories(lists, segments_of(payload)))
+}
+
+fn all_name_memories(lists: &Lists<'_, '_>, segments: &[DataSegment<'_>]) -> bool
+    ensures { IsTrue result
+        ↔ All (λ s. NamesMemory (lists_of lists.now) s.kind) (map segment_of segments.now) }
+{
+    segments
+        .iter()
+        .all(|segment| names_memory(lists, &segment.kind))
+}
+
+fn names_memory(lists: &Lists<'_, '_>, kind: &DataKind) -> bool
+    ensures { IsTrue result ↔ NamesMemory (lists_of lists.now) (data_kind_of kind.now) }
+{
+    match kind {
+        DataKind::Passive => true,
+        DataKind::Active { memory_index, .. } => {
+            (*memory_index as usize) < lists.spaces.memories.len()
+        }
+    }
+}

@@ -1,0 +1,240 @@
+//! Concrete references outside the type section (core specification, 3.2).
+
+ghost use Rattle.std.specs.Prelude.{◌↔◌, map, length, All, IsTrue};
+ghost use Rattle.std.specs.List.{flat_map};
+ghost use Rattle.wasm_spec.specs.TypeData.{heap_of};
+ghost use Rattle.wasm_spec.specs.Module.{imports, segments, tables_of_section, globals_of_section, elements_of_section, bodies_of_section};
+ghost use Rattle.form_data.specs.Views.{import_of, table_of, global_of, element_of, element_kind_of, items_of, body_of, segment_of, data_kind_of, expression_of, module_of};
+ghost use Rattle.rule_spec.specs.References.{RefersIn, ValueRefersIn, ImportRefersIn, OperatorRefersIn, ExpressionRefersIn, TableRefersIn, GlobalRefersIn, ElementKindRefersIn, ItemsReferIn, ElementRefersIn, BodyRefersIn, DataKindRefersIn, AllReferIn};
+ghost use Rattle.form_lists.specs.Views.{lists_of};
+
+use crate::type_rules::{heap_is_below, value_is_below};
+use form_data::{
+    ConstExpr, DataKind, DataSegment, Element, ElementItems, ElementKind, FunctionBody, GlobalDef,
+    Import, TableDef,
+};
+use form_lists::{Lists, bodies_of, elements_of, globals_of, imports_of, segments_of, tables_of};
+use wasm_spec::{Operator, TypeRef};
+
+/// Whether each concrete reference outside the type section names one of the declared types.
+pub fn references_hold(lists: &Lists<'_, '_>) -> bool
+    ensures { IsTrue result ↔ AllReferIn (length lists.now.types.items) (lists_of lists.now) }
+{
+    let types = lists.types.len();
+    imports_refer(types, lists)
+        && tables_refer(types, lists)
+        && globals_refer(types, lists)
+        && elements_refer(types, lists)
+        && bodies_refer(types, lists)
+        && segments_refer(types, lists)
+}
+
+// ---- expressions
+
+fn operator_refers(types: usize, op: &Operator) -> bool
+    ensures { IsTrue result ↔ OperatorRefersIn types op.now }
+{
+    match op {
+        Operator::RefNull { hty } => heap_is_below(types, hty),
+        _ => true,
+    }
+}
+
+fn expression_refers(types: usize, expression: &ConstExpr) -> bool
+    ensures { IsTrue result ↔ ExpressionRefersIn types (expression_of expression.now) }
+{
+    expression.ops.iter().all(|op| operator_refers(types, op))
+}
+
+fn all_expressions_refer(types: usize, expressions: &[ConstExpr]) -> bool
+    ensures { IsTrue result ↔ All (ExpressionRefersIn types) (map expression_of expressions.now) }
+{
+    expressions
+        .iter()
+        .all(|expression| expression_refers(types, expression))
+}
+
+// ---- imports
+
+fn imports_refer(types: usize, lists: &Lists<'_, '_>) -> bool
+    ensures { IsTrue result ↔ All (λ i. ImportRefersIn types i.type) (imports (module_of lists.now.form.now)) }
+{
+    lists
+        .form
+        .payloads
+        .iter()
+        .all(|payload| all_imports_refer(types, imports_of(payload)))
+}
+
+fn all_imports_refer(types: usize, imports: &[Import<'_>]) -> bool
+    ensures { IsTrue result ↔ All (λ i. ImportRefersIn types i.type) (map import_of imports.now) }
+{
+    imports
+        .iter()
+        .all(|import| import_refers(types, &import.ty))
+}
+
+fn import_refers(types: usize, ty: &TypeRef) -> bool
+    ensures { IsTrue result ↔ ImportRefersIn types ty.now }
+{
+    match ty {
+        TypeRef::Table(table) => heap_is_below(types, &table.element_type.heap),
+        TypeRef::Global(global) => value_is_below(types, &global.content_type),
+        TypeRef::Func(_) | TypeRef::Memory(_) | TypeRef::Tag(_) => true,
+    }
+}
+
+// ---- tables and globals
+
+fn tables_refer(types: usize, lists: &Lists<'_, '_>) -> bool
+    ensures { IsTrue result
+        ↔ All (TableRefersIn types) (flat_map tables_of_section (module_of lists.now.form.now)) }
+{
+    for payload in &lists.form.payloads {
+        if !all_tables_refer(types, tables_of(payload)) {
+            return false;
+        }
+    }
+    true
+}
+
+fn all_tables_refer(types: usize, tables: &[TableDef]) -> bool
+    ensures { IsTrue result ↔ All (TableRefersIn types) (map table_of tables.now) }
+{
+    tables.iter().all(|table| table_refers(types, table))
+}
+
+fn table_refers(types: usize, table: &TableDef) -> bool
+    ensures { IsTrue result ↔ TableRefersIn types (table_of table.now) }
+{
+    if !heap_is_below(types, &table.ty.element_type.heap) {
+        return false;
+    }
+    match &table.init {
+        Some(init) => expression_refers(types, init),
+        None => true,
+    }
+}
+
+fn globals_refer(types: usize, lists: &Lists<'_, '_>) -> bool
+    ensures { IsTrue result
+        ↔ All (GlobalRefersIn types) (flat_map globals_of_section (module_of lists.now.form.now)) }
+{
+    lists
+        .form
+        .payloads
+        .iter()
+        .all(|payload| all_globals_refer(types, globals_of(payload)))
+}
+
+fn all_globals_refer(types: usize, globals: &[GlobalDef]) -> bool
+    ensures { IsTrue result ↔ All (GlobalRefersIn types) (map global_of globals.now) }
+{
+    globals.iter().all(|global| global_refers(types, global))
+}
+
+fn global_refers(types: usize, global: &GlobalDef) -> bool
+    ensures { IsTrue result ↔ GlobalRefersIn types (global_of global.now) }
+{
+    value_is_below(types, &global.ty.content_type) && expression_refers(types, &global.init)
+}
+
+// ---- element segments
+
+fn elements_refer(types: usize, lists: &Lists<'_, '_>) -> bool
+    ensures { IsTrue result
+        ↔ All (ElementRefersIn types) (flat_map elements_of_section (module_of lists.now.form.now)) }
+{
+    lists
+        .form
+        .payloads
+        .iter()
+        .all(|payload| all_elements_refer(types, elements_of(payload)))
+}
+
+fn all_elements_refer(types: usize, elements: &[Element]) -> bool
+    ensures { IsTrue result ↔ All (ElementRefersIn types) (map element_of elements.now) }
+{
+    elements
+        .iter()
+        .all(|element| element_refers(types, element))
+}
+
+fn element_refers(types: usize, element: &Element) -> bool
+    ensures { IsTrue result ↔ ElementRefersIn types (element_of element.now) }
+{
+    element_kind_refers(types, &element.kind) && items_refer(types, &element.items)
+}
+
+fn element_kind_refers(types: usize, kind: &ElementKind) -> bool
+    ensures { IsTrue result ↔ ElementKindRefersIn types (element_kind_of kind.now) }
+{
+    match kind {
+        ElementKind::Passive | ElementKind::Declared => true,
+        ElementKind::Active { offset, .. } => expression_refers(types, offset),
+    }
+}
+
+fn items_refer(types: usize, items: &ElementItems) -> bool
+    ensures { IsTrue result ↔ ItemsReferIn types (items_of items.now) }
+{
+    match items {
+        ElementItems::Functions(_) => true,
+        ElementItems::Expressions(ty, list) => {
+            heap_is_below(types, &ty.heap) && all_expressions_refer(types, list)
+        }
+    }
+}
+
+// ---- bodies and data segments
+
+fn bodies_refer(types: usize, lists: &Lists<'_, '_>) -> bool
+    ensures { IsTrue result
+        ↔ All (BodyRefersIn types) (flat_map bodies_of_section (module_of lists.now.form.now)) }
+{
+    lists
+        .form
+        .payloads
+        .iter()
+        .all(|payload| all_bodies_refer(types, bodies_of(payload)))
+}
+
+fn all_bodies_refer(types: usize, bodies: &[FunctionBody<'_>]) -> bool
+    ensures { IsTrue result ↔ All (BodyRefersIn types) (map body_of bodies.now) }
+{
+    bodies.iter().all(|body| body_refers(types, body))
+}
+
+fn body_refers(types: usize, body: &FunctionBody<'_>) -> bool
+    ensures { IsTrue result ↔ BodyRefersIn types (body_of body.now) }
+{
+    body.locals.iter().all(|run| value_is_below(types, &run.1))
+}
+
+fn segments_refer(types: usize, lists: &Lists<'_, '_>) -> bool
+    ensures { IsTrue result
+        ↔ All (λ s. DataKindRefersIn types s.kind) (segments (module_of lists.now.form.now)) }
+{
+    lists
+        .form
+        .payloads
+        .iter()
+        .all(|payload| all_segments_refer(types, segments_of(payload)))
+}
+
+fn all_segments_refer(types: usize, segments: &[DataSegment<'_>]) -> bool
+    ensures { IsTrue result ↔ All (λ s. DataKindRefersIn types s.kind) (map segment_of segments.now) }
+{
+    segments
+        .iter()
+        .all(|segment| data_kind_refers(types, &segment.kind))
+}
+
+fn data_kind_refers(types: usize, kind: &DataKind) -> bool
+    ensures { IsTrue result ↔ DataKindRefersIn types (data_kind_of kind.now) }
+{
+    match kind {
+        DataKind::Passive => true,
+        DataKind::Active { offset, .. } => expression_refers(types, offset),
+    }
+}

@@ -1,0 +1,78 @@
+//! The listed rules, asked one after another.
+
+ghost use Rattle.std.specs.Prelude.{◌≡◌, ◌↔◌, IsTrue, IfOk, OnOk, Err};
+ghost use Rattle.rule_spec.specs.declared.rules.Rule.{Rule};
+ghost use Rattle.form_data.specs.Views.{module_of};
+ghost use Rattle.rule_spec.specs.Lists.{lists_of_module};
+ghost use Rattle.rule_spec.specs.Rules.{Kept, Keeps, KeepsBefore};
+ghost use Rattle.form_lists.specs.Views.{lists_of};
+ghost use Rattle.form_rules.specs.Outcomes.{ChecksOrNoMemory, HasGlobals};
+
+use crate::counts::counts_agree;
+use crate::error::CheckError;
+use crate::exports::exports_hold;
+use crate::indices::indices_hold;
+use crate::limits::limits_hold;
+use crate::references::references_hold;
+use crate::start::starts_hold;
+use crate::tables::initialisers_hold;
+use crate::type_rules::{types_are_named, types_hold};
+use form_data::Form;
+use form_lists::{Lists, gather_lists};
+use form_typing::expressions_hold;
+use rule_spec::Rule;
+use std::alloc::{AllocError, Global};
+
+/// The listed rules, in the order in which they are asked.
+const RULES: [Rule; 10] = [
+    Rule::L1,
+    Rule::L2,
+    Rule::L3,
+    Rule::L4,
+    Rule::L5,
+    Rule::L6,
+    Rule::L7,
+    Rule::L8,
+    Rule::L9,
+    Rule::L10,
+];
+
+/// Whether the module keeps the listed rules.
+///
+/// # Errors
+/// `Invalid` names a rule that the module breaks, the first of those in the order of their numbers.
+pub fn check(alloc: Global, form: &Form<'_>) -> Result<(), CheckError>
+    ensures kept { OnOk result (Keeps (module_of form.now)) }
+    ensures broken { (rule : Rule) → result ≡ Err (CheckError.Invalid rule) → ¬ Kept rule (lists_of_module (module_of form.now)) }
+    // Of the rules that are broken it is the first.
+    ensures first { (rule : Rule) → result ≡ Err (CheckError.Invalid rule) → KeepsBefore rule (module_of form.now) }
+    // What keeps the rules passes, unless memory runs out.
+    ensures complete { Keeps (module_of form.now) → ChecksOrNoMemory result }
+{
+    let lists = gather_lists(alloc, form)?;
+    for rule in RULES {
+        if !keeps(alloc, rule, &lists)? {
+            return Err(CheckError::Invalid(rule));
+        }
+    }
+    Ok(())
+}
+
+/// Whether a rule is kept.
+fn keeps(alloc: Global, rule: Rule, lists: &Lists<'_, '_>) -> Result<bool, AllocError>
+    requires { HasGlobals (lists_of lists.now) }
+    ensures { IfOk result (λ kept. IsTrue kept ↔ Kept rule (lists_of lists.now)) }
+{
+    match rule {
+        Rule::L1 => Ok(types_hold(lists)),
+        Rule::L2 => Ok(types_are_named(lists)),
+        Rule::L3 => Ok(counts_agree(lists)),
+        Rule::L4 => Ok(limits_hold(lists)),
+        Rule::L5 => Ok(initialisers_hold(lists)),
+        Rule::L6 => expressions_hold(alloc, lists),
+        Rule::L7 => exports_hold(alloc, lists),
+        Rule::L8 => Ok(starts_hold(lists)),
+        Rule::L9 => Ok(indices_hold(lists)),
+        Rule::L10 => Ok(references_hold(lists)),
+    }
+}

@@ -1,0 +1,36 @@
+use Rattle.std.proofs.Common.{◌∙◌, [], ◌∷◌, List, get_or, refl, sym, subst}
+use Rattle.std.proofs.lemmas.List.{take_all}
+use Rattle.wasm_spec.specs.declared.operators.Operator.{Operator}
+use Rattle.rule_spec.specs.declared.classes.Class.{Class}
+use Rattle.rule_spec.specs.Typing.{Leads}
+use Rattle.form_lists.specs.Views.{lists_of}
+use Rattle.form_typing.proofs.Leading.{no_operator, leads_same, leads_more, leads_fail}
+use Rattle.form_typing.proofs.typing.is_typed.Goals as goal
+
+pub loop-op-preserved : goal.loop-op-preserved
+loop-op-preserved c =
+    let ops = c.deref-op-items.result.now in
+    leads_more (lists_of c.args.lists.now) c.args.visible.now ops c.loop-op.op-index no_operator (get_or ops c.loop-op.op-index no_operator)
+    c.loop-op.stack.items c.take_operands.new.stack.items c.push.new.self.items c.in-Some.pushed c.loop-op-test.true refl
+    c.loop-op.invariant c.in-Some.ensures c.in_ok-push-in-Some.ensures.items
+
+pub returns-in-None : goal.returns-in-None
+returns-in-None c =
+    let l = lists_of c.args.lists.now in
+    let ops = c.deref-op-items.result.now in
+    let P : List Operator → Type 0 = λ os. Leads l c.args.visible.now os [] (c.args.class ∷ []) in (
+      λ answered. absurd (cc),
+      λ typed. absurd (leads_fail l c.args.visible.now ops c.loop-op.op-index no_operator (get_or ops c.loop-op.op-index no_operator)
+          c.loop-op.stack.items c.take_operands.new.stack.items (c.args.class ∷ []) c.loop-op-test.true refl
+          c.loop-op.invariant c.in-None.ensures (subst P (sym c.deref-op-items.ensures.value) typed)),
+    )
+
+pub returns : goal.returns
+returns c =
+    let l = lists_of c.args.lists.now in
+    let ops = c.args.expression.now.ops.items in
+    let P : List Operator → Type 0 = λ os. Leads l c.args.visible.now os [] c.loop-op.stack.items in
+    let all = subst P (take_all c.loop-op.op-index c.deref-op-items.result.now c.loop-op-test.false ∙ c.deref-op-items.ensures.value) c.loop-op.invariant in (
+      λ answered. subst (λ (s : List Class). Leads l c.args.visible.now ops [] s) (sym c.deref.ensures.value ∙ c.is_alone.ensures.0 answered) all,
+      λ typed. c.is_alone.ensures.1 (c.deref.ensures.value ∙ leads_same l c.args.visible.now ops [] c.loop-op.stack.items (c.args.class ∷ []) all typed),
+    )

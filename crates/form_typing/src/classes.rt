@@ -1,0 +1,89 @@
+//! Classes and defaults of types.
+
+ghost use Rattle.std.specs.Prelude.{◌≡◌, ◌↔◌, All, IsTrue, IfOk};
+ghost use Rattle.wasm_spec.specs.TypeData.{value_of, field_of};
+ghost use Rattle.form_data.specs.Views.{composite_of};
+ghost use Rattle.rule_spec.specs.Typing.{class_of, field_class, value_has_default, has_default};
+ghost use Rattle.form_lists.specs.Views.{lists_of};
+ghost use Rattle.form_typing.specs.Defaults.{defaults_of, defaults as defaults_of_types};
+
+use form_data::CompositeInnerType;
+use form_lists::Lists;
+use rule_spec::Class;
+use std::alloc::{AllocError, Global};
+use wasm_spec::{FieldType, StorageType, ValType};
+
+/// The class of the values of a type.
+pub fn class_of(ty: &ValType) -> Class
+    ensures { result ≡ class_of (value_of ty.now) }
+{
+    match ty {
+        ValType::I32 => Class::I32,
+        ValType::I64 => Class::I64,
+        ValType::F32 => Class::F32,
+        ValType::F64 => Class::F64,
+        ValType::V128 => Class::V128,
+        ValType::Ref(_) => Class::Ref,
+    }
+}
+
+/// The class of what a field or an element is made of.
+pub fn field_class(field: &FieldType) -> Class
+    ensures { result ≡ field_class (field_of field.now) }
+{
+    match &field.element_type {
+        // A packed value is an i32 on the stack.
+        StorageType::I8 | StorageType::I16 => Class::I32,
+        StorageType::Val(ty) => class_of(ty),
+    }
+}
+
+fn value_has_default(ty: &ValType) -> bool
+    ensures { result ≡ value_has_default (value_of ty.now) }
+{
+    match ty {
+        ValType::Ref(reference) => reference.nullable,
+        ValType::I32 | ValType::I64 | ValType::F32 | ValType::F64 | ValType::V128 => true,
+    }
+}
+
+/// Whether a field or an element has a default.
+pub fn has_default(field: &FieldType) -> bool
+    ensures { result ≡ has_default (field_of field.now) }
+{
+    match &field.element_type {
+        StorageType::I8 | StorageType::I16 => true,
+        StorageType::Val(ty) => value_has_default(ty),
+    }
+}
+
+/// Whether all fields have a default.
+fn all_have_defaults(fields: &[FieldType]) -> bool
+    ensures { IsTrue result ↔ All (λ f. IsTrue (has_default (field_of f))) fields.now }
+{
+    fields.iter().all(has_default)
+}
+
+/// Whether the type is a struct type of which each field has a default.
+fn kind_has_defaults(kind: &CompositeInnerType) -> bool
+    ensures { result ≡ defaults_of (composite_of kind.now) }
+{
+    match kind {
+        CompositeInnerType::Struct(fields) => all_have_defaults(fields),
+        CompositeInnerType::Func(_) | CompositeInnerType::Array(_) | CompositeInnerType::Cont(_) =>
+            false,
+    }
+}
+
+/// Of each declared type, whether it is a struct type of which each field has a default.
+///
+/// Each type is gone over once, however many expressions name it.
+pub fn struct_defaults(alloc: Global, lists: &Lists<'_, '_>) -> Result<Vec<bool>, AllocError>
+    ensures { IfOk result (λ defaults. defaults.items ≡ defaults_of_types (lists_of lists.now)) }
+{
+    let mut defaults = Vec::new(alloc);
+    for declared in &lists.types {
+        defaults.push(kind_has_defaults(&declared.ty.composite))?;
+    }
+    Ok(defaults)
+}

@@ -1,0 +1,356 @@
+//! The constant expressions of a module, each of the class of its place.
+
+ghost use Rattle.std.specs.Prelude.{◌≡◌, ◌↔◌, ◌+◌, ◌≤◌, take, length, map, All, IsTrue, IfOk};
+ghost use Rattle.std.specs.List.{flat_map};
+ghost use Rattle.wasm_spec.specs.Module.{segments, tables_of_section, globals_of_section, elements_of_section};
+ghost use Rattle.form_data.specs.Views.{table_of, global_of, element_of, element_kind_of, items_of, expression_of, segment_of, data_kind_of, module_of};
+ghost use Rattle.rule_spec.specs.declared.classes.Class.TheVariants as class;
+ghost use Rattle.rule_spec.specs.Typing.{HasClass};
+ghost use Rattle.rule_spec.specs.Expressions.{address_class, HasTypedInitialiser, AreGlobalsTyped, HasTableOffset, HasTypedItems, IsElementTyped, HasMemoryOffset, AreExpressionsTyped};
+ghost use Rattle.form_lists.specs.Views.{lists_of};
+ghost use Rattle.form_typing.specs.Defaults.{defaults as defaults_of_types};
+
+use crate::classes::{class_of, struct_defaults};
+use crate::typing::is_typed;
+use form_data::{
+    ConstExpr, DataKind, DataSegment, Element, ElementItems, ElementKind, GlobalDef, TableDef,
+};
+use form_lists::{Lists, elements_of, globals_of, segments_of, tables_of};
+use rule_spec::Class;
+use std::alloc::{AllocError, Global};
+use wasm_spec::GlobalType;
+
+/// Whether each constant expression has the class of its place.
+pub fn expressions_hold(alloc: Global, lists: &Lists<'_, '_>) -> Result<bool, AllocError>
+    requires counted { lists.now.imported_globals + length (flat_map globals_of_section (module_of lists.now.form.now))
+        ≤ length lists.now.spaces.global_types.items }
+    ensures { IfOk result (λ hold. IsTrue hold ↔ AreExpressionsTyped (lists_of lists.now)) }
+{
+    let defaults = struct_defaults(alloc, lists)?;
+    let mut stack = Vec::new(alloc);
+    if !tables_hold(lists, &defaults, &mut stack)? {
+        return Ok(false);
+    }
+    if !globals_hold(lists, &defaults, &mut stack)? {
+        return Ok(false);
+    }
+    if !elements_hold(lists, &defaults, &mut stack)? {
+        return Ok(false);
+    }
+    segments_hold(lists, &defaults, &mut stack)
+}
+
+/// The globals of lower index.
+fn globals_below<'a>(lists: &'a Lists<'_, '_>, index: usize) -> &'a [GlobalType]
+    requires { index ≤ length lists.now.spaces.global_types.items }
+    ensures { result.now ≡ take index lists.now.spaces.global_types.items }
+{
+    lists.spaces.global_types.split_at(index).0
+}
+
+fn all_globals<'a>(lists: &'a Lists<'_, '_>) -> &'a [GlobalType]
+    ensures { result.now ≡ lists.now.spaces.global_types.items }
+{
+    &lists.spaces.global_types
+}
+
+/// The class of indices and addresses of 64 bits or of 32.
+fn address_class(is_wide: bool) -> Class
+    ensures { result ≡ address_class is_wide }
+{
+    if is_wide { Class::I64 } else { Class::I32 }
+}
+
+// ---- tables
+
+fn tables_hold(
+    lists: &Lists<'_, '_>,
+    defaults: &[bool],
+    stack: &mut Vec<Class>,
+) -> Result<bool, AllocError>
+    requires noted { defaults.now ≡ defaults_of_types (lists_of lists.now) }
+    requires imported { lists.now.imported_globals ≤ length lists.now.spaces.global_types.items }
+    ensures { IfOk result (λ hold. IsTrue hold
+        ↔ All (HasTypedInitialiser (lists_of lists.now)) (flat_map tables_of_section (module_of lists.now.form.now))) }
+{
+    for payload in &lists.form.payloads {
+        if !all_tables_hold(lists, defaults, tables_of(payload), stack)? {
+            return Ok(false);
+        }
+    }
+    Ok(true)
+}
+
+fn all_tables_hold(
+    lists: &Lists<'_, '_>,
+    defaults: &[bool],
+    tables: &[TableDef],
+    stack: &mut Vec<Class>,
+) -> Result<bool, AllocError>
+    requires noted { defaults.now ≡ defaults_of_types (lists_of lists.now) }
+    requires imported { lists.now.imported_globals ≤ length lists.now.spaces.global_types.items }
+    ensures { IfOk result (λ hold. IsTrue hold ↔ All (HasTypedInitialiser (lists_of lists.now)) (map table_of tables.now)) }
+{
+    for table in tables {
+        if !table_holds(lists, defaults, table, stack)? {
+            return Ok(false);
+        }
+    }
+    Ok(true)
+}
+
+/// The initialiser of a table sees the imported globals.
+fn table_holds(
+    lists: &Lists<'_, '_>,
+    defaults: &[bool],
+    table: &TableDef,
+    stack: &mut Vec<Class>,
+) -> Result<bool, AllocError>
+    requires noted { defaults.now ≡ defaults_of_types (lists_of lists.now) }
+    requires imported { lists.now.imported_globals ≤ length lists.now.spaces.global_types.items }
+    ensures { IfOk result (λ holds. IsTrue holds ↔ HasTypedInitialiser (lists_of lists.now) (table_of table.now)) }
+{
+    match &table.init {
+        Some(init) => {
+            let visible = globals_below(lists, lists.imported_globals);
+            is_typed(lists, defaults, visible, init, Class::Ref, stack)
+        }
+        None => Ok(true),
+    }
+}
+
+// ---- element segments
+
+fn elements_hold(
+    lists: &Lists<'_, '_>,
+    defaults: &[bool],
+    stack: &mut Vec<Class>,
+) -> Result<bool, AllocError>
+    requires noted { defaults.now ≡ defaults_of_types (lists_of lists.now) }
+    ensures { IfOk result (λ hold. IsTrue hold
+        ↔ All (IsElementTyped (lists_of lists.now)) (flat_map elements_of_section (module_of lists.now.form.now))) }
+{
+    for payload in &lists.form.payloads {
+        if !all_elements_hold(lists, defaults, elements_of(payload), stack)? {
+            return Ok(false);
+        }
+    }
+    Ok(true)
+}
+
+fn all_elements_hold(
+    lists: &Lists<'_, '_>,
+    defaults: &[bool],
+    elements: &[Element],
+    stack: &mut Vec<Class>,
+) -> Result<bool, AllocError>
+    requires noted { defaults.now ≡ defaults_of_types (lists_of lists.now) }
+    ensures { IfOk result (λ hold. IsTrue hold ↔ All (IsElementTyped (lists_of lists.now)) (map element_of elements.now)) }
+{
+    for element in elements {
+        if !element_holds(lists, defaults, element, stack)? {
+            return Ok(false);
+        }
+    }
+    Ok(true)
+}
+
+fn element_holds(
+    lists: &Lists<'_, '_>,
+    defaults: &[bool],
+    element: &Element,
+    stack: &mut Vec<Class>,
+) -> Result<bool, AllocError>
+    requires noted { defaults.now ≡ defaults_of_types (lists_of lists.now) }
+    ensures { IfOk result (λ holds. IsTrue holds ↔ IsElementTyped (lists_of lists.now) (element_of element.now)) }
+{
+    if !table_offset_holds(lists, defaults, &element.kind, stack)? {
+        return Ok(false);
+    }
+    items_hold(lists, defaults, &element.items, stack)
+}
+
+/// An offset has the class of the table's indices, where there is such a table.
+fn table_offset_holds(
+    lists: &Lists<'_, '_>,
+    defaults: &[bool],
+    kind: &ElementKind,
+    stack: &mut Vec<Class>,
+) -> Result<bool, AllocError>
+    requires noted { defaults.now ≡ defaults_of_types (lists_of lists.now) }
+    ensures { IfOk result (λ holds. IsTrue holds ↔ HasTableOffset (lists_of lists.now) (element_kind_of kind.now)) }
+{
+    match kind {
+        ElementKind::Passive | ElementKind::Declared => Ok(true),
+        ElementKind::Active {
+            table_index,
+            offset,
+        } => match lists
+            .spaces
+            .table_types
+            .get(table_index.unwrap_or(0) as usize)
+        {
+            Some(table) => {
+                let class = address_class(table.table64);
+                is_typed(lists, defaults, all_globals(lists), offset, class, stack)
+            }
+            None => Ok(true),
+        },
+    }
+}
+
+fn items_hold(
+    lists: &Lists<'_, '_>,
+    defaults: &[bool],
+    items: &ElementItems,
+    stack: &mut Vec<Class>,
+) -> Result<bool, AllocError>
+    requires noted { defaults.now ≡ defaults_of_types (lists_of lists.now) }
+    ensures { IfOk result (λ hold. IsTrue hold ↔ HasTypedItems (lists_of lists.now) (items_of items.now)) }
+{
+    match items {
+        ElementItems::Functions(_) => Ok(true),
+        ElementItems::Expressions(_, list) => all_items_hold(lists, defaults, list, stack),
+    }
+}
+
+fn all_items_hold(
+    lists: &Lists<'_, '_>,
+    defaults: &[bool],
+    items: &[ConstExpr],
+    stack: &mut Vec<Class>,
+) -> Result<bool, AllocError>
+    requires noted { defaults.now ≡ defaults_of_types (lists_of lists.now) }
+    ensures { IfOk result (λ hold. IsTrue hold
+        ↔ All (λ e. HasClass (lists_of lists.now) lists.now.spaces.global_types.items e class.Ref) (map expression_of items.now)) }
+{
+    for item in items {
+        if !item_holds(lists, defaults, item, stack)? {
+            return Ok(false);
+        }
+    }
+    Ok(true)
+}
+
+fn item_holds(
+    lists: &Lists<'_, '_>,
+    defaults: &[bool],
+    item: &ConstExpr,
+    stack: &mut Vec<Class>,
+) -> Result<bool, AllocError>
+    requires noted { defaults.now ≡ defaults_of_types (lists_of lists.now) }
+    ensures { IfOk result (λ holds. IsTrue holds
+        ↔ HasClass (lists_of lists.now) lists.now.spaces.global_types.items (expression_of item.now) class.Ref) }
+{
+    is_typed(lists, defaults, all_globals(lists), item, Class::Ref, stack)
+}
+
+// ---- data segments
+
+fn segments_hold(
+    lists: &Lists<'_, '_>,
+    defaults: &[bool],
+    stack: &mut Vec<Class>,
+) -> Result<bool, AllocError>
+    requires noted { defaults.now ≡ defaults_of_types (lists_of lists.now) }
+    ensures { IfOk result (λ hold. IsTrue hold
+        ↔ All (λ s. HasMemoryOffset (lists_of lists.now) s.kind) (segments (module_of lists.now.form.now))) }
+{
+    for payload in &lists.form.payloads {
+        if !all_segments_hold(lists, defaults, segments_of(payload), stack)? {
+            return Ok(false);
+        }
+    }
+    Ok(true)
+}
+
+fn all_segments_hold(
+    lists: &Lists<'_, '_>,
+    defaults: &[bool],
+    segments: &[DataSegment<'_>],
+    stack: &mut Vec<Class>,
+) -> Result<bool, AllocError>
+    requires noted { defaults.now ≡ defaults_of_types (lists_of lists.now) }
+    ensures { IfOk result (λ hold. IsTrue hold
+        ↔ All (λ s. HasMemoryOffset (lists_of lists.now) s.kind) (map segment_of segments.now)) }
+{
+    for segment in segments {
+        if !memory_offset_holds(lists, defaults, &segment.kind, stack)? {
+            return Ok(false);
+        }
+    }
+    Ok(true)
+}
+
+/// An offset has the class of the memory's addresses, where there is such a memory.
+fn memory_offset_holds(
+    lists: &Lists<'_, '_>,
+    defaults: &[bool],
+    kind: &DataKind,
+    stack: &mut Vec<Class>,
+) -> Result<bool, AllocError>
+    requires noted { defaults.now ≡ defaults_of_types (lists_of lists.now) }
+    ensures { IfOk result (λ holds. IsTrue holds ↔ HasMemoryOffset (lists_of lists.now) (data_kind_of kind.now)) }
+{
+    match kind {
+        DataKind::Passive => Ok(true),
+        DataKind::Active {
+            memory_index,
+            offset,
+        } => match lists.spaces.memories.get(*memory_index as usize) {
+            Some(memory) => {
+                let class = address_class(memory.memory64);
+                is_typed(lists, defaults, all_globals(lists), offset, class, stack)
+            }
+            None => Ok(true),
+        },
+    }
+}
+
+// ---- globals
+
+fn globals_hold(
+    lists: &Lists<'_, '_>,
+    defaults: &[bool],
+    stack: &mut Vec<Class>,
+) -> Result<bool, AllocError>
+    requires noted { defaults.now ≡ defaults_of_types (lists_of lists.now) }
+    requires counted { lists.now.imported_globals + length (flat_map globals_of_section (module_of lists.now.form.now))
+        ≤ length lists.now.spaces.global_types.items }
+    ensures { IfOk result (λ hold. IsTrue hold
+        ↔ AreGlobalsTyped (lists_of lists.now) lists.now.imported_globals (flat_map globals_of_section (module_of lists.now.form.now))) }
+{
+    let mut index = lists.imported_globals;
+    for payload in &lists.form.payloads {
+        let globals = globals_of(payload);
+        if !all_globals_hold(lists, defaults, index, globals, stack)? {
+            return Ok(false);
+        }
+        index += globals.len();
+    }
+    Ok(true)
+}
+
+/// The initialiser of a global sees the globals of lower index; the first of these has that index.
+fn all_globals_hold(
+    lists: &Lists<'_, '_>,
+    defaults: &[bool],
+    first: usize,
+    globals: &[GlobalDef],
+    stack: &mut Vec<Class>,
+) -> Result<bool, AllocError>
+    requires noted { defaults.now ≡ defaults_of_types (lists_of lists.now) }
+    requires counted { first + length globals.now ≤ length lists.now.spaces.global_types.items }
+    ensures { IfOk result (λ hold. IsTrue hold ↔ AreGlobalsTyped (lists_of lists.now) first (map global_of globals.now)) }
+{
+    let mut index = first;
+    for global in globals {
+        let class = class_of(&global.ty.content_type);
+        let visible = globals_below(lists, index);
+        if !is_typed(lists, defaults, visible, &global.init, class, stack)? {
+            return Ok(false);
+        }
+        index += 1;
+    }
+    Ok(true)
+}

@@ -1,0 +1,48 @@
+//! Whether an expression has a class.
+
+ghost use Rattle.std.specs.Prelude.{◌≡◌, ◌↔◌, ◌∷◌, [], IsTrue, IfOk};
+ghost use Rattle.form_data.specs.Views.{expression_of};
+ghost use Rattle.rule_spec.specs.Typing.{HasClass};
+ghost use Rattle.form_lists.specs.Views.{lists_of};
+ghost use Rattle.form_typing.specs.Defaults.{defaults as defaults_of_types};
+
+use crate::operators::take_operands;
+use form_data::ConstExpr;
+use form_lists::Lists;
+use rule_spec::Class;
+use std::alloc::AllocError;
+use wasm_spec::GlobalType;
+
+/// Whether the expression leads from the empty stack to one value of the class, where these globals are visible.
+///
+/// `defaults` are the types' `struct_defaults`. What `stack` holds does not count: it is given so that all expressions share one list.
+pub fn is_typed(
+    lists: &Lists<'_, '_>,
+    defaults: &[bool],
+    visible: &[GlobalType],
+    expression: &ConstExpr,
+    class: Class,
+    stack: &mut Vec<Class>,
+) -> Result<bool, AllocError>
+    requires { defaults.now ≡ defaults_of_types (lists_of lists.now) }
+    ensures { IfOk result (λ typed. IsTrue typed ↔ HasClass (lists_of lists.now) visible.now (expression_of expression.now) class) }
+{
+    stack.clear();
+    for op in &expression.ops {
+        match take_operands(lists, defaults, visible, op, stack) {
+            Some(pushed) => stack.push(pushed)?,
+            None => return Ok(false),
+        }
+    }
+    Ok(is_alone(stack, class))
+}
+
+/// Whether the stack holds one value, of this class.
+fn is_alone(stack: &[Class], class: Class) -> bool
+    ensures { IsTrue result ↔ (stack.now ≡ class ∷ []) }
+{
+    match stack {
+        [value] => *value == class,
+        _ => false,
+    }
+}

@@ -1,0 +1,79 @@
+-- The listed rules, each a statement over the lists of a module.
+use Rattle.std.specs.Prelude.{◌≡◌, ◌≢◌, ℕ, ◌+◌, ◌<◌, ◌≤◌, List, length, sum_by, All, AllPairs, false, IsSome}
+use Rattle.wasm_spec.specs.declared.types.ValType.{ValType}
+use Rattle.rule_spec.specs.declared.rules.Rule.{Rule}
+use Rattle.rule_spec.specs.declared.rules.Rule.TheVariants as rule
+use Rattle.wasm_spec.specs.Module.{Module, Export, TableDef, Body, Segment}
+use Rattle.rule_spec.specs.Lists.{Lists, lists_of_module}
+use Rattle.rule_spec.specs.TypeRules.{IsDeclaredWell, NamesFunctionType}
+use Rattle.rule_spec.specs.Limits.{HasLimits, IsOrdered}
+use Rattle.rule_spec.specs.Indices.{IsInSpace, CanStart, NamesMemory, IsElementInRange}
+use Rattle.rule_spec.specs.References.{AllReferIn}
+use Rattle.rule_spec.specs.Expressions.{AreExpressionsTyped}
+
+pub record TypesAreNamed (l : Lists) : Type 0 where
+  pub functions : All (NamesFunctionType l) l.functions
+  pub tags : All (NamesFunctionType l) l.tags
+
+-- how many locals a body has
+abbrev pub locals : Body → ℕ
+locals b = sum_by (λ (run : ℕ × ValType). run.0) b.locals
+
+pub record CountsAgree (l : Lists) : Type 0 where
+  pub bodies : length l.functions ≡ l.imported_functions + length l.bodies
+  pub data_segments : All (λ count. count ≡ length l.segments) l.data_counts
+  pub locals : All (λ b. locals b ≤ 4294967295) l.bodies
+
+pub record HaveLimits (l : Lists) : Type 0 where
+  pub tables : All IsOrdered l.table_types
+  pub memories : All HasLimits l.memories
+
+-- a table whose cells cannot be null says what they hold at first
+abbrev pub IsInitialised : TableDef → Type 0
+IsInitialised t = (t.type.element_type.nullable ≡ false) → IsSome t.init
+
+-- no two exports have one name
+abbrev pub AreDistinct : List Export → Type 0
+AreDistinct es = AllPairs (λ (a b : Export). a.name ≢ b.name) es
+
+pub record AreExported (l : Lists) : Type 0 where
+  pub in_space : All (IsInSpace l) l.exports
+  pub distinct : AreDistinct l.exports
+
+pub record AreInRange (l : Lists) : Type 0 where
+  pub elements : All (IsElementInRange l) l.elements
+  pub segments : All (λ (s : Segment). NamesMemory l s.kind) l.segments
+
+-- a rule is kept
+abbrev pub Kept : Rule → Lists → Type 0
+Kept rule.L1 l = All (IsDeclaredWell l) l.types
+Kept rule.L2 l = TypesAreNamed l
+Kept rule.L3 l = CountsAgree l
+Kept rule.L4 l = HaveLimits l
+Kept rule.L5 l = All IsInitialised l.tables
+Kept rule.L6 l = AreExpressionsTyped l
+Kept rule.L7 l = AreExported l
+Kept rule.L8 l = All (CanStart l) l.starts
+Kept rule.L9 l = AreInRange l
+Kept rule.L10 l = AllReferIn (length l.types) l
+
+-- the module keeps all listed rules
+abbrev pub Keeps : Module → Type 0
+Keeps m = (r : Rule) → Kept r (lists_of_module m)
+
+-- the number of a rule, in the order of which rules are asked
+abbrev pub number_of : Rule → ℕ
+number_of rule.L1 = 1
+number_of rule.L2 = 2
+number_of rule.L3 = 3
+number_of rule.L4 = 4
+number_of rule.L5 = 5
+number_of rule.L6 = 6
+number_of rule.L7 = 7
+number_of rule.L8 = 8
+number_of rule.L9 = 9
+number_of rule.L10 = 10
+
+-- the module keeps each rule of a lower number
+abbrev pub KeepsBefore : Rule → Module → Type 0
+KeepsBefore r m = (lower : Rule) → number_of lower < number_of r → Kept lower (lists_of_module m)

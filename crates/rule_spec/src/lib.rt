@@ -1,0 +1,10 @@
+//! The words in which the listed rules of a module are stated.
+//!
+//! The definitions stand in `specs/`; here are the plain types that code and definitions share.
+#![tactic(auto)]
+
+mod classes;
+mod rules;
+
+pub use classes::Class;
+pub use rules::Rule;

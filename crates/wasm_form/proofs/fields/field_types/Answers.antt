@@ -1,6 +1,0 @@
-use Rattle.wasm_form.specs.ReadingTypes.{field_type_at}
-use Rattle.wasm_form.proofs.CountedGives.{plain_vector_gives}
-use Rattle.wasm_form.proofs.fields.field_types.Goals as goal
-
-pub returns : goal.returns
-returns c = plain_vector_gives field_type_at _ (λ at one h. h.1) c.args.bytes.now c.vector.result c.vector.ensures
