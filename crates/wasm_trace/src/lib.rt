@@ -7,6 +7,7 @@ mod cont;
 mod entity;
 mod field;
 mod func;
+mod index;
 mod laws;
 mod lists;
 #[cfg(test)]
@@ -16,5 +17,6 @@ mod value;
 mod worked;
 
 pub use laws::{compared_forms_law, run_laws, run_mut_laws, unchanged_law};
+pub use lists::{trace_all, trace_all_mut};
 pub use trace::TypeTrace;
 pub use worked::{worked_canonical_forms, worked_edges};
