@@ -6,6 +6,8 @@ mod large;
 mod linked;
 mod operators;
 mod rows;
+mod rule_rows;
+mod rules;
 mod types;
 
 use crate::{DataKind, MemoryType, Operator, Payload, ReadError, What, read_module};
