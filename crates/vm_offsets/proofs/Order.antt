@@ -1,15 +1,14 @@
 -- Entries stand in order, and regions add up.
-use Rattle.std.proofs.Common.{◌≡◌, ℕ, ◌+◌, ◌-◌, ◌*◌, ◌<◌, ◌≤◌, List, [], ◌∷◌, ◌++◌, reverse, length, arith, refl, ap, sym, ◌∙◌}
-use Rattle.std.specs.Prelude.{⊤, All, AllPairs, sum_by}
+use Rattle.std.proofs.Common.{ℕ, ◌+◌, ◌*◌, ◌≤◌, List, [], ◌∷◌, arith}
+use Rattle.std.specs.Prelude.{All, AllPairs}
 use Rattle.std.specs.Int.{next_multiple_of}
 use Rattle.std.proofs.lemmas.List.Elements.{All-cons}
 use Rattle.std.proofs.lemmas.List.Kept.{AllPairs-cons}
-use Rattle.std.proofs.lemmas.List.Sums.{sum_by-cons}
 use Rattle.vm_structs.specs.Fields.{end_of}
 use Rattle.vm_structs.specs.Structs.{static_context}
 use Rattle.vm_offsets.specs.declared.fields.VMOffsetsFields.{VMOffsetsFields}
 use Rattle.vm_offsets.specs.Context.{Row, align, entry, Placed, entry_end, placed_from, end_from, context_table, context_entries, context_size}
-use Rattle.vm_offsets.specs.Regions.{regions_back, static_part, context_regions}
+use Rattle.vm_offsets.specs.Regions.{static_part}
 use Rattle.vm_offsets.proofs.Placing.{end_from-grows}
 
 -- no entry begins before a byte or before the one before it, and none after the end

@@ -1,5 +1,5 @@
 -- Rows are placed one by one, and never before the start.
-use Rattle.std.proofs.Common.{◌≡◌, ℕ, suc, ◌+◌, ◌*◌, ◌<◌, ◌≤◌, List, [], ◌∷◌, ◌++◌, length, map, take, drop, get_or, slice_set, Option, None, Some, refl, sym, ap, ◌∙◌, append_assoc, append-nil, add-one, drop-cons, arith}
+use Rattle.std.proofs.Common.{◌≡◌, ℕ, ◌+◌, ◌*◌, ◌<◌, ◌≤◌, List, [], ◌∷◌, ◌++◌, length, map, take, drop, get_or, slice_set, None, Some, refl, sym, ap, ◌∙◌, append_assoc, append-nil, add-one, drop-cons, arith}
 use Rattle.std.proofs.lemmas.List.{map-append, take_more_set, take_all, drop_all}
 use Rattle.std.specs.Int.{next_multiple_of}
 use Rattle.vm_structs.specs.Fields.{end_of}
@@ -7,7 +7,7 @@ use Rattle.vm_structs.specs.Structs.{static_context}
 use Rattle.vm_offsets.specs.declared.fields.VMOffsetsFields.{VMOffsetsFields}
 use Rattle.vm_offsets.specs.declared.table.Entry.{Entry}
 use Rattle.vm_offsets.specs.declared.row.Row.{Row as KeptRow}
-use Rattle.vm_offsets.specs.Context.{Row, align, entry, Placed, placed_from, end_from, context_table, context_entries, context_size}
+use Rattle.vm_offsets.specs.Context.{Row, align, entry, placed_from, end_from, context_table, context_entries, context_size}
 use Rattle.vm_offsets.specs.Entries.{rows_of, after_step, kept_extent, placed_extent, without_texts}
 use Rattle.vm_offsets.specs.Steps.{begin_at}
 

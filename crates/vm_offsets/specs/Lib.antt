@@ -1,6 +1,7 @@
 pub mod Arrays
 pub mod Context
 pub mod Entries
+pub mod Modules
 pub mod Regions
 pub mod Steps
 pub mod Examples

@@ -13,6 +13,7 @@ use wasm_index::{
     DefinedGlobalIndex, DefinedMemoryIndex, DefinedTableIndex, DefinedTagIndex, FuncIndex,
     GlobalIndex, MemoryIndex, OwnedMemoryIndex, RuntimeDataIndex, TableIndex, TagIndex,
 };
+use wasm_module::FuncRefIndex;
 
 // The places of the entries in the table.
 pub(crate) const IMPORTED_MEMORIES: usize = 0;
@@ -137,7 +138,7 @@ impl<P: PtrSize> VMOffsets<P> {
     }
 
     /// The references to the functions that escape.
-    pub fn func_refs(&self) -> ArrayOffsets<FuncIndex>
+    pub fn func_refs(&self) -> ArrayOffsets<FuncRefIndex>
         ensures array { result ≡ entry_array (entry_named (codes "module functions") (entries_of self.now)) }
         ensures aligned { begin_of result % pointer_of self.now ≡ 0 }
     {

@@ -6,6 +6,7 @@ mod arrays;
 mod counts;
 mod fields;
 mod laws;
+mod module;
 mod offsets;
 mod overflow;
 mod part;
@@ -24,4 +25,8 @@ pub use offsets::VMOffsets;
 pub use overflow::OffsetOverflow;
 pub use pointer::GetPtrSize;
 pub use regions::RegionSizes;
+pub use vm_structs::{
+    NUM_COMPONENT_CONTEXT_SLOTS, VM_ARRAY_CALL_HOST_FUNC_MAGIC, VM_LAZY_THREAD_FORCED,
+    VMCONTEXT_MAGIC,
+};
 pub use worked::{worked_empty_module, worked_programs, worked_table};

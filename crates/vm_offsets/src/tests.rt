@@ -10,7 +10,9 @@ use std::alloc::Global;
 use std::process::Abort;
 use std::test::Fail;
 use vm_structs::{HostPtr, PtrSize};
-use wasm_index::{DefinedMemoryIndex, ModuleInternedTypeIndex};
+use wasm_index::{DefinedMemoryIndex, ModuleInternedTypeIndex, StaticModuleIndex};
+use wasm_module::{Module, ModuleStartup};
+use wasm_types::{IndexType, Limits, Memory};
 
 const EMPTY: VMOffsetsFields<u8> = VMOffsetsFields {
     ptr: 8,
@@ -219,4 +221,35 @@ fn elements_are_a_stride_apart(rt: HostRuntime) {
     let array: ArrayOffsets<DefinedMemoryIndex> = ArrayOffsets::new(120, 8, 3);
     assert_eq!(rt; array.at(DefinedMemoryIndex::new(2)), 136);
     assert_eq!(rt; ModuleInternedTypeIndex::new(5).vmctx_array_index(), 5);
+}
+
+fn page(shared: bool) -> Memory {
+    Memory {
+        idx_type: IndexType::I32,
+        limits: Limits {
+            min: 1,
+            max: Some(1),
+        },
+        shared,
+        page_size_log2: 16,
+    }
+}
+
+#[test]
+fn shared_memory_is_not_owned(rt: HostRuntime) -> Result<(), Fail> {
+    let mut module = Module::new(rt.alloc(), StaticModuleIndex::new(0))?;
+    module.memories.push(page(false))?;
+    module.memories.push(page(true))?;
+    module.runtime_data.push(0..3)?;
+    let offsets = VMOffsets::new(8u8, &module).expect(&rt, "the context fits");
+    assert_eq!(rt; offsets.num_defined_memories(), 2);
+    assert_eq!(rt; offsets.num_owned_memories(), 1);
+    assert_eq!(rt; offsets.num_runtime_data(), 1);
+    assert!(rt; !offsets.has_startup_func());
+    assert_eq!(rt; offsets.size_of_vmctx(), 92);
+    module.startup = ModuleStartup::Always(ModuleInternedTypeIndex::new(0).into());
+    let offsets = VMOffsets::new(4u8, &module).expect(&rt, "the context fits");
+    assert!(rt; offsets.has_startup_func());
+    assert_eq!(rt; offsets.size_of_vmctx(), 72);
+    Ok(())
 }

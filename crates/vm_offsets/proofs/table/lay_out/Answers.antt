@@ -1,9 +1,4 @@
 -- What is placed is the context.
-use Rattle.std.proofs.Common.{◌≡◌, ℕ}
-use Rattle.vm_structs.specs.Fields.{end_of}
-use Rattle.vm_structs.specs.Structs.{static_context}
-use Rattle.vm_offsets.specs.Context.{end_from, context_size}
-use Rattle.vm_offsets.specs.Entries.{rows_of}
 use Rattle.vm_offsets.proofs.Placing.{laid-entries, laid-size}
 use Rattle.vm_offsets.proofs.table.lay_out.Goals as goal
 

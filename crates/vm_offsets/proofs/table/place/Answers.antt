@@ -1,7 +1,7 @@
 -- One more row is placed.
-use Rattle.std.proofs.Common.{◌≡◌, ◌<◌, ◌≤◌, ◌+◌, ◌*◌, ◌++◌, List, [], ℕ, length, map, take, drop, arith, rules, take_all, append-nil}
-use Rattle.vm_offsets.specs.Context.{end_from, placed_from}
-use Rattle.vm_offsets.specs.Entries.{rows_of, kept_extent, placed_extent}
+use Rattle.std.proofs.Common.{◌≡◌, ◌+◌, ◌*◌, ℕ, drop, arith, rules}
+use Rattle.vm_offsets.specs.Context.{end_from}
+use Rattle.vm_offsets.specs.Entries.{rows_of}
 use Rattle.vm_offsets.proofs.Placing.{end_from-grows, end_from-step, placed_from-step, all_placed}
 use Rattle.vm_offsets.proofs.table.place.Goals as goal
 

@@ -1,5 +1,5 @@
 -- The entry at a place is the context's.
-use Rattle.std.proofs.Common.{◌≡◌, ℕ, ap}
+use Rattle.std.proofs.Common.{ap}
 use Rattle.vm_offsets.proofs.Kept.{kept_at}
 use Rattle.vm_offsets.proofs.offsets.VMOffsets.entry.Goals as goal
 
