@@ -7,6 +7,7 @@ use Rattle.wasm_module.specs.declared.function.FunctionType.{FunctionType}
 use Rattle.wasm_module.specs.declared.startup.ModuleStartup.{ModuleStartup}
 use Rattle.wasm_module.specs.declared.startup.ModuleStartup.TheVariants as startup
 use Rattle.wasm_module.specs.declared.module.Module.{Module}
+use Rattle.wasm_module.specs.Record.{ModuleRecord, record_of}
 
 -- of a function: its signature
 abbrev pub function_edges : FunctionType → List EngineOrModuleTypeIndex
@@ -27,10 +28,13 @@ startup_frame (startup.Always ty) = startup.Always no_edge
 startup_frame (startup.IfMemoriesNeedInit ty) = startup.IfMemoriesNeedInit no_edge
 
 -- of a module: its types, functions, tables, globals, tags and startup. The types of passive elements are not among them
-abbrev pub module_edges : Module → List EngineOrModuleTypeIndex
-module_edges m =
+abbrev pub record_edges : ModuleRecord → List EngineOrModuleTypeIndex
+record_edges m =
     flat_map edge_edges m.types ++ (flat_map function_edges m.functions ++ (flat_map table_edges m.tables
     ++ (flat_map global_edges m.globals ++ (flat_map tag_edges m.tags ++ startup_edges m.startup))))
+
+abbrev pub module_edges : Module → List EngineOrModuleTypeIndex
+module_edges m = record_edges (record_of m)
 
 abbrev pub module_frame : Module → Module
 module_frame m = record m {
