@@ -1,4 +1,4 @@
--- The elements of element segments (core specification, 2.5.7).
+-- The elements of element segments (core specification, 2.5, element segments).
 use Rattle.std.specs.Prelude.{ℕ, true, length}
 use Rattle.wasm_types.specs.declared.heap.WasmHeapType.TheVariants.{Func}
 use Rattle.wasm_types.specs.declared.value.WasmRefType.{WasmRefType}

@@ -1,4 +1,4 @@
--- The index spaces of functions, tables, memories, globals and tags (core specification, 2.5.1): in each the imported entities stand first, and
+-- The index spaces of functions, tables, memories, globals and tags (core specification, 2.5, indices): in each the imported entities stand first, and
 -- the defined ones follow.
 use Rattle.std.specs.Prelude.{◌≡◌, ℕ, ◌+◌, ◌-◌, ◌<◌, nat_lt, List, map, Option, Some, None, if◌then◌else◌}
 use Rattle.std.specs.List.{range_with_len}

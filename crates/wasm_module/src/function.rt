@@ -13,7 +13,7 @@ pub enum FuncRefSpace {}
 /// An index into [`FuncRefSpace`].
 pub type FuncRefIndex = Index<FuncRefSpace>;
 
-/// A function (core specification, 2.5.3).
+/// A function (core specification, 2.5, functions).
 #[derive(Drop)]
 pub struct FunctionType {
     /// The index of its type.

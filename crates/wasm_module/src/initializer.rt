@@ -6,7 +6,7 @@ use wasm_types::EntityIndex;
 /// A step of instantiation.
 #[derive(Drop)]
 pub enum Initializer {
-    /// An import (core specification, 2.5.12).
+    /// An import (core specification, 2.5, imports).
     Import {
         /// The name of the module from which it comes.
         name: Atom,

@@ -12,7 +12,10 @@ mod memory_initialization;
 mod module;
 mod startup;
 mod table_initialization;
+#[cfg(test)]
+mod tests;
 mod trace;
+mod worked;
 
 pub use defined::DefinedFuncIndices;
 pub use function::{FuncRefIndex, FuncRefSpace, FunctionType};
@@ -25,3 +28,4 @@ pub use startup::ModuleStartup;
 pub use table_initialization::{
     TableInitialValue, TableInitialization, TableSegment, TableSegmentElements,
 };
+pub use worked::{worked_edges, worked_imports, worked_owned_memories, worked_spaces};

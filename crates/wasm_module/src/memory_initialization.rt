@@ -37,7 +37,7 @@ impl Default for MemoryInitialization {
     }
 }
 
-/// An active data segment (core specification, 2.5.8).
+/// An active data segment (core specification, 2.5, data segments).
 #[derive(Drop)]
 pub struct MemoryInitializer<'a> {
     pub memory_index: MemoryIndex,

@@ -26,7 +26,7 @@ pub enum TableInitialValue {
     Expr(ConstExpr),
 }
 
-/// An active element segment (core specification, 2.5.7).
+/// An active element segment (core specification, 2.5, element segments).
 #[derive(Drop)]
 pub struct TableSegment {
     pub table_index: TableIndex,
