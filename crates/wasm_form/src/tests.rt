@@ -2,6 +2,7 @@
 
 mod counts;
 mod elements;
+mod expression_rows;
 mod large;
 mod linked;
 mod operators;

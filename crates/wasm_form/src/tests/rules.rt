@@ -1,10 +1,9 @@
 //! The listed rules, through bytes: each on both sides of its edge.
 
+use crate::tests::expression_rows::EXPRESSIONS;
 use crate::tests::linked::LINKED;
 use crate::tests::module;
-use crate::tests::rule_rows::{
-    COUNTS, EXPORTS, EXPRESSIONS, INDICES, LIMITS, REFERENCES, Row, TYPES,
-};
+use crate::tests::rule_rows::{COUNTS, EXPORTS, INDICES, LIMITS, REFERENCES, Row, TYPES};
 use crate::{CheckError, Rule, check, read_module};
 use std::alloc::Global;
 use std::test::Fail;
