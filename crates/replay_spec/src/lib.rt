@@ -5,4 +5,6 @@
 
 mod worked;
 
-pub use worked::{worked_phases, worked_ranges, worked_values};
+pub use worked::{
+    worked_constants, worked_phases, worked_ranges, worked_references, worked_values,
+};
