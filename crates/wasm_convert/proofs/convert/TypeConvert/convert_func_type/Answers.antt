@@ -1,4 +1,4 @@
-use Rattle.std.proofs.Common.{rules, ◌≡◌, ◌∙◌, ◌≤◌, ◌+◌, ◌++◌, All, map, length, take, arith, ap, sym, refl}
+use Rattle.std.proofs.Common.{rules, ◌≡◌, ◌∙◌, ◌≤◌, ◌++◌, All, map, length, arith, ap}
 use Rattle.std.specs.List.{flat_map}
 use Rattle.std.proofs.lemmas.List.{take_all}
 use Rattle.wasm_spec.specs.TypeData.{value_edges, map_value}
@@ -7,7 +7,7 @@ use Rattle.wasm_types.specs.Parts.{split_types}
 use Rattle.wasm_types.specs.ValueViews as made
 use Rattle.wasm_convert.specs.Known.{CanLookUp}
 use Rattle.wasm_convert.proofs.Parts.{all-first, all-second, all-parts}
-use Rattle.wasm_convert.proofs.Split.{parts-length, first-part, second-part}
+use Rattle.wasm_convert.proofs.Split.{first-part, second-part}
 use Rattle.wasm_convert.proofs.convert.TypeConvert.convert_func_type.Goals as goal
 
 pub convert_valtype-requires : goal.convert_valtype-requires
