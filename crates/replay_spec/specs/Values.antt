@@ -93,8 +93,8 @@ allocates operator n = record { takes = n; makes = λ taken. Some (Ref (Allocate
 
 -- what each operator does, over the values of the globals and how many fields each struct type has
 abbrev pub action : List Value → (ℕ → ℕ) → Operator → Action
-action globals fields (op.I32Const value) = pushes (I32 (cast_unsigned w32 value))
-action globals fields (op.I64Const value) = pushes (I64 (cast_unsigned w64 value))
+action globals fields (op.I32Const value) = pushes (I32 (cast_unsigned w32 value % 2 ^ 32))
+action globals fields (op.I64Const value) = pushes (I64 (cast_unsigned w64 value % 2 ^ 64))
 action globals fields (op.F32Const bits) = pushes (F32 bits)
 action globals fields (op.F64Const bits) = pushes (F64 bits)
 action globals fields (op.V128Const value) = pushes (V128 value)

@@ -6,7 +6,7 @@
 mod laws;
 mod worked;
 
-pub use laws::constant_value_law;
+pub use laws::{constant_value_law, typed_value_law};
 pub use worked::{
     worked_constants, worked_phases, worked_ranges, worked_references, worked_values,
 };
