@@ -12,10 +12,11 @@ ghost use Rattle.wasm_types.specs.TypeViews.{composite_of};
 ghost use Rattle.wasm_types.specs.ValueViews.{reference_of, field_of};
 ghost use Rattle.wasm_convert.specs.Conversion.{heap_type_of, table_type_of};
 ghost use Rattle.wasm_convert.specs.Operators.{const_op_of, operator_of};
-ghost use Rattle.wasm_convert.specs.Constants.{functions_of, constant_value, IsNonzeroI32};
+ghost use Rattle.replay_spec.specs.Values.{const_value};
+ghost use Rattle.wasm_convert.specs.Constants.{functions_of, plain_value_of, expression_of, IsNonzeroI32};
 
-use crate::constants::GlobalConstValue;
 use crate::operators::ConstOp;
+use crate::values::GlobalConstValue;
 use wasm_spec::{AbstractHeapType, HeapType, Operator, StorageType, UnpackedIndex};
 use wasm_types::{
     EngineOrModuleTypeIndex, IndexType, WasmCompositeInnerType, WasmHeapType, WasmStorageType,
@@ -51,7 +52,8 @@ pub fn worked_constants()
     ensures function { const_op_of (λ i. record { kind = FuncName; index = EngineOrModuleTypeIndex.Module (index_of 7) }) (Operator.RefFunc 4) ≡ ConstOp.RefFunc (index_of 4) }
     ensures any_null { operator_of (ConstOp.RefNull WasmHeapType.Func) ≡ Operator.RefNull (HeapType.Abstract AbstractHeapType.Any) }
     ensures escaped { functions_of (Operator.RefFunc 4 ∷ Operator.RefI31 ∷ Operator.RefFunc 2 ∷ []) ≡ index_of 4 ∷ index_of 2 ∷ [] }
-    ensures one_constant { constant_value (ConstOp.I32Const (pos 0) ∷ []) ≡ Some (GlobalConstValue.I32 (pos 0)) }
-    ensures two_constants { constant_value (ConstOp.I32Const (pos 1) ∷ ConstOp.I32Const (pos 2) ∷ []) ≡ None }
+    ensures sum { const_value (expression_of (ConstOp.I32Const (pos 2147483647) ∷ ConstOp.I32Const (pos 1) ∷ ConstOp.I32Add ∷ []))
+        ≡ Some (plain_value_of (GlobalConstValue.I32 (negsuc 2147483647))) }
+    ensures two_constants { const_value (expression_of (ConstOp.I32Const (pos 1) ∷ ConstOp.I32Const (pos 2) ∷ [])) ≡ None }
     ensures below_zero { IsNonzeroI32 (ConstOp.I32Const (negsuc 0) ∷ []) }
 {}
