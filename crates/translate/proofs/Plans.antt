@@ -4,10 +4,11 @@ use Rattle.std.specs.Prelude.{All, Contains, slice_get}
 use Rattle.wasm_spec.specs.Module.{Expression, DataKind, Passive, Active, Segment, Module, imported_memories, defined_memories, segments, data_size}
 use Rattle.wasm_index.specs.Index.{number_of}
 use Rattle.wasm_types.specs.Memories.{memory_of}
+use Rattle.wasm_module.specs.Record.{ModuleRecord}
 use Rattle.replay_spec.specs.Data.{ActiveSegment, active_segments, minimum_size}
 use Rattle.replay_spec.specs.Plan.{MemoryPlan, AgreesOver, Agrees, kept_segments, planned_from, ranges_from, FindsPassive}
 use Rattle.init_plan.specs.declared.translation.ModuleTranslation.{ModuleTranslation}
-use Rattle.init_plan.specs.Views.{memory_plan_of, initializers_of, passive_data_of, defined_sizes, ranges_of, data_total, active_bytes, passive_bytes, FindsData, FindsRuntime, IsSegmented, OnlyMemoryInitChanges}
+use Rattle.init_plan.specs.Views.{memory_plan_of, initializers_of, passive_data_of, defined_sizes, ranges_of, data_total, active_bytes, passive_bytes, FindsData, FindsRuntime, IsSegmented, IsProcessed, OnlyMemoryInitChanges}
 use Rattle.translate.specs.Filled.{Fills, passive_from}
 use Rattle.translate.specs.Planned.{IsPlanOf, runtime_data, Finds}
 use Rattle.translate.proofs.Segments.{sizes_same, sizes_add, passive_bytes_same, passive_has, not_contained}
@@ -15,6 +16,7 @@ use Rattle.translate.proofs.Segments.{sizes_same, sizes_add, passive_bytes_same,
 -- what planning promises of the translation that it leaves
 pub record PlanningTells (old new : ModuleTranslation) : Type 0 where
   pub segmented : IsSegmented new.module.memory_initialization
+  pub processed : IsProcessed new.memory_init
   pub planned : (memory_plan_of new).segments ≡ planned_from 0 (initializers_of old)
   pub kept : kept_segments (memory_plan_of new) ≡ initializers_of old
   pub agrees : AgreesOver old.module.num_imported_memories (defined_sizes old.module) (initializers_of old) (memory_plan_of new)
@@ -86,13 +88,14 @@ module _ (bytes : List ℕ) (m : Module) (old : ModuleTranslation) (filled : Fil
       segmented = planned.segmented;
       left = planned.kept ∙ filled.active;
       processed = planned.planned ∙ ap (planned_from 0) filled.active;
-      memories = planned.same.memories ∙ filled.memories;
-      imports = planned.same.imports ∙ filled.imports;
+      is_processed = planned.processed;
+      memories = ap (λ (r : ModuleRecord). r.memories) planned.same.record_of_module ∙ filled.memories;
+      imports = ap (λ (r : ModuleRecord). r.num_imported_memories) planned.same.record_of_module ∙ filled.imports;
       runtime = runtime_same;
       ranges = planned.ranges ∙ ap (λ (bs : List (List ℕ)). ranges_from 0 (map length bs)) runtime_same;
       passive = λ index. finds (memory_plan_of new) (segments m) (subst (All (FindsData (memory_plan_of new))) filled.passive planned.found)
           (λ i none. planned.others i (subst (λ (ps : List (ℕ × List ℕ)). ¬ Contains (map (λ p. p.0) ps) i)
           (sym filled.passive) none)) index (slice_get (segments m) index) refl;
-      module_index = ap number_of planned.same.module_index ∙ filled.module_index;
+      module_index = ap (λ (r : ModuleRecord). number_of r.module_index) planned.same.record_of_module ∙ filled.module_index;
       wasm = planned.same.wasm ∙ filled.wasm;
     }

@@ -11,7 +11,7 @@ use Rattle.wasm_index.specs.Index.{number_of}
 use Rattle.wasm_types.specs.Memories.{memory_of}
 use Rattle.replay_spec.specs.Data.{active_segments}
 use Rattle.replay_spec.specs.Plan.{MemoryPlan, Agrees, kept_segments, planned_from, ranges_from, FindsPassive}
-use Rattle.init_plan.specs.Views.{memory_plan_of, ranges_of, IsSegmented}
+use Rattle.init_plan.specs.Views.{memory_plan_of, ranges_of, IsSegmented, IsProcessed}
 use Rattle.plan.specs.declared.plan.Plan.{Plan}
 use Rattle.plan.specs.declared.error.TranslateError.{TranslateError}
 use Rattle.plan.specs.declared.error.TranslateError.TheVariants as refusal
@@ -38,6 +38,7 @@ pub record IsPlanOf (bytes : List ℕ) (m : Module) (plan : Plan) : Type 0 where
   pub agrees : Agrees m (memory_plan_of plan.translation)
   -- no memory begins as an image, and the active segments are left to be written, in order
   pub segmented : IsSegmented plan.translation.module.memory_initialization
+  pub is_processed : IsProcessed plan.translation.memory_init
   pub left : kept_segments (memory_plan_of plan.translation) ≡ active_segments m
   -- entry by entry: the first is written from runtime data 0, the next from 1, and so on
   pub processed : (memory_plan_of plan.translation).segments ≡ planned_from 0 (active_segments m)

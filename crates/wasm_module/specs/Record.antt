@@ -12,7 +12,7 @@ use Rattle.wasm_types.specs.declared.memory.Memory.{Memory}
 use Rattle.wasm_types.specs.declared.table.Table.{Table}
 use Rattle.wasm_types.specs.declared.tag.Tag.{Tag}
 use Rattle.wasm_types.specs.declared.value.WasmRefType.{WasmRefType}
-use Rattle.wasm_convert.specs.declared.constants.GlobalConstValue.{GlobalConstValue}
+use Rattle.wasm_convert.specs.declared.values.GlobalConstValue.{GlobalConstValue}
 use Rattle.wasm_module.specs.declared.function.FunctionType.{FunctionType}
 use Rattle.wasm_module.specs.declared.initializer.Initializer.{Initializer}
 use Rattle.wasm_module.specs.declared.memory_initialization.MemoryInitialization.{MemoryInitialization}

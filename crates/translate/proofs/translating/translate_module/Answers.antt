@@ -143,6 +143,7 @@ returns-clause-planned c =
       can = record { sections = all.0; constants = all.1; kept = c.in_ok-check.ensures.kept };
       planned = is_plan c.args.bytes.now m c.in_ok-translation.translation filled c.finalize_memory_init.new.self (record {
         segmented = f.segmented;
+        processed = f.processed;
         planned = f.planned;
         kept = f.kept;
         agrees = f.agrees;
