@@ -4,7 +4,7 @@ use Rattle.std.proofs.lemmas.List.Sums.{sum_by-cons}
 use Rattle.std.specs.Borrow.{Bor}
 use Rattle.wasm_index.specs.declared.index.Index.{Index}
 use Rattle.wasm_index.specs.declared.spaces.DataSpace.{DataSpace}
-use Rattle.init_plan.specs.declared.module.MemoryInitializer.{MemoryInitializer}
+use Rattle.wasm_module.specs.declared.memory_initialization.MemoryInitializer.{MemoryInitializer}
 use Rattle.init_plan.specs.Views.{active_segment_of, passive_segment_of}
 
 sum_by-map : {X Y : Type 0} (g : Y → ℕ) (f : X → Y) (xs : List X) → sum_by g (map f xs) ≡ sum_by (λ x. g (f x)) xs

@@ -1,13 +1,14 @@
 -- What a translation holds before it is planned.
-use Rattle.std.proofs.Common.{◌≡◌, ℕ, [], ◌∷◌, refl, arith}
+use Rattle.std.proofs.Common.{◌≡◌, ℕ, [], ◌∷◌, refl, sym, ap, subst, arith}
 use Rattle.std.specs.Prelude.{nat_eq}
 use Rattle.std.specs.List.{IsDistinct}
 use Rattle.wasm_index.specs.declared.index.Index.{Index}
 use Rattle.wasm_index.specs.declared.spaces.StaticModuleSpace.{StaticModuleSpace}
-use Rattle.init_plan.specs.declared.module.MemoryInitialization.{MemoryInitialization}
-use Rattle.init_plan.specs.declared.module.MemoryInitialization.TheVariants.{Segmented, Static}
+use Rattle.wasm_module.specs.declared.memory_initialization.MemoryInitialization.{MemoryInitialization}
+use Rattle.wasm_module.specs.declared.memory_initialization.MemoryInitialization.TheVariants.{Segmented, Static}
 use Rattle.init_plan.specs.declared.translation.ModuleTranslation.{ModuleTranslation}
-use Rattle.init_plan.specs.Views.{images_of, IsSegmented, IsNewTranslation}
+use Rattle.wasm_module.specs.Record.{ModuleRecord}
+use Rattle.init_plan.specs.Views.{images_of, ranges_of, IsSegmented, IsNewTranslation}
 use Rattle.init_plan.specs.Ready.{MemoryHalfIsReady}
 
 pub images_of-segmented : (m : MemoryInitialization) → IsSegmented m → images_of m ≡ []
@@ -18,17 +19,30 @@ IsDistinct-nil : IsDistinct nat_eq []
 unfolding IsDistinct
 IsDistinct-nil = tt
 
+module _ (i : Index StaticModuleSpace) (t : ModuleTranslation) (h : IsNewTranslation i t) where
+  pub new-memories : t.module.memories ≡ []
+  new-memories = ap (λ (m : ModuleRecord). m.memories) h.record_of_module
+
+  pub new-imports : t.module.num_imported_memories ≡ 0
+  new-imports = ap (λ (m : ModuleRecord). m.num_imported_memories) h.record_of_module
+
+  pub new-ranges : ranges_of t.module ≡ []
+  new-ranges = ap (λ (m : ModuleRecord). m.runtime_data) h.record_of_module
+
+  pub new-segmented : IsSegmented t.module.memory_initialization
+  new-segmented = subst (λ (m : ModuleRecord). IsSegmented m.memory_initialization) (sym h.record_of_module) tt
+
 -- the empty translation is ready
 pub MemoryHalfIsReady-new : (i : Index StaticModuleSpace) (t : ModuleTranslation) → IsNewTranslation i t → MemoryHalfIsReady t
 MemoryHalfIsReady-new i t h = record {
   unprocessed = h.unprocessed;
-  segmented = h.segmented;
-  no_ranges = h.no_ranges;
+  segmented = new-segmented i t h;
+  no_ranges = new-ranges i t h;
   no_runtime = h.no_runtime;
   nothing_found = h.nothing_found;
-  imports = rw (h.no_imports, h.no_memories) (omega arith);
-  few_memories = rw h.no_memories (omega arith);
-  page_sizes = rw h.no_memories (λ k d past. absurd (omega arith));
+  imports = rw (new-imports i t h, new-memories i t h) (omega arith);
+  few_memories = rw (new-memories i t h) (omega arith);
+  page_sizes = rw (new-memories i t h) (λ k d past. absurd (omega arith));
   few_segments = rw h.no_segments (omega arith);
   in_range = rw h.no_segments (λ k d past. absurd (omega arith));
   few_passive = rw h.no_passive (omega arith);

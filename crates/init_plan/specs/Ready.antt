@@ -2,13 +2,13 @@
 use Rattle.std.specs.Prelude.{◌≡◌, ◌⊎◌, ◌^◌, ◌<◌, ◌≤◌, [], length, map, All, nat_eq, None}
 use Rattle.std.specs.List.{IsDistinct}
 use Rattle.init_plan.specs.declared.translation.ModuleTranslation.{ModuleTranslation}
-use Rattle.init_plan.specs.Views.{initializers_of, passive_data_of, IsSegmented, IsUnprocessed}
+use Rattle.init_plan.specs.Views.{initializers_of, passive_data_of, ranges_of, IsSegmented, IsUnprocessed}
 
 -- nothing is planned yet, and all indices are in range
 pub record MemoryHalfIsReady (t : ModuleTranslation) : Type 0 where
   pub unprocessed : IsUnprocessed t.memory_init
   pub segmented : IsSegmented t.module.memory_initialization
-  pub no_ranges : t.module.runtime_data ≡ []
+  pub no_ranges : ranges_of t.module ≡ []
   pub no_runtime : t.runtime_data ≡ []
   pub nothing_found : t.runtime_data_map ≡ record { default = None; items = [] }
   pub imports : t.module.num_imported_memories ≤ length t.module.memories

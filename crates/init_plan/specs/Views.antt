@@ -11,12 +11,13 @@ use Rattle.wasm_index.specs.declared.spaces.StaticModuleSpace.{StaticModuleSpace
 use Rattle.wasm_index.specs.Index.{number_of}
 use Rattle.wasm_types.specs.Memories.{minimum_bytes}
 use Rattle.wasm_convert.specs.Constants.{expression_of}
+use Rattle.wasm_module.specs.Record.{record_of, empty_record}
 use Rattle.replay_spec.specs.Data.{ActiveSegment}
 use Rattle.replay_spec.specs.Plan.{PlannedOffset, Expr, Static, PlannedSegment, MemoryPlan}
-use Rattle.init_plan.specs.declared.module.Module.{Module}
-use Rattle.init_plan.specs.declared.module.MemoryInitialization.{MemoryInitialization}
-use Rattle.init_plan.specs.declared.module.MemoryInitialization.TheVariants as initialization
-use Rattle.init_plan.specs.declared.module.MemoryInitializer.{MemoryInitializer}
+use Rattle.wasm_module.specs.declared.module.Module.{Module}
+use Rattle.wasm_module.specs.declared.memory_initialization.MemoryInitialization.{MemoryInitialization}
+use Rattle.wasm_module.specs.declared.memory_initialization.MemoryInitialization.TheVariants as initialization
+use Rattle.wasm_module.specs.declared.memory_initialization.MemoryInitializer.{MemoryInitializer}
 use Rattle.init_plan.specs.declared.translation.ModuleTranslation.{ModuleTranslation}
 use Rattle.init_plan.specs.declared.translation.RuntimeBytes.{RuntimeBytes}
 use Rattle.init_plan.specs.declared.translation.RuntimeBytes.TheVariants as runtime
@@ -101,7 +102,7 @@ memory_plan_of t = record {
 
 -- the ranges of runtime data, from and up to
 abbrev pub ranges_of : Module → List (ℕ × ℕ)
-ranges_of m = map (λ r. (r.start, r.end)) m.runtime_data
+ranges_of m = (record_of m).runtime_data
 
 abbrev pub IsSegmented : MemoryInitialization → Type 0
 IsSegmented initialization.Segmented = Unit {0}
@@ -117,11 +118,12 @@ FindsData plan p = FindsRuntime plan.runtime (plan.passive p.0) p.1
 
 -- ---- what stays
 
--- the fields that no call of the memory half writes
+-- no call of the memory half writes anything of the record but how its memories begin and the ranges of runtime data
 pub record OnlyMemoryInitChanges (old new : ModuleTranslation) : Type 0 where
-  pub module_index : new.module.module_index ≡ old.module.module_index
-  pub imports : new.module.num_imported_memories ≡ old.module.num_imported_memories
-  pub memories : new.module.memories ≡ old.module.memories
+  pub record_of_module : record_of new.module ≡ record (record_of old.module) {
+    memory_initialization = new.module.memory_initialization;
+    runtime_data = ranges_of new.module;
+  }
   pub wasm : new.wasm.now ≡ old.wasm.now
 
 -- all but the passive data
@@ -142,11 +144,7 @@ pub record SameButSegments (old new : ModuleTranslation) : Type 0 where
 
 -- the empty translation
 pub record IsNewTranslation (module_index : Index StaticModuleSpace) (t : ModuleTranslation) : Type 0 where
-  pub index : t.module.module_index ≡ module_index
-  pub segmented : IsSegmented t.module.memory_initialization
-  pub no_ranges : t.module.runtime_data ≡ []
-  pub no_imports : t.module.num_imported_memories ≡ 0
-  pub no_memories : t.module.memories ≡ []
+  pub record_of_module : record_of t.module ≡ empty_record module_index
   pub no_bytes : t.wasm.now ≡ []
   pub nothing_found : t.runtime_data_map ≡ record { default = None; items = [] }
   pub no_runtime : t.runtime_data ≡ []

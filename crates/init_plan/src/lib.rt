@@ -3,12 +3,11 @@
 
 mod error;
 mod memory_init;
-mod module;
 mod runtime_data;
 #[cfg(test)]
 mod tests;
 mod translation;
 
 pub use error::PlanError;
-pub use module::{MemoryInitialization, MemoryInitializer, Module};
 pub use translation::{MemoryInit, MemorySegmentOffset, ModuleTranslation, RuntimeBytes};
+pub use wasm_module::{MemoryInitialization, MemoryInitializer, Module};

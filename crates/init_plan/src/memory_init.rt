@@ -7,11 +7,11 @@ ghost use Rattle.init_plan.specs.Views.{memory_plan_of, initializers_of, passive
 ghost use Rattle.init_plan.specs.Ready.{MemoryHalfIsReady};
 
 use crate::error::PlanError;
-use crate::module::MemoryInitializer;
 use crate::runtime_data::{check_total, keep_active, keep_passive, ranges_end_to_end};
 use crate::translation::{MemoryInit, ModuleTranslation};
 use std::alloc::Global;
 use std::mem;
+use wasm_module::MemoryInitializer;
 use wasm_types::Tunables;
 
 impl<'d> ModuleTranslation<'d> {

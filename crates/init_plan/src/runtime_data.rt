@@ -9,12 +9,12 @@ ghost use Rattle.replay_spec.specs.Plan.{planned_from, ranges_from};
 ghost use Rattle.init_plan.specs.Views.{active_segment_of, passive_segment_of, planned_segment_of, total_bytes, bytes_of, FindsRuntime};
 
 use crate::error::PlanError;
-use crate::module::MemoryInitializer;
 use crate::translation::{MemorySegmentOffset, RuntimeBytes};
 use entity_map::{OutOfMemory, PrimaryMap, SecondaryMap};
 use std::alloc::Global;
 use std::ops::Range;
 use wasm_index::{DataIndex, MemoryIndex, RuntimeDataIndex};
+use wasm_module::MemoryInitializer;
 
 // Tells whether 32 bits hold the number of bytes of all data segments together.
 #[tactic(auto, using(crate::proofs::Totals::totals))]

@@ -4,11 +4,11 @@ ghost use Rattle.std.specs.Prelude.{◌≡◌, ◌++◌, ◌∷◌, [], length, 
 ghost use Rattle.wasm_index.specs.Index.{number_of};
 ghost use Rattle.init_plan.specs.Views.{bytes_of, passive_data_of, IsNewTranslation, SameButPassive};
 
-use crate::module::{MemoryInitialization, MemoryInitializer, Module};
 use entity_map::{OutOfMemory, PrimaryMap, SecondaryMap};
 use std::alloc::Global;
 use wasm_convert::ConstExpr;
 use wasm_index::{DataIndex, MemoryIndex, RuntimeDataIndex, StaticModuleIndex};
+use wasm_module::{MemoryInitializer, Module};
 
 /// A translated module, and what is known of it only while it is compiled.
 #[derive(Drop)]
@@ -68,13 +68,7 @@ impl<'d> ModuleTranslation<'d> {
         ensures { IfOk result (IsNewTranslation module_index) }
     {
         Ok(ModuleTranslation {
-            module: Module {
-                module_index,
-                memory_initialization: MemoryInitialization::Segmented,
-                runtime_data: PrimaryMap::new(alloc),
-                num_imported_memories: 0,
-                memories: PrimaryMap::new(alloc),
-            },
+            module: Module::new(alloc, module_index)?,
             wasm: &[],
             runtime_data_map: SecondaryMap::new(alloc, None),
             runtime_data: PrimaryMap::new(alloc),

@@ -4,8 +4,8 @@ use Rattle.std.specs.List.{flat_map}
 use Rattle.wasm_index.specs.declared.index.Index.{Index}
 use Rattle.wasm_index.specs.declared.spaces.RuntimeDataSpace.{RuntimeDataSpace}
 use Rattle.wasm_index.specs.Index.{number_of}
-use Rattle.init_plan.specs.declared.module.MemoryInitialization.{MemoryInitialization}
-use Rattle.init_plan.specs.declared.module.MemoryInitialization.TheVariants as initialization
+use Rattle.wasm_module.specs.declared.memory_initialization.MemoryInitialization.{MemoryInitialization}
+use Rattle.wasm_module.specs.declared.memory_initialization.MemoryInitialization.TheVariants as initialization
 use Rattle.init_plan.specs.declared.translation.MemoryInit.{MemoryInit}
 use Rattle.init_plan.specs.declared.translation.MemoryInit.TheVariants as init
 use Rattle.init_plan.specs.declared.translation.MemorySegmentOffset.{MemorySegmentOffset}

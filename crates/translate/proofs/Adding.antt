@@ -17,7 +17,7 @@ use Rattle.wasm_form.specs.Views.{data_kind_of, segment_of, payload_of}
 use Rattle.wasm_types.specs.declared.memory.Memory.{Memory}
 use Rattle.wasm_types.specs.Memories.{memory_of, HasPageSize}
 use Rattle.replay_spec.specs.Data.{ActiveSegment, active_of_kind}
-use Rattle.init_plan.specs.declared.module.Module.{Module as ModuleRecord}
+use Rattle.wasm_module.specs.declared.module.Module.{Module as TranslatedModule}
 use Rattle.init_plan.specs.Views.{passive_data_of}
 use Rattle.translate.specs.declared.fill.Filling.{Filling}
 use Rattle.translate.specs.Filled.{passive_of_kind, passive_from, active_so_far, CanBeAdded, CanAdd, SameButLists, Adds}
@@ -63,7 +63,7 @@ Adds-nothing f = record {
 SameButLists-both : (a b c : Filling) → SameButLists a.translation b.translation → SameButLists b.translation c.translation
     → SameButLists a.translation c.translation
 SameButLists-both a b c ab bc = record {
-  record_of_module = bc.record_of_module ∙ ap (λ (m : ModuleRecord). record m { memories = c.translation.module.memories }) ab.record_of_module;
+  record_of_module = bc.record_of_module ∙ ap (λ (m : TranslatedModule). record m { memories = c.translation.module.memories }) ab.record_of_module;
   wasm = bc.wasm ∙ ab.wasm;
   found = bc.found ∙ ab.found;
   runtime = bc.runtime ∙ ab.runtime;

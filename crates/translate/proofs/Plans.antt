@@ -3,6 +3,7 @@ use Rattle.std.proofs.Common.{◌≡◌, ◌++◌, ℕ, List, [], ◌∷◌, len
 use Rattle.std.specs.Prelude.{All, Contains, slice_get}
 use Rattle.wasm_spec.specs.Module.{Expression, DataKind, Passive, Active, Segment, Module, imported_memories, defined_memories, segments, data_size}
 use Rattle.wasm_types.specs.Memories.{memory_of}
+use Rattle.wasm_module.specs.Record.{ModuleRecord}
 use Rattle.replay_spec.specs.Data.{ActiveSegment, active_segments, minimum_size}
 use Rattle.replay_spec.specs.Plan.{MemoryPlan, AgreesOver, Agrees, kept_segments, ranges_from, FindsPassive}
 use Rattle.init_plan.specs.declared.translation.ModuleTranslation.{ModuleTranslation}
@@ -81,8 +82,8 @@ module _ (bytes : List ℕ) (m : Module) (old : ModuleTranslation) (filled : Fil
     is_plan = record {
       agrees = agrees_with;
       kept = planned.kept ∙ filled.active;
-      memories = planned.same.memories ∙ filled.memories;
-      imports = planned.same.imports ∙ filled.imports;
+      memories = ap (λ (r : ModuleRecord). r.memories) planned.same.record_of_module ∙ filled.memories;
+      imports = ap (λ (r : ModuleRecord). r.num_imported_memories) planned.same.record_of_module ∙ filled.imports;
       runtime = runtime_same;
       ranges = planned.ranges ∙ ap (λ (bs : List (List ℕ)). ranges_from 0 (map length bs)) runtime_same;
       passive = λ index. finds (memory_plan_of new) (segments m) (subst (All (FindsData (memory_plan_of new))) filled.passive planned.found)

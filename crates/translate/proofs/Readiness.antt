@@ -14,9 +14,10 @@ use Rattle.wasm_spec.specs.Rules.{HasLimits, Class, class_of, HasClass, address_
 use Rattle.wasm_types.specs.declared.memory.Memory.{Memory}
 use Rattle.wasm_types.specs.Memories.{memory_of, HasPageSize}
 use Rattle.replay_spec.specs.Data.{ActiveSegment, active_of_kind}
-use Rattle.init_plan.specs.declared.module.Module.{Module as ModuleRecord}
+use Rattle.wasm_module.specs.declared.module.Module.{Module as TranslatedModule}
 use Rattle.init_plan.specs.declared.translation.MemoryInit.TheVariants.{Unprocessed}
-use Rattle.init_plan.specs.Views.{passive_data_of, IsSegmented}
+use Rattle.init_plan.specs.Views.{passive_data_of, ranges_of, IsSegmented}
+use Rattle.init_plan.proofs.Unplanned.{new-memories, new-imports, new-ranges, new-segmented}
 use Rattle.translate.specs.declared.fill.Filling.{Filling}
 use Rattle.translate.specs.Filled.{passive_of_kind, passive_from, Fills, active_so_far, IsEmpty, active_among, CanBeAdded, CanAdd}
 use Rattle.translate.proofs.Adding.{AddsModule}
@@ -141,7 +142,7 @@ module _ (m : Module) (kept : Keeps m) (few : HasFewEntries m) (planned : OnlyPl
   -- what the module defines can be added to an empty filling
   pub CanAdd-all : (start : Filling) → IsEmpty start → CanAdd start (defined_memories m) (segments m)
   CanAdd-all start empty =
-      let none = ap length empty.is_new.no_memories in
+      let none = ap length (new-memories _ _ empty.is_new) in
       record {
         few_memories = omega (arith, none, few.memories, ap length all_defined);
         page_sizes = has_page_sizes;
@@ -152,7 +153,7 @@ module _ (m : Module) (kept : Keeps m) (few : HasFewEntries m) (planned : OnlyPl
   -- an empty filling to which all is added
   module _ (start done : Filling) (empty : IsEmpty start) (added : AddsModule start done m) where
     memories_same : done.translation.module.memories ≡ map memory_of (memories m)
-    memories_same = added.memories ∙ ap (λ (ms : List Memory). ms ++ map memory_of (defined_memories m)) empty.is_new.no_memories
+    memories_same = added.memories ∙ ap (λ (ms : List Memory). ms ++ map memory_of (defined_memories m)) (new-memories _ _ empty.is_new)
         ∙ sym (ap (map memory_of) all_defined)
 
     active_same : active_so_far done ≡ active_among (segments m)
@@ -167,15 +168,15 @@ module _ (m : Module) (kept : Keeps m) (few : HasFewEntries m) (planned : OnlyPl
     memory_count = ap length memories_same ∙ length-map (memories m) memory_of
 
     no_imports : done.translation.module.num_imported_memories ≡ 0
-    no_imports = ap (λ (x : ModuleRecord). x.num_imported_memories) added.same.record_of_module ∙ empty.is_new.no_imports
+    no_imports = ap (λ (x : TranslatedModule). x.num_imported_memories) added.same.record_of_module ∙ new-imports _ _ empty.is_new
 
     -- the translation that is made of it is that of the module
     pub Fills-all : (wasm : Bor (List ℕ)) → Fills wasm.now m (record done.translation { wasm = wasm; memory_init = Unprocessed done.active })
     Fills-all wasm = record {
       ready = record {
         unprocessed = tt;
-        segmented = subst (λ (x : ModuleRecord). IsSegmented x.memory_initialization) (sym added.same.record_of_module) empty.is_new.segmented;
-        no_ranges = ap (λ (x : ModuleRecord). x.runtime_data) added.same.record_of_module ∙ empty.is_new.no_ranges;
+        segmented = subst (λ (x : TranslatedModule). IsSegmented x.memory_initialization) (sym added.same.record_of_module) (new-segmented _ _ empty.is_new);
+        no_ranges = ap ranges_of added.same.record_of_module ∙ new-ranges _ _ empty.is_new;
         no_runtime = added.same.runtime ∙ empty.is_new.no_runtime;
         nothing_found = added.same.found ∙ empty.is_new.nothing_found;
         imports = omega (arith, no_imports);
