@@ -1,6 +1,6 @@
 //! What a source and a sink promise.
 
-ghost use Rattle.std.specs.Prelude.{◌≡◌, ◌<◌, ◌≤◌, ℕ, List, Option, IfOk, OnErr, length, take};
+ghost use Rattle.std.specs.Prelude.{◌≡◌, ◌<◌, ◌≤◌, ℕ, List, Option, IfOk, OnOk, OnErr, length, take};
 ghost use Rattle.devices.specs.Device.{TellsFront, AppendsFront, NothingLeft};
 ghost use Rattle.devices.specs.Counter.{Rose};
 
@@ -36,6 +36,7 @@ pub trait Source {
         ensures within { IfOk result (λ n. n ≤ length buf.old) }
         ensures moves { IfOk result (λ n. TellsFront (left self.old) (take n buf.new) (left self.new)) }
         ensures ends { IfOk result (λ n. n ≡ 0 → NothingLeft (left self.old)) }
+        ensures no_fault { OnOk result (faults self.new ≡ faults self.old) }
 
         // A failed read moves nothing, and is counted.
         ensures stays { OnErr result (left self.new ≡ left self.old) }
@@ -57,6 +58,7 @@ pub trait Sink {
         requires { 0 < length piece.now }
         ensures takes { IfOk result (λ n. (0 < n) × (n ≤ length piece.now)) }
         ensures appends { IfOk result (λ n. AppendsFront (held self.old) (take n piece.now) (held self.new)) }
+        ensures no_fault { OnOk result (faults self.new ≡ faults self.old) }
 
         // A failed write appends nothing, and is counted.
         ensures stays { OnErr result (held self.new ≡ held self.old) }

@@ -17,6 +17,6 @@ pub use count_sink::CountSink;
 pub use device::{Failed, OutOfMemory, Sink, Source};
 pub use list_sink::ListSink;
 pub use list_source::ListSource;
-pub use reading::{LIMIT, ReadStop, read_all};
+pub use reading::{ReadStop, read_all};
 pub use slice_source::SliceSource;
 pub use writing::write_all;

@@ -1,14 +1,11 @@
 //! Reads a source to its end.
 
-ghost use Rattle.std.specs.Prelude.{◌≡◌, ◌<◌, ◌≤◌, ◌⊎◌, [], OnOk, vec_len};
+ghost use Rattle.std.specs.Prelude.{◌≡◌, ◌≢◌, ◌<◌, ◌≤◌, ◌⊎◌, [], OnOk, vec_len};
 ghost use Rattle.devices.specs.Device.{TellsFront, NothingLeft};
 ghost use Rattle.devices.specs.Counter.{Rose};
 
 use crate::device::{Failed, Source};
 use std::alloc::AllocError;
-
-/// The most bytes that are read: 2^30.
-pub const LIMIT: usize = 1073741824;
 
 /// The most bytes that one read is asked for.
 const BUFFER: usize = 4096;
@@ -44,25 +41,28 @@ impl From<AllocError> for ReadStop {
     }
 }
 
-/// Reads into the empty store until the source ends, or until 2^30 bytes were read.
-pub fn read_all<S: Source>(source: &mut S, store: &mut Vec<u8>) -> Result<(), ReadStop>
+/// Reads into the empty store until the source ends, or until so many bytes were read.
+pub fn read_all<S: Source>(source: &mut S, store: &mut Vec<u8>, most: usize) -> Result<(), ReadStop>
     requires { store.old.items ≡ [] }
 
     // Whatever the outcome, no byte that was read is lost.
     ensures bytes { TellsFront (S.left source.old) store.new.items (S.left source.new) }
-    ensures within { vec_len store.new ≤ LIMIT }
-    ensures counted { S.faults source.old ≤ S.faults source.new }
+    ensures within { vec_len store.new ≤ most }
 
-    ensures ended { OnOk result (NothingLeft (S.left source.new) ⊎ (vec_len store.new ≡ LIMIT)) }
-    ensures short { OnOk result (vec_len store.new < LIMIT → NothingLeft (S.left source.new)) }
+    ensures ended { OnOk result (NothingLeft (S.left source.new) ⊎ (vec_len store.new ≡ most)) }
+    ensures short { OnOk result (vec_len store.new < most → NothingLeft (S.left source.new)) }
+
+    // No failed read is passed over.
     ensures cause { result ≡ Err ReadStop.Failed → Rose (S.faults source.old) (S.faults source.new) }
+    ensures no_fault { result ≢ Err ReadStop.Failed → S.faults source.new ≡ S.faults source.old }
+    ensures counted { S.faults source.old ≤ S.faults source.new }
 {
     let mut buffer = [0u8; BUFFER];
-    'reads: while store.len() < LIMIT {
+    'reads: while store.len() < most {
         // The room is there before the bytes are, so want of memory loses none.
         store.reserve(BUFFER)?;
-        let most = (LIMIT - store.len()).min(BUFFER);
-        let count = source.read(&mut buffer[..most])?;
+        let room = (most - store.len()).min(BUFFER);
+        let count = source.read(&mut buffer[..room])?;
         if count == 0 {
             return Ok(());
         }

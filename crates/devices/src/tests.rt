@@ -10,7 +10,7 @@ fn slice_source_gives_what_fits(rt: HostRuntime) -> Result<(), Fail> {
     assert_eq!(rt; source.read(&mut buffer)?, 4);
     assert_eq!(rt; buffer.as_slice(), b"abcd".as_slice());
     let mut store = Vec::new(rt.alloc());
-    assert_eq!(rt; read_all(&mut source, &mut store), Ok(()));
+    assert_eq!(rt; read_all(&mut source, &mut store, 64), Ok(()));
     assert_eq!(rt; store.as_slice(), b"ef".as_slice());
     Ok(())
 }
@@ -78,7 +78,7 @@ fn read_all_keeps_every_byte_that_was_read(rt: HostRuntime) -> Result<(), Fail> 
     ] {
         let mut store = Vec::new(rt.alloc());
         let mut source = ListSource::new(bytes, 7, failing);
-        assert_eq!(rt; read_all(&mut source, &mut store), outcome);
+        assert_eq!(rt; read_all(&mut source, &mut store, 64), outcome);
         assert_eq!(rt; store.as_slice(), &bytes[..kept]);
     }
     Ok(())

@@ -6,10 +6,11 @@ ghost use Rattle.devices.specs.Counter.{Rose};
 
 use crate::device::{Failed, Sink};
 
-/// Writes the text, whose whole rest is given to each write, until all of it is written or a write fails.
+/// Writes the text, until all of it is written or a write fails.
 pub fn write_all<K: Sink>(sink: &mut K, text: &[u8]) -> Result<(), Failed>
     ensures ok { OnOk result (AppendsFront (K.held sink.old) text.now (K.held sink.new)) }
     ensures err { OnErr result (AppendsPart (K.held sink.old) text.now (K.held sink.new)) }
+    ensures no_fault { OnOk result (K.faults sink.new ≡ K.faults sink.old) }
     ensures cause { OnErr result (Rose (K.faults sink.old) (K.faults sink.new)) }
     ensures counted { K.faults sink.old ≤ K.faults sink.new }
     ensures empty { text.now ≡ [] → sink.new ≡ sink.old }

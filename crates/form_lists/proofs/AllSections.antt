@@ -11,33 +11,40 @@ use Rattle.form_lists.proofs.Gathering.{entries_of_more}
 
 -- ---- parts of lists
 
-All-append_left : {X : Type 0} (P : X → Type 0) (xs ys : List X) → All P (xs ++ ys) → All P xs
-All-append_left P [] ys all = All-nil P
-All-append_left P (x ∷ xs) ys all = All-cons P x xs (All-head P x (xs ++ ys) all) (All-append_left P xs ys (All-tail P x (xs ++ ys) all))
+-- all of two lists joined
+pub All-joined : {X : Type 0} (P : X → Type 0) (xs ys : List X) → All P (xs ++ ys) ↔ (All P xs × All P ys)
+All-joined {X = X} P xs ys = (λ all. (left xs all, right xs all), λ both. All-append P xs ys both.0 both.1) where
+  left : (zs : List X) → All P (zs ++ ys) → All P zs
+  left [] all = All-nil P
+  left (z ∷ zs) all = All-cons P z zs (All-head P z (zs ++ ys) all) (left zs (All-tail P z (zs ++ ys) all))
 
-All-append_right : {X : Type 0} (P : X → Type 0) (xs ys : List X) → All P (xs ++ ys) → All P ys
-All-append_right P [] ys all = all
-All-append_right P (x ∷ xs) ys all = All-append_right P xs ys (All-tail P x (xs ++ ys) all)
+  right : (zs : List X) → All P (zs ++ ys) → All P ys
+  right [] all = all
+  right (z ∷ zs) all = right zs (All-tail P z (zs ++ ys) all)
 
 pub All-from_map : {X Y : Type 0} (P : X → Type 0) (f : Y → X) (ys : List Y) → All P (map f ys) → All (λ y. P (f y)) ys
 All-from_map P f [] all = All-nil (λ y. P (f y))
 All-from_map P f (y ∷ ys) all = All-cons (λ z. P (f z)) y ys (All-head P (f y) (map f ys) all) (All-from_map P f ys (All-tail P (f y) (map f ys) all))
 
-All-sections : {X : Type 0} (P : X → Type 0) (f : plain.Payload → List X) (ps : List Payload) → All (λ p. All P (f (payload_of p))) ps
-    → All P (flat_map f (map payload_of ps))
-All-sections P f [] all = All-nil P
-All-sections P f (p ∷ ps) all =
-    let Q : Payload → Type 0 = λ q. All P (f (payload_of q)) in
-    All-append P (f (payload_of p)) (flat_map f (map payload_of ps)) (All-head Q p ps all) (All-sections P f ps (All-tail Q p ps all))
+-- all of what each element has
+pub All-parts : {X Y : Type 0} (P : X → Type 0) (f : Y → List X) (ys : List Y) → All P (flat_map f ys) ↔ All (λ y. All P (f y)) ys
+All-parts P f [] = (λ all. All-nil (λ y. All P (f y)), λ all. All-nil P)
+All-parts {Y = Y} P f (y ∷ ys) =
+    let Q : Y → Type 0 = λ y. All P (f y) in
+    let joined = All-joined P (f y) (flat_map f ys) in
+    let rest = All-parts P f ys in (
+      λ all. let both = joined.0 all in All-cons Q y ys both.0 (rest.0 both.1),
+      λ all. joined.1 (All-head Q y ys all, rest.1 (All-tail Q y ys all)),
+    )
 
-All-from_sections : {X : Type 0} (P : X → Type 0) (f : plain.Payload → List X) (ps : List Payload) → All P (flat_map f (map payload_of ps))
-    → All (λ p. All P (f (payload_of p))) ps
-All-from_sections P f [] all = All-nil (λ p. All P (f (payload_of p)))
-All-from_sections P f (p ∷ ps) all =
-    let Q : Payload → Type 0 = λ q. All P (f (payload_of q)) in
-    let first = f (payload_of p) in
-    let rest = flat_map f (map payload_of ps) in
-    All-cons Q p ps (All-append_left P first rest all) (All-from_sections P f ps (All-append_right P first rest all))
+All-sections : {X : Type 0} (P : X → Type 0) (f : plain.Payload → List X) (ps : List Payload)
+    → All P (flat_map f (map payload_of ps)) ↔ All (λ p. All P (f (payload_of p))) ps
+All-sections P f ps =
+    let Q : plain.Payload → Type 0 = λ p. All P (f p) in
+    let parts = All-parts P f (map payload_of ps) in (
+      λ all. All-from_map Q payload_of ps (parts.0 all),
+      λ all. parts.1 (All-map Q payload_of ps all),
+    )
 
 -- ---- tests
 
@@ -49,7 +56,7 @@ tells_of_map P f ys b tells = (λ answered. All-map P f ys (tells.0 answered), �
 -- a test of section after section
 pub tells_of_sections : {X : Type 0} (P : X → Type 0) (f : plain.Payload → List X) (ps : List Payload) (b : Bool)
     → IsTrue b ↔ All (λ p. All P (f (payload_of p))) ps → IsTrue b ↔ All P (flat_map f (map payload_of ps))
-tells_of_sections P f ps b tells = (λ answered. All-sections P f ps (tells.0 answered), λ all. tells.1 (All-from_sections P f ps all))
+tells_of_sections P f ps b tells = (λ answered. (All-sections P f ps).1 (tells.0 answered), λ all. tells.1 ((All-sections P f ps).0 all))
 
 -- ---- loops over sections
 
@@ -66,7 +73,7 @@ pub all_fails : {X : Type 0} (P : X → Type 0) (f : plain.Payload → List X) (
     → p ≡ get_or ps k p → xs ≡ f (payload_of p) → (All P xs → ⊥) → All P (flat_map f (map payload_of ps)) → ⊥
 all_fails P f ps k p xs lt at same fails all =
     fails (All-same P _ _ (same ∙ ap (λ (q : Payload). f (payload_of q)) at)
-    (All-get_or (λ (q : Payload). All P (f (payload_of q))) ps k p lt (All-from_sections P f ps all)))
+    (All-get_or (λ (q : Payload). All P (f (payload_of q))) ps k p lt ((All-sections P f ps).0 all)))
 
 -- the entries so far and those of one section more are no more than all
 pub length_more_le : {X : Type 0} (f : plain.Payload → List X) (ps : List Payload) (k : ℕ) (p : Payload) → k < length ps → p ≡ get_or ps k p

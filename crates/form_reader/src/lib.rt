@@ -28,4 +28,3 @@ mod vectors;
 pub use error::ReadError;
 pub use laws::spelling_is_unique;
 pub use module::{MAX_MODULE_SIZE, read_module};
-

@@ -1,4 +1,4 @@
-//! Counts of bodies, locals and data segments (core specification, 3.4 and 5.5.13 to 5.5.17).
+//! Counts of bodies, locals and data segments (core specification, 5.5, code section and modules).
 
 ghost use Rattle.std.specs.Prelude.{◌≡◌, ◌↔◌, ◌+◌, ◌≤◌, length, map, sum_by, All, IsTrue};
 ghost use Rattle.std.specs.List.{flat_map};

@@ -1,4 +1,4 @@
-//! Exports (core specification, 3.5.14 and 3.6.1).
+//! Exports (core specification, 3.5, exports and modules).
 
 ghost use Rattle.std.specs.Prelude.{◌≡◌, ◌↔◌, ◌++◌, List, map, All, IsTrue, IfOk};
 ghost use Rattle.std.specs.Bool.{MatchBool};
@@ -11,10 +11,12 @@ ghost use Rattle.rule_spec.specs.Rules.{AreExported, AreDistinct};
 ghost use Rattle.form_lists.specs.Views.{lists_of};
 ghost use Rattle.form_rules.specs.Names.{HasNames};
 
+use crate::seed::Seeded;
 use form_data::Export;
 use form_lists::{Lists, exports_of};
 use std::alloc::{AllocError, Global};
 use std::collections::HashSet;
+use std::hash::{DefaultHasher, Hasher};
 use wasm_spec::ExternalKind;
 
 /// Whether each export names an entry of its index space, and no two have one name.
@@ -32,7 +34,7 @@ fn names_are_distinct(alloc: Global, lists: &Lists<'_, '_>) -> Result<bool, Allo
     ensures { IfOk result (λ distinct. IsTrue distinct
         ↔ AreDistinct (flat_map exports_of_section (module_of lists.now.form.now))) }
 {
-    let mut names = HashSet::new(alloc);
+    let mut names = HashSet::with_hasher(alloc, Seeded::new(seed_of_names(lists)));
     for payload in &lists.form.payloads {
         if !add_names(&mut names, exports_of(payload))? {
             return Ok(false);
@@ -41,8 +43,26 @@ fn names_are_distinct(alloc: Global, lists: &Lists<'_, '_>) -> Result<bool, Allo
     Ok(true)
 }
 
+/// A digest of all names. Names that a stranger chose to collide would have to be chosen for the digest that they change.
+fn seed_of_names(lists: &Lists<'_, '_>) -> u64 {
+    let mut digest = DefaultHasher::new();
+    for payload in &lists.form.payloads {
+        add_to_seed(&mut digest, exports_of(payload));
+    }
+    digest.finish()
+}
+
+fn add_to_seed(digest: &mut DefaultHasher, exports: &[Export<'_>]) {
+    for export in exports {
+        digest.write(export.name.as_bytes());
+    }
+}
+
 /// Adds the names of exports, and says whether each is new.
-fn add_names<'d>(names: &mut HashSet<&'d str>, exports: &[Export<'d>]) -> Result<bool, AllocError>
+fn add_names<'d>(
+    names: &mut HashSet<&'d str, Seeded>,
+    exports: &[Export<'d>],
+) -> Result<bool, AllocError>
     ensures { IfOk result (λ new. (before : List plain.Export) → HasNames names.old before
         → MatchBool new (HasNames names.new (before ++ map export_of exports.now))
         (¬ AreDistinct (before ++ map export_of exports.now))) }

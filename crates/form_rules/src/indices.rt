@@ -1,4 +1,4 @@
-//! Indices of segments (core specification, 3.5.10 and 3.5.11).
+//! Indices of segments (core specification, 3.5, element and data segments).
 
 ghost use Rattle.std.specs.Prelude.{◌≡◌, ◌↔◌, ◌<◌, length, map, All, IsTrue};
 ghost use Rattle.std.specs.List.{flat_map};

@@ -1,4 +1,4 @@
-//! Limits of memories and tables (core specification, 3.2.12 and 3.2.13).
+//! Limits of memories and tables (core specification, 3.2, limits and memory types).
 
 ghost use Rattle.std.specs.Prelude.{◌≡◌, ◌↔◌, ◌*◌, ◌^◌, ◌≤◌, All, IsTrue};
 ghost use Rattle.rule_spec.specs.Limits.{HasLimits, IsOrdered, address_space};

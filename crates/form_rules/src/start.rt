@@ -1,4 +1,4 @@
-//! The start function (core specification, 3.5.12).
+//! The start function (core specification, 3.5, start function).
 
 ghost use Rattle.std.specs.Prelude.{◌↔◌, All, IsTrue};
 ghost use Rattle.std.specs.List.{flat_map};

@@ -1,4 +1,4 @@
-//! Initialisers of tables (core specification, 3.5.4).
+//! Initialisers of tables (core specification, 3.5, tables).
 
 ghost use Rattle.std.specs.Prelude.{◌↔◌, map, All, IsTrue};
 ghost use Rattle.std.specs.List.{flat_map};

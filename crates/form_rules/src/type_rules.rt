@@ -1,13 +1,14 @@
 //! What the type section keeps, and what names function types (core specification, 3.2 and 3.4).
 
-ghost use Rattle.std.specs.Prelude.{◌≡◌, ◌↔◌, map, All, IsTrue, IfSome};
-ghost use Rattle.form_data.specs.Views.{composite_of, sub_type_of};
-ghost use Rattle.wasm_spec.specs.TypeData.{heap_of, value_of, storage_of, field_of};
-ghost use Rattle.rule_spec.specs.TypeRules.{IsBelow, HeapIsBelow, ValueIsBelow, StorageIsBelow, FieldIsBelow, KindIsBelow, IsFunction, NamesFunctionType, IndexNamesFunctionType, ContinuesFunction, IsDeclaredWell};
+ghost use Rattle.std.specs.Prelude.{◌↔◌, map, All, IsTrue, IfSome};
+ghost use Rattle.form_data.specs.Views.{function_of, composite_of, sub_type_of};
+ghost use Rattle.wasm_spec.specs.TypeData.{Func, heap_of, value_of, storage_of, field_of};
+ghost use Rattle.rule_spec.specs.TypeRules.{IsBelow, HeapIsBelow, ValueIsBelow, KindIsBelow, IsFunction, NamesFunctionType, IndexNamesFunctionType, ContinuesFunction, IsDeclaredWell};
 ghost use Rattle.rule_spec.specs.Rules.{TypesAreNamed};
 ghost use Rattle.form_lists.specs.Views.{declared_of, lists_of};
+ghost use Rattle.form_rules.specs.Below.{StorageIsBelow, FieldIsBelow};
 
-use form_data::{CompositeInnerType, SubType};
+use form_data::{CompositeInnerType, FuncType, SubType};
 use form_lists::{Declared, Lists};
 use wasm_spec::{FieldType, HeapType, StorageType, UnpackedIndex, ValType};
 
@@ -40,6 +41,7 @@ pub fn is_below(bound: usize, index: &UnpackedIndex) -> bool
     }
 }
 
+#[tactic(auto, using(crate::proofs::Below::concrete_below, crate::proofs::Below::abstract_below))]
 pub fn heap_is_below(bound: usize, heap: &HeapType) -> bool
     ensures { IsTrue result ↔ HeapIsBelow bound (heap_of heap.now) }
 {
@@ -49,6 +51,7 @@ pub fn heap_is_below(bound: usize, heap: &HeapType) -> bool
     }
 }
 
+#[tactic(auto, using(crate::proofs::Below::ref_below, crate::proofs::Below::i32_below, crate::proofs::Below::i64_below, crate::proofs::Below::f32_below, crate::proofs::Below::f64_below, crate::proofs::Below::v128_below))]
 pub fn value_is_below(bound: usize, ty: &ValType) -> bool
     ensures { IsTrue result ↔ ValueIsBelow bound (value_of ty.now) }
 {
@@ -58,6 +61,7 @@ pub fn value_is_below(bound: usize, ty: &ValType) -> bool
     }
 }
 
+#[tactic(auto, using(crate::proofs::Below::val_below, crate::proofs::Below::i8_below, crate::proofs::Below::i16_below))]
 fn storage_is_below(bound: usize, ty: &StorageType) -> bool
     ensures { IsTrue result ↔ StorageIsBelow bound (storage_of ty.now) }
 {
@@ -67,6 +71,7 @@ fn storage_is_below(bound: usize, ty: &StorageType) -> bool
     }
 }
 
+#[tactic(auto, using(crate::proofs::Below::field_below))]
 fn field_is_below(bound: usize, field: &FieldType) -> bool
     ensures { IsTrue result ↔ FieldIsBelow bound (field_of field.now) }
 {
@@ -85,13 +90,19 @@ fn fields_are_below(bound: usize, fields: &[FieldType]) -> bool
     fields.iter().all(|field| field_is_below(bound, field))
 }
 
+#[tactic(auto, using(crate::proofs::Below::function_below))]
+fn function_is_below(bound: usize, function: &FuncType) -> bool
+    ensures { IsTrue result ↔ KindIsBelow bound (Func (function_of function.now)) }
+{
+    values_are_below(bound, &function.params) && values_are_below(bound, &function.results)
+}
+
+#[tactic(auto, using(crate::proofs::Below::array_below, crate::proofs::Below::struct_below, crate::proofs::Below::cont_below))]
 fn kind_is_below(bound: usize, kind: &CompositeInnerType) -> bool
     ensures { IsTrue result ↔ KindIsBelow bound (composite_of kind.now) }
 {
     match kind {
-        CompositeInnerType::Func(function) => {
-            values_are_below(bound, &function.params) && values_are_below(bound, &function.results)
-        }
+        CompositeInnerType::Func(function) => function_is_below(bound, function),
         CompositeInnerType::Array(field) => field_is_below(bound, field),
         CompositeInnerType::Struct(fields) => fields_are_below(bound, fields),
         CompositeInnerType::Cont(function) => is_below(bound, function),

@@ -2,6 +2,7 @@
 use Rattle.std.proofs.Common.{◌≡◌, ℕ, [], ◌∷◌, refl, sym, ap, subst, arith}
 use Rattle.std.specs.Prelude.{nat_eq}
 use Rattle.std.specs.List.{IsDistinct}
+use Rattle.wasm_index.specs.Index.{number_of}
 use Rattle.wasm_index.specs.declared.index.Index.{Index}
 use Rattle.wasm_index.specs.declared.spaces.StaticModuleSpace.{StaticModuleSpace}
 use Rattle.wasm_module.specs.declared.memory_initialization.MemoryInitialization.{MemoryInitialization}
@@ -22,6 +23,9 @@ IsDistinct-nil = tt
 module _ (i : Index StaticModuleSpace) (t : ModuleTranslation) (h : IsNewTranslation i t) where
   pub new-memories : t.module.memories ≡ []
   new-memories = ap (λ (m : ModuleRecord). m.memories) h.record_of_module
+
+  pub new-index : number_of t.module.module_index ≡ number_of i
+  new-index = ap (λ (m : ModuleRecord). number_of m.module_index) h.record_of_module
 
   pub new-imports : t.module.num_imported_memories ≡ 0
   new-imports = ap (λ (m : ModuleRecord). m.num_imported_memories) h.record_of_module

@@ -39,6 +39,11 @@ abbrev pub IsUnprocessed : MemoryInit → Type 0
 IsUnprocessed (init.Unprocessed segments) = Unit {0}
 IsUnprocessed (init.Processed segments) = ⊥
 
+-- the segments are planned
+abbrev pub IsProcessed : MemoryInit → Type 0
+IsProcessed (init.Unprocessed segments) = ⊥
+IsProcessed (init.Processed segments) = Unit {0}
+
 -- the active data segments that are not planned yet
 abbrev pub initializers_of : ModuleTranslation → List ActiveSegment
 initializers_of t = unprocessed_of t.memory_init

@@ -4,13 +4,16 @@ ghost use Rattle.std.specs.Prelude.{◌≡◌};
 ghost use Rattle.init_plan.specs.declared.error.PlanError.TheVariants.{OutOfMemory};
 
 use std::alloc::{AllocError, AllocFailed};
+use thiserror::Error;
 
 /// Why the initialisers have no plan.
-#[derive(Clone, Copy, Debug, PartialEq, Eq)]
+#[derive(Clone, Copy, Debug, PartialEq, Eq, Error)]
 pub enum PlanError {
     /// The runtime data pass 4294967295 bytes.
+    #[error("the data pass 4294967295 bytes")]
     TooLarge,
     /// There was no memory.
+    #[error("out of memory")]
     OutOfMemory,
 }
 

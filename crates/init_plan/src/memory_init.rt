@@ -3,7 +3,7 @@
 ghost use Rattle.std.specs.Prelude.{◌≡◌, ◌≢◌, ◌^◌, ◌<◌, ◌≤◌, ◌++◌, ℕ, length, map, All, Contains, IsFalse, OnOk, Err, None};
 ghost use Rattle.std.specs.Int.{IsPowerOfTwo};
 ghost use Rattle.replay_spec.specs.Plan.{AgreesOver, kept_segments, planned_from, ranges_from};
-ghost use Rattle.init_plan.specs.Views.{memory_plan_of, initializers_of, passive_data_of, defined_sizes, ranges_of, IsSegmented, data_total, active_bytes, passive_bytes, FindsData, OnlyMemoryInitChanges, IsUnprocessed, active_segment_of, SameButSegments};
+ghost use Rattle.init_plan.specs.Views.{memory_plan_of, initializers_of, passive_data_of, defined_sizes, ranges_of, IsSegmented, data_total, active_bytes, passive_bytes, FindsData, OnlyMemoryInitChanges, IsUnprocessed, IsProcessed, active_segment_of, SameButSegments};
 ghost use Rattle.init_plan.specs.Ready.{MemoryHalfIsReady};
 
 use crate::error::PlanError;
@@ -33,6 +33,7 @@ impl<'d> ModuleTranslation<'d> {
 
         // No image is made, and every segment is kept, in order.
         ensures segmented { OnOk result (IsSegmented self.new.module.memory_initialization) }
+        ensures processed { OnOk result (IsProcessed self.new.memory_init) }
         ensures kept { OnOk result (kept_segments (memory_plan_of self.new) ≡ initializers_of self.old) }
         ensures planned { OnOk result ((memory_plan_of self.new).segments ≡ planned_from 0 (initializers_of self.old)) }
 

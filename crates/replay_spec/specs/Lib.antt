@@ -1,5 +1,6 @@
 pub mod Phases
 pub mod Values
+pub mod Classes
 pub mod Data
 pub mod Plan
 pub mod Worked

@@ -1,8 +1,18 @@
--- Small modules, for the worked examples.
-use Rattle.std.specs.Prelude.{pos, negsuc, ℤ, ℕ, List, [], ◌∷◌, false, None}
+-- Small expressions and modules, for the worked examples.
+use Rattle.std.specs.Prelude.{pos, negsuc, ℤ, ℕ, List, [], ◌∷◌, ◌++◌, ◌-◌, replicate, false, None}
 use Rattle.wasm_spec.specs.declared.entities.MemoryType.{MemoryType}
-use Rattle.wasm_spec.specs.declared.operators.Operator.TheVariants.{I32Const}
-use Rattle.wasm_spec.specs.Module.{Active, Segment, Memories, Segments, Module}
+use Rattle.wasm_spec.specs.declared.operators.Operator.TheVariants.{I32Const, I32Add}
+use Rattle.wasm_spec.specs.declared.types.HeapType.{HeapType}
+use Rattle.wasm_spec.specs.declared.types.HeapType.TheVariants.{Abstract}
+use Rattle.wasm_spec.specs.declared.types.AbstractHeapType.TheVariants.{Any}
+use Rattle.wasm_spec.specs.Module.{Expression, Active, Segment, Memories, Segments, Module}
+
+abbrev pub any_heap : HeapType
+any_heap = Abstract Any
+
+-- so many ones, and then the additions that leave their sum
+abbrev pub ones_added : ℕ → Expression
+ones_added n = replicate n (I32Const (pos 1)) ++ replicate (n - 1) I32Add
 
 -- a memory of one page
 abbrev pub one_page : MemoryType

@@ -3,6 +3,10 @@
 //! The definitions stand in `specs/`, over plain records of numbers and lists.
 #![tactic(auto)]
 
+mod laws;
 mod worked;
 
-pub use worked::{worked_phases, worked_ranges, worked_values};
+pub use laws::{constant_value_law, typed_value_law};
+pub use worked::{
+    worked_constants, worked_phases, worked_ranges, worked_references, worked_values,
+};

@@ -1,4 +1,4 @@
--- The listed rules, each a statement over the lists of a module.
+-- The listed rules, each a statement over the lists of a module (core specification, 3.5).
 use Rattle.std.specs.Prelude.{◌≡◌, ◌≢◌, ℕ, ◌+◌, ◌<◌, ◌≤◌, List, length, sum_by, All, AllPairs, false, IsSome}
 use Rattle.wasm_spec.specs.declared.types.ValType.{ValType}
 use Rattle.rule_spec.specs.declared.rules.Rule.{Rule}
@@ -11,35 +11,40 @@ use Rattle.rule_spec.specs.Indices.{IsInSpace, CanStart, NamesMemory, IsElementI
 use Rattle.rule_spec.specs.References.{AllReferIn}
 use Rattle.rule_spec.specs.Expressions.{AreExpressionsTyped}
 
+-- functions and tags have declared function types (3.5, functions and tags)
 pub record TypesAreNamed (l : Lists) : Type 0 where
   pub functions : All (NamesFunctionType l) l.functions
   pub tags : All (NamesFunctionType l) l.tags
 
--- how many locals a body has
+-- how many locals a body has (5.5, code section)
 abbrev pub locals : Body → ℕ
 locals b = sum_by (λ (run : ℕ × ValType). run.0) b.locals
 
+-- as many bodies as functions, as many data segments as are said, and locals of 32 bits (5.5, code section and modules)
 pub record CountsAgree (l : Lists) : Type 0 where
   pub bodies : length l.functions ≡ l.imported_functions + length l.bodies
   pub data_segments : All (λ count. count ≡ length l.segments) l.data_counts
   pub locals : All (λ b. locals b ≤ 4294967295) l.bodies
 
+-- limits of tables and memories (3.2, limits)
 pub record HaveLimits (l : Lists) : Type 0 where
   pub tables : All IsOrdered l.table_types
   pub memories : All HasLimits l.memories
 
--- a table whose cells cannot be null says what they hold at first
+-- a table whose cells cannot be null says what they hold at first (3.5, tables)
 abbrev pub IsInitialised : TableDef → Type 0
 IsInitialised t = (t.type.element_type.nullable ≡ false) → IsSome t.init
 
--- no two exports have one name
+-- no two exports have one name (3.5, modules)
 abbrev pub AreDistinct : List Export → Type 0
 AreDistinct es = AllPairs (λ (a b : Export). a.name ≢ b.name) es
 
+-- exports name what there is, each by a name of its own (3.5, exports)
 pub record AreExported (l : Lists) : Type 0 where
   pub in_space : All (IsInSpace l) l.exports
   pub distinct : AreDistinct l.exports
 
+-- what segments name is in range (3.5, element and data segments)
 pub record AreInRange (l : Lists) : Type 0 where
   pub elements : All (IsElementInRange l) l.elements
   pub segments : All (λ (s : Segment). NamesMemory l s.kind) l.segments

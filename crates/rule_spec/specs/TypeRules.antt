@@ -1,51 +1,32 @@
--- What the type section keeps.
+-- What the type section keeps (core specification, 3.2).
 use Rattle.std.specs.Prelude.{ℕ, ◌<◌, All, IfSome, IsSomeAnd}
 use Rattle.wasm_spec.specs.declared.types.UnpackedIndex.{UnpackedIndex}
-use Rattle.wasm_spec.specs.declared.types.UnpackedIndex.TheVariants.{Module, RecGroup, Id}
-use Rattle.wasm_spec.specs.TypeData.{Heap, Concrete, Abstract, Value, I32, I64, F32, F64, V128, Ref, Storage, I8, I16, Val, Field, Composite, Func, Array, Struct, Cont, Exn}
+use Rattle.wasm_spec.specs.declared.types.UnpackedIndex.TheVariants.{Module}
+use Rattle.wasm_spec.specs.TypeData.{Heap, Value, Composite, Func, Cont, heap_edges, value_edges, composite_edges}
 use Rattle.rule_spec.specs.Lists.{Declared, Lists, kind_at}
+
+-- ---- indices below a bound
 
 -- the index is below a bound; what is no index of the module is below none
 abbrev pub IsBelow : ℕ → UnpackedIndex → Type 0
 IsBelow bound (Module index) = index < bound
-IsBelow bound (RecGroup index) = ⊥
-IsBelow bound (Id id) = ⊥
+IsBelow bound _ = ⊥
 
--- each index in the type is below a bound
-abbrev pub HeapIsBelow : ℕ → Heap UnpackedIndex → Type 0
-HeapIsBelow bound (Concrete index) = IsBelow bound index
-HeapIsBelow bound (Abstract heap) = Unit {0}
+-- each index that the type names is below a bound
+unfoldable pub HeapIsBelow : ℕ → Heap UnpackedIndex → Type 0
+HeapIsBelow bound h = All (IsBelow bound) (heap_edges (λ i. i) h)
 
-abbrev pub ValueIsBelow : ℕ → Value UnpackedIndex → Type 0
-ValueIsBelow bound I32 = Unit {0}
-ValueIsBelow bound I64 = Unit {0}
-ValueIsBelow bound F32 = Unit {0}
-ValueIsBelow bound F64 = Unit {0}
-ValueIsBelow bound V128 = Unit {0}
-ValueIsBelow bound (Ref reference) = HeapIsBelow bound reference.heap
+unfoldable pub ValueIsBelow : ℕ → Value UnpackedIndex → Type 0
+ValueIsBelow bound v = All (IsBelow bound) (value_edges (λ i. i) v)
 
-abbrev pub StorageIsBelow : ℕ → Storage UnpackedIndex → Type 0
-StorageIsBelow bound I8 = Unit {0}
-StorageIsBelow bound I16 = Unit {0}
-StorageIsBelow bound (Val v) = ValueIsBelow bound v
+unfoldable pub KindIsBelow : ℕ → Composite UnpackedIndex UnpackedIndex → Type 0
+KindIsBelow bound kind = All (IsBelow bound) (composite_edges (λ i. i) kind)
 
-abbrev pub FieldIsBelow : ℕ → Field UnpackedIndex → Type 0
-FieldIsBelow bound f = StorageIsBelow bound f.element
+-- ---- function types
 
-abbrev pub KindIsBelow : ℕ → Composite UnpackedIndex UnpackedIndex → Type 0
-KindIsBelow bound (Func type) = All (ValueIsBelow bound) type.params × All (ValueIsBelow bound) type.results
-KindIsBelow bound (Array field) = FieldIsBelow bound field
-KindIsBelow bound (Struct fields) = All (FieldIsBelow bound) fields
-KindIsBelow bound (Cont function) = IsBelow bound function
-KindIsBelow bound (Exn type) = IsBelow bound type.function × All (FieldIsBelow bound) type.fields
-
--- the type is a function type
 abbrev pub IsFunction : Composite UnpackedIndex UnpackedIndex → Type 0
 IsFunction (Func type) = Unit {0}
-IsFunction (Array field) = ⊥
-IsFunction (Struct fields) = ⊥
-IsFunction (Cont function) = ⊥
-IsFunction (Exn type) = ⊥
+IsFunction _ = ⊥
 
 -- a declared function type has this index
 abbrev pub NamesFunctionType : Lists → ℕ → Type 0
@@ -53,18 +34,16 @@ NamesFunctionType l index = IsSomeAnd (kind_at l index) IsFunction
 
 abbrev pub IndexNamesFunctionType : Lists → UnpackedIndex → Type 0
 IndexNamesFunctionType l (Module index) = NamesFunctionType l index
-IndexNamesFunctionType l (RecGroup index) = ⊥
-IndexNamesFunctionType l (Id id) = ⊥
+IndexNamesFunctionType l _ = ⊥
 
--- a continuation names a function type
+-- a continuation names a function type (3.2, composite types)
 abbrev pub ContinuesFunction : Lists → Composite UnpackedIndex UnpackedIndex → Type 0
-ContinuesFunction l (Func type) = Unit {0}
-ContinuesFunction l (Array field) = Unit {0}
-ContinuesFunction l (Struct fields) = Unit {0}
 ContinuesFunction l (Cont function) = IndexNamesFunctionType l function
-ContinuesFunction l (Exn type) = Unit {0}
+ContinuesFunction l _ = Unit {0}
 
--- indices below the end of the type's own group, a supertype at a lower index, and a continuation of a function type
+-- ---- declared types
+
+-- indices below the end of the type's own group, a supertype at a lower index, and a continuation of a function type (3.2, recursive types)
 pub record IsDeclaredWell (l : Lists) (d : Declared) : Type 0 where
   pub indices : KindIsBelow d.group_end d.type.composite.inner
   pub supertype : IfSome d.type.supertype (IsBelow d.index)

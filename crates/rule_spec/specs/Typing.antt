@@ -1,4 +1,4 @@
--- Coarse typing of constant expressions: of a value only its class counts (core specification, 3.4.15).
+-- Coarse typing of constant expressions: of a value only its class counts (core specification, 3.4, constant expressions).
 use Rattle.std.specs.Prelude.{◌≡◌, ℕ, Bool, true, false, ◌∷◌, [], ◌++◌, List, map, length, replicate, nat_lt, slice_get, Option, None, Some, if◌then◌else◌}
 use Rattle.std.specs.Option.{option_and_then}
 use Rattle.std.specs.List.{list_all}
@@ -6,7 +6,7 @@ use Rattle.wasm_spec.specs.declared.entities.GlobalType.{GlobalType}
 use Rattle.wasm_spec.specs.declared.operators.Operator.{Operator}
 use Rattle.wasm_spec.specs.declared.operators.Operator.TheVariants as op
 use Rattle.wasm_spec.specs.declared.types.UnpackedIndex.{UnpackedIndex}
-use Rattle.wasm_spec.specs.TypeData.{Value, I32, I64, F32, F64, V128, Ref, Storage, I8, I16, Val, Field, Composite, Func, Array, Struct, Cont, Exn, value_of}
+use Rattle.wasm_spec.specs.TypeData.{Value, I32, I64, F32, F64, V128, Ref, Storage, Val, Field, Composite, Array, Struct, value_of}
 use Rattle.wasm_spec.specs.Module.{Expression}
 use Rattle.rule_spec.specs.declared.classes.Class.{Class}
 use Rattle.rule_spec.specs.declared.classes.Class.TheVariants as class
@@ -24,27 +24,21 @@ class_of (Ref reference) = class.Ref
 
 -- a packed value is an i32 on the stack
 abbrev pub storage_class : Storage UnpackedIndex → Class
-storage_class I8 = class.I32
-storage_class I16 = class.I32
 storage_class (Val v) = class_of v
+storage_class _ = class.I32
 
 abbrev pub field_class : Field UnpackedIndex → Class
 field_class f = storage_class f.element
 
 -- numbers, vectors and nullable references have a default
 abbrev pub value_has_default : Value UnpackedIndex → Bool
-value_has_default I32 = true
-value_has_default I64 = true
-value_has_default F32 = true
-value_has_default F64 = true
-value_has_default V128 = true
 value_has_default (Ref reference) = reference.nullable
+value_has_default _ = true
 
 -- and packed values
 abbrev pub storage_has_default : Storage UnpackedIndex → Bool
-storage_has_default I8 = true
-storage_has_default I16 = true
 storage_has_default (Val v) = value_has_default v
+storage_has_default _ = true
 
 abbrev pub has_default : Field UnpackedIndex → Bool
 has_default f = storage_has_default f.element
@@ -52,18 +46,12 @@ has_default f = storage_has_default f.element
 -- ---- what indices name
 
 abbrev pub struct_fields : Composite UnpackedIndex UnpackedIndex → Option (List (Field UnpackedIndex))
-struct_fields (Func type) = None
-struct_fields (Array field) = None
 struct_fields (Struct fields) = Some fields
-struct_fields (Cont function) = None
-struct_fields (Exn type) = None
+struct_fields _ = None
 
 abbrev pub array_field : Composite UnpackedIndex UnpackedIndex → Option (Field UnpackedIndex)
-array_field (Func type) = None
 array_field (Array field) = Some field
-array_field (Struct fields) = None
-array_field (Cont function) = None
-array_field (Exn type) = None
+array_field _ = None
 
 -- the fields of the struct type that has this index
 abbrev pub struct_at : Lists → ℕ → Option (List (Field UnpackedIndex))

@@ -5,6 +5,8 @@
 
 mod classes;
 mod rules;
+mod worked;
 
 pub use classes::Class;
 pub use rules::Rule;
+pub use worked::{worked_expressions, worked_rules, worked_signatures};

@@ -7,13 +7,13 @@ use Rattle.std.proofs.lemmas.List.Concat.{flat_map-append}
 use Rattle.std.proofs.lemmas.List.Elements.{filter_map-append}
 use Rattle.wasm_spec.specs.declared.entities.MemoryType.{MemoryType}
 use Rattle.wasm_spec.specs.Module.{Segment, Module, defined_memories, memories_of_section, segments, segments_of_section}
-use Rattle.wasm_spec.specs.Rules.{IsIntegerConstant}
-use Rattle.wasm_form.specs.declared.form.ConstExpr.{ConstExpr}
-use Rattle.wasm_form.specs.declared.form.DataKind.{DataKind}
-use Rattle.wasm_form.specs.declared.form.DataKind.TheVariants.{Active}
-use Rattle.wasm_form.specs.declared.form.DataSegment.{DataSegment}
-use Rattle.wasm_form.specs.declared.form.Payload.{Payload}
-use Rattle.wasm_form.specs.Views.{data_kind_of, segment_of, payload_of}
+use Rattle.translate.specs.Stage.{IsIntegerConstant}
+use Rattle.form_data.specs.declared.form.ConstExpr.{ConstExpr}
+use Rattle.form_data.specs.declared.form.DataKind.{DataKind}
+use Rattle.form_data.specs.declared.form.DataKind.TheVariants.{Active}
+use Rattle.form_data.specs.declared.form.DataSegment.{DataSegment}
+use Rattle.form_data.specs.declared.form.Payload.{Payload}
+use Rattle.form_data.specs.Views.{data_kind_of, segment_of, payload_of}
 use Rattle.wasm_types.specs.declared.memory.Memory.{Memory}
 use Rattle.wasm_types.specs.Memories.{memory_of, HasPageSize}
 use Rattle.replay_spec.specs.Data.{ActiveSegment, active_of_kind}

@@ -3,22 +3,27 @@ use Rattle.std.proofs.Common.{◌≡◌, ◌≤◌, ◌<◌, ◌^◌, ℕ, List,
 use Rattle.std.specs.Prelude.{◌↔◌, MatchOption}
 use Rattle.wasm_spec.specs.declared.operators.What.{What}
 use Rattle.wasm_spec.specs.declared.operators.What.TheVariants as whats
-use Rattle.wasm_spec.specs.declared.rules.Rule.{Rule}
+use Rattle.rule_spec.specs.declared.rules.Rule.{Rule}
 use Rattle.wasm_spec.specs.Module.{Module, data_size}
 use Rattle.wasm_spec.specs.Grammar.{Spells, Stops}
-use Rattle.wasm_spec.specs.Rules.{OnlyPlannedSections, OnlyConstantOffsets, Kept, Keeps, KeepsBefore}
-use Rattle.wasm_spec.specs.Valid.{HasNoInterfaceTypes, IsValid}
-use Rattle.wasm_form.specs.declared.error.ReadError.{ReadError}
-use Rattle.wasm_form.specs.declared.error.ReadError.TheVariants as read
-use Rattle.wasm_form.specs.declared.error.CheckError.{CheckError}
-use Rattle.wasm_form.specs.declared.error.CheckError.TheVariants as checks
-use Rattle.wasm_form.specs.declared.form.Form.{Form}
-use Rattle.wasm_form.specs.Views.{module_of, ReadsAs, ChecksOrNoMemory}
+use Rattle.wasm_spec.specs.Interfaces.{HasNoInterfaceTypes}
+use Rattle.rule_spec.specs.Lists.{lists_of_module}
+use Rattle.rule_spec.specs.Rules.{Kept, Keeps, KeepsBefore}
+use Rattle.form_reader.specs.declared.error.ReadError.{ReadError}
+use Rattle.form_reader.specs.declared.error.ReadError.TheVariants as read
+use Rattle.form_rules.specs.declared.error.CheckError.{CheckError}
+use Rattle.form_rules.specs.declared.error.CheckError.TheVariants as checks
+use Rattle.form_data.specs.declared.form.Form.{Form}
+use Rattle.form_data.specs.Views.{module_of}
+use Rattle.form_reader.specs.Outcomes.{ReadsAs}
+use Rattle.form_rules.specs.Outcomes.{ChecksOrNoMemory}
 use Rattle.init_plan.specs.declared.error.PlanError.{PlanError}
 use Rattle.init_plan.specs.declared.error.PlanError.TheVariants as plan
-use Rattle.plan_text.specs.Errors.{error_of_read, error_of_check, error_of_plan}
-use Rattle.plan_text.specs.declared.error.TranslateError.TheVariants as refusal
-use Rattle.translate.specs.Planned.{IsReadable, IsUnplanned, HasCause}
+use Rattle.plan.specs.Errors.{error_of_read, error_of_check, error_of_plan}
+use Rattle.plan.specs.declared.error.TranslateError.TheVariants as refusal
+use Rattle.translate.specs.Stage.{OnlyPlannedSections, OnlyConstantOffsets}
+use Rattle.translate.specs.Valid.{IsReadable}
+use Rattle.translate.specs.Planned.{IsUnplanned, HasCause}
 
 -- what reading promises of an answer
 pub record ReadingTells (bytes : List ℕ) (r : Result Form ReadError) : Type 0 where
@@ -33,9 +38,6 @@ read_cause bytes r read.Malformed t is = (t.malformed is, t.stops_nowhere is)
 read_cause bytes r (read.Unsupported what) t is = inl (t.unsupported what is)
 read_cause bytes r read.TooLarge t is = inl (t.too_large.0 is)
 read_cause bytes r read.OutOfMemory t is = tt
-
-pub readable : (bytes : List ℕ) → (v : IsValid bytes) → IsReadable bytes v.meaning
-readable bytes v = record { short = v.short; spelled = v.spelled; no_interface_types = v.no_interface_types }
 
 -- input that can be read is refused for want of memory alone
 pub read_complete : (bytes : List ℕ) (r : Result Form ReadError) (e : ReadError) (m : Module) → ReadingTells bytes r → r ≡ Err e
@@ -73,17 +75,20 @@ nothing_named m (Some what) told none = absurd (none what refl)
 
 -- ---- what was read
 
--- it was short
-pub was_short : (bytes : List ℕ) (form : Form) → ReadingTells bytes (Ok form) → length bytes < 2 ^ 30
-was_short bytes form t = let short : 2 ^ 30 ≤ length bytes → ⊥ = λ long. no_error (t.too_large.1 long) in omega arith where
-  no_error : (let r : Result Form ReadError = Ok form in r) ≡ Err read.TooLarge → ⊥
-  no_error e = absurd cc
+-- it can be read
+pub was_readable : (bytes : List ℕ) (form : Form) → ReadingTells bytes (Ok form) → Spells bytes (module_of form)
+    → HasNoInterfaceTypes (module_of form) → IsReadable bytes (module_of form)
+was_readable bytes form t spelled no_interface_types =
+    let not_long : 2 ^ 30 ≤ length bytes → ⊥ = λ long. no_error (t.too_large.1 long) in
+    record { short = omega arith; spelled = spelled; no_interface_types = no_interface_types } where
+      no_error : (let r : Result Form ReadError = Ok form in r) ≡ Err read.TooLarge → ⊥
+      no_error e = absurd cc
 
 pub check_cause : (bytes : List ℕ) (m : Module) (r : Result (Unit {0}) CheckError) (e : CheckError) → r ≡ Err e
-    → ((rule : Rule) → r ≡ Err (checks.Invalid rule) → ¬ Kept rule m)
-    → ((rule : Rule) → r ≡ Err (checks.Invalid rule) → KeepsBefore rule m) → Spells bytes m → HasCause bytes (error_of_check e)
-check_cause bytes m r (checks.Invalid rule) is broken first spelled = (m, spelled, (broken rule is, first rule is))
-check_cause bytes m r checks.OutOfMemory is broken first spelled = tt
+    → ((rule : Rule) → r ≡ Err (checks.Invalid rule) → ¬ Kept rule (lists_of_module m))
+    → ((rule : Rule) → r ≡ Err (checks.Invalid rule) → KeepsBefore rule m) → IsReadable bytes m → HasCause bytes (error_of_check e)
+check_cause bytes m r (checks.Invalid rule) is broken first readable = (m, readable, (broken rule is, first rule is))
+check_cause bytes m r checks.OutOfMemory is broken first readable = tt
 
 pub check_complete : (m : Module) (r : Result (Unit {0}) CheckError) (e : CheckError) → r ≡ Err e → (Keeps m → ChecksOrNoMemory r) → Keeps m
     → error_of_check e ≡ refusal.OutOfMemory
@@ -91,9 +96,9 @@ check_complete m r e is complete kept = ap error_of_check (subst (λ (q : Result
 
 -- the data of the module pass their limit
 pub plan_cause : (bytes : List ℕ) (m : Module) (total : ℕ) (r : Result (Unit {0}) PlanError) (e : PlanError) → r ≡ Err e
-    → (r ≡ Err plan.TooLarge → 2 ^ 32 ≤ total) → total ≡ data_size m → Spells bytes m → HasCause bytes (error_of_plan e)
-plan_cause bytes m total r plan.TooLarge is too_large same spelled = inr (m, spelled, let h = too_large is in omega (arith, same))
-plan_cause bytes m total r plan.OutOfMemory is too_large same spelled = tt
+    → (r ≡ Err plan.TooLarge → 2 ^ 32 ≤ total) → total ≡ data_size m → IsReadable bytes m → HasCause bytes (error_of_plan e)
+plan_cause bytes m total r plan.TooLarge is too_large same readable = inr (m, readable, let h = too_large is in omega (arith, same))
+plan_cause bytes m total r plan.OutOfMemory is too_large same readable = tt
 
 pub plan_complete : (m : Module) (total : ℕ) (r : Result (Unit {0}) PlanError) (e : PlanError) → r ≡ Err e
     → (r ≡ Err plan.TooLarge → 2 ^ 32 ≤ total) → total ≡ data_size m → data_size m < 2 ^ 32 → error_of_plan e ≡ refusal.OutOfMemory

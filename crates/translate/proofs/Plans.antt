@@ -2,18 +2,22 @@
 use Rattle.std.proofs.Common.{◌≡◌, ◌++◌, ℕ, List, [], ◌∷◌, length, map, drop, Option, Some, None, refl, sym, ap, subst, ◌∙◌}
 use Rattle.std.specs.Prelude.{All, Contains, slice_get}
 use Rattle.wasm_spec.specs.Module.{Expression, DataKind, Passive, Active, Segment, Module, imported_memories, defined_memories, segments, data_size}
+use Rattle.wasm_index.specs.Index.{number_of}
 use Rattle.wasm_types.specs.Memories.{memory_of}
 use Rattle.wasm_module.specs.Record.{ModuleRecord}
 use Rattle.replay_spec.specs.Data.{ActiveSegment, active_segments, minimum_size}
-use Rattle.replay_spec.specs.Plan.{MemoryPlan, AgreesOver, Agrees, kept_segments, ranges_from, FindsPassive}
+use Rattle.replay_spec.specs.Plan.{MemoryPlan, AgreesOver, Agrees, kept_segments, planned_from, ranges_from, FindsPassive}
 use Rattle.init_plan.specs.declared.translation.ModuleTranslation.{ModuleTranslation}
-use Rattle.init_plan.specs.Views.{memory_plan_of, initializers_of, passive_data_of, defined_sizes, ranges_of, data_total, active_bytes, passive_bytes, FindsData, FindsRuntime, OnlyMemoryInitChanges}
+use Rattle.init_plan.specs.Views.{memory_plan_of, initializers_of, passive_data_of, defined_sizes, ranges_of, data_total, active_bytes, passive_bytes, FindsData, FindsRuntime, IsSegmented, IsProcessed, OnlyMemoryInitChanges}
 use Rattle.translate.specs.Filled.{Fills, passive_from}
 use Rattle.translate.specs.Planned.{IsPlanOf, runtime_data, Finds}
 use Rattle.translate.proofs.Segments.{sizes_same, sizes_add, passive_bytes_same, passive_has, not_contained}
 
 -- what planning promises of the translation that it leaves
 pub record PlanningTells (old new : ModuleTranslation) : Type 0 where
+  pub segmented : IsSegmented new.module.memory_initialization
+  pub processed : IsProcessed new.memory_init
+  pub planned : (memory_plan_of new).segments ≡ planned_from 0 (initializers_of old)
   pub kept : kept_segments (memory_plan_of new) ≡ initializers_of old
   pub agrees : AgreesOver old.module.num_imported_memories (defined_sizes old.module) (initializers_of old) (memory_plan_of new)
   pub runtime : (memory_plan_of new).runtime ≡ active_bytes old ++ passive_bytes old
@@ -81,7 +85,10 @@ module _ (bytes : List ℕ) (m : Module) (old : ModuleTranslation) (filled : Fil
     pub is_plan : IsPlanOf bytes m (record { translation = new })
     is_plan = record {
       agrees = agrees_with;
-      kept = planned.kept ∙ filled.active;
+      segmented = planned.segmented;
+      left = planned.kept ∙ filled.active;
+      processed = planned.planned ∙ ap (planned_from 0) filled.active;
+      is_processed = planned.processed;
       memories = ap (λ (r : ModuleRecord). r.memories) planned.same.record_of_module ∙ filled.memories;
       imports = ap (λ (r : ModuleRecord). r.num_imported_memories) planned.same.record_of_module ∙ filled.imports;
       runtime = runtime_same;
@@ -89,5 +96,6 @@ module _ (bytes : List ℕ) (m : Module) (old : ModuleTranslation) (filled : Fil
       passive = λ index. finds (memory_plan_of new) (segments m) (subst (All (FindsData (memory_plan_of new))) filled.passive planned.found)
           (λ i none. planned.others i (subst (λ (ps : List (ℕ × List ℕ)). ¬ Contains (map (λ p. p.0) ps) i)
           (sym filled.passive) none)) index (slice_get (segments m) index) refl;
+      module_index = ap (λ (r : ModuleRecord). number_of r.module_index) planned.same.record_of_module ∙ filled.module_index;
       wasm = planned.same.wasm ∙ filled.wasm;
     }

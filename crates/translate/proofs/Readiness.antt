@@ -3,51 +3,95 @@ use Rattle.std.proofs.Common.{◌≡◌, ℕ, ◌+◌, ◌<◌, ◌≤◌, ◌^�
 use Rattle.std.specs.Prelude.{All, IfSome, slice_get, unwrap_or, nat_eq}
 use Rattle.std.specs.List.{IsDistinct, cons_option, filter_map}
 use Rattle.std.proofs.lemmas.Bool.{ne_eqb}
-use Rattle.std.proofs.lemmas.List.{length-map}
+use Rattle.std.proofs.lemmas.List.{length-map, length-append}
 use Rattle.std.proofs.lemmas.List.Elements.{All-nil, All-cons, All-head, All-tail, All-map, All-weaker, recursion_from_All}
 use Rattle.std.proofs.lemmas.Map.Keys.{IsDistinct-cons}
 use Rattle.std.proofs.lemmas.Option.{slice_get_cases}
 use Rattle.wasm_spec.specs.declared.entities.MemoryType.{MemoryType}
-use Rattle.wasm_spec.specs.declared.rules.Rule.TheVariants.{L4, L6, L9}
+use Rattle.rule_spec.specs.declared.rules.Rule.TheVariants.{L4, L6, L9}
 use Rattle.wasm_spec.specs.Module.{Expression, Import, DataKind, Passive, Active, Segment, Payload, Memories, Segments, Custom, Module, imports, imports_of_section, memory_import, imported_memories, defined_memories, memories, segments}
-use Rattle.wasm_spec.specs.Rules.{HasLimits, Class, class_of, HasClass, address_class, HasOffset, NamesMemory, IsPlannedSection, OnlyPlannedSections, HasConstantOffset, OnlyConstantOffsets, HasFewEntries, Keeps}
+use Rattle.wasm_spec.specs.Sizes.{HasFewEntries}
+use Rattle.wasm_spec.specs.declared.entities.GlobalType.{GlobalType}
+use Rattle.wasm_spec.specs.declared.operators.Operator.{Operator}
+use Rattle.wasm_spec.specs.declared.operators.Operator.TheVariants as ops
+use Rattle.rule_spec.specs.declared.classes.Class.{Class}
+use Rattle.rule_spec.specs.declared.classes.Class.TheVariants as classes
+use Rattle.rule_spec.specs.Lists.{Lists, lists_of_module}
+use Rattle.rule_spec.specs.Limits.{HasLimits}
+use Rattle.rule_spec.specs.Typing.{Signature, gives, signature, Step, Leads, HasClass}
+use Rattle.rule_spec.specs.Expressions.{address_class, HasMemoryOffset}
+use Rattle.rule_spec.specs.Indices.{NamesMemory}
+use Rattle.translate.specs.Stage.{IsPlannedSection, OnlyPlannedSections, IsIntegerConstant, HasConstantOffset}
+use Rattle.translate.specs.Valid.{CanBePlanned}
+use Rattle.wasm_index.specs.Index.{number_of}
 use Rattle.wasm_types.specs.declared.memory.Memory.{Memory}
 use Rattle.wasm_types.specs.Memories.{memory_of, HasPageSize}
 use Rattle.replay_spec.specs.Data.{ActiveSegment, active_of_kind}
 use Rattle.wasm_module.specs.declared.module.Module.{Module as TranslatedModule}
 use Rattle.init_plan.specs.declared.translation.MemoryInit.TheVariants.{Unprocessed}
 use Rattle.init_plan.specs.Views.{passive_data_of, ranges_of, IsSegmented}
-use Rattle.init_plan.proofs.Unplanned.{new-memories, new-imports, new-ranges, new-segmented}
+use Rattle.init_plan.proofs.Unplanned.{new-index, new-memories, new-imports, new-ranges, new-segmented}
 use Rattle.translate.specs.declared.fill.Filling.{Filling}
 use Rattle.translate.specs.Filled.{passive_of_kind, passive_from, Fills, active_so_far, IsEmpty, active_among, CanBeAdded, CanAdd}
 use Rattle.translate.proofs.Adding.{AddsModule}
 
 -- ---- what the rules say of a data segment
 
--- what has the class of one value is one operator
-one_operator : (ops : Expression) (c : Class) → HasClass ops c → length ops ≡ 1
-one_operator ops c is = sym (length-map ops class_of) ∙ ap length is
+-- where an operator takes nothing, there is one value more after it
+one_more : (l : Lists) (visible : List GlobalType) (op : Operator) (before after : List Class) (c : Class) → signature l visible op ≡ gives c
+    → Step l visible op before after → length after ≡ length before + 1
+one_more l visible op before after c is step =
+    let same : gives c ≡ Some step.signed = sym is ∙ step.is_signed in
+    let none : step.signed.takes ≡ [] = takes_nothing c step.signed same in
+    let taken = ap length step.has_taken ∙ length-append step.rest step.signed.takes in
+    let pushed = ap length step.has_pushed ∙ length-append step.rest (step.signed.pushes ∷ []) in
+    let no_length = ap length none in
+    omega (arith, taken, pushed, no_length) where
+      takes_nothing : (c : Class) (signed : Signature) → gives c ≡ Some signed → signed.takes ≡ []
+      takes_nothing c signed e =
+          let is_it : (let s : Signature = record { takes = []; pushes = c } in s) ≡ signed = cc in
+          ap (λ (s : Signature). s.takes) (sym is_it)
 
-CanBeAdded-from_rules : (types : List MemoryType) (kind : DataKind) → length types < 2 ^ 30 → NamesMemory types kind → HasOffset types kind
+constant_pushes : (l : Lists) (visible : List GlobalType) (op : Operator) (before after : List Class) → IsIntegerConstant op
+    → Step l visible op before after → length after ≡ length before + 1
+constant_pushes l visible (ops.I32Const value) before after constant step = one_more l visible (ops.I32Const value) before after classes.I32 refl step
+constant_pushes l visible (ops.I64Const value) before after constant step = one_more l visible (ops.I64Const value) before after classes.I64 refl step
+constant_pushes l visible _ before after constant step = absurd constant
+
+-- each constant of an expression leaves one value
+constants_push : (l : Lists) (visible : List GlobalType) (e : Expression) (before after : List Class) → All IsIntegerConstant e
+    → Leads l visible e before after → length after ≡ length before + length e
+constants_push l visible [] before after constants leads = let same = ap length leads in omega (arith, same)
+constants_push l visible (op ∷ e) before after constants leads =
+    let first = constant_pushes l visible op before leads.0 (All-head IsIntegerConstant op e constants) leads.1 in
+    let others = constants_push l visible e leads.0 after (All-tail IsIntegerConstant op e constants) leads.2 in
+    omega (arith, first, others)
+
+-- integer constants that have a class are one
+one_constant : (l : Lists) (visible : List GlobalType) (e : Expression) (c : Class) → All IsIntegerConstant e → HasClass l visible e c
+    → length e ≡ 1
+one_constant l visible e c constants typed = let pushed = constants_push l visible e [] (c ∷ []) constants typed in omega (arith, pushed)
+
+CanBeAdded-from_rules : (l : Lists) (kind : DataKind) → length l.memories < 2 ^ 30 → NamesMemory l kind → HasMemoryOffset l kind
     → HasConstantOffset kind → CanBeAdded kind
-CanBeAdded-from_rules types Passive few named offset constants = tt
-CanBeAdded-from_rules types (Active memory ops) few named offset constants =
-    (omega arith, by_memory (slice_get_cases types memory).1, constants) where
-      by_memory : ((t : MemoryType) × (memory < length types) × (slice_get types memory ≡ Some t) × (get_or types memory t ≡ t))
-          ⊎ ((length types ≤ memory) × (slice_get types memory ≡ None)) → length ops ≡ 1
-      by_memory (inl found) = one_operator ops (address_class found.0)
-          (subst (λ (o : Option MemoryType). IfSome o (λ t. HasClass ops (address_class t))) found.2 offset)
+CanBeAdded-from_rules l Passive few named offset constants = tt
+CanBeAdded-from_rules l (Active memory e) few named offset constants =
+    (omega arith, by_memory (slice_get_cases l.memories memory).1, constants) where
+      by_memory : ((t : MemoryType) × (memory < length l.memories) × (slice_get l.memories memory ≡ Some t) × (get_or l.memories memory t ≡ t))
+          ⊎ ((length l.memories ≤ memory) × (slice_get l.memories memory ≡ None)) → length e ≡ 1
+      by_memory (inl found) = one_constant l l.global_types e (address_class found.0.memory64) constants
+          (subst (λ (o : Option MemoryType). IfSome o (λ t. HasClass l l.global_types e (address_class t.memory64))) found.2 offset)
       by_memory (inr past) = absurd (omega arith)
 
 -- ---- active segments
 
-active_in_range : (n : ℕ) (types : List MemoryType) (ss : List Segment) → length types ≡ n
-    → All (λ (s : Segment). NamesMemory types s.kind) ss → All (λ (s : ActiveSegment). s.memory < n) (active_among ss)
-active_in_range n types [] is named = All-nil (λ (s : ActiveSegment). s.memory < n)
-active_in_range n types (s ∷ ss) is named =
-    with_kind s.kind (All-head (λ (x : Segment). NamesMemory types x.kind) s ss named)
-    (active_in_range n types ss is (All-tail (λ (x : Segment). NamesMemory types x.kind) s ss named)) where
-      with_kind : (kind : DataKind) → NamesMemory types kind → All (λ (x : ActiveSegment). x.memory < n) (active_among ss)
+active_in_range : (n : ℕ) (l : Lists) (ss : List Segment) → length l.memories ≡ n
+    → All (λ (s : Segment). NamesMemory l s.kind) ss → All (λ (s : ActiveSegment). s.memory < n) (active_among ss)
+active_in_range n l [] is named = All-nil (λ (s : ActiveSegment). s.memory < n)
+active_in_range n l (s ∷ ss) is named =
+    with_kind s.kind (All-head (λ (x : Segment). NamesMemory l x.kind) s ss named)
+    (active_in_range n l ss is (All-tail (λ (x : Segment). NamesMemory l x.kind) s ss named)) where
+      with_kind : (kind : DataKind) → NamesMemory l kind → All (λ (x : ActiveSegment). x.memory < n) (active_among ss)
           → All (λ (x : ActiveSegment). x.memory < n) (cons_option (active_of_kind kind s.bytes) (active_among ss))
       with_kind Passive named others = others
       with_kind (Active memory offset) named others = All-cons (λ (x : ActiveSegment). x.memory < n) _ (active_among ss) (omega arith) others
@@ -132,12 +176,12 @@ nothing_imported m planned = ap (filter_map (λ (i : Import). memory_import i.ty
 
 -- ---- the whole
 
-module _ (m : Module) (kept : Keeps m) (few : HasFewEntries m) (planned : OnlyPlannedSections m) (constants : OnlyConstantOffsets m) where
+module _ (m : Module) (can : CanBePlanned m) (few : HasFewEntries m) where
   all_defined : memories m ≡ defined_memories m
-  all_defined = ap (λ (types : List MemoryType). types ++ defined_memories m) (nothing_imported m planned)
+  all_defined = ap (λ (types : List MemoryType). types ++ defined_memories m) (nothing_imported m can.sections)
 
   has_page_sizes : All HasPageSize (defined_memories m)
-  has_page_sizes = subst (All HasPageSize) all_defined (All-weaker HasLimits HasPageSize (λ t limits. limits.page_size) (memories m) (kept L4))
+  has_page_sizes = subst (All HasPageSize) all_defined (All-weaker HasLimits HasPageSize (λ t limits. limits.page_size) (memories m) (can.kept L4).memories)
 
   -- what the module defines can be added to an empty filling
   pub CanAdd-all : (start : Filling) → IsEmpty start → CanAdd start (defined_memories m) (segments m)
@@ -147,7 +191,8 @@ module _ (m : Module) (kept : Keeps m) (few : HasFewEntries m) (planned : OnlyPl
         few_memories = omega (arith, none, few.memories, ap length all_defined);
         page_sizes = has_page_sizes;
         few_segments = omega (arith, empty.from_zero, few.segments);
-        segments = λ k d lt. CanBeAdded-from_rules (memories m) _ few.memories (kept L9 k d lt) (kept L6 k d lt) (constants k d lt);
+        segments = λ k d lt. CanBeAdded-from_rules (lists_of_module m) _ few.memories ((can.kept L9).segments k d lt)
+            ((can.kept L6).segments k d lt) (can.constants k d lt);
       }
 
   -- an empty filling to which all is added
@@ -185,7 +230,7 @@ module _ (m : Module) (kept : Keeps m) (few : HasFewEntries m) (planned : OnlyPl
             (page_sizes (memories m) (subst (All HasPageSize) (sym all_defined) has_page_sizes));
         few_segments = let count = ap length active_same in let le = few_active (segments m) in omega (arith, count, le, few.segments);
         in_range = subst (All (λ (s : ActiveSegment). s.memory < length done.translation.module.memories)) (sym active_same)
-            (active_in_range _ (memories m) (segments m) (sym memory_count) (kept L9));
+            (active_in_range _ (lists_of_module m) (segments m) (sym memory_count) (can.kept L9).segments);
         few_passive = let count = ap length passive_same in let le = few_passive 0 (segments m) in omega (arith, count, le, few.segments);
         distinct = subst (λ (ps : List (ℕ × List ℕ)). IsDistinct nat_eq (map (λ p. p.0) ps)) (sym passive_same) (passive_distinct 0 (segments m));
         numbered = subst (All (λ (p : ℕ × List ℕ). p.0 < 4294967295)) (sym passive_same)
@@ -193,8 +238,9 @@ module _ (m : Module) (kept : Keeps m) (few : HasFewEntries m) (planned : OnlyPl
             (passive_within 0 4294967295 0 (segments m) (omega arith) (omega (arith, few.segments))));
       };
       memories = memories_same;
-      imports = no_imports ∙ sym (ap length (nothing_imported m planned));
+      imports = no_imports ∙ sym (ap length (nothing_imported m can.sections));
       active = active_same;
       passive = passive_same;
+      module_index = ap (λ (x : TranslatedModule). number_of x.module_index) added.same.record_of_module ∙ new-index _ _ empty.is_new;
       wasm = refl;
     }

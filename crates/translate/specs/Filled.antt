@@ -3,8 +3,8 @@ use Rattle.std.specs.Prelude.{◌≡◌, ℕ, ◌+◌, ◌^◌, ◌<◌, List, [
 use Rattle.std.specs.List.{filter_map}
 use Rattle.wasm_spec.specs.declared.entities.MemoryType.{MemoryType}
 use Rattle.wasm_spec.specs.Module.{DataKind, Passive, Active, Segment, Module, memories, imported_memories, segments}
-use Rattle.wasm_spec.specs.Rules.{IsIntegerConstant}
-use Rattle.wasm_index.specs.Index.{index_of}
+use Rattle.translate.specs.Stage.{IsIntegerConstant}
+use Rattle.wasm_index.specs.Index.{index_of, number_of}
 use Rattle.wasm_types.specs.Memories.{memory_of, HasPageSize}
 use Rattle.replay_spec.specs.Data.{ActiveSegment, active_of_kind, active_segments}
 use Rattle.init_plan.specs.declared.translation.ModuleTranslation.{ModuleTranslation}
@@ -28,6 +28,7 @@ pub record Fills (bytes : List ℕ) (m : Module) (t : ModuleTranslation) : Type 
   pub imports : t.module.num_imported_memories ≡ length (imported_memories m)
   pub active : initializers_of t ≡ active_segments m
   pub passive : passive_data_of t ≡ passive_from 0 (segments m)
+  pub module_index : number_of t.module.module_index ≡ 0
   pub wasm : t.wasm.now ≡ bytes
 
 -- ---- while the lists grow

@@ -1,3 +1,5 @@
+pub mod Stage
+pub mod Valid
 pub mod Commands
 pub mod Filled
 pub mod Planned

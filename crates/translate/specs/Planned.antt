@@ -1,19 +1,22 @@
 -- What a plan says of a module, and why there is none.
-use Rattle.std.specs.Prelude.{◌≡◌, ◌⊎◌, ℕ, ◌^◌, ◌<◌, ◌≤◌, List, ◌++◌, length, map, Option, None, Some, Result, Ok, Err, slice_get}
+use Rattle.std.specs.Prelude.{◌≡◌, ◌⊎◌, ℕ, ◌^◌, ◌≤◌, List, ◌++◌, length, map, Option, None, Some, Result, Ok, Err, slice_get}
 use Rattle.std.specs.List.{filter_map}
 use Rattle.wasm_spec.specs.Module.{DataKind, Passive, Active, Segment, Module, memories, imported_memories, segments, data_size}
 use Rattle.wasm_spec.specs.Grammar.{Spells, Stops}
-use Rattle.wasm_spec.specs.Rules.{OnlyPlannedSections, OnlyConstantOffsets, Kept, Keeps, KeepsBefore}
-use Rattle.wasm_spec.specs.Valid.{HasNoInterfaceTypes}
 use Rattle.wasm_spec.specs.declared.operators.What.{What}
 use Rattle.wasm_spec.specs.declared.operators.What.TheVariants as what
+use Rattle.rule_spec.specs.Lists.{lists_of_module}
+use Rattle.rule_spec.specs.Rules.{Kept, KeepsBefore}
+use Rattle.wasm_index.specs.Index.{number_of}
 use Rattle.wasm_types.specs.Memories.{memory_of}
 use Rattle.replay_spec.specs.Data.{active_segments}
-use Rattle.replay_spec.specs.Plan.{MemoryPlan, Agrees, kept_segments, ranges_from, FindsPassive}
-use Rattle.init_plan.specs.Views.{memory_plan_of, ranges_of}
-use Rattle.plan_text.specs.declared.plan.Plan.{Plan}
-use Rattle.plan_text.specs.declared.error.TranslateError.{TranslateError}
-use Rattle.plan_text.specs.declared.error.TranslateError.TheVariants as refusal
+use Rattle.replay_spec.specs.Plan.{MemoryPlan, Agrees, kept_segments, planned_from, ranges_from, FindsPassive}
+use Rattle.init_plan.specs.Views.{memory_plan_of, ranges_of, IsSegmented, IsProcessed}
+use Rattle.plan.specs.declared.plan.Plan.{Plan}
+use Rattle.plan.specs.declared.error.TranslateError.{TranslateError}
+use Rattle.plan.specs.declared.error.TranslateError.TheVariants as refusal
+use Rattle.translate.specs.Stage.{OnlyPlannedSections, OnlyConstantOffsets}
+use Rattle.translate.specs.Valid.{IsReadable, CanBePlanned}
 
 -- the bytes of a passive segment
 abbrev pub passive_bytes_of : DataKind → List ℕ → Option (List ℕ)
@@ -33,32 +36,27 @@ Finds plan found (Some s) = FindsPassive plan found s.kind s.bytes
 pub record IsPlanOf (bytes : List ℕ) (m : Module) (plan : Plan) : Type 0 where
   -- over any imports, it leaves in each memory what the module's data segments leave, and traps where they trap
   pub agrees : Agrees m (memory_plan_of plan.translation)
-  -- the segments that are kept are the module's, in order
-  pub kept : kept_segments (memory_plan_of plan.translation) ≡ active_segments m
+  -- no memory begins as an image, and the active segments are left to be written, in order
+  pub segmented : IsSegmented plan.translation.module.memory_initialization
+  pub is_processed : IsProcessed plan.translation.memory_init
+  pub left : kept_segments (memory_plan_of plan.translation) ≡ active_segments m
+  -- entry by entry: the first is written from runtime data 0, the next from 1, and so on
+  pub processed : (memory_plan_of plan.translation).segments ≡ planned_from 0 (active_segments m)
   pub memories : plan.translation.module.memories ≡ map memory_of (memories m)
   pub imports : plan.translation.module.num_imported_memories ≡ length (imported_memories m)
   pub runtime : (memory_plan_of plan.translation).runtime ≡ runtime_data m
   -- the ranges of runtime data stand end to end from 0
   pub ranges : ranges_of plan.translation.module ≡ ranges_from 0 (map length (runtime_data m))
   pub passive : (index : ℕ) → Finds (memory_plan_of plan.translation) ((memory_plan_of plan.translation).passive index) (slice_get (segments m) index)
+  pub module_index : number_of plan.translation.module.module_index ≡ 0
   pub wasm : plan.translation.wasm.now ≡ bytes
 
--- the bytes, fewer than 2 ^ 30, spell a module of those that are planned so far, which keeps the listed rules, and the plan is its plan
+-- the bytes spell a module of those that are planned so far, which keeps the listed rules, and the plan is its plan
 pub record IsPlanned (bytes : List ℕ) (plan : Plan) : Type 0 where
   pub meaning : Module
-  pub short : length bytes < 2 ^ 30
-  pub spelled : Spells bytes meaning
-  pub no_interface_types : HasNoInterfaceTypes meaning
-  pub only_sections : OnlyPlannedSections meaning
-  pub only_constants : OnlyConstantOffsets meaning
-  pub kept : Keeps meaning
+  pub read : IsReadable bytes meaning
+  pub can : CanBePlanned meaning
   pub planned : IsPlanOf bytes meaning plan
-
--- the bytes, fewer than 2 ^ 30, spell the module, and reading them does not stop at interface types
-pub record IsReadable (bytes : List ℕ) (m : Module) : Type 0 where
-  pub short : length bytes < 2 ^ 30
-  pub spelled : Spells bytes m
-  pub no_interface_types : HasNoInterfaceTypes m
 
 -- the module holds what is not planned yet: another section, or else another operator in a data offset
 abbrev pub IsUnplanned : What → Module → Type 0
@@ -66,23 +64,23 @@ IsUnplanned what.Section m = ¬ OnlyPlannedSections m
 IsUnplanned what.Operator m = OnlyPlannedSections m × ¬ OnlyConstantOffsets m
 IsUnplanned _ m = ⊥
 
--- the bytes spell a module of which a fact holds
-abbrev pub SpellsSome : List ℕ → (Module → Type 0) → Type 0
-SpellsSome bytes P = (m : Module) × Spells bytes m × P m
+-- the bytes spell a module without interface types of which a fact holds
+abbrev pub ReadsSome : List ℕ → (Module → Type 0) → Type 0
+ReadsSome bytes P = (m : Module) × IsReadable bytes m × P m
 
 -- why the bytes are refused
 abbrev pub HasCause : List ℕ → TranslateError → Type 0
 HasCause bytes refusal.Malformed = ((m : Module) → ¬ Spells bytes m) × ((what : What) → ¬ Stops bytes what)
 -- the rule that is named is the first that is broken
-HasCause bytes (refusal.Invalid rule) = SpellsSome bytes (λ m. ¬ Kept rule m × KeepsBefore rule m)
-HasCause bytes (refusal.Unsupported what) = Stops bytes what ⊎ SpellsSome bytes (IsUnplanned what)
-HasCause bytes refusal.TooLarge = (2 ^ 30 ≤ length bytes) ⊎ SpellsSome bytes (λ m. 2 ^ 32 ≤ data_size m)
+HasCause bytes (refusal.Invalid rule) = ReadsSome bytes (λ m. ¬ Kept rule (lists_of_module m) × KeepsBefore rule m)
+HasCause bytes (refusal.Unsupported what) = Stops bytes what ⊎ ReadsSome bytes (IsUnplanned what)
+HasCause bytes refusal.TooLarge = (2 ^ 30 ≤ length bytes) ⊎ ReadsSome bytes (λ m. 2 ^ 32 ≤ data_size m)
 HasCause bytes refusal.OffsetOverflow = ⊥
 HasCause bytes refusal.OutOfMemory = Unit {0}
 
 -- this is the refusal, or there is no memory to find it
-abbrev pub IsRefusedAs : Result Plan TranslateError → TranslateError → Type 0
-IsRefusedAs (Ok plan) named = ⊥
+abbrev pub IsRefusedAs : {A : Type 0} → Result A TranslateError → TranslateError → Type 0
+IsRefusedAs (Ok answer) named = ⊥
 IsRefusedAs (Err e) named = (e ≡ named) ⊎ (e ≡ refusal.OutOfMemory)
 
 -- there is a plan, or no memory for it

@@ -2,8 +2,10 @@
 
 ghost use Rattle.std.specs.Prelude.{◌≡◌, [], ◌∷◌, length, map, All, IfOk, OnOk};
 ghost use Rattle.wasm_spec.specs.Module.{memories_of_section, segments_of_section};
-ghost use Rattle.wasm_spec.specs.Rules.{OnlyPlannedSections, IsIntegerConstant, OnlyConstantOffsets, Keeps, HasFewEntries};
-ghost use Rattle.wasm_form.specs.Views.{module_of, payload_of, segment_of};
+ghost use Rattle.translate.specs.Stage.{IsIntegerConstant};
+ghost use Rattle.translate.specs.Valid.{CanBePlanned};
+ghost use Rattle.wasm_spec.specs.Sizes.{HasFewEntries};
+ghost use Rattle.form_data.specs.Views.{module_of, payload_of, segment_of};
 ghost use Rattle.wasm_convert.specs.Operators.{operator_of};
 ghost use Rattle.wasm_convert.specs.Constants.{expression_of};
 ghost use Rattle.translate.specs.Filled.{Fills, IsEmpty, CanAdd, Adds};
@@ -18,9 +20,7 @@ use wasm_types::Memory;
 
 /// The translation of a module of those that are planned so far, which keeps the rules, with nothing planned yet.
 pub(crate) fn fill<'d>(alloc: Global, form: Form<'d>) -> Result<ModuleTranslation<'d>, OutOfMemory>
-    requires planned { OnlyPlannedSections (module_of form) }
-    requires constants { OnlyConstantOffsets (module_of form) }
-    requires kept { Keeps (module_of form) }
+    requires planned { CanBePlanned (module_of form) }
     requires few { HasFewEntries (module_of form) }
     ensures { IfOk result (Fills form.entry.wasm.now (module_of form.entry)) }
 {

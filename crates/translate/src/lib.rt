@@ -4,10 +4,13 @@
 mod fill;
 mod planned;
 mod running;
+mod status;
 mod translating;
 mod words;
 
-pub use plan_text::{Plan, TranslateError, plan_text, refusal_line};
+pub use plan::{Plan, TranslateError};
+pub use plan_text::{plan_text, refusal_line};
 pub use running::{Report, run};
+pub use status::{NO_MEMORY, READ_FAILED, REFUSED, SUCCESS, USAGE, WRITE_FAILED};
 pub use translating::translate_module;
 pub use words::{Collector, Command, read_words};

@@ -2,8 +2,8 @@
 
 ghost use Rattle.std.specs.Prelude.{◌↔◌, All, IsTrue, MatchOption};
 ghost use Rattle.wasm_spec.specs.Module.{segments_of_section};
-ghost use Rattle.wasm_spec.specs.Rules.{IsPlannedSection, OnlyPlannedSections, IsIntegerConstant, HasConstantOffset, OnlyConstantOffsets};
-ghost use Rattle.wasm_form.specs.Views.{data_kind_of, payload_of, module_of};
+ghost use Rattle.translate.specs.Stage.{IsPlannedSection, OnlyPlannedSections, IsIntegerConstant, HasConstantOffset, OnlyConstantOffsets};
+ghost use Rattle.form_data.specs.Views.{data_kind_of, payload_of, module_of};
 ghost use Rattle.translate.specs.Planned.{IsUnplanned};
 
 use wasm_form::{DataKind, DataSegment, Form, Operator, Payload, What};

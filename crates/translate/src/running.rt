@@ -1,24 +1,31 @@
 //! The run: words, source and sink.
 
-ghost use Rattle.std.specs.Prelude.{◌≡◌, ◌≢◌, ◌<◌, ◌≤◌, ◌^◌, ◌⊎◌, ◌↔◌, [], List, ℕ, Option, Some, None, Err, map, length, string_bytes, IsNone, IfOk, IfErr};
+ghost use Rattle.std.specs.Prelude.{◌≡◌, ◌≢◌, ◌<◌, ◌≤◌, ◌^◌, ◌⊎◌, ◌↔◌, [], List, ℕ, Option, Some, None, Err, map, length, string_bytes, IsNone, IfSome, IfOk, IfErr};
+ghost use Rattle.wasm_spec.specs.declared.operators.What.{What};
+ghost use Rattle.wasm_spec.specs.Module.{Module};
 ghost use Rattle.devices.specs.Counter.{Rose};
 ghost use Rattle.devices.specs.Device.{TellsFront, AppendsFront, AppendsPart};
 ghost use Rattle.plan_text.specs.PlanText.{text_of_plan};
-ghost use Rattle.wasm_spec.specs.Valid.{IsValid};
+ghost use Rattle.translate.specs.Valid.{IsReadable, IsValid};
 ghost use Rattle.translate.specs.Commands.{Names, CanTranslate};
-ghost use Rattle.translate.specs.Planned.{IsPlanned, HasCause};
+ghost use Rattle.translate.specs.Planned.{IsPlanned, IsUnplanned, HasCause, IsRefusedAs};
 ghost use Rattle.translate.specs.Runs.{IsSuccess, IsRefusal, IsCutShort, ReadEnough, IsAnswer};
 
+use crate::status::{NO_MEMORY, READ_FAILED, REFUSED, SUCCESS, USAGE, WRITE_FAILED};
 use crate::translating::translate_module;
 use crate::words::{Command, read_words};
 use devices::{ReadStop, Sink, Source, read_all, write_all};
-use plan_text::{Plan, TranslateError, plan_text, refusal_line};
+use plan::{Plan, TranslateError};
+use plan_text::{plan_text, refusal_line};
 use std::alloc::Global;
+use wasm_form::MAX_MODULE_SIZE;
+
+const _: () = prove!(MAX_MODULE_SIZE == 1 << 30);
 
 /// What a run did.
 #[derive(Drop)]
 pub struct Report<'d> {
-    /// 0 success, 1 refused, 2 words outside the command grammar, 3 a read failed, 4 a write failed, 5 no memory.
+    /// One of the six statuses of this crate, from `SUCCESS` to `NO_MEMORY`.
     pub status: u8,
     /// The bytes that were read.
     pub bytes: &'d [u8],
@@ -52,21 +59,29 @@ pub fn run<'d, S: Source, K: Sink>(
     ensures refused { result.status ≡ 1 →
         IsRefusal result.bytes.now (S.left source.new) result.plan result.refusal (K.held sink.old) (K.held sink.new) }
 
+    // What is read and not planned yet has no plan, and no other refusal.
+    ensures unplanned { (m : Module) (what : What) → IsReadable result.bytes.now m → IsUnplanned what m
+        → IsNone result.plan × IfSome result.refusal (λ e. e ≡ TranslateError.Unsupported what) }
+
     // The words name no command, exactly; then nothing was touched.
     ensures usage { (result.status ≡ 2) ↔ ((command : Command) → ¬ Names (map string_bytes words.now) command) }
     ensures untouched { result.status ≡ 2 → (source.new ≡ source.old) × (sink.new ≡ sink.old) × (result.bytes.now ≡ []) }
 
+    // Status 3 says that a read failed, and any other that none did.
     ensures read_failed { result.status ≡ 3 → Rose (S.faults source.old) (S.faults source.new) }
+    ensures no_read_failed { result.status ≢ 3 → S.faults source.new ≡ S.faults source.old }
+    ensures reads_counted { S.faults source.old ≤ S.faults source.new }
+
+    // Status 4 says that a write failed, and any other that none did.
     ensures write_failed { result.status ≡ 4 → Rose (K.faults sink.old) (K.faults sink.new) }
+    ensures no_write_failed { result.status ≢ 4 → K.faults sink.new ≡ K.faults sink.old }
+    ensures writes_counted { K.faults sink.old ≤ K.faults sink.new }
     ensures cut_short { result.status ≡ 4 →
         IsCutShort result.bytes.now (S.left source.new) result.plan result.refusal (K.held sink.old) (K.held sink.new) }
 
     // Where there is neither a plan nor a refusal, nothing was written.
     ensures nothing { (result.status ≡ 2) ⊎ (result.status ≡ 3) ⊎ (result.status ≡ 5) →
         IsNone result.plan × IsNone result.refusal × (sink.new ≡ sink.old) }
-
-    ensures reads_counted { S.faults source.old ≤ S.faults source.new }
-    ensures writes_counted { K.faults sink.old ≤ K.faults sink.new }
 
     // Valid input succeeds or runs out of memory, where no read and no write failed.
     ensures complete { (command : Command) (input : List ℕ) →
@@ -75,14 +90,14 @@ pub fn run<'d, S: Source, K: Sink>(
         → (result.status ≡ 0) ⊎ (result.status ≡ 5) }
 {
     let Some(command) = read_words(words) else {
-        return empty_report(2, &[]);
+        return empty_report(USAGE, &[]);
     };
-    let outcome = read_all(source, store);
+    let outcome = read_all(source, store, MAX_MODULE_SIZE);
     let bytes: &'d [u8] = store.as_slice();
     match outcome {
         Ok(()) => answer(alloc, &command, bytes, sink),
-        Err(ReadStop::Failed) => empty_report(3, bytes),
-        Err(ReadStop::OutOfMemory) => empty_report(5, bytes),
+        Err(ReadStop::Failed) => empty_report(READ_FAILED, bytes),
+        Err(ReadStop::OutOfMemory) => empty_report(NO_MEMORY, bytes),
     }
 }
 
@@ -113,21 +128,24 @@ fn answer<'d, K: Sink>(
         IsRefusal bytes.now left result.plan result.refusal (K.held sink.old) (K.held sink.new) }
     ensures cut_short { result.status ≡ 4 → (left : Option (List ℕ)) → ReadEnough bytes.now left →
         IsCutShort bytes.now left result.plan result.refusal (K.held sink.old) (K.held sink.new) }
+    ensures unplanned { (m : Module) (what : What) → IsReadable bytes.now m → IsUnplanned what m
+        → IsNone result.plan × IfSome result.refusal (λ e. e ≡ TranslateError.Unsupported what) }
     ensures write_failed { result.status ≡ 4 → Rose (K.faults sink.old) (K.faults sink.new) }
+    ensures no_write_failed { result.status ≢ 4 → K.faults sink.new ≡ K.faults sink.old }
     ensures nothing { result.status ≡ 5 → IsNone result.plan × IsNone result.refusal × (sink.new ≡ sink.old) }
     ensures counted { K.faults sink.old ≤ K.faults sink.new }
     ensures complete { IsValid bytes.now → result.status ≢ 1 }
 {
     match planned_text(alloc, command, bytes) {
         Ok((plan, text)) => Report {
-            status: write_answer(sink, &text, 0),
+            status: write_answer(sink, &text, SUCCESS),
             bytes,
             plan: Some(plan),
             refusal: None,
         },
-        Err(TranslateError::OutOfMemory) => empty_report(5, bytes),
+        Err(TranslateError::OutOfMemory) => empty_report(NO_MEMORY, bytes),
         Err(refusal) => Report {
-            status: write_answer(sink, refusal_line(&refusal).as_bytes(), 1),
+            status: write_answer(sink, refusal_line(&refusal).as_bytes(), REFUSED),
             bytes,
             plan: None,
             refusal: Some(refusal),
@@ -146,6 +164,8 @@ fn planned_text<'d>(
     ensures text { IfOk result (λ answer. answer.1.items ≡ text_of_plan answer.0) }
     ensures cause { IfErr result (HasCause bytes.now) }
     ensures too_long { 2 ^ 30 ≤ length bytes.now → result ≡ Err TranslateError.TooLarge }
+    ensures unplanned { (m : Module) (what : What) → IsReadable bytes.now m → IsUnplanned what m
+        → IsRefusedAs result (TranslateError.Unsupported what) }
     ensures complete { IsValid bytes.now → IfErr result (λ e. e ≡ TranslateError.OutOfMemory) }
 {
     let plan = translate_module(
@@ -168,10 +188,11 @@ fn write_answer<K: Sink>(sink: &mut K, text: &[u8], status: u8) -> u8
     ensures whole { result ≡ status → AppendsFront (K.held sink.old) text.now (K.held sink.new) }
     ensures part { result ≡ 4 → AppendsPart (K.held sink.old) text.now (K.held sink.new) }
     ensures failed { result ≡ 4 → Rose (K.faults sink.old) (K.faults sink.new) }
+    ensures none_failed { result ≢ 4 → K.faults sink.new ≡ K.faults sink.old }
     ensures counted { K.faults sink.old ≤ K.faults sink.new }
 {
     match write_all(sink, text) {
         Ok(()) => status,
-        Err(_) => 4,
+        Err(_) => WRITE_FAILED,
     }
 }

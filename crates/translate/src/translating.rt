@@ -4,13 +4,13 @@ ghost use Rattle.std.specs.Prelude.{◌≡◌, ◌⊎◌, ◌^◌, ◌≤◌, le
 ghost use Rattle.std.specs.Int.{IsPowerOfTwo};
 ghost use Rattle.wasm_spec.specs.declared.operators.What.{What};
 ghost use Rattle.wasm_spec.specs.Module.{Module};
-ghost use Rattle.wasm_spec.specs.Valid.{IsValid};
-ghost use Rattle.translate.specs.Planned.{IsPlanned, IsReadable, IsUnplanned, HasCause, IsRefusedAs, SucceedsOrNoMemory};
+ghost use Rattle.translate.specs.Valid.{IsReadable, IsValid};
+ghost use Rattle.translate.specs.Planned.{IsPlanned, IsUnplanned, HasCause, IsRefusedAs, SucceedsOrNoMemory};
 
 use crate::fill::fill;
 use crate::planned::first_unplanned;
 use crate::words::Collector;
-use plan_text::{Plan, TranslateError};
+use plan::{Plan, TranslateError};
 use std::alloc::Global;
 use wasm_form::{check, read_module};
 use wasm_types::Tunables;

@@ -6,6 +6,8 @@ mod bytes;
 #[cfg(test)]
 mod failures;
 #[cfg(test)]
+mod memories;
+#[cfg(test)]
 mod refusals;
 #[cfg(test)]
 mod runs;

@@ -25,7 +25,7 @@ fn bytes_without_a_header_are_refused(rt: HostRuntime) -> Result<(), Fail> {
 /// Sections behind the header, and the line of the refusal.
 #[test]
 fn refused_modules(rt: HostRuntime) -> Result<(), Fail> {
-    let cases: [(&[u8], &str); 10] = [
+    let cases: [(&[u8], &str); 12] = [
         (
             &[0x01, 0x04, 0x01, 0x60, 0x00, 0x00],
             "refused unsupported section\n",
@@ -66,6 +66,22 @@ fn refused_modules(rt: HostRuntime) -> Result<(), Fail> {
         (
             b"\x00\x10\x0Fwebidl-bindings",
             "refused unsupported interface types\n",
+        ),
+        // Two integers where one is wanted.
+        (
+            &[
+                0x05, 0x03, 0x01, 0x00, 0x01, 0x0B, 0x09, 0x01, 0x00, 0x41, 0x00, 0x41, 0x00, 0x0B,
+                0x01, 0x00,
+            ],
+            "refused invalid L6\n",
+        ),
+        // Their sum, which is not planned yet.
+        (
+            &[
+                0x05, 0x03, 0x01, 0x00, 0x01, 0x0B, 0x0A, 0x01, 0x00, 0x41, 0x00, 0x41, 0x00, 0x6A,
+                0x0B, 0x01, 0x00,
+            ],
+            "refused unsupported operator\n",
         ),
         // An operator that is no integer constant.
         (

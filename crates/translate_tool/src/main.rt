@@ -1,16 +1,16 @@
 //! The program: real words, standard input and standard output.
 #![tactic(auto)]
 
+ghost use Rattle.std.specs.Prelude.{◌≡◌};
+ghost use Rattle.std.specs.Process.{exit_status};
+
 mod adapters;
 
 use adapters::{StdSink, StdSource};
 use std::alloc::AllocError;
 use std::process::ExitCode;
 use std::{env, io};
-use translate::run;
-
-/// The status where the list of words finds no memory.
-const NO_MEMORY: u8 = 5;
+use translate::{NO_MEMORY, Report, run};
 
 /// The status where the system does not give the words, which a run never answers.
 const NO_WORDS: u8 = 6;
@@ -23,18 +23,25 @@ fn words_of(rt: &HostRuntime) -> Option<Result<Vec<String>, AllocError>> {
     Some(words.skip(1).collect(rt.alloc()))
 }
 
-/// The status of the run from standard input to standard output.
-fn status_of(rt: &HostRuntime, words: &[String]) -> u8 {
+/// What the program ends with after a run: its status.
+fn end_of(report: &Report<'_>) -> ExitCode
+    ensures { exit_status result ≡ report.now.status }
+{
+    ExitCode::from(report.status)
+}
+
+/// Runs from standard input to standard output.
+fn run_over_standard(rt: &HostRuntime, words: &[String]) -> ExitCode {
     let mut source = StdSource::new(rt.reader());
     let mut store = Vec::new(rt.alloc());
     let mut sink = StdSink::new(io::writer(rt));
-    run(rt.alloc(), words, &mut source, &mut store, &mut sink).status
+    end_of(&run(rt.alloc(), words, &mut source, &mut store, &mut sink))
 }
 
 fn main(rt: HostRuntime) -> ExitCode {
     match words_of(&rt) {
         None => ExitCode::from(NO_WORDS),
         Some(Err(_)) => ExitCode::from(NO_MEMORY),
-        Some(Ok(words)) => ExitCode::from(status_of(&rt, words.as_slice())),
+        Some(Ok(words)) => run_over_standard(&rt, words.as_slice()),
     }
 }

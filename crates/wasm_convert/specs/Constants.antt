@@ -1,5 +1,6 @@
--- Constant expressions of a translated module (core specification, 5.4.9): where they come from, and their values (4.6.1).
+-- Constant expressions of a translated module (core specification, 5.4, instructions): where they come from, and their values.
 use Rattle.std.specs.Prelude.{◌≡◌, List, [], ◌∷◌, map, Option, Some, None, pos}
+use Rattle.std.specs.Int.{cast_unsigned, w32, w64}
 use Rattle.std.specs.List.{filter_map}
 use Rattle.wasm_spec.specs.declared.operators.Operator.{Operator}
 use Rattle.wasm_spec.specs.declared.operators.Operator.TheVariants as plain
@@ -9,8 +10,9 @@ use Rattle.wasm_index.specs.declared.spaces.FuncSpace.{FuncSpace}
 use Rattle.wasm_index.specs.Index.{index_of}
 use Rattle.wasm_convert.specs.declared.operators.ConstOp.{ConstOp}
 use Rattle.wasm_convert.specs.declared.operators.ConstOp.TheVariants as ops
-use Rattle.wasm_convert.specs.declared.constants.GlobalConstValue.{GlobalConstValue}
-use Rattle.wasm_convert.specs.declared.constants.GlobalConstValue.TheVariants as value
+use Rattle.wasm_convert.specs.declared.values.GlobalConstValue.{GlobalConstValue}
+use Rattle.wasm_convert.specs.declared.values.GlobalConstValue.TheVariants as value
+use Rattle.replay_spec.specs.Values.{Value, I32, I64, F32, F64, V128}
 use Rattle.wasm_convert.specs.Conversion.{LookUp}
 use Rattle.wasm_convert.specs.Operators.{const_op_of, operator_of}
 
@@ -31,19 +33,13 @@ functions_of e = filter_map function_in e
 abbrev pub expression_of : List ConstOp → Expression
 expression_of e = map operator_of e
 
--- the value of a constant
-abbrev pub value_of : ConstOp → Option GlobalConstValue
-value_of (ops.I32Const n) = Some (value.I32 n)
-value_of (ops.I64Const n) = Some (value.I64 n)
-value_of (ops.F32Const bits) = Some (value.F32 bits)
-value_of (ops.F64Const bits) = Some (value.F64 bits)
-value_of (ops.V128Const bits) = Some (value.V128 bits)
-value_of _ = None
-
--- the value of an expression: that of its one constant
-abbrev pub constant_value : List ConstOp → Option GlobalConstValue
-constant_value (op ∷ []) = value_of op
-constant_value _ = None
+-- a value that is known before any code runs: integers are kept signed
+abbrev pub plain_value_of : GlobalConstValue → Value
+plain_value_of (value.I32 n) = I32 (cast_unsigned w32 n)
+plain_value_of (value.I64 n) = I64 (cast_unsigned w64 n)
+plain_value_of (value.F32 bits) = F32 bits
+plain_value_of (value.F64 bits) = F64 bits
+plain_value_of (value.V128 bits) = V128 bits
 
 -- one `i32.const` of another number than 0
 abbrev pub IsNonzeroI32 : List ConstOp → Type 0

@@ -1,20 +1,11 @@
 -- When a type can be converted: each index in it can be looked up.
-use Rattle.std.specs.Prelude.{◌≤◌, length, All, IsSome, IfSome, ⊤}
+use Rattle.std.specs.Prelude.{◌≡◌, ◌≤◌, List, length, All, ⊤}
 use Rattle.wasm_spec.specs.declared.types.UnpackedIndex.{UnpackedIndex}
 use Rattle.wasm_spec.specs.declared.types.UnpackedIndex.TheVariants as index
 use Rattle.wasm_spec.specs.declared.types.HeapType.{HeapType}
-use Rattle.wasm_spec.specs.declared.types.HeapType.TheVariants as heap
-use Rattle.wasm_spec.specs.declared.types.RefType.{RefType}
-use Rattle.wasm_spec.specs.declared.types.ValType.{ValType}
-use Rattle.wasm_spec.specs.declared.types.ValType.TheVariants as val
-use Rattle.wasm_spec.specs.declared.types.StorageType.{StorageType}
-use Rattle.wasm_spec.specs.declared.types.StorageType.TheVariants as storage
-use Rattle.wasm_spec.specs.declared.types.FieldType.{FieldType}
-use Rattle.form_data.specs.declared.types.FuncType.{FuncType}
-use Rattle.form_data.specs.declared.types.CompositeInnerType.{CompositeInnerType}
-use Rattle.form_data.specs.declared.types.CompositeInnerType.TheVariants as composite
-use Rattle.form_data.specs.declared.types.SubType.{SubType}
-use Rattle.wasm_convert.specs.Conversion.{LookUp, function_index}
+use Rattle.wasm_spec.specs.TypeData.{Function, Composite, Func, Cont, heap_of, heap_edges}
+use Rattle.type_data.specs.Names.{FuncName}
+use Rattle.wasm_convert.specs.Conversion.{LookUp}
 
 module _ (known : UnpackedIndex → Type 0) where
   -- an index that is known, and that is no place in a group
@@ -23,43 +14,19 @@ module _ (known : UnpackedIndex → Type 0) where
   CanLookUp (index.Id i) = known (index.Id i)
   CanLookUp (index.RecGroup i) = ⊥
 
+  -- all edges of a type are so
+  abbrev pub Known : List UnpackedIndex → Type 0
+  Known edges = All CanLookUp edges
+
   abbrev pub KnowsHeap : HeapType → Type 0
-  KnowsHeap (heap.Concrete i) = CanLookUp i
-  KnowsHeap (heap.Abstract h) = ⊤
+  KnowsHeap h = Known (heap_edges (λ i. i) (heap_of h))
 
-  abbrev pub KnowsRef : RefType → Type 0
-  KnowsRef r = KnowsHeap r.heap
+-- a function type has at most 4294967295 parameters and as many results
+abbrev pub IsFew : Function UnpackedIndex → Type 0
+IsFew t = (length t.params ≤ 4294967295) × (length t.results ≤ 4294967295)
 
-  abbrev pub KnowsVal : ValType → Type 0
-  KnowsVal (val.Ref r) = KnowsRef r
-  KnowsVal _ = ⊤
-
-  abbrev pub KnowsStorage : StorageType → Type 0
-  KnowsStorage (storage.Val t) = KnowsVal t
-  KnowsStorage _ = ⊤
-
-  abbrev pub KnowsField : FieldType → Type 0
-  KnowsField f = KnowsStorage f.element_type
-
-  -- a function type, which has at most 4294967295 parameters and as many results
-  pub record KnowsFunc (f : FuncType) : Type 0 where
-    pub params : All KnowsVal f.params.items
-    pub results : All KnowsVal f.results.items
-    pub few_params : length f.params.items ≤ 4294967295
-    pub few_results : length f.results.items ≤ 4294967295
-
-  module _ (look : LookUp) where
-    -- a continuation resumes a function: its index names a function type
-    pub record KnowsCont (i : UnpackedIndex) : Type 0 where
-      pub index_known : CanLookUp i
-      pub names_function : IsSome (function_index (look.heap_type i))
-
-    abbrev pub KnowsComposite : CompositeInnerType → Type 0
-    KnowsComposite (composite.Func f) = KnowsFunc f
-    KnowsComposite (composite.Array f) = KnowsField f
-    KnowsComposite (composite.Struct fields) = All KnowsField fields.items
-    KnowsComposite (composite.Cont i) = KnowsCont i
-
-    pub record KnowsSub (t : SubType) : Type 0 where
-      pub supertype : IfSome t.supertype CanLookUp
-      pub composite : KnowsComposite t.composite
+-- and a continuation resumes a function: its index names a function type
+abbrev pub CanConvert : LookUp → Composite UnpackedIndex UnpackedIndex → Type 0
+CanConvert look (Func t) = IsFew t
+CanConvert look (Cont i) = (look i).kind ≡ FuncName
+CanConvert look _ = ⊤

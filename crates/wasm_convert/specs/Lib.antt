@@ -2,3 +2,4 @@ pub mod Conversion
 pub mod Known
 pub mod Operators
 pub mod Constants
+pub mod Evaluation

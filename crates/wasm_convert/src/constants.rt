@@ -1,29 +1,22 @@
 //! Constant expressions and their values.
 
 ghost use Rattle.std.specs.Prelude.{◌≡◌, ◌↔◌, ◌<◌, ◌≤◌, ◌++◌, length, All, IsTrue, IsOk, IfOk, IfSome, OnOk};
-ghost use Rattle.std.specs.Option.{option_to_list};
+ghost use Rattle.std.specs.Option.{option_map, option_to_list};
 ghost use Rattle.wasm_index.specs.Index.{number_of};
-ghost use Rattle.wasm_convert.specs.Constants.{constant_value, IsNonzeroI32, const_ops_of, function_in, functions_of};
+ghost use Rattle.wasm_convert.specs.Constants.{plain_value_of, expression_of, IsNonzeroI32, const_ops_of, function_in, functions_of};
 ghost use Rattle.wasm_convert.specs.Operators.{KnowsOperator};
+ghost use Rattle.replay_spec.specs.Values.{const_value};
 
 use crate::convert::TypeConvert;
+use crate::evaluation::Stack;
 use crate::operators::ConstOp;
+use crate::values::GlobalConstValue;
 use entity_map::{EntityRef, OutOfMemory};
 use smallvec::SmallVec;
 use std::alloc::Global;
 use std::marker::Model;
 use wasm_index::FuncIndex;
 use wasm_spec::Operator;
-
-/// The value of a global that is known before any code runs. Floats and vectors are their bits.
-#[derive(Clone, Copy, Debug)]
-pub enum GlobalConstValue {
-    I32(i32),
-    I64(i64),
-    F32(u32),
-    F64(u64),
-    V128(u128),
-}
 
 /// A constant expression: its operators, of which there is at least one. Two are kept without an allocation.
 #[derive(Debug, Drop)]
@@ -101,26 +94,24 @@ impl ConstExpr {
         self.ops.as_slice()
     }
 
-    /// The value of the expression where it is one constant.
+    /// The value of the expression where its operators are constants, sums, differences and products, at most
+    /// 16 values stand at any point, and one remains (core specification, 4.6, instructions). Integers wrap.
     pub fn const_eval(&self) -> Option<GlobalConstValue>
-        ensures { result ≡ constant_value self.now }
+        ensures { option_map plain_value_of result ≡ const_value (expression_of self.now) }
     {
-        match self.ops() {
-            [ConstOp::I32Const(value)] => Some(GlobalConstValue::I32(*value)),
-            [ConstOp::I64Const(value)] => Some(GlobalConstValue::I64(*value)),
-            [ConstOp::F32Const(bits)] => Some(GlobalConstValue::F32(*bits)),
-            [ConstOp::F64Const(bits)] => Some(GlobalConstValue::F64(*bits)),
-            [ConstOp::V128Const(value)] => Some(GlobalConstValue::V128(*value)),
-            _ => None,
+        let mut stack = Stack::new();
+        for op in self.ops() {
+            stack.apply(*op)?;
         }
+        stack.only()
     }
 
     /// Whether the expression is one `i32.const` of another number than 0.
     pub fn provably_nonzero_i32(&self) -> bool
         ensures { IsTrue result ↔ IsNonzeroI32 self.now }
     {
-        match self.const_eval() {
-            Some(GlobalConstValue::I32(value)) => value != 0,
+        match self.ops() {
+            [ConstOp::I32Const(value)] => *value != 0,
             _ => false,
         }
     }

@@ -1,10 +1,19 @@
 //! The trait of what knows the types that indices name.
 
-ghost use Rattle.std.specs.Prelude.{◌≡◌, IfOk, All};
-ghost use Rattle.wasm_types.specs.declared.heap.WasmHeapType.{WasmHeapType};
+ghost use Rattle.std.specs.Prelude.{◌≡◌, IfOk, map};
 ghost use Rattle.wasm_spec.specs.declared.types.UnpackedIndex.{UnpackedIndex};
-ghost use Rattle.wasm_convert.specs.Conversion.{LookUp, heap_type_of, ref_type_of, val_type_of, storage_type_of, field_type_of, func_type_of, array_type_of, struct_type_of, cont_type_of, composite_type_of, sub_type_of, global_of, table_of};
-ghost use Rattle.wasm_convert.specs.Known.{CanLookUp, KnowsHeap, KnowsRef, KnowsVal, KnowsStorage, KnowsField, KnowsFunc, KnowsCont, KnowsComposite, KnowsSub};
+ghost use Rattle.wasm_spec.specs.TypeData.{Concrete, unshared, heap_edges, reference_edges, value_edges, storage_edges, field_edges, function_edges, composite_edges, sub_type_edges, map_heap, map_reference, map_value, map_storage, map_field, map_function, map_composite, map_sub_type};
+ghost use Rattle.wasm_spec.specs.TypeData as read;
+ghost use Rattle.type_data.specs.Names.{FuncName};
+ghost use Rattle.type_data.specs.TypeShapes.{fields_shape};
+ghost use Rattle.form_data.specs.Views as form;
+ghost use Rattle.wasm_types.specs.EntityData.{global_edges, table_edges, map_global, map_table};
+ghost use Rattle.wasm_types.specs.EntityViews.{global_of, table_of};
+ghost use Rattle.wasm_types.specs.Indices.{cont_index};
+ghost use Rattle.wasm_types.specs.TypeViews.{array_of, struct_of, function_of, shared_of, sub_type_of};
+ghost use Rattle.wasm_types.specs.ValueViews.{heap_of, reference_of, value_of, storage_of, field_of};
+ghost use Rattle.wasm_convert.specs.Conversion.{LookUp, index_in, global_type_of, table_type_of};
+ghost use Rattle.wasm_convert.specs.Known.{CanLookUp, Known, CanConvert, IsFew};
 
 use entity_map::OutOfMemory;
 use form_data::{CompositeInnerType, FuncType, SubType};
@@ -25,13 +34,13 @@ pub trait TypeConvert {
     /// The indices that it knows.
     ghost knows: { Self → UnpackedIndex → Type 0 };
 
-    /// What an index is looked up to.
+    /// What an index is looked up to: the kind of the type that it names, and the index of that type.
     ghost look_up: { Self → LookUp };
 
     /// The global of a global type.
     fn convert_global_type(&self, ty: &GlobalType) -> Global
-        requires { KnowsVal (knows self.now) ty.now.content_type }
-        ensures { result ≡ global_of (look_up self.now) ty.now }
+        requires { Known (knows self.now) (global_edges (λ i. i) (global_type_of ty.now)) }
+        ensures { global_of result ≡ map_global (look_up self.now) (global_type_of ty.now) }
     {
         Global {
             wasm_ty: self.convert_valtype(ty.content_type),
@@ -41,8 +50,8 @@ pub trait TypeConvert {
 
     /// The table of a table type.
     fn convert_table_type(&self, ty: &TableType) -> Table
-        requires { KnowsRef (knows self.now) ty.now.element_type }
-        ensures { result ≡ table_of (look_up self.now) ty.now }
+        requires { Known (knows self.now) (table_edges (λ i. i) (table_type_of ty.now)) }
+        ensures { table_of result ≡ map_table (look_up self.now) (table_type_of ty.now) }
     {
         Table {
             idx_type: if ty.table64 {
@@ -63,8 +72,9 @@ pub trait TypeConvert {
     /// # Errors
     /// `OutOfMemory` where the lists of a composite type find no memory.
     fn convert_sub_type(&self, alloc: Heap, ty: &SubType) -> Result<WasmSubType, OutOfMemory>
-        requires { KnowsSub (knows self.now) (look_up self.now) ty.now }
-        ensures { IfOk result (λ t. t ≡ sub_type_of (look_up self.now) ty.now) }
+        requires known { Known (knows self.now) (sub_type_edges (λ i. i) (form.sub_type_of ty.now)) }
+        requires can { CanConvert (look_up self.now) (form.composite_of ty.now.composite) }
+        ensures { IfOk result (λ t. sub_type_of t ≡ map_sub_type (look_up self.now) (index_in (look_up self.now)) (form.sub_type_of ty.now)) }
     {
         Ok(WasmSubType {
             is_final: ty.is_final,
@@ -82,8 +92,9 @@ pub trait TypeConvert {
         alloc: Heap,
         ty: &CompositeInnerType,
     ) -> Result<WasmCompositeType, OutOfMemory>
-        requires { KnowsComposite (knows self.now) (look_up self.now) ty.now }
-        ensures { IfOk result (λ t. t ≡ composite_type_of (look_up self.now) ty.now) }
+        requires known { Known (knows self.now) (composite_edges (λ i. i) (form.composite_of ty.now)) }
+        requires can { CanConvert (look_up self.now) (form.composite_of ty.now) }
+        ensures { IfOk result (λ t. shared_of t ≡ unshared (map_composite (look_up self.now) (index_in (look_up self.now)) (form.composite_of ty.now))) }
     {
         let inner = match ty {
             CompositeInnerType::Func(ty) => WasmCompositeInnerType::Func(self.convert_func_type(
@@ -107,8 +118,9 @@ pub trait TypeConvert {
 
     /// The continuation type of the function type that an index names.
     fn convert_cont_type(&self, index: UnpackedIndex) -> WasmContType
-        requires { KnowsCont (knows self.now) (look_up self.now) index }
-        ensures { result ≡ cont_type_of (look_up self.now) index }
+        requires known { CanLookUp (knows self.now) index }
+        requires names_function { (look_up self.now index).kind ≡ FuncName }
+        ensures { cont_index result ≡ index_in (look_up self.now) index }
     {
         match self.lookup_heap_type(index) {
             WasmHeapType::ConcreteFunc(function) => WasmContType::new(function),
@@ -125,8 +137,8 @@ pub trait TypeConvert {
         alloc: Heap,
         fields: &[FieldType],
     ) -> Result<WasmStructType, OutOfMemory>
-        requires { All (KnowsField (knows self.now)) fields.now }
-        ensures { IfOk result (λ t. t ≡ struct_type_of (look_up self.now) fields.now) }
+        requires { Known (knows self.now) (fields_shape.edges (λ i. i) (map read.field_of fields.now)) }
+        ensures { IfOk result (λ t. struct_of t ≡ map (map_field (look_up self.now)) (map read.field_of fields.now)) }
     {
         let mut converted = Vec::with_capacity(alloc, fields.len())?;
         for field in fields {
@@ -137,16 +149,16 @@ pub trait TypeConvert {
 
     /// The array type of a field.
     fn convert_array_type(&self, ty: &FieldType) -> WasmArrayType
-        requires { KnowsField (knows self.now) ty.now }
-        ensures { result ≡ array_type_of (look_up self.now) ty.now }
+        requires { Known (knows self.now) (field_edges (λ i. i) (read.field_of ty.now)) }
+        ensures { array_of result ≡ map_field (look_up self.now) (read.field_of ty.now) }
     {
         WasmArrayType(self.convert_field_type(ty))
     }
 
     /// A field type.
     fn convert_field_type(&self, ty: &FieldType) -> WasmFieldType
-        requires { KnowsField (knows self.now) ty.now }
-        ensures { result ≡ field_type_of (look_up self.now) ty.now }
+        requires { Known (knows self.now) (field_edges (λ i. i) (read.field_of ty.now)) }
+        ensures { field_of result ≡ map_field (look_up self.now) (read.field_of ty.now) }
     {
         WasmFieldType {
             element_type: self.convert_storage_type(&ty.element_type),
@@ -156,8 +168,8 @@ pub trait TypeConvert {
 
     /// A storage type.
     fn convert_storage_type(&self, ty: &StorageType) -> WasmStorageType
-        requires { KnowsStorage (knows self.now) ty.now }
-        ensures { result ≡ storage_type_of (look_up self.now) ty.now }
+        requires { Known (knows self.now) (storage_edges (λ i. i) (read.storage_of ty.now)) }
+        ensures { storage_of result ≡ map_storage (look_up self.now) (read.storage_of ty.now) }
     {
         match ty {
             StorageType::I8 => WasmStorageType::I8,
@@ -171,21 +183,24 @@ pub trait TypeConvert {
     /// # Errors
     /// `OutOfMemory` where the lists of parameters and results find no memory.
     fn convert_func_type(&self, alloc: Heap, ty: &FuncType) -> Result<WasmFuncType, OutOfMemory>
-        requires { KnowsFunc (knows self.now) ty.now }
-        ensures { IfOk result (λ t. t ≡ func_type_of (look_up self.now) ty.now) }
+        requires known { Known (knows self.now) (function_edges (λ i. i) (form.function_of ty.now)) }
+        requires few { IsFew (form.function_of ty.now) }
+        ensures { IfOk result (λ t. function_of t ≡ map_function (look_up self.now) (form.function_of ty.now)) }
     {
         let mut types = Vec::with_capacity(alloc, ty.params.len() + ty.results.len())?;
-        for ty in ty.params.iter().chain(ty.results.iter()) {
+        for ty in ty.params.as_slice() {
             types.push(self.convert_valtype(*ty))?;
         }
-        let (params, results) = types.as_slice().split_at(ty.params.len());
-        WasmFuncType::new(alloc, params, results)
+        for ty in ty.results.as_slice() {
+            types.push(self.convert_valtype(*ty))?;
+        }
+        Ok(WasmFuncType::from_types(types, ty.params.len() as u32))
     }
 
     /// A value type.
     fn convert_valtype(&self, ty: ValType) -> WasmValType
-        requires { KnowsVal (knows self.now) ty }
-        ensures { result ≡ val_type_of (look_up self.now) ty }
+        requires { Known (knows self.now) (value_edges (λ i. i) (read.value_of ty)) }
+        ensures { value_of result ≡ map_value (look_up self.now) (read.value_of ty) }
     {
         match ty {
             ValType::I32 => WasmValType::I32,
@@ -199,8 +214,8 @@ pub trait TypeConvert {
 
     /// A reference type.
     fn convert_ref_type(&self, ty: RefType) -> WasmRefType
-        requires { KnowsRef (knows self.now) ty }
-        ensures { result ≡ ref_type_of (look_up self.now) ty }
+        requires { Known (knows self.now) (reference_edges (λ i. i) (read.reference_of ty)) }
+        ensures { reference_of result ≡ map_reference (look_up self.now) (read.reference_of ty) }
     {
         WasmRefType {
             nullable: ty.nullable,
@@ -210,8 +225,8 @@ pub trait TypeConvert {
 
     /// A heap type.
     fn convert_heap_type(&self, ty: HeapType) -> WasmHeapType
-        requires { KnowsHeap (knows self.now) ty }
-        ensures { result ≡ heap_type_of (look_up self.now) ty }
+        requires { Known (knows self.now) (heap_edges (λ i. i) (read.heap_of ty)) }
+        ensures { heap_of result ≡ map_heap (look_up self.now) (read.heap_of ty) }
     {
         match ty {
             HeapType::Concrete(index) => self.lookup_heap_type(index),
@@ -237,10 +252,10 @@ pub trait TypeConvert {
     /// The heap type of the type that an index names.
     fn lookup_heap_type(&self, index: UnpackedIndex) -> WasmHeapType
         requires { CanLookUp (knows self.now) index }
-        ensures { result ≡ (look_up self.now).heap_type index };
+        ensures { heap_of result ≡ Concrete (look_up self.now index) };
 
     /// The index, in a translated module, of the type that an index names.
     fn lookup_type_index(&self, index: UnpackedIndex) -> EngineOrModuleTypeIndex
         requires { CanLookUp (knows self.now) index }
-        ensures { result ≡ (look_up self.now).type_index index };
+        ensures { result ≡ index_in (look_up self.now) index };
 }

@@ -3,14 +3,17 @@
 
 mod constants;
 mod convert;
+mod evaluation;
 mod laws;
 mod operators;
 #[cfg(test)]
 mod tests;
+mod values;
 mod worked;
 
-pub use constants::{ConstExpr, GlobalConstValue};
+pub use constants::ConstExpr;
 pub use convert::TypeConvert;
 pub use laws::back_conversion_law;
 pub use operators::ConstOp;
+pub use values::GlobalConstValue;
 pub use worked::{worked_constants, worked_conversions};

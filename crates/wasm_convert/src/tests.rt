@@ -4,7 +4,7 @@ ghost use Rattle.std.specs.Prelude.{◌<◌};
 ghost use Rattle.wasm_index.specs.Index.{index_of};
 ghost use Rattle.wasm_spec.specs.declared.types.UnpackedIndex.TheVariants as index;
 ghost use Rattle.wasm_types.specs.declared.index.EngineOrModuleTypeIndex.TheVariants.{Module};
-ghost use Rattle.wasm_types.specs.declared.heap.WasmHeapType.TheVariants.{ConcreteFunc, NoFunc};
+ghost use Rattle.type_data.specs.Names.{FuncName};
 
 use crate::{ConstExpr, ConstOp, GlobalConstValue, TypeConvert};
 use entity_map::EntityRef;
@@ -23,10 +23,11 @@ struct Functions;
 impl TypeConvert for Functions {
     ghost knows = { λ c. elim [ index.Module n ↦ n < 100 | index.RecGroup n ↦ ⊥ | index.Id n ↦ ⊥ ] };
 
-    ghost look_up = { λ c. record {
-      heap_type = elim [ index.Module n ↦ ConcreteFunc (Module (index_of n)) | index.RecGroup n ↦ NoFunc | index.Id n ↦ NoFunc ];
-      type_index = elim [ index.Module n ↦ Module (index_of n) | index.RecGroup n ↦ Module (index_of n) | index.Id n ↦ Module (index_of 0) ];
-    } };
+    ghost look_up = { λ c. elim [
+      | index.Module n ↦ record { kind = FuncName; index = Module (index_of n) }
+      | index.RecGroup n ↦ record { kind = FuncName; index = Module (index_of n) }
+      | index.Id n ↦ record { kind = FuncName; index = Module (index_of 0) }
+    ] };
 
     fn lookup_heap_type(&self, index: UnpackedIndex) -> WasmHeapType {
         WasmHeapType::ConcreteFunc(self.lookup_type_index(index))
@@ -146,13 +147,81 @@ fn escaping_functions_are_listed(rt: HostRuntime) -> Result<(), Fail> {
 }
 
 #[test]
-fn one_constant_has_a_value(rt: HostRuntime) -> Result<(), Fail> {
+fn one_constant_is_zero_or_not(rt: HostRuntime) -> Result<(), Fail> {
     let alloc = rt.alloc();
     let zero = ConstExpr::new(alloc, &[ConstOp::I32Const(0)])?;
     assert!(rt; matches!(zero.const_eval(), Some(GlobalConstValue::I32(0))));
     assert!(rt; !zero.provably_nonzero_i32());
     assert!(rt; ConstExpr::new(alloc, &[ConstOp::I32Const(-1)])?.provably_nonzero_i32());
     assert_eq!(rt; zero.try_clone(alloc)?.ops(), zero.ops());
+    Ok(())
+}
+
+#[test]
+fn constants_and_arithmetic_have_values(rt: HostRuntime) -> Result<(), Fail> {
+    let alloc = rt.alloc();
+    let mut sixteen_deep = [ConstOp::I32Add; 31];
+    sixteen_deep[..16].fill(ConstOp::I32Const(1));
+    let mut seventeen_deep = [ConstOp::I32Add; 33];
+    seventeen_deep[..17].fill(ConstOp::I32Const(1));
+    let rows: [(&[ConstOp], &str); 18] = [
+        (&[ConstOp::I32Const(-7)], "Some(I32(-7))"),
+        (&[ConstOp::I64Const(-7)], "Some(I64(-7))"),
+        (&[ConstOp::F32Const(7)], "Some(F32(7))"),
+        (&[ConstOp::F64Const(7)], "Some(F64(7))"),
+        (&[ConstOp::V128Const(7)], "Some(V128(7))"),
+        (
+            &[ConstOp::I32Const(10), ConstOp::I32Const(6), ConstOp::I32Add],
+            "Some(I32(16))",
+        ),
+        (
+            &[ConstOp::I64Const(0), ConstOp::I64Const(1), ConstOp::I64Sub],
+            "Some(I64(-1))",
+        ),
+        (
+            &[
+                ConstOp::I32Const(2147483647),
+                ConstOp::I32Const(1),
+                ConstOp::I32Add,
+            ],
+            "Some(I32(-2147483648))",
+        ),
+        (
+            &[
+                ConstOp::I32Const(65536),
+                ConstOp::I32Const(32769),
+                ConstOp::I32Mul,
+            ],
+            "Some(I32(-2147418112))",
+        ),
+        (
+            &[
+                ConstOp::I64Const(4294967296),
+                ConstOp::I64Const(4294967297),
+                ConstOp::I64Mul,
+            ],
+            "Some(I64(4294967296))",
+        ),
+        (&sixteen_deep, "Some(I32(16))"),
+        (&seventeen_deep, "None"),
+        (
+            &[ConstOp::I32Const(1), ConstOp::I64Const(1), ConstOp::I32Add],
+            "None",
+        ),
+        (&[ConstOp::I32Const(1), ConstOp::I32Const(2)], "None"),
+        (&[ConstOp::I32Add], "None"),
+        (&[ConstOp::RefFunc(FuncIndex::from_u32(4))], "None"),
+        (&[ConstOp::RefNull(WasmHeapType::Func)], "None"),
+        (&[ConstOp::I32Const(1), ConstOp::RefI31], "None"),
+    ];
+    for (ops, value) in rows {
+        assert!(rt; !ops.is_empty());
+        let expression = ConstExpr::new(alloc, ops)?;
+        assert_eq!(rt;
+            format!(in alloc; "{:?}", expression.const_eval())?.as_str(),
+            value
+        );
+    }
     Ok(())
 }
 

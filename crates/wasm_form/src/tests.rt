@@ -2,10 +2,13 @@
 
 mod counts;
 mod elements;
+mod expression_rows;
 mod large;
 mod linked;
 mod operators;
 mod rows;
+mod rule_rows;
+mod rules;
 mod types;
 
 use crate::{DataKind, MemoryType, Operator, Payload, ReadError, What, read_module};

@@ -3,5 +3,5 @@ pub mod Spaces
 pub mod Entities
 pub mod Imports
 pub mod Elements
-pub mod Edges
-pub mod Restored
+pub mod ModuleData
+pub mod ModuleShapes

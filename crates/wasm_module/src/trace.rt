@@ -2,10 +2,11 @@
 
 ghost use Rattle.std.specs.Prelude.{◌≡◌, map};
 ghost use Rattle.std.specs.List.{flat_map};
+ghost use Rattle.type_data.specs.Names.{Named, by_name, frame};
+ghost use Rattle.wasm_types.specs.ViewsTell.{tells};
 ghost use Rattle.wasm_trace.specs.Runs.{Run, MayRun, RunMut, MayRunMut};
-ghost use Rattle.wasm_trace.specs.Restored.{is_determined};
-ghost use Rattle.wasm_module.specs.Edges.{function_edges, function_frame, startup_edges, startup_frame, module_edges, module_frame};
-ghost use Rattle.wasm_module.specs.Restored.{function_restored, startup_restored, module_determined};
+ghost use Rattle.wasm_module.specs.ModuleData.{FunctionData, StartupData, ModuleData, function_of, startup_of, module_data_of};
+ghost use Rattle.wasm_module.specs.ModuleShapes.{function_shape, startup_shape, module_shape, function_back, startup_back, module_back};
 
 use crate::function::FunctionType;
 use crate::module::Module;
@@ -15,9 +16,11 @@ use wasm_trace::{TypeTrace, trace_all, trace_all_mut};
 use wasm_types::EngineOrModuleTypeIndex;
 
 impl TypeTrace for FunctionType {
-    ghost edges = { function_edges };
+    ghost Data = { λ R. FunctionData R };
 
-    ghost frame = { function_frame };
+    ghost shape = { by_name function_shape };
+
+    ghost view = { function_of };
 
     fn trace<F, E>(&self, func: &mut F) -> Result<(), E>
     where
@@ -33,13 +36,15 @@ impl TypeTrace for FunctionType {
         self.signature.trace_mut(func)
     }
 
-    ghost determined = { is_determined function_restored };
+    ghost told = { tells function_back };
 }
 
 impl TypeTrace for ModuleStartup {
-    ghost edges = { startup_edges };
+    ghost Data = { λ R. StartupData R };
 
-    ghost frame = { startup_frame };
+    ghost shape = { by_name startup_shape };
+
+    ghost view = { startup_of };
 
     fn trace<F, E>(&self, func: &mut F) -> Result<(), E>
     where
@@ -63,7 +68,7 @@ impl TypeTrace for ModuleStartup {
         }
     }
 
-    ghost determined = { is_determined startup_restored };
+    ghost told = { tells startup_back };
 }
 
 // Visits each edge of the values of a list.
@@ -73,8 +78,8 @@ fn trace_list<K: EntityRef, V: TypeTrace, F, E>(
 ) -> Result<(), E>
 where
     F: FnMut(EngineOrModuleTypeIndex) -> Result<(), E>,
-    requires { MayRun F.FnMut func.old (flat_map V.edges list.now) }
-    ensures { Run F.FnMut func.old (flat_map V.edges list.now) result func.new }
+    requires { MayRun F.FnMut func.old (flat_map V.shape.edges (map V.view list.now)) }
+    ensures { Run F.FnMut func.old (flat_map V.shape.edges (map V.view list.now)) result func.new }
 {
     trace_all(list.as_slice(), func)
 }
@@ -86,18 +91,20 @@ fn trace_list_mut<K: EntityRef, V: TypeTrace, F, E>(
 ) -> Result<(), E>
 where
     F: FnMut(&mut EngineOrModuleTypeIndex) -> Result<(), E>,
-    requires { MayRunMut F.FnMut func.old (flat_map V.edges list.old) }
-    ensures kept { map V.frame list.new ≡ map V.frame list.old }
-    ensures run { RunMut F.FnMut func.old (flat_map V.edges list.old) result func.new (flat_map V.edges list.new) }
+    requires { MayRunMut F.FnMut func.old (flat_map V.shape.edges (map V.view list.old)) }
+    ensures kept { map (frame V.shape) (map V.view list.new) ≡ map (frame V.shape) (map V.view list.old) }
+    ensures run { RunMut F.FnMut func.old (flat_map V.shape.edges (map V.view list.old)) result func.new (flat_map V.shape.edges (map V.view list.new)) }
 {
     trace_all_mut(list.as_mut_slice(), func)
 }
 
 /// The types of passive elements are no edges.
 impl TypeTrace for Module {
-    ghost edges = { module_edges };
+    ghost Data = { λ R. ModuleData (Named R) R };
 
-    ghost frame = { module_frame };
+    ghost shape = { by_name module_shape };
+
+    ghost view = { module_data_of };
 
     #[tactic(auto, using(wasm_trace::proofs::Joined::may_run_first, wasm_trace::proofs::Joined::may_run_then, wasm_trace::proofs::Joined::run_then, wasm_trace::proofs::Joined::run_stop))]
     fn trace<F, E>(&self, func: &mut F) -> Result<(), E>
@@ -125,5 +132,5 @@ impl TypeTrace for Module {
         self.startup.trace_mut(func)
     }
 
-    ghost determined = { module_determined };
+    ghost told = { tells module_back };
 }

@@ -6,14 +6,17 @@ ghost use Rattle.wasm_index.specs.declared.index.Index.{Index};
 ghost use Rattle.wasm_index.specs.declared.spaces.DefinedFuncSpace.{DefinedFuncSpace};
 ghost use Rattle.wasm_index.specs.declared.spaces.FuncSpace.{FuncSpace};
 ghost use Rattle.wasm_types.specs.declared.memory.Memory.{Memory};
-ghost use Rattle.wasm_module.specs.Edges.{record_edges};
+ghost use Rattle.type_data.specs.Names.{Named, by_name};
+ghost use Rattle.wasm_module.specs.declared.module.Module.{Module};
+ghost use Rattle.wasm_types.specs.declared.index.EngineOrModuleTypeIndex.{EngineOrModuleTypeIndex};
+ghost use Rattle.wasm_module.specs.ModuleData.{ModuleData, AlwaysStarts};
+ghost use Rattle.wasm_module.specs.ModuleShapes.{module_shape};
 ghost use Rattle.wasm_module.specs.Entities.{entity_type, owned_memories};
 ghost use Rattle.wasm_module.specs.Imports.{imports_of, entity_at};
 ghost use Rattle.wasm_module.specs.Record.{empty_record};
 ghost use Rattle.wasm_module.specs.Spaces.{index_after, defined_at, first_indices};
 
 use crate::initializer::Initializer;
-use crate::startup::ModuleStartup;
 use wasm_types::{EngineOrModuleTypeIndex, EntityIndex, EntityType, IndexType};
 
 /// Two functions are imported: the defined ones are numbered from 2 on.
@@ -50,11 +53,22 @@ pub fn worked_imports()
 
 /// The types of a module come first, then its functions' and tags', and the startup's last.
 pub fn worked_edges()
-    ensures { record_edges (record (empty_record (index_of 0)) {
-      types = EngineOrModuleTypeIndex.Module (index_of 1) ∷ [];
-      functions = record { signature = EngineOrModuleTypeIndex.Module (index_of 2); func_ref = index_of 0 } ∷ [];
-      tags = record { signature = EngineOrModuleTypeIndex.Module (index_of 3); exception = EngineOrModuleTypeIndex.Module (index_of 4) } ∷ [];
-      startup = ModuleStartup.Always (EngineOrModuleTypeIndex.Module (index_of 5));
-    }) ≡ EngineOrModuleTypeIndex.Module (index_of 1) ∷ EngineOrModuleTypeIndex.Module (index_of 2) ∷ EngineOrModuleTypeIndex.Module (index_of 3)
+    ensures { (rest : Module) → let «data» : ModuleData (Named EngineOrModuleTypeIndex) EngineOrModuleTypeIndex = (
+      EngineOrModuleTypeIndex.Module (index_of 1) ∷ [],
+      (
+        record { signature = EngineOrModuleTypeIndex.Module (index_of 2); func_ref = index_of 0 } ∷ [],
+        (
+          [],
+          (
+            [],
+            (
+              record { signature = EngineOrModuleTypeIndex.Module (index_of 3); exception = EngineOrModuleTypeIndex.Module (index_of 4) } ∷ [],
+              (AlwaysStarts (EngineOrModuleTypeIndex.Module (index_of 5)), rest),
+            ),
+          ),
+        ),
+      ),
+    ) in (by_name module_shape).edges «data»
+        ≡ EngineOrModuleTypeIndex.Module (index_of 1) ∷ EngineOrModuleTypeIndex.Module (index_of 2) ∷ EngineOrModuleTypeIndex.Module (index_of 3)
         ∷ EngineOrModuleTypeIndex.Module (index_of 4) ∷ EngineOrModuleTypeIndex.Module (index_of 5) ∷ [] }
 {}

@@ -1,5 +1,5 @@
 -- The edges that are the engine's, and the two forms in which types are compared and used.
-use Rattle.std.specs.Prelude.{◌≡◌, ◌<◌, ◌≤◌, ◌-◌, ℕ, List, ⊤}
+use Rattle.std.specs.Prelude.{◌≡◌, ◌<◌, ◌≤◌, ◌-◌, ℕ, List, ⊤, if◌then◌else◌, nat_lt}
 use Rattle.std.specs.List.{filter_map}
 use Rattle.wasm_index.specs.Index.{number_of, index_of}
 use Rattle.wasm_index.specs.declared.index.Index.{Index}
@@ -49,3 +49,20 @@ module _ (may : Index ModuleInternedTypeSpace → Type 0) where
   CanBeConsedEdge start end (Engine i) = ⊤
   CanBeConsedEdge start end (Module i) = (number_of i < start → may i) × (start ≤ number_of i → number_of i < end)
   CanBeConsedEdge start end (RecGroup i) = ⊥
+
+-- a table that gives what a function gives
+abbrev pub Gives : (Index ModuleInternedTypeSpace → Index VMSharedTypeSpace → Type 0) → (Index ModuleInternedTypeSpace → Index VMSharedTypeSpace)
+    → Type 0
+Gives table engine = (i : Index ModuleInternedTypeSpace) (e : Index VMSharedTypeSpace) → table i e → e ≡ engine i
+
+module _ (engine : Index ModuleInternedTypeSpace → Index VMSharedTypeSpace) where
+  -- an edge in types that are used
+  abbrev pub runtime_edge : EngineOrModuleTypeIndex → EngineOrModuleTypeIndex
+  runtime_edge (Module i) = Engine (engine i)
+  runtime_edge e = e
+
+  -- an edge in types that are compared, those of a group from `start` on
+  abbrev pub consed_edge : ℕ → EngineOrModuleTypeIndex → EngineOrModuleTypeIndex
+  consed_edge start (Module i) =
+      if nat_lt (number_of i) start then Engine (engine i) else RecGroup (index_of (number_of i - start))
+  consed_edge start e = e

@@ -1,16 +1,22 @@
 //! The edges of struct and exception types.
 
-ghost use Rattle.wasm_trace.specs.Edges.{struct_edges, struct_frame, exn_edges, exn_frame};
-ghost use Rattle.wasm_trace.specs.Restored.{is_determined, struct_restored, exn_restored};
+ghost use Rattle.std.specs.Prelude.{List};
+ghost use Rattle.wasm_spec.specs.TypeData.{Field, Exception};
+ghost use Rattle.type_data.specs.TypeShapes.{fields_shape, exception_shape};
+ghost use Rattle.type_data.specs.Names.{Named, by_name};
+ghost use Rattle.wasm_types.specs.TypeViews.{struct_of, exception_of};
+ghost use Rattle.wasm_types.specs.ViewsTell.{tells, struct_back, exception_back};
 
 use crate::lists::{trace_all, trace_all_mut};
 use crate::trace::TypeTrace;
 use wasm_types::{EngineOrModuleTypeIndex, WasmExnType, WasmStructType};
 
 impl TypeTrace for WasmStructType {
-    ghost edges = { struct_edges };
+    ghost Data = { λ R. List (Field (Named R)) };
 
-    ghost frame = { struct_frame };
+    ghost shape = { by_name fields_shape };
+
+    ghost view = { struct_of };
 
     fn trace<F, E>(&self, func: &mut F) -> Result<(), E>
     where
@@ -26,13 +32,15 @@ impl TypeTrace for WasmStructType {
         trace_all_mut(self.fields.as_mut_slice(), func)
     }
 
-    ghost determined = { is_determined struct_restored };
+    ghost told = { tells struct_back };
 }
 
 impl TypeTrace for WasmExnType {
-    ghost edges = { exn_edges };
+    ghost Data = { λ R. Exception (Named R) R };
 
-    ghost frame = { exn_frame };
+    ghost shape = { by_name exception_shape };
+
+    ghost view = { exception_of };
 
     #[tactic(auto, using(crate::proofs::Runs::may_visit_first, crate::proofs::Runs::may_go_on))]
     fn trace<F, E>(&self, func: &mut F) -> Result<(), E>
@@ -52,5 +60,5 @@ impl TypeTrace for WasmExnType {
         trace_all_mut(self.fields.as_mut_slice(), func)
     }
 
-    ghost determined = { is_determined exn_restored };
+    ghost told = { tells exception_back };
 }

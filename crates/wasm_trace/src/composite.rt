@@ -2,9 +2,13 @@
 
 ghost use Rattle.std.specs.Prelude.{◌≡◌};
 ghost use Rattle.std.specs.Option.{option_map, option_to_list};
-ghost use Rattle.wasm_trace.specs.Edges.{inner_edges, inner_frame, composite_edges, composite_frame, sub_edges, sub_frame, group_edges, group_frame, no_edge};
+ghost use Rattle.wasm_spec.specs.TypeData.{Shared, SubType, Group, map_composite, composite_edges};
+ghost use Rattle.type_data.specs.Shapes.{erased};
+ghost use Rattle.type_data.specs.TypeShapes.{shared_shape, sub_type_shape, group_shape};
+ghost use Rattle.type_data.specs.Names.{Named, by_name, named, index_of};
+ghost use Rattle.wasm_types.specs.TypeViews.{composite_of, shared_of, sub_type_of, group_of};
+ghost use Rattle.wasm_types.specs.ViewsTell.{tells, shared_back, sub_type_back, group_back};
 ghost use Rattle.wasm_trace.specs.Runs.{Run, MayRun, RunMut, MayRunMut};
-ghost use Rattle.wasm_trace.specs.Restored.{is_determined, composite_restored, sub_restored, group_restored};
 
 use crate::lists::{trace_all, trace_all_mut};
 use crate::trace::TypeTrace;
@@ -13,9 +17,11 @@ use wasm_types::{
 };
 
 impl TypeTrace for WasmCompositeType {
-    ghost edges = { composite_edges };
+    ghost Data = { λ R. Shared (Named R) R };
 
-    ghost frame = { composite_frame };
+    ghost shape = { by_name shared_shape };
+
+    ghost view = { shared_of };
 
     fn trace<F, E>(&self, func: &mut F) -> Result<(), E>
     where
@@ -31,15 +37,15 @@ impl TypeTrace for WasmCompositeType {
         trace_inner_mut(&mut self.inner, func)
     }
 
-    ghost determined = { is_determined composite_restored };
+    ghost told = { tells shared_back };
 }
 
 // Visits each edge of a composite type without its share flag.
 fn trace_inner<F, E>(inner: &WasmCompositeInnerType, func: &mut F) -> Result<(), E>
 where
     F: FnMut(EngineOrModuleTypeIndex) -> Result<(), E>,
-    requires { MayRun F.FnMut func.old (inner_edges inner.now) }
-    ensures { Run F.FnMut func.old (inner_edges inner.now) result func.new }
+    requires { MayRun F.FnMut func.old (composite_edges index_of (composite_of inner.now)) }
+    ensures { Run F.FnMut func.old (composite_edges index_of (composite_of inner.now)) result func.new }
 {
     match inner {
         WasmCompositeInnerType::Array(ty) => ty.trace(func),
@@ -54,9 +60,9 @@ where
 fn trace_inner_mut<F, E>(inner: &mut WasmCompositeInnerType, func: &mut F) -> Result<(), E>
 where
     F: FnMut(&mut EngineOrModuleTypeIndex) -> Result<(), E>,
-    requires { MayRunMut F.FnMut func.old (inner_edges inner.old) }
-    ensures kept { inner_frame inner.new ≡ inner_frame inner.old }
-    ensures run { RunMut F.FnMut func.old (inner_edges inner.old) result func.new (inner_edges inner.new) }
+    requires { MayRunMut F.FnMut func.old (composite_edges index_of (composite_of inner.old)) }
+    ensures kept { map_composite (named erased) erased (composite_of inner.new) ≡ map_composite (named erased) erased (composite_of inner.old) }
+    ensures run { RunMut F.FnMut func.old (composite_edges index_of (composite_of inner.old)) result func.new (composite_edges index_of (composite_of inner.new)) }
 {
     match inner {
         WasmCompositeInnerType::Array(ty) => ty.trace_mut(func),
@@ -90,7 +96,7 @@ fn trace_option_mut<F, E>(
 where
     F: FnMut(&mut EngineOrModuleTypeIndex) -> Result<(), E>,
     requires { MayRunMut F.FnMut func.old (option_to_list index.old) }
-    ensures kept { option_map (λ i. no_edge) index.new ≡ option_map (λ i. no_edge) index.old }
+    ensures kept { option_map erased index.new ≡ option_map erased index.old }
     ensures run { RunMut F.FnMut func.old (option_to_list index.old) result func.new (option_to_list index.new) }
 {
     match index {
@@ -100,9 +106,11 @@ where
 }
 
 impl TypeTrace for WasmSubType {
-    ghost edges = { sub_edges };
+    ghost Data = { λ R. SubType (Named R) R };
 
-    ghost frame = { sub_frame };
+    ghost shape = { by_name sub_type_shape };
+
+    ghost view = { sub_type_of };
 
     #[tactic(auto, using(crate::proofs::Joined::may_run_first, crate::proofs::Joined::may_run_then, crate::proofs::Joined::run_then, crate::proofs::Joined::run_stop))]
     fn trace<F, E>(&self, func: &mut F) -> Result<(), E>
@@ -122,13 +130,15 @@ impl TypeTrace for WasmSubType {
         self.composite_type.trace_mut(func)
     }
 
-    ghost determined = { is_determined sub_restored };
+    ghost told = { tells sub_type_back };
 }
 
 impl TypeTrace for WasmRecGroup {
-    ghost edges = { group_edges };
+    ghost Data = { λ R. Group (Named R) R };
 
-    ghost frame = { group_frame };
+    ghost shape = { by_name group_shape };
+
+    ghost view = { group_of };
 
     fn trace<F, E>(&self, func: &mut F) -> Result<(), E>
     where
@@ -144,5 +154,5 @@ impl TypeTrace for WasmRecGroup {
         trace_all_mut(self.types.as_mut_slice(), func)
     }
 
-    ghost determined = { is_determined group_restored };
+    ghost told = { tells group_back };
 }

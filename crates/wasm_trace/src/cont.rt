@@ -1,15 +1,18 @@
 //! The edge of a continuation type.
 
-ghost use Rattle.wasm_trace.specs.Edges.{cont_edges, cont_frame};
-ghost use Rattle.wasm_trace.specs.Restored.{is_determined, cont_restored};
+ghost use Rattle.type_data.specs.Names.{reference_alone};
+ghost use Rattle.wasm_types.specs.Indices.{cont_index};
+ghost use Rattle.wasm_types.specs.ViewsTell.{tells, cont_back};
 
 use crate::trace::TypeTrace;
 use wasm_types::{EngineOrModuleTypeIndex, WasmContType};
 
 impl TypeTrace for WasmContType {
-    ghost edges = { cont_edges };
+    ghost Data = { λ R. R };
 
-    ghost frame = { cont_frame };
+    ghost shape = { reference_alone };
+
+    ghost view = { cont_index };
 
     #[tactic(auto, using(crate::proofs::Runs::may_visit))]
     fn trace<F, E>(&self, func: &mut F) -> Result<(), E>
@@ -27,5 +30,5 @@ impl TypeTrace for WasmContType {
         func(self.index_mut())
     }
 
-    ghost determined = { is_determined cont_restored };
+    ghost told = { tells cont_back };
 }

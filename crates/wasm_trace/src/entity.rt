@@ -1,15 +1,20 @@
 //! The edges of globals, tables, tags and the types of entities.
 
-ghost use Rattle.wasm_trace.specs.Edges.{global_edges, global_frame, table_edges, table_frame, tag_edges, tag_frame, entity_edges, entity_frame};
-ghost use Rattle.wasm_trace.specs.Restored.{is_determined, global_restored, table_restored, tag_restored, entity_restored};
+ghost use Rattle.type_data.specs.Names.{Named, by_name};
+ghost use Rattle.wasm_types.specs.EntityData.{GlobalData, TableData, TagData, EntityData};
+ghost use Rattle.wasm_types.specs.EntityShapes.{global_shape, table_shape, tag_shape, entity_shape};
+ghost use Rattle.wasm_types.specs.EntityViews.{global_of, table_of, tag_of, entity_of, global_back, table_back, tag_back, entity_back};
+ghost use Rattle.wasm_types.specs.ViewsTell.{tells};
 
 use crate::trace::TypeTrace;
 use wasm_types::{EngineOrModuleTypeIndex, EntityType, Global, Table, Tag};
 
 impl TypeTrace for Global {
-    ghost edges = { global_edges };
+    ghost Data = { λ R. GlobalData (Named R) };
 
-    ghost frame = { global_frame };
+    ghost shape = { by_name global_shape };
+
+    ghost view = { global_of };
 
     fn trace<F, E>(&self, func: &mut F) -> Result<(), E>
     where
@@ -25,13 +30,15 @@ impl TypeTrace for Global {
         self.wasm_ty.trace_mut(func)
     }
 
-    ghost determined = { is_determined global_restored };
+    ghost told = { tells global_back };
 }
 
 impl TypeTrace for Table {
-    ghost edges = { table_edges };
+    ghost Data = { λ R. TableData (Named R) };
 
-    ghost frame = { table_frame };
+    ghost shape = { by_name table_shape };
+
+    ghost view = { table_of };
 
     fn trace<F, E>(&self, func: &mut F) -> Result<(), E>
     where
@@ -47,13 +54,15 @@ impl TypeTrace for Table {
         self.ref_type.trace_mut(func)
     }
 
-    ghost determined = { is_determined table_restored };
+    ghost told = { tells table_back };
 }
 
 impl TypeTrace for Tag {
-    ghost edges = { tag_edges };
+    ghost Data = { λ R. TagData R };
 
-    ghost frame = { tag_frame };
+    ghost shape = { by_name tag_shape };
+
+    ghost view = { tag_of };
 
     #[tactic(auto, using(crate::proofs::Runs::may_visit_first, crate::proofs::Runs::may_go_on))]
     fn trace<F, E>(&self, func: &mut F) -> Result<(), E>
@@ -73,13 +82,15 @@ impl TypeTrace for Tag {
         func(&mut self.exception)
     }
 
-    ghost determined = { is_determined tag_restored };
+    ghost told = { tells tag_back };
 }
 
 impl TypeTrace for EntityType {
-    ghost edges = { entity_edges };
+    ghost Data = { λ R. EntityData (Named R) R };
 
-    ghost frame = { entity_frame };
+    ghost shape = { by_name entity_shape };
+
+    ghost view = { entity_of };
 
     #[tactic(auto, using(crate::proofs::Runs::may_visit))]
     fn trace<F, E>(&self, func: &mut F) -> Result<(), E>
@@ -109,5 +120,5 @@ impl TypeTrace for EntityType {
         }
     }
 
-    ghost determined = { is_determined entity_restored };
+    ghost told = { tells entity_back };
 }

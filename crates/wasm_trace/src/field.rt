@@ -1,15 +1,21 @@
 //! The edges of storage, field and array types.
 
-ghost use Rattle.wasm_trace.specs.Edges.{storage_edges, storage_frame, field_edges, field_frame, array_edges, array_frame};
-ghost use Rattle.wasm_trace.specs.Restored.{is_determined, storage_restored, field_restored, array_restored};
+ghost use Rattle.wasm_spec.specs.TypeData.{Storage, Field};
+ghost use Rattle.type_data.specs.TypeShapes.{storage_shape, field_shape};
+ghost use Rattle.type_data.specs.Names.{Named, by_name};
+ghost use Rattle.wasm_types.specs.ValueViews.{storage_of, field_of};
+ghost use Rattle.wasm_types.specs.TypeViews.{array_of};
+ghost use Rattle.wasm_types.specs.ViewsTell.{tells, storage_back, field_back, array_back};
 
 use crate::trace::TypeTrace;
 use wasm_types::{EngineOrModuleTypeIndex, WasmArrayType, WasmFieldType, WasmStorageType};
 
 impl TypeTrace for WasmStorageType {
-    ghost edges = { storage_edges };
+    ghost Data = { λ R. Storage (Named R) };
 
-    ghost frame = { storage_frame };
+    ghost shape = { by_name storage_shape };
+
+    ghost view = { storage_of };
 
     fn trace<F, E>(&self, func: &mut F) -> Result<(), E>
     where
@@ -31,13 +37,15 @@ impl TypeTrace for WasmStorageType {
         }
     }
 
-    ghost determined = { is_determined storage_restored };
+    ghost told = { tells storage_back };
 }
 
 impl TypeTrace for WasmFieldType {
-    ghost edges = { field_edges };
+    ghost Data = { λ R. Field (Named R) };
 
-    ghost frame = { field_frame };
+    ghost shape = { by_name field_shape };
+
+    ghost view = { field_of };
 
     fn trace<F, E>(&self, func: &mut F) -> Result<(), E>
     where
@@ -53,13 +61,15 @@ impl TypeTrace for WasmFieldType {
         self.element_type.trace_mut(func)
     }
 
-    ghost determined = { is_determined field_restored };
+    ghost told = { tells field_back };
 }
 
 impl TypeTrace for WasmArrayType {
-    ghost edges = { array_edges };
+    ghost Data = { λ R. Field (Named R) };
 
-    ghost frame = { array_frame };
+    ghost shape = { by_name field_shape };
+
+    ghost view = { array_of };
 
     fn trace<F, E>(&self, func: &mut F) -> Result<(), E>
     where
@@ -75,5 +85,5 @@ impl TypeTrace for WasmArrayType {
         self.0.trace_mut(func)
     }
 
-    ghost determined = { is_determined array_restored };
+    ghost told = { tells array_back };
 }

@@ -1,21 +1,21 @@
 //! The edges of a function type.
 
-ghost use Rattle.std.specs.Prelude.{◌≡◌, List};
-ghost use Rattle.std.specs.Option.{option_to_list};
-ghost use Rattle.wasm_types.specs.Indices.{index_at};
-ghost use Rattle.wasm_types.specs.declared.index.EngineOrModuleTypeIndex.{EngineOrModuleTypeIndex};
-ghost use Rattle.wasm_trace.specs.Edges.{func_edges, func_frame, func_with_edges_at};
-ghost use Rattle.wasm_trace.specs.Runs.{RunMut, MayRunMut};
-ghost use Rattle.wasm_trace.specs.Restored.{is_determined, func_restored};
+ghost use Rattle.wasm_spec.specs.TypeData.{Function};
+ghost use Rattle.type_data.specs.TypeShapes.{function_shape};
+ghost use Rattle.type_data.specs.Names.{Named, by_name};
+ghost use Rattle.wasm_types.specs.TypeViews.{function_of};
+ghost use Rattle.wasm_types.specs.ViewsTell.{tells, function_back};
 
-use crate::lists::trace_all;
+use crate::lists::{trace_all, trace_all_mut};
 use crate::trace::TypeTrace;
 use wasm_types::{EngineOrModuleTypeIndex, WasmFuncType};
 
 impl TypeTrace for WasmFuncType {
-    ghost edges = { func_edges };
+    ghost Data = { λ R. Function (Named R) };
 
-    ghost frame = { func_frame };
+    ghost shape = { by_name function_shape };
+
+    ghost view = { function_of };
 
     #[tactic(auto, using(crate::proofs::Joined::may_run_first, crate::proofs::Joined::may_run_then, crate::proofs::Joined::run_then, crate::proofs::Joined::run_stop))]
     fn trace<F, E>(&self, func: &mut F) -> Result<(), E>
@@ -30,27 +30,11 @@ impl TypeTrace for WasmFuncType {
     where
         F: FnMut(&mut EngineOrModuleTypeIndex) -> Result<(), E>,
     {
-        let count = self.params().len() + self.results().len();
-        for at in 0..count {
-            trace_at_mut(self, at, func)?;
-        }
-        Ok(())
+        let (mut types, params_count) = self.take_types();
+        let result = trace_all_mut(types.as_mut_slice(), func);
+        *self = WasmFuncType::from_types(types, params_count);
+        result
     }
 
-    ghost determined = { is_determined func_restored };
-}
-
-// Visits the edge at a place of the parameters and then the results, if one stands there, for writing.
-fn trace_at_mut<F, E>(ty: &mut WasmFuncType, at: usize, func: &mut F) -> Result<(), E>
-where
-    F: FnMut(&mut EngineOrModuleTypeIndex) -> Result<(), E>,
-    requires { MayRunMut F.FnMut func.old (option_to_list (index_at ty.old at)) }
-    ensures { (new : List EngineOrModuleTypeIndex)
-        × RunMut F.FnMut func.old (option_to_list (index_at ty.old at)) result func.new new
-        × (ty.new ≡ func_with_edges_at ty.old at new) }
-{
-    match ty.index_mut(at) {
-        Some(index) => func(index),
-        None => Ok(()),
-    }
+    ghost told = { tells function_back };
 }

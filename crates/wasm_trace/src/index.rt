@@ -1,15 +1,16 @@
 //! The edge that a type index is.
 
-ghost use Rattle.wasm_trace.specs.Edges.{edge_edges, edge_frame};
-ghost use Rattle.wasm_trace.specs.Restored.{is_determined, edge_restored};
+ghost use Rattle.type_data.specs.Names.{reference_alone};
 
 use crate::trace::TypeTrace;
 use wasm_types::EngineOrModuleTypeIndex;
 
 impl TypeTrace for EngineOrModuleTypeIndex {
-    ghost edges = { edge_edges };
+    ghost Data = { λ R. R };
 
-    ghost frame = { edge_frame };
+    ghost shape = { reference_alone };
+
+    ghost view = { λ i. i };
 
     #[tactic(auto, using(crate::proofs::Runs::may_visit))]
     fn trace<F, E>(&self, func: &mut F) -> Result<(), E>
@@ -27,5 +28,5 @@ impl TypeTrace for EngineOrModuleTypeIndex {
         func(self)
     }
 
-    ghost determined = { is_determined edge_restored };
+    ghost told = { λ x y same. same };
 }

@@ -1,7 +1,12 @@
 //! What holds of every run of visits, and of every value that has edges.
 
-ghost use Rattle.std.specs.Prelude.{◌≡◌, ◌↔◌, List, ◌++◌, Result};
+ghost use Rattle.std.specs.Prelude.{◌≡◌, ◌↔◌, ℕ, List, ◌++◌, Result};
+ghost use Rattle.type_data.specs.Names.{Alike, frame};
 ghost use Rattle.wasm_types.specs.declared.index.EngineOrModuleTypeIndex.{EngineOrModuleTypeIndex};
+ghost use Rattle.wasm_index.specs.declared.index.Index.{Index};
+ghost use Rattle.wasm_index.specs.declared.spaces.VMSharedTypeSpace.{VMSharedTypeSpace};
+ghost use Rattle.wasm_index.specs.declared.spaces.ModuleInternedTypeSpace.{ModuleInternedTypeSpace};
+ghost use Rattle.wasm_trace.specs.Canonical.{consed_edge};
 ghost use Rattle.wasm_trace.specs.Runs.{Run, RunBoth, RunMut, RunBothMut, ChangesNothing};
 
 use crate::trace::TypeTrace;
@@ -28,5 +33,13 @@ pub fn unchanged_law<T: TypeTrace, F, E>()
 where
     F: FnMut(&mut EngineOrModuleTypeIndex) -> Result<(), E>,
     ensures { (before after : F) (old new : T) (result : Result (Unit {0}) E)
-        → ChangesNothing F.FnMut → T.frame new ≡ T.frame old → RunMut F.FnMut before (T.edges old) result after (T.edges new) → new ≡ old }
+        → ChangesNothing F.FnMut → frame T.shape (T.view new) ≡ frame T.shape (T.view old)
+        → RunMut F.FnMut before (T.shape.edges (T.view old)) result after (T.shape.edges (T.view new)) → new ≡ old }
+{}
+
+/// Two values in the form in which types are compared are equal exactly where they were alike but for references that become equal.
+pub fn compared_forms_law<T: TypeTrace>()
+    ensures { (engine engine' : Index ModuleInternedTypeSpace → Index VMSharedTypeSpace) (start start' : ℕ) (x y x' y' : T)
+        → T.view x' ≡ T.shape.map (consed_edge engine start) (T.view x) → T.view y' ≡ T.shape.map (consed_edge engine' start') (T.view y)
+        → (x' ≡ y') ↔ Alike T.shape (λ r s. consed_edge engine start r ≡ consed_edge engine' start' s) (T.view x) (T.view y) }
 {}

@@ -16,7 +16,7 @@ mod trace;
 mod value;
 mod worked;
 
-pub use laws::{run_laws, run_mut_laws, unchanged_law};
+pub use laws::{compared_forms_law, run_laws, run_mut_laws, unchanged_law};
 pub use lists::{trace_all, trace_all_mut};
 pub use trace::TypeTrace;
-pub use worked::{worked_canonical_edges, worked_edges};
+pub use worked::{worked_canonical_forms, worked_edges};

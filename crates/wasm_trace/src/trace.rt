@@ -1,11 +1,14 @@
 //! The trait of what has edges to types.
 
 ghost use Rattle.std.specs.Prelude.{◌≡◌, ◌↔◌, IsTrue, IsSome, None, List, All};
-ghost use Rattle.std.specs.List.{AllZip};
+ghost use Rattle.type_data.specs.Names.{Traced, Alike, frame};
 ghost use Rattle.wasm_index.specs.Index.{number_of};
+ghost use Rattle.wasm_index.specs.declared.index.Index.{Index};
+ghost use Rattle.wasm_index.specs.declared.spaces.VMSharedTypeSpace.{VMSharedTypeSpace};
+ghost use Rattle.wasm_index.specs.declared.spaces.ModuleInternedTypeSpace.{ModuleInternedTypeSpace};
 ghost use Rattle.wasm_types.specs.declared.index.EngineOrModuleTypeIndex.{EngineOrModuleTypeIndex};
 ghost use Rattle.wasm_types.specs.Views.{engine_index, module_index};
-ghost use Rattle.wasm_trace.specs.Canonical.{engine_edges, AtEngineEdge, IsRuntimeEdge, CanBeRuntimeEdge, IsConsedEdge, CanBeConsedEdge};
+ghost use Rattle.wasm_trace.specs.Canonical.{engine_edges, AtEngineEdge, IsRuntimeEdge, CanBeRuntimeEdge, IsConsedEdge, CanBeConsedEdge, Gives, runtime_edge, consed_edge};
 ghost use Rattle.wasm_trace.specs.Runs.{Run, MayRun, RunMut, MayRunMut};
 
 use entity_map::EntityRef;
@@ -15,34 +18,37 @@ use wasm_types::EngineOrModuleTypeIndex;
 
 /// What has edges to types: the type indices that stand in it, in one order.
 pub trait TypeTrace {
-    /// The edges, in order.
-    ghost edges: { Self → List EngineOrModuleTypeIndex };
+    /// What it is as data, over any references.
+    ghost Data: { Type 0 → Type 0 };
 
-    /// All of a value but its edges: the value with one and the same index in place of each.
-    ghost frame: { Self → Self };
+    /// How the references of such data are replaced, and their order.
+    ghost shape: { Traced Data };
+
+    /// A value as data.
+    ghost view: { Self → Data EngineOrModuleTypeIndex };
 
     /// Visits each edge, in order. It stops at the first `Err` that a visit answers.
     fn trace<F, E>(&self, func: &mut F) -> Result<(), E>
     where
         F: FnMut(EngineOrModuleTypeIndex) -> Result<(), E>,
-        requires { MayRun F.FnMut func.old (edges self.now) }
-        ensures { Run F.FnMut func.old (edges self.now) result func.new };
+        requires { MayRun F.FnMut func.old (shape.edges (view self.now)) }
+        ensures { Run F.FnMut func.old (shape.edges (view self.now)) result func.new };
 
     /// Visits each edge, in order, for writing. It stops at the first `Err` that a visit answers, and what
     /// was written until then stays.
     fn trace_mut<F, E>(&mut self, func: &mut F) -> Result<(), E>
     where
         F: FnMut(&mut EngineOrModuleTypeIndex) -> Result<(), E>,
-        requires { MayRunMut F.FnMut func.old (edges self.old) }
-        ensures kept { frame self.new ≡ frame self.old }
-        ensures run { RunMut F.FnMut func.old (edges self.old) result func.new (edges self.new) };
+        requires { MayRunMut F.FnMut func.old (shape.edges (view self.old)) }
+        ensures kept { frame shape (view self.new) ≡ frame shape (view self.old) }
+        ensures run { RunMut F.FnMut func.old (shape.edges (view self.old)) result func.new (shape.edges (view self.new)) };
 
     /// Visits each edge that is an engine's, in order. It stops at the first `Err` that a visit answers.
     fn trace_engine_indices<F, E>(&self, func: &mut F) -> Result<(), E>
     where
         F: FnMut(VMSharedTypeIndex) -> Result<(), E>,
-        requires { MayRun F.FnMut func.old (engine_edges (edges self.now)) }
-        ensures { Run F.FnMut func.old (engine_edges (edges self.now)) result func.new }
+        requires { MayRun F.FnMut func.old (engine_edges (shape.edges (view self.now))) }
+        ensures { Run F.FnMut func.old (engine_edges (shape.edges (view self.now))) result func.new }
     {
         self.trace(
             &mut |edge: EngineOrModuleTypeIndex|
@@ -63,9 +69,10 @@ pub trait TypeTrace {
     fn canonicalize_for_runtime_usage<F>(&mut self, module_to_engine: &F)
     where
         F: Fn(ModuleInternedTypeIndex) -> VMSharedTypeIndex,
-        requires { All (CanBeRuntimeEdge (F.pre module_to_engine.now)) (edges self.old) }
-        ensures kept { frame self.new ≡ frame self.old }
-        ensures rewritten { AllZip (IsRuntimeEdge (F.post module_to_engine.now)) (edges self.old) (edges self.new) }
+        requires { All (CanBeRuntimeEdge (F.pre module_to_engine.now)) (shape.edges (view self.old)) }
+        ensures rewritten { Alike shape (IsRuntimeEdge (F.post module_to_engine.now)) (view self.old) (view self.new) }
+        ensures mapped { (engine : Index ModuleInternedTypeSpace → Index VMSharedTypeSpace) → Gives (F.post module_to_engine.now) engine
+            → view self.new ≡ shape.map (runtime_edge engine) (view self.old) }
     {
         self.trace_mut::<_, ()>(
             &mut |edge: &mut EngineOrModuleTypeIndex|
@@ -85,7 +92,7 @@ pub trait TypeTrace {
 
     /// Whether each edge is an engine's.
     fn is_canonicalized_for_runtime_usage(&self) -> bool
-        ensures { IsTrue result ↔ All (λ e. IsSome (engine_index e)) (edges self.now) }
+        ensures { IsTrue result ↔ All (λ e. IsSome (engine_index e)) (shape.edges (view self.now)) }
     {
         self.trace(&mut |edge: EngineOrModuleTypeIndex| {
             if edge.is_engine_type_index() {
@@ -107,9 +114,10 @@ pub trait TypeTrace {
     )
     where
         F: Fn(ModuleInternedTypeIndex) -> VMSharedTypeIndex,
-        requires { All (CanBeConsedEdge (F.pre module_to_engine.now) (number_of rec_group_range.start) (number_of rec_group_range.end)) (edges self.old) }
-        ensures kept { frame self.new ≡ frame self.old }
-        ensures rewritten { AllZip (IsConsedEdge (F.post module_to_engine.now) (number_of rec_group_range.start)) (edges self.old) (edges self.new) }
+        requires { All (CanBeConsedEdge (F.pre module_to_engine.now) (number_of rec_group_range.start) (number_of rec_group_range.end)) (shape.edges (view self.old)) }
+        ensures rewritten { Alike shape (IsConsedEdge (F.post module_to_engine.now) (number_of rec_group_range.start)) (view self.old) (view self.new) }
+        ensures mapped { (engine : Index ModuleInternedTypeSpace → Index VMSharedTypeSpace) → Gives (F.post module_to_engine.now) engine
+            → view self.new ≡ shape.map (consed_edge engine (number_of rec_group_range.start)) (view self.old) }
     {
         let start = rec_group_range.start.as_u32();
         let end = rec_group_range.end.as_u32();
@@ -138,7 +146,7 @@ pub trait TypeTrace {
 
     /// Whether no edge is into a module's types.
     fn is_canonicalized_for_hash_consing(&self) -> bool
-        ensures { IsTrue result ↔ All (λ e. module_index e ≡ None) (edges self.now) }
+        ensures { IsTrue result ↔ All (λ e. module_index e ≡ None) (shape.edges (view self.now)) }
     {
         self.trace(&mut |edge: EngineOrModuleTypeIndex| {
             if edge.is_module_type_index() {
@@ -149,6 +157,7 @@ pub trait TypeTrace {
         })
         .is_ok()
     }
-    /// A value is determined by its frame and its edges.
-    ghost determined: { (x y : Self) → frame x ≡ frame y → edges x ≡ edges y → x ≡ y };
+
+    /// The view tells values apart.
+    ghost told: { (x y : Self) → view x ≡ view y → x ≡ y };
 }

@@ -1,15 +1,20 @@
 //! The edges of heap, reference and value types.
 
-ghost use Rattle.wasm_trace.specs.Edges.{heap_edges, heap_frame, ref_edges, ref_frame, val_edges, val_frame};
-ghost use Rattle.wasm_trace.specs.Restored.{is_determined, heap_restored, ref_restored, val_restored};
+ghost use Rattle.wasm_spec.specs.TypeData.{Heap, Reference, Value};
+ghost use Rattle.type_data.specs.TypeShapes.{heap_shape, reference_shape, value_shape};
+ghost use Rattle.type_data.specs.Names.{Named, by_name};
+ghost use Rattle.wasm_types.specs.ValueViews.{heap_of, reference_of, value_of};
+ghost use Rattle.wasm_types.specs.ViewsTell.{tells, heap_back, reference_back, value_back};
 
 use crate::trace::TypeTrace;
 use wasm_types::{EngineOrModuleTypeIndex, WasmHeapType, WasmRefType, WasmValType};
 
 impl TypeTrace for WasmHeapType {
-    ghost edges = { heap_edges };
+    ghost Data = { λ R. Heap (Named R) };
 
-    ghost frame = { heap_frame };
+    ghost shape = { by_name heap_shape };
+
+    ghost view = { heap_of };
 
     #[tactic(auto, using(crate::proofs::Runs::may_visit))]
     fn trace<F, E>(&self, func: &mut F) -> Result<(), E>
@@ -41,13 +46,15 @@ impl TypeTrace for WasmHeapType {
         }
     }
 
-    ghost determined = { is_determined heap_restored };
+    ghost told = { tells heap_back };
 }
 
 impl TypeTrace for WasmRefType {
-    ghost edges = { ref_edges };
+    ghost Data = { λ R. Reference (Named R) };
 
-    ghost frame = { ref_frame };
+    ghost shape = { by_name reference_shape };
+
+    ghost view = { reference_of };
 
     fn trace<F, E>(&self, func: &mut F) -> Result<(), E>
     where
@@ -63,13 +70,15 @@ impl TypeTrace for WasmRefType {
         self.heap_type.trace_mut(func)
     }
 
-    ghost determined = { is_determined ref_restored };
+    ghost told = { tells reference_back };
 }
 
 impl TypeTrace for WasmValType {
-    ghost edges = { val_edges };
+    ghost Data = { λ R. Value (Named R) };
 
-    ghost frame = { val_frame };
+    ghost shape = { by_name value_shape };
+
+    ghost view = { value_of };
 
     fn trace<F, E>(&self, func: &mut F) -> Result<(), E>
     where
@@ -91,5 +100,5 @@ impl TypeTrace for WasmValType {
         }
     }
 
-    ghost determined = { is_determined val_restored };
+    ghost told = { tells value_back };
 }

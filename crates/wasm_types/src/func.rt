@@ -1,6 +1,6 @@
 //! Function types.
 
-ghost use Rattle.std.specs.Prelude.{◌≡◌, ◌↔◌, ◌≤◌, ◌+◌, IsTrue, IsOk, IfOk, Some, All, map, length, count_by, vec_len};
+ghost use Rattle.std.specs.Prelude.{◌≡◌, ◌↔◌, ◌≤◌, ◌+◌, ◌++◌, [], IsTrue, IsOk, IfOk, Some, All, map, length, count_by, vec_len};
 ghost use Rattle.std.specs.Borrow.{sem};
 ghost use Rattle.std.specs.Option.{option_copied_mut};
 ghost use Rattle.entity_map.specs.Cow.{value_of};
@@ -15,8 +15,8 @@ use crate::lists::Group;
 use crate::value::WasmValType;
 use entity_map::{OutOfMemory, TryCow};
 use std::alloc::Global;
-use std::fmt;
 use std::marker::Model;
+use std::{fmt, mem};
 
 /// A function type (core specification, 2.3, composite types).
 #[derive(Drop)]
@@ -89,8 +89,8 @@ impl WasmFuncType {
         Ok(Self::from_types(types, params.len() as u32))
     }
 
-    // The first types are the parameters.
-    fn from_types(types: Vec<WasmValType>, params_count: u32) -> Self
+    /// The function type of some types, of which the first are the parameters.
+    pub fn from_types(types: Vec<WasmValType>, params_count: u32) -> Self
         requires within { params_count ≤ vec_len types }
         requires few { vec_len types ≤ params_count + u32.MAX }
         ensures { result ≡ split_types params_count types.items }
@@ -104,6 +104,24 @@ impl WasmFuncType {
             non_i31_gc_ref_params_count,
             non_i31_gc_ref_results_count,
         }
+    }
+
+    /// Takes its types out, the parameters first, and says how many parameters there are. The empty function type is
+    /// left.
+    pub fn take_types(&mut self) -> (Vec<WasmValType>, u32)
+        ensures types { result.0.items ≡ self.old.params ++ self.old.results }
+        ensures count { result.1 ≡ length self.old.params }
+        ensures within { result.1 ≤ vec_len result.0 }
+        ensures few { vec_len result.0 ≤ result.1 + u32.MAX }
+        ensures left { self.new ≡ record { params = []; results = [] } }
+    {
+        let alloc = *self.types.allocator();
+        let types = mem::replace(&mut self.types, Vec::new(alloc));
+        let count = self.params_count;
+        self.params_count = 0;
+        self.non_i31_gc_ref_params_count = 0;
+        self.non_i31_gc_ref_results_count = 0;
+        (types, count)
     }
 
     /// The types of the parameters, of which there are at most `u32::MAX`.

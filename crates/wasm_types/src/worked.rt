@@ -8,6 +8,8 @@ ghost use Rattle.wasm_types.specs.Memories.{minimum_bytes};
 ghost use Rattle.wasm_types.specs.Sizes.{maximum_bytes};
 ghost use Rattle.wasm_types.specs.Texts.{ref_text, group_text, subtyping_text, field_text, exn_text};
 ghost use Rattle.wasm_types.specs.Trampolines.{trampoline_of};
+ghost use Rattle.wasm_types.specs.declared.value.TheConstants.WasmRefType as references;
+ghost use Rattle.wasm_types.specs.declared.value.TheConstants.WasmValType as values;
 
 use crate::field::{WasmFieldType, WasmStorageType};
 use crate::heap::WasmHeapType;
@@ -86,4 +88,11 @@ pub fn worked_sizes()
       shared = false;
       page_size_log2 = 16;
     }) ≡ 18446744073709551616 }
+{}
+
+/// The named reference types.
+pub fn worked_names()
+    ensures funcref { references.FUNCREF ≡ record { nullable = true; heap_type = WasmHeapType.Func } }
+    ensures externref { references.EXTERNREF ≡ record { nullable = true; heap_type = WasmHeapType.Extern } }
+    ensures value { values.FUNCREF ≡ WasmValType.Ref (record { nullable = true; heap_type = WasmHeapType.Func }) }
 {}

@@ -1,4 +1,4 @@
-use Rattle.std.proofs.Common.{◌-◌, ◌≤◌, vec_len}
+use Rattle.std.proofs.Common.{◌≡◌, ◌-◌, ◌≤◌, vec_len}
 use Rattle.devices.specs.Device.{TellsFront}
 use Rattle.devices.proofs.reading.read_all.Given as goal
 
@@ -6,9 +6,9 @@ use Rattle.devices.proofs.reading.read_all.Given as goal
 abbrev pub invariant-reads : goal.invariant-reads
 invariant-reads g l = record {
   bytes : TellsFront (g.S.Source.left l.fn.source) l.store.items (g.S.Source.left l.source);
-  within : vec_len l.store ≤ 1073741824;
-  counted : g.S.Source.faults l.fn.source ≤ g.S.Source.faults l.source;
+  within : vec_len l.store ≤ l.most;
+  no_fault : g.S.Source.faults l.source ≡ g.S.Source.faults l.fn.source;
 }
 
 abbrev pub decreases-reads : goal.decreases-reads
-decreases-reads g l = 1073741824 - vec_len l.store
+decreases-reads g l = l.most - vec_len l.store

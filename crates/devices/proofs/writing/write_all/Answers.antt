@@ -1,5 +1,5 @@
 -- One more write appends the next bytes of the text.
-use Rattle.std.proofs.Common.{take, arith, sym}
+use Rattle.std.proofs.Common.{take, arith, sym, ◌∙◌}
 use Rattle.std.proofs.Math.Seq.{take-add}
 use Rattle.devices.proofs.Appends.{AppendsFront-then}
 use Rattle.devices.proofs.writing.write_all.Goals as goal
@@ -12,7 +12,7 @@ writes-preserved g c =
     record {
       appended = AppendsFront-then _ _ _ (take before text) _ _ (sym (take-add before count text)) c.writes.invariant.appended
           (rw (← c.split_at.ensures.back) c.in_ok-written.ensures.appends);
-      counted = omega (arith, c.in_ok-written.ensures.counted);
+      no_fault = c.in_ok-written.ensures.no_fault ∙ c.writes.invariant.no_fault;
       within = omega (arith, c.in_ok-written.ensures.takes, c.split_at.ensures.back_len);
       untouched = λ none. absurd (omega (arith, c.in_ok-written.ensures.takes));
     }

@@ -6,7 +6,7 @@ use Rattle.devices.proofs.writing.write_all.Given as goal
 abbrev pub invariant-writes : goal.invariant-writes
 invariant-writes g l = record {
   appended : AppendsFront (g.K.Sink.held l.fn.sink) (take l.written l.text) (g.K.Sink.held l.sink);
-  counted : g.K.Sink.faults l.fn.sink ≤ g.K.Sink.faults l.sink;
+  no_fault : g.K.Sink.faults l.sink ≡ g.K.Sink.faults l.fn.sink;
   within : l.written ≤ length l.text;
   untouched : l.written ≡ 0 → l.sink ≡ l.fn.sink;
 }

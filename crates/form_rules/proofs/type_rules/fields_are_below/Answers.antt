@@ -1,6 +1,6 @@
 use Rattle.std.proofs.Common.{rules}
 use Rattle.wasm_spec.specs.TypeData.{field_of}
-use Rattle.rule_spec.specs.TypeRules.{FieldIsBelow}
+use Rattle.form_rules.specs.Below.{FieldIsBelow}
 use Rattle.form_lists.proofs.AllSections.{tells_of_map}
 use Rattle.form_rules.proofs.type_rules.fields_are_below.Goals as goal
 

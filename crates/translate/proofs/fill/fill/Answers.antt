@@ -1,8 +1,8 @@
 use Rattle.std.proofs.Common.{List, map, sym, subst, ◌∙◌}
 use Rattle.std.proofs.lemmas.List.{take_all}
 use Rattle.wasm_spec.specs.Module.{defined_memories, segments}
-use Rattle.wasm_form.specs.declared.form.Payload.{Payload}
-use Rattle.wasm_form.specs.Views.{module_of, payload_of}
+use Rattle.form_data.specs.declared.form.Payload.{Payload}
+use Rattle.form_data.specs.Views.{module_of, payload_of}
 use Rattle.translate.specs.Filled.{Fills, CanAdd}
 use Rattle.translate.proofs.Adding.{AddsModule, CanAdd-next_section, Adds-section}
 use Rattle.translate.proofs.Readiness.{CanAdd-all, Fills-all}
@@ -12,7 +12,7 @@ pub add_section-requires : goal.add_section-requires
 add_section-requires c =
     let start = c.in_ok-filling.filling in
     let i = c.loop-payload.payload-index in
-    let all = CanAdd-all (module_of c.args.form) c.requires.kept c.requires.few c.requires.planned c.requires.constants start
+    let all = CanAdd-all (module_of c.args.form) c.requires.planned c.requires.few start
     c.in_ok-filling.ensures in
     let can = subst (λ (ps : List Payload). CanAdd start (defined_memories (map payload_of ps)) (segments (map payload_of ps)))
     (sym c.deref-payload-items.ensures.value) all in
@@ -33,6 +33,6 @@ returns c =
     let whole = take_all c.loop-payload.payload-index c.deref-payload-items.result.now c.loop-payload-test.false
     ∙ c.deref-payload-items.ensures.value in
     let added = subst (λ (ps : List Payload). AddsModule start done (map payload_of ps)) whole c.loop-payload.invariant in
-    let filled = Fills-all (module_of c.args.form) c.requires.kept c.requires.few c.requires.planned c.requires.constants start done
+    let filled = Fills-all (module_of c.args.form) c.requires.planned c.requires.few start done
     c.in_ok-filling.ensures added c.args.form.wasm in
     subst (Fills c.args.form.wasm.now (module_of c.args.form)) (sym c.finish.ensures) filled

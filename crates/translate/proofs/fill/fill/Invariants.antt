@@ -1,5 +1,5 @@
 use Rattle.std.proofs.Common.{map, take}
-use Rattle.wasm_form.specs.Views.{payload_of}
+use Rattle.form_data.specs.Views.{payload_of}
 use Rattle.translate.proofs.Adding.{AddsModule}
 use Rattle.translate.proofs.fill.fill.Given as goal
 

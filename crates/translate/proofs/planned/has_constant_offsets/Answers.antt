@@ -1,8 +1,8 @@
 use Rattle.std.proofs.Common.{rules}
 use Rattle.wasm_spec.specs.Module.{Segment}
-use Rattle.wasm_spec.specs.Rules.{HasConstantOffset}
-use Rattle.wasm_form.specs.Views.{segment_of}
-use Rattle.wasm_form.proofs.AllSegments.{tells_of_map}
+use Rattle.translate.specs.Stage.{HasConstantOffset}
+use Rattle.form_data.specs.Views.{segment_of}
+use Rattle.form_lists.proofs.AllSections.{tells_of_map}
 use Rattle.translate.proofs.planned.has_constant_offsets.Goals as goal
 
 pub returns-in-Segments : goal.returns-in-Segments

@@ -10,6 +10,7 @@ write-tells g c =
     record {
       takes = c.ensures.takes;
       appends = IfOk-weaker c.result _ _ (λ n e. ap (λ s. s.held) e) c.ensures.ok;
+      no_fault = IfOk-weaker c.result _ _ (λ n e. ap (λ s. s.calls.faults) e) c.ensures.ok;
       stays = on_err_weaker c.result (λ e. ap (λ s. Some s.held) e) c.ensures.err;
       counted = c.ensures.counted;
       cause = on_err_weaker c.result (λ e. rw e (Rose-raised sink.calls.faults)) c.ensures.err;

@@ -14,6 +14,7 @@ read-tells g c =
       moves = front-and-rest-on-ok c.result count source.left c.args.buf.now _ _ (omega arith) c.ensures.count c.ensures.bytes
           (IfOk-weaker c.result _ _ (λ n e. ap (λ s. s.left) e) c.ensures.ok);
       ends = c.ensures.ends;
+      no_fault = IfOk-weaker c.result _ _ (λ n e. ap (λ s. s.calls.faults) e) c.ensures.ok;
       stays = on_err_weaker c.result (λ e. ap (λ s. Some s.left) e) c.ensures.err;
       counted = c.ensures.counted;
       cause = on_err_weaker c.result (λ e. rw e (Rose-raised source.calls.faults)) c.ensures.err;

@@ -1,5 +1,5 @@
 -- What the source says of each read gives what its trait asks.
-use Rattle.std.proofs.Common.{◌≤◌, length, min, arith}
+use Rattle.std.proofs.Common.{◌≤◌, length, min, refl, arith}
 use Rattle.std.proofs.lemmas.List.{nil_from_length}
 use Rattle.devices.proofs.Moves.{front-and-rest}
 use Rattle.devices.proofs.slice_source.SliceSourceSource.TheImpl.Goals as goal
@@ -13,6 +13,7 @@ read-tells g c =
       within = omega arith;
       moves = front-and-rest count left _ c.new.buf.now _ within (rw c.ensures.count at c.ensures.bytes) (rw c.ensures.count at c.ensures.rest);
       ends = λ none. nil_from_length left (omega arith);
+      no_fault = refl;
       stays = tt;
       counted = omega arith;
       cause = tt;

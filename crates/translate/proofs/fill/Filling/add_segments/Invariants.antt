@@ -1,5 +1,5 @@
 use Rattle.std.proofs.Common.{[], map, take}
-use Rattle.wasm_form.specs.Views.{segment_of}
+use Rattle.form_data.specs.Views.{segment_of}
 use Rattle.translate.specs.Filled.{Adds}
 use Rattle.translate.proofs.fill.Filling.add_segments.Given as goal
 

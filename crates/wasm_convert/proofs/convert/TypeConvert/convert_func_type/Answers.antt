@@ -1,29 +1,41 @@
-use Rattle.std.proofs.Common.{rules, ◌≡◌, ◌++◌, ◌∙◌, map, length, take, drop, ap, sym}
-use Rattle.std.proofs.lemmas.Iterator.{items_from_drains, YieldsList-from_slice}
-use Rattle.std.proofs.lemmas.Iterator.Consumers.{YieldsList-at, YieldsList-from_chain}
-use Rattle.std.proofs.lemmas.Simd.{map-map}
-use Rattle.wasm_convert.specs.Conversion.{val_type_of}
-use Rattle.wasm_convert.proofs.Split.{first-converted, second-converted}
+use Rattle.std.proofs.Common.{rules, ◌≡◌, ◌∙◌, ◌≤◌, ◌++◌, All, map, length, arith, ap}
+use Rattle.std.specs.List.{flat_map}
+use Rattle.std.proofs.lemmas.List.{take_all}
+use Rattle.wasm_spec.specs.TypeData.{value_edges, map_value}
+use Rattle.wasm_spec.specs.TypeData as read
+use Rattle.wasm_types.specs.Parts.{split_types}
+use Rattle.wasm_types.specs.ValueViews as made
+use Rattle.wasm_convert.specs.Known.{CanLookUp}
+use Rattle.wasm_convert.proofs.Parts.{all-first, all-second, all-parts}
+use Rattle.wasm_convert.proofs.Split.{first-part, second-part}
 use Rattle.wasm_convert.proofs.convert.TypeConvert.convert_func_type.Goals as goal
+
+pub convert_valtype-requires : goal.convert_valtype-requires
+convert_valtype-requires g c =
+    let can = CanLookUp (g.Self.TypeConvert.knows c.args.self.now) in
+    let known = all-first can (flat_map (value_edges (λ i. i)) (map read.value_of c.args.ty.now.params.items)) _ c.requires.known in
+    let each : All (λ t. All can (value_edges (λ i. i) (read.value_of t))) c.as_slice-ty-items.result.now =
+    rw c.as_slice-ty-items.ensures.value (all-parts can (value_edges (λ i. i)) read.value_of c.args.ty.now.params.items known) in
+    each c.loop-ty.ty-index _ c.loop-ty-test.true
+
+pub convert_valtype-requires-in-loop-ty-2 : goal.convert_valtype-requires-in-loop-ty-2
+convert_valtype-requires-in-loop-ty-2 g c =
+    let can = CanLookUp (g.Self.TypeConvert.knows c.args.self.now) in
+    let known = all-second can (flat_map (value_edges (λ i. i)) (map read.value_of c.args.ty.now.params.items)) _ c.requires.known in
+    let each : All (λ t. All can (value_edges (λ i. i) (read.value_of t))) c.as_slice-ty-items-2.result.now =
+    rw c.as_slice-ty-items-2.ensures.value (all-parts can (value_edges (λ i. i)) read.value_of c.args.ty.now.results.items known) in
+    each c.loop-ty-2.ty-index _ c.loop-ty-2-test.true
 
 pub returns : goal.returns
 returns g c =
+    let look = g.Self.TypeConvert.look_up c.args.self.now in
     let params = c.args.ty.now.params.items in
     let results = c.args.ty.now.results.items in
-    let convert = val_type_of (g.Self.TypeConvert.look_up c.args.self.now) in
-    let road = YieldsList-from_chain {v = λ t. t.now} (YieldsList-from_slice params (search rules)) (YieldsList-from_slice results (search rules))
-    c.chain-ty-items.ensures.first_done c.chain-ty-items.ensures.second_done in
-    let all : map (λ t. t.now) c.loop-ty.yielded ≡ params ++ results =
-    items_from_drains c.loop-ty.yielded (c.loop-ty.ty-iterator, c.loop-ty.yielded_by, λ _. (c.next.new.self, c.in-None.ensures.steps))
-    (YieldsList-at c.into_iter-ty-iterator.ensures.into_iter_gives road) in
-    let types : c.loop-ty.types.items ≡ map convert (params ++ results) =
-    c.loop-ty.invariant ∙ sym (map-map convert (λ t. t.now) c.loop-ty.yielded) ∙ ap (map convert) all in
-    let count : c.len-3.result ≡ length params = search rules in
-    let slice : c.as_slice.result.now ≡ map convert (params ++ results) = c.as_slice.ensures.value ∙ types in
-    let first : c.split_at.result.0.now ≡ map convert params =
-    c.split_at.ensures.front ∙ ap (λ n. take n c.as_slice.result.now) count ∙ ap (take (length params)) slice
-    ∙ first-converted convert params results in
-    let second : c.split_at.result.1.now ≡ map convert results =
-    c.split_at.ensures.back ∙ ap (λ n. drop n c.as_slice.result.now) count ∙ ap (drop (length params)) slice
-    ∙ second-converted convert params results in
-    search rules
+    let types = c.loop-ty-2.types.items in
+    let past : length results ≤ c.loop-ty-2.ty-index = omega (arith, ap length c.as_slice-ty-items-2.ensures.value) in
+    let is : map made.value_of types ≡ map (λ t. map_value look (read.value_of t)) (params ++ results) =
+    c.loop-ty-2.invariant ∙ ap (λ ts. map (λ t. map_value look (read.value_of t)) (params ++ ts)) (take_all c.loop-ty-2.ty-index results past) in
+    let first = first-part made.value_of (map_value look) read.value_of params results types is in
+    let second = second-part made.value_of (map_value look) read.value_of params results types is in
+    let split : c.from_types.result ≡ split_types (length params) types = search rules in
+    rw split (λ i. record { params = first i; results = second i })

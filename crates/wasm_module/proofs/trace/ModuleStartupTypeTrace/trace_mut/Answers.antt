@@ -1,5 +1,4 @@
 use Rattle.wasm_trace.specs.Runs.{MayRunMut}
-use Rattle.wasm_module.specs.Edges.{startup_edges}
 use Rattle.wasm_module.proofs.trace.ModuleStartupTypeTrace.trace_mut.Goals as goal
 
 pub trace_mut-requires : goal.trace_mut-requires

@@ -1,8 +1,10 @@
-use Rattle.std.proofs.Common.{rules}
+use Rattle.std.proofs.Common.{rules, sym}
+use Rattle.type_data.specs.Names.{becomes-mapped}
 use Rattle.wasm_index.specs.Index.{number_of}
 use Rattle.wasm_trace.specs.Canonical.{CanBeConsedEdge, IsConsedEdge}
 use Rattle.wasm_trace.proofs.Runs.{RunMut-rewrites, RunMut-comes}
 use Rattle.wasm_trace.proofs.Tables.{may_ask, may_answer}
+use Rattle.wasm_trace.proofs.Becoming.{consed-becomes}
 use Rattle.wasm_trace.proofs.trace.TypeTrace.canonicalize_for_hash_consing.Goals as goal
 
 pub trace_mut-requires : goal.trace_mut-requires
@@ -32,4 +34,14 @@ returns-clause-rewritten g c =
     let end = number_of c.args.rec_group_range.end in
     let ran = RunMut-rewrites (CanBeConsedEdge (may_ask g.F.Fn table) start end) (IsConsedEdge (may_answer g.F.Fn table) start) _ _
     (λ e r f' e' can called. (search rules, search rules, search rules)) _ c.requires _ _ _ c.trace_mut.ensures.run in
-    ran.2
+    record { frames = sym c.trace_mut.ensures.kept; edges = ran.2 }
+
+pub returns-clause-mapped : goal.returns-clause-mapped
+returns-clause-mapped g c = λ engine gives.
+    let table = c.args.module_to_engine.now in
+    let start = number_of c.args.rec_group_range.start in
+    let end = number_of c.args.rec_group_range.end in
+    let ran = RunMut-rewrites (CanBeConsedEdge (may_ask g.F.Fn table) start end) (IsConsedEdge (may_answer g.F.Fn table) start) _ _
+    (λ e r f' e' can called. (search rules, search rules, search rules)) _ c.requires _ _ _ c.trace_mut.ensures.run in
+    becomes-mapped g.Self.TypeTrace.shape _ _ (consed-becomes (may_answer g.F.Fn table) engine gives start) _ _
+    (record { frames = sym c.trace_mut.ensures.kept; edges = ran.2 })

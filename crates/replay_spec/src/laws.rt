@@ -1,0 +1,21 @@
+//! Laws of the definitions.
+
+ghost use Rattle.std.specs.Prelude.{◌≡◌, ℕ, List, Some, IsSomeAnd};
+ghost use Rattle.wasm_spec.specs.declared.entities.GlobalType.{GlobalType};
+ghost use Rattle.wasm_spec.specs.Module.{Expression};
+ghost use Rattle.replay_spec.specs.Values.{Value, eval, const_value};
+ghost use Rattle.replay_spec.specs.Classes.{IsOfClass, HaveClasses, field_count};
+ghost use Rattle.rule_spec.specs.declared.classes.Class.{Class};
+ghost use Rattle.rule_spec.specs.Lists.{Lists};
+ghost use Rattle.rule_spec.specs.Typing.{HasClass};
+
+/// A constant value is the value of the expression, over any globals and types.
+pub fn constant_value_law()
+    ensures { (globals : List Value) (fields : ℕ → ℕ) (e : Expression) (v : Value) → const_value e ≡ Some v → eval globals fields e ≡ Some v }
+{}
+
+/// An expression of a class has a value of that class, where the visible globals have values of theirs.
+pub fn typed_value_law()
+    ensures { (l : Lists) (visible : List GlobalType) (globals : List Value) → HaveClasses globals visible → (e : Expression) (c : Class) → HasClass l visible e c
+        → IsSomeAnd (eval globals (field_count l) e) (λ v. IsOfClass v c) }
+{}

@@ -1,0 +1,86 @@
+-- Iso-recursive equality of types (core specification, 3.1, recursive types), over lists of groups in which a reference is a place in the
+-- joined list.
+use Rattle.std.specs.Prelude.{◌≡◌, ℕ, zero, suc, ◌+◌, ◌-◌, Bool, true, false, nat_eq, nat_le, nat_lt, ◌&&◌, List, [], ◌∷◌, length, if◌then◌else◌}
+use Rattle.std.specs.Cmp.Lexicographic.{pointwise}
+use Rattle.wasm_spec.specs.TypeData.{Group}
+use Rattle.type_data.specs.TypeShapes.{group_shape}
+use Rattle.type_data.specs.Names.{plainly, Alike, frame}
+use Rattle.type_spec.specs.Same.{same_frame}
+
+-- a reference out of a group that starts at a place of the joined list: to a place of the group, or to an earlier type
+pub data Target (X : Type 0) : Type 0 where
+  Inside : (place : ℕ) → Target X
+  Earlier : (what : X) → Target X
+
+abbrev pub target_by : {X : Type 0} → Bool → ℕ → X → Target X
+target_by true place what = Inside place
+target_by false place what = Earlier what
+
+abbrev pub target : {X : Type 0} → (ℕ → X) → ℕ → ℕ → Target X
+target of start i = target_by (nat_le start i) (i - start) (of i)
+
+-- a group of a list, and where it starts in the joined list
+pub record Home : Type 0 where
+  pub start : ℕ
+  pub members : Group ℕ ℕ
+
+abbrev pub home_from : ℕ → List (Group ℕ ℕ) → ℕ → Home
+home_from start [] i = record { start = start; members = [] }
+home_from start (g ∷ gs) i = if nat_lt i (start + length g) then record { start = start; members = g } else home_from (start + length g) gs i
+
+-- the group of the type at a place
+abbrev pub home : List (Group ℕ ℕ) → ℕ → Home
+home gs i = home_from 0 gs i
+
+-- ---- what equality is
+
+-- two references are equal where both stay in their groups at equal places, or both leave them and the types they name are equal
+abbrev pub SameTarget : {X Y : Type 0} → (X → Y → Type 0) → Target X → Target Y → Type 0
+SameTarget Same (Inside p) (Inside q) = p ≡ q
+SameTarget Same (Earlier a) (Earlier b) = Same a b
+SameTarget Same _ _ = ⊥
+
+-- groups are equal where they differ in their references alone, and those are equal one by one
+abbrev pub SameGroup : (ℕ → ℕ → Type 0) → Home → Home → Type 0
+SameGroup Same g h =
+    Alike (plainly group_shape) (λ r s. SameTarget Same (target (λ i. i) g.start r) (target (λ i. i) h.start s)) g.members h.members
+
+-- types are equal where they stand at the same place of equal groups, down to a number of groups
+abbrev pub SameDown : ℕ → List (Group ℕ ℕ) → List (Group ℕ ℕ) → ℕ → ℕ → Type 0
+SameDown zero ms ns i j = ⊥
+SameDown (suc depth) ms ns i j =
+    (i - (home ms i).start ≡ j - (home ns j).start) × SameGroup (λ r s. SameDown depth ms ns r s) (home ms i) (home ns j)
+
+-- a reference out of a group names a smaller place, so no chain of them is longer than the place it begins at
+abbrev pub SameType : List (Group ℕ ℕ) → List (Group ℕ ℕ) → ℕ → ℕ → Type 0
+SameType ms ns i j = SameDown (suc i) ms ns i j
+
+-- ---- the test of it
+
+abbrev pub same_target : (ℕ → ℕ → Bool) → Target ℕ → Target ℕ → Bool
+same_target same (Inside p) (Inside q) = nat_eq p q
+same_target same (Earlier i) (Earlier j) = same i j
+same_target same _ _ = false
+
+abbrev pub same_reference : (ℕ → ℕ → Bool) → Home → Home → ℕ → ℕ → Bool
+same_reference same g h r s = same_target same (target (λ i. i) g.start r) (target (λ i. i) h.start s)
+
+-- the frames are compared, and the references one by one
+abbrev pub same_group : (ℕ → ℕ → Bool) → Home → Home → Bool
+same_group same g h =
+    same_frame (frame (plainly group_shape) g.members) (frame (plainly group_shape) h.members)
+    && pointwise (same_reference same g h) ((plainly group_shape).edges g.members) ((plainly group_shape).edges h.members)
+
+abbrev pub same_down : ℕ → List (Group ℕ ℕ) → List (Group ℕ ℕ) → ℕ → ℕ → Bool
+same_down zero ms ns i j = false
+same_down (suc depth) ms ns i j =
+    nat_eq (i - (home ms i).start) (j - (home ns j).start) && same_group (same_down depth ms ns) (home ms i) (home ns j)
+
+abbrev pub same_type : List (Group ℕ ℕ) → List (Group ℕ ℕ) → ℕ → ℕ → Bool
+same_type ms ns i j = same_down (suc i) ms ns i j
+
+-- ---- canonical groups
+
+-- a group in which each earlier type is given by a number, and each reference that stays by its place
+abbrev pub canonical : (ℕ → ℕ) → Home → Group (Target ℕ) (Target ℕ)
+canonical number g = (plainly group_shape).map (target number g.start) g.members

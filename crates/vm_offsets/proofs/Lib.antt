@@ -1,0 +1,4 @@
+pub mod Placing
+pub mod Kept
+pub mod Order
+pub mod Labels

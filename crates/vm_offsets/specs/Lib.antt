@@ -1,0 +1,9 @@
+pub mod Arrays
+pub mod Context
+pub mod Entries
+pub mod Modules
+pub mod Regions
+pub mod Steps
+pub mod Examples
+pub mod Falls
+pub mod Layouts

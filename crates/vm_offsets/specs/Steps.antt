@@ -1,0 +1,8 @@
+-- Steps to a multiple of a number.
+use Rattle.std.specs.Prelude.{ℕ, Option, None, Some}
+use Rattle.std.specs.Int.{next_multiple_of}
+
+-- where a row begins that stands at a byte
+abbrev pub begin_at : ℕ → Option ℕ → ℕ
+begin_at at None = at
+begin_at at (Some to) = next_multiple_of at to

@@ -1,0 +1,8 @@
+//! The start of a region.
+
+/// A region's description, and its first byte.
+#[derive(Clone, Copy, Debug)]
+pub struct Part {
+    pub description: &'static str,
+    pub begin: u32,
+}
