@@ -1,6 +1,6 @@
 //! Small records, each call once.
 
-ghost use Rattle.std.specs.Prelude.{◌≡◌, ◌<◌, ◌+◌, length, IsSome, IfOk, OnOk, slice_get};
+ghost use Rattle.std.specs.Prelude.{◌≡◌, ◌<◌, ◌+◌, [], length, IsSome, IfOk, OnOk, slice_get};
 ghost use Rattle.entity_map.specs.Pool.{atom_number};
 
 use crate::{
@@ -22,8 +22,18 @@ use wasm_types::{
     WasmHeapType, WasmRefType, WasmValType,
 };
 
-fn new_module(alloc: Heap) -> Result<Module, OutOfMemory> {
-    Module::new(alloc, StaticModuleIndex::from_u32(7))
+fn new_module(alloc: Heap) -> Result<Module, OutOfMemory>
+    ensures strings { IfOk result (λ m. m.strings ≡ []) }
+    ensures initializers { IfOk result (λ m. m.initializers.items ≡ []) }
+    ensures functions { IfOk result (λ m. m.functions ≡ []) }
+    ensures tables { IfOk result (λ m. m.tables ≡ []) }
+    ensures memories { IfOk result (λ m. m.memories ≡ []) }
+    ensures globals { IfOk result (λ m. m.globals ≡ []) }
+    ensures tags { IfOk result (λ m. m.tags ≡ []) }
+    ensures no_imports { IfOk result (λ m. (m.num_imported_funcs ≡ 0) × (m.num_imported_tags ≡ 0)) }
+{
+    let module = Module::new(alloc, StaticModuleIndex::from_u32(7))?;
+    Ok(module)
 }
 
 fn module_type(number: u32) -> EngineOrModuleTypeIndex
@@ -114,31 +124,31 @@ fn elements_have_a_type_and_a_length(rt: HostRuntime) -> Result<(), Fail> {
 }
 
 // Appends a function, a table, a memory, a global and a tag, which name types from a number on.
-fn push_each(module: &mut Module, first: u32, memory: Memory) -> Result<(), OutOfMemory>
+fn push_each(small: &mut Module, first: u32, memory: Memory) -> Result<(), OutOfMemory>
     requires types { first < 100 }
-    requires functions { length module.old.functions < 100 }
-    requires tables { length module.old.tables < 100 }
-    requires memories { length module.old.memories < 100 }
-    requires globals { length module.old.globals < 100 }
-    requires tags { length module.old.tags < 100 }
-    ensures functions { OnOk result (length module.new.functions ≡ length module.old.functions + 1) }
-    ensures tables { OnOk result (length module.new.tables ≡ length module.old.tables + 1) }
-    ensures memories { OnOk result (length module.new.memories ≡ length module.old.memories + 1) }
-    ensures globals { OnOk result (length module.new.globals ≡ length module.old.globals + 1) }
-    ensures tags { OnOk result (length module.new.tags ≡ length module.old.tags + 1) }
+    requires functions { length small.old.functions < 100 }
+    requires tables { length small.old.tables < 100 }
+    requires memories { length small.old.memories < 100 }
+    requires globals { length small.old.globals < 100 }
+    requires tags { length small.old.tags < 100 }
+    ensures functions { OnOk result (length small.new.functions ≡ length small.old.functions + 1) }
+    ensures tables { OnOk result (length small.new.tables ≡ length small.old.tables + 1) }
+    ensures memories { OnOk result (length small.new.memories ≡ length small.old.memories + 1) }
+    ensures globals { OnOk result (length small.new.globals ≡ length small.old.globals + 1) }
+    ensures tags { OnOk result (length small.new.tags ≡ length small.old.tags + 1) }
 {
-    module.push_function(module_type(first))?;
-    module.tables.push(Table {
+    small.push_function(module_type(first))?;
+    small.tables.push(Table {
         idx_type: IndexType::I32,
         limits: Limits { min: 0, max: None },
         ref_type: reference_type(first + 1),
     })?;
-    module.memories.push(memory)?;
-    module.globals.push(Global {
+    small.memories.push(memory)?;
+    small.globals.push(Global {
         wasm_ty: WasmValType::Ref(reference_type(first + 2)),
         mutability: false,
     })?;
-    module.push_tag(module_type(first + 3), module_type(first + 4))?;
+    small.push_tag(module_type(first + 3), module_type(first + 4))?;
     Ok(())
 }
 
