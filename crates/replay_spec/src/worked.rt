@@ -17,6 +17,8 @@ pub fn worked_values()
     ensures below_zero { const_value (op.I64Const (pos 0) ∷ op.I64Const (pos 1) ∷ op.I64Sub ∷ []) ≡ Some (I64 18446744073709551615) }
     ensures past_the_signed { const_value (op.I32Const (pos 2147483647) ∷ op.I32Const (pos 1) ∷ op.I32Add ∷ []) ≡ Some (I32 2147483648) }
     ensures product { const_value (op.I32Const (pos 65536) ∷ op.I32Const (pos 65537) ∷ op.I32Mul ∷ []) ≡ Some (I32 65536) }
+    ensures difference { const_value (op.I32Const (pos 10) ∷ op.I32Const (pos 6) ∷ op.I32Sub ∷ []) ≡ Some (I32 4) }
+    ensures wide_sum { const_value (op.I64Const (negsuc 0) ∷ op.I64Const (pos 2) ∷ op.I64Add ∷ []) ≡ Some (I64 1) }
     ensures wide_product { const_value (op.I64Const (pos 4294967296) ∷ op.I64Const (pos 4294967297) ∷ op.I64Mul ∷ []) ≡ Some (I64 4294967296) }
 {}
 
@@ -44,11 +46,15 @@ pub fn worked_references()
     ensures converted { eval [] (λ t. 0) (op.RefFunc 4 ∷ op.ExternConvertAny ∷ []) ≡ Some (Ref (AsExtern (Func 4))) }
     ensures there_and_back { eval [] (λ t. 0) (op.RefFunc 4 ∷ op.ExternConvertAny ∷ op.AnyConvertExtern ∷ []) ≡ Some (Ref (Func 4)) }
     ensures host_and_back { eval (Ref (Host 3) ∷ []) (λ t. 0) (op.GlobalGet 0 ∷ op.AnyConvertExtern ∷ op.ExternConvertAny ∷ []) ≡ Some (Ref (Host 3)) }
+    ensures null_outside { eval [] (λ t. 0) (op.RefNull any_heap ∷ op.AnyConvertExtern ∷ []) ≡ Some (Ref Null) }
     ensures null { eval [] (λ t. 0) (op.RefNull any_heap ∷ op.ExternConvertAny ∷ []) ≡ Some (Ref Null) }
     ensures structure { eval [] (λ t. 2) (op.I32Const (pos 1) ∷ op.I64Const (pos 2) ∷ op.StructNew 9 ∷ [])
         ≡ Some (Ref (Allocated (op.StructNew 9) (Argument (I32 1) (Argument (I64 2) NoMore)))) }
     ensures short_structure { eval [] (λ t. 2) (op.I32Const (pos 1) ∷ op.StructNew 9 ∷ []) ≡ None }
     ensures default_structure { eval [] (λ t. 2) (op.StructNewDefault 9 ∷ []) ≡ Some (Ref (Allocated (op.StructNewDefault 9) NoMore)) }
+    ensures array { eval [] (λ t. 0) (op.F32Const 7 ∷ op.I32Const (pos 3) ∷ op.ArrayNew 9 ∷ [])
+        ≡ Some (Ref (Allocated (op.ArrayNew 9) (Argument (F32 7) (Argument (I32 3) NoMore)))) }
+    ensures default_array { eval [] (λ t. 0) (op.I32Const (pos 3) ∷ op.ArrayNewDefault 9 ∷ []) ≡ Some (Ref (Allocated (op.ArrayNewDefault 9) (Argument (I32 3) NoMore))) }
     ensures fixed_array { eval [] (λ t. 0) (op.I32Const (pos 1) ∷ op.ArrayNewFixed 9 1 ∷ []) ≡ Some (Ref (Allocated (op.ArrayNewFixed 9 1) (Argument (I32 1) NoMore))) }
 {}
 

@@ -1,6 +1,6 @@
 //! The stack on which constant expressions are evaluated.
 
-ghost use Rattle.std.specs.Prelude.{◌≡◌, ℕ, [], ◌∷◌, ◌++◌, ◌%◌, ◌^◌, Some, None, MatchOption};
+ghost use Rattle.std.specs.Prelude.{◌≡◌, ℕ, [], ◌∷◌, ◌++◌, ◌%◌, ◌^◌};
 ghost use Rattle.std.specs.Int.{cast_unsigned, w32, w64};
 ghost use Rattle.std.specs.Option.{option_map};
 ghost use Rattle.replay_spec.specs.Values.{acted, joins_i32, joins_i64, plain_step, within_16, only_value};
@@ -39,7 +39,7 @@ impl Stack {
         self.values.try_push(value).ok()
     }
 
-    // Takes two i32 values, the second from the top, where these are there.
+    // The two i32 values on top, the upper one second, taken where they stand there.
     fn pop_two_i32(&mut self) -> Option<(i32, i32)>
         ensures { (f : ℕ → ℕ → ℕ) → acted (joins_i32 f) (plain_stack self.old)
             ≡ option_map (λ p. plain_stack self.new ++ plain.I32 (f (cast_unsigned w32 p.0) (cast_unsigned w32 p.1) % 2 ^ 32) ∷ []) result }
@@ -52,7 +52,7 @@ impl Stack {
         }
     }
 
-    // Takes two i64 values, the second from the top, where these are there.
+    // The two i64 values on top, the upper one second, taken where they stand there.
     fn pop_two_i64(&mut self) -> Option<(i64, i64)>
         ensures { (f : ℕ → ℕ → ℕ) → acted (joins_i64 f) (plain_stack self.old)
             ≡ option_map (λ p. plain_stack self.new ++ plain.I64 (f (cast_unsigned w64 p.0) (cast_unsigned w64 p.1) % 2 ^ 64) ∷ []) result }
