@@ -177,8 +177,10 @@ fn planned_text<'d>(
         command.max_image,
         bytes,
     )?;
-    let text = plan_text(alloc, &plan)?;
-    Ok((plan, text))
+    match plan_text(alloc, &plan) {
+        Ok(text) => Ok((plan, text)),
+        Err(_) => Err(TranslateError::OutOfMemory),
+    }
 }
 
 /// Writes the text, and answers the status of a text that is written whole, or that of a write that failed.
