@@ -123,29 +123,23 @@ FindsData plan p = FindsRuntime plan.runtime (plan.passive p.0) p.1
 
 -- ---- what stays
 
--- no call of the memory half writes anything of the record but how its memories begin and the ranges of runtime data
-pub record OnlyMemoryInitChanges (old new : ModuleTranslation) : Type 0 where
-  pub record_of_module : record_of new.module ≡ record (record_of old.module) {
-    memory_initialization = new.module.memory_initialization;
-    runtime_data = ranges_of new.module;
-  }
-  pub wasm : new.wasm.now ≡ old.wasm.now
+-- of a translation, no call of the memory half writes anything but how memories begin, the ranges of runtime data, these data, where
+-- passive segments find theirs, and the segments
+abbrev pub OnlyMemoryInitChanges : ModuleTranslation → ModuleTranslation → Type 0
+OnlyMemoryInitChanges old new = new ≡ record old {
+  module = record old.module { memory_initialization = new.module.memory_initialization; runtime_data = new.module.runtime_data };
+  runtime_data_map = new.runtime_data_map;
+  runtime_data = new.runtime_data;
+  memory_init = new.memory_init;
+}
 
 -- all but the passive data
-pub record SameButPassive (old new : ModuleTranslation) : Type 0 where
-  pub record_of_module : new.module ≡ old.module
-  pub wasm : new.wasm ≡ old.wasm
-  pub found : new.runtime_data_map ≡ old.runtime_data_map
-  pub runtime : new.runtime_data ≡ old.runtime_data
-  pub segments : new.memory_init ≡ old.memory_init
+abbrev pub SameButPassive : ModuleTranslation → ModuleTranslation → Type 0
+SameButPassive old new = new ≡ record old { passive_data = new.passive_data }
 
 -- all but the active data segments
-pub record SameButSegments (old new : ModuleTranslation) : Type 0 where
-  pub record_of_module : new.module ≡ old.module
-  pub wasm : new.wasm ≡ old.wasm
-  pub found : new.runtime_data_map ≡ old.runtime_data_map
-  pub runtime : new.runtime_data ≡ old.runtime_data
-  pub passive : new.passive_data.items ≡ old.passive_data.items
+abbrev pub SameButSegments : ModuleTranslation → ModuleTranslation → Type 0
+SameButSegments old new = new ≡ record old { memory_init = new.memory_init }
 
 -- the empty translation
 pub record IsNewTranslation (module_index : Index StaticModuleSpace) (t : ModuleTranslation) : Type 0 where

@@ -4,7 +4,6 @@ use Rattle.std.specs.Prelude.{All, Contains, slice_get}
 use Rattle.wasm_spec.specs.Module.{Expression, DataKind, Passive, Active, Segment, Module, imported_memories, defined_memories, segments, data_size}
 use Rattle.wasm_index.specs.Index.{number_of}
 use Rattle.wasm_types.specs.Memories.{memory_of}
-use Rattle.wasm_module.specs.Record.{ModuleRecord}
 use Rattle.replay_spec.specs.Data.{ActiveSegment, active_segments, minimum_size}
 use Rattle.replay_spec.specs.Plan.{MemoryPlan, AgreesOver, Agrees, kept_segments, planned_from, ranges_from, FindsPassive}
 use Rattle.init_plan.specs.declared.translation.ModuleTranslation.{ModuleTranslation}
@@ -89,13 +88,13 @@ module _ (bytes : List ℕ) (m : Module) (old : ModuleTranslation) (filled : Fil
       left = planned.kept ∙ filled.active;
       processed = planned.planned ∙ ap (planned_from 0) filled.active;
       is_processed = planned.processed;
-      memories = ap (λ (r : ModuleRecord). r.memories) planned.same.record_of_module ∙ filled.memories;
-      imports = ap (λ (r : ModuleRecord). r.num_imported_memories) planned.same.record_of_module ∙ filled.imports;
+      memories = ap (λ (t : ModuleTranslation). t.module.memories) planned.same ∙ filled.memories;
+      imports = ap (λ (t : ModuleTranslation). t.module.num_imported_memories) planned.same ∙ filled.imports;
       runtime = runtime_same;
       ranges = planned.ranges ∙ ap (λ (bs : List (List ℕ)). ranges_from 0 (map length bs)) runtime_same;
       passive = λ index. finds (memory_plan_of new) (segments m) (subst (All (FindsData (memory_plan_of new))) filled.passive planned.found)
           (λ i none. planned.others i (subst (λ (ps : List (ℕ × List ℕ)). ¬ Contains (map (λ p. p.0) ps) i)
           (sym filled.passive) none)) index (slice_get (segments m) index) refl;
-      module_index = ap (λ (r : ModuleRecord). number_of r.module_index) planned.same.record_of_module ∙ filled.module_index;
-      wasm = planned.same.wasm ∙ filled.wasm;
+      module_index = ap (λ (t : ModuleTranslation). number_of t.module.module_index) planned.same ∙ filled.module_index;
+      wasm = ap (λ (t : ModuleTranslation). t.wasm.now) planned.same ∙ filled.wasm;
     }

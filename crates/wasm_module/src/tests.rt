@@ -171,6 +171,7 @@ fn insert_texts(
 // and the function again; the last table, the first memory and the last global are exported.
 fn small_module(alloc: Heap) -> Result<Module, OutOfMemory> {
     let mut module = new_module(alloc)?;
+    let third = module.strings.insert("third")?;
     let (name, field) = insert_texts(&mut module.strings, "env", "run")?;
     push_each(&mut module, 0, UNSHARED)?;
     push_each(&mut module, 10, SHARED)?;
@@ -187,7 +188,6 @@ fn small_module(alloc: Heap) -> Result<Module, OutOfMemory> {
     })?;
     module.exports.insert(name, TableIndex::new(2).into())?;
     module.exports.insert(field, MemoryIndex::new(0).into())?;
-    let third = module.strings.insert("third")?;
     module.exports.insert(third, GlobalIndex::new(2).into())?;
     module.num_imported_funcs = 1;
     module.num_imported_tables = 1;

@@ -1,7 +1,8 @@
-use Rattle.std.proofs.Common.{arith, refl, map, [], None}
+use Rattle.std.proofs.Common.{arith, refl, ap, map, [], None}
 use Rattle.std.proofs.lemmas.Grind.{common_steps}
 use Rattle.replay_spec.specs.Plan.{MemoryPlan}
 use Rattle.replay_spec.proofs.Kept.{AgreesOver-kept, kept_segments-all}
+use Rattle.init_plan.specs.declared.translation.ModuleTranslation.{ModuleTranslation}
 use Rattle.init_plan.specs.Views.{defined_sizes, initializers_of, planned_segment_of, bytes_of, passive_bytes, IsSegmented}
 use Rattle.init_plan.proofs.Unplanned.{images_of-segmented}
 use Rattle.init_plan.proofs.translation.ModuleTranslation.finalize_memory_init.Goals as goal
@@ -26,7 +27,7 @@ returns-clause-kept c =
 pub returns-clause-agrees : goal.returns-clause-agrees
 returns-clause-agrees c =
     let taken = c.take_segments-segments.new.self.module.memory_initialization in
-    let segmented : IsSegmented taken = rw c.take_segments-segments.ensures.rest.record_of_module c.requires.ready.segmented in
+    let segmented : IsSegmented taken = rw (ap (λ (t : ModuleTranslation). t.module) c.take_segments-segments.ensures.rest) c.requires.ready.segmented in
     AgreesOver-kept _ _ _ _ (record {
       sizes = grind (arith, common_steps);
       no_images = images_of-segmented taken segmented;
