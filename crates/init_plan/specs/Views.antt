@@ -127,7 +127,7 @@ FindsData plan p = FindsRuntime plan.runtime (plan.passive p.0) p.1
 -- passive segments find theirs, and the segments
 abbrev pub OnlyMemoryInitChanges : ModuleTranslation → ModuleTranslation → Type 0
 OnlyMemoryInitChanges old new = new ≡ record old {
-  module = record old.module { memory_initialization = new.module.memory_initialization; runtime_data = new.module.runtime_data };
+  «module» = record old.module { memory_initialization = new.module.memory_initialization; runtime_data = new.module.runtime_data };
   runtime_data_map = new.runtime_data_map;
   runtime_data = new.runtime_data;
   memory_init = new.memory_init;
