@@ -2,9 +2,10 @@
 
 ghost use Rattle.std.specs.Prelude.{◌<◌, ◌≤◌, length};
 
-use crate::{Plan, TranslateError, plan_text, refusal_line};
+use crate::{plan_text, refusal_line};
 use entity_map::{EntityRef, OutOfMemory, PrimaryMap};
 use init_plan::{MemoryInit, MemoryInitialization, MemorySegmentOffset, ModuleTranslation};
+use plan::{Plan, TranslateError};
 use rule_spec::Rule;
 use std::alloc::Global;
 use std::test::Fail;
