@@ -4,8 +4,6 @@
 mod error;
 mod memory_init;
 mod runtime_data;
-#[cfg(test)]
-mod tests;
 mod translation;
 
 pub use error::PlanError;
