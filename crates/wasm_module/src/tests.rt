@@ -299,7 +299,6 @@ fn entities_are_counted(rt: HostRuntime) -> Result<(), Fail> {
         module.num_defined_memories(),
         module.num_defined_globals(),
         module.num_defined_tags(),
-        module.defined_func_indices().count(),
     ] {
         assert_eq!(rt; count, 2);
     }
