@@ -3,7 +3,9 @@ use Rattle.std.proofs.Common.{◌≡◌, ℕ, ◌+◌, List, [], ◌∷◌, ◌+
 use Rattle.std.proofs.lemmas.List.{length_push}
 use Rattle.std.specs.Prelude.{slice_get}
 use Rattle.std.specs.List.{filter_map}
+use Rattle.wasm_spec.specs.Module.{Expression}
 use Rattle.replay_spec.specs.Phases.{Phase, SamePhase}
+use Rattle.replay_spec.specs.Values.{offset_over}
 use Rattle.replay_spec.specs.Data.{ActiveSegment, piece_of, segments_phase}
 use Rattle.replay_spec.specs.Plan.{MemoryPlan, runtime_bytes, left_to_write, planned_piece, kept_segments, planned_from, AgreesOver}
 
@@ -16,12 +18,12 @@ get-middle (b ∷ before) after x = get-middle before after x
 
 module _ (plan : MemoryPlan) where
   -- the bytes of a segment are the runtime data of its number
-  bytes-at : (before after : List (List ℕ)) (bytes : List ℕ) (n : ℕ) → n ≡ length before → plan.runtime ≡ before ++ bytes ∷ after
+  pub bytes-at : (before after : List (List ℕ)) (bytes : List ℕ) (n : ℕ) → n ≡ length before → plan.runtime ≡ before ++ bytes ∷ after
       → runtime_bytes plan n ≡ bytes
   bytes-at before after bytes n at is = rw (is, at, get-middle before after bytes) refl
 
   -- the runtime data before the next segment
-  next-runtime : (before after : List (List ℕ)) (bytes : List ℕ) → plan.runtime ≡ before ++ bytes ∷ after
+  pub next-runtime : (before after : List (List ℕ)) (bytes : List ℕ) → plan.runtime ≡ before ++ bytes ∷ after
       → plan.runtime ≡ (before ++ bytes ∷ []) ++ after
   next-runtime before after bytes is = is ∙ sym (append_assoc before (bytes ∷ []) after)
 
@@ -37,13 +39,13 @@ module _ (plan : MemoryPlan) where
       rw (here, more) refl
 
   -- the pieces of all entries are those of the segments
-  pieces : (active : List ActiveSegment) (before after : List (List ℕ)) (n : ℕ) → n ≡ length before
+  pieces : (place_of : Expression → ℕ) (active : List ActiveSegment) (before after : List (List ℕ)) (n : ℕ) → n ≡ length before
       → plan.runtime ≡ before ++ (bytes_of_all active ++ after)
-      → map (planned_piece plan) (planned_from n active) ≡ map piece_of active
-  pieces [] before after n at is = refl
-  pieces (s ∷ ss) before after n at is =
+      → map (planned_piece place_of plan) (planned_from n active) ≡ map (piece_of place_of) active
+  pieces place_of [] before after n at is = refl
+  pieces place_of (s ∷ ss) before after n at is =
       let here = bytes-at before (bytes_of_all ss ++ after) s.bytes n at is in
-      let more = pieces ss (before ++ s.bytes ∷ []) after (n + 1) (omega (arith, length_push before s.bytes))
+      let more = pieces place_of ss (before ++ s.bytes ∷ []) after (n + 1) (omega (arith, length_push before s.bytes))
       (next-runtime before (bytes_of_all ss ++ after) s.bytes is) in
       rw (here, more) refl
 
@@ -66,8 +68,12 @@ pub AgreesOver-kept : (imports : ℕ) (defined : List ℕ) (active : List Active
     → AgreesOver imports defined active plan
 AgreesOver-kept imports defined active plan h =
     let all : kept_segments plan ≡ active = kept_segments-all defined active plan h in
-    let listed : map (planned_piece plan) plan.segments ≡ map piece_of active = rw h.segments (pieces plan active [] h.passive 0 refl h.runtime) in
+    let listed : (place_of : Expression → ℕ) → map (planned_piece place_of plan) plan.segments ≡ map (piece_of place_of) active =
+    λ place_of. rw h.segments (pieces plan place_of active [] h.passive 0 refl h.runtime) in
     record {
-      by_map = λ imported count. rw (h.sizes, h.no_images, all) (same_as_itself (segments_phase imported defined active));
-      by_list = λ imported count. rw (h.sizes, listed) (same_as_itself (segments_phase imported defined active));
+      by_map = λ globals fields imported count.
+          rw (h.sizes, h.no_images, all) (same_as_itself (segments_phase (offset_over globals fields) imported defined active));
+      by_list = λ globals fields imported count.
+          let entries = listed (offset_over globals fields) in
+          rw (h.sizes, entries) (same_as_itself (segments_phase (offset_over globals fields) imported defined active));
     }

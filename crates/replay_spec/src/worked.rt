@@ -61,16 +61,16 @@ pub fn worked_references()
 /// What small modules leave in their memory, and where they trap.
 pub fn worked_phases()
     // The later of two segments wins, and all else stays zero.
-    ensures before { content_of (module_phase [] overlapping) 0 15 ≡ 0 }
-    ensures first { content_of (module_phase [] overlapping) 0 16 ≡ 1 }
-    ensures later { content_of (module_phase [] overlapping) 0 17 ≡ 9 }
-    ensures third { content_of (module_phase [] overlapping) 0 18 ≡ 3 }
-    ensures no_trap { trap_of (module_phase [] overlapping) ≡ None }
+    ensures before { content_of (module_phase [] (λ t. 0) [] overlapping) 0 15 ≡ 0 }
+    ensures first { content_of (module_phase [] (λ t. 0) [] overlapping) 0 16 ≡ 1 }
+    ensures later { content_of (module_phase [] (λ t. 0) [] overlapping) 0 17 ≡ 9 }
+    ensures third { content_of (module_phase [] (λ t. 0) [] overlapping) 0 18 ≡ 3 }
+    ensures no_trap { trap_of (module_phase [] (λ t. 0) [] overlapping) ≡ None }
     // An offset of -1 is 4294967295, past the end: the last segment traps, though it is empty.
-    ensures last_traps { trap_of (module_phase [] ends_at_minus_one) ≡ Some 1 }
-    ensures kept_before_the_trap { content_of (module_phase [] ends_at_minus_one) 0 17 ≡ 9 }
+    ensures last_traps { trap_of (module_phase [] (λ t. 0) [] ends_at_minus_one) ≡ Some 1 }
+    ensures kept_before_the_trap { content_of (module_phase [] (λ t. 0) [] ends_at_minus_one) 0 17 ≡ 9 }
     // An empty segment may stand at the end, and not past it.
-    ensures empty_traps { trap_of (module_phase [] empty_past_the_end) ≡ Some 1 }
+    ensures empty_traps { trap_of (module_phase [] (λ t. 0) [] empty_past_the_end) ≡ Some 1 }
 {}
 
 /// Ranges of three and one bytes stand end to end.
