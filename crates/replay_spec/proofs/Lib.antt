@@ -1,3 +1,11 @@
 pub mod Constant
 pub mod Kept
 pub mod Typed
+pub mod Replay
+pub mod Covering
+pub mod Placed
+pub mod Laid
+pub mod Joined
+pub mod Tight
+pub mod One
+pub mod WorkedImages
