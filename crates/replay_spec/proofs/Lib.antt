@@ -1,3 +1,10 @@
 pub mod Constant
 pub mod Kept
 pub mod Typed
+pub mod Replay
+pub mod Covering
+pub mod TablesJoined
+pub mod Taken
+pub mod GlobalsKnown
+pub mod GlobalsTyped
+pub mod TablesWorked

@@ -3,4 +3,9 @@ pub mod Values
 pub mod Classes
 pub mod Data
 pub mod Plan
+pub mod Elements
+pub mod Tables
+pub mod Globals
+pub mod Startup
 pub mod Worked
+pub mod WorkedTables
