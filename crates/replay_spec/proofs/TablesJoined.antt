@@ -1,9 +1,9 @@
 -- The plan with table images leaves what the element segments leave.
-use Rattle.std.proofs.Common.{◌≡◌, ℕ, zero, suc, ◌+◌, ◌-◌, ◌<◌, ◌≤◌, Bool, true, false, List, [], ◌∷◌, ◌++◌, length, get_or, map, All, Option, None, Some, ◌⊎◌, refl, sym, ◌∙◌, ap, subst, arith}
-use Rattle.std.specs.Prelude.{slice_get, unwrap_or, nat_lt, nat_le, IsSome, ◌==◌, ◌&&◌, if◌then◌else◌}
+use Rattle.std.proofs.Common.{◌≡◌, ℕ, zero, suc, ◌+◌, ◌-◌, ◌<◌, ◌≤◌, Bool, true, false, List, [], ◌∷◌, ◌++◌, length, get_or, map, All, Option, None, Some, ◌⊎◌, inl, inr, refl, sym, ◌∙◌, ap, subst, arith}
+use Rattle.std.specs.Prelude.{slice_get, unwrap_or, nat_lt, nat_le, IsSome, is_some, ◌==◌, ◌&&◌, if◌then◌else◌}
 use Rattle.std.specs.Option.{option_map, option_and_then}
 use Rattle.std.proofs.Math.Logic.{⊎_elim}
-use Rattle.std.proofs.lemmas.Bool.{false≢true, cases_lt, le-leb, eq-eqb, lt-ltb, le-ltb}
+use Rattle.std.proofs.lemmas.Bool.{false≢true, cases_lt, le-leb, eq-eqb, lt-ltb, le-ltb, and_parts, cond-true, cond-false}
 use Rattle.std.proofs.lemmas.List.{length-map, get_or-append_right, length-append, map-append}
 use Rattle.std.proofs.lemmas.List.Elements.{All-head, All-tail, All-get_or}
 use Rattle.std.proofs.lemmas.Option.{slice_get-map, slice_get_within, slice_get-get_or, slice_get_past, get_or_from_slice_get, none-some, same_Some, unwrap_or-slice_get}
@@ -13,7 +13,7 @@ use Rattle.wasm_spec.specs.Module.{Expression, ElementItems, Functions, Expressi
 use Rattle.replay_spec.specs.Phases.{Piece, fits, item_at, last_item, SamePhase}
 use Rattle.replay_spec.specs.Values.{Value, I32, I64, F32, F64, V128, Ref, Func, number_or_zero, const_value, offset_over}
 use Rattle.replay_spec.specs.Elements.{ActiveElements, DefinedTable, value_or_null, cell_of, item_cells, elements_piece, table_sizes, table_base, initial_cell, first_cell, elements_phase}
-use Rattle.replay_spec.specs.Tables.{operator_cell, expression_cell, AreCells, image_cells, image_piece, elements_end, initial_function, IsImagedFromStart, MayBeTaken, end_on, HasLength, IsTableImage, InitialCells, Image, Initial, PlannedTable, TablePlan, IsInitial, IsTablePlan, integer_of, constant_place, reference_of, planned_cell, planned_first, planned_elements_phase, AgreesOnTables}
+use Rattle.replay_spec.specs.Tables.{operator_cell, expression_cell, AreCells, image_cells, image_piece, elements_end, most_cells, initial_function, is_imaged_from_start, kept_initial, MayBeTaken, end_on, image_length, IsTableImage, PlannedTable, TablePlan, IsTablePlan, integer_of, constant_place, reference_of, planned_cell, planned_first, planned_elements_phase, AgreesOnTables}
 use Rattle.replay_spec.proofs.Replay.{AllFit, SamePhase-prefix}
 use Rattle.replay_spec.proofs.Covering.{CoversAt, Covers, last-cover}
 use Rattle.replay_spec.proofs.Constant.{eval-const_value}
@@ -179,22 +179,48 @@ past-end taken m place le = ⊎_elim (λ e. e)
     absurd (omega arith))
     (last-cover m place None (map image_piece taken))
 
+-- ---- tables that keep no initialiser
+
+-- one is imaged from the start, or has no initialiser
+pub keeps-none : (lazy : Bool) (t : DefinedTable) → kept_initial lazy t ≡ None
+    → ((is_imaged_from_start lazy t ≡ true) × (is_some (initial_function t.initial) ≡ true)) ⊎ ((is_imaged_from_start lazy t ≡ false) × (t.initial ≡ None))
+keeps-none lazy t h = over (is_imaged_from_start lazy t) refl h where
+  over : (b : Bool) → is_imaged_from_start lazy t ≡ b → (if b then None else t.initial) ≡ None
+      → ((is_imaged_from_start lazy t ≡ true) × (is_some (initial_function t.initial) ≡ true)) ⊎ ((is_imaged_from_start lazy t ≡ false) × (t.initial ≡ None))
+  over true e none =
+      let parts = and_parts (lazy && is_some (initial_function t.initial)) (nat_le t.minimum most_cells) e in
+      let more = and_parts lazy (is_some (initial_function t.initial)) parts.0 in
+      inl (e, more.1)
+  over false e none = inr (e, none)
+
+-- what is kept is the initialiser
+keeps-some : (lazy : Bool) (t : DefinedTable) (x : Expression) → kept_initial lazy t ≡ Some x → t.initial ≡ Some x
+keeps-some lazy t x h = over (is_imaged_from_start lazy t) h where
+  over : (b : Bool) → (if b then None else t.initial) ≡ Some x → t.initial ≡ Some x
+  over true e = absurd (none-some x e)
+  over false e = e
+
 -- nothing is left behind the end of an image
-pub past-image : (lazy : Bool) (taken : List ActiveElements) (m place : ℕ) (t : DefinedTable) (n : ℕ) → place < t.minimum → n ≤ place → HasLength lazy taken m t n
-    → last_item m place (initial_function t.initial) (map image_piece taken) ≡ None
-past-image lazy taken m place t n within le h = ⊎_elim (λ (f : IsImagedFromStart lazy t × (n ≡ t.minimum)). let e = f.1 in absurd (omega arith))
-    (λ (e : (t.initial ≡ None) × (n ≡ end_on m taken)). let none = e.0 in let end = e.1 in rw none (past-end taken m place (omega arith))) h
+pub past-image : (lazy : Bool) (taken : List ActiveElements) (m place : ℕ) (t : DefinedTable) → kept_initial lazy t ≡ None → place < t.minimum
+    → image_length lazy taken m t ≤ place → last_item m place (initial_function t.initial) (map image_piece taken) ≡ None
+past-image lazy taken m place t keeps within le = ⊎_elim
+    (λ (start : (is_imaged_from_start lazy t ≡ true) × (is_some (initial_function t.initial) ≡ true)).
+    let all : image_length lazy taken m t ≡ t.minimum = cond-true (is_imaged_from_start lazy t) t.minimum (end_on m taken) start.0 in absurd (omega arith))
+    (λ (none : (is_imaged_from_start lazy t ≡ false) × (t.initial ≡ None)).
+    let upto : image_length lazy taken m t ≡ end_on m taken = cond-false (is_imaged_from_start lazy t) t.minimum (end_on m taken) none.0 in
+    ap (λ o. last_item m place (initial_function o) (map image_piece taken)) none.1 ∙ past-end taken m place (omega arith))
+    (keeps-none lazy t keeps)
 
 module _ (globals : List Value) (fields : ℕ → ℕ) (lazy : Bool) (imports : ℕ) (tables : List DefinedTable) (taken : List ActiveElements) (all : All (MayBeTaken lazy imports tables) taken) where
   -- what a taken segment on a table says of it
   begins-on : (m place : ℕ) (t : DefinedTable) → slice_get tables (m - imports) ≡ Some t → Covers m place (map (elements_piece globals fields) taken)
-      → (t.initial ≡ None) ⊎ IsImagedFromStart lazy t
+      → kept_initial lazy t ≡ None
   begins-on m place t at c =
       let f = covers-from (elements_piece globals fields) taken m place c in
       let h = All-at (MayBeTaken lazy imports tables) taken f.index f.element all f.stands in
       let on : f.element.table ≡ m = f.covers.on in
       let same : h.table ≡ t = same_Some h.table t (sym h.is_table ∙ ap (λ k. slice_get tables (k - imports)) on ∙ at) in
-      subst (λ (x : DefinedTable). (x.initial ≡ None) ⊎ IsImagedFromStart lazy x) same h.begins
+      ap (kept_initial lazy) (sym same) ∙ h.keeps_none
 
   imported-stays : (m place : ℕ) (d : Value) → m < imports → last_item m place d (map (elements_piece globals fields) taken) ≡ d
   imported-stays m place d lt = ⊎_elim (λ e. e)
@@ -206,28 +232,30 @@ module _ (globals : List Value) (fields : ℕ → ℕ) (lazy : Bool) (imports : 
       absurd (omega arith))
       (last-cover m place d (map (elements_piece globals fields) taken))
 
-  first-image : (m : ℕ) (t : DefinedTable) (n : ℕ) → HasLength lazy taken m t n → initial_cell globals fields t.initial ≡ reference_of (initial_function t.initial)
-  first-image m t n h = ⊎_elim (λ (f : IsImagedFromStart lazy t × (n ≡ t.minimum)). initial-function globals fields t.initial f.0.function)
-      (λ (e : (t.initial ≡ None) × (n ≡ end_on m taken)). let none = e.0 in rw none refl) h
+  first-image : (t : DefinedTable) → kept_initial lazy t ≡ None → initial_cell globals fields t.initial ≡ reference_of (initial_function t.initial)
+  first-image t keeps = ⊎_elim
+      (λ (start : (is_imaged_from_start lazy t ≡ true) × (is_some (initial_function t.initial) ≡ true)). initial-function globals fields t.initial start.1)
+      (λ (none : (is_imaged_from_start lazy t ≡ false) × (t.initial ≡ None)). let e = none.1 in rw e refl)
+      (keeps-none lazy t keeps)
 
-  image-same : (m place : ℕ) (t : DefinedTable) (image : List (Option ℕ)) → place < t.minimum → IsTableImage lazy taken m t image
+  image-same : (m place : ℕ) (t : DefinedTable) (image : List (Option ℕ)) → kept_initial lazy t ≡ None → place < t.minimum → IsTableImage lazy taken m t image
       → last_item m place (initial_cell globals fields t.initial) (map (elements_piece globals fields) taken) ≡ reference_of (unwrap_or (slice_get image place) None)
-  image-same m place t image within h =
-      ap (λ d. last_item m place d (map (elements_piece globals fields) taken)) (first-image m t (length image) h.has_length)
+  image-same m place t image keeps within h =
+      ap (λ d. last_item m place d (map (elements_piece globals fields) taken)) (first-image t keeps)
       ∙ taken-cells globals fields lazy imports tables taken all m place (initial_function t.initial)
       ∙ ⊎_elim (λ (lt : place < length image). ap (λ o. reference_of (unwrap_or o None)) (sym (h.cells place lt)))
-      (λ (le : length image ≤ place). ap reference_of (past-image lazy taken m place t (length image) within le h.has_length)
+      (λ (le : length image ≤ place). ap reference_of (past-image lazy taken m place t keeps within (rw h.reach at le))
       ∙ ap (λ o. reference_of (unwrap_or o None)) (sym (slice_get_past image place le)))
       (cases_lt place (length image))
 
-  table-same : (m place : ℕ) (t : DefinedTable) → slice_get tables (m - imports) ≡ Some t → place < t.minimum → (x : InitialCells) → IsInitial lazy taken m t x
-      → last_item m place (initial_cell globals fields t.initial) (map (elements_piece globals fields) taken) ≡ planned_cell globals fields x place
-  table-same m place t at within (Image image) h = image-same m place t image within h
-  table-same m place t at within (Initial e) h = ⊎_elim (λ (stays : last_item m place (initial_cell globals fields t.initial) (map (elements_piece globals fields) taken) ≡ initial_cell globals fields t.initial). stays ∙ ap (initial_cell globals fields) h.0)
-      (λ (c : Covers m place (map (elements_piece globals fields) taken)). absurd (⊎_elim
-      (λ (none : t.initial ≡ None). none-some e (sym none ∙ h.0))
-      (λ (start : IsImagedFromStart lazy t). h.1 start)
-      (begins-on m place t at c)))
+  table-same : (m place : ℕ) (t : DefinedTable) → slice_get tables (m - imports) ≡ Some t → place < t.minimum → (o : Option Expression) → o ≡ kept_initial lazy t
+      → (image : List (Option ℕ)) → IsTableImage lazy taken m t image
+      → last_item m place (initial_cell globals fields t.initial) (map (elements_piece globals fields) taken) ≡ planned_cell globals fields o image place
+  table-same m place t at within None keeps image h = image-same m place t image (sym keeps) within h
+  table-same m place t at within (Some e) keeps image h = ⊎_elim
+      (λ (stays : last_item m place (initial_cell globals fields t.initial) (map (elements_piece globals fields) taken) ≡ initial_cell globals fields t.initial).
+      stays ∙ ap (initial_cell globals fields) (keeps-some lazy t e (sym keeps)))
+      (λ (c : Covers m place (map (elements_piece globals fields) taken)). absurd (none-some e (sym (begins-on m place t at c) ∙ sym keeps)))
       (last-cover m place (initial_cell globals fields t.initial) (map (elements_piece globals fields) taken))
 
 -- ---- the plan
@@ -258,12 +286,15 @@ module _ (globals : List Value) (fields : ℕ → ℕ) (lazy : Bool) (imports : 
         ≡ planned_first globals fields (slice_get plan.tables (m - imports)) place
     found None e p f = absurd (none-some (get_or tables (m - imports) (record { minimum = 0; functions = false; initial = None }))
         (sym e ∙ slice_get-get_or tables (m - imports) (record { minimum = 0; functions = false; initial = None }) (omega arith)))
-    found (Some t) e None f = absurd (none-some (get_or plan.tables (m - imports) (record { minimum = 0; initial = Image [] }))
-        (sym f ∙ slice_get-get_or plan.tables (m - imports) (record { minimum = 0; initial = Image [] }) (let n = lengths in omega arith)))
+    found (Some t) e None f = absurd (none-some (get_or plan.tables (m - imports) (record { minimum = 0; initial = None; image = [] }))
+        (sym f ∙ slice_get-get_or plan.tables (m - imports) (record { minimum = 0; initial = None; image = [] }) (let n = lengths in omega arith)))
     found (Some t) e (Some planned) f =
         let size = sizes-table imported tables m t (rw count low) (rw count e) in
-        let initial : IsInitial lazy h.taken m t planned.initial = rw back at (h.each (m - imports) t planned e f) in
-        rw (e, f) (table-same globals fields lazy imports tables h.taken h.prefix.takes m place t e (omega (arith, size)) planned.initial initial)
+        let image : IsTableImage lazy h.taken m t planned.image = rw back at (h.images (m - imports) t planned e f) in
+        let kept : planned.initial ≡ kept_initial lazy t = same_Some planned.initial (kept_initial lazy t)
+        (sym (slice_get-map (λ (p : PlannedTable). p.initial) plan.tables (m - imports) ∙ ap (option_map (λ (p : PlannedTable). p.initial)) f)
+        ∙ ap (λ xs. slice_get xs (m - imports)) h.initials ∙ slice_get-map (kept_initial lazy) tables (m - imports) ∙ ap (option_map (kept_initial lazy)) e) in
+        rw (e, f) (table-same globals fields lazy imports tables h.taken h.prefix.takes m place t e (omega (arith, size)) planned.initial kept planned.image image)
 
   none-past : (m : ℕ) → imports + length tables ≤ m → table_sizes imported (minimums tables) m ≡ 0
   none-past m le =

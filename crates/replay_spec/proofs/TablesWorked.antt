@@ -1,11 +1,11 @@
 -- The worked examples of table images.
-use Rattle.std.proofs.Common.{◌≡◌, ℕ, zero, suc, ◌+◌, ◌<◌, subst, true, List, [], ◌∷◌, All, None, Some, refl, sym, arith, inl, inr}
+use Rattle.std.proofs.Common.{◌≡◌, ℕ, zero, suc, ◌+◌, ◌<◌, subst, ap, true, List, [], ◌∷◌, All, Option, None, Some, refl, sym, arith}
 use Rattle.std.specs.Prelude.{slice_get, map}
 use Rattle.std.proofs.lemmas.Bool.{false≢true}
 use Rattle.std.proofs.lemmas.Option.{none-some, same_Some}
 use Rattle.replay_spec.specs.Phases.{last_item}
 use Rattle.replay_spec.specs.Elements.{ActiveElements, DefinedTable}
-use Rattle.replay_spec.specs.Tables.{AreCells, image_piece, MayBeTaken, TakesPrefix, IsInitial, IsTablePlan, PlannedTable, Image}
+use Rattle.replay_spec.specs.Tables.{AreCells, image_piece, MayBeTaken, TakesPrefix, IsTableImage, IsTablePlan, PlannedTable}
 use Rattle.replay_spec.specs.WorkedTables.{four_cells, three_cells, from_a_global, imaged}
 
 three : AreCells three_cells.items
@@ -21,7 +21,7 @@ taken zero d l = record {
   defined = omega arith;
   is_table = refl;
   functions = refl;
-  begins = inl refl;
+  keeps_none = refl;
   place = 1;
   constant = refl;
   items = three;
@@ -41,24 +41,22 @@ cells (suc (suc zero)) l = refl
 cells (suc (suc (suc zero))) l = refl
 cells (suc (suc (suc (suc k)))) l = absurd (omega arith)
 
-each : (i : ℕ) (t : DefinedTable) (planned : PlannedTable) → slice_get (four_cells ∷ []) i ≡ Some t
-    → slice_get (record { minimum = 4; initial = Image (None ∷ Some 0 ∷ None ∷ Some 0 ∷ []) } ∷ []) i ≡ Some planned
-    → IsInitial true (three_cells ∷ []) (0 + i) t planned.initial
-each zero t planned e f =
+images : (i : ℕ) (t : DefinedTable) (planned : PlannedTable) → slice_get (four_cells ∷ []) i ≡ Some t
+    → slice_get (imaged (None ∷ Some 0 ∷ None ∷ Some 0 ∷ [])).tables i ≡ Some planned → IsTableImage true (three_cells ∷ []) (0 + i) t planned.image
+images zero t planned e f =
     let table : four_cells ≡ t = same_Some four_cells t e in
-    let plan : record { minimum = 4; initial = Image (None ∷ Some 0 ∷ None ∷ Some 0 ∷ []) } ≡ planned =
-    same_Some (record { minimum = 4; initial = Image (None ∷ Some 0 ∷ None ∷ Some 0 ∷ []) }) planned f in
-    let here : IsInitial true (three_cells ∷ []) 0 four_cells (Image (None ∷ Some 0 ∷ None ∷ Some 0 ∷ [])) = record { has_length = inr (refl, refl); cells = cells } in
-    subst (λ (x : DefinedTable). IsInitial true (three_cells ∷ []) 0 x planned.initial) table
-    (subst (λ (p : PlannedTable). IsInitial true (three_cells ∷ []) 0 four_cells p.initial) plan here)
-each (suc i) t planned e f = absurd (none-some t e)
+    let plan : None ∷ Some 0 ∷ None ∷ Some 0 ∷ [] ≡ planned.image = ap (λ (o : Option PlannedTable). elim o as (λ p. List (Option ℕ)) [ None ↦ [] | Some p ↦ p.image ]) f in
+    let here : IsTableImage true (three_cells ∷ []) 0 four_cells (None ∷ Some 0 ∷ None ∷ Some 0 ∷ []) = record { reach = refl; cells = cells } in
+    subst (λ (x : DefinedTable). IsTableImage true (three_cells ∷ []) 0 x planned.image) table (subst (λ p. IsTableImage true (three_cells ∷ []) 0 four_cells p) plan here)
+images (suc i) t planned e f = absurd (none-some t e)
 
 pub imaged-plan : IsTablePlan true 0 (four_cells ∷ []) (three_cells ∷ []) (imaged (None ∷ Some 0 ∷ None ∷ Some 0 ∷ []))
 imaged-plan = record {
   taken = three_cells ∷ [];
   prefix = record { parts = refl; takes = taken; longest = no-more };
   minimums = refl;
-  each = each;
+  initials = refl;
+  images = images;
 }
 
 stops : (s : ActiveElements) (rest : List ActiveElements) → from_a_global ∷ three_cells ∷ [] ≡ s ∷ rest → MayBeTaken true 0 (four_cells ∷ []) s → ⊥

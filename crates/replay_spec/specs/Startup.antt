@@ -1,11 +1,11 @@
 -- When the startup function of a module runs: it does what instantiation leaves to be done (core specification, 4.7, instantiation).
-use Rattle.std.specs.Prelude.{◌&&◌, Bool, true, false, is_none, List, [], ◌∷◌, map, Option, None, Some, if◌then◌else◌}
+use Rattle.std.specs.Prelude.{◌&&◌, Bool, true, false, is_none, List, [], ◌∷◌, map, if◌then◌else◌}
 use Rattle.std.specs.List.{filter, filter_map, list_all}
 use Rattle.wasm_spec.specs.Module.{Expression, GlobalDef, ElementKind, PassiveElement, Element}
 use Rattle.rule_spec.specs.Lists.{Lists}
 use Rattle.replay_spec.specs.Values.{const_value}
 use Rattle.replay_spec.specs.Plan.{MemoryPlan, kept_segments}
-use Rattle.replay_spec.specs.Tables.{InitialCells, Image, Initial, TablePlan}
+use Rattle.replay_spec.specs.Tables.{TablePlan}
 
 pub data Startup : Type 0 where
   -- there is nothing to run
@@ -31,13 +31,9 @@ is_passive _ = false
 abbrev pub passive_elements : List Element → List Element
 passive_elements elements = filter (λ e. is_passive e.kind) elements
 
-abbrev pub kept_initial : InitialCells → Option Expression
-kept_initial (Image image) = None
-kept_initial (Initial e) = Some e
-
 -- the initialisers of tables that are not in images
 abbrev pub kept_initials : TablePlan → List Expression
-kept_initials plan = filter_map (λ t. kept_initial t.initial) plan.tables
+kept_initials plan = filter_map (λ t. t.initial) plan.tables
 
 -- global initialisers, a start function and passive element segments
 abbrev pub leaves_nothing : Lists → Bool

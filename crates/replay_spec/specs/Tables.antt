@@ -1,5 +1,5 @@
 -- Which active element segments become images of tables, which images these are, and what a plan leaves in tables.
-use Rattle.std.specs.Prelude.{◌≡◌, ℕ, ◌+◌, ◌-◌, ◌<◌, ◌≤◌, ◌⊎◌, ◌==◌, Bool, IsTrue, List, [], ◌∷◌, ◌++◌, length, map, max, slice_get, All, Option, None, Some, IsSome, unwrap_or, if◌then◌else◌}
+use Rattle.std.specs.Prelude.{◌≡◌, ℕ, ◌+◌, ◌-◌, ◌<◌, ◌≤◌, ◌==◌, nat_le, ◌&&◌, Bool, IsTrue, List, [], ◌∷◌, ◌++◌, length, map, max, slice_get, All, Option, None, Some, IsSome, is_some, unwrap_or, if◌then◌else◌}
 use Rattle.std.specs.Option.{option_and_then}
 use Rattle.wasm_spec.specs.declared.operators.Operator.{Operator}
 use Rattle.wasm_spec.specs.declared.operators.Operator.TheVariants.{RefNull, RefFunc}
@@ -61,20 +61,22 @@ initial_function None = None
 initial_function (Some e) = unwrap_or (expression_cell e) None
 
 -- a table is imaged from the start: its initialiser is one `ref.func`, and it is not larger than an image
-pub record IsImagedFromStart (lazy : Bool) (t : DefinedTable) : Type 0 where
-  pub lazy_tables : IsTrue lazy
-  pub function : IsSome (initial_function t.initial)
-  pub small : t.minimum ≤ most_cells
+abbrev pub is_imaged_from_start : Bool → DefinedTable → Bool
+is_imaged_from_start lazy t = lazy && is_some (initial_function t.initial) && nat_le t.minimum most_cells
 
--- a segment may be taken: it is on a defined table of functions that has no initialiser or is imaged from the start, its offset is a
--- constant, its items are cells, and it ends within the table and within the largest image
+-- the initialiser that a table keeps: none where it has none, or is imaged from the start
+abbrev pub kept_initial : Bool → DefinedTable → Option Expression
+kept_initial lazy t = if is_imaged_from_start lazy t then None else t.initial
+
+-- a segment may be taken: it is on a defined table of functions that keeps no initialiser, its offset is a constant, its items are cells,
+-- and it ends within the table and within the largest image
 pub record MayBeTaken (lazy : Bool) (imports : ℕ) (tables : List DefinedTable) (s : ActiveElements) : Type 0 where
   pub lazy_tables : IsTrue lazy
   pub table : DefinedTable
   pub defined : imports ≤ s.table
   pub is_table : slice_get tables (s.table - imports) ≡ Some table
   pub functions : IsTrue table.functions
-  pub begins : (table.initial ≡ None) ⊎ IsImagedFromStart lazy table
+  pub keeps_none : kept_initial lazy table ≡ None
   pub place : ℕ
   pub constant : constant_place s.offset ≡ Some place
   pub items : AreCells s.items
@@ -93,43 +95,36 @@ end_on table [] = 0
 end_on table (s ∷ ss) = if s.table == table then max (elements_end s) (end_on table ss) else end_on table ss
 
 -- the length of an image: the whole of a table that is imaged from the start, or up to the greatest end of the taken segments on it
-abbrev pub HasLength : Bool → List ActiveElements → ℕ → DefinedTable → ℕ → Type 0
-HasLength lazy taken table t n = (IsImagedFromStart lazy t × (n ≡ t.minimum)) ⊎ ((t.initial ≡ None) × (n ≡ end_on table taken))
+abbrev pub image_length : Bool → List ActiveElements → ℕ → DefinedTable → ℕ
+image_length lazy taken table t = if is_imaged_from_start lazy t then t.minimum else end_on table taken
 
 -- the image of a table: what the taken segments leave over the function of the initialiser, or over null
 pub record IsTableImage (lazy : Bool) (taken : List ActiveElements) (table : ℕ) (t : DefinedTable) (image : List (Option ℕ)) : Type 0 where
-  pub has_length : HasLength lazy taken table t (length image)
+  pub reach : length image ≡ image_length lazy taken table t
   pub cells : (place : ℕ) → place < length image
       → slice_get image place ≡ Some (last_item table place (initial_function t.initial) (map image_piece taken))
 
 -- ---- a plan
 
--- what the cells of a table hold at first: an image, and null past its end, or the value of an expression
-pub data InitialCells : Type 0 where
-  Image : (image : List (Option ℕ)) → InitialCells
-  Initial : (expression : Expression) → InitialCells
-
+-- what the cells of a table hold at first: the value of the initialiser that it keeps, or else its image, and null past the image's end
 pub record PlannedTable : Type 0 where
   pub minimum : ℕ
-  pub initial : InitialCells
+  pub initial : Option Expression
+  pub image : List (Option ℕ)
 
 -- what a plan says of the defined tables, and the element segments that it keeps to be written
 pub record TablePlan : Type 0 where
   pub tables : List PlannedTable
   pub segments : List ActiveElements
 
--- a table has its image, or keeps its initialiser
-abbrev pub IsInitial : Bool → List ActiveElements → ℕ → DefinedTable → InitialCells → Type 0
-IsInitial lazy taken table t (Image image) = IsTableImage lazy taken table t image
-IsInitial lazy taken table t (Initial e) = (t.initial ≡ Some e) × (IsImagedFromStart lazy t → ⊥)
-
 -- the plan of the tables and active element segments of a module with so many imported tables
 pub record IsTablePlan (lazy : Bool) (imports : ℕ) (tables : List DefinedTable) (active : List ActiveElements) (plan : TablePlan) : Type 0 where
   pub taken : List ActiveElements
   pub prefix : TakesPrefix lazy imports tables active taken plan.segments
   pub minimums : map (λ t. t.minimum) plan.tables ≡ map (λ t. t.minimum) tables
-  pub each : (i : ℕ) (t : DefinedTable) (planned : PlannedTable) → slice_get tables i ≡ Some t → slice_get plan.tables i ≡ Some planned
-      → IsInitial lazy taken (imports + i) t planned.initial
+  pub initials : map (λ t. t.initial) plan.tables ≡ map (kept_initial lazy) tables
+  pub images : (i : ℕ) (t : DefinedTable) (planned : PlannedTable) → slice_get tables i ≡ Some t → slice_get plan.tables i ≡ Some planned
+      → IsTableImage lazy taken (imports + i) t planned.image
 
 -- ---- the element phase of a plan
 
@@ -138,13 +133,13 @@ reference_of None = Ref Null
 reference_of (Some index) = Ref (Func index)
 
 module _ (globals : List Value) (fields : ℕ → ℕ) where
-  abbrev pub planned_cell : InitialCells → ℕ → Value
-  planned_cell (Image image) place = reference_of (unwrap_or (slice_get image place) None)
-  planned_cell (Initial e) place = cell_of globals fields e
+  abbrev pub planned_cell : Option Expression → List (Option ℕ) → ℕ → Value
+  planned_cell None image place = reference_of (unwrap_or (slice_get image place) None)
+  planned_cell (Some e) image place = cell_of globals fields e
 
   abbrev pub planned_first : Option PlannedTable → ℕ → Value
   planned_first None place = Ref Null
-  planned_first (Some t) place = planned_cell t.initial place
+  planned_first (Some t) place = planned_cell t.initial t.image place
 
   abbrev pub planned_elements_phase : List (List Value) → TablePlan → Phase Value
   planned_elements_phase imported plan = record {

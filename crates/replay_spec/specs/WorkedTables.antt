@@ -6,7 +6,7 @@ use Rattle.wasm_spec.specs.declared.types.HeapType.TheVariants.{Abstract}
 use Rattle.wasm_spec.specs.Module.{Expression, Functions, Expressions}
 use Rattle.replay_spec.specs.Values.{I32}
 use Rattle.replay_spec.specs.Elements.{ActiveElements, DefinedTable}
-use Rattle.replay_spec.specs.Tables.{Image, TablePlan}
+use Rattle.replay_spec.specs.Tables.{TablePlan}
 use Rattle.replay_spec.specs.Globals.{GlobalPlan}
 
 -- a table of four cells without an initialiser
@@ -39,7 +39,7 @@ from_a_global = expressions_at (pos 0) ((GlobalGet 0 ∷ []) ∷ [])
 
 -- an image alone
 abbrev pub imaged : List (Option ℕ) → TablePlan
-imaged image = record { tables = record { minimum = 4; initial = Image image } ∷ []; segments = [] }
+imaged image = record { tables = record { minimum = 4; initial = None; image = image } ∷ []; segments = [] }
 
 -- two functions that fit, two that pass the end of the table, and one that would fit again
 abbrev pub second_traps : List ActiveElements
@@ -48,7 +48,7 @@ second_traps = functions_at (pos 1) (5 ∷ 6 ∷ []) ∷ functions_at (pos 3) (7
 -- the plan of these: an image of the first, and the others
 abbrev pub first_imaged : TablePlan
 first_imaged = record {
-  tables = record { minimum = 4; initial = Image (None ∷ Some 5 ∷ Some 6 ∷ []) } ∷ [];
+  tables = record { minimum = 4; initial = None; image = None ∷ Some 5 ∷ Some 6 ∷ [] } ∷ [];
   segments = functions_at (pos 3) (7 ∷ 8 ∷ []) ∷ functions_at (pos 0) (4 ∷ []) ∷ [];
 }
 
