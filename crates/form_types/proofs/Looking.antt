@@ -1,0 +1,1 @@
+-- Types looked up by ids.
