@@ -5,3 +5,6 @@ pub mod Along
 pub mod Exceptions
 pub mod Shows
 pub mod Elements
+pub mod Parts
+pub mod Places
+pub mod Indexing

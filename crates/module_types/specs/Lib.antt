@@ -4,3 +4,4 @@ pub mod Held
 pub mod Orderly
 pub mod Interner
 pub mod Builder
+pub mod Conversion

@@ -3,6 +3,7 @@
 
 mod builder;
 mod error;
+mod group_converter;
 mod interner;
 mod iterators;
 mod list;

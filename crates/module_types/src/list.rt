@@ -1,9 +1,10 @@
 //! The list of a module's interned types.
 
-ghost use Rattle.std.specs.Prelude.{◌≡◌, ◌<◌, ◌+◌, ◌-◌, length, slice_get, Some, None, IfOk, OnOk, OnErr, IsSome};
+ghost use Rattle.std.specs.Prelude.{◌≡◌, ◌<◌, ◌+◌, ◌-◌, length, map, slice_get, Some, None, IfOk, OnOk, OnErr, IsSome};
 ghost use Rattle.std.specs.Option.{option_copied, option_map};
 ghost use Rattle.entity_map.specs.Keyed.{keyed};
 ghost use Rattle.wasm_index.specs.Index.{number_of, index_of};
+ghost use Rattle.module_types.specs.Views.{span_of};
 ghost use Rattle.module_types.specs.TypeList.{no_types, with_type, with_types, with_range, called_by, trampoline_at, elements_of, called_from};
 
 use crate::iterators::{RecGroupElements, RecGroups, TrampolineTypes};
@@ -86,6 +87,15 @@ impl ModuleTypes {
             next: range.start.as_u32(),
             end: range.end.as_u32(),
         }
+    }
+
+    // The numbers of the first index of a group, and of the index after its last.
+    pub(crate) fn ends_of(&self, rec_group: ModuleInternedRecGroupIndex) -> (u32, u32)
+        requires { number_of rec_group < length self.now.groups }
+        ensures { slice_get (map span_of self.now.groups) (number_of rec_group) ≡ Some (record { start = result.0; end = result.1 }) }
+    {
+        let range = &self.rec_groups[rec_group];
+        (range.start.as_u32(), range.end.as_u32())
     }
 
     /// How many types there are.
