@@ -2,6 +2,7 @@
 #![tactic(auto)]
 
 mod elements;
+mod members;
 mod numbering;
 mod validator;
 

@@ -1,6 +1,7 @@
 -- The interned list of a module: each group of types (core specification, 2.3, recursive types) once with its trampolines, then the
 -- exception types and the startup type.
 use Rattle.std.specs.Prelude.{ℕ, zero, suc, ◌+◌, ◌-◌, get_or, Bool, true, false, nat_lt, List, [], ◌∷◌, ◌++◌, length, map, take, drop, replicate, set, Option, Some, None, if◌then◌else◌}
+use Rattle.std.specs.List.{range_with_len}
 use Rattle.wasm_spec.specs.declared.types.AbstractHeapType.{AbstractHeapType}
 use Rattle.wasm_spec.specs.declared.types.AbstractHeapType.TheVariants as heap
 use Rattle.wasm_spec.specs.TypeData.{Heap, Concrete, Abstract, Value, Ref, Val, Field, Function, Composite, Func, Array, Struct, Cont, Exn, SubType, Group, map_function, map_group}
@@ -142,11 +143,6 @@ kind_at ([] ∷ gs) i = kind_at gs i
 kind_at ((t ∷ ts) ∷ gs) zero = kind_of_type t.composite.inner
 kind_at ((t ∷ ts) ∷ gs) (suc i) = kind_at (ts ∷ gs) i
 
--- consecutive indices
-abbrev pub row : ℕ → ℕ → List ℕ
-row first zero = []
-row first (suc n) = first ∷ row (suc first) n
-
 -- what was built, and the interned index of each declared type
 pub record Taken : Type 0 where
   pub built : Built
@@ -177,7 +173,7 @@ module _ (all : List (Group ℕ ℕ)) where
       let first = length b.built.types in
       record {
         built = with_group b.built (interned_group b.declared start first g);
-        declared = b.declared ++ row first (length g);
+        declared = b.declared ++ range_with_len first (length g);
       }
 
   -- groups in order; an empty one is left out
