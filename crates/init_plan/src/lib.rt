@@ -4,6 +4,7 @@
 mod error;
 mod memory_init;
 mod runtime_data;
+mod startup;
 mod translation;
 
 pub use error::PlanError;
