@@ -1,10 +1,10 @@
 -- The extent and the number of laid bytes are those of their segments.
-use Rattle.std.proofs.Common.{◌≡◌, ℕ, suc, ◌+◌, ◌-◌, ◌*◌, ◌^◌, ◌<◌, ◌≤◌, List, [], ◌∷◌, length, sum_by, fold, min, max, All, ◌⊎◌, inl, inr, refl, ap, arith}
+use Rattle.std.proofs.Common.{◌≡◌, ℕ, ◌-◌, ◌*◌, ◌^◌, ◌<◌, ◌≤◌, List, [], ◌∷◌, length, sum_by, fold, min, max, All, ◌⊎◌, inl, inr, refl, ap, arith}
 use Rattle.std.specs.List.{AllZip}
 use Rattle.std.proofs.Math.Logic.{⊎_elim}
 use Rattle.std.proofs.lemmas.List.Sums.{sum_by-cons}
 use Rattle.replay_spec.specs.Data.{ActiveSegment}
-use Rattle.replay_spec.specs.Images.{start_of, end_of, least_start, greatest_end, extent, data_size, IsDense}
+use Rattle.replay_spec.specs.Images.{start_of, least_start, greatest_end, extent, data_size, IsDense}
 use Rattle.memory_images.specs.declared.laid.Laid.{Laid}
 use Rattle.memory_images.specs.Contents.{end_of as laid_end}
 use Rattle.memory_images.specs.Layout.{IsLaidFrom}

@@ -1,5 +1,5 @@
 -- What is laid into a memory ends within it.
-use Rattle.std.proofs.Common.{◌≡◌, ◌≢◌, ℕ, zero, suc, ◌+◌, ◌-◌, ◌*◌, ◌^◌, ◌<◌, ◌≤◌, Bool, true, false, List, [], ◌∷◌, length, get_or, map, All, Some, refl, sym, ◌∙◌, ap, subst, arith}
+use Rattle.std.proofs.Common.{◌≡◌, ◌≢◌, ℕ, zero, suc, ◌+◌, ◌-◌, ◌*◌, ◌^◌, ◌<◌, ◌≤◌, Bool, true, false, List, [], ◌∷◌, length, get_or, All, Some, refl, sym, ◌∙◌, ap, subst, arith}
 use Rattle.std.specs.Prelude.{slice_get, nat_lt, ◌==◌, ◌&&◌}
 use Rattle.std.specs.Global.{Vec}
 use Rattle.std.specs.List.{AllZip, filter}
@@ -8,7 +8,7 @@ use Rattle.std.proofs.Math.Logic.{⊎_elim}
 use Rattle.std.proofs.lemmas.Bool.{and_parts, eqb-true, cases_eq}
 use Rattle.std.proofs.lemmas.Option.{slice_get-get_or, none-some, same_Some}
 use Rattle.replay_spec.specs.Data.{ActiveSegment}
-use Rattle.replay_spec.specs.Images.{ImageOptions, ImageMemory, size_of, IsPlaced, bytes_on, start_of, end_of, MayBeImage, IsStatic}
+use Rattle.replay_spec.specs.Images.{ImageOptions, ImageMemory, size_of, IsPlaced, bytes_on, MayBeImage, IsStatic}
 use Rattle.replay_spec.proofs.Placed.{all-at, start-placed}
 use Rattle.replay_spec.proofs.Joined.{whole_pages, Stands}
 use Rattle.memory_images.specs.declared.laid.Laid.{Laid}

@@ -1,11 +1,10 @@
 -- Where a segment of the code is placed.
-use Rattle.std.proofs.Common.{◌≡◌, ℕ, ◌+◌, ◌-◌, ◌^◌, ◌<◌, ◌≤◌, List, length, map, Option, None, Some, refl, sym, ◌∙◌, ap, arith}
+use Rattle.std.proofs.Common.{◌≡◌, ℕ, ◌+◌, ◌-◌, ◌^◌, ◌<◌, ◌≤◌, List, length, Option, None, Some, refl, sym, ◌∙◌, ap, arith}
 use Rattle.std.specs.Prelude.{slice_get}
 use Rattle.std.specs.Option.{option_map}
 use Rattle.std.proofs.lemmas.Option.{slice_get-map, none-some, same_Some}
 use Rattle.replay_spec.specs.Values.{const_value}
-use Rattle.replay_spec.specs.Images.{ImageMemory, size_of, index_of, index_of_constant, IsPlaced, start_of}
-use Rattle.replay_spec.proofs.Placed.{start-placed}
+use Rattle.replay_spec.specs.Images.{ImageMemory, size_of, index_of, index_of_constant, IsPlaced}
 use Rattle.memory_images.specs.declared.segment.Active.{Active}
 use Rattle.memory_images.specs.declared.segment.Memory.{Memory}
 use Rattle.memory_images.specs.declared.segment.Constant.{Constant}

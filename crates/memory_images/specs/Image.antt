@@ -1,5 +1,5 @@
 -- The span of the bytes that are not zero, and bytes that fill it.
-use Rattle.std.specs.Prelude.{◌≡◌, ◌≢◌, ℕ, ◌+◌, ◌*◌, ◌/◌, ◌<◌, List, length, slice_index, Option, Some, None, max, ◌≤◌}
+use Rattle.std.specs.Prelude.{◌≡◌, ℕ, ◌+◌, ◌*◌, ◌/◌, ◌<◌, List, length, slice_index, Option, Some, None, max, ◌≤◌}
 use Rattle.replay_spec.specs.Images.{IsFirst, IsLast}
 use Rattle.memory_images.specs.declared.laid.Laid.{Laid}
 use Rattle.memory_images.specs.Contents.{end_of, byte_in}

@@ -1,5 +1,5 @@
 -- The images of memories, and how large they are.
-use Rattle.std.specs.Prelude.{◌≡◌, ◌≢◌, ℕ, ◌+◌, ◌-◌, ◌*◌, ◌^◌, ◌<◌, ◌≤◌, List, length, map, sum_by, Option, Some, None, All, IfSome}
+use Rattle.std.specs.Prelude.{◌≡◌, ℕ, ◌+◌, ◌-◌, ◌^◌, ◌<◌, ◌≤◌, List, map, sum_by, Option, Some, None, All, IfSome}
 use Rattle.std.specs.Global.{Vec}
 use Rattle.std.specs.List.{AllZip}
 use Rattle.memory_images.specs.declared.laid.Laid.{Laid}

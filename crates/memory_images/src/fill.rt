@@ -6,8 +6,8 @@ ghost use Rattle.memory_images.specs.Image.{Filled, Lays};
 
 use crate::laid::Laid;
 use crate::span::Span;
-use std::alloc::Global;
 use entity_map::OutOfMemory;
+use std::alloc::Global;
 
 /// The contents of a span, in a list of exactly its length.
 pub fn filled(alloc: Global, parts: &[Laid<'_>], span: Span) -> Result<Vec<u8>, OutOfMemory>

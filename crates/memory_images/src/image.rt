@@ -12,8 +12,8 @@ use crate::fill::filled;
 use crate::laid::Laid;
 use crate::parts::parts_of;
 use crate::span::{Span, span_of};
-use std::alloc::Global;
 use entity_map::OutOfMemory;
+use std::alloc::Global;
 
 /// The bytes of a memory from the place `start` on.
 #[derive(Debug, Drop)]

@@ -4,9 +4,9 @@ ghost use Rattle.std.specs.Prelude.{◌≡◌, ℕ, ◌<◌, ◌≤◌, ◌^◌,
 ghost use Rattle.memory_images.specs.Contents.{contents_of, end_of, AreInOrder, IsOwned, IsCut, pair_of};
 
 use crate::laid::Laid;
-use std::alloc::Global;
 use crate::written::{Written, written_ranges};
 use entity_map::OutOfMemory;
+use std::alloc::Global;
 
 /// The same contents, from low places to high ones, where each place is laid once.
 pub fn parts_of<'d>(alloc: Global, laid: &[Laid<'d>]) -> Result<Vec<Laid<'d>>, OutOfMemory>

@@ -5,8 +5,8 @@ ghost use Rattle.std.specs.Ordering.{nat_cmp};
 ghost use Rattle.std.specs.BTreeMap.{get};
 ghost use Rattle.memory_images.specs.Gaps.{IsLastBelow, Cuts, Claims};
 
-use entity_map::OutOfMemory;
 use crate::written::Written;
+use entity_map::OutOfMemory;
 use std::collections::BTreeMap;
 
 /// The last gap that begins below a place.

@@ -5,8 +5,8 @@ ghost use Rattle.std.specs.Ordering.{nat_cmp};
 ghost use Rattle.std.specs.BTreeMap.{values, IsOrdered};
 ghost use Rattle.memory_images.specs.Ranges.{segment_at, last_cover, IsBefore};
 
-use entity_map::OutOfMemory;
 use crate::uncovered::claim;
+use entity_map::OutOfMemory;
 use std::alloc::Global;
 use std::collections::BTreeMap;
 

@@ -1,8 +1,8 @@
-use Rattle.std.proofs.Common.{◌≡◌, length, sum_by, arith}
+use Rattle.std.proofs.Common.{arith}
 use Rattle.std.specs.Option.{option_map}
-use Rattle.replay_spec.specs.Images.{ImageOf, image_bytes}
+use Rattle.replay_spec.specs.Images.{ImageOf}
 use Rattle.memory_images.specs.Contents.{contents_of}
-use Rattle.memory_images.specs.Images.{image_of, images_of, span_size}
+use Rattle.memory_images.specs.Images.{image_of, images_of}
 use Rattle.memory_images.proofs.Memories.{all_ready, spans_of, are_spans, sum-spans, all_images, same-sums, zip-map}
 use Rattle.memory_images.proofs.image.images_of.Goals as goal
 

@@ -1,4 +1,4 @@
-use Rattle.std.proofs.Common.{◌≡◌, [], get_or, None, arith, refl, sym}
+use Rattle.std.proofs.Common.{[], get_or, None, arith, refl, sym}
 use Rattle.memory_images.specs.declared.segment.Active.{Active}
 use Rattle.replay_spec.specs.Images.{IsPlaced}
 use Rattle.memory_images.specs.Views.{memories_of, active_of}

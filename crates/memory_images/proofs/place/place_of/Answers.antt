@@ -1,4 +1,4 @@
-use Rattle.std.proofs.Common.{◌≡◌, ◌-◌, Some, sym, ◌∙◌, ap, rules}
+use Rattle.std.proofs.Common.{◌-◌, Some, sym, ◌∙◌, ap, rules}
 use Rattle.std.proofs.lemmas.Option.{slice_get-get_or}
 use Rattle.memory_images.proofs.Placing.{placed, past-end}
 use Rattle.memory_images.proofs.place.place_of.Goals as goal

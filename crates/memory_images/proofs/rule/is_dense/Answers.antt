@@ -1,8 +1,8 @@
-use Rattle.std.proofs.Common.{◌≡◌, ◌-◌, ◌*◌, ◌<◌, take, length, inl, inr, ◌∙◌, arith}
+use Rattle.std.proofs.Common.{◌*◌, ◌<◌, inl, inr, arith}
 use Rattle.std.proofs.Math.Logic.{⊎_elim}
 use Rattle.std.proofs.lemmas.Bool.{lt-ltb, ltb-true}
 use Rattle.std.proofs.lemmas.List.{take_all}
-use Rattle.memory_images.proofs.Dense.{low_of, high_of, data_of, dense}
+use Rattle.memory_images.proofs.Dense.{dense}
 use Rattle.memory_images.proofs.rule.is_dense.Goals as goal
 
 pub returns-then-from-count : goal.returns-then-from-count

@@ -1,4 +1,4 @@
-use Rattle.std.proofs.Common.{◌≡◌, ◌<◌, ◌≤◌, length, arith, rules}
+use Rattle.std.proofs.Common.{◌<◌, length, arith, rules}
 use Rattle.std.proofs.lemmas.Bool.{leb-true}
 use Rattle.memory_images.specs.Layout.{IsLaidFrom}
 use Rattle.memory_images.proofs.Inside.{some-zip}

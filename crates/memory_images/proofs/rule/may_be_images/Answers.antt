@@ -1,11 +1,10 @@
-use Rattle.std.proofs.Common.{◌≡◌, ◌≢◌, ◌+◌, List, [], get_or, map, false, true, Some, sym, ◌∙◌, ap, refl, arith, length}
+use Rattle.std.proofs.Common.{◌≡◌, ◌+◌, get_or, map, false, Some, ◌∙◌, ap, refl, arith}
 use Rattle.std.specs.Prelude.{slice_get}
 use Rattle.std.specs.List.{AllZip}
 use Rattle.std.specs.Option.{option_map}
 use Rattle.std.proofs.lemmas.Bool.{false≢true}
 use Rattle.std.proofs.lemmas.List.{length-map}
 use Rattle.std.proofs.lemmas.Option.{slice_get-map, slice_get-get_or, slice_get_read, slice_get_within}
-use Rattle.replay_spec.specs.Data.{ActiveSegment}
 use Rattle.replay_spec.specs.Images.{bytes_on}
 use Rattle.memory_images.specs.declared.segment.Memory.{Memory}
 use Rattle.memory_images.specs.Views.{memory_of, memories_of, active_of, options_of}
