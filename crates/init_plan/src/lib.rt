@@ -7,5 +7,7 @@ mod runtime_data;
 mod translation;
 
 pub use error::PlanError;
-pub use translation::{MemoryInit, MemorySegmentOffset, ModuleTranslation, RuntimeBytes};
+pub use translation::{
+    FunctionBodyData, MemoryInit, MemorySegmentOffset, ModuleTranslation, RuntimeBytes,
+};
 pub use wasm_module::{MemoryInitialization, MemoryInitializer, Module};

@@ -9,3 +9,8 @@ pub mod Joined
 pub mod Tight
 pub mod One
 pub mod WorkedImages
+pub mod TablesJoined
+pub mod Taken
+pub mod GlobalsKnown
+pub mod GlobalsTyped
+pub mod TablesWorked
