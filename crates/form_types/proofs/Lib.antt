@@ -1,2 +1,5 @@
 mod Counting
 mod Looking
+mod Adding
+mod Decoding
+mod FormLaws

@@ -1,6 +1,8 @@
 //! The types of a module by ids: equal types have one id.
 #![tactic(auto)]
 
+mod canonical;
+mod codes;
 mod elements;
 mod numbering;
 mod validator;
