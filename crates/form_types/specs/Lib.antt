@@ -1,5 +1,6 @@
 pub mod Ids
 pub mod Seen
+pub mod Groups
 pub mod Types
 pub mod Kept
 pub mod Placed

@@ -26,3 +26,7 @@ id_at declared place = Id (id_of (slice_index declared place))
 -- the group, in which each reference is the id of what it names
 abbrev pub named : List ℕ → Group ℕ ℕ → NamedGroup
 named declared g = map_group (id_at declared) (id_at declared) g
+
+-- what an index names, by its id
+abbrev pub named_index : List ℕ → UnpackedIndex → UnpackedIndex
+named_index declared index = id_at declared (place_of index)

@@ -4,6 +4,8 @@
 mod canonical;
 mod codes;
 mod elements;
+mod groups;
+mod named;
 mod numbering;
 mod validator;
 
