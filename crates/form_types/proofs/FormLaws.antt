@@ -5,16 +5,20 @@ use Rattle.std.proofs.lemmas.Bool.{eqb-true, eq-eqb}
 use Rattle.wasm_spec.specs.declared.types.UnpackedIndex.{UnpackedIndex}
 use Rattle.wasm_spec.specs.declared.types.UnpackedIndex.TheVariants.{Module, RecGroup, Id}
 use Rattle.wasm_spec.specs.contracts.types.UnpackedIndexPartialEq.TheImpl as index
-use Rattle.wasm_spec.specs.TypeData.{Group, group_edges}
+use Rattle.std.specs.Prelude.{slice_index}
+use Rattle.wasm_spec.specs.TypeData.{Group, map_group, group_edges}
+use Rattle.form_types.specs.Types.{NamedGroup}
+use Rattle.form_types.specs.Placed.{place_of, placed}
 use Rattle.type_data.specs.Shapes.{erased}
 use Rattle.type_data.specs.TypeShapes.{group_shape}
 use Rattle.type_data.specs.Names.{plainly}
-use Rattle.type_spec.specs.Equality.{Target, Inside, Earlier}
+use Rattle.type_data.specs.ListLaws.{map-twice}
+use Rattle.type_spec.specs.Equality.{Target, Inside, Earlier, target, canonical}
 use Rattle.form_types.specs.declared.canonical.CanonicalGroup.{CanonicalGroup}
 use Rattle.form_types.specs.contracts.canonical.CanonicalGroupPartialEq.TheImpl as group
 use Rattle.form_types.specs.Ids.{id_of}
 use Rattle.form_types.specs.Codes.{group_codes}
-use Rattle.form_types.specs.Forms.{Form, index_of, form, form_of}
+use Rattle.form_types.specs.Forms.{Form, index_of, canonical_index, targets, form, form_of}
 use Rattle.form_types.proofs.Decoding.{group-mapped, group-told}
 
 -- ---- equal forms are those of one group
@@ -99,3 +103,18 @@ key-same a b same =
     both-and (pointwise nat_eq a.frame.items b.frame.items) (pointwise index.ghosts.eq a.references.items b.references.items)
     (ap (λ (f : Form). pointwise nat_eq a.frame.items f.codes) (sym same) ∙ list-same nat_eq nat-same a.frame.items)
     (ap (λ (f : Form). pointwise index.ghosts.eq a.references.items f.references) (sym same) ∙ list-same index.ghosts.eq unpacked-same a.references.items)
+
+-- ---- what is made is the form
+
+pub form-made : (ids : List ℕ) (start : ℕ) (g : NamedGroup)
+    → record { codes = group_codes g; references = targets ids start (group_edges (λ i. i) g) }
+    ≡ form (canonical (slice_index ids) (record { start = start; members = placed g }))
+form-made ids start g =
+    let t : ℕ → Target ℕ = target (slice_index ids) start in
+    let codes : group_codes g ≡ group_codes (map_group t t (placed g)) = sym (group-mapped t t (placed g) ∙ group-mapped place_of place_of g) in
+    let edges : group_edges (λ r. r) (map_group t t (placed g)) ≡ map t (map place_of (group_edges (λ i. i) g)) =
+    (plainly group_shape).edges_map t (placed g) ∙ ap (map t) ((plainly group_shape).edges_map place_of g) in
+    let references : targets ids start (group_edges (λ i. i) g) ≡ map index_of (group_edges (λ r. r) (map_group t t (placed g))) =
+    sym (ap (map index_of) (edges ∙ map-twice place_of t (λ i. t (place_of i)) (λ i. refl) (group_edges (λ i. i) g))
+    ∙ map-twice (λ i. t (place_of i)) index_of (canonical_index ids start) (λ i. refl) (group_edges (λ i. i) g)) in
+    λ k. record { codes = codes k; references = references k }

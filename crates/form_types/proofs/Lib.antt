@@ -3,3 +3,7 @@ mod Looking
 mod Adding
 mod Decoding
 mod FormLaws
+mod Steps
+mod Listing
+mod Rows
+mod Built

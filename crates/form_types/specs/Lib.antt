@@ -7,3 +7,6 @@ pub mod Placed
 pub mod Codes
 pub mod Forms
 pub mod Numbered
+pub mod Distinct
+pub mod Finding
+pub mod Adding

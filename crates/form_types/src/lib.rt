@@ -1,9 +1,12 @@
 //! The types of a module by ids: equal types have one id.
 #![tactic(auto)]
 
+mod building;
 mod canonical;
 mod codes;
+mod distinct;
 mod elements;
+mod finding;
 mod groups;
 mod named;
 mod numbering;
