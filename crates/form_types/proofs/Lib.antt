@@ -7,3 +7,5 @@ mod Steps
 mod Listing
 mod Rows
 mod Built
+mod Ruled
+mod Final

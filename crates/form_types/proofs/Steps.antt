@@ -50,7 +50,7 @@ all-zip : {A : Type 0} (P : A → Type 0) (Q : A → A → Type 0) → ((a : A) 
 all-zip P Q each [] all = tt
 all-zip P Q each (x ∷ xs) all = (each x (All-head P x xs all), all-zip P Q each xs (All-tail P x xs all))
 
-all-becomes : {A : Type 0} (P Q : A → Type 0) → ((a : A) → P a → Q a) → (xs : List A) → All P xs → All Q xs
+pub all-becomes : {A : Type 0} (P Q : A → Type 0) → ((a : A) → P a → Q a) → (xs : List A) → All P xs → All Q xs
 all-becomes P Q each [] all = All-nil Q
 all-becomes P Q each (x ∷ xs) all = All-cons Q x xs (each x (All-head P x xs all)) (all-becomes P Q each xs (All-tail P x xs all))
 
