@@ -1,27 +1,23 @@
 -- The groups of a module are numbered one by one.
-use Rattle.std.proofs.Common.{◌≡◌, ◌∙◌, ◌↔◌, ℕ, zero, suc, ◌+◌, ◌-◌, ◌^◌, ◌<◌, ◌≤◌, List, [], ◌∷◌, ◌++◌, length, get_or, take, map, Bool, true, false, cond, Option, Some, None, refl, sym, ap, subst, arith, length-append}
+use Rattle.std.proofs.Common.{◌≡◌, ◌∙◌, ◌↔◌, ℕ, ◌+◌, ◌-◌, ◌^◌, ◌<◌, List, [], ◌∷◌, ◌++◌, length, get_or, map, cond, Option, Some, None, refl, sym, ap, subst, arith, length-append}
 use Rattle.std.specs.Prelude.{slice_index}
-use Rattle.std.specs.List.{flat_map, range_with_len}
-use Rattle.std.proofs.lemmas.List.{length-map, map-append, append-nil, get_or_append_left, get_or-append-add}
+use Rattle.std.specs.List.{range_with_len}
+use Rattle.std.proofs.lemmas.List.{length-map, map-append, get_or_append_left, get_or-append-add}
 use Rattle.std.proofs.lemmas.List.FromFn.{get_or-range_with_len, length-range_with_len}
-use Rattle.wasm_spec.specs.declared.types.CoreTypeId.{CoreTypeId}
-use Rattle.wasm_spec.specs.declared.types.UnpackedIndex.TheVariants.{Id}
-use Rattle.wasm_spec.specs.TypeData.{SubType, Group, map_sub_type, map_group}
+use Rattle.wasm_spec.specs.TypeData.{Group, map_group}
 use Rattle.type_data.specs.TypeShapes.{group_shape}
 use Rattle.type_data.specs.Names.{plainly}
 use Rattle.type_spec.specs.Equality.{Home, home, canonical}
-use Rattle.type_spec.proofs.Homes.{joined, size, home-within, home-before, size-more}
-use Rattle.type_spec.proofs.Numbers.{place}
+use Rattle.type_spec.proofs.Homes.{size, home-before, size-more}
 use Rattle.form_data.specs.Views.{group_of}
 use Rattle.form_types.specs.declared.canonical.CanonicalGroup.{CanonicalGroup}
 use Rattle.form_types.specs.declared.building.Numbering.{Numbering}
 use Rattle.form_types.specs.contracts.canonical.CanonicalGroupPartialEq.TheImpl as group
-use Rattle.form_types.specs.Ids.{id_of}
 use Rattle.form_types.specs.Types.{NamedGroup, types_by_id}
 use Rattle.form_types.specs.Seen.{ids_of}
 use Rattle.form_types.specs.Placed.{place_of, placed, id_at, named_index}
 use Rattle.form_types.specs.Forms.{form, form_of}
-use Rattle.form_types.specs.Finding.{first_of, next_form}
+use Rattle.form_types.specs.Finding.{first_of}
 use Rattle.form_types.specs.Distinct.{IsListed}
 use Rattle.form_types.specs.Adding.{HasNone, HasFewIds, AddsMet, AddsNew, AddsBy, AddsGroup}
 use Rattle.form_types.proofs.FormLaws.{key-told, key-same}

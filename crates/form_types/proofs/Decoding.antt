@@ -5,10 +5,10 @@ use Rattle.std.specs.Option.{option_map}
 use Rattle.std.specs.List.{flat_map}
 use Rattle.std.proofs.lemmas.List.Folds.{flat_map-map}
 use Rattle.wasm_spec.specs.declared.types.AbstractHeapType.TheVariants as heap
-use Rattle.wasm_spec.specs.TypeData.{Heap, Concrete, Abstract, Reference, Value, I32, I64, F32, F64, V128, Ref, Storage, I8, I16, Val, Field, Function, Composite, Func, Array, Struct, Cont, Exn, SubType, Group, map_heap, map_reference, map_value, map_storage, map_field, map_function, map_composite, map_sub_type, map_group}
+use Rattle.wasm_spec.specs.TypeData.{Heap, Concrete, Abstract, Value, I32, I64, F32, F64, V128, Ref, Storage, I8, I16, Val, Field, Function, Composite, Func, Array, Struct, Cont, Exn, SubType, Group, map_heap, map_value, map_storage, map_field, map_composite, map_sub_type, map_group}
 use Rattle.type_data.specs.ListLaws.{map-twice}
 use Rattle.type_spec.specs.Same.{Gap}
-use Rattle.form_types.specs.Codes.{flag, ended, heap_code, reference_code, value_code, storage_code, field_codes, function_codes, fields_codes, composite_codes, sub_type_codes, group_codes}
+use Rattle.form_types.specs.Codes.{flag, ended, heap_code, value_code, storage_code, field_codes, function_codes, fields_codes, composite_codes, sub_type_codes, group_codes}
 
 -- ---- codes do not depend on references
 module _ {H H' : Type 0} (h : H → H') where
@@ -239,12 +239,12 @@ supertype-told (Some x) None same = let off : true ≡ false = same in cc
 sub_type-told : (x y : SubType Gap Gap) (r s : List ℕ) → sub_type_codes x ++ r ≡ sub_type_codes y ++ s → (x ≡ y) × (r ≡ s)
 sub_type-told x y r s same =
     let final = first-of (flag x.is_final) (flag y.is_final)
-        (flag (is_some x.supertype) ∷ flag x.composite.shared ∷ (composite_codes x.composite.inner ++ r))
-        (flag (is_some y.supertype) ∷ flag y.composite.shared ∷ (composite_codes y.composite.inner ++ s)) same in
+    (flag (is_some x.supertype) ∷ flag x.composite.shared ∷ (composite_codes x.composite.inner ++ r))
+    (flag (is_some y.supertype) ∷ flag y.composite.shared ∷ (composite_codes y.composite.inner ++ s)) same in
     let super = first-of (flag (is_some x.supertype)) (flag (is_some y.supertype))
-        (flag x.composite.shared ∷ (composite_codes x.composite.inner ++ r)) (flag y.composite.shared ∷ (composite_codes y.composite.inner ++ s)) final.1 in
+    (flag x.composite.shared ∷ (composite_codes x.composite.inner ++ r)) (flag y.composite.shared ∷ (composite_codes y.composite.inner ++ s)) final.1 in
     let shared = first-of (flag x.composite.shared) (flag y.composite.shared)
-        (composite_codes x.composite.inner ++ r) (composite_codes y.composite.inner ++ s) super.1 in
+    (composite_codes x.composite.inner ++ r) (composite_codes y.composite.inner ++ s) super.1 in
     let inner = composite-told x.composite.inner y.composite.inner r s shared.1 in
     let a = flag-told x.is_final y.is_final final.0 in
     let b = supertype-told x.supertype y.supertype (flag-told (is_some x.supertype) (is_some y.supertype) super.0) in

@@ -1,8 +1,8 @@
 -- What is numbered at the end is what the module's types are.
-use Rattle.std.proofs.Common.{true, false, ◌≡◌, ◌∙◌, ◌↔◌, ℕ, zero, suc, ◌+◌, ◌-◌, ◌^◌, ◌<◌, ◌≤◌, List, [], ◌∷◌, ◌++◌, length, get_or, take, map, Option, Some, None, refl, sym, ap, subst, arith}
+use Rattle.std.proofs.Common.{true, false, ◌≡◌, ◌∙◌, ℕ, ◌+◌, ◌-◌, ◌^◌, ◌<◌, ◌≤◌, List, [], length, get_or, map, Option, Some, None, refl, sym, ap, subst, arith}
 use Rattle.std.specs.Prelude.{IsSomeAnd, slice_index, slice_get}
 use Rattle.std.specs.Option.{option_map}
-use Rattle.std.specs.List.{flat_map, All}
+use Rattle.std.specs.List.{All}
 use Rattle.std.proofs.lemmas.List.{length-map, get_or-map}
 use Rattle.std.proofs.lemmas.List.Concat.{get_or-flat_map}
 use Rattle.std.proofs.lemmas.List.Elements.{All-get_or, All-from_get_or}
@@ -13,22 +13,19 @@ use Rattle.wasm_spec.specs.TypeData.{SubType, Group, Composite, Func, Array, Str
 use Rattle.wasm_spec.specs.Module as plain
 use Rattle.wasm_spec.specs.Sizes.{CompositeHasShortLists, HasShortLists, HasShortTypes}
 use Rattle.type_data.specs.TypeShapes.{sub_type_shape}
-use Rattle.type_spec.specs.Equality.{Home, home, canonical}
-use Rattle.type_spec.proofs.Homes.{joined, size, home-within, home-again, home-type}
+use Rattle.type_spec.specs.Equality.{Home, home}
+use Rattle.type_spec.proofs.Homes.{size, home-within, home-again, home-type}
 use Rattle.type_spec.proofs.Numbers.{place, exact}
 use Rattle.rule_spec.specs.Lists.{Declared, declared_groups, lists_of_module, kind_at}
 use Rattle.rule_spec.specs.TypeRules.{IsFunction, NamesFunctionType, IndexNamesFunctionType, IsDeclaredWell}
 use Rattle.rule_spec.specs.TypeRules as rule
 use Rattle.form_data.specs.Views.{group_of}
 use Rattle.form_types.specs.declared.building.Numbering.{Numbering}
-use Rattle.form_types.specs.Ids.{id_of}
 use Rattle.form_types.specs.Types.{NamedGroup, TypesData, types_by_id, NamesFunction, CompositeContinues, ContinuesFunction, IsSound}
 use Rattle.form_types.specs.Seen.{ids_of}
-use Rattle.form_types.specs.Placed.{place_of, placed, id_at, named, named_index}
-use Rattle.form_types.specs.Numbered.{first_id, Stands, AreNumbered}
-use Rattle.form_types.specs.Forms.{form_of}
-use Rattle.form_types.specs.Finding.{first_of}
-use Rattle.form_types.proofs.Steps.{NearIn, IsNumbered, Stood, by_ids, renamed-is}
+use Rattle.form_types.specs.Placed.{place_of, id_at, named_index}
+use Rattle.form_types.specs.Numbered.{Stands, AreNumbered}
+use Rattle.form_types.proofs.Steps.{renamed-is}
 use Rattle.form_types.proofs.Built.{places, Built}
 use Rattle.form_types.proofs.Ruled.{declared-types, places-joined, size-places}
 
@@ -137,10 +134,10 @@ module _ (m : plain.Module) (n : Numbering) (b : Built (plain.groups m) n) (vali
         two (slice_get declared r)
         ∙ ap (option_map (λ (x : SubType UnpackedIndex UnpackedIndex). x.composite.inner))
         (sym (slice_get-map (λ (d : Declared). d.type) declared r) ∙ ap (λ l. slice_get l r) (declared-types 0 (plain.groups m))) where
-      two : (o : Option Declared) → option_map (λ (d : Declared). d.type.composite.inner) o
-          ≡ option_map (λ (x : SubType UnpackedIndex UnpackedIndex). x.composite.inner) (option_map (λ (d : Declared). d.type) o)
-      two None = refl
-      two (Some d) = refl
+          two : (o : Option Declared) → option_map (λ (d : Declared). d.type.composite.inner) o
+              ≡ option_map (λ (x : SubType UnpackedIndex UnpackedIndex). x.composite.inner) (option_map (λ (d : Declared). d.type) o)
+          two None = refl
+          two (Some d) = refl
 
     by : (o : Option (SubType UnpackedIndex UnpackedIndex)) → slice_get (plain.types m) r ≡ o
         → IsSomeAnd (option_map (λ (x : SubType UnpackedIndex UnpackedIndex). x.composite.inner) o) IsFunction → NamesFunction known (id_at ids r)

@@ -1,5 +1,5 @@
 -- One group more is numbered.
-use Rattle.std.proofs.Common.{◌≡◌, ◌≢◌, ◌∙◌, ◌↔◌, ℕ, zero, suc, ◌+◌, ◌-◌, ◌<◌, ◌≤◌, List, [], ◌∷◌, ◌++◌, length, get_or, take, map, Bool, true, false, cond, nat_le, Option, Some, None, refl, sym, ap, subst, arith, ◌⊎◌, inl, inr, length-append}
+use Rattle.std.proofs.Common.{◌≡◌, ◌∙◌, ◌↔◌, ℕ, ◌+◌, ◌-◌, ◌<◌, ◌≤◌, List, [], ◌∷◌, ◌++◌, length, get_or, map, Bool, true, false, cond, nat_le, Option, Some, None, refl, sym, ap, subst, arith, ◌⊎◌, inl, inr, length-append}
 use Rattle.std.specs.List.{AllZip, All}
 use Rattle.std.proofs.lemmas.Bool.{ltb-true, ltb-false, leb-true, leb-false}
 use Rattle.std.proofs.lemmas.List.{length-map, append-nil, get_or_append_left, take-append-le}
@@ -11,9 +11,9 @@ use Rattle.wasm_spec.specs.declared.types.UnpackedIndex.{UnpackedIndex}
 use Rattle.wasm_spec.specs.declared.types.UnpackedIndex.TheVariants.{Id}
 use Rattle.wasm_spec.specs.TypeData.{Group, map_group, group_edges}
 use Rattle.type_data.specs.TypeShapes.{group_shape}
-use Rattle.type_data.specs.Names.{plainly, Alike, alike-mapped}
+use Rattle.type_data.specs.Names.{plainly, alike-mapped}
 use Rattle.type_spec.specs.Equality.{Target, Inside, Earlier, target, target_by, Home, home, canonical}
-use Rattle.type_spec.proofs.Homes.{size, Within, Holds, home-within, home-again, home-before, home-last, size-more}
+use Rattle.type_spec.proofs.Homes.{size, home-within, home-again, home-before, home-last, size-more}
 use Rattle.type_spec.proofs.Numbers.{place, TellApart}
 use Rattle.form_types.specs.Ids.{id_of}
 use Rattle.form_types.specs.Types.{NamedGroup, types_by_id, IsIdBelow, NameEarlier}
@@ -65,9 +65,9 @@ renamed-is number first g P row all =
           (λ r p. by r p (nat_le g.start r) refl) (group_edges (λ r. r) g.members) all;
     })
     ∙ sym ((plainly group_shape).map_twice (target number g.start) (resolved first) g.members) where
-  by : (r : ℕ) → P r → (b : Bool) → nat_le g.start r ≡ b → Id (id_of (number r)) ≡ resolved first (target_by b (r - g.start) (number r))
-  by r p true e = ap (λ n. Id (id_of n)) (row r p (leb-true g.start r e))
-  by r p false e = refl
+      by : (r : ℕ) → P r → (b : Bool) → nat_le g.start r ≡ b → Id (id_of (number r)) ≡ resolved first (target_by b (r - g.start) (number r))
+      by r p true e = ap (λ n. Id (id_of n)) (row r p (leb-true g.start r e))
+      by r p false e = refl
 
 -- ---- what is known of the first groups
 
@@ -178,9 +178,10 @@ module _ {K : Type 0} (view : K → Form) where
     cross-old : (first : ℕ) → get key ≡ Some first → Crosses first
     cross-old first e i p h k =
         let f = met-at first e p k in
-        let told = st.tells i f.other h f.lt in
-        ((λ same. let both = told.0 (same ∙ sym f.number_is) in (both.0 ∙ f.place_is, both.1 ∙ f.same)),
-        (λ same. told.1 (same.0 ∙ sym f.place_is, same.1 ∙ sym f.same) ∙ f.number_is))
+        let told = st.tells i f.other h f.lt in (
+          (λ same. let both = told.0 (same ∙ sym f.number_is) in (both.0 ∙ f.place_is, both.1 ∙ f.same)),
+          (λ same. told.1 (same.0 ∙ sym f.place_is, same.1 ∙ sym f.same) ∙ f.number_is),
+        )
 
     module _ (first : ℕ) (crosses : (i p : ℕ) → i < size gs → p < length m
         → (number i ≡ first + p) ↔ ((place gs i ≡ p) × (canonical number (home gs i) ≡ canonical number next-home)))
@@ -245,13 +246,13 @@ module _ {K : Type 0} (view : K → Form) where
       told-all i j h k =
           elim (either i h) [
             | inl a ↦ elim (either j k) [
-                | inl b ↦ told-earlier i j a b
-                | inr (q, b, e) ↦ subst (λ y. Told i y) e (told-cross i q a b)
-              ]
+              | inl b ↦ told-earlier i j a b
+              | inr (q, b, e) ↦ subst (λ y. Told i y) e (told-cross i q a b)
+            ]
             | inr (p, a, d) ↦ subst (λ x. Told x j) d (elim (either j k) [
-                | inl b ↦ told-turned j (size gs + p) (told-cross j p b a)
-                | inr (q, b, e) ↦ subst (λ y. Told (size gs + p) y) e (told-members p q a b)
-              ])
+              | inl b ↦ told-turned j (size gs + p) (told-cross j p b a)
+              | inr (q, b, e) ↦ subst (λ y. Told (size gs + p) y) e (told-members p q a b)
+            ])
           ]
 
       pub first-member : number' (size gs) ≡ first
@@ -386,7 +387,7 @@ module _ {K : Type 0} (view : K → Form) where
           (plainly group_shape).edges_map (λ i. Id (id_of (number' i))) m in
           let each : All (λ r. IsIdBelow (0 + total + length g) (Id (id_of (number' r)))) (group_edges (λ r. r) m) =
           all-becomes (λ r. r < size gs + length m) (λ r. IsIdBelow (0 + total + length g) (Id (id_of (number' r))))
-              (λ r high. let l = named-below r high in omega (arith, l, group-long)) (group_edges (λ r. r) m) bounded in
+          (λ r high. let l = named-below r high in omega (arith, l, group-long)) (group_edges (λ r. r) m) bounded in
           subst (λ x. All (IsIdBelow (0 + total + length g)) (group_edges (λ r. r) x)) (sym is_g)
           (subst (All (IsIdBelow (0 + total + length g))) (sym edges)
           (All-map (IsIdBelow (0 + total + length g)) (λ i. Id (id_of (number' i))) (group_edges (λ r. r) m) each))
@@ -408,9 +409,11 @@ module _ {K : Type 0} (view : K → Form) where
         found-new q first is = by (test q) refl where
           by : (b : Bool) → test q ≡ b → (i : ℕ) × (i < size more) × (view q ≡ form (canonical number' (home more i)))
           by true e =
-              let same = is_test q e in
-              (size gs + 0, omega (arith, size-more gs m, some),
-              sym same ∙ is_key ∙ ap form (sym (member-form total (cross-new none) number' agree fresh 0 some)))
+              let same = is_test q e in (
+                size gs + 0,
+                omega (arith, size-more gs m, some),
+                sym same ∙ is_key ∙ ap form (sym (member-form total (cross-new none) number' agree fresh 0 some)),
+              )
           by false e =
               let old : get q ≡ Some first = ap (λ b. cond b (Some total) (get q)) (sym e) ∙ sym (puts q) ∙ is in
               let f = st.found q first old in

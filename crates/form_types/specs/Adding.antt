@@ -1,5 +1,5 @@
 -- A group is numbered.
-use Rattle.std.specs.Prelude.{◌≡◌, ℕ, ◌^◌, ◌<◌, ◌++◌, ◌∷◌, [], List, map, length, Option, Some, None, cond}
+use Rattle.std.specs.Prelude.{◌≡◌, ℕ, ◌^◌, ◌<◌, ◌++◌, ◌∷◌, [], map, length, Option, Some, None, cond}
 use Rattle.std.specs.List.{range_with_len}
 use Rattle.wasm_spec.specs.TypeData.{map_group}
 use Rattle.form_data.specs.Views.{group_of}

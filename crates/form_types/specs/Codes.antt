@@ -1,5 +1,5 @@
 -- The frame of a type as bytes: all of it but what its references name.
-use Rattle.std.specs.Prelude.{ℕ, ◌+◌, Bool, true, false, List, [], ◌∷◌, ◌++◌, map, Option, is_some, if◌then◌else◌}
+use Rattle.std.specs.Prelude.{ℕ, ◌+◌, Bool, List, [], ◌∷◌, ◌++◌, map, is_some, if◌then◌else◌}
 use Rattle.std.specs.List.{flat_map}
 use Rattle.wasm_spec.specs.TypeData.{Heap, Concrete, Abstract, Reference, Value, I32, I64, F32, F64, V128, Ref, Storage, I8, I16, Val, Field, Function, Composite, Func, Array, Struct, Cont, Exn, SubType, Group}
 use Rattle.type_spec.specs.Same.{heap_byte}

@@ -1,14 +1,12 @@
 -- Groups that were met, while the types of a module are numbered.
-use Rattle.std.specs.Prelude.{◌≡◌, ℕ, ◌+◌, ◌<◌, ◌≤◌, ◌++◌, List, map, length, Option, Some, None, MatchOption, cond, slice_index}
-use Rattle.std.specs.List.{range_with_len, All}
+use Rattle.std.specs.Prelude.{ℕ, List, length, Option, slice_index}
 use Rattle.std.specs.HashMap.{get, HashMap}
-use Rattle.wasm_spec.specs.TypeData.{Group, group_edges}
-use Rattle.type_spec.specs.Equality.{Home, canonical}
+use Rattle.wasm_spec.specs.TypeData.{Group}
+use Rattle.type_spec.specs.Equality.{canonical}
 use Rattle.form_lists.specs.declared.seed.Seeded.{Seeded}
 use Rattle.form_types.specs.declared.canonical.CanonicalGroup.{CanonicalGroup}
 use Rattle.form_types.specs.contracts.canonical.CanonicalGroupPartialEq.TheImpl as group
-use Rattle.form_types.specs.Forms.{Form, form, form_of}
-use Rattle.form_types.specs.Types.{NamedGroup}
+use Rattle.form_types.specs.Forms.{Form, form}
 
 abbrev pub FirstIds : Type 0
 FirstIds = HashMap CanonicalGroup ℕ Seeded

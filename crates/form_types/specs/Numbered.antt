@@ -2,7 +2,6 @@
 use Rattle.std.specs.Prelude.{◌≡◌, ◌↔◌, ℕ, ◌+◌, ◌-◌, ◌<◌, [], List, length, take, get_or, slice_index}
 use Rattle.wasm_spec.specs.Module.{Module}
 use Rattle.wasm_spec.specs.Module as plain
-use Rattle.wasm_spec.specs.TypeData.{Group}
 use Rattle.type_spec.specs.Equality.{Home, home, SameType}
 use Rattle.form_types.specs.Types.{NamedGroup, TypesData, types_by_id}
 use Rattle.form_types.specs.Placed.{placed_groups, named}

@@ -137,11 +137,7 @@ fn named_supertype(ids: &[CoreTypeId], supertype: Option<UnpackedIndex>) -> Opti
     }
 }
 
-fn named_sub_type(
-    alloc: Global,
-    ids: &[CoreTypeId],
-    ty: &SubType,
-) -> Result<SubType, AllocError>
+fn named_sub_type(alloc: Global, ids: &[CoreTypeId], ty: &SubType) -> Result<SubType, AllocError>
     ensures { IfOk result (λ t. sub_type_of t ≡ map_sub_type (named_index (ids_of ids.now)) (named_index (ids_of ids.now)) (sub_type_of ty.now)) }
 {
     let composite = named_composite(alloc, ids, &ty.composite)?;

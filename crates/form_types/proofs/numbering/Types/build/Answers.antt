@@ -1,15 +1,13 @@
-use Rattle.std.proofs.Common.{◌≡◌, ◌∙◌, ◌+◌, ◌<◌, length, map, take, sym, ap, subst, arith}
-use Rattle.std.specs.Prelude.{◌==◌, vec_len, Bool, true, false}
+use Rattle.std.proofs.Common.{◌≡◌, ◌∙◌, ◌<◌, length, take, sym, ap, subst, arith}
+use Rattle.std.specs.Prelude.{◌==◌, vec_len, true, false}
 use Rattle.std.proofs.lemmas.Grind.{common_steps}
 use Rattle.form_data.specs.declared.types.RecGroup.{RecGroup}
 use Rattle.std.proofs.lemmas.List.{length-map, take_all}
 use Rattle.wasm_spec.specs.declared.types.CoreTypeId.{CoreTypeId}
-use Rattle.wasm_spec.specs.Module.{groups, types}
-use Rattle.rule_spec.specs.Rules.{Keeps}
+use Rattle.wasm_spec.specs.Module.{groups}
 use Rattle.rule_spec.specs.declared.rules.Rule.TheVariants.{L1}
 use Rattle.form_data.specs.Views.{group_of, sub_type_of, module_of}
 use Rattle.form_types.specs.Groups.{lent_groups}
-use Rattle.form_types.specs.Numbered.{AreNumbered}
 use Rattle.form_types.proofs.Built.{Built, built-none, built-empty, built-more, few-ids}
 use Rattle.form_types.proofs.Ruled.{size-places, room, near-next, one-more}
 use Rattle.form_types.proofs.Final.{numbered, sound}
@@ -30,17 +28,28 @@ add_group-requires-clause-room c =
     let m = module_of c.args.form.now in
     let lent = c.deref-group-items.result.now in
     let whole : lent_groups lent ≡ groups m = ap lent_groups c.deref-group-items.ensures.value ∙ c.in_ok-groups.ensures in
-    omega (arith, room m lent whole c.loop-group.group-index c.group-item.result c.loop-group-test.true c.group-item.is, c.requires.few.types,
-    c.loop-group.invariant.counted, length-map c.loop-group.numbering.declared.items (λ (id : CoreTypeId). id.0),
-    length-map c.group-item.result.now.types.items sub_type_of)
+    omega (
+      arith,
+      room m lent whole c.loop-group.group-index c.group-item.result c.loop-group-test.true c.group-item.is,
+      c.requires.few.types,
+      c.loop-group.invariant.counted,
+      length-map c.loop-group.numbering.declared.items (λ (id : CoreTypeId). id.0),
+      length-map c.group-item.result.now.types.items sub_type_of,
+    )
 
 pub add_group-requires-clause-few : goal.add_group-requires-clause-few
 add_group-requires-clause-few c =
     let m = module_of c.args.form.now in
     let lent = c.deref-group-items.result.now in
     let whole : lent_groups lent ≡ groups m = ap lent_groups c.deref-group-items.ensures.value ∙ c.in_ok-groups.ensures in
-    omega (arith, room m lent whole c.loop-group.group-index c.group-item.result c.loop-group-test.true c.group-item.is, c.requires.few.types,
-    c.loop-group.invariant.listed.next_is, c.loop-group.invariant.numbered.few, length-map c.group-item.result.now.types.items sub_type_of)
+    omega (
+      arith,
+      room m lent whole c.loop-group.group-index c.group-item.result c.loop-group-test.true c.group-item.is,
+      c.requires.few.types,
+      c.loop-group.invariant.listed.next_is,
+      c.loop-group.invariant.numbered.few,
+      length-map c.group-item.result.now.types.items sub_type_of,
+    )
 
 pub add_group-requires-clause-ids : goal.add_group-requires-clause-ids
 add_group-requires-clause-ids c =
