@@ -57,6 +57,9 @@ module _ (t : TypesData) (n k : ℕ) (e : slice_get (group_numbers 0 t.groups) n
   pub within : n < first_id t.groups k + length (get_or t.groups k [])
   within = coe 0 1 (j. n < first_id t.groups (same j) + length (get_or t.groups (same j) [])) found.within
 
+  pub filled : 0 < length (get_or t.groups k [])
+  filled = omega (arith, starts, within)
+
 ids-of : (first : ℕ) (gs : List NamedGroup) (k : ℕ) → k < length gs
     → slice_get (member_ids first gs) k ≡ Some (ids_from (first + first_id gs k) (length (get_or gs k [])))
 ids-of first [] k h = absurd (omega arith)

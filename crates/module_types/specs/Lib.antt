@@ -5,3 +5,4 @@ pub mod Orderly
 pub mod Interner
 pub mod Builder
 pub mod Conversion
+pub mod Runs

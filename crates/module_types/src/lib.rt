@@ -5,6 +5,7 @@ mod builder;
 mod error;
 mod group_converter;
 mod interner;
+mod interning;
 mod iterators;
 mod list;
 mod seed;
