@@ -72,15 +72,15 @@ pub member-found : (n first : ℕ) (gs : List NamedGroup) (id : ℕ) → id < le
 member-found n first [] id lt k is = absurd (omega arith)
 member-found n first (g ∷ gs) id lt k is =
     by (λ lt' is'. member-found (n + 1) (first + length g) gs (id - length g) lt' k is') (ltb id (length g)) refl where
-  by : (id - length g < length (types_by_id gs) → k ≡ get_or (group_numbers (n + 1) gs) (id - length g) k
-      → Found (n + 1) (first + length g) gs (id - length g) k)
-      → (b : Bool) → ltb id (length g) ≡ b → Found n first (g ∷ gs) id k
-  by rest true e = found-here n first g gs id (ltb-true id (length g) e) k is
-  by rest false e =
-      let l = ltb-false id (length g) e in
-      found-later n first g gs id l k
-      (rest (omega (arith, length-append g (types_by_id gs)))
-      (is ∙ get_or-append_right (replicate (length g) n) (group_numbers (n + 1) gs) (length g) id k (length-replicate (length g) n) l))
+      by : (id - length g < length (types_by_id gs) → k ≡ get_or (group_numbers (n + 1) gs) (id - length g) k
+          → Found (n + 1) (first + length g) gs (id - length g) k)
+          → (b : Bool) → ltb id (length g) ≡ b → Found n first (g ∷ gs) id k
+      by rest true e = found-here n first g gs id (ltb-true id (length g) e) k is
+      by rest false e =
+          let l = ltb-false id (length g) e in
+          found-later n first g gs id l k
+          (rest (omega (arith, length-append g (types_by_id gs)))
+          (is ∙ get_or-append_right (replicate (length g) n) (group_numbers (n + 1) gs) (length g) id k (length-replicate (length g) n) l))
 
 -- a type, by what is kept of its group's number
 pub member-of : (gs : List NamedGroup) (numbers_kept : List ℕ) → numbers_kept ≡ group_numbers 0 gs → (id : ℕ) → id < length (types_by_id gs)

@@ -36,7 +36,10 @@ impl CoreTypeIds {
         requires { next ≤ end }
         ensures { result ≡ ids_from next (end - next) }
     {
-        CoreTypeIds { next: u64::from(next), end: u64::from(end) }
+        CoreTypeIds {
+            next: u64::from(next),
+            end: u64::from(end),
+        }
     }
 }
 

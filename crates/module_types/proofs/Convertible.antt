@@ -1,5 +1,5 @@
 -- A group of a list of types can be converted, and what it becomes.
-use Rattle.std.proofs.Common.{◌≡◌, ◌≤◌, ◌<◌, ℕ, zero, suc, ◌+◌, List, [], ◌∷◌, ◌++◌, All, length, get_or, map, Option, Some, None, refl, sym, ap, ◌∙◌, inl, inr, arith}
+use Rattle.std.proofs.Common.{◌≡◌, ◌≤◌, ◌<◌, ℕ, zero, suc, ◌+◌, List, [], ◌∷◌, All, length, get_or, map, Option, Some, None, refl, sym, ap, ◌∙◌, inl, inr, arith}
 use Rattle.std.specs.Prelude.{slice_get, IsSome, IsSomeAnd, ◌⊎◌}
 use Rattle.std.proofs.lemmas.List.{length-map}
 use Rattle.std.proofs.lemmas.List.Elements.{All-head, All-tail, All-cons, All-nil, All-weaker}
@@ -11,7 +11,7 @@ use Rattle.rule_spec.specs.TypeRules.{IsFunction}
 use Rattle.type_data.specs.TypeShapes.{group_shape}
 use Rattle.type_data.specs.Names.{FuncName, named}
 use Rattle.type_data.specs.ListLaws.{map-twice}
-use Rattle.type_spec.specs.Interned.{Interned, Span}
+use Rattle.type_spec.specs.Interned.{Span}
 use Rattle.form_data.specs.declared.types.SubType.{SubType as Read}
 use Rattle.form_data.specs.declared.types.CompositeInnerType.{CompositeInnerType}
 use Rattle.form_data.specs.declared.types.CompositeInnerType.TheVariants as inner

@@ -1,5 +1,5 @@
 -- Steps leave the types and the groups that there are.
-use Rattle.std.proofs.Common.{◌≡◌, ◌<◌, ℕ, suc, List, [], ◌∷◌, ◌++◌, length, Bool, true, false, Option, Some, None, refl, sym, ap, ◌∙◌, arith}
+use Rattle.std.proofs.Common.{◌≡◌, ◌<◌, ℕ, suc, List, [], ◌∷◌, ◌++◌, length, Bool, true, false, Option, Some, None, refl, ap, ◌∙◌, arith}
 use Rattle.std.specs.Prelude.{if◌then◌else◌}
 use Rattle.std.proofs.lemmas.List.{length-append}
 use Rattle.wasm_spec.specs.TypeData.{Composite, Func, Array, Struct, Cont, Exn}
@@ -75,4 +75,3 @@ pub longer : (b : Built) (ts : List Interned) (tss : List (List Interned)) → 0
 longer b ts tss filled same =
     let x = first-group b ts tss in
     omega (arith, filled, ap length (same ∙ x.types), length-append (b.types ++ ts) x.types_more, length-append b.types ts)
-

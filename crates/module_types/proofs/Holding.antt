@@ -1,12 +1,12 @@
 -- What a builder holds under ids after one more group.
-use Rattle.std.proofs.Common.{◌≡◌, ◌≢◌, ◌<◌, ℕ, zero, suc, ◌+◌, Bool, true, false, cond, nat_eq, List, [], ◌∷◌, ◌++◌, length, get_or, Option, Some, None, refl, sym, ap, ◌∙◌, arith}
+use Rattle.std.proofs.Common.{◌≡◌, ◌<◌, ℕ, zero, suc, Bool, true, false, nat_eq, List, [], ◌∷◌, ◌++◌, length, get_or, Option, Some, None, refl, sym, ap, ◌∙◌, arith}
 use Rattle.std.specs.Prelude.{if◌then◌else◌}
 use Rattle.std.proofs.lemmas.List.{length-append}
 use Rattle.std.proofs.lemmas.Bool.{eqb-true, eq-eqb}
 use Rattle.std.specs.Option.{option_map}
-use Rattle.type_spec.specs.Interned.{Interned, Built, Span, with_group, opened, next_span}
+use Rattle.type_spec.specs.Interned.{Interned, Span, with_group, opened, next_span}
 use Rattle.form_types.specs.Types.{TypesData, types_by_id}
-use Rattle.module_types.specs.Builder.{Builder, noted, interns_by, interns}
+use Rattle.module_types.specs.Builder.{Builder, interns_by, interns}
 use Rattle.module_types.specs.Conversion.{group_of_id, members_of, no_span, Stands, HasIndex, HoldsGroups}
 use Rattle.module_types.proofs.Extends.{Extends, extends-group}
 

@@ -13,3 +13,5 @@ pub mod Extends
 pub mod Told
 pub mod Runs
 pub mod Holding
+pub mod Finding
+pub mod MappedTypes

@@ -6,3 +6,6 @@ pub mod Interner
 pub mod Builder
 pub mod Conversion
 pub mod Runs
+pub mod TypeParts
+pub mod Lent
+pub mod TypeListShape

@@ -32,11 +32,7 @@ impl ModuleTypesBuilder {
     }
 
     // A group that is to be interned next, converted.
-    fn converted(
-        &self,
-        types: &Types,
-        id: RecGroupId,
-    ) -> Result<Vec<WasmSubType>, OutOfMemory>
+    fn converted(&self, types: &Types, id: RecGroupId) -> Result<Vec<WasmSubType>, OutOfMemory>
         requires known { id.0 < length types.now.groups }
         requires holds { HoldsGroups types.now (shown self.now) }
         requires named { NamesInterned types.now (shown self.now) id.0 }

@@ -1,17 +1,17 @@
-use Rattle.std.proofs.Common.{◌≡◌, ◌∙◌, ◌+◌, ◌<◌, ℕ, List, [], All, IfOk, length, map, nat_eq, Option, refl, sym, ap, arith}
+use Rattle.std.proofs.Common.{◌≡◌, ◌∙◌, [], All, length, map, nat_eq, sym, ap, arith}
 use Rattle.std.specs.Option.{option_map}
 use Rattle.std.specs.Map.{lookup}
 use Rattle.std.proofs.lemmas.List.{length-map}
 use Rattle.wasm_spec.specs.TypeData.{group_edges}
 use Rattle.form_data.specs.declared.types.SubType.{SubType}
 use Rattle.form_data.specs.Views as form
-use Rattle.form_types.specs.Types.{NamedGroup, TypesData}
+use Rattle.form_types.specs.Types.{TypesData}
 use Rattle.wasm_index.specs.Index.{number_of}
 use Rattle.wasm_convert.specs.Known.{Known, CanConvert}
 use Rattle.module_types.specs.Views.{interned_of, span_of}
 use Rattle.module_types.specs.TypeList.{TypeList}
-use Rattle.module_types.specs.Builder.{Kept, shown}
-use Rattle.module_types.specs.Conversion.{KnowsId, look_by_id, members_of, members_by_index, interned_members}
+use Rattle.module_types.specs.Builder.{shown}
+use Rattle.module_types.specs.Conversion.{KnowsId, look_by_id, members_of, members_by_index}
 use Rattle.module_types.proofs.Places.{get-or}
 use Rattle.module_types.proofs.Convertible.{group-known, members-can, made-is}
 use Rattle.module_types.proofs.Shows.{if-ok}

@@ -1,12 +1,12 @@
-use Rattle.std.proofs.Common.{◌≡◌, ◌∙◌, ◌<◌, ℕ, false, length, map, nat_eq, refl, sym, ap}
+use Rattle.std.proofs.Common.{◌≡◌, ◌∙◌, ◌<◌, false, length, map, nat_eq, sym, ap}
 use Rattle.std.specs.Option.{option_map}
 use Rattle.std.specs.Map.{lookup}
 use Rattle.std.proofs.lemmas.List.{length-map}
 use Rattle.wasm_index.specs.Index.{number_of}
 use Rattle.module_types.specs.Views.{interned_of, span_of}
 use Rattle.module_types.specs.TypeList.{TypeList}
-use Rattle.module_types.specs.Builder.{Kept, shown, interns}
-use Rattle.module_types.specs.Conversion.{group_of_id, members_of, interned_members, NamesInterned, HasIndex}
+use Rattle.module_types.specs.Builder.{shown, interns}
+use Rattle.module_types.specs.Conversion.{interned_members, NamesInterned, HasIndex}
 use Rattle.module_types.proofs.Convertible.{members-long}
 use Rattle.module_types.proofs.Holding.{has-index}
 use Rattle.module_types.proofs.Places.{group-is, filled}
