@@ -1,5 +1,5 @@
 -- Ids one after another.
-use Rattle.std.proofs.Common.{◌≡◌, ◌+◌, ◌-◌, ◌<◌, ◌≤◌, ℕ, zero, suc, [], ◌∷◌, refl, arith}
+use Rattle.std.proofs.Common.{◌≡◌, ◌+◌, ◌-◌, ◌<◌, ◌≤◌, ℕ, suc, [], ◌∷◌, refl, arith}
 use Rattle.form_types.specs.Ids.{id_of, ids_from}
 
 -- the first of at least one id, and the others

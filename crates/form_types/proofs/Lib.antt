@@ -1,2 +1,11 @@
 mod Counting
 mod Looking
+mod Adding
+mod Decoding
+mod FormLaws
+mod Steps
+mod Listing
+mod Rows
+mod Built
+mod Ruled
+mod Final

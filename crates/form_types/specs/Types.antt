@@ -51,12 +51,13 @@ abbrev pub NamesFunction : List (SubType UnpackedIndex UnpackedIndex) → Unpack
 NamesFunction types (Id id) = IsSomeAnd (slice_get types id.0) (λ t. IsFunction t.composite.inner)
 NamesFunction types _ = ⊥
 
+abbrev pub CompositeContinues : List (SubType UnpackedIndex UnpackedIndex) → Composite UnpackedIndex UnpackedIndex → Type 0
+CompositeContinues types (Cont function) = NamesFunction types function
+CompositeContinues types _ = Unit {0}
+
 -- a continuation names a function type
 abbrev pub ContinuesFunction : List (SubType UnpackedIndex UnpackedIndex) → SubType UnpackedIndex UnpackedIndex → Type 0
-ContinuesFunction types t = composite t.composite.inner where
-  composite : Composite UnpackedIndex UnpackedIndex → Type 0
-  composite (Cont function) = NamesFunction types function
-  composite _ = Unit {0}
+ContinuesFunction types t = CompositeContinues types t.composite.inner
 
 pub record IsSound (t : TypesData) : Type 0 where
   pub references : NameEarlier 0 t.groups

@@ -1,8 +1,15 @@
 //! The types of a module by ids: equal types have one id.
 #![tactic(auto)]
 
+mod building;
+mod canonical;
+mod codes;
+mod distinct;
 mod elements;
+mod finding;
+mod groups;
 mod members;
+mod named;
 mod numbering;
 mod validator;
 

@@ -8,6 +8,7 @@ pub use form_data::{
 };
 pub use form_reader::{MAX_MODULE_SIZE, ReadError, read_module, spelling_is_unique};
 pub use form_rules::{CheckError, check};
+pub use form_types::{CoreTypeIds, RecGroupId, Types, Validator, ValidatorId};
 pub use rule_spec::Rule;
 pub use wasm_spec::{
     AbstractHeapType, CoreTypeId, ExternalKind, FieldType, GlobalType, HeapType, MemoryType,

@@ -1,5 +1,4 @@
-use Rattle.std.proofs.Common.{◌≡◌, ◌∙◌, ◌<◌, length, get_or, map, Some, sym, ap, arith}
-use Rattle.std.proofs.lemmas.List.{length-map}
+use Rattle.std.proofs.Common.{◌∙◌, length, get_or, map, ap, arith}
 use Rattle.form_data.specs.Views.{group_of}
 use Rattle.form_types.proofs.Looking.{length_spans, members-found}
 use Rattle.form_types.proofs.numbering.Types.rec_group_elements.Goals as goal

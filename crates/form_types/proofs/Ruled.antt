@@ -1,0 +1,131 @@
+-- What the rules say of the groups of a module.
+use Rattle.std.proofs.Common.{◌≡◌, ◌∙◌, ℕ, zero, suc, ◌+◌, ◌<◌, ◌≤◌, List, [], ◌∷◌, ◌++◌, length, get_or, take, map, Option, Some, None, refl, sym, ap, subst, arith, length-append}
+use Rattle.std.specs.Prelude.{IfSome}
+use Rattle.std.specs.Option.{option_to_list}
+use Rattle.std.specs.List.{All}
+use Rattle.std.proofs.lemmas.List.{length-map, map-append, take-map, map_more, get_or-map}
+use Rattle.std.proofs.lemmas.List.Folds.{length-flat_map-take}
+use Rattle.std.proofs.lemmas.List.Elements.{All-nil, All-cons, All-head, All-tail, All-append, All-map}
+use Rattle.form_lists.proofs.AllSections.{All-joined}
+use Rattle.wasm_spec.specs.declared.types.UnpackedIndex.{UnpackedIndex}
+use Rattle.wasm_spec.specs.declared.types.UnpackedIndex.TheVariants.{Module, RecGroup, Id}
+use Rattle.wasm_spec.specs.TypeData.{Composite, sub_type_edges, group_edges, composite_edges, map_sub_type}
+use Rattle.wasm_spec.specs.Module as plain
+use Rattle.type_data.specs.TypeShapes.{group_shape}
+use Rattle.type_data.specs.Names.{plainly}
+use Rattle.type_spec.proofs.Homes.{joined, size}
+use Rattle.rule_spec.specs.Lists.{Declared, Lists, declared_from, declared_groups, lists_of_module}
+use Rattle.rule_spec.specs.TypeRules.{IsBelow, KindIsBelow, IsDeclaredWell}
+use denote.Ref.{Bor}
+use Rattle.form_data.specs.declared.types.RecGroup.{RecGroup as RecGroupRead}
+use Rattle.form_data.specs.Views.{group_of}
+use Rattle.form_types.specs.Types.{NamedGroup, types_by_id}
+use Rattle.form_types.specs.Groups.{lent_groups}
+use Rattle.form_types.specs.Placed.{place_of, placed}
+use Rattle.form_types.proofs.Steps.{NearIn, all-becomes}
+use Rattle.form_types.proofs.Built.{places}
+
+-- ---- the declared types are the joined groups
+
+from-types : (end index : ℕ) (g : NamedGroup) → map (λ (d : Declared). d.type) (declared_from end index g) ≡ g
+from-types end index [] = refl
+from-types end index (t ∷ ts) = ap (λ l. t ∷ l) (from-types end (index + 1) ts)
+
+pub declared-types : (index : ℕ) (gs : List NamedGroup) → map (λ (d : Declared). d.type) (declared_groups index gs) ≡ types_by_id gs
+declared-types index [] = refl
+declared-types index (g ∷ gs) =
+    map-append (λ (d : Declared). d.type) (declared_from (index + length g) index g) (declared_groups (index + length g) gs)
+    ∙ (λ i. from-types (index + length g) index g i ++ declared-types (index + length g) gs i)
+
+-- a group's types are joined with the others
+pub places-joined : (gs : List NamedGroup) → joined (places gs) ≡ map (map_sub_type place_of place_of) (types_by_id gs)
+places-joined [] = refl
+places-joined (g ∷ gs) =
+    ap (λ l. placed g ++ l) (places-joined gs) ∙ sym (map-append (map_sub_type place_of place_of) g (types_by_id gs))
+
+pub size-places : (gs : List NamedGroup) → size (places gs) ≡ length (types_by_id gs)
+size-places gs = ap length (places-joined gs) ∙ length-map (types_by_id gs) _
+
+-- ---- references
+
+module _ (l : Lists) where
+  place-below : (end : ℕ) (i : UnpackedIndex) → IsBelow end i → place_of i < end
+  place-below end (Module i) below = below
+  place-below end (RecGroup i) below = absurd below
+  place-below end (Id i) below = absurd below
+
+  supertype-near : (end index : ℕ) (s : Option UnpackedIndex) → index ≤ end → IfSome s (IsBelow index)
+      → All (λ i. place_of i < end) (option_to_list s)
+  supertype-near end index None le below = All-nil (λ i. place_of i < end)
+  supertype-near end index (Some i) le below =
+      All-cons (λ i. place_of i < end) i [] (let lt = place-below index i below in omega (arith, lt)) (All-nil (λ i. place_of i < end))
+
+  kind-near : (end : ℕ) (kind : Composite UnpackedIndex UnpackedIndex) → KindIsBelow end kind → All (λ i. place_of i < end) (composite_edges (λ i. i) kind)
+  unfolding KindIsBelow
+  kind-near end kind below = all-becomes (IsBelow end) (λ i. place_of i < end) (place-below end) (composite_edges (λ i. i) kind) below
+
+  members-near : (end index : ℕ) (g : NamedGroup) → index + length g ≤ end → All (IsDeclaredWell l) (declared_from end index g)
+      → All (λ i. place_of i < end) (group_edges (λ i. i) g)
+  members-near end index [] le all = All-nil (λ i. place_of i < end)
+  members-near end index (t ∷ ts) le all =
+      let d : Declared = record { type = t; index = index; group_end = end } in
+      let well : IsDeclaredWell l d = All-head (IsDeclaredWell l) d (declared_from end (index + 1) ts) all in
+      All-append (λ i. place_of i < end) (sub_type_edges (λ i. i) t) (group_edges (λ i. i) ts)
+      (All-append (λ i. place_of i < end) (option_to_list t.supertype) (composite_edges (λ i. i) t.composite.inner)
+      (supertype-near end index t.supertype (omega arith) well.supertype) (kind-near end t.composite.inner well.indices))
+      (members-near end (index + 1) ts (omega arith) (All-tail (IsDeclaredWell l) d (declared_from end (index + 1) ts) all))
+
+  group-near : (first : ℕ) (gs : List NamedGroup) (k : ℕ) → k < length gs → All (IsDeclaredWell l) (declared_groups first gs)
+      → All (λ i. place_of i < first + length (types_by_id (take k gs)) + length (get_or gs k [])) (group_edges (λ i. i) (get_or gs k []))
+  group-near first [] k lt all = absurd (omega arith)
+  group-near first (g ∷ gs) zero lt all =
+      let front = ((All-joined (IsDeclaredWell l) (declared_from (first + length g) first g) (declared_groups (first + length g) gs)).0 all).0 in
+      let e : first + 0 + length g ≡ first + length g = omega arith in
+      subst (λ n. All (λ i. place_of i < n) (group_edges (λ i. i) g)) (sym e) (members-near (first + length g) first g (omega arith) front)
+  group-near first (g ∷ gs) (suc k) lt all =
+      let back = ((All-joined (IsDeclaredWell l) (declared_from (first + length g) first g) (declared_groups (first + length g) gs)).0 all).1 in
+      let e : first + length g + length (types_by_id (take k gs)) + length (get_or gs k [])
+      ≡ first + length (g ++ types_by_id (take k gs)) + length (get_or gs k []) = omega (arith, length-append g (types_by_id (take k gs))) in
+      subst (λ n. All (λ i. place_of i < n) (group_edges (λ i. i) (get_or gs k []))) e (group-near (first + length g) gs k (omega arith) back)
+
+-- each reference of a group names a type before its end
+pub rules-near : (m : plain.Module) (k : ℕ) → k < length (plain.groups m) → All (IsDeclaredWell (lists_of_module m)) (declared_groups 0 (plain.groups m))
+    → NearIn (record { start = size (places (take k (plain.groups m))); members = placed (get_or (plain.groups m) k []) })
+rules-near m k lt all =
+    let gs = plain.groups m in
+    let g = get_or gs k [] in
+    let end : 0 + length (types_by_id (take k gs)) + length g ≡ size (places (take k gs)) + length (placed g) =
+    omega (arith, size-places (take k gs), length-map g (map_sub_type place_of place_of)) in
+    let near = subst (λ n. All (λ i. place_of i < n) (group_edges (λ i. i) g)) end (group-near (lists_of_module m) 0 gs k lt all) in
+    subst (All (λ r. r < size (places (take k gs)) + length (placed g))) (sym ((plainly group_shape).edges_map place_of g))
+    (All-map (λ r. r < size (places (take k gs)) + length (placed g)) place_of (group_edges (λ i. i) g) near)
+
+-- ---- the groups of a form, as they are lent one by one
+
+module _ (m : plain.Module) (lent : List (Bor RecGroupRead)) (whole : lent_groups lent ≡ plain.groups m)
+    (k : ℕ) (item : Bor RecGroupRead) (lt : k < length lent) (is : item ≡ get_or lent k item) where
+  below : k < length (plain.groups m)
+  below = omega (arith, lt, ap length whole, length-map lent (λ (g : Bor RecGroupRead). group_of g.now))
+
+  done-is : lent_groups (take k lent) ≡ take k (plain.groups m)
+  done-is = sym (take-map (λ (g : Bor RecGroupRead). group_of g.now) k lent) ∙ ap (take k) whole
+
+  pub at : get_or (plain.groups m) k [] ≡ group_of item.now
+  at =
+      ap (λ l. get_or l k []) (sym whole) ∙ get_or-map (λ (g : Bor RecGroupRead). group_of g.now) lent k item [] lt
+      ∙ ap (λ (g : Bor RecGroupRead). group_of g.now) (sym is)
+
+  pub one-more : lent_groups (take (k + 1) lent) ≡ lent_groups (take k lent) ++ group_of item.now ∷ []
+  one-more =
+      map_more (λ (g : Bor RecGroupRead). group_of g.now) lent k item lt
+      ∙ ap (λ (g : Bor RecGroupRead). lent_groups (take k lent) ++ group_of g.now ∷ []) (sym is)
+
+  pub room : size (places (lent_groups (take k lent))) + length (group_of item.now) ≤ length (plain.types m)
+  room =
+      let fits = length-flat_map-take (λ (g : NamedGroup). g) (plain.groups m) k [] below in
+      omega (arith, fits, ap length at, size-places (lent_groups (take k lent)), ap (λ l. length (types_by_id l)) done-is)
+
+  pub near-next : All (IsDeclaredWell (lists_of_module m)) (declared_groups 0 (plain.groups m))
+      → NearIn (record { start = size (places (lent_groups (take k lent))); members = placed (group_of item.now) })
+  near-next all =
+      coe 0 1 (t. NearIn (record { start = size (places (sym done-is t)); members = placed (at t) })) (rules-near m k below all)

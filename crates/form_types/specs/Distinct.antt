@@ -1,0 +1,14 @@
+-- The distinct groups, while they are found.
+use Rattle.std.specs.Prelude.{◌≡◌, ◌≤◌, List, length, map}
+use Rattle.form_data.specs.Views.{group_of}
+use Rattle.form_types.specs.Types.{NamedGroup, types_by_id, group_numbers}
+use Rattle.form_types.specs.Kept.{spans}
+use Rattle.form_types.specs.declared.distinct.Distinct.{Distinct}
+
+-- these groups are kept, with the number of the group of each id, and the ids of each group
+pub record IsListed (d : Distinct) (groups : List NamedGroup) : Type 0 where
+  pub groups_are : map group_of d.groups.items ≡ groups
+  pub numbers_are : d.numbers.items ≡ group_numbers 0 groups
+  pub spans_are : d.spans.items ≡ spans 0 groups
+  pub next_is : d.next ≡ length (types_by_id groups)
+  pub few : length groups ≤ d.next

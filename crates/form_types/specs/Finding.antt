@@ -1,0 +1,20 @@
+-- Groups that were met, while the types of a module are numbered.
+use Rattle.std.specs.Prelude.{ℕ, List, length, Option, slice_index}
+use Rattle.std.specs.HashMap.{get, HashMap}
+use Rattle.wasm_spec.specs.TypeData.{Group}
+use Rattle.type_spec.specs.Equality.{canonical}
+use Rattle.form_lists.specs.declared.seed.Seeded.{Seeded}
+use Rattle.form_types.specs.declared.canonical.CanonicalGroup.{CanonicalGroup}
+use Rattle.form_types.specs.contracts.canonical.CanonicalGroupPartialEq.TheImpl as group
+use Rattle.form_types.specs.Forms.{Form, form}
+
+abbrev pub FirstIds : Type 0
+FirstIds = HashMap CanonicalGroup ℕ Seeded
+
+-- the first id of the group that has the key's form
+abbrev pub first_of : FirstIds → CanonicalGroup → Option ℕ
+first_of ids key = get group.ghosts.eq ids key
+
+-- the form of a group that comes next
+abbrev pub next_form : List ℕ → Group ℕ ℕ → Form
+next_form ids g = form (canonical (slice_index ids) (record { start = length ids; members = g }))

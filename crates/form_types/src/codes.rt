@@ -1,0 +1,64 @@
+//! The frames of types as bytes.
+
+ghost use Rattle.std.specs.Prelude.{◌≡◌, ◌<◌};
+ghost use Rattle.wasm_spec.specs.TypeData.{heap_of, reference_of};
+ghost use Rattle.type_spec.specs.Same.{heap_byte};
+ghost use Rattle.form_types.specs.Codes.{heap_code, reference_code, flag};
+
+use wasm_spec::{AbstractHeapType, HeapType, RefType};
+
+/// The mark after a list of values or fields.
+pub const END: u8 = 0x0B;
+
+/// The byte of a heap type that names a declared type.
+const CONCRETE: u8 = 0x60;
+
+/// What is added to a byte where the reference cannot be null.
+const NOT_NULL: u8 = 128;
+
+fn abstract_code(heap: AbstractHeapType) -> u8
+    ensures code { result ≡ heap_byte heap }
+    ensures below { result < 128 }
+{
+    match heap {
+        AbstractHeapType::NoExn => 0x74,
+        AbstractHeapType::NoFunc => 0x73,
+        AbstractHeapType::NoExtern => 0x72,
+        AbstractHeapType::None => 0x71,
+        AbstractHeapType::Func => 0x70,
+        AbstractHeapType::Extern => 0x6F,
+        AbstractHeapType::Any => 0x6E,
+        AbstractHeapType::Eq => 0x6D,
+        AbstractHeapType::I31 => 0x6C,
+        AbstractHeapType::Struct => 0x6B,
+        AbstractHeapType::Array => 0x6A,
+        AbstractHeapType::Exn => 0x69,
+        AbstractHeapType::NoCont => 0x75,
+        AbstractHeapType::Cont => 0x68,
+    }
+}
+
+fn heap_code(heap: &HeapType) -> u8
+    ensures code { result ≡ heap_code (heap_of heap.now) }
+    ensures below { result < 128 }
+{
+    match heap {
+        HeapType::Concrete(_) => CONCRETE,
+        HeapType::Abstract(heap) => abstract_code(*heap),
+    }
+}
+
+/// The byte of a reference type.
+pub fn reference_code(ty: &RefType) -> u8
+    ensures { result ≡ reference_code (reference_of ty.now) }
+{
+    let code = heap_code(&ty.heap);
+    if ty.nullable { code } else { code + NOT_NULL }
+}
+
+/// The byte of a flag.
+pub fn flag(set: bool) -> u8
+    ensures { result ≡ flag set }
+{
+    if set { 1 } else { 0 }
+}

@@ -1,0 +1,62 @@
+//! The distinct groups, while they are found.
+
+ghost use Rattle.std.specs.Prelude.{◌≡◌, ◌+◌, ◌<◌, ◌^◌, ◌++◌, ◌∷◌, [], length, map, replicate, OnOk};
+ghost use Rattle.form_data.specs.Views.{group_of};
+ghost use Rattle.form_types.specs.Distinct.{IsListed};
+
+use form_data::RecGroup;
+use std::alloc::{AllocError, Global};
+
+/// The distinct groups in the order of their first occurrence.
+#[derive(Drop)]
+pub struct Distinct {
+    pub groups: Vec<RecGroup>,
+    /// The number of the group of each id.
+    pub numbers: Vec<u32>,
+    /// The first id of each group, and the id after its last member.
+    pub spans: Vec<(u32, u32)>,
+    /// The id after the last.
+    pub next: u32,
+}
+
+impl Distinct {
+    /// No groups.
+    pub fn new(alloc: Global) -> Distinct
+        ensures { IsListed result [] }
+    {
+        Distinct {
+            groups: Vec::new(alloc),
+            numbers: Vec::new(alloc),
+            spans: Vec::new(alloc),
+            next: 0,
+        }
+    }
+
+    /// Puts a group behind the others.
+    pub fn push(&mut self, group: RecGroup) -> Result<(), AllocError>
+        requires listed { IsListed self.old (map group_of self.old.groups.items) }
+        requires some { 0 < length group.types.items }
+        requires few { self.old.next + length group.types.items < 2 ^ 30 }
+        ensures { OnOk result (IsListed self.new (map group_of self.old.groups.items ++ group_of group ∷ [])) }
+    {
+        let number = self.groups.len() as u32;
+        let count = group.types.len();
+        let end = self.next + count as u32;
+        push_number(&mut self.numbers, number, count)?;
+        self.spans.push((self.next, end))?;
+        self.groups.push(group)?;
+        self.next = end;
+        Ok(())
+    }
+}
+
+/// Adds a number so many times.
+#[tactic(auto, using(crate::proofs::Listing::replicate_none, crate::proofs::Listing::replicate_more))]
+fn push_number(numbers: &mut Vec<u32>, number: u32, count: usize) -> Result<(), AllocError>
+    ensures { OnOk result (numbers.new.items ≡ numbers.old.items ++ replicate count number) }
+{
+    for _member in 0..count {
+        numbers.push(number)?;
+    }
+    Ok(())
+}
