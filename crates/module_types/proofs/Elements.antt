@@ -1,5 +1,5 @@
 -- The indices of a range, one by one.
-use Rattle.std.proofs.Common.{◌≡◌, ◌≤◌, ◌<◌, ℕ, zero, suc, ◌+◌, ◌-◌, [], ◌∷◌, map, refl, ap, arith}
+use Rattle.std.proofs.Common.{◌≡◌, ◌≤◌, ◌<◌, ℕ, suc, ◌+◌, ◌-◌, [], ◌∷◌, map, ap, arith}
 use Rattle.std.specs.List.{range_with_len}
 use Rattle.wasm_index.specs.Index.{index_of}
 use Rattle.module_types.specs.Views.{TypeIndex}

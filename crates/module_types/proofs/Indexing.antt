@@ -1,16 +1,16 @@
 -- The index of the type of an id.
-use Rattle.std.proofs.Common.{◌≡◌, ◌≤◌, ◌<◌, ℕ, ◌+◌, ◌-◌, List, [], ◌∷◌, length, get_or, Option, Some, None, refl, sym, ap, ◌∙◌, arith}
+use Rattle.std.proofs.Common.{◌≡◌, ◌≤◌, ◌<◌, ℕ, ◌+◌, ◌-◌, List, [], ◌∷◌, length, get_or, Option, Some, None, sym, ap, ◌∙◌, arith}
 use Rattle.std.specs.Prelude.{slice_get}
 use Rattle.wasm_spec.specs.declared.types.CoreTypeId.{CoreTypeId}
 use Rattle.type_spec.specs.Interned.{Span}
 use Rattle.form_types.specs.Types.{TypesData, group_numbers, member_ids}
-use Rattle.module_types.specs.Conversion.{first_id, group_of_id, members_of, start_by, index_by_id, Stands, HasIndex, no_span}
-use Rattle.module_types.proofs.Places.{get-or, group-is, starts, within, ids-are, head-of, some-ids}
+use Rattle.module_types.specs.Conversion.{first_id, members_of, start_by, index_by_id, Stands, HasIndex, no_span}
+use Rattle.module_types.proofs.Places.{get-or, group-is, filled, starts, within, ids-are, head-of, some-ids}
 
 module _ (t : TypesData) (n k : ℕ) (e : slice_get (group_numbers 0 t.groups) n ≡ Some k) (known : k < length t.groups)
     (all : List CoreTypeId) (are : slice_get (member_ids 0 t.groups) k ≡ Some all) where
   members : 0 < length (members_of t k)
-  members = omega (arith, starts t n k e, within t n k e)
+  members = filled t n k e
 
   pub some : all ≡ [] → ⊥
   some none = some-ids (first_id t.groups k) (length (members_of t k)) members (sym none ∙ ids-are t.groups k all known are)

@@ -8,3 +8,10 @@ pub mod Elements
 pub mod Parts
 pub mod Places
 pub mod Indexing
+pub mod Convertible
+pub mod Extends
+pub mod Told
+pub mod Runs
+pub mod Holding
+pub mod Finding
+pub mod MappedTypes

@@ -1,5 +1,5 @@
 -- Steps leave the groups behind one another.
-use Rattle.std.proofs.Common.{◌≡◌, ◌≤◌, ◌<◌, ℕ, ◌+◌, List, [], ◌∷◌, ◌++◌, length, refl, sym, ap, ◌∙◌, arith}
+use Rattle.std.proofs.Common.{◌≡◌, ◌≤◌, ◌<◌, ℕ, ◌+◌, List, [], ◌∷◌, ◌++◌, length, refl, sym, arith}
 use Rattle.type_spec.specs.Interned.{Span, Built}
 use Rattle.module_types.specs.Orderly.{LieBetween, IsOrderly}
 

@@ -1,5 +1,5 @@
 -- The group of an id, and the id of a group's first member.
-use Rattle.std.proofs.Common.{◌≡◌, ◌≤◌, ◌<◌, ℕ, zero, suc, ◌+◌, ◌-◌, List, [], ◌∷◌, ◌++◌, length, get_or, replicate, Option, Some, refl, sym, ap, ◌∙◌, inl, inr, arith}
+use Rattle.std.proofs.Common.{◌≡◌, ◌≤◌, ◌<◌, ℕ, zero, suc, ◌+◌, ◌-◌, List, [], ◌∷◌, ◌++◌, length, get_or, replicate, Some, sym, ap, ◌∙◌, inl, inr, arith}
 use Rattle.std.specs.Prelude.{slice_get, ◌⊎◌}
 use Rattle.std.proofs.lemmas.List.{length-append}
 use Rattle.wasm_spec.specs.declared.types.CoreTypeId.{CoreTypeId}
@@ -20,8 +20,8 @@ in-parts zero v rest n k e =
 in-parts (suc m) v rest zero k e = inl (omega arith, cc)
 in-parts (suc m) v rest (suc n) k e =
     elim (in-parts m v rest n k e) [
-      inl p ↦ inl (omega (arith, p.0), p.1)
-    | inr p ↦ let same : n - m ≡ suc n - suc m = omega arith in inr (omega (arith, p.0), coe 0 1 (j. slice_get rest (same j) ≡ Some k) p.1)
+      | inl p ↦ inl (omega (arith, p.0), p.1)
+      | inr p ↦ let same : n - m ≡ suc n - suc m = omega arith in inr (omega (arith, p.0), coe 0 1 (j. slice_get rest (same j) ≡ Some k) p.1)
     ]
 
 -- an id is that of a member of a group, which is at a place of the groups from one on
@@ -35,10 +35,10 @@ is-in : (base : ℕ) (gs : List NamedGroup) (n k : ℕ) → slice_get (group_num
 is-in base [] n k e = absurd cc
 is-in base (g ∷ gs) n k e =
     elim (in-parts (length g) base (group_numbers (base + 1) gs) n k e) [
-      inl p ↦ record { place = 0; number = omega (arith, p.1); starts = omega arith; within = omega (arith, p.0) }
-    | inr p ↦
-        let r = is-in (base + 1) gs (n - length g) k p.1 in
-        record { place = suc r.place; number = omega (arith, r.number); starts = omega (arith, r.starts, p.0); within = omega (arith, r.within, p.0) }
+      | inl p ↦ record { place = 0; number = omega (arith, p.1); starts = omega arith; within = omega (arith, p.0) }
+      | inr p ↦
+          let r = is-in (base + 1) gs (n - length g) k p.1 in
+          record { place = suc r.place; number = omega (arith, r.number); starts = omega (arith, r.starts, p.0); within = omega (arith, r.within, p.0) }
     ]
 
 module _ (t : TypesData) (n k : ℕ) (e : slice_get (group_numbers 0 t.groups) n ≡ Some k) where
@@ -56,6 +56,9 @@ module _ (t : TypesData) (n k : ℕ) (e : slice_get (group_numbers 0 t.groups) n
 
   pub within : n < first_id t.groups k + length (get_or t.groups k [])
   within = coe 0 1 (j. n < first_id t.groups (same j) + length (get_or t.groups (same j) [])) found.within
+
+  pub filled : 0 < length (get_or t.groups k [])
+  filled = omega (arith, starts, within)
 
 ids-of : (first : ℕ) (gs : List NamedGroup) (k : ℕ) → k < length gs
     → slice_get (member_ids first gs) k ≡ Some (ids_from (first + first_id gs k) (length (get_or gs k [])))

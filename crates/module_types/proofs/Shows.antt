@@ -1,5 +1,5 @@
 -- What a builder shows after a growing call.
-use Rattle.std.proofs.Common.{◌≡◌, ℕ, Bool, List, [], length, true, false, cond, map, nat_eq, Option, Some, None, OnOk, refl, sym, ap, ◌∙◌}
+use Rattle.std.proofs.Common.{◌≡◌, ℕ, Bool, List, [], length, true, false, cond, nat_eq, Option, Some, None, IfOk, OnOk, refl, sym, ap, ◌∙◌}
 use Rattle.std.specs.Prelude.{Result, Ok, Err}
 use Rattle.std.specs.Result.{is_err}
 use Rattle.std.specs.Option.{option_map}
@@ -19,6 +19,10 @@ where-ok (Err x) e p = absurd cc
 -- what an `Ok` leaves, by another name
 pub ok-to : {A E X : Type 0} (x y z : X) (r : Result A E) → y ≡ z → OnOk r (x ≡ y) → OnOk r (x ≡ z)
 ok-to x y z r e p = coe 0 1 (j. OnOk r (x ≡ e j)) p
+
+pub if-ok : {A E : Type 0} {P Q : A → Type 0} (r : Result A E) → ((x : A) → P x → Q x) → IfOk r P → IfOk r Q
+if-ok (Ok x) each p = each x p
+if-ok (Err x) each p = tt
 
 number-noted : {Space : Type 0} (b : Bool) (k : Index Space) (o : Option (Index Space))
     → option_map number_of (cond b (Some k) o) ≡ cond b (Some (number_of k)) (option_map number_of o)

@@ -1,6 +1,6 @@
 -- What the references of a group become that names types by ids: inside the group the next index plus the place, outside the index of an
 -- interned type.
-use Rattle.std.specs.Prelude.{◌≡◌, ◌≢◌, ◌<◌, ◌≤◌, ◌⊎◌, ℕ, zero, suc, ◌+◌, ◌-◌, get_or, List, [], ◌∷◌, All, length, slice_get, Option, Some, None, IsSome}
+use Rattle.std.specs.Prelude.{◌≡◌, ◌<◌, ◌⊎◌, ℕ, zero, suc, ◌+◌, ◌-◌, get_or, List, [], ◌∷◌, All, length, slice_get, Option, Some, None, IsSome}
 use Rattle.wasm_spec.specs.declared.types.UnpackedIndex.{UnpackedIndex}
 use Rattle.wasm_spec.specs.declared.types.UnpackedIndex.TheVariants as index
 use Rattle.wasm_spec.specs.TypeData.{SubType, map_group, group_edges}

@@ -5,3 +5,7 @@ pub mod Orderly
 pub mod Interner
 pub mod Builder
 pub mod Conversion
+pub mod Runs
+pub mod TypeParts
+pub mod Lent
+pub mod TypeListShape

@@ -1,5 +1,5 @@
 -- What a list of interned types holds.
-use Rattle.std.specs.Prelude.{ℕ, zero, suc, ◌+◌, ◌-◌, List, [], ◌∷◌, ◌++◌, length, map, replicate, set, slice_get, Option, Some, None, option_and_then}
+use Rattle.std.specs.Prelude.{ℕ, ◌+◌, ◌-◌, List, [], ◌∷◌, ◌++◌, length, map, replicate, set, slice_get, Option, Some, None, option_and_then}
 use Rattle.std.specs.declared.ops.Range.{Range}
 use Rattle.std.specs.List.{range_with_len}
 use Rattle.wasm_index.specs.Index.{number_of, index_of}

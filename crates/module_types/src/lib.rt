@@ -5,11 +5,16 @@ mod builder;
 mod error;
 mod group_converter;
 mod interner;
+mod interning;
 mod iterators;
+mod laws;
 mod list;
 mod seed;
+mod trace;
+mod unwrap;
 
 pub use builder::ModuleTypesBuilder;
 pub use error::BuildError;
 pub use iterators::{RecGroupElements, RecGroups, TrampolineTypes};
+pub use laws::{holds_law, ranges_law, runs_law, told_law, trampolines_law};
 pub use list::{ModuleTypes, TypesMut, WasmTypesIter};

@@ -2,8 +2,11 @@
 
 ghost use Rattle.std.specs.Prelude.{◌≡◌, ◌<◌, ◌+◌, ◌-◌, length, map, slice_get, Some, None, IfOk, OnOk, OnErr, IsSome};
 ghost use Rattle.std.specs.Option.{option_copied, option_map};
+ghost use Rattle.std.specs.Borrow.{sem};
 ghost use Rattle.entity_map.specs.Keyed.{keyed};
+ghost use Rattle.entity_map.specs.ValuesMut.{left};
 ghost use Rattle.wasm_index.specs.Index.{number_of, index_of};
+ghost use Rattle.module_types.specs.Lent.{LendsTypes};
 ghost use Rattle.module_types.specs.Views.{span_of};
 ghost use Rattle.module_types.specs.TypeList.{no_types, with_type, with_types, with_range, called_by, trampoline_at, elements_of, called_from};
 
@@ -24,7 +27,7 @@ pub type TypesMut<'a> = ValuesMut<'a, WasmSubType>;
 /// The interned types of a module, their groups, and the trampoline of each function type that has one.
 #[derive(Drop)]
 pub struct ModuleTypes {
-    wasm_types: PrimaryMap<ModuleInternedTypeIndex, WasmSubType>,
+    pub(crate) wasm_types: PrimaryMap<ModuleInternedTypeIndex, WasmSubType>,
     rec_groups: PrimaryMap<ModuleInternedRecGroupIndex, Range<ModuleInternedTypeIndex>>,
     trampolines: Vec<Option<ModuleInternedTypeIndex>>,
 }
@@ -168,6 +171,14 @@ impl ModuleTypes {
         ensures { trampoline_at self.now (number_of ty) ≡ Some result }
     {
         self.trampolines[ty.index()].unwrap()
+    }
+
+    /// Each type in index order, for writing.
+    pub fn iter_mut(&mut self) -> TypesMut<'_>
+        ensures* writes_back { sem 𝓛 (LendsTypes self.entry result) }
+        ensures values { left result ≡ self.old.types }
+    {
+        self.wasm_types.values_mut()
     }
 
     /// Sets the trampoline of a type. It needs no memory.

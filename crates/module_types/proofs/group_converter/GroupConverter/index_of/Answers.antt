@@ -1,4 +1,4 @@
-use Rattle.std.proofs.Common.{◌≡◌, ◌∙◌, ◌+◌, ◌-◌, ℕ, map, length, nat_eq, Option, Some, refl, sym, ap, arith}
+use Rattle.std.proofs.Common.{◌≡◌, ◌∙◌, ◌+◌, ◌-◌, ℕ, map, length, nat_eq, Option, Some, sym, ap, arith}
 use Rattle.std.specs.Option.{option_map}
 use Rattle.std.specs.HashMap.{get}
 use Rattle.std.proofs.lemmas.List.{length-map}

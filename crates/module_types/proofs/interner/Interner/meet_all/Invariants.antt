@@ -1,5 +1,3 @@
-use Rattle.std.proofs.Common.{◌≡◌, ◌<◌, length, drop}
-use Rattle.type_spec.specs.Interned.{meet_all}
 use Rattle.module_types.specs.Interner.{built}
 use Rattle.module_types.proofs.Along.{Along}
 use Rattle.module_types.proofs.interner.Interner.meet_all.Given as goal

@@ -1,4 +1,4 @@
-use Rattle.std.proofs.Common.{◌∙◌, map, length, sym, ap, arith}
+use Rattle.std.proofs.Common.{map, sym, arith}
 use Rattle.std.proofs.lemmas.List.{length-map}
 use Rattle.module_types.specs.Views.{interned_of, span_of}
 use Rattle.module_types.specs.Orderly.{IsOrderly}

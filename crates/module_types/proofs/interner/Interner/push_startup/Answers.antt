@@ -1,11 +1,8 @@
-use Rattle.std.proofs.Common.{◌∙◌, Some, None, refl, ap, arith}
+use Rattle.std.proofs.Common.{arith}
 use Rattle.std.proofs.lemmas.List.{length-map}
-use Rattle.wasm_spec.specs.TypeData.{Func}
-use Rattle.type_spec.specs.Interned.{plain, alone}
-use Rattle.module_types.specs.Views.{called_of, interned_of, span_of}
+use Rattle.module_types.specs.Views.{interned_of, span_of}
 use Rattle.module_types.specs.Interner.{built}
 use Rattle.module_types.proofs.Ordering.{few-groups}
-use Rattle.module_types.proofs.Shows.{ok-to}
 use Rattle.module_types.proofs.interner.Interner.push_startup.Goals as goal
 
 pub push_alone-requires-clause-groups : goal.push_alone-requires-clause-groups

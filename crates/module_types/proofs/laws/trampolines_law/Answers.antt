@@ -1,0 +1,8 @@
+use Rattle.module_types.proofs.MappedTypes.{mapped-twice, same-mapped, mapped-same}
+use Rattle.module_types.proofs.laws.trampolines_law.Goals as goal
+
+pub returns : goal.returns
+returns c = record {
+  once = mapped-twice;
+  told = λ f g. (same-mapped c.equality_law.ensures.function f g, mapped-same c.equality_law.ensures.function f g);
+}

@@ -1,0 +1,47 @@
+//! Laws of interned lists. Each function is the proof of its clauses.
+
+ghost use Rattle.std.specs.Prelude.{◌≡◌, ◌↔◌, ◌<◌, ℕ, List, [], length, true};
+ghost use Rattle.wasm_spec.specs.declared.types.UnpackedIndex.{UnpackedIndex};
+ghost use Rattle.wasm_spec.specs.TypeData.{Group, map_group};
+ghost use Rattle.type_spec.specs.Interned.{Interned, Called, Built, empty, mapped, same_mapped, with_group, with_exception, with_startup};
+ghost use Rattle.form_types.specs.Types.{TypesData};
+ghost use Rattle.module_types.specs.Orderly.{IsOrderly};
+ghost use Rattle.module_types.specs.Builder.{Builder, new_builder, interns};
+ghost use Rattle.module_types.specs.Conversion.{members_of, HoldsGroups};
+ghost use Rattle.module_types.specs.Runs.{with_groups, runs, firsts, AllFilled};
+
+use wasm_types::equality_law;
+
+/// The groups of a builder lie behind one another, from the first type to the last: those of the empty one do, and each step keeps it.
+pub fn ranges_law()
+    ensures none { IsOrderly empty }
+    ensures group { (b : Built) (ts : List Interned) → 0 < length ts → IsOrderly b → IsOrderly (with_group b ts) }
+    ensures exception { (b : Built) (i : ℕ) → IsOrderly b → IsOrderly (with_exception b i) }
+    ensures startup { (b : Built) → IsOrderly b → IsOrderly (with_startup b true) }
+{}
+
+/// Mapping a function type twice is mapping it once, and the test of mapped types tells them.
+pub fn trampolines_law()
+    ensures once { (f : Called) → mapped (mapped f) ≡ mapped f }
+    ensures told { (f g : Called) → (same_mapped (mapped f) g ≡ true) ↔ (mapped f ≡ g) }
+{
+    equality_law();
+}
+
+/// After one more group each id that a builder holds names the group that was interned under it, if it did so before.
+pub fn holds_law()
+    ensures none { (t : TypesData) (validator : ℕ) → HoldsGroups t (new_builder validator) }
+    ensures more { (t : TypesData) (b : Builder) (k : ℕ) (ts : List Interned)
+        → HoldsGroups t b → length ts ≡ length (members_of t k) → HoldsGroups t (interns b k ts) }
+{}
+
+/// A builder that interned groups in turn holds those whose ids came for the first time, in that order, each with its trampolines.
+pub fn runs_law()
+    ensures { (validator : ℕ) (calls : List (ℕ × List Interned)) → (runs (new_builder validator) calls).built ≡ with_groups empty (firsts [] calls) }
+{}
+
+/// Two lists of groups that are not empty are equal exactly where what is built of them has equal types and equal groups.
+pub fn told_law()
+    ensures { (tss uss : List (List Interned)) → AllFilled tss → AllFilled uss
+        → (tss ≡ uss) ↔ (((with_groups empty tss).types ≡ (with_groups empty uss).types) × ((with_groups empty tss).groups ≡ (with_groups empty uss).groups)) }
+{}
