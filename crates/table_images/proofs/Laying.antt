@@ -1,13 +1,13 @@
 -- Cells over an image.
-use Rattle.std.proofs.Common.{◌≡◌, ◌≢◌, ℕ, zero, suc, ◌+◌, ◌-◌, ◌<◌, ◌≤◌, Bool, true, false, List, [], ◌∷◌, ◌++◌, length, get_or, set, map, take, drop, replicate, Option, None, Some, refl, sym, ◌∙◌, ap, subst, arith}
-use Rattle.std.specs.Prelude.{slice_get, unwrap_or, max, nat_le, if◌then◌else◌}
+use Rattle.std.proofs.Common.{◌≡◌, ◌≢◌, ℕ, zero, suc, ◌+◌, ◌-◌, ◌<◌, ◌≤◌, Bool, true, false, List, [], ◌∷◌, ◌++◌, length, get_or, set, take, replicate, Option, None, Some, refl, sym, ◌∙◌, ap, subst, arith}
+use Rattle.std.specs.Prelude.{slice_get, unwrap_or, nat_le, if◌then◌else◌}
 use Rattle.std.specs.Global.{Vec}
 use Rattle.std.specs.Option.{option_map}
 use Rattle.std.proofs.Math.Logic.{⊎_elim}
 use Rattle.std.proofs.Math.ListN.{length-set, length-replicate}
-use Rattle.std.proofs.lemmas.Bool.{cases_lt, cases_eq, leb-true, le-leb}
+use Rattle.std.proofs.lemmas.Bool.{cases_eq, leb-true, le-leb}
 use Rattle.std.proofs.lemmas.List.{length-append, length-map, map-append, map-set, take_all}
-use Rattle.std.proofs.lemmas.Option.{slice_get-map, slice_get-get_or, slice_get_past, same_Some}
+use Rattle.std.proofs.lemmas.Option.{slice_get-map, slice_get-get_or, same_Some}
 use Rattle.wasm_index.specs.declared.index.Index.{Index}
 use Rattle.wasm_index.specs.declared.spaces.FuncSpace.{FuncSpace}
 use Rattle.wasm_index.specs.Index.{index_of}

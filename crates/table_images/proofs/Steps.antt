@@ -1,5 +1,5 @@
 -- One more segment in the images.
-use Rattle.std.proofs.Common.{◌≡◌, ◌≢◌, ℕ, zero, suc, ◌+◌, ◌-◌, ◌<◌, ◌≤◌, Bool, true, false, List, [], ◌∷◌, ◌++◌, length, get_or, map, take, drop, replicate, All, Option, None, Some, ◌⊎◌, inl, inr, refl, sym, ◌∙◌, ap, subst, arith}
+use Rattle.std.proofs.Common.{◌≡◌, ◌≢◌, ℕ, zero, suc, ◌+◌, ◌-◌, ◌<◌, ◌≤◌, Bool, true, false, List, [], ◌∷◌, ◌++◌, length, get_or, map, take, drop, replicate, Option, None, Some, refl, sym, ◌∙◌, ap, subst, arith}
 use Rattle.std.specs.Prelude.{slice_get, unwrap_or, is_some, max, ◌==◌, if◌then◌else◌}
 use Rattle.std.specs.Option.{option_map}
 use Rattle.std.proofs.Math.Logic.{⊎_elim}
@@ -7,13 +7,13 @@ use Rattle.std.proofs.Math.ListN.{length-replicate}
 use Rattle.std.proofs.lemmas.Bool.{cases_lt, cases_eq, eq-eqb, ne_eqb, cond-true, cond-false, false≢true}
 use Rattle.std.proofs.lemmas.List.{map-append, take_more, length-map}
 use Rattle.std.proofs.lemmas.List.Elements.{All-nil, All-push}
-use Rattle.std.proofs.lemmas.Option.{none-some, same_Some, slice_get-map, get_or_from_slice_get, slice_get-get_or, slice_get_within, slice_get_past}
+use Rattle.std.proofs.lemmas.Option.{same_Some, slice_get-map, slice_get-get_or, slice_get_within, slice_get_past}
 use Rattle.wasm_types.specs.declared.table.Table.{Table}
 use Rattle.wasm_module.specs.declared.table_initialization.TableInitialValue.{TableInitialValue}
 use Rattle.wasm_module.specs.declared.table_initialization.TableSegment.{TableSegment}
 use Rattle.replay_spec.specs.Phases.{item_at, last_item}
 use Rattle.replay_spec.specs.Elements.{ActiveElements, DefinedTable}
-use Rattle.replay_spec.specs.Tables.{image_cells, constant_place, image_piece, elements_end, initial_function, is_imaged_from_start, kept_initial, MayBeTaken, end_on, image_length, IsTableImage, TakesPrefix}
+use Rattle.replay_spec.specs.Tables.{image_cells, constant_place, image_piece, elements_end, initial_function, is_imaged_from_start, kept_initial, MayBeTaken, end_on, IsTableImage, TakesPrefix}
 use Rattle.replay_spec.proofs.Replay.{last-append}
 use Rattle.replay_spec.proofs.Covering.{CoversAt, item-cover}
 use Rattle.replay_spec.proofs.TablesJoined.{keeps-none, past-image}

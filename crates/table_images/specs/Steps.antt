@@ -8,7 +8,7 @@ use Rattle.wasm_types.specs.declared.table.Table.{Table}
 use Rattle.wasm_module.specs.declared.table_initialization.TableInitialValue.{TableInitialValue}
 use Rattle.wasm_module.specs.declared.table_initialization.TableSegment.{TableSegment}
 use Rattle.wasm_convert.specs.Constants.{expression_of}
-use Rattle.replay_spec.specs.Phases.{Piece, item_at}
+use Rattle.replay_spec.specs.Phases.{item_at}
 use Rattle.replay_spec.specs.Elements.{ActiveElements, DefinedTable}
 use Rattle.replay_spec.specs.Tables.{AreCells, image_cells, constant_place, most_cells, initial_function, is_imaged_from_start, kept_initial, MayBeTaken, IsTableImage}
 use Rattle.table_images.specs.declared.spot.Spot.{Spot}

@@ -6,5 +6,7 @@ mod first;
 mod lay;
 mod plan;
 mod spot;
+#[cfg(test)]
+mod tests;
 
 pub use plan::plan_tables;

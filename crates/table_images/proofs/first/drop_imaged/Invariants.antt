@@ -1,4 +1,4 @@
-use Rattle.std.proofs.Common.{◌≡◌, ◌++◌, true, length, map, take, drop}
+use Rattle.std.proofs.Common.{◌≡◌, true, length, map, take, drop}
 use Rattle.replay_spec.specs.Tables.{kept_initial}
 use Rattle.table_images.specs.Views.{defined_tables_of, initial_of}
 use Rattle.table_images.proofs.first.drop_imaged.Given as goal

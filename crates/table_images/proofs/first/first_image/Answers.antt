@@ -1,5 +1,4 @@
-use Rattle.std.proofs.Common.{◌≡◌, ◌∙◌, ap, sym, replicate, subst}
-use Rattle.std.specs.Prelude.{IfSome, if◌then◌else◌}
+use Rattle.std.proofs.Common.{◌∙◌, ap, sym, replicate, subst}
 use Rattle.table_images.specs.Steps.{IsCell}
 use Rattle.table_images.specs.Views.{image_of, defined_table_of}
 use Rattle.table_images.proofs.CellsStand.{cell-function, cells-replicate}

@@ -1,4 +1,4 @@
-use Rattle.std.proofs.Common.{arith, sym}
+use Rattle.std.proofs.Common.{arith}
 use Rattle.table_images.proofs.Laying.{grown-cells}
 use Rattle.table_images.proofs.lay.grow.Goals as goal
 
