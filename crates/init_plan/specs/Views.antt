@@ -145,8 +145,18 @@ SameButSegments old new = new ≡ record old { memory_init = new.memory_init }
 pub record IsNewTranslation (module_index : Index StaticModuleSpace) (t : ModuleTranslation) : Type 0 where
   pub record_of_module : record_of t.module ≡ empty_record module_index
   pub no_bytes : t.wasm.now ≡ []
+  pub at_the_beginning : t.wasm_module_offset ≡ 0
+  pub no_bodies : t.function_body_inputs ≡ []
+  pub no_signatures : t.exported_signatures.items ≡ []
+  pub no_alignment : t.data_align ≡ None
   pub nothing_found : t.runtime_data_map ≡ record { default = None; items = [] }
+  pub no_numbers : t.passive_elem_map ≡ record { default = None; items = [] }
   pub no_runtime : t.runtime_data ≡ []
+  pub no_start : t.start_func ≡ None
+  pub no_globals : t.global_initializers.items ≡ []
+  pub no_passive_elements : t.passive_elements ≡ []
+  pub no_initial_values : t.table_initialization.initial_values ≡ []
+  pub no_elements : t.table_initialization.segments.items ≡ []
   pub unprocessed : IsUnprocessed t.memory_init
   pub no_segments : initializers_of t ≡ []
   pub no_passive : passive_data_of t ≡ []

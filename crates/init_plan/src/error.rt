@@ -1,8 +1,10 @@
 //! Why there is no plan.
 
 ghost use Rattle.std.specs.Prelude.{◌≡◌};
+ghost use Rattle.init_plan.specs.Errors.{error_of_build};
 ghost use Rattle.init_plan.specs.declared.error.PlanError.TheVariants.{OutOfMemory};
 
+use module_types::BuildError;
 use std::alloc::{AllocError, AllocFailed};
 use thiserror::Error;
 
@@ -15,6 +17,20 @@ pub enum PlanError {
     /// There was no memory.
     #[error("out of memory")]
     OutOfMemory,
+    /// The builder of types had answered an error before.
+    #[error("an earlier call of the builder failed")]
+    Poisoned,
+}
+
+impl From<BuildError> for PlanError {
+    ghost from_gives = { λ e error. error ≡ error_of_build e };
+
+    fn from(e: BuildError) -> PlanError {
+        match e {
+            BuildError::OutOfMemory => PlanError::OutOfMemory,
+            BuildError::Poisoned => PlanError::Poisoned,
+        }
+    }
 }
 
 impl From<entity_map::OutOfMemory> for PlanError {

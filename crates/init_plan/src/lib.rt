@@ -4,8 +4,11 @@
 mod error;
 mod memory_init;
 mod runtime_data;
+mod startup;
 mod translation;
 
 pub use error::PlanError;
-pub use translation::{MemoryInit, MemorySegmentOffset, ModuleTranslation, RuntimeBytes};
+pub use translation::{
+    FunctionBodyData, MemoryInit, MemorySegmentOffset, ModuleTranslation, RuntimeBytes,
+};
 pub use wasm_module::{MemoryInitialization, MemoryInitializer, Module};

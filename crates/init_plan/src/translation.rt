@@ -5,10 +5,14 @@ ghost use Rattle.wasm_index.specs.Index.{number_of};
 ghost use Rattle.init_plan.specs.Views.{bytes_of, passive_data_of, IsNewTranslation, SameButPassive};
 
 use entity_map::{OutOfMemory, PrimaryMap, SecondaryMap};
+use form_data::FunctionBody;
 use std::alloc::Global;
 use wasm_convert::ConstExpr;
-use wasm_index::{DataIndex, MemoryIndex, RuntimeDataIndex, StaticModuleIndex};
-use wasm_module::{MemoryInitializer, Module};
+use wasm_index::{
+    DataIndex, DefinedFuncIndex, DefinedGlobalIndex, ElemIndex, FuncIndex, MemoryIndex,
+    ModuleInternedTypeIndex, PassiveElemIndex, RuntimeDataIndex, StaticModuleIndex,
+};
+use wasm_module::{MemoryInitializer, Module, TableInitialization, TableSegmentElements};
 
 /// A translated module, and what is known of it only while it is compiled.
 #[derive(Drop)]
@@ -16,13 +20,37 @@ pub struct ModuleTranslation<'d> {
     pub module: Module,
     /// The bytes that were translated.
     pub wasm: &'d [u8],
+    /// Where these bytes begin in the whole input.
+    pub wasm_module_offset: u64,
+    /// The body of each defined function.
+    pub function_body_inputs: PrimaryMap<DefinedFuncIndex, FunctionBodyData<'d>>,
+    /// The types of the functions to which references are made, each once, in order.
+    pub exported_signatures: Vec<ModuleInternedTypeIndex>,
+    /// The alignment of memory images in bytes, where the memories begin as images.
+    pub data_align: Option<u64>,
     /// The runtime data of each passive data segment.
     pub runtime_data_map: SecondaryMap<DataIndex, Option<RuntimeDataIndex>>,
+    /// The number of each passive element segment among those.
+    pub passive_elem_map: SecondaryMap<ElemIndex, Option<PassiveElemIndex>>,
     /// The bytes of each runtime data.
     pub runtime_data: PrimaryMap<RuntimeDataIndex, RuntimeBytes<'d>>,
+    /// The start function (core specification, 2.5, start function).
+    pub start_func: Option<FuncIndex>,
+    /// The globals whose first value is known only when the module is instantiated, and its expression.
+    pub global_initializers: Vec<(DefinedGlobalIndex, ConstExpr)>,
+    /// The elements of each passive element segment.
+    pub passive_elements: PrimaryMap<PassiveElemIndex, TableSegmentElements>,
+    /// How the tables begin, before and after they are planned.
+    pub table_initialization: TableInitialization,
     /// The active data segments, before and after they are planned.
     pub memory_init: MemoryInit<'d>,
     pub(crate) passive_data: Vec<(DataIndex, &'d [u8])>,
+}
+
+/// A function body that is compiled later.
+#[derive(Drop)]
+pub struct FunctionBodyData<'d> {
+    pub body: FunctionBody<'d>,
 }
 
 /// Bytes of the input, or bytes that were made.
@@ -70,8 +98,20 @@ impl<'d> ModuleTranslation<'d> {
         Ok(ModuleTranslation {
             module: Module::new(alloc, module_index)?,
             wasm: &[],
+            wasm_module_offset: 0,
+            function_body_inputs: PrimaryMap::new(alloc),
+            exported_signatures: Vec::new(alloc),
+            data_align: None,
             runtime_data_map: SecondaryMap::new(alloc, None),
+            passive_elem_map: SecondaryMap::new(alloc, None),
             runtime_data: PrimaryMap::new(alloc),
+            start_func: None,
+            global_initializers: Vec::new(alloc),
+            passive_elements: PrimaryMap::new(alloc),
+            table_initialization: TableInitialization {
+                initial_values: PrimaryMap::new(alloc),
+                segments: Vec::new(alloc),
+            },
             memory_init: MemoryInit::Unprocessed(Vec::new(alloc)),
             passive_data: Vec::new(alloc),
         })

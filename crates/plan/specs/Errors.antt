@@ -21,3 +21,5 @@ error_of_check checks.OutOfMemory = refusal.OutOfMemory
 abbrev pub error_of_plan : PlanError → TranslateError
 error_of_plan plan.TooLarge = refusal.TooLarge
 error_of_plan plan.OutOfMemory = refusal.OutOfMemory
+-- a builder is poisoned by want of memory alone
+error_of_plan plan.Poisoned = refusal.OutOfMemory

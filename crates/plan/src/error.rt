@@ -57,7 +57,8 @@ impl From<PlanError> for TranslateError {
     fn from(e: PlanError) -> TranslateError {
         match e {
             PlanError::TooLarge => TranslateError::TooLarge,
-            PlanError::OutOfMemory => TranslateError::OutOfMemory,
+            // A builder is poisoned by want of memory alone.
+            PlanError::OutOfMemory | PlanError::Poisoned => TranslateError::OutOfMemory,
         }
     }
 }

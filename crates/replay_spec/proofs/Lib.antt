@@ -3,6 +3,12 @@ pub mod Kept
 pub mod Typed
 pub mod Replay
 pub mod Covering
+pub mod Placed
+pub mod Laid
+pub mod Joined
+pub mod Tight
+pub mod One
+pub mod WorkedImages
 pub mod TablesJoined
 pub mod Taken
 pub mod GlobalsKnown

@@ -3,9 +3,11 @@ pub mod Values
 pub mod Classes
 pub mod Data
 pub mod Plan
+pub mod Images
 pub mod Elements
 pub mod Tables
 pub mod Globals
 pub mod Startup
 pub mod Worked
+pub mod WorkedImages
 pub mod WorkedTables

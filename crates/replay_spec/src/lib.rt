@@ -4,19 +4,23 @@
 #![tactic(auto)]
 
 mod global_laws;
+mod image_laws;
 mod laws;
 mod startup_laws;
 mod table_laws;
 mod worked;
+mod worked_images;
 mod worked_tables;
 
 pub use global_laws::global_plan_law;
+pub use image_laws::{memory_image_laws, memory_plan_laws};
 pub use laws::{constant_value_law, typed_value_law};
 pub use startup_laws::startup_law;
 pub use table_laws::{table_plan_law, taken_law};
 pub use worked::{
     worked_constants, worked_phases, worked_ranges, worked_references, worked_values,
 };
+pub use worked_images::worked_memory_images;
 pub use worked_tables::{
     worked_element_phases, worked_globals, worked_startup, worked_table_images,
 };

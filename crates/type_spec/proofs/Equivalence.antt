@@ -44,7 +44,7 @@ home-from-start start (g ∷ gs) i h =
     home-either (nat_lt i (start + length g)) (record { start = start; members = g }) (home_from (start + length g) gs i) i h
     (λ e. home-from-start (start + length g) gs i (omega (arith, ltb-false i (start + length g) e)))
 
-home-start : (gs : List (Group ℕ ℕ)) (i : ℕ) → (home gs i).start ≤ i
+pub home-start : (gs : List (Group ℕ ℕ)) (i : ℕ) → (home gs i).start ≤ i
 home-start gs i = home-from-start 0 gs i (omega arith)
 
 -- ---- references

@@ -1,6 +1,7 @@
 -- Small lists of groups.
 use Rattle.std.specs.Prelude.{ℕ, Bool, true, false, List, [], ◌∷◌, None}
-use Rattle.wasm_spec.specs.TypeData.{Group, SubType, Value, Ref, Concrete, Func}
+use Rattle.wasm_spec.specs.declared.types.AbstractHeapType.TheVariants as heap
+use Rattle.wasm_spec.specs.TypeData.{Group, SubType, Heap, Value, Ref, Concrete, Abstract, Func}
 
 abbrev pub function : Bool → List (Value ℕ) → SubType ℕ ℕ
 function final ps = record { is_final = final; supertype = None; composite = record { inner = Func (record { params = ps; results = [] }); shared = false } }
@@ -19,3 +20,25 @@ rings = (function true (to 0 ∷ []) ∷ []) ∷ (function true (to 2 ∷ []) �
 -- a group of one, and the same type in a group of two
 abbrev pub longer : List (Group ℕ ℕ)
 longer = (function true [] ∷ []) ∷ (function true [] ∷ function false [] ∷ []) ∷ []
+
+-- [] -> [] twice, and then once more, open
+abbrev pub repeated : List (Group ℕ ℕ)
+repeated = (function true [] ∷ []) ∷ (function true [] ∷ []) ∷ (function false [] ∷ []) ∷ []
+
+abbrev pub not_null : {H : Type 0} → Heap H → Value H
+not_null h = Ref (record { nullable = false; heap = h })
+
+abbrev pub or_null : {H : Type 0} → Heap H → Value H
+or_null h = Ref (record { nullable = true; heap = h })
+
+-- a function that takes a reference to itself, which is not null
+abbrev pub itself : List (Group ℕ ℕ)
+itself = (function true (not_null (Concrete 0) ∷ []) ∷ []) ∷ []
+
+-- a group without types between two others
+abbrev pub hollow : List (Group ℕ ℕ)
+hollow = (function true [] ∷ []) ∷ [] ∷ (function false [] ∷ []) ∷ []
+
+-- a function that takes a function, and one whose type is the trampoline of the first
+abbrev pub as_called : List (Group ℕ ℕ)
+as_called = (function true (not_null (Abstract heap.Func) ∷ []) ∷ []) ∷ (function true (or_null (Abstract heap.Func) ∷ []) ∷ []) ∷ []

@@ -1,8 +1,13 @@
 //! Worked examples of the definitions: each clause computes.
 
-ghost use Rattle.std.specs.Prelude.{◌≡◌, true, false};
+ghost use Rattle.std.specs.Prelude.{◌≡◌, [], ◌∷◌, ◌++◌, true, false, Some, None};
+ghost use Rattle.wasm_spec.specs.TypeData.{Abstract, Concrete, Func, Exn, Val};
+ghost use Rattle.type_data.specs.Names.{FuncName};
 ghost use Rattle.type_spec.specs.Equality.{same_type};
-ghost use Rattle.type_spec.specs.Worked.{twice, rings, longer};
+ghost use Rattle.type_spec.specs.Interned.{interned, taken, plain, startup_type};
+ghost use Rattle.type_spec.specs.Worked.{twice, rings, longer, repeated, itself, hollow, as_called, not_null, or_null};
+
+use wasm_spec::AbstractHeapType;
 
 /// When types are equal.
 pub fn worked_equality()
@@ -12,4 +17,42 @@ pub fn worked_equality()
     ensures one_another { same_type rings rings 1 2 ≡ false }
     ensures in_a_group { same_type longer longer 0 1 ≡ false }
     ensures across { same_type twice longer 2 0 ≡ true }
+{}
+
+/// A group that is repeated is interned once, and one that differs in finality is another; both have one trampoline.
+pub fn worked_repeated()
+    ensures types { (interned repeated [] false).types ≡ plain (Func (record { params = []; results = [] }))
+        ∷ record { is_final = false; supertype = None; composite = record { inner = Func (record { params = []; results = [] }); shared = false } } ∷ [] }
+    ensures groups { (interned repeated [] false).groups ≡ record { start = 0; end = 1 } ∷ record { start = 1; end = 2 } ∷ [] }
+    ensures trampolines { (interned repeated [] false).trampolines ≡ Some 0 ∷ Some 0 ∷ [] }
+    ensures declared { (taken repeated).declared ≡ 0 ∷ 0 ∷ 1 ∷ [] }
+{}
+
+/// A group without types is not interned.
+pub fn worked_hollow()
+    ensures groups { (interned hollow [] false).groups ≡ record { start = 0; end = 1 } ∷ record { start = 1; end = 2 } ∷ [] }
+    ensures declared { (taken hollow).declared ≡ 0 ∷ 1 ∷ [] }
+{}
+
+/// A function that takes a reference has a trampoline of its own, in a group of its own.
+pub fn worked_trampoline()
+    ensures types { (interned itself [] false).types
+        ≡ plain (Func (record { params = not_null (Concrete (record { kind = FuncName; index = 0 })) ∷ []; results = [] }))
+        ∷ plain (Func (record { params = or_null (Abstract AbstractHeapType.Func) ∷ []; results = [] })) ∷ [] }
+    ensures groups { (interned itself [] false).groups ≡ record { start = 0; end = 1 } ∷ record { start = 1; end = 2 } ∷ [] }
+    ensures trampolines { (interned itself [] false).trampolines ≡ Some 1 ∷ Some 1 ∷ [] }
+{}
+
+/// A declared type that equals an appended trampoline is another type, which is called by that trampoline.
+pub fn worked_as_called()
+    ensures declared { (taken as_called).declared ≡ 0 ∷ 2 ∷ [] }
+    ensures trampolines { (interned as_called [] false).trampolines ≡ Some 1 ∷ Some 1 ∷ Some 1 ∷ [] }
+{}
+
+/// An exception type comes once for a function type and has its parameters, and the startup type comes last.
+pub fn worked_exceptions()
+    ensures types { (interned itself (0 ∷ 0 ∷ []) true).types ≡ (taken itself).built.types
+        ++ plain (Exn (record { function = 0; fields = record { element = Val (not_null (Concrete (record { kind = FuncName; index = 0 }))); mutable = false } ∷ [] }))
+        ∷ startup_type ∷ [] }
+    ensures trampolines { (interned itself (0 ∷ 0 ∷ []) true).trampolines ≡ Some 1 ∷ Some 1 ∷ None ∷ None ∷ [] }
 {}

@@ -1,0 +1,3 @@
+pub mod Ids
+pub mod Types
+pub mod Kept

@@ -1,0 +1,18 @@
+//! The members of a group.
+
+ghost use Rattle.std.specs.Prelude.{◌≡◌, ◌<◌, length, map, slice_get, Some};
+ghost use Rattle.form_data.specs.Views.{sub_type_of};
+
+use crate::elements::RecGroupId;
+use crate::numbering::Types;
+use form_data::SubType;
+
+impl Types {
+    /// The members of a group, in order, as they name types by ids. (This project's own.)
+    pub fn members(&self, group: RecGroupId) -> &[SubType]
+        requires { group.0 < length self.now.groups }
+        ensures { slice_get self.now.groups group.0 ≡ Some (map sub_type_of result.now) }
+    {
+        self.groups[group.0 as usize].types.as_slice()
+    }
+}

@@ -1,0 +1,33 @@
+-- The bytes that segments lay into each memory.
+use Rattle.std.specs.Prelude.{◌≡◌, ◌≢◌, ◌+◌, ◌++◌, ℕ, List, [], ◌∷◌, length, nat_lt, if◌then◌else◌, slice_get, Some, All}
+use Rattle.std.specs.List.{AllZip}
+use Rattle.std.specs.Global.{Vec}
+use Rattle.replay_spec.specs.Data.{ActiveSegment}
+use Rattle.replay_spec.specs.Images.{ImageOptions, ImageMemory, IsPlaced, bytes_on, start_of, MayBeImage}
+use Rattle.memory_images.specs.declared.laid.Laid.{Laid}
+
+-- laid bytes are a segment's, at the place that its offset names
+pub record IsLaidFrom (x : Laid) (s : ActiveSegment) : Type 0 where
+  pub start : x.start ≡ start_of s
+  pub bytes : x.bytes.now ≡ s.bytes
+
+-- each memory, imported ones first, has the segments on it that are not empty, in order
+pub record AreLaid (imports : ℕ) (memories : List ImageMemory) (active : List ActiveSegment) (all : List (Vec Laid)) : Type 0 where
+  pub placed : All (IsPlaced imports memories) active
+  pub count : length all ≡ imports + length memories
+  pub each : (m : ℕ) (laid : Vec Laid) → slice_get all m ≡ Some laid → AllZip IsLaidFrom laid.items (bytes_on m active)
+
+-- bytes, unless there are none
+abbrev pub unless_empty : Laid → List Laid
+unless_empty x = if nat_lt 0 (length x.bytes.now) then x ∷ [] else []
+
+-- x, unless it is empty, at the end of list number m
+pub record Adds (old new : List (Vec Laid)) (m : ℕ) (x : Laid) : Type 0 where
+  pub count : length new ≡ length old
+  pub here : (v w : Vec Laid) → slice_get old m ≡ Some v → slice_get new m ≡ Some w → w.items ≡ v.items ++ unless_empty x
+  pub there : (k : ℕ) → k ≢ m → slice_get new k ≡ slice_get old k
+
+-- the segments on each defined memory with bytes may be its image
+abbrev pub MayBeImages : ImageOptions → ℕ → List ImageMemory → List ActiveSegment → Type 0
+MayBeImages options imports memories active = (m : ℕ) (memory : ImageMemory) → slice_get memories m ≡ Some memory
+    → bytes_on (imports + m) active ≢ [] → MayBeImage options memory (bytes_on (imports + m) active)

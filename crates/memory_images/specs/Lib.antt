@@ -1,0 +1,7 @@
+pub mod Ranges
+pub mod Gaps
+pub mod Contents
+pub mod Image
+pub mod Images
+pub mod Views
+pub mod Layout

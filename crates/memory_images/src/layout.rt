@@ -1,0 +1,62 @@
+//! The segments of each memory.
+
+ghost use Rattle.std.specs.Prelude.{◌≡◌, ◌+◌, ◌^◌, ◌≤◌, ◌<◌, ℕ, [], All, IfOk, IfSome, IfNone, OnOk, Some, length, map, slice_get, vec_len};
+ghost use Rattle.std.specs.Global.{Vec};
+ghost use Rattle.replay_spec.specs.Images.{IsPlaced};
+ghost use Rattle.memory_images.specs.declared.laid.Laid.{Laid};
+ghost use Rattle.memory_images.specs.Views.{memories_of, active_of};
+ghost use Rattle.memory_images.specs.Layout.{AreLaid, Adds};
+
+use crate::laid::Laid;
+use crate::place::place_of;
+use crate::segment::{Active, Memory};
+use entity_map::OutOfMemory;
+use std::alloc::Global;
+
+fn add<'d>(all: &mut Vec<Vec<Laid<'d>>>, memory: usize, laid: Laid<'d>) -> Result<(), OutOfMemory>
+    requires { memory < vec_len all.old }
+    ensures len { OnOk result (vec_len all.new ≡ vec_len all.old) }
+    ensures adds { OnOk result (Adds all.old.items all.new.items memory laid.entry) }
+{
+    if laid.bytes.is_empty() {
+        return Ok(());
+    }
+    all[memory].push(laid)?;
+    Ok(())
+}
+
+fn empty_lists<'d>(alloc: Global, count: usize) -> Result<Vec<Vec<Laid<'d>>>, OutOfMemory>
+    ensures len { IfOk result (λ v. vec_len v ≡ count) }
+    ensures empty { IfOk result (λ v. (m : ℕ) (laid : Vec Laid) → slice_get v.items m ≡ Some laid → laid.items ≡ []) }
+{
+    let mut all = Vec::with_capacity(alloc, count)?;
+    'lists: for _ in 0..count {
+        all.push(Vec::new(alloc))?;
+    }
+    Ok(all)
+}
+
+/// The bytes that segments lay into each memory, or `None` where one has no place.
+pub(crate) fn lay_out<'d>(
+    alloc: Global,
+    imported: usize,
+    defined: &[Memory],
+    segments: &[Active<'d>],
+) -> Result<Option<Vec<Vec<Laid<'d>>>>, OutOfMemory>
+    requires sizes { All (λ m. m.page_size_log2 ≤ 16) defined.now }
+    requires few { imported + length defined.now < 2 ^ 32 }
+    ensures none { IfOk result (λ o. IfNone o (All (IsPlaced imported (memories_of defined.now)) (map active_of segments.now) → ⊥)) }
+    ensures some { IfOk result (λ o. IfSome o (λ v. AreLaid imported (memories_of defined.now) (map active_of segments.now) v.items)) }
+{
+    let mut all = empty_lists(alloc, imported + defined.len())?;
+    'segments: for segment in segments {
+        match place_of(imported, defined, segment) {
+            None => return Ok(None),
+            Some(start) => {
+                let bytes = segment.bytes;
+                add(&mut all, segment.memory, Laid { start, bytes })?;
+            }
+        }
+    }
+    Ok(Some(all))
+}

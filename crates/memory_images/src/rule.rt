@@ -1,0 +1,96 @@
+//! Whether all active segments become images.
+
+ghost use Rattle.std.specs.Prelude.{◌≡◌, ◌≢◌, ◌+◌, ◌^◌, ◌≤◌, ◌<◌, ◌↔◌, ℕ, List, [], All, IsTrue, IfOk, IfSome, IfNone, length, map};
+ghost use Rattle.std.specs.List.{AllZip};
+ghost use Rattle.std.specs.Int.{IsPowerOfTwo};
+ghost use Rattle.replay_spec.specs.Data.{ActiveSegment};
+ghost use Rattle.replay_spec.specs.Images.{IsDense, MayBeImage, IsStatic};
+ghost use Rattle.memory_images.specs.Contents.{end_of, HasRoom};
+ghost use Rattle.memory_images.specs.Views.{memory_of, memories_of, active_of, options_of};
+ghost use Rattle.memory_images.specs.Layout.{IsLaidFrom, AreLaid, MayBeImages};
+
+use crate::laid::Laid;
+use crate::layout::lay_out;
+use crate::place::page_size;
+use crate::segment::{Active, ImageSettings, Memory};
+use entity_map::OutOfMemory;
+use std::alloc::Global;
+
+// Whether the bytes lie close together, or within `max_image`.
+fn is_dense(laid: &[Laid<'_>], max_image: u64) -> bool
+    requires { All (λ x. end_of x < 2 ^ 64) laid.now }
+    ensures { (ss : List ActiveSegment) → AllZip IsLaidFrom laid.now ss → IsTrue result ↔ IsDense max_image ss }
+{
+    let mut low = u64::MAX;
+    let mut high = 0;
+    let mut count: u128 = 0;
+    'laid: for x in laid {
+        low = low.min(x.start);
+        high = high.max(x.start + x.bytes.len() as u64);
+        count += x.bytes.len() as u128;
+    }
+    let extent = high.saturating_sub(low);
+    u128::from(extent) < 2 * count || extent < max_image
+}
+
+// Whether a memory has no bytes, or they may be its image.
+fn may_be_image(laid: &[Laid<'_>], memory: Memory, settings: ImageSettings) -> bool
+    requires size { memory.page_size_log2 ≤ 16 }
+    requires fits { All (λ x. end_of x < 2 ^ 64) laid.now }
+    ensures { (ss : List ActiveSegment) → AllZip IsLaidFrom laid.now ss
+        → IsTrue result ↔ (ss ≢ [] → MayBeImage (options_of settings) (memory_of memory) ss) }
+{
+    laid.is_empty() || settings.page_size <= page_size(memory) && is_dense(laid, settings.max_image)
+}
+
+// Whether the bytes of each defined memory may be its image.
+fn may_be_images(
+    imported: usize,
+    defined: &[Memory],
+    segments: &[Active<'_>],
+    all: &[Vec<Laid<'_>>],
+    settings: ImageSettings,
+) -> bool
+    requires sizes { All (λ m. m.page_size_log2 ≤ 16) defined.now }
+    requires few { imported + length defined.now < 2 ^ 32 }
+    requires laid { AreLaid imported (memories_of defined.now) (map active_of segments.now) all.now }
+    ensures { IsTrue result ↔ MayBeImages (options_of settings) imported (memories_of defined.now) (map active_of segments.now) }
+{
+    'memories: for m in 0..defined.len() {
+        if !may_be_image(all[imported + m].as_slice(), defined[m], settings) {
+            return false;
+        }
+    }
+    true
+}
+
+/// The bytes that segments lay into each memory, where all of them become images.
+pub(crate) fn static_layout<'d>(
+    alloc: Global,
+    settings: ImageSettings,
+    imported: usize,
+    defined: &[Memory],
+    segments: &[Active<'d>],
+) -> Result<Option<Vec<Vec<Laid<'d>>>>, OutOfMemory>
+    requires sizes { All (λ m. m.page_size_log2 ≤ 16) defined.now }
+    requires page_size { IsPowerOfTwo settings.page_size }
+    requires few { imported + length defined.now < 2 ^ 32 }
+    ensures none { IfOk result (λ o. IfNone o (IsStatic (options_of settings) imported (memories_of defined.now) (map active_of segments.now) → ⊥)) }
+    ensures holds { IfOk result (λ o. IfSome o (λ _. IsStatic (options_of settings) imported (memories_of defined.now) (map active_of segments.now))) }
+    ensures laid { IfOk result (λ o. IfSome o (λ v. AreLaid imported (memories_of defined.now) (map active_of segments.now) v.items)) }
+    ensures room { IfOk result (λ o. IfSome o (λ v. All (λ laid. HasRoom settings.page_size laid.items) v.items)) }
+{
+    if !settings.enabled {
+        return Ok(None);
+    }
+    match lay_out(alloc, imported, defined, segments)? {
+        None => Ok(None),
+        Some(all) => {
+            if may_be_images(imported, defined, segments, all.as_slice(), settings) {
+                Ok(Some(all))
+            } else {
+                Ok(None)
+            }
+        }
+    }
+}

@@ -1,0 +1,10 @@
+pub mod Keys
+pub mod Steps
+pub mod Ordering
+pub mod Along
+pub mod Exceptions
+pub mod Shows
+pub mod Elements
+pub mod Parts
+pub mod Places
+pub mod Indexing

@@ -1,0 +1,167 @@
+-- What a step of an interner does to what it holds.
+use Rattle.std.proofs.Common.{◌≡◌, ℕ, zero, suc, ◌<◌, ◌+◌, List, [], ◌∷◌, ◌++◌, length, get_or, set, map, replicate, Bool, true, false, cond, Option, Some, None, refl, sym, ap, ◌∙◌, arith}
+use Rattle.std.specs.Prelude.{if◌then◌else◌, slice_get}
+use Rattle.std.specs.Option.{option_map}
+use Rattle.std.specs.declared.ops.Range.{Range}
+use Rattle.std.proofs.lemmas.List.{length-map, length-append}
+use Rattle.wasm_spec.specs.TypeData.{Func}
+use Rattle.type_spec.specs.Interned.{Interned, Called, Built, mapped, same_mapped, plain, alone, now_met, meets, with_trampoline, meet_at, meet, composite_at, opened}
+use Rattle.wasm_index.specs.Index.{number_of, index_of}
+use Rattle.wasm_types.specs.declared.func.WasmFuncType.{WasmFuncType}
+use Rattle.wasm_types.specs.declared.composite.WasmCompositeInnerType.{WasmCompositeInnerType}
+use Rattle.wasm_types.specs.declared.composite.WasmCompositeInnerType.TheVariants as inner
+use Rattle.wasm_types.specs.declared.sub.WasmSubType.{WasmSubType}
+use Rattle.wasm_types.specs.contracts.equal.WasmFuncTypePartialEq.TheImpl as func
+use Rattle.wasm_types.specs.Trampolines.{trampoline_of}
+use Rattle.module_types.specs.Views.{TypeIndex, inner_of, interned_of, called_of, function_at, span_of}
+use Rattle.module_types.specs.TypeList.{TypeList, with_type, with_types, with_range, called_by}
+use Rattle.module_types.specs.Held.{built_of}
+use Rattle.module_types.proofs.Keys.{function-back, mapped-is, key-is}
+
+-- ---- lists
+
+pub map-set : {A B : Type 0} (f : A → B) (xs : List A) (i : ℕ) (v : A) → map f (set xs i v) ≡ set (map f xs) i (f v)
+map-set f [] i v = refl
+map-set f (x ∷ xs) zero v = refl
+map-set f (x ∷ xs) (suc i) v = λ j. f x ∷ map-set f xs i v j
+
+pub map-both : {A B : Type 0} (f : A → B) (xs ys : List A) → map f (xs ++ ys) ≡ map f xs ++ map f ys
+map-both f [] ys = refl
+map-both f (x ∷ xs) ys = λ j. f x ∷ map-both f xs ys j
+
+pub map-replicate : {A B : Type 0} (f : A → B) (n : ℕ) (v : A) → map f (replicate n v) ≡ replicate n (f v)
+map-replicate f zero v = refl
+map-replicate f (suc n) v = λ j. f v ∷ map-replicate f n v j
+
+-- ---- types that were read
+
+read-at : (ts : List WasmSubType) (i : ℕ) (x : WasmSubType) → slice_get ts i ≡ Some x → composite_at (map interned_of ts) i ≡ inner_of x.composite_type.inner
+read-at [] i x h = absurd cc
+read-at (t ∷ ts) zero x h = let e : t ≡ x = cc in ap (λ y. inner_of y.composite_type.inner) e
+read-at (t ∷ ts) (suc i) x h = read-at ts i x h
+
+-- the composite type of an element that was read
+pub composite-read : (ts : List WasmSubType) (i : ℕ) (x : WasmSubType) → slice_get ts i ≡ Some x
+    → (c : WasmCompositeInnerType) → x.composite_type.inner ≡ c → composite_at (map interned_of ts) i ≡ inner_of c
+composite-read ts i x read c is = read-at ts i x read ∙ ap inner_of is
+
+-- ---- a type of its own
+
+module _ (l : TypeList) (get : WasmFuncType → Option TypeIndex) where
+  abbrev held : Built
+  held = built_of l get
+
+  pub alone-is : (t : WasmSubType) (k : Option TypeIndex) (r : Range TypeIndex) → r.start ≡ index_of (length l.types)
+      → r.end ≡ index_of (length (l.types ++ t ∷ []))
+      → built_of (with_range (with_type l t k) r) get ≡ alone held (interned_of t) (option_map number_of k)
+  alone-is t k r start end =
+      let long = sym (length-map l.types interned_of) in
+      λ j. record {
+        types = map-both interned_of l.types (t ∷ []) j;
+        groups = (map-both span_of l.groups (r ∷ [])
+            ∙ (λ i. map span_of l.groups ++ record { start = (ap number_of start ∙ long) i; end = (ap number_of end ∙ length-append l.types (t ∷ []) ∙ ap (λ n. n + 1) long) i } ∷ [])) j;
+        trampolines = map-both (option_map number_of) l.trampolines (k ∷ []) j;
+        met = held.met;
+      }
+
+  pub opened-is : (ts : List WasmSubType) (r : Range TypeIndex) → r.start ≡ index_of (length l.types)
+      → r.end ≡ index_of (length (l.types ++ ts))
+      → built_of (with_range (with_types l ts) r) get ≡ opened held (map interned_of ts)
+  opened-is ts r start end =
+      let long = sym (length-map l.types interned_of) in
+      let many = sym (length-map ts interned_of) in
+      λ j. record {
+        types = map-both interned_of l.types ts j;
+        groups = (map-both span_of l.groups (r ∷ [])
+            ∙ (λ i. map span_of l.groups ++ record { start = (ap number_of start ∙ long) i; end = (ap number_of end ∙ length-append l.types ts ∙ (λ m. long m + many m)) i } ∷ [])) j;
+        trampolines = (map-both (option_map number_of) l.trampolines (replicate (length ts) None)
+            ∙ ap (λ ks. map (option_map number_of) l.trampolines ++ ks) (map-replicate (option_map number_of) (length ts) None ∙ ap (λ n. replicate n None) many)) j;
+        met = held.met;
+      }
+
+-- ---- a function and its trampoline
+
+module _ (l : TypeList) (get : WasmFuncType → Option TypeIndex) (i : ℕ) (f : WasmFuncType)
+    (kind : composite_at (map interned_of l.types) i ≡ Func (called_of f)) where
+  abbrev old : Built
+  old = built_of l get
+
+  made : (o : Option TypeIndex) → o ≡ get (trampoline_of f) → meet old i (composite_at old.types i) ≡ meet_at old i (called_of f) (option_map number_of o)
+  made o e = ap (meet old i) kind ∙ ap (meet_at old i (called_of f)) (sym (ap (option_map number_of) (e ∙ ap get (mapped-is f))))
+
+  own : (b : Bool) → func.ghosts.eq (trampoline_of f) f ≡ b → same_mapped (mapped (called_of f)) (called_of f) ≡ b
+  own b e = sym (key-is f f) ∙ e
+
+  -- its mapped type was met before
+  pub met-before : (k : TypeIndex) → Some k ≡ get (trampoline_of f) → built_of (called_by l i k) get ≡ meet old i (composite_at old.types i)
+  met-before k e =
+      (λ j. record { types = old.types; groups = old.groups; trampolines = map-set (option_map number_of) l.trampolines i (Some k) j; met = old.met })
+      ∙ sym (made (Some k) e)
+
+  number-noted : (b : Bool) (k : TypeIndex) (o : Option TypeIndex) → option_map number_of (cond b (Some k) o) ≡ cond b (Some (number_of k)) (option_map number_of o)
+  number-noted true k o = refl
+  number-noted false k o = refl
+
+  -- what came next where its mapped type was not met
+  abbrev unmet : Bool → Built
+  unmet b =
+      if b then with_trampoline (meets old (mapped (called_of f)) i) i i
+      else alone (with_trampoline (meets old (mapped (called_of f)) (length old.types)) i (length old.types)) (plain (Func (mapped (called_of f)))) (Some (length old.types))
+
+  pub made-new : None ≡ get (trampoline_of f) → (b : Bool) → func.ghosts.eq (trampoline_of f) f ≡ b → meet old i (composite_at old.types i) ≡ unmet b
+  made-new none b e = made None none ∙ ap unmet (own b e)
+
+  module _ (none : None ≡ get (trampoline_of f)) (later : WasmFuncType → Option TypeIndex) (k : TypeIndex)
+      (puts : (q : WasmFuncType) → later q ≡ cond (func.ghosts.eq (trampoline_of f) q) (Some k) (get q)) where
+    noted : (g : Called) → option_map number_of (later (function_at g)) ≡ now_met old.met (mapped (called_of f)) (number_of k) g
+    noted g =
+        ap (option_map number_of) (puts (function_at g))
+        ∙ number-noted (func.ghosts.eq (trampoline_of f) (function_at g)) k (get (function_at g))
+        ∙ ap (λ b. cond b (Some (number_of k)) (old.met g)) (key-is f (function_at g))
+        ∙ ap (λ h. cond (same_mapped (mapped (called_of f)) h) (Some (number_of k)) (old.met g)) (function-back g)
+
+    pub kept-met : built_of (called_by l i k) later ≡ with_trampoline (meets old (mapped (called_of f)) (number_of k)) i (number_of k)
+    kept-met = λ j. record {
+      types = old.types;
+      groups = old.groups;
+      trampolines = map-set (option_map number_of) l.trampolines i (Some k) j;
+      met = λ g. noted g j;
+    }
+
+  -- it is its own mapped type
+  pub met-itself : (none : None ≡ get (trampoline_of f)) (later : WasmFuncType → Option TypeIndex) (k : TypeIndex) → number_of k ≡ i
+      → ((q : WasmFuncType) → later q ≡ cond (func.ghosts.eq (trampoline_of f) q) (Some k) (get q)) → func.ghosts.eq (trampoline_of f) f ≡ true
+      → built_of (called_by l i k) later ≡ meet old i (composite_at old.types i)
+  met-itself none later k at puts is_own =
+      kept-met none later k puts ∙ ap (λ n. with_trampoline (meets old (mapped (called_of f)) n) i n) at ∙ sym (made-new none true is_own)
+
+  -- a new type is appended
+  pub met-new : (none : None ≡ get (trampoline_of f)) (later : WasmFuncType → Option TypeIndex) (k : TypeIndex) → number_of k ≡ length old.types
+      → ((q : WasmFuncType) → later q ≡ cond (func.ghosts.eq (trampoline_of f) q) (Some k) (get q)) → func.ghosts.eq (trampoline_of f) f ≡ false
+      → (t : Interned) → t ≡ plain (Func (mapped (called_of f)))
+      → alone (built_of (called_by l i k) later) t (Some (number_of k)) ≡ meet old i (composite_at old.types i)
+  met-new none later k count puts not_own t is =
+      (λ j. alone (kept-met none later k puts j) (is j) (Some (number_of k)))
+      ∙ ap (λ n. alone (with_trampoline (meets old (mapped (called_of f)) n) i n) (plain (Func (mapped (called_of f)))) (Some n)) count
+      ∙ sym (made-new none false not_own)
+
+  -- then there is one type more
+  pub new-long : None ≡ get (trampoline_of f) → func.ghosts.eq (trampoline_of f) f ≡ false
+      → length (meet old i (composite_at old.types i)).types ≡ length l.types + 1
+  new-long none not_own =
+      ap (λ b. length b.types) (made-new none false not_own)
+      ∙ length-append old.types (plain (Func (mapped (called_of f))) ∷ []) ∙ ap (λ n. n + 1) (length-map l.types interned_of)
+
+not-function : (b : Built) (i : ℕ) (c : WasmCompositeInnerType) → ((f : WasmFuncType) → c ≡ inner.Func f → ⊥) → meet b i (inner_of c) ≡ b
+not-function b i (inner.Func f) other = absurd (other f refl)
+not-function b i (inner.Array f) other = refl
+not-function b i (inner.Struct f) other = refl
+not-function b i (inner.Cont f) other = refl
+not-function b i (inner.Exn f) other = refl
+
+-- only a function has a trampoline
+pub meet-other : (l : TypeList) (get : WasmFuncType → Option TypeIndex) (i : ℕ) (x : WasmSubType)
+    → slice_get l.types i ≡ Some x → ((f : WasmFuncType) → x.composite_type.inner ≡ inner.Func f → ⊥)
+    → built_of l get ≡ meet (built_of l get) i (composite_at (map interned_of l.types) i)
+meet-other l get i x read other =
+    sym (ap (meet (built_of l get) i) (composite-read l.types i x read x.composite_type.inner refl) ∙ not-function (built_of l get) i x.composite_type.inner other)

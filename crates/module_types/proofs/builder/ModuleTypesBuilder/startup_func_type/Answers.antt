@@ -1,0 +1,20 @@
+use Rattle.std.proofs.Common.{◌∙◌, refl, sym, ap}
+use Rattle.module_types.specs.Orderly.{IsOrderly}
+use Rattle.module_types.specs.Interner.{built}
+use Rattle.module_types.specs.Builder.{Kept, shown, starts}
+use Rattle.module_types.specs.contracts.builder.ModuleTypesBuilder.{the_view}
+use Rattle.module_types.proofs.Along.{grows-startup}
+use Rattle.module_types.proofs.Shows.{where-ok, shows-started}
+use Rattle.module_types.proofs.builder.ModuleTypesBuilder.startup_func_type.Goals as goal
+
+pub invariant_of-self-2 : goal.invariant_of-self-2
+invariant_of-self-2 c = λ e.
+    let back = sym (where-ok c.push_startup.result (sym c.if-is_err.ensures.value) c.push_startup.ensures) in
+    coe 0 1 (j. IsOrderly (back j)) ((grows-startup (built c.self.inside.interner)).orderly (c.self.invariant c.if-self.false))
+
+pub returns-clause-made : goal.returns-clause-made
+returns-clause-made c =
+    let old : Kept = the_view c.self.inside in
+    shows-started old _ c.next_ty-next.result c.in_default.is
+    (where-ok c.push_startup.result (sym c.if-is_err.ensures.value) c.push_startup.ensures) c.next_ty-next.ensures refl refl refl refl (sym c.if-self.false)
+    ∙ ap (λ k. starts (shown k)) c.self.view_is

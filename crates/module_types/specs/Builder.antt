@@ -1,0 +1,114 @@
+-- What a caller sees of a builder, and what each growing call makes of it.
+use Rattle.std.specs.Prelude.{◌≡◌, ℕ, Bool, true, false, nat_eq, List, length, Option, Some, None, if◌then◌else◌}
+use Rattle.std.specs.Option.{option_map}
+use Rattle.std.specs.Map.{lookup}
+use Rattle.wasm_spec.specs.TypeData.{Composite, Func}
+use Rattle.type_data.specs.Names.{Named}
+use Rattle.type_spec.specs.Interned.{Interned, Built, empty, with_group, with_exception, with_startup}
+use Rattle.wasm_index.specs.declared.index.Index.{Index}
+use Rattle.wasm_index.specs.declared.spaces.ModuleInternedRecGroupSpace.{ModuleInternedRecGroupSpace}
+use Rattle.wasm_index.specs.Index.{number_of}
+use Rattle.wasm_types.specs.declared.func.WasmFuncType.{WasmFuncType}
+use Rattle.wasm_types.specs.contracts.equal.WasmFuncTypePartialEq.TheImpl as func
+use Rattle.module_types.specs.Views.{TypeIndex}
+use Rattle.module_types.specs.TypeList.{TypeList}
+use Rattle.module_types.specs.Held.{built_of}
+
+-- what a builder keeps: the validator's number, its list, and the entries of its maps, in some order: mapped types, ids of groups, and
+-- function types of tags
+pub record Kept : Type 0 where
+  pub validator : ℕ
+  pub list : TypeList
+  pub met : List (WasmFuncType × TypeIndex)
+  pub ids : List (ℕ × Index ModuleInternedRecGroupSpace)
+  pub exceptions : List (ℕ × TypeIndex)
+  pub startup : Option TypeIndex
+  pub is_poisoned : Bool
+
+-- what was built; the group that was interned under each id, the exception type of each function type, and the startup type; and whether
+-- a growing call answered an error
+pub record Builder : Type 0 where
+  pub validator : ℕ
+  pub built : Built
+  pub ids : ℕ → Option ℕ
+  pub exceptions : ℕ → Option ℕ
+  pub startup : Option ℕ
+  pub is_poisoned : Bool
+
+-- what it shows
+abbrev pub shown : Kept → Builder
+shown k = record {
+  validator = k.validator;
+  built = built_of k.list (λ f. lookup (func.ghosts.eq f) k.met);
+  ids = λ n. option_map number_of (lookup (nat_eq n) k.ids);
+  exceptions = λ n. option_map number_of (lookup (nat_eq n) k.exceptions);
+  startup = option_map number_of k.startup;
+  is_poisoned = k.is_poisoned;
+}
+
+abbrev pub nothing_yet : ℕ → Option ℕ
+nothing_yet n = None
+
+abbrev pub new_builder : ℕ → Builder
+new_builder validator = record {
+  validator = validator;
+  built = empty;
+  ids = nothing_yet;
+  exceptions = nothing_yet;
+  startup = None;
+  is_poisoned = false;
+}
+
+-- one more number is noted
+abbrev pub noted : (ℕ → Option ℕ) → ℕ → ℕ → ℕ → Option ℕ
+noted at n k m = if nat_eq n m then Some k else at m
+
+-- what is held, or else what comes next
+abbrev pub or_next : Option ℕ → ℕ → ℕ
+or_next (Some k) next = k
+or_next None next = next
+
+-- ---- a group under an id
+
+abbrev pub group_index : Builder → ℕ → ℕ
+group_index b id = or_next (b.ids id) (length b.built.groups)
+
+abbrev pub interns_by : Builder → ℕ → List Interned → Option ℕ → Builder
+interns_by b id ts (Some k) = b
+interns_by b id ts None = record b { built = with_group b.built ts; ids = noted b.ids id (length b.built.groups) }
+
+-- where the id is held nothing changes, and else the group is appended with its missing trampolines
+abbrev pub interns : Builder → ℕ → List Interned → Builder
+interns b id ts = interns_by b id ts (b.ids id)
+
+-- ---- the exception type of a function type
+
+abbrev pub exception_index : Builder → ℕ → ℕ
+exception_index b i = or_next (b.exceptions i) (length b.built.types)
+
+abbrev pub excepts_by : Builder → ℕ → Option ℕ → Builder
+excepts_by b i (Some k) = b
+excepts_by b i None = record b { built = with_exception b.built i; exceptions = noted b.exceptions i (length b.built.types) }
+
+abbrev pub excepts : Builder → ℕ → Builder
+excepts b i = excepts_by b i (b.exceptions i)
+
+abbrev pub is_function : Composite (Named ℕ) ℕ → Bool
+is_function (Func f) = true
+is_function _ = false
+
+-- ---- the startup type
+
+abbrev pub startup_index : Builder → ℕ
+startup_index b = or_next b.startup (length b.built.types)
+
+abbrev pub starts_by : Builder → Option ℕ → Builder
+starts_by b (Some k) = b
+starts_by b None = record b { built = with_startup b.built true; startup = Some (length b.built.types) }
+
+abbrev pub starts : Builder → Builder
+starts b = starts_by b b.startup
+
+-- the builder has gained the startup type, unless it had it, and nothing else
+abbrev pub GainsStartup : Kept → Kept → Type 0
+GainsStartup old new = shown new ≡ starts (shown old)

@@ -1,0 +1,213 @@
+//! Groups behind one another, with the trampolines of their functions.
+
+ghost use Rattle.std.specs.Prelude.{◌≡◌, ◌+◌, ◌-◌, ◌<◌, ◌≤◌, length, map, drop, IfOk, OnOk, IsTrue, true};
+ghost use Rattle.std.specs.Option.{option_map};
+ghost use Rattle.wasm_spec.specs.TypeData.{Func};
+ghost use Rattle.type_spec.specs.Interned.{empty, plain, alone, meet, meet_all, opened, with_group, with_exception, with_startup, composite_at};
+ghost use Rattle.wasm_index.specs.Index.{number_of};
+ghost use Rattle.wasm_types.specs.Trampolines.{trampoline_of};
+ghost use Rattle.module_types.specs.Views.{called_of, interned_of, field_at};
+ghost use Rattle.module_types.specs.Orderly.{IsOrderly};
+ghost use Rattle.module_types.specs.Builder.{is_function};
+ghost use Rattle.module_types.specs.Interner.{built};
+
+use crate::list::ModuleTypes;
+use crate::seed::Seeded;
+use entity_map::{EntityRef, OutOfMemory, TryCow};
+use std::alloc::Global;
+use std::collections::HashMap;
+use wasm_index::ModuleInternedTypeIndex;
+use wasm_types::{
+    EngineOrModuleTypeIndex, WasmCompositeInnerType, WasmCompositeType, WasmExnType, WasmFieldType,
+    WasmFuncType, WasmStorageType, WasmSubType, WasmValType,
+};
+
+/// A list of interned types, and where mapped types were met.
+#[derive(Drop)]
+pub(crate) struct Interner {
+    pub(crate) list: ModuleTypes,
+    pub(crate) met: HashMap<WasmFuncType, ModuleInternedTypeIndex, Seeded>,
+}
+
+// A final function type without supertype.
+fn plain_function(ty: WasmFuncType) -> WasmSubType
+    ensures { interned_of result ≡ plain (Func (called_of ty)) }
+{
+    WasmSubType {
+        is_final: true,
+        supertype: None,
+        composite_type: WasmCompositeType {
+            inner: WasmCompositeInnerType::Func(ty),
+            shared: false,
+        },
+    }
+}
+
+// The type by which functions of a type are called.
+fn mapped_type(alloc: Global, ty: &WasmFuncType) -> Result<WasmFuncType, OutOfMemory>
+    ensures { IfOk result (λ t. t ≡ trampoline_of ty.now) }
+{
+    match ty.trampoline_type(alloc)? {
+        TryCow::Borrowed(same) => same.try_clone(alloc),
+        TryCow::Owned(mapped) => Ok(mapped),
+    }
+}
+
+// The field of an exception type for a parameter.
+fn field_of_param(ty: WasmValType) -> WasmFieldType
+    ensures { result ≡ field_at ty }
+{
+    WasmFieldType {
+        element_type: WasmStorageType::Val(ty),
+        mutable: false,
+    }
+}
+
+// The fields of an exception type: one for each parameter.
+fn fields_of_params(alloc: Global, types: &[WasmValType]) -> Result<Vec<WasmFieldType>, OutOfMemory>
+    ensures { IfOk result (λ v. v.items ≡ map field_at types.now) }
+{
+    let mut fields = Vec::with_capacity(alloc, types.len())?;
+    for ty in types {
+        fields.push(field_of_param(*ty))?;
+    }
+    Ok(fields)
+}
+
+impl Interner {
+    /// An interner that holds nothing.
+    pub(crate) fn new(alloc: Global, seed: u64) -> Interner
+        ensures { built result ≡ empty }
+    {
+        Interner {
+            list: ModuleTypes::new(alloc),
+            met: HashMap::with_hasher(alloc, Seeded::new(seed)),
+        }
+    }
+
+    // Puts a type behind the others, in a group of its own.
+    fn push_alone(
+        &mut self,
+        ty: WasmSubType,
+        trampoline: Option<ModuleInternedTypeIndex>,
+    ) -> Result<(), OutOfMemory>
+        requires types { length self.old.list.types < u32.MAX - 1 }
+        requires groups { length self.old.list.groups < u32.MAX - 1 }
+        ensures { OnOk result (built self.new ≡ alone (built self.old) (interned_of ty) (option_map number_of trampoline)) }
+    {
+        let start = self.list.push_called(ty, trampoline)?;
+        let end = self.list.next_ty();
+        self.list.push_rec_group(start..end)?;
+        Ok(())
+    }
+
+    // Gives the type at an index its trampoline, if it is a function.
+    fn meet(&mut self, alloc: Global, ty: ModuleInternedTypeIndex) -> Result<(), OutOfMemory>
+        requires in_range { number_of ty < length self.old.list.types }
+        requires orderly { IsOrderly (built self.old) }
+        requires room { length (meet (built self.old) (number_of ty) (composite_at (built self.old).types (number_of ty))).types < u32.MAX }
+        ensures { OnOk result (built self.new ≡ meet (built self.old) (number_of ty) (composite_at (built self.old).types (number_of ty))) }
+    {
+        let WasmCompositeInnerType::Func(func) = &self.list[ty].composite_type.inner else {
+            return Ok(());
+        };
+        let key = mapped_type(alloc, func)?;
+        let is_own = key == *func;
+        if let Some(found) = self.met.get(&key).copied() {
+            self.list.call_by(ty, found);
+            return Ok(());
+        }
+        if is_own {
+            self.met.insert(key, ty)?;
+            self.list.call_by(ty, ty);
+            return Ok(());
+        }
+        let copy = key.try_clone(alloc)?;
+        let trampoline = self.list.next_ty();
+        self.met.insert(key, trampoline)?;
+        self.list.call_by(ty, trampoline);
+        self.push_alone(plain_function(copy), Some(trampoline))
+    }
+
+    // Gives each of the types from an index on its trampoline.
+    fn meet_all(&mut self, alloc: Global, first: usize) -> Result<(), OutOfMemory>
+        requires in_range { first ≤ length self.old.list.types }
+        requires orderly { IsOrderly (built self.old) }
+        requires room { length (meet_all (built self.old) first (drop first (built self.old).types)).types < u32.MAX }
+        ensures { OnOk result (built self.new ≡ meet_all (built self.old) first (drop first (built self.old).types)) }
+    {
+        for i in first..self.list.len_types() {
+            self.meet(alloc, ModuleInternedTypeIndex::new(i))?;
+        }
+        Ok(())
+    }
+
+    // Puts a group behind the others, with no trampolines.
+    fn open_group(&mut self, members: Vec<WasmSubType>) -> Result<(), OutOfMemory>
+        requires types { length self.old.list.types + length members.items < u32.MAX }
+        requires groups { length self.old.list.groups < u32.MAX - 1 }
+        ensures { OnOk result (built self.new ≡ opened (built self.old) (map interned_of members.items)) }
+    {
+        let start = self.list.next_ty();
+        self.list.push_all(members)?;
+        let end = self.list.next_ty();
+        self.list.push_rec_group(start..end)?;
+        Ok(())
+    }
+
+    /// Puts a group behind the others, and then the trampolines that are missing.
+    pub(crate) fn push_group(
+        &mut self,
+        alloc: Global,
+        members: Vec<WasmSubType>,
+    ) -> Result<(), OutOfMemory>
+        requires filled { 0 < length members.items }
+        requires orderly { IsOrderly (built self.old) }
+        requires room { length (with_group (built self.old) (map interned_of members.items)).types < u32.MAX }
+        ensures { OnOk result (built self.new ≡ with_group (built self.old) (map interned_of members.items)) }
+    {
+        let first = self.list.len_types();
+        self.open_group(members)?;
+        self.meet_all(alloc, first)
+    }
+
+    /// Puts the exception type of a function type behind the others.
+    pub(crate) fn push_exception(
+        &mut self,
+        alloc: Global,
+        function: ModuleInternedTypeIndex,
+    ) -> Result<(), OutOfMemory>
+        requires in_range { number_of function < length self.old.list.types }
+        requires function { IsTrue (is_function (composite_at (built self.old).types (number_of function))) }
+        requires orderly { IsOrderly (built self.old) }
+        requires room { length self.old.list.types < u32.MAX - 1 }
+        ensures { OnOk result (built self.new ≡ with_exception (built self.old) (number_of function)) }
+    {
+        let WasmCompositeInnerType::Func(func) = &self.list[function].composite_type.inner else {
+            unreachable!()
+        };
+        let fields = fields_of_params(alloc, func.params())?;
+        let ty = WasmSubType {
+            is_final: true,
+            supertype: None,
+            composite_type: WasmCompositeType {
+                inner: WasmCompositeInnerType::Exn(WasmExnType {
+                    func_ty: EngineOrModuleTypeIndex::Module(function),
+                    fields,
+                }),
+                shared: false,
+            },
+        };
+        self.push_alone(ty, None)
+    }
+
+    /// Puts the startup type behind the others.
+    pub(crate) fn push_startup(&mut self, alloc: Global) -> Result<(), OutOfMemory>
+        requires orderly { IsOrderly (built self.old) }
+        requires room { length self.old.list.types < u32.MAX - 1 }
+        ensures { OnOk result (built self.new ≡ with_startup (built self.old) true) }
+    {
+        let ty = WasmFuncType::from_types(Vec::new(alloc), 0);
+        self.push_alone(plain_function(ty), None)
+    }
+}

@@ -1,0 +1,132 @@
+-- Segments that the static image rule places: they fit, and stay out of imported memories.
+use Rattle.std.proofs.Common.{◌≡◌, ◌≢◌, ℕ, zero, suc, ◌+◌, ◌-◌, ◌<◌, ◌≤◌, Bool, true, false, List, [], ◌∷◌, length, map, All, Option, None, Some, ◌⊎◌, inl, inr, refl, sym, ◌∙◌, ap, arith}
+use Rattle.std.specs.Prelude.{slice_get}
+use Rattle.std.proofs.Math.Logic.{⊎_elim}
+use Rattle.std.proofs.lemmas.Bool.{le-leb}
+use Rattle.std.proofs.lemmas.List.{length-map, get_or-append_right}
+use Rattle.std.proofs.lemmas.Option.{slice_get-map, get_or_from_slice_get, slice_get_past, same_Some, none-some}
+use Rattle.std.specs.Option.{option_map}
+use Rattle.wasm_spec.specs.Module.{Expression}
+use Rattle.replay_spec.specs.Phases.{fits, last_item}
+use Rattle.replay_spec.specs.Values.{Value, I32, I64, F32, F64, V128, Ref, const_value, number_or_zero, offset_over, offset_of}
+use Rattle.replay_spec.specs.Data.{ActiveSegment, piece_of, memory_sizes, memory_base}
+use Rattle.replay_spec.specs.Images.{ImageMemory, size_of, index_of, index_of_constant, IsPlaced, start_of, end_of, written_on}
+use Rattle.replay_spec.proofs.Constant.{eval-const_value}
+use Rattle.replay_spec.proofs.Replay.{AllFit}
+use Rattle.replay_spec.proofs.Covering.{Covers, last-cover}
+
+-- a constant of a memory's index type is the place that the offset names, over any globals
+number-index : (wide : Bool) (v : Value) (place : ℕ) → index_of wide v ≡ Some place → number_or_zero (Some v) ≡ place
+number-index false (I32 n) place h = same_Some n place h
+number-index true (I64 n) place h = same_Some n place h
+number-index false (I64 n) place h = absurd (none-some place h)
+number-index true (I32 n) place h = absurd (none-some place h)
+number-index false (F32 bits) place h = absurd (none-some place h)
+number-index true (F32 bits) place h = absurd (none-some place h)
+number-index false (F64 bits) place h = absurd (none-some place h)
+number-index true (F64 bits) place h = absurd (none-some place h)
+number-index false (V128 bits) place h = absurd (none-some place h)
+number-index true (V128 bits) place h = absurd (none-some place h)
+number-index false (Ref term) place h = absurd (none-some place h)
+number-index true (Ref term) place h = absurd (none-some place h)
+
+offset-constant : (globals : List Value) (fields : ℕ → ℕ) (wide : Bool) (e : Expression) (o : Option Value) (place : ℕ) → const_value e ≡ o
+    → index_of_constant wide o ≡ Some place → offset_over globals fields e ≡ place
+offset-constant globals fields wide e None place is h = absurd (none-some place h)
+offset-constant globals fields wide e (Some v) place is h = ap number_or_zero (eval-const_value globals fields e v is) ∙ number-index wide v place h
+
+pub all-tail : {X : Type 0} (P : X → Type 0) (x : X) (xs : List X) → All P (x ∷ xs) → All P xs
+all-tail P x xs all k d l = all (suc k) d (omega arith)
+
+pub all-head : {X : Type 0} (P : X → Type 0) (x : X) (xs : List X) → All P (x ∷ xs) → P x
+all-head P x xs all = all 0 x (omega arith)
+
+-- the size of a defined memory
+pub sizes-defined : (imported : List (List ℕ)) (memories : List ImageMemory) (m : ℕ) (memory : ImageMemory) → length imported ≤ m
+    → slice_get memories (m - length imported) ≡ Some memory → memory_sizes imported (map size_of memories) m ≡ size_of memory
+sizes-defined imported memories m memory defined at =
+    get_or-append_right (map length imported) (map size_of memories) (length imported) m 0 (length-map imported length) defined
+    ∙ get_or_from_slice_get (map size_of memories) (m - length imported) (size_of memory) 0
+    (slice_get-map size_of memories (m - length imported) ∙ ap (option_map size_of) at)
+
+-- a defined memory holds zeros at first
+pub base-defined : (imported : List (List ℕ)) (m place : ℕ) → length imported ≤ m → memory_base imported m place ≡ 0
+base-defined imported m place defined = let e = slice_get_past imported m defined in rw e refl
+
+module _ (imports : ℕ) (memories : List ImageMemory) where
+  place-over : (globals : List Value) (fields : ℕ → ℕ) (s : ActiveSegment) (p : IsPlaced imports memories s) → offset_over globals fields s.offset ≡ p.place
+  place-over globals fields s p = offset-constant globals fields p.memory.wide s.offset (const_value s.offset) p.place refl p.constant
+
+  pub start-placed : (s : ActiveSegment) (p : IsPlaced imports memories s) → start_of s ≡ p.place
+  start-placed s p = place-over [] (λ t. 0) s p
+
+  -- what placed segments write is the same over any globals
+  pub pieces-over : (globals : List Value) (fields : ℕ → ℕ) (active : List ActiveSegment) → All (IsPlaced imports memories) active
+      → map (piece_of (offset_over globals fields)) active ≡ map (piece_of offset_of) active
+  pieces-over globals fields [] all = refl
+  pieces-over globals fields (s ∷ ss) all =
+      let p = all-head (IsPlaced imports memories) s ss all in
+      let here : offset_over globals fields s.offset ≡ offset_of s.offset = place-over globals fields s p ∙ sym (start-placed s p) in
+      let more = pieces-over globals fields ss (all-tail (IsPlaced imports memories) s ss all) in
+      rw (here, more) refl
+
+  pub fits-placed : (imported : List (List ℕ)) (s : ActiveSegment) → length imported ≡ imports → IsPlaced imports memories s
+      → fits (memory_sizes imported (map size_of memories)) (piece_of offset_of s) ≡ true
+  fits-placed imported s count p =
+      let start = start-placed s p in
+      let w = p.within in
+      let at : slice_get memories (s.memory - length imported) ≡ Some p.memory = rw count p.is_memory in
+      let defined : length imported ≤ s.memory = rw count p.defined in
+      let size = sizes-defined imported memories s.memory p.memory defined at in
+      le-leb (start_of s + length s.bytes) (memory_sizes imported (map size_of memories) s.memory) (omega (arith, start, w, size))
+
+  pub fit-placed : (imported : List (List ℕ)) (active : List ActiveSegment) → length imported ≡ imports → All (IsPlaced imports memories) active
+      → AllFit (memory_sizes imported (map size_of memories)) (map (piece_of offset_of) active)
+  fit-placed imported [] count all = tt
+  fit-placed imported (s ∷ ss) count all = (
+    fits-placed imported s count (all-head (IsPlaced imports memories) s ss all),
+    fit-placed imported ss count (all-tail (IsPlaced imports memories) s ss all),
+  )
+
+-- a segment of a list covers a place
+pub record CoversOn (active : List ActiveSegment) (memory place : ℕ) : Type 0 where
+  pub index : ℕ
+  pub segment : ActiveSegment
+  pub is_segment : slice_get active index ≡ Some segment
+  pub on : segment.memory ≡ memory
+  pub from : start_of segment ≤ place
+  pub upto : place < end_of segment
+
+from-piece : (active : List ActiveSegment) (m place : ℕ) → Covers m place (map (piece_of offset_of) active) → CoversOn active m place
+from-piece active m place c = found (slice_get active c.index) refl where
+  found : (o : Option ActiveSegment) → slice_get active c.index ≡ o → CoversOn active m place
+  found None e =
+      let n : slice_get (map (piece_of offset_of) active) c.index ≡ None = slice_get-map (piece_of offset_of) active c.index ∙ ap (option_map (piece_of offset_of)) e in
+      absurd (none-some c.piece (sym n ∙ c.is_piece))
+  found (Some s) e =
+      let n : slice_get (map (piece_of offset_of) active) c.index ≡ Some (piece_of offset_of s) = slice_get-map (piece_of offset_of) active c.index ∙ ap (option_map (piece_of offset_of)) e in
+      let same : piece_of offset_of s ≡ c.piece = same_Some (piece_of offset_of s) c.piece (sym n ∙ c.is_piece) in
+      let f = c.covers.from in
+      let u = c.covers.upto in
+      let o : start_of s ≡ c.piece.offset = ap (λ p. p.offset) same in
+      let l : length s.bytes ≡ length c.piece.items = ap (λ p. length p.items) same in
+      record {
+        index = c.index;
+        segment = s;
+        is_segment = e;
+        on = ap (λ p. p.object) same ∙ c.covers.on;
+        from = omega arith;
+        upto = omega arith;
+      }
+
+pub last-covered : (active : List ActiveSegment) (m place d : ℕ) → (last_item m place d (map (piece_of offset_of) active) ≡ d) ⊎ CoversOn active m place
+last-covered active m place d = ⊎_elim inl (λ c. inr (from-piece active m place c)) (last-cover m place d (map (piece_of offset_of) active))
+
+-- a byte that is not zero is covered
+pub covers-nonzero : (active : List ActiveSegment) (m place : ℕ) → written_on active m place ≢ 0 → CoversOn active m place
+covers-nonzero active m place ne = ⊎_elim (λ e. absurd (ne e)) (λ c. c) (last-covered active m place 0)
+
+pub all-at : {X : Type 0} (P : X → Type 0) (xs : List X) (i : ℕ) (x : X) → All P xs → slice_get xs i ≡ Some x → P x
+all-at P [] i x all h = absurd (none-some x h)
+all-at P (y ∷ ys) zero x all h = let e = same_Some y x h in rw (← e) (all-head P y ys all)
+all-at P (y ∷ ys) (suc i) x all h = all-at P ys i x (all-tail P y ys all) h

@@ -1,0 +1,232 @@
+-- The interned list of a module: each group of types (core specification, 2.3, recursive types) once with its trampolines, then the
+-- exception types and the startup type.
+use Rattle.std.specs.Prelude.{ℕ, zero, suc, ◌+◌, ◌-◌, get_or, Bool, true, false, nat_lt, List, [], ◌∷◌, ◌++◌, length, map, take, drop, replicate, set, Option, Some, None, if◌then◌else◌}
+use Rattle.std.specs.List.{range_with_len}
+use Rattle.wasm_spec.specs.declared.types.AbstractHeapType.{AbstractHeapType}
+use Rattle.wasm_spec.specs.declared.types.AbstractHeapType.TheVariants as heap
+use Rattle.wasm_spec.specs.TypeData.{Heap, Concrete, Abstract, Value, Ref, Val, Field, Function, Composite, Func, Array, Struct, Cont, Exn, SubType, Group, map_function, map_group}
+use Rattle.type_data.specs.Shapes.{erased}
+use Rattle.type_data.specs.Names.{NameKind, FuncName, ArrayName, StructName, ContName, ExnName, Named}
+use Rattle.type_spec.specs.Same.{same_function}
+use Rattle.type_spec.specs.Equality.{same_type}
+
+abbrev pub Interned : Type 0
+Interned = SubType (Named ℕ) ℕ
+
+-- a function type as data of an interned list
+abbrev pub Called : Type 0
+Called = Function (Named ℕ)
+
+-- ---- the top of a hierarchy
+
+abbrev pub top_of_kind : NameKind → AbstractHeapType
+top_of_kind FuncName = heap.Func
+top_of_kind ContName = heap.Cont
+top_of_kind ExnName = heap.Exn
+top_of_kind _ = heap.Any
+
+abbrev pub top_of_heap : AbstractHeapType → AbstractHeapType
+top_of_heap heap.Func = heap.Func
+top_of_heap heap.NoFunc = heap.Func
+top_of_heap heap.Extern = heap.Extern
+top_of_heap heap.NoExtern = heap.Extern
+top_of_heap heap.Exn = heap.Exn
+top_of_heap heap.NoExn = heap.Exn
+top_of_heap heap.Cont = heap.Cont
+top_of_heap heap.NoCont = heap.Cont
+top_of_heap _ = heap.Any
+
+abbrev pub top : Heap (Named ℕ) → AbstractHeapType
+top (Concrete n) = top_of_kind n.kind
+top (Abstract h) = top_of_heap h
+
+-- the type that a trampoline passes for another: each reference nullable with its top
+abbrev pub passed : Value (Named ℕ) → Value (Named ℕ)
+passed (Ref r) = Ref (record { nullable = true; heap = Abstract (top r.heap) })
+passed v = v
+
+abbrev pub mapped : Called → Called
+mapped f = record { params = map passed f.params; results = map passed f.results }
+
+-- a mapped type names no declared type: it is its frame
+abbrev pub same_mapped : Called → Called → Bool
+same_mapped f g = same_function (map_function erased f) (map_function erased g)
+
+-- ---- what is built
+
+-- the indices of a group: from one up to another
+pub record Span : Type 0 where
+  pub start : ℕ
+  pub end : ℕ
+
+-- the types, the indices of each group, the trampoline of each function that has one, and where each mapped type was met
+pub record Built : Type 0 where
+  pub types : List Interned
+  pub groups : List Span
+  pub trampolines : List (Option ℕ)
+  pub met : Called → Option ℕ
+
+abbrev pub nowhere : Called → Option ℕ
+nowhere f = None
+
+abbrev pub empty : Built
+empty = record { types = []; groups = []; trampolines = []; met = nowhere }
+
+-- a final type without supertype
+abbrev pub plain : Composite (Named ℕ) ℕ → Interned
+plain c = record { is_final = true; supertype = None; composite = record { inner = c; shared = false } }
+
+-- some types that come next
+abbrev pub next_span : Built → ℕ → Span
+next_span b count = record { start = length b.types; end = length b.types + count }
+
+-- a type in a group of its own
+abbrev pub alone : Built → Interned → Option ℕ → Built
+alone b t trampoline = record b { types = b.types ++ t ∷ []; groups = b.groups ++ next_span b 1 ∷ []; trampolines = b.trampolines ++ trampoline ∷ [] }
+
+-- ---- trampolines
+
+abbrev pub with_trampoline : Built → ℕ → ℕ → Built
+with_trampoline b i k = record b { trampolines = set b.trampolines i (Some k) }
+
+-- a mapped type is met at an index
+abbrev pub now_met : (Called → Option ℕ) → Called → ℕ → Called → Option ℕ
+now_met met f k g = if same_mapped f g then Some k else met g
+
+abbrev pub meets : Built → Called → ℕ → Built
+meets b f k = record b { met = now_met b.met f k }
+
+-- the function at an index: its mapped type was met, or it is its own mapped type, or a new type is appended
+abbrev pub meet_at : Built → ℕ → Called → Option ℕ → Built
+meet_at b i f (Some k) = with_trampoline b i k
+meet_at b i f None =
+    if same_mapped (mapped f) f then with_trampoline (meets b (mapped f) i) i i
+    else
+    (let k = length b.types in
+    alone (with_trampoline (meets b (mapped f) k) i k) (plain (Func (mapped f))) (Some k))
+
+abbrev pub meet : Built → ℕ → Composite (Named ℕ) ℕ → Built
+meet b i (Func f) = meet_at b i f (b.met (mapped f))
+meet b i _ = b
+
+-- the members of a group in order, from an index on
+abbrev pub meet_all : Built → ℕ → List Interned → Built
+meet_all b i [] = b
+meet_all b i (t ∷ ts) = meet_all (meet b i t.composite.inner) (suc i) ts
+
+-- ---- groups
+
+-- a group behind the others, whose functions have no trampolines yet
+abbrev pub opened : Built → List Interned → Built
+opened b ts = record b {
+  types = b.types ++ ts;
+  groups = b.groups ++ next_span b (length ts) ∷ [];
+  trampolines = b.trampolines ++ replicate (length ts) None;
+}
+
+-- a group behind the others, and then the trampolines that are missing
+abbrev pub with_group : Built → List Interned → Built
+with_group b ts = meet_all (opened b ts) (length b.types) ts
+
+-- the kind of a type
+abbrev pub kind_of_type : {H R : Type 0} → Composite H R → NameKind
+kind_of_type (Func f) = FuncName
+kind_of_type (Array f) = ArrayName
+kind_of_type (Struct fs) = StructName
+kind_of_type (Cont i) = ContName
+kind_of_type (Exn t) = ExnName
+
+-- the kind of the type at a place of the joined list
+abbrev pub kind_at : List (Group ℕ ℕ) → ℕ → NameKind
+kind_at [] i = FuncName
+kind_at ([] ∷ gs) i = kind_at gs i
+kind_at ((t ∷ ts) ∷ gs) zero = kind_of_type t.composite.inner
+kind_at ((t ∷ ts) ∷ gs) (suc i) = kind_at (ts ∷ gs) i
+
+-- what was built, and the interned index of each declared type
+pub record Taken : Type 0 where
+  pub built : Built
+  pub declared : List ℕ
+
+abbrev pub none_taken : Taken
+none_taken = record { built = empty; declared = [] }
+
+module _ (all : List (Group ℕ ℕ)) where
+  -- the first of some places from `j` on whose type is equal to that at the place `i`
+  abbrev pub first_equal : ℕ → ℕ → ℕ → Option ℕ
+  first_equal i j zero = None
+  first_equal i j (suc n) = if same_type all all j i then Some j else first_equal i (suc j) n
+
+  -- the interned index of the type at a place, in a group that starts at `start` and becomes that from `first` on
+  abbrev pub name : List ℕ → ℕ → ℕ → ℕ → ℕ
+  name declared start first i = if nat_lt i start then get_or declared i 0 else first + (i - start)
+
+  -- each reference becomes the interned index of what it names
+  abbrev pub interned_group : List ℕ → ℕ → ℕ → Group ℕ ℕ → List Interned
+  interned_group declared start first g =
+      map_group (λ i. record { kind = kind_at all i; index = name declared start first i }) (name declared start first) g
+
+  -- a group that starts at a place: equal to an earlier one, or new
+  abbrev pub take_group : Taken → ℕ → Group ℕ ℕ → Option ℕ → Taken
+  take_group b start g (Some j) = record b { declared = b.declared ++ take (length g) (drop j b.declared) }
+  take_group b start g None =
+      let first = length b.built.types in
+      record {
+        built = with_group b.built (interned_group b.declared start first g);
+        declared = b.declared ++ range_with_len first (length g);
+      }
+
+  -- groups in order; an empty one is left out
+  abbrev pub take_groups : Taken → ℕ → List (Group ℕ ℕ) → Taken
+  take_groups b start [] = b
+  take_groups b start ([] ∷ gs) = take_groups b start gs
+  take_groups b start ((t ∷ ts) ∷ gs) =
+      take_groups (take_group b start (t ∷ ts) (first_equal start 0 start)) (start + length (t ∷ ts)) gs
+
+-- a module's groups
+abbrev pub taken : List (Group ℕ ℕ) → Taken
+taken groups = take_groups groups none_taken 0 groups
+
+-- ---- exception types, and the startup type
+
+-- one field for a parameter
+abbrev pub field_for : Value (Named ℕ) → Field (Named ℕ)
+field_for v = record { element = Val v; mutable = false }
+
+abbrev pub exception_for : ℕ → Composite (Named ℕ) ℕ → Composite (Named ℕ) ℕ
+exception_for i (Func f) = Exn (record { function = i; fields = map field_for f.params })
+exception_for i c = Exn (record { function = i; fields = [] })
+
+abbrev pub composite_at : List Interned → ℕ → Composite (Named ℕ) ℕ
+composite_at [] i = Struct []
+composite_at (t ∷ ts) zero = t.composite.inner
+composite_at (t ∷ ts) (suc i) = composite_at ts i
+
+abbrev pub is_among : ℕ → List ℕ → Bool
+is_among i [] = false
+is_among i (j ∷ js) = if nat_lt i j then is_among i js else (if nat_lt j i then is_among i js else true)
+
+-- the exception type of a function type
+abbrev pub with_exception : Built → ℕ → Built
+with_exception b i = alone b (plain (exception_for i (composite_at b.types i))) None
+
+-- one for each function type of the tags, which are interned indices, in order
+abbrev pub with_exceptions : Built → List ℕ → List ℕ → Built
+with_exceptions b done [] = b
+with_exceptions b done (i ∷ is) =
+    if is_among i done then with_exceptions b done is
+    else with_exceptions (with_exception b i) (i ∷ done) is
+
+-- a function type without parameters and results
+abbrev pub startup_type : Interned
+startup_type = plain (Func (record { params = []; results = [] }))
+
+abbrev pub with_startup : Built → Bool → Built
+with_startup b false = b
+with_startup b true = alone b startup_type None
+
+-- a module's groups, the declared function types of its tags in order, and whether it has a startup type
+abbrev pub interned : List (Group ℕ ℕ) → List ℕ → Bool → Built
+interned groups tags startup =
+    let t = taken groups in
+    with_startup (with_exceptions t.built [] (map (λ i. get_or t.declared i 0) tags)) startup
