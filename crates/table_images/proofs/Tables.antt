@@ -104,6 +104,11 @@ first-count lazy ts vs i images e l is =
     sym (length-map images (λ (x : Vec (Index FuncSpace)). image_of x.items)) ∙ ap length is ∙ length-map (defined_tables_of (take i ts) (take i vs)) (first_image lazy)
     ∙ length-defined (take i ts) (take i vs) (length-take-le i ts (omega arith) ∙ sym (length-take-le i vs (omega arith))) ∙ length-take-le i vs (omega arith)
 
+pub first-length : (lazy : Bool) (ts : List Table) (vs : List TableInitialValue) (images : List (Vec (Index FuncSpace))) → length ts ≡ length vs
+    → images_of images ≡ map (first_image lazy) (defined_tables_of ts vs) → length images ≡ length vs
+first-length lazy ts vs images e is =
+    sym (length-map images (λ (x : Vec (Index FuncSpace)). image_of x.items)) ∙ ap length is ∙ length-map (defined_tables_of ts vs) (first_image lazy) ∙ length-defined ts vs e
+
 pub first-imaged : (lazy : Bool) (d : DefinedTable) (xs : List (Option ℕ)) → lazy ≡ true → true ≡ is_imaged_from_start true d → xs ≡ replicate d.minimum (initial_function d.initial)
     → xs ≡ first_image lazy d
 first-imaged lazy d xs e f g =

@@ -52,7 +52,8 @@ fn plan_images(
     requires paired { length tables.now ≡ length initialization.old.initial_values }
     requires functions { SegmentsHoldFunctions (map active_elements_of initialization.old.segments.items) }
     requires first { images_of images.old ≡ map (first_image true) (defined_tables_of tables.now initialization.old.initial_values) }
-    ensures { OnOk result (IsTablePlan true imported (defined_tables_of tables.now initialization.old.initial_values)
+    ensures count { OnOk result (length initialization.new.initial_values ≡ length initialization.old.initial_values) }
+    ensures planned { OnOk result (IsTablePlan true imported (defined_tables_of tables.now initialization.old.initial_values)
         (map active_elements_of initialization.old.segments.items)
         (table_plan_of tables.now initialization.new.initial_values initialization.new.segments.items (images_of images.new))) }
 {
@@ -86,7 +87,9 @@ pub fn plan_tables(
     requires few { length initialization.old.initial_values < u32.MAX - 1 }
     requires initial_functions { TablesHoldFunctions (defined_tables_of (drop imported tables.now) initialization.old.initial_values) }
     requires functions { SegmentsHoldFunctions (map active_elements_of initialization.old.segments.items) }
-    ensures { IfOk result (λ images. IsTablePlan lazy imported (defined_tables_of (drop imported tables.now) initialization.old.initial_values)
+    ensures images { IfOk result (λ images. length images ≡ length initialization.old.initial_values) }
+    ensures values { OnOk result (length initialization.new.initial_values ≡ length initialization.old.initial_values) }
+    ensures planned { IfOk result (λ images. IsTablePlan lazy imported (defined_tables_of (drop imported tables.now) initialization.old.initial_values)
         (map active_elements_of initialization.old.segments.items)
         (table_plan_of (drop imported tables.now) initialization.new.initial_values initialization.new.segments.items (images_of images))) }
 {

@@ -20,8 +20,15 @@ take_segments-requires-clause-each c =
     let values = ap length c.as_slice.ensures in
     omega arith
 
-pub returns : goal.returns
-returns c =
+pub returns-clause-count : goal.returns-clause-count
+returns-clause-count c =
+    let vs = c.args.initialization.now.initial_values in
+    let was = c.as_mut_slice.ensures.values in
+    let count = rw was at c.drop_imaged.ensures.count in
+    ap length (refill-same_length vs c.drop_imaged.new.values count) ∙ count
+
+pub returns-clause-planned : goal.returns-clause-planned
+returns-clause-planned c =
     let ts = c.args.tables.now in
     let vs = c.args.initialization.now.initial_values in
     let new = c.drop_imaged.new.values in
