@@ -1,21 +1,16 @@
 -- Segments of the same integer constants have the same images.
-use Rattle.std.proofs.Common.{◌≡◌, ◌≢◌, ℕ, zero, suc, ◌+◌, ◌-◌, ◌*◌, ◌<◌, ◌≤◌, Bool, true, false, List, [], ◌∷◌, length, map, All, Option, Some, ◌⊎◌, inl, inr, refl, sym, ◌∙◌, ap, subst, arith}
+use Rattle.std.proofs.Common.{◌≡◌, ◌≢◌, ℕ, zero, suc, ◌+◌, ◌-◌, ◌*◌, ◌<◌, true, false, List, [], ◌∷◌, length, map, All, Option, inl, inr, refl, sym, ◌∙◌, ap, subst, arith}
 use Rattle.std.specs.Prelude.{slice_get, nat_lt, ◌==◌, ◌&&◌}
 use Rattle.std.specs.List.{AllZip}
 use Rattle.std.proofs.Math.Logic.{⊎_elim}
 use Rattle.std.proofs.lemmas.Bool.{cases_Bool}
 use Rattle.std.proofs.lemmas.List.Sums.{sum_by-cons}
 use Rattle.replay_spec.specs.Phases.{last_item}
-use Rattle.replay_spec.specs.Values.{const_value, offset_of}
+use Rattle.replay_spec.specs.Values.{offset_of}
 use Rattle.replay_spec.specs.Data.{ActiveSegment, piece_of}
-use Rattle.replay_spec.specs.Images.{ImageOptions, ImageMemory, index_of_constant, IsPlaced, bytes_on, start_of, end_of, least_start, greatest_end, extent, data_size, IsDense, MayBeImage, IsStatic, MemoryImage, written_on, ImageOf, AreImages}
+use Rattle.replay_spec.specs.Images.{ImageOptions, ImageMemory, IsPlaced, bytes_on, start_of, least_start, greatest_end, extent, data_size, MayBeImage, IsStatic, MemoryImage, ImageOf, AreImages}
+use Rattle.memory_images.specs.Views.{IsAlike}
 use Rattle.replay_spec.proofs.Placed.{all-head, all-tail, start-placed}
-
--- two segments on one memory, with the same bytes and the same constant offset, whichever the memory's index type
-pub record IsAlike (a b : ActiveSegment) : Type 0 where
-  pub memory : a.memory ≡ b.memory
-  pub constant : (wide : Bool) → index_of_constant wide (const_value a.offset) ≡ index_of_constant wide (const_value b.offset)
-  pub bytes : a.bytes ≡ b.bytes
 
 pub alike_back : (a b : ActiveSegment) → IsAlike a b → IsAlike b a
 alike_back a b h = record { memory = sym h.memory; constant = λ wide. sym (h.constant wide); bytes = sym h.bytes }

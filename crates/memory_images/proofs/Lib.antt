@@ -17,3 +17,4 @@ mod Dense
 mod Adding
 mod Replayed
 mod Placing
+pub mod Alike

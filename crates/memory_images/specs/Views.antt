@@ -1,11 +1,11 @@
 -- Memories, segments and settings of the code, as the plain values of the definitions.
-use Rattle.std.specs.Prelude.{◌%◌, ◌^◌, List, [], ◌∷◌, map, Option, None, Some}
+use Rattle.std.specs.Prelude.{◌≡◌, Bool, ◌%◌, ◌^◌, List, [], ◌∷◌, map, Option, None, Some}
 use Rattle.std.specs.Int.{cast_unsigned, w32, w64}
 use Rattle.wasm_spec.specs.declared.operators.Operator.TheVariants as op
 use Rattle.wasm_spec.specs.Module.{Expression}
-use Rattle.replay_spec.specs.Values.{Value, I32, I64}
+use Rattle.replay_spec.specs.Values.{Value, I32, I64, const_value}
 use Rattle.replay_spec.specs.Data.{ActiveSegment}
-use Rattle.replay_spec.specs.Images.{ImageOptions, ImageMemory}
+use Rattle.replay_spec.specs.Images.{ImageOptions, ImageMemory, index_of_constant}
 use Rattle.memory_images.specs.declared.segment.Active.{Active}
 use Rattle.memory_images.specs.declared.segment.Memory.{Memory}
 use Rattle.memory_images.specs.declared.segment.Constant.{Constant}
@@ -33,3 +33,9 @@ memories_of memories = map memory_of memories
 
 abbrev pub options_of : ImageSettings → ImageOptions
 options_of s = record { enabled = s.enabled; page = s.page_size; max_image = s.max_image }
+
+-- two segments on one memory, with the same bytes and the same constant offset, whichever the memory's index type
+pub record IsAlike (a b : ActiveSegment) : Type 0 where
+  pub memory : a.memory ≡ b.memory
+  pub constant : (wide : Bool) → index_of_constant wide (const_value a.offset) ≡ index_of_constant wide (const_value b.offset)
+  pub bytes : a.bytes ≡ b.bytes
