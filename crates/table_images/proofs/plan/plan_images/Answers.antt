@@ -1,4 +1,4 @@
-use Rattle.std.proofs.Common.{length, map, arith, sym, ap, subst, true}
+use Rattle.std.proofs.Common.{◌∙◌, ap, length, map, arith, sym, subst, true}
 use Rattle.std.specs.Global.{Vec}
 use Rattle.std.proofs.lemmas.List.{length-map}
 use Rattle.entity_map.proofs.LentLemmas.{refill-same_length}

@@ -1,4 +1,4 @@
-use Rattle.std.proofs.Common.{◌≡◌, ◌-◌, ◌++◌, true, take, drop, sym, ap, subst, length, map, arith, length-drop}
+use Rattle.std.proofs.Common.{◌∙◌, ◌≡◌, ◌-◌, ◌++◌, true, take, drop, sym, ap, subst, length, map, arith, length-drop}
 use Rattle.std.proofs.lemmas.List.{take_all}
 use Rattle.entity_map.proofs.LentLemmas.{refill-same_length}
 use Rattle.replay_spec.specs.Tables.{IsTablePlan}
