@@ -1,10 +1,11 @@
 -- What is kept of tables, and startup that it raises.
 use Rattle.std.proofs.Common.{◌≡◌, ℕ, zero, suc, ◌<◌, Bool, true, false, List, [], ◌∷◌, length, map, All, Option, None, Some, refl, sym, ◌∙◌, ap, subst, arith}
-use Rattle.std.specs.Prelude.{◌&&◌, IfSome, IsTrue, if◌then◌else◌}
+use Rattle.std.specs.Prelude.{◌&&◌, ◌==◌, IfSome, IsTrue, if◌then◌else◌}
 use Rattle.std.specs.List.{filter_map}
-use Rattle.std.proofs.lemmas.Bool.{false≢true}
+use Rattle.std.proofs.lemmas.Bool.{false≢true, eq-eqb, ne_eqb}
 use Rattle.std.proofs.lemmas.List.Elements.{All-nil, All-cons, All-head, All-tail, All-weaker}
 use Rattle.wasm_types.specs.declared.table.Table.{Table}
+use Rattle.wasm_convert.specs.Constants.{expression_of}
 use Rattle.wasm_module.specs.declared.startup.ModuleStartup.{ModuleStartup}
 use Rattle.wasm_module.specs.declared.startup.ModuleStartup.TheVariants as startup
 use Rattle.wasm_module.specs.declared.table_initialization.TableInitialValue.{TableInitialValue}
@@ -29,7 +30,7 @@ kept-values [] (v ∷ vs) images a b = absurd (omega arith)
 kept-values (t ∷ ts) [] images a b = absurd (omega arith)
 kept-values (t ∷ ts) (v ∷ vs) [] a b = absurd (omega arith)
 kept-values (t ∷ ts) (initial.Null ∷ vs) (x ∷ xs) a b = kept-values ts vs xs (omega arith) (omega arith)
-kept-values (t ∷ ts) (initial.Expr e ∷ vs) (x ∷ xs) a b = ap (λ es. initial_of (initial.Expr e) ∷ es) (kept-values ts vs xs (omega arith) (omega arith))
+kept-values (t ∷ ts) (initial.Expr e ∷ vs) (x ∷ xs) a b = ap (λ es. expression_of e ∷ es) (kept-values ts vs xs (omega arith) (omega arith))
 
 empty-segments : (segments : List TableSegment) → is_empty (map active_elements_of segments) ≡ is_empty segments
 empty-segments [] = refl
@@ -101,3 +102,8 @@ segments-hold n active l h = All-weaker (λ (s : ActiveElements). All (IsAmong n
 pub tables-hold : (n : ℕ) (tables : List DefinedTable) → n < 4294967295 → All (λ (d : DefinedTable). IsAmong n (initial_function d.initial)) tables → TablesHoldFunctions tables
 tables-hold n tables l h = All-weaker (λ (d : DefinedTable). IsAmong n (initial_function d.initial)) (λ (d : DefinedTable). IsCell (initial_function d.initial))
     (λ d among. cells-hold n l (initial_function d.initial) among) tables h
+
+-- whether a list is empty, by its length
+pub empty-by_length : (xs : List TableSegment) (n : ℕ) (b : Bool) → n ≡ length xs → b ≡ (n == 0) → b ≡ is_empty xs
+empty-by_length [] n b e h = h ∙ eq-eqb n 0 e
+empty-by_length (x ∷ xs) n b e h = h ∙ ne_eqb n 0 (λ none. absurd (omega (arith, none, e)))
