@@ -1,3 +1,4 @@
 pub mod Entered
 pub mod Totals
 pub mod Unplanned
+pub mod TablesKept

@@ -2,3 +2,4 @@ pub mod Views
 pub mod Ready
 pub mod Startup
 pub mod Errors
+pub mod Tables

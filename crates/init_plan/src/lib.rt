@@ -5,6 +5,7 @@ mod error;
 mod memory_init;
 mod runtime_data;
 mod startup;
+mod table_init;
 mod translation;
 
 pub use error::PlanError;

@@ -1,0 +1,5 @@
+pub mod Tables
+pub mod CellsStand
+pub mod Laying
+pub mod Steps
+pub mod Planned

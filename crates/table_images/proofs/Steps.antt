@@ -1,0 +1,245 @@
+-- One more segment in the images.
+use Rattle.std.proofs.Common.{◌≡◌, ◌≢◌, ℕ, zero, suc, ◌+◌, ◌-◌, ◌<◌, ◌≤◌, Bool, true, false, List, [], ◌∷◌, ◌++◌, length, get_or, map, take, drop, replicate, Option, None, Some, refl, sym, ◌∙◌, ap, subst, arith}
+use Rattle.std.specs.Prelude.{slice_get, unwrap_or, is_some, max, ◌==◌, if◌then◌else◌}
+use Rattle.std.specs.Option.{option_map}
+use Rattle.std.proofs.Math.Logic.{⊎_elim}
+use Rattle.std.proofs.Math.ListN.{length-replicate}
+use Rattle.std.proofs.lemmas.Bool.{cases_lt, cases_eq, eq-eqb, ne_eqb, cond-true, cond-false, false≢true}
+use Rattle.std.proofs.lemmas.List.{map-append, take_more, length-map}
+use Rattle.std.proofs.lemmas.List.Elements.{All-nil, All-push}
+use Rattle.std.proofs.lemmas.Option.{same_Some, slice_get-map, slice_get-get_or, slice_get_within, slice_get_past}
+use Rattle.wasm_types.specs.declared.table.Table.{Table}
+use Rattle.wasm_module.specs.declared.table_initialization.TableInitialValue.{TableInitialValue}
+use Rattle.wasm_module.specs.declared.table_initialization.TableSegment.{TableSegment}
+use Rattle.replay_spec.specs.Phases.{item_at, last_item}
+use Rattle.replay_spec.specs.Elements.{ActiveElements, DefinedTable}
+use Rattle.replay_spec.specs.Tables.{image_cells, constant_place, image_piece, elements_end, initial_function, is_imaged_from_start, kept_initial, MayBeTaken, end_on, IsTableImage, TakesPrefix}
+use Rattle.replay_spec.proofs.Replay.{last-append}
+use Rattle.replay_spec.proofs.Covering.{CoversAt, item-cover}
+use Rattle.replay_spec.proofs.TablesJoined.{keeps-none, past-image}
+use Rattle.table_images.specs.declared.spot.Spot.{Spot}
+use Rattle.table_images.specs.Steps.{IsSpot, LaysCells, LaysAt, first_image, AreTableImages}
+use Rattle.table_images.specs.Views.{items_of, active_elements_of, defined_tables_of}
+use Rattle.table_images.proofs.Tables.{defined-at, MadeOf, made-of}
+
+-- ---- the rule
+
+module _ (imported : ℕ) (ts : List Table) (vs : List TableInitialValue) (s : TableSegment) where
+  -- a segment that the code takes is one of the definitions
+  pub spot-taken : (spot : Spot) → IsSpot imported ts vs s spot → MayBeTaken true imported (defined_tables_of ts vs) (active_elements_of s)
+  spot-taken spot is = record {
+    lazy_tables = refl;
+    table = _;
+    defined = is.defined;
+    is_table = defined-at ts vs _ is.table is.value is.is_table is.is_value;
+    functions = is.functions;
+    keeps_none = is.keeps_none;
+    place = spot.place;
+    constant = is.place;
+    items = is.cells;
+    within = is.within;
+    small = is.small;
+  }
+
+  pub taken-spot : MayBeTaken true imported (defined_tables_of ts vs) (active_elements_of s) → (spot : Spot) × IsSpot imported ts vs s spot
+  taken-spot may =
+      let m : MadeOf ts vs ((active_elements_of s).table - imported) may.table = made-of ts vs _ may.table may.is_table in
+      let made = m.made in
+      let w = may.within in
+      let min : may.table.minimum ≡ m.table.limits.min = ap (λ (d : DefinedTable). d.minimum) made in (
+        record { table = (active_elements_of s).table - imported; place = may.place },
+        record {
+          table = m.table;
+          value = m.value;
+          defined = may.defined;
+          number = refl;
+          is_table = m.is_table;
+          is_value = m.is_value;
+          functions = ap (λ (d : DefinedTable). d.functions) (sym made) ∙ may.functions;
+          keeps_none = ap (kept_initial true) (sym made) ∙ may.keeps_none;
+          cells = may.items;
+          place = may.constant;
+          within = omega arith;
+          small = may.small;
+        },
+      )
+
+-- ---- images
+
+last-push : (m p : ℕ) (d : Option ℕ) (taken : List ActiveElements) (a : ActiveElements) → last_item m p d (map image_piece (taken ++ a ∷ []))
+    ≡ unwrap_or (item_at m p (image_piece a)) (last_item m p d (map image_piece taken))
+last-push m p d taken a = ap (last_item m p d) (map-append image_piece taken (a ∷ [])) ∙ last-append m p d (map image_piece taken) (image_piece a ∷ [])
+
+end-here : (m : ℕ) (taken : List ActiveElements) (a : ActiveElements) → a.table ≡ m → end_on m (taken ++ a ∷ []) ≡ max (end_on m taken) (elements_end a)
+end-here m [] a on = let e : (a.table == m) ≡ true = eq-eqb a.table m on in rw e (omega arith)
+end-here m (s ∷ ss) a on = over (s.table == m) refl (end-here m ss a on) where
+  over : (b : Bool) → (s.table == m) ≡ b → end_on m (ss ++ a ∷ []) ≡ max (end_on m ss) (elements_end a)
+      → end_on m (s ∷ (ss ++ a ∷ [])) ≡ max (end_on m (s ∷ ss)) (elements_end a)
+  over true e h = rw e (omega arith)
+  over false e h = rw e h
+
+end-there : (m : ℕ) (taken : List ActiveElements) (a : ActiveElements) → a.table ≢ m → end_on m (taken ++ a ∷ []) ≡ end_on m taken
+end-there m [] a off = let e : (a.table == m) ≡ false = ne_eqb a.table m off in rw e refl
+end-there m (s ∷ ss) a off = over (s.table == m) refl (end-there m ss a off) where
+  over : (b : Bool) → (s.table == m) ≡ b → end_on m (ss ++ a ∷ []) ≡ end_on m ss → end_on m (s ∷ (ss ++ a ∷ [])) ≡ end_on m (s ∷ ss)
+  over true e h = rw e (ap (max (elements_end s)) h)
+  over false e h = rw e h
+
+item-moved : (k m start begin place : ℕ) (items : List (Option ℕ)) → k ≡ m → begin ≡ start
+    → item_at 0 place (record { object = 0; offset = begin; items = items }) ≡ item_at m place (record { object = k; offset = start; items = items })
+item-moved k m start begin place items e f = let on = eq-eqb k m e in rw (on, f) refl
+
+module _ (imports : ℕ) (ds : List DefinedTable) (taken : List ActiveElements) (a : ActiveElements) (table place : ℕ) (may : MayBeTaken true imports ds a)
+    (on_table : a.table ≡ imports + table) (at_place : constant_place a.offset ≡ Some place) where
+  starts-at : unwrap_or (constant_place a.offset) 0 ≡ place
+  starts-at = ap (λ o. unwrap_or o 0) at_place
+
+  -- the image that the segment is laid into
+  step-here : (m : ℕ) (d : DefinedTable) (old new : List (Option ℕ)) → a.table ≡ m → slice_get ds (a.table - imports) ≡ Some d → LaysCells place (image_cells a.items) old new
+      → IsTableImage true taken m d old → IsTableImage true (taken ++ a ∷ []) m d new
+  step-here m d old new on at lays prior =
+      let same : may.table ≡ d = same_Some may.table d (sym may.is_table ∙ at) in
+      let keeps : kept_initial true d ≡ None = ap (kept_initial true) (sym same) ∙ may.keeps_none in
+      let min : may.table.minimum ≡ d.minimum = ap (λ (t : DefinedTable). t.minimum) same in
+      let offset : may.place ≡ place = same_Some may.place place (sym may.constant ∙ at_place) in
+      let w = may.within in
+      let start = starts-at in
+      let reach = lays.reach in
+      let was = prior.reach in
+      let within : place + length (image_cells a.items) ≤ d.minimum = omega arith in
+      let end = end-here m taken a on in
+      record {
+        reach = ⊎_elim
+            (λ (from : (is_imaged_from_start true d ≡ true) × (is_some (initial_function d.initial) ≡ true)).
+            let one = cond-true (is_imaged_from_start true d) d.minimum (end_on m taken) from.0 in
+            let two = cond-true (is_imaged_from_start true d) d.minimum (end_on m (taken ++ a ∷ [])) from.0 in
+            omega (arith, one, two))
+            (λ (none : (is_imaged_from_start true d ≡ false) × (d.initial ≡ None)).
+            let one = cond-false (is_imaged_from_start true d) d.minimum (end_on m taken) none.0 in
+            let two = cond-false (is_imaged_from_start true d) d.minimum (end_on m (taken ++ a ∷ [])) none.0 in
+            omega (arith, one, two))
+            (keeps-none true d keeps);
+        cells = λ p l.
+            let behind : unwrap_or (slice_get old p) None ≡ last_item m p (initial_function d.initial) (map image_piece taken) = ⊎_elim
+            (λ (lt : p < length old). ap (λ o. unwrap_or o None) (prior.cells p lt))
+            (λ (ge : length old ≤ p). ap (λ o. unwrap_or o None) (slice_get_past old p ge)
+            ∙ sym (past-image true taken m p d keeps (omega arith) (subst (λ n. n ≤ p) was ge)))
+            (cases_lt p (length old)) in
+            lays.cells_at p l
+            ∙ ap Some (ap (λ o. unwrap_or o (unwrap_or (slice_get old p) None)) (item-moved a.table m (unwrap_or (constant_place a.offset) 0) place p (image_cells a.items) on (sym start))
+            ∙ ap (unwrap_or (item_at m p (image_piece a))) behind ∙ sym (last-push m p (initial_function d.initial) taken a));
+      }
+
+  -- any other image
+  step-there : (m : ℕ) (d : DefinedTable) (image : List (Option ℕ)) → a.table ≢ m → IsTableImage true taken m d image → IsTableImage true (taken ++ a ∷ []) m d image
+  step-there m d image off prior = record {
+    reach = prior.reach ∙ ap (λ n. if is_imaged_from_start true d then d.minimum else n) (sym (end-there m taken a off));
+    cells = λ p l.
+        let none : item_at m p (image_piece a) ≡ None = ⊎_elim (λ e. e) (λ (c : CoversAt m p (image_piece a)). absurd (off c.on)) (item-cover m p (image_piece a)) in
+        prior.cells p l ∙ ap Some (sym (last-push m p (initial_function d.initial) taken a ∙ ap (λ o. unwrap_or o (last_item m p (initial_function d.initial) (map image_piece taken))) none));
+  }
+
+  pub step : (images more : List (List (Option ℕ))) → LaysAt table place (image_cells a.items) images more → AreTableImages true imports ds taken images
+      → AreTableImages true imports ds (taken ++ a ∷ []) more
+  step images more lays prior =
+      let n = lays.count in
+      let count = prior.count in
+      record {
+        count = omega arith;
+        takes = All-push (MayBeTaken true imports ds) taken a prior.takes may;
+        each = λ i d image at found. ⊎_elim
+            (λ (here : i ≡ table).
+            let within = slice_get_within more i image found in
+            let old : List (Option ℕ) = get_or images i image in
+            let old_at : slice_get images i ≡ Some old = slice_get-get_or images i image (omega arith) in
+            let on : a.table ≡ imports + i = omega arith in
+            let number : i ≡ a.table - imports = omega arith in
+            let laid = lays.here old image (ap (slice_get images) (sym here) ∙ old_at) (ap (slice_get more) (sym here) ∙ found) in
+            step-here (imports + i) d old image on (ap (slice_get ds) (sym number) ∙ at) laid (prior.each i d old at old_at))
+            (λ (there : i ≢ table).
+            let off : a.table ≢ imports + i = omega arith in
+            step-there (imports + i) d image off (prior.each i d image at (sym (lays.there i there) ∙ found)))
+            (cases_eq i table);
+      }
+
+-- ---- before any segment
+
+get-replicate : {A : Type 0} (x : A) (n p : ℕ) → p < n → slice_get (replicate n x) p ≡ Some x
+get-replicate x zero p l = absurd (omega arith)
+get-replicate x (suc n) zero l = refl
+get-replicate x (suc n) (suc p) l = get-replicate x n p (omega arith)
+
+first-reach : (b : Bool) (n : ℕ) (cell : Option ℕ) → length (if b then replicate n cell else []) ≡ (if b then n else 0)
+first-reach true n cell = length-replicate n cell
+first-reach false n cell = refl
+
+first-cells : (b : Bool) (n : ℕ) (cell : Option ℕ) (p : ℕ) → p < length (if b then replicate n cell else []) → slice_get (if b then replicate n cell else []) p ≡ Some cell
+first-cells true n cell p l = get-replicate cell n p (omega (arith, length-replicate n cell))
+first-cells false n cell p l = absurd (omega arith)
+
+pub first-images : (lazy : Bool) (imports : ℕ) (ds : List DefinedTable) (images : List (List (Option ℕ))) → images ≡ map (first_image lazy) ds
+    → AreTableImages lazy imports ds [] images
+first-images lazy imports ds images e = record {
+  count = ap length e ∙ length-map ds (first_image lazy);
+  takes = All-nil (MayBeTaken lazy imports ds);
+  each = λ i d image at found.
+      let same : first_image lazy d ≡ image = same_Some (first_image lazy d) image
+      (sym (slice_get-map (first_image lazy) ds i ∙ ap (option_map (first_image lazy)) at) ∙ ap (λ xs. slice_get xs i) (sym e) ∙ found) in
+      subst (IsTableImage lazy [] (imports + i) d) same (record {
+        reach = first-reach (is_imaged_from_start lazy d) d.minimum (initial_function d.initial);
+        cells = first-cells (is_imaged_from_start lazy d) d.minimum (initial_function d.initial);
+      });
+}
+
+-- ---- a loop over the segments
+
+map-drop-at : {A B : Type 0} (f : A → B) (xs : List A) (n : ℕ) (y : B) (rest : List B) → map f (drop n xs) ≡ y ∷ rest → slice_get (map f xs) n ≡ Some y
+map-drop-at f xs zero y rest e = ap (λ ys. slice_get ys 0) e
+map-drop-at f [] (suc n) y rest e = ap (λ ys. slice_get ys 0) e
+map-drop-at f (x ∷ xs) (suc n) y rest e = map-drop-at f xs n y rest e
+
+module _ (imported : ℕ) (ts : List Table) (vs : List TableInitialValue) (segments : List TableSegment) (i : ℕ) (s : TableSegment) (is_segment : s ≡ get_or segments i s) (within : i < length segments) where
+  pub advance : (images more : List (List (Option ℕ))) (spot : Spot) → IsSpot imported ts vs s spot → LaysAt spot.table spot.place (image_cells (items_of s.elements)) images more
+      → AreTableImages true imported (defined_tables_of ts vs) (map active_elements_of (take i segments)) images
+      → AreTableImages true imported (defined_tables_of ts vs) (map active_elements_of (take (i + 1) segments)) more
+  advance images more spot is lays prior =
+      let number = is.number in
+      let low = is.defined in
+      let parts : map active_elements_of (take (i + 1) segments) ≡ map active_elements_of (take i segments) ++ active_elements_of s ∷ [] =
+      ap (map active_elements_of) (take_more segments i s within ∙ ap (λ x. take i segments ++ x ∷ []) (sym is_segment)) ∙ map-append active_elements_of (take i segments) (s ∷ []) in
+      rw parts (step imported (defined_tables_of ts vs) (map active_elements_of (take i segments)) (active_elements_of s) spot.table spot.place
+      (spot-taken imported ts vs s spot is) (omega arith) is.place images more lays prior)
+
+  pub stopped : ((spot : Spot) → IsSpot imported ts vs s spot → ⊥) → (a : ActiveElements) (rest : List ActiveElements)
+      → map active_elements_of (drop i segments) ≡ a ∷ rest → MayBeTaken true imported (defined_tables_of ts vs) a → ⊥
+  stopped none a rest begins may =
+      let same : active_elements_of s ≡ a = same_Some (active_elements_of s) a
+      (sym (slice_get-map active_elements_of segments i ∙ ap (option_map active_elements_of) (slice_get-get_or segments i s within ∙ ap Some (sym is_segment)))
+      ∙ map-drop-at active_elements_of segments i a rest begins) in
+      let spot = taken-spot imported ts vs s (subst (MayBeTaken true imported (defined_tables_of ts vs)) (sym same) may) in
+      none spot.0 spot.1
+
+pub ended : (segments : List TableSegment) (a : ActiveElements) (rest : List ActiveElements) → map active_elements_of (drop (length segments) segments) ≡ a ∷ rest → ⊥
+ended segments a rest begins =
+    let within = slice_get_within (map active_elements_of segments) (length segments) a (map-drop-at active_elements_of segments (length segments) a rest begins) in
+    let n = length-map segments active_elements_of in
+    omega arith
+
+map-take-drop : {A B : Type 0} (f : A → B) (n : ℕ) (xs : List A) → map f xs ≡ map f (take n xs) ++ map f (drop n xs)
+map-take-drop f zero xs = refl
+map-take-drop f (suc n) [] = refl
+map-take-drop f (suc n) (x ∷ xs) = ap (λ ys. f x ∷ ys) (map-take-drop f n xs)
+
+pub takes-prefix : (imported : ℕ) (ds : List DefinedTable) (segments : List TableSegment) (n : ℕ) (images : List (List (Option ℕ)))
+    → AreTableImages true imported ds (map active_elements_of (take n segments)) images
+    → ((a : ActiveElements) (rest : List ActiveElements) → map active_elements_of (drop n segments) ≡ a ∷ rest → MayBeTaken true imported ds a → ⊥)
+    → TakesPrefix true imported ds (map active_elements_of segments) (map active_elements_of (take n segments)) (map active_elements_of (drop n segments))
+takes-prefix imported ds segments n images h stops = record { parts = map-take-drop active_elements_of n segments; takes = h.takes; longest = stops }
+
+-- where no image is wanted nothing is taken
+pub takes-none : (imported : ℕ) (ds : List DefinedTable) (active : List ActiveElements) → TakesPrefix false imported ds active [] active
+takes-none imported ds active = record {
+  parts = refl;
+  takes = All-nil (MayBeTaken false imported ds);
+  longest = λ s rest e may. false≢true may.lazy_tables;
+}

@@ -1,0 +1,16 @@
+use Rattle.std.proofs.Common.{◌∙◌, arith}
+use Rattle.std.proofs.Math.ListN.{length-set}
+use Rattle.table_images.proofs.Tables.{rest-step, done-step}
+use Rattle.table_images.proofs.first.drop_imaged.Goals as goal
+
+pub tables-preserved : goal.tables-preserved
+tables-preserved c =
+    let paired = c.requires in
+    let count = c.tables.invariant.count in
+    let test = c.tables-test.true in
+    record {
+      count = length-set c.tables.values c.tables.i c.drop_if_imaged.new.value ∙ c.tables.invariant.count;
+      done = done-step c.args.tables.now c.args.values.now c.tables.values c.tables.i _ c.index-values-i.result c.drop_if_imaged.new.value (omega arith) (omega arith) (omega arith)
+          c.tables.invariant.rest c.tables.invariant.done c.drop_if_imaged.ensures;
+      rest = rest-step c.args.values.now c.tables.values c.tables.i c.drop_if_imaged.new.value c.tables.invariant.rest;
+    }

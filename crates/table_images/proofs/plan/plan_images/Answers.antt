@@ -1,0 +1,45 @@
+use Rattle.std.proofs.Common.{◌∙◌, ap, length, map, arith, sym, subst, true}
+use Rattle.std.specs.Global.{Vec}
+use Rattle.std.proofs.lemmas.List.{length-map}
+use Rattle.entity_map.proofs.LentLemmas.{refill-same_length}
+use Rattle.wasm_index.specs.declared.index.Index.{Index}
+use Rattle.wasm_index.specs.declared.spaces.FuncSpace.{FuncSpace}
+use Rattle.table_images.specs.Steps.{first_image, images_of}
+use Rattle.table_images.specs.Views.{active_elements_of, defined_tables_of, table_plan_of, image_of}
+use Rattle.replay_spec.specs.Tables.{IsTablePlan}
+use Rattle.table_images.proofs.Tables.{length-defined}
+use Rattle.table_images.proofs.Planned.{planned-images}
+use Rattle.table_images.proofs.plan.plan_images.Goals as goal
+
+pub take_segments-requires-clause-each : goal.take_segments-requires-clause-each
+take_segments-requires-clause-each c =
+    let one = length-map c.args.images.now (λ (x : Vec (Index FuncSpace)). image_of x.items) in
+    let two = length-map (defined_tables_of c.args.tables.now c.args.initialization.now.initial_values) (first_image true) in
+    let three = length-defined c.args.tables.now c.args.initialization.now.initial_values c.requires.paired in
+    let first = ap length c.requires.first in
+    let values = ap length c.as_slice.ensures in
+    omega arith
+
+pub returns-clause-count : goal.returns-clause-count
+returns-clause-count c =
+    let vs = c.args.initialization.now.initial_values in
+    let was = c.as_mut_slice.ensures.values in
+    let count = rw was at c.drop_imaged.ensures.count in
+    ap length (refill-same_length vs c.drop_imaged.new.values count) ∙ count
+
+pub returns-clause-planned : goal.returns-clause-planned
+returns-clause-planned c =
+    let ts = c.args.tables.now in
+    let vs = c.args.initialization.now.initial_values in
+    let new = c.drop_imaged.new.values in
+    let is_values = c.as_slice.ensures in
+    let is_segments = c.as_slice-2.ensures.value in
+    let was = c.as_mut_slice.ensures.values in
+    let taken = rw (is_values, is_segments) at c.in_ok-taken.ensures.images in
+    let stops = rw (is_values, is_segments) at c.in_ok-taken.ensures.stops in
+    let kept = rw was at c.drop_imaged.ensures.kept in
+    let count = rw was at c.drop_imaged.ensures.count in
+    subst (λ ws. IsTablePlan true c.args.imported (defined_tables_of ts vs) (map active_elements_of c.args.initialization.now.segments.items)
+    (table_plan_of ts ws c.in_ok-initialization.field-0.items (images_of c.take_segments.new.images))) (sym (refill-same_length vs new count))
+    (planned-images c.args.imported ts vs new c.args.initialization.now.segments.items c.in_ok-initialization.field-0.items c.in_ok-taken.taken (images_of c.args.images.now)
+    (images_of c.take_segments.new.images) c.requires.paired count kept c.in_ok-initialization.ensures.tail c.requires.first taken stops)

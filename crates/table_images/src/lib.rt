@@ -1,0 +1,12 @@
+//! The images of a module's tables, by the definitions of `replay_spec`: which element segments become images, and their cells.
+#![tactic(auto)]
+
+mod cells;
+mod first;
+mod lay;
+mod plan;
+mod spot;
+#[cfg(test)]
+mod tests;
+
+pub use plan::plan_tables;
