@@ -1,3 +1,7 @@
 pub mod Entered
 pub mod Totals
 pub mod Unplanned
+pub mod Plain
+pub mod ImagesSeen
+pub mod Planning
+pub mod ImagesOff

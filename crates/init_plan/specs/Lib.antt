@@ -1,2 +1,4 @@
 pub mod Views
 pub mod Ready
+pub mod Images
+pub mod Errors

@@ -2,6 +2,7 @@
 
 ghost use Rattle.std.specs.Prelude.{◌≡◌};
 ghost use Rattle.init_plan.specs.declared.error.PlanError.TheVariants.{OutOfMemory};
+ghost use Rattle.init_plan.specs.Errors.{plan_error_of};
 
 use std::alloc::{AllocError, AllocFailed};
 use thiserror::Error;
@@ -38,5 +39,16 @@ impl<T: Drop> From<AllocFailed<T>> for PlanError {
 
     fn from(_e: AllocFailed<T>) -> PlanError {
         PlanError::OutOfMemory
+    }
+}
+
+impl From<memory_images::ImageError> for PlanError {
+    ghost from_gives = { λ error e. e ≡ plan_error_of error };
+
+    fn from(error: memory_images::ImageError) -> PlanError {
+        match error {
+            memory_images::ImageError::TooLarge => PlanError::TooLarge,
+            memory_images::ImageError::OutOfMemory => PlanError::OutOfMemory,
+        }
     }
 }

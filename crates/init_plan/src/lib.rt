@@ -2,11 +2,14 @@
 #![tactic(auto)]
 
 mod error;
+mod image_data;
+mod images;
 mod memory_init;
 mod runtime_data;
 mod translation;
 
 pub use error::PlanError;
+pub use memory_images::{Written, written_ranges};
 pub use translation::{
     FunctionBodyData, MemoryInit, MemorySegmentOffset, ModuleTranslation, RuntimeBytes,
 };
