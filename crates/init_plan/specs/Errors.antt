@@ -1,4 +1,6 @@
--- What an error of the builder of types is to a plan.
+-- What the errors of the layers below are to a plan.
+use Rattle.memory_images.specs.declared.error.ImageError.{ImageError}
+use Rattle.memory_images.specs.declared.error.ImageError.TheVariants as image
 use Rattle.module_types.specs.declared.error.BuildError.{BuildError}
 use Rattle.module_types.specs.declared.error.BuildError.TheVariants as build
 use Rattle.init_plan.specs.declared.error.PlanError.{PlanError}
@@ -7,3 +9,8 @@ use Rattle.init_plan.specs.declared.error.PlanError.TheVariants as plan
 abbrev pub error_of_build : BuildError → PlanError
 error_of_build build.OutOfMemory = plan.OutOfMemory
 error_of_build build.Poisoned = plan.Poisoned
+
+-- where there are no images
+abbrev pub plan_error_of : ImageError → PlanError
+plan_error_of image.TooLarge = plan.TooLarge
+plan_error_of image.OutOfMemory = plan.OutOfMemory

@@ -1,5 +1,6 @@
 pub mod Views
 pub mod Ready
-pub mod Startup
 pub mod Errors
+pub mod Images
+pub mod Startup
 pub mod Tables

@@ -124,13 +124,14 @@ FindsData plan p = FindsRuntime plan.runtime (plan.passive p.0) p.1
 -- ---- what stays
 
 -- of a translation, no call of the memory half writes anything but how memories begin, the ranges of runtime data, these data, where
--- passive segments find theirs, and the segments
+-- passive segments find theirs, the segments, and the alignment of images
 abbrev pub OnlyMemoryInitChanges : ModuleTranslation → ModuleTranslation → Type 0
 OnlyMemoryInitChanges old new = new ≡ record old {
   «module» = record old.module { memory_initialization = new.module.memory_initialization; runtime_data = new.module.runtime_data };
   runtime_data_map = new.runtime_data_map;
   runtime_data = new.runtime_data;
   memory_init = new.memory_init;
+  data_align = new.data_align;
 }
 
 -- all but the passive data

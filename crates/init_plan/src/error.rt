@@ -1,9 +1,10 @@
 //! Why there is no plan.
 
 ghost use Rattle.std.specs.Prelude.{◌≡◌};
-ghost use Rattle.init_plan.specs.Errors.{error_of_build};
 ghost use Rattle.init_plan.specs.declared.error.PlanError.TheVariants.{OutOfMemory};
+ghost use Rattle.init_plan.specs.Errors.{error_of_build, plan_error_of};
 
+use memory_images::ImageError;
 use module_types::BuildError;
 use std::alloc::{AllocError, AllocFailed};
 use thiserror::Error;
@@ -54,5 +55,16 @@ impl<T: Drop> From<AllocFailed<T>> for PlanError {
 
     fn from(_e: AllocFailed<T>) -> PlanError {
         PlanError::OutOfMemory
+    }
+}
+
+impl From<ImageError> for PlanError {
+    ghost from_gives = { λ error e. e ≡ plan_error_of error };
+
+    fn from(error: ImageError) -> PlanError {
+        match error {
+            ImageError::TooLarge => PlanError::TooLarge,
+            ImageError::OutOfMemory => PlanError::OutOfMemory,
+        }
     }
 }

@@ -2,6 +2,8 @@
 #![tactic(auto)]
 
 mod error;
+mod image_data;
+mod images;
 mod memory_init;
 mod runtime_data;
 mod startup;
@@ -9,6 +11,7 @@ mod table_init;
 mod translation;
 
 pub use error::PlanError;
+pub use memory_images::{Written, written_ranges};
 pub use translation::{
     FunctionBodyData, MemoryInit, MemorySegmentOffset, ModuleTranslation, RuntimeBytes,
 };

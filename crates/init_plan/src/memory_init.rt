@@ -1,25 +1,35 @@
 //! Data segments become runtime data.
 
-ghost use Rattle.std.specs.Prelude.{◌≡◌, ◌≢◌, ◌^◌, ◌<◌, ◌≤◌, ◌++◌, ℕ, length, map, All, Contains, IsFalse, OnOk, Err, None};
+ghost use Rattle.std.specs.Prelude.{◌≡◌, ◌+◌, ◌^◌, ◌<◌, ◌≤◌, ℕ, [], length, map, sum_by, All, Contains, OnOk, IfSome, IfNone, Err, None};
 ghost use Rattle.std.specs.Int.{IsPowerOfTwo};
-ghost use Rattle.replay_spec.specs.Plan.{AgreesOver, kept_segments, planned_from, ranges_from};
-ghost use Rattle.init_plan.specs.Views.{memory_plan_of, initializers_of, passive_data_of, defined_sizes, ranges_of, IsSegmented, data_total, active_bytes, passive_bytes, FindsData, OnlyMemoryInitChanges, IsUnprocessed, IsProcessed, active_segment_of, SameButSegments};
+ghost use Rattle.replay_spec.specs.Plan.{MemoryPlan, AgreesOver, ranges_from};
+ghost use Rattle.replay_spec.specs.Images.{IsMemoryPlan};
+ghost use Rattle.memory_images.specs.Images.{images_of as images_seen};
+ghost use Rattle.init_plan.specs.Views.{memory_plan_of, initializers_of, passive_data_of, defined_sizes, ranges_of, total_bytes, passive_bytes, FindsData, OnlyMemoryInitChanges, IsUnprocessed, IsProcessed, active_segment_of, SameButSegments};
+ghost use Rattle.init_plan.specs.Images.{image_options, image_memories, BeginsByRule, BeginsAsImages, KeepsSegments, Begins};
 ghost use Rattle.init_plan.specs.Ready.{MemoryHalfIsReady};
 
 use crate::error::PlanError;
-use crate::runtime_data::{check_total, keep_active, keep_passive, ranges_end_to_end};
+use crate::image_data::keep_images;
+use crate::images::memory_images_of;
+use crate::runtime_data::{
+    check_total, keep_active, keep_passive, passive_length, ranges_end_to_end,
+};
 use crate::translation::{MemoryInit, ModuleTranslation};
+use entity_map::OutOfMemory;
+use memory_images::{Image, ImageSettings};
 use std::alloc::Global;
 use std::mem;
-use wasm_module::MemoryInitializer;
+use wasm_module::{MemoryInitialization, MemoryInitializer};
 use wasm_types::Tunables;
 
 impl<'d> ModuleTranslation<'d> {
-    /// Plans the active data segments: what is kept to be written, and the runtime data that holds the bytes. After an error the
-    /// translation may only be dropped.
+    /// Plans the active data segments: images that the memories begin as, or what is kept to be written, and the runtime data that
+    /// holds the bytes. Pages of images are of `page_size` bytes, and an extent below `max_image` bytes is always dense enough. After an
+    /// error the translation may only be dropped.
     ///
     /// # Errors
-    /// `TooLarge` where the runtime data pass 4294967295 bytes.
+    /// `TooLarge` where the runtime data pass 4294967295 bytes, before an image is made.
     pub fn finalize_memory_init(
         &mut self,
         alloc: Global,
@@ -28,21 +38,19 @@ impl<'d> ModuleTranslation<'d> {
         max_image: u64,
     ) -> Result<(), PlanError>
         requires ready { MemoryHalfIsReady self.old }
-        requires no_images { IsFalse tunables.now.memory_init_cow }
         requires page_size { IsPowerOfTwo page_size }
 
-        // No image is made, and every segment is kept, in order.
-        ensures segmented { OnOk result (IsSegmented self.new.module.memory_initialization) }
+        // The plan is that of the definitions: images alone where the image rule holds, and else every segment, in order.
+        ensures planned { OnOk result (IsMemoryPlan (image_options tunables.now page_size max_image) self.old.module.num_imported_memories
+            (image_memories self.old.module) (initializers_of self.old) (passive_bytes self.old) (memory_plan_of self.new)) }
+        ensures begins { OnOk result (BeginsByRule (image_options tunables.now page_size max_image) self.old self.new) }
         ensures processed { OnOk result (IsProcessed self.new.memory_init) }
-        ensures kept { OnOk result (kept_segments (memory_plan_of self.new) ≡ initializers_of self.old) }
-        ensures planned { OnOk result ((memory_plan_of self.new).segments ≡ planned_from 0 (initializers_of self.old)) }
 
-        // The plan leaves what the segments leave, over any contents of the imported memories.
+        // It leaves what the segments leave, over any globals and any contents of the imported memories.
         ensures agrees { OnOk result (AgreesOver self.old.module.num_imported_memories (defined_sizes self.old.module)
             (initializers_of self.old) (memory_plan_of self.new)) }
 
-        // Runtime data are the active segments and then the passive ones, end to end from 0.
-        ensures runtime { OnOk result ((memory_plan_of self.new).runtime ≡ active_bytes self.old ++ passive_bytes self.old) }
+        // Runtime data stand end to end from 0.
         ensures ranges { OnOk result (ranges_of self.new.module ≡ ranges_from 0 (map length (memory_plan_of self.new).runtime)) }
 
         // Each passive segment is found with its bytes, and no other.
@@ -51,24 +59,91 @@ impl<'d> ModuleTranslation<'d> {
             (memory_plan_of self.new).passive index ≡ None) }
 
         ensures same { OnOk result (OnlyMemoryInitChanges self.old self.new) }
-        ensures fits { OnOk result (data_total self.old < 2 ^ 32) }
-        ensures too_large { result ≡ Err PlanError.TooLarge → 2 ^ 32 ≤ data_total self.old }
-    {
-        // No image is made yet, so nothing depends on these.
-        let _ = tunables;
-        let _ = page_size;
-        let _ = max_image;
 
+        // Too large exactly where the runtime data of the plan pass 4294967295 bytes.
+        ensures fits { OnOk result (sum_by length (memory_plan_of self.new).runtime < 2 ^ 32) }
+        ensures too_large { result ≡ Err PlanError.TooLarge → (plan : MemoryPlan) → IsMemoryPlan (image_options tunables.now page_size max_image)
+            self.old.module.num_imported_memories (image_memories self.old.module) (initializers_of self.old) (passive_bytes self.old) plan
+            → 2 ^ 32 ≤ sum_by length plan.runtime }
+    {
         let segments = self.take_segments(alloc);
-        check_total(&segments, &self.passive_data)?;
-        let kept = keep_active(alloc, segments, &mut self.runtime_data)?;
-        self.memory_init = MemoryInit::Processed(kept);
+        let beside = passive_length(&self.passive_data)?;
+        let settings = ImageSettings {
+            enabled: tunables.memory_init_cow,
+            page_size,
+            max_image,
+        };
+        let images = memory_images_of(alloc, settings, &self.module, &segments, beside)?;
+        self.begin_memories(alloc, images, segments, page_size)?;
         keep_passive(
             &self.passive_data,
             &mut self.runtime_data,
             &mut self.runtime_data_map,
         )?;
         self.module.runtime_data = ranges_end_to_end(alloc, &self.runtime_data)?;
+        Ok(())
+    }
+
+    // The memories begin as images where there are some, and else every segment is left to be written.
+    fn begin_memories(
+        &mut self,
+        alloc: Global,
+        images: Option<Vec<Option<Image>>>,
+        segments: Vec<MemoryInitializer<'d>>,
+        page_size: u64,
+    ) -> Result<(), PlanError>
+        requires empty { self.old.runtime_data ≡ [] }
+        requires few_images { IfSome images (λ images. length images.items < 2 ^ 30) }
+        requires few_segments { length segments.items < 2 ^ 30 }
+        ensures begins { OnOk result (Begins page_size images (map active_segment_of segments.entry.items) self.old self.new) }
+        ensures few { OnOk result (length self.new.runtime_data < 2 ^ 30) }
+        ensures fits { OnOk result (IfNone images (total_bytes (map active_segment_of segments.entry.items) (passive_data_of self.old) < 2 ^ 32)) }
+        ensures too_large { result ≡ Err PlanError.TooLarge → IfSome images (λ _. ⊥) × (2 ^ 32 ≤ total_bytes (map active_segment_of segments.entry.items) (passive_data_of self.old)) }
+    {
+        match images {
+            Some(images) => {
+                self.begin_as_images(alloc, images, page_size)?;
+                Ok(())
+            }
+            None => self.keep_segments(alloc, segments),
+        }
+    }
+
+    // The memories begin as images.
+    fn begin_as_images(
+        &mut self,
+        alloc: Global,
+        images: Vec<Option<Image>>,
+        page_size: u64,
+    ) -> Result<(), OutOfMemory>
+        requires { length self.old.runtime_data + length images.items < u32.MAX }
+        ensures begins { OnOk result (BeginsAsImages page_size (images_seen images.items) self.old self.new) }
+        ensures few { OnOk result (length self.new.runtime_data ≤ length self.old.runtime_data + length images.items) }
+    {
+        let kept = keep_images(alloc, images, &mut self.runtime_data)?;
+        self.module.memory_initialization = MemoryInitialization::Static {
+            map: kept.by_memory,
+        };
+        self.memory_init = MemoryInit::Processed(kept.listed);
+        self.data_align = Some(page_size);
+        Ok(())
+    }
+
+    // Every segment is left to be written.
+    fn keep_segments(
+        &mut self,
+        alloc: Global,
+        segments: Vec<MemoryInitializer<'d>>,
+    ) -> Result<(), PlanError>
+        requires { length self.old.runtime_data + length segments.items < u32.MAX }
+        ensures kept { OnOk result (KeepsSegments (map active_segment_of segments.entry.items) self.old self.new) }
+        ensures few { OnOk result (length self.new.runtime_data ≤ length self.old.runtime_data + length segments.entry.items) }
+        ensures fits { OnOk result (total_bytes (map active_segment_of segments.entry.items) (passive_data_of self.old) < 2 ^ 32) }
+        ensures too_large { result ≡ Err PlanError.TooLarge → 2 ^ 32 ≤ total_bytes (map active_segment_of segments.entry.items) (passive_data_of self.old) }
+    {
+        check_total(&segments, &self.passive_data)?;
+        let kept = keep_active(alloc, segments, &mut self.runtime_data)?;
+        self.memory_init = MemoryInit::Processed(kept);
         Ok(())
     }
 

@@ -31,6 +31,16 @@ pub(crate) fn check_total(
     Ok(())
 }
 
+// The number of bytes of all passive segments together.
+#[tactic(auto, using(crate::proofs::Totals::totals))]
+pub(crate) fn passive_length(passive: &[(DataIndex, &[u8])]) -> Result<u32, PlanError>
+    ensures total { IfOk result (λ total. total ≡ sum_by length (map (λ p. p.1) (map passive_segment_of passive.now))) }
+    ensures too_large { IfErr result (λ error. (error ≡ PlanError.TooLarge)
+        × (2 ^ 32 ≤ sum_by length (map (λ p. p.1) (map passive_segment_of passive.now)))) }
+{
+    with_passive_lengths(0, passive)
+}
+
 fn active_length(active: &[MemoryInitializer]) -> Result<u32, PlanError>
     ensures total { IfOk result (λ total. total ≡ sum_by (λ s. length s.bytes.now) active.now) }
     ensures too_large { IfErr result (λ error. (error ≡ PlanError.TooLarge)
@@ -75,6 +85,7 @@ pub(crate) fn keep_active<'d>(
     requires { length runtime_data.old + length segments.items < u32.MAX }
     ensures kept { IfOk result (λ kept. map planned_segment_of kept.items ≡
         planned_from (length runtime_data.old) (map active_segment_of segments.entry.items)) }
+    ensures few { OnOk result (length runtime_data.new ≤ length runtime_data.old + length segments.entry.items) }
     ensures runtime { OnOk result (map bytes_of runtime_data.new
         ≡ map bytes_of runtime_data.old ++ map (λ s. s.bytes) (map active_segment_of segments.entry.items)) }
 {

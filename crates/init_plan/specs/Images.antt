@@ -1,0 +1,62 @@
+-- The memories of a translated module, as the image rule asks of them.
+use Rattle.std.specs.Prelude.{◌≡◌, ◌++◌, Bool, false, true, ℕ, List, length, map, drop, Option, None, Some}
+use Rattle.std.specs.Global.{Vec}
+use Rattle.memory_images.specs.declared.image.Image.{Image}
+use Rattle.memory_images.specs.Images.{images_of as images_seen}
+use Rattle.wasm_types.specs.declared.limits.IndexType.{IndexType}
+use Rattle.wasm_types.specs.declared.limits.IndexType.TheVariants as index
+use Rattle.wasm_types.specs.declared.memory.Memory.{Memory}
+use Rattle.wasm_types.specs.declared.tunables.Tunables.{Tunables}
+use Rattle.wasm_module.specs.declared.module.Module.{Module}
+use Rattle.replay_spec.specs.Data.{ActiveSegment}
+use Rattle.replay_spec.specs.Plan.{planned_from}
+use Rattle.replay_spec.specs.Images.{ImageOptions, ImageMemory, IsStatic, MemoryImage, image_map, entries_of, image_bytes}
+use Rattle.init_plan.specs.declared.translation.ModuleTranslation.{ModuleTranslation}
+use Rattle.init_plan.specs.Views.{initializers_of, images_of, processed_of, bytes_of, IsSegmented, IsProcessed}
+
+abbrev pub is_wide : IndexType → Bool
+is_wide index.I32 = false
+is_wide index.I64 = true
+
+abbrev pub image_memory : Memory → ImageMemory
+image_memory m = record { wide = is_wide m.idx_type; pages = m.limits.min; page_log2 = m.page_size_log2 }
+
+-- the defined memories
+abbrev pub image_memories : Module → List ImageMemory
+image_memories m = map image_memory (drop m.num_imported_memories m.memories)
+
+abbrev pub image_options : Tunables → ℕ → ℕ → ImageOptions
+image_options tunables page_size max_image = record { enabled = tunables.memory_init_cow; page = page_size; max_image = max_image }
+
+-- memories begin as images exactly where the image rule holds, and the alignment is then the size of their pages
+pub record BeginsByRule (options : ImageOptions) (old new : ModuleTranslation) : Type 0 where
+  pub segmented : IsSegmented new.module.memory_initialization → (IsStatic options old.module.num_imported_memories (image_memories old.module) (initializers_of old) → ⊥) × (new.data_align ≡ old.data_align)
+  pub images : (IsSegmented new.module.memory_initialization → ⊥) → IsStatic options old.module.num_imported_memories (image_memories old.module) (initializers_of old) × (new.data_align ≡ Some options.page)
+
+-- ---- the steps
+
+-- the memories begin as images of pages of a size, which are the next runtime data
+pub record BeginsAsImages (page_size : ℕ) (images : List (Option MemoryImage)) (old new : ModuleTranslation) : Type 0 where
+  pub in_map : images_of new.module.memory_initialization ≡ image_map (length old.runtime_data) images
+  pub static : IsSegmented new.module.memory_initialization → ⊥
+  pub in_list : processed_of new.memory_init ≡ entries_of 0 (image_map (length old.runtime_data) images)
+  pub processed : IsProcessed new.memory_init
+  pub runtime : map bytes_of new.runtime_data ≡ map bytes_of old.runtime_data ++ image_bytes images
+  pub same : new ≡ record old {
+    «module» = record old.module { memory_initialization = new.module.memory_initialization };
+    runtime_data = new.runtime_data;
+    memory_init = new.memory_init;
+    data_align = Some page_size;
+  }
+
+-- segments are left to be written, from the next runtime data
+pub record KeepsSegments (active : List ActiveSegment) (old new : ModuleTranslation) : Type 0 where
+  pub in_list : processed_of new.memory_init ≡ planned_from (length old.runtime_data) active
+  pub processed : IsProcessed new.memory_init
+  pub runtime : map bytes_of new.runtime_data ≡ map bytes_of old.runtime_data ++ map (λ s. s.bytes) active
+  pub same : new ≡ record old { runtime_data = new.runtime_data; memory_init = new.memory_init }
+
+-- one of these, by whether there are images
+abbrev pub Begins : ℕ → Option (Vec (Option Image)) → List ActiveSegment → ModuleTranslation → ModuleTranslation → Type 0
+Begins page_size None active old new = KeepsSegments active old new
+Begins page_size (Some images) active old new = BeginsAsImages page_size (images_seen images.items) old new
