@@ -6,3 +6,4 @@ pub mod Plain
 pub mod ImagesSeen
 pub mod Planning
 pub mod ImagesOff
+pub mod MemoriesKept

@@ -1,5 +1,5 @@
 -- The memories of a translated module, as the image rule asks of them.
-use Rattle.std.specs.Prelude.{◌≡◌, ◌++◌, Bool, false, true, ℕ, List, length, map, drop, Option, None, Some}
+use Rattle.std.specs.Prelude.{◌≡◌, ◌++◌, ◌+◌, Bool, false, true, ℕ, List, length, map, drop, slice_get, Option, None, Some}
 use Rattle.std.specs.Global.{Vec}
 use Rattle.memory_images.specs.declared.image.Image.{Image}
 use Rattle.memory_images.specs.Images.{images_of as images_seen}
@@ -9,8 +9,8 @@ use Rattle.wasm_types.specs.declared.memory.Memory.{Memory}
 use Rattle.wasm_types.specs.declared.tunables.Tunables.{Tunables}
 use Rattle.wasm_module.specs.declared.module.Module.{Module}
 use Rattle.replay_spec.specs.Data.{ActiveSegment}
-use Rattle.replay_spec.specs.Plan.{planned_from}
-use Rattle.replay_spec.specs.Images.{ImageOptions, ImageMemory, IsStatic, MemoryImage, image_map, entries_of, image_bytes}
+use Rattle.replay_spec.specs.Plan.{MemoryPlan, planned_from}
+use Rattle.replay_spec.specs.Images.{ImageOptions, ImageMemory, IsStatic, MemoryImage, written_on, bytes_on, image_map, entries_of, image_bytes, PlansImages, IsTight}
 use Rattle.init_plan.specs.declared.translation.ModuleTranslation.{ModuleTranslation}
 use Rattle.init_plan.specs.Views.{initializers_of, images_of, processed_of, bytes_of, IsSegmented, IsProcessed}
 
@@ -32,6 +32,13 @@ image_options tunables page_size max_image = record { enabled = tunables.memory_
 pub record BeginsByRule (options : ImageOptions) (old new : ModuleTranslation) : Type 0 where
   pub segmented : IsSegmented new.module.memory_initialization → (IsStatic options old.module.num_imported_memories (image_memories old.module) (initializers_of old) → ⊥) × (new.data_align ≡ old.data_align)
   pub images : (IsSegmented new.module.memory_initialization → ⊥) → IsStatic options old.module.num_imported_memories (image_memories old.module) (initializers_of old) × (new.data_align ≡ Some options.page)
+
+-- each image of a plan is whole pages within its memory, has the contents, and is tight
+abbrev pub HasTightImages : ImageOptions → ℕ → List ImageMemory → List ActiveSegment → List (List ℕ) → MemoryPlan → Type 0
+HasTightImages options imports memories active passive plan = (planned : PlansImages options imports memories active passive plan)
+    → (m : ℕ) (memory : ImageMemory) (image : MemoryImage) → slice_get memories m ≡ Some memory
+    → slice_get planned.images (imports + m) ≡ Some (Some image)
+    → IsTight options memory (written_on active (imports + m)) (bytes_on (imports + m) active) image
 
 -- ---- the steps
 

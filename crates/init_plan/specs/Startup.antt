@@ -1,5 +1,4 @@
 -- Startup of a translation, and how a call raises it: a type that stands is kept, and else it is the one that the builder gives.
-use Rattle.std.specs.Prelude.{◌≡◌}
 use Rattle.wasm_index.specs.Index.{index_of}
 use Rattle.wasm_types.specs.declared.index.EngineOrModuleTypeIndex.{EngineOrModuleTypeIndex}
 use Rattle.wasm_types.specs.declared.index.EngineOrModuleTypeIndex.TheVariants.{Module}

@@ -95,6 +95,11 @@ abbrev pub images_of : MemoryInitialization → List (Option (ℕ × ℕ))
 images_of initialization.Segmented = []
 images_of (initialization.Static images) = map (option_map (λ image. (image.0, number_of image.1))) images
 
+-- a planned segment is an image
+abbrev pub IsPlace : MemorySegmentOffset → Type 0
+IsPlace (offset.Expr e) = ⊥
+IsPlace (offset.Static place) = Unit {0}
+
 -- what a translation says of memories
 abbrev pub memory_plan_of : ModuleTranslation → MemoryPlan
 memory_plan_of t = record {
@@ -123,11 +128,25 @@ FindsData plan p = FindsRuntime plan.runtime (plan.passive p.0) p.1
 
 -- ---- what stays
 
--- of a translation, no call of the memory half writes anything but how memories begin, the ranges of runtime data, these data, where
--- passive segments find theirs, the segments, and the alignment of images
+-- of a translation, the plan of memories writes how memories begin, the ranges of runtime data, these data, where passive segments find
+-- theirs, the segments, and the alignment of images
+abbrev pub OnlyMemoriesChange : ModuleTranslation → ModuleTranslation → Type 0
+OnlyMemoriesChange old new = new ≡ record old {
+  «module» = record old.module { memory_initialization = new.module.memory_initialization; runtime_data = new.module.runtime_data };
+  runtime_data_map = new.runtime_data_map;
+  runtime_data = new.runtime_data;
+  memory_init = new.memory_init;
+  data_align = new.data_align;
+}
+
+-- the same, and startup
 abbrev pub OnlyMemoryInitChanges : ModuleTranslation → ModuleTranslation → Type 0
 OnlyMemoryInitChanges old new = new ≡ record old {
-  «module» = record old.module { memory_initialization = new.module.memory_initialization; runtime_data = new.module.runtime_data };
+  «module» = record old.module {
+    memory_initialization = new.module.memory_initialization;
+    runtime_data = new.module.runtime_data;
+    startup = new.module.startup;
+  };
   runtime_data_map = new.runtime_data_map;
   runtime_data = new.runtime_data;
   memory_init = new.memory_init;

@@ -5,6 +5,7 @@ mod error;
 mod image_data;
 mod images;
 mod memory_init;
+mod memory_startup;
 mod runtime_data;
 mod startup;
 mod table_init;

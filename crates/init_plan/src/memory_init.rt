@@ -5,7 +5,7 @@ ghost use Rattle.std.specs.Int.{IsPowerOfTwo};
 ghost use Rattle.replay_spec.specs.Plan.{MemoryPlan, AgreesOver, ranges_from};
 ghost use Rattle.replay_spec.specs.Images.{IsMemoryPlan};
 ghost use Rattle.memory_images.specs.Images.{images_of as images_seen};
-ghost use Rattle.init_plan.specs.Views.{memory_plan_of, initializers_of, passive_data_of, defined_sizes, ranges_of, total_bytes, passive_bytes, FindsData, OnlyMemoryInitChanges, IsUnprocessed, IsProcessed, active_segment_of, SameButSegments};
+ghost use Rattle.init_plan.specs.Views.{memory_plan_of, initializers_of, passive_data_of, defined_sizes, ranges_of, total_bytes, passive_bytes, FindsData, OnlyMemoriesChange, IsUnprocessed, IsProcessed, active_segment_of, SameButSegments};
 ghost use Rattle.init_plan.specs.Images.{image_options, image_memories, BeginsByRule, BeginsAsImages, KeepsSegments, Begins};
 ghost use Rattle.init_plan.specs.Ready.{MemoryHalfIsReady};
 
@@ -24,13 +24,8 @@ use wasm_module::{MemoryInitialization, MemoryInitializer};
 use wasm_types::Tunables;
 
 impl<'d> ModuleTranslation<'d> {
-    /// Plans the active data segments: images that the memories begin as, or what is kept to be written, and the runtime data that
-    /// holds the bytes. Pages of images are of `page_size` bytes, and an extent below `max_image` bytes is always dense enough. After an
-    /// error the translation may only be dropped.
-    ///
-    /// # Errors
-    /// `TooLarge` where the runtime data pass 4294967295 bytes, before an image is made.
-    pub fn finalize_memory_init(
+    // Plans the active data segments, all but the startup that they need.
+    pub(crate) fn plan_memories(
         &mut self,
         alloc: Global,
         tunables: &Tunables,
@@ -58,7 +53,7 @@ impl<'d> ModuleTranslation<'d> {
         ensures others { OnOk result ((index : ℕ) → ¬ Contains (map (λ p. p.0) (passive_data_of self.old)) index →
             (memory_plan_of self.new).passive index ≡ None) }
 
-        ensures same { OnOk result (OnlyMemoryInitChanges self.old self.new) }
+        ensures same { OnOk result (OnlyMemoriesChange self.old self.new) }
 
         // Too large exactly where the runtime data of the plan pass 4294967295 bytes.
         ensures fits { OnOk result (sum_by length (memory_plan_of self.new).runtime < 2 ^ 32) }

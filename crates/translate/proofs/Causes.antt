@@ -99,8 +99,10 @@ pub plan_cause : (bytes : List ℕ) (m : Module) (total : ℕ) (r : Result (Unit
     → (r ≡ Err plan.TooLarge → 2 ^ 32 ≤ total) → total ≡ data_size m → IsReadable bytes m → HasCause bytes (error_of_plan e)
 plan_cause bytes m total r plan.TooLarge is too_large same readable = inr (m, readable, let h = too_large is in omega (arith, same))
 plan_cause bytes m total r plan.OutOfMemory is too_large same readable = tt
+plan_cause bytes m total r plan.Poisoned is too_large same readable = tt
 
 pub plan_complete : (m : Module) (total : ℕ) (r : Result (Unit {0}) PlanError) (e : PlanError) → r ≡ Err e
     → (r ≡ Err plan.TooLarge → 2 ^ 32 ≤ total) → total ≡ data_size m → data_size m < 2 ^ 32 → error_of_plan e ≡ refusal.OutOfMemory
 plan_complete m total r plan.TooLarge is too_large same small = absurd (let h = too_large is in omega (arith, same))
 plan_complete m total r plan.OutOfMemory is too_large same small = refl
+plan_complete m total r plan.Poisoned is too_large same small = refl

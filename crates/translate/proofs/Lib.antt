@@ -1,3 +1,4 @@
+pub mod Unimaged
 pub mod Adding
 pub mod Readiness
 pub mod OneWord

@@ -1,25 +1,28 @@
 -- A translation that is planned is the plan of its module.
 use Rattle.std.proofs.Common.{◌≡◌, ◌++◌, ℕ, List, [], ◌∷◌, length, map, drop, Option, Some, None, refl, sym, ap, subst, ◌∙◌}
-use Rattle.std.specs.Prelude.{All, Contains, slice_get}
+use Rattle.std.specs.Prelude.{All, Contains, slice_get, IsFalse}
 use Rattle.wasm_spec.specs.Module.{Expression, DataKind, Passive, Active, Segment, Module, imported_memories, defined_memories, segments, data_size}
 use Rattle.wasm_index.specs.Index.{number_of}
 use Rattle.wasm_types.specs.Memories.{memory_of}
 use Rattle.replay_spec.specs.Data.{ActiveSegment, active_segments, minimum_size}
-use Rattle.replay_spec.specs.Plan.{MemoryPlan, AgreesOver, Agrees, kept_segments, planned_from, ranges_from, FindsPassive}
+use Rattle.replay_spec.specs.Plan.{MemoryPlan, AgreesOver, Agrees, planned_from, ranges_from, FindsPassive}
+use Rattle.replay_spec.specs.Images.{ImageOptions, PlansSegments, IsMemoryPlan}
+use Rattle.init_plan.specs.Images.{image_memories, BeginsByRule}
 use Rattle.init_plan.specs.declared.translation.ModuleTranslation.{ModuleTranslation}
 use Rattle.init_plan.specs.Views.{memory_plan_of, initializers_of, passive_data_of, defined_sizes, ranges_of, data_total, active_bytes, passive_bytes, FindsData, FindsRuntime, IsSegmented, IsProcessed, OnlyMemoryInitChanges}
 use Rattle.translate.specs.Filled.{Fills, passive_from}
 use Rattle.translate.specs.Planned.{IsPlanOf, runtime_data, Finds}
+use Rattle.translate.proofs.Unimaged.{is_segmented, not_static, keeps_segments, kept_all}
 use Rattle.translate.proofs.Segments.{sizes_same, sizes_add, passive_bytes_same, passive_has, not_contained}
 
--- what planning promises of the translation that it leaves
-pub record PlanningTells (old new : ModuleTranslation) : Type 0 where
-  pub segmented : IsSegmented new.module.memory_initialization
+-- what planning without images promises of the translation that it leaves
+pub record PlanningTells (options : ImageOptions) (old new : ModuleTranslation) : Type 0 where
+  pub off : IsFalse options.enabled
+  pub planned : IsMemoryPlan options old.module.num_imported_memories (image_memories old.module) (initializers_of old) (passive_bytes old)
+      (memory_plan_of new)
+  pub begins : BeginsByRule options old new
   pub processed : IsProcessed new.memory_init
-  pub planned : (memory_plan_of new).segments ≡ planned_from 0 (initializers_of old)
-  pub kept : kept_segments (memory_plan_of new) ≡ initializers_of old
   pub agrees : AgreesOver old.module.num_imported_memories (defined_sizes old.module) (initializers_of old) (memory_plan_of new)
-  pub runtime : (memory_plan_of new).runtime ≡ active_bytes old ++ passive_bytes old
   pub ranges : ranges_of new.module ≡ ranges_from 0 (map length (memory_plan_of new).runtime)
   pub found : All (FindsData (memory_plan_of new)) (passive_data_of old)
   pub others : (index : ℕ) → ¬ Contains (map (λ p. p.0) (passive_data_of old)) index → (memory_plan_of new).passive index ≡ None
@@ -69,7 +72,10 @@ module _ (bytes : List ℕ) (m : Module) (old : ModuleTranslation) (filled : Fil
   sizes_of_memories = rw (filled.imports, filled.memories, after_imports memory_of (imported_memories m) (defined_memories m))
       (sizes_same (defined_memories m))
 
-  module _ (new : ModuleTranslation) (planned : PlanningTells old new) where
+  module _ (options : ImageOptions) (new : ModuleTranslation) (planned : PlanningTells options old new) where
+    keeps : PlansSegments options old.module.num_imported_memories (image_memories old.module) (initializers_of old) (passive_bytes old) (memory_plan_of new)
+    keeps = keeps_segments options _ _ _ _ planned.off (memory_plan_of new) planned.planned
+
     agrees_with : Agrees m (memory_plan_of new)
     agrees_with = same_over _ _ _ _ _ _ (memory_plan_of new) filled.imports sizes_of_memories filled.active planned.agrees
 
@@ -78,15 +84,15 @@ module _ (bytes : List ℕ) (m : Module) (old : ModuleTranslation) (filled : Fil
         let active : active_bytes old ≡ map (λ s. s.bytes) (active_segments m) =
         ap (λ (ss : List ActiveSegment). map (λ s. s.bytes) ss) filled.active in
         let passive = ap (λ (ps : List (ℕ × List ℕ)). map (λ p. p.1) ps) filled.passive ∙ passive_bytes_same 0 (segments m) in
-        planned.runtime ∙ ap (λ (bs : List (List ℕ)). bs ++ passive_bytes old) active
+        keeps.runtime ∙ ap (λ (bs : List (List ℕ)). bs ++ passive_bytes old) active
         ∙ ap (λ (bs : List (List ℕ)). map (λ s. s.bytes) (active_segments m) ++ bs) passive
 
     pub is_plan : IsPlanOf bytes m (record { translation = new })
     is_plan = record {
       agrees = agrees_with;
-      segmented = planned.segmented;
-      left = planned.kept ∙ filled.active;
-      processed = planned.planned ∙ ap (planned_from 0) filled.active;
+      segmented = is_segmented _ (λ images. not_static options _ _ _ (passive_bytes old) planned.off (planned.begins.images images).0);
+      left = kept_all options _ _ _ _ planned.off (memory_plan_of new) planned.planned ∙ filled.active;
+      processed = keeps.in_list ∙ ap (planned_from 0) filled.active;
       is_processed = planned.processed;
       memories = ap (λ (t : ModuleTranslation). t.module.memories) planned.same ∙ filled.memories;
       imports = ap (λ (t : ModuleTranslation). t.module.num_imported_memories) planned.same ∙ filled.imports;

@@ -10,6 +10,8 @@ ghost use Rattle.translate.specs.Planned.{IsPlanned, IsUnplanned, HasCause, IsRe
 use crate::fill::fill;
 use crate::planned::first_unplanned;
 use crate::words::Collector;
+use form_types::Validator;
+use module_types::ModuleTypesBuilder;
 use plan::{Plan, TranslateError};
 use std::alloc::Global;
 use wasm_form::{check, read_module};
@@ -51,6 +53,7 @@ pub fn translate_module<'d>(
     }
     check(alloc, &form)?;
     let mut translation = fill(alloc, form)?;
-    translation.finalize_memory_init(alloc, tunables, page_size, max_image)?;
+    let mut types = ModuleTypesBuilder::new(alloc, &Validator::new(0));
+    translation.finalize_memory_init(alloc, tunables, page_size, max_image, &mut types)?;
     Ok(Plan { translation })
 }

@@ -8,6 +8,7 @@ use Rattle.translate.specs.Filled.{Fills}
 use Rattle.translate.specs.Planned.{IsUnplanned}
 use Rattle.translate.proofs.Causes.{ReadingTells, read_cause, read_complete, one_name, all_planned, nothing_named, was_readable, check_cause, check_complete, plan_cause, plan_complete}
 use Rattle.translate.proofs.Plans.{total_same, is_plan}
+use Rattle.translate.proofs.Unimaged.{all_bytes}
 use Rattle.translate.proofs.translating.translate_module.Goals as goal
 
 -- ---- the bytes are not read
@@ -104,7 +105,8 @@ returns-in_err-finalize_memory_init-clause-cause c =
     let filled : Fills c.args.bytes.now m c.in_ok-translation.translation =
     subst (λ (bs : List ℕ). Fills bs m c.in_ok-translation.translation) c.in_ok-form.ensures.whole c.in_ok-translation.ensures in
     rw (p.1, p.2) (plan_cause c.args.bytes.now m _ c.finalize_memory_init.result c.in_err-finalize_memory_init.field-0.0
-    c.in_err-finalize_memory_init.was c.finalize_memory_init.ensures.too_large
+    c.in_err-finalize_memory_init.was
+    (λ was. all_bytes _ _ _ _ _ c.requires.no_memory_images (c.finalize_memory_init.ensures.too_large was))
     (total_same c.args.bytes.now m c.in_ok-translation.translation filled)
     (was_readable c.args.bytes.now c.in_ok-form.form tells r.read r.no_interface_types))
 
@@ -123,7 +125,7 @@ returns-in_err-finalize_memory_init-clause-complete c = λ valid.
     let same : m ≡ valid.meaning =
     c.in_ok-form.ensures.complete valid.read.short valid.meaning valid.read.spelled valid.read.no_interface_types in
     rw p.1 (p.2 ∙ plan_complete m _ c.finalize_memory_init.result c.in_err-finalize_memory_init.field-0.0 c.in_err-finalize_memory_init.was
-    c.finalize_memory_init.ensures.too_large (total_same c.args.bytes.now m c.in_ok-translation.translation filled) (rw same valid.data_fits))
+    (λ was. all_bytes _ _ _ _ _ c.requires.no_memory_images (c.finalize_memory_init.ensures.too_large was)) (total_same c.args.bytes.now m c.in_ok-translation.translation filled) (rw same valid.data_fits))
 
 -- ---- it is planned
 
@@ -141,13 +143,12 @@ returns-clause-planned c =
       meaning = m;
       read = was_readable c.args.bytes.now c.in_ok-form.form tells e.read e.no_interface_types;
       can = record { sections = all.0; constants = all.1; kept = c.in_ok-check.ensures.kept };
-      planned = is_plan c.args.bytes.now m c.in_ok-translation.translation filled c.finalize_memory_init.new.self (record {
-        segmented = f.segmented;
-        processed = f.processed;
+      planned = is_plan c.args.bytes.now m c.in_ok-translation.translation filled _ c.finalize_memory_init.new.self (record {
+        off = c.requires.no_memory_images;
         planned = f.planned;
-        kept = f.kept;
+        begins = f.begins;
+        processed = f.processed;
         agrees = f.agrees;
-        runtime = f.runtime;
         ranges = f.ranges;
         found = f.found;
         others = f.others;

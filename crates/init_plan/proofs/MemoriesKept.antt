@@ -1,0 +1,140 @@
+-- What is kept of memories, and startup that it raises.
+use Rattle.std.proofs.Common.{◌≡◌, ℕ, Bool, true, false, List, [], ◌∷◌, map, All, Option, None, Some, refl, sym, ◌∙◌, ap, subst, arith, ◌+◌, ◌-◌}
+use Rattle.std.specs.Prelude.{IsTrue, is_none, slice_get, if◌then◌else◌}
+use Rattle.std.specs.Option.{option_map}
+use Rattle.std.specs.List.{filter_map, list_all}
+use Rattle.std.specs.Int.{IsPowerOfTwo}
+use Rattle.std.proofs.lemmas.Bool.{false≢true}
+use Rattle.std.proofs.lemmas.List.Elements.{All-nil, All-cons, All-head, All-tail}
+use Rattle.wasm_index.specs.declared.index.Index.{Index}
+use Rattle.wasm_index.specs.declared.spaces.MemorySpace.{MemorySpace}
+use Rattle.wasm_index.specs.declared.spaces.RuntimeDataSpace.{RuntimeDataSpace}
+use Rattle.wasm_index.specs.Index.{number_of}
+use Rattle.wasm_module.specs.declared.startup.ModuleStartup.{ModuleStartup}
+use Rattle.wasm_module.specs.declared.startup.ModuleStartup.TheVariants as startup
+use Rattle.module_types.specs.Builder.{Builder}
+use Rattle.replay_spec.specs.Data.{ActiveSegment}
+use Rattle.replay_spec.specs.Images.{ImageOptions, ImageMemory}
+use Rattle.replay_spec.specs.Plan.{MemoryPlan, PlannedSegment, left_to_write}
+use Rattle.replay_spec.specs.Startup.{Startup, Never, Always, IfMemoriesNeedInit, is_empty, keeps_no_data, has_no_image, raised_by_images, raised_by_memories}
+use Rattle.replay_spec.proofs.Tight.{tight-image}
+use Rattle.init_plan.specs.declared.translation.ModuleTranslation.{ModuleTranslation}
+use Rattle.init_plan.specs.declared.translation.MemorySegmentOffset.{MemorySegmentOffset}
+use Rattle.init_plan.specs.declared.translation.MemorySegmentOffset.TheVariants as offset
+use Rattle.init_plan.specs.Images.{HasTightImages}
+use Rattle.init_plan.specs.Startup.{startup_kind, with_images, raised, types_after, with_startup}
+use Rattle.init_plan.specs.Views.{IsPlace, planned_segment_of, OnlyMemoriesChange, OnlyMemoryInitChanges}
+
+abbrev Segment : Type 0
+Segment = Index MemorySpace × MemorySegmentOffset × Index RuntimeDataSpace
+
+abbrev written : MemoryPlan → List Segment → List ActiveSegment
+written plan ss = filter_map (λ (s : PlannedSegment). left_to_write plan s.offset s.memory s.index) (map planned_segment_of ss)
+
+abbrev Placed : Segment → Type 0
+Placed s = IsPlace s.1
+
+-- ---- what is kept
+
+places-none : (plan : MemoryPlan) (ss : List Segment) → All Placed ss → is_empty (written plan ss) ≡ true
+places-none plan [] h = refl
+places-none plan ((m, offset.Static place, i) ∷ ss) h = places-none plan ss (All-tail Placed (m, offset.Static place, i) ss h)
+places-none plan ((m, offset.Expr e, i) ∷ ss) h = absurd (All-head Placed (m, offset.Expr e, i) ss h)
+
+none-places : (plan : MemoryPlan) (ss : List Segment) → is_empty (written plan ss) ≡ true → All Placed ss
+none-places plan [] h = All-nil Placed
+none-places plan ((m, offset.Static place, i) ∷ ss) h = All-cons Placed (m, offset.Static place, i) ss tt (none-places plan ss h)
+none-places plan ((m, offset.Expr e, i) ∷ ss) h = absurd (false≢true h)
+
+pub places : (ss : List Segment) (b : Bool) → (IsTrue b → All Placed ss) × (All Placed ss → IsTrue b)
+    → (plan : MemoryPlan) → b ≡ is_empty (written plan ss)
+places ss true h plan = sym (places-none plan ss (h.0 refl))
+places ss false h plan = over (is_empty (written plan ss)) refl where
+  over : (x : Bool) → is_empty (written plan ss) ≡ x → false ≡ is_empty (written plan ss)
+  over false e = sym e
+  over true e = absurd (false≢true (h.1 (none-places plan ss e)))
+
+abbrev Image : Type 0
+Image = Option (ℕ × Index RuntimeDataSpace)
+
+abbrev seen : List Image → List (Option (ℕ × ℕ))
+seen images = map (option_map (λ image. (image.0, number_of image.1))) images
+
+IsNo : Image → Type 0
+IsNo image = image ≡ None
+
+none-seen : (images : List Image) → All (λ (image : Image). image ≡ None) images → list_all is_none (seen images) ≡ true
+none-seen [] h = refl
+none-seen (None ∷ images) h = none-seen images (All-tail (λ (image : Image). image ≡ None) None images h)
+none-seen (Some image ∷ images) h = let bad = All-head (λ (i : Image). i ≡ None) (Some image) images h in absurd cc
+
+seen-none : (images : List Image) → list_all is_none (seen images) ≡ true → All (λ (image : Image). image ≡ None) images
+seen-none [] h = All-nil (λ (image : Image). image ≡ None)
+seen-none (None ∷ images) h = All-cons (λ (image : Image). image ≡ None) None images refl (seen-none images h)
+seen-none (Some image ∷ images) h = absurd (false≢true h)
+
+pub nones : (images : List Image) (b : Bool) → (IsTrue b → All (λ (image : Image). image ≡ None) images) × (All (λ (image : Image). image ≡ None) images → IsTrue b)
+    → b ≡ list_all is_none (seen images)
+nones images true h = sym (none-seen images (h.0 refl))
+nones images false h = over (list_all is_none (seen images)) refl where
+  over : (x : Bool) → list_all is_none (seen images) ≡ x → false ≡ list_all is_none (seen images)
+  over false e = sym e
+  over true e = absurd (false≢true (h.1 (seen-none images e)))
+
+-- ---- startup
+
+pub raised-same : (s : ModuleStartup) (b : Builder) → raised (startup_kind s) s b ≡ s
+raised-same startup.None b = refl
+raised-same (startup.Always ty) b = refl
+raised-same (startup.IfMemoriesNeedInit ty) b = refl
+
+pub types-same : (s : ModuleStartup) (b : Builder) → types_after (startup_kind s) s b ≡ b
+types-same startup.None b = refl
+types-same (startup.Always ty) b = refl
+types-same (startup.IfMemoriesNeedInit ty) b = refl
+
+-- where segments are kept, it always runs
+pub kind-always : (plan : MemoryPlan) (kind : Startup) → keeps_no_data plan ≡ false → raised_by_memories plan kind ≡ Always
+kind-always plan kind e = ap (λ b. if b then raised_by_images plan kind else Always) e
+
+by-images : (plan : MemoryPlan) (kind : Startup) → has_no_image plan ≡ false → raised_by_images plan kind ≡ with_images kind
+by-images plan Never e = ap (λ b. if b then Never else IfMemoriesNeedInit) e
+by-images plan Always e = refl
+by-images plan IfMemoriesNeedInit e = refl
+
+-- where only images stand, memories need them
+pub kind-images : (plan : MemoryPlan) (kind : Startup) → keeps_no_data plan ≡ true → has_no_image plan ≡ false
+    → raised_by_memories plan kind ≡ with_images kind
+kind-images plan kind e f = ap (λ b. if b then raised_by_images plan kind else Always) e ∙ by-images plan kind f
+
+no-images : (plan : MemoryPlan) (kind : Startup) → has_no_image plan ≡ true → raised_by_images plan kind ≡ kind
+no-images plan Never e = ap (λ b. if b then Never else IfMemoriesNeedInit) e
+no-images plan Always e = refl
+no-images plan IfMemoriesNeedInit e = refl
+
+-- where nothing stands, it stays
+pub kind-stays : (plan : MemoryPlan) (kind : Startup) → keeps_no_data plan ≡ true → has_no_image plan ≡ true → raised_by_memories plan kind ≡ kind
+kind-stays plan kind e f = ap (λ b. if b then raised_by_images plan kind else Always) e ∙ no-images plan kind f
+
+pub startup-at : (t u : ModuleTranslation) (kind want : Startup) (b : Builder) → want ≡ kind
+    → u ≡ with_startup t (raised kind t.module.startup b) → u ≡ with_startup t (raised want t.module.startup b)
+startup-at t u kind want b e h = h ∙ ap (λ k. with_startup t (raised k t.module.startup b)) (sym e)
+
+pub types-at : (s : ModuleStartup) (c : Builder) (kind want : Startup) (b : Builder) → want ≡ kind → c ≡ types_after kind s b → c ≡ types_after want s b
+types-at s c kind want b e h = h ∙ ap (λ k. types_after k s b) (sym e)
+
+pub startup-stays : (t : ModuleTranslation) (b : Builder) → t ≡ with_startup t (raised (startup_kind t.module.startup) t.module.startup b)
+startup-stays t b = sym (ap (with_startup t) (raised-same t.module.startup b))
+
+-- ---- frames and images
+
+pub memories-frame : (old mid new : ModuleTranslation) (s : ModuleStartup) → OnlyMemoriesChange old mid → new ≡ with_startup mid s
+    → OnlyMemoryInitChanges old new
+memories-frame old mid new s same e = subst (OnlyMemoryInitChanges old) (sym e) (ap (λ t. with_startup t s) same)
+
+pub are-tight : (options : ImageOptions) (imports : ℕ) (memories : List ImageMemory) (active : List ActiveSegment) (passive : List (List ℕ)) (plan : MemoryPlan)
+    → IsPowerOfTwo options.page → HasTightImages options imports memories active passive plan
+are-tight options imports memories active passive plan page = λ planned m memory image at is.
+    let same : imports + m - imports ≡ m = omega arith in
+    tight-image options imports memories active page planned.static (imports + m) image (planned.are_images.each (imports + m) (Some image) is)
+    memory (ap (slice_get memories) same ∙ at)
