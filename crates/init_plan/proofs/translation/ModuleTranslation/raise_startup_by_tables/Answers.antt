@@ -1,11 +1,10 @@
-use Rattle.std.proofs.Common.{◌≡◌, ◌∙◌, true, false, sym, subst}
+use Rattle.std.proofs.Common.{◌≡◌, ◌∙◌, sym, subst}
 use Rattle.std.specs.Prelude.{OnOk}
 use Rattle.std.specs.Global.{Vec}
 use Rattle.std.proofs.lemmas.List.{length-map}
 use Rattle.wasm_index.specs.declared.index.Index.{Index}
 use Rattle.wasm_index.specs.declared.spaces.FuncSpace.{FuncSpace}
 use Rattle.module_types.specs.Builder.{shown}
-use Rattle.replay_spec.specs.Startup.{keeps_no_table}
 use Rattle.table_images.specs.Steps.{images_of}
 use Rattle.table_images.specs.Views.{image_of}
 use Rattle.init_plan.specs.Startup.{raised, startup_kind, types_after, with_startup}
