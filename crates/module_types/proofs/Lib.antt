@@ -15,3 +15,4 @@ pub mod Runs
 pub mod Holding
 pub mod Finding
 pub mod MappedTypes
+pub mod Tying

@@ -9,3 +9,4 @@ pub mod Runs
 pub mod TypeParts
 pub mod Lent
 pub mod TypeListShape
+pub mod Tied

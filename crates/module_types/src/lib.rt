@@ -9,12 +9,11 @@ mod interning;
 mod iterators;
 mod laws;
 mod list;
-mod seed;
 mod trace;
 mod unwrap;
 
 pub use builder::ModuleTypesBuilder;
 pub use error::BuildError;
 pub use iterators::{RecGroupElements, RecGroups, TrampolineTypes};
-pub use laws::{holds_law, ranges_law, runs_law, told_law, trampolines_law};
+pub use laws::{holds_law, one_trampoline_law, ranges_law, runs_law, told_law, trampolines_law};
 pub use list::{ModuleTypes, TypesMut, WasmTypesIter};
