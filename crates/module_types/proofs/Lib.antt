@@ -16,3 +16,4 @@ pub mod Holding
 pub mod Finding
 pub mod MappedTypes
 pub mod Tying
+pub mod Interned

@@ -28,8 +28,8 @@ read-more [] ys i = let same : i ≡ i - 0 = omega arith in inr (omega arith, ap
 read-more (x ∷ xs) ys zero = inl (omega arith, refl)
 read-more (x ∷ xs) ys (suc i) =
     elim (read-more xs ys i) [
-      inl e ↦ inl (omega (arith, e.0), e.1)
-    | inr e ↦ let same : i - length xs ≡ suc i - suc (length xs) = omega arith in inr (omega (arith, e.0), e.1 ∙ ap (λ n. get_or ys n None) same)
+      | inl e ↦ inl (omega (arith, e.0), e.1)
+      | inr e ↦ let same : i - length xs ≡ suc i - suc (length xs) = omega arith in inr (omega (arith, e.0), e.1 ∙ ap (λ n. get_or ys n None) same)
     ]
 
 read-none : (n i : ℕ) → get_or (replicate n (let o : Option ℕ = None in o)) i None ≡ None
@@ -78,8 +78,8 @@ module _ (b : Built) (tied : IsTied b) where
         (omega (arith, old.0, length-append b.types (t ∷ [])), composite-before b.types (t ∷ []) k old.0 ∙ old.1);
     called = λ i k f e is.
         elim (read-more b.trampolines (None ∷ []) i) [
-          inl r ↦ tied.called i k f (sym r.1 ∙ e) (sym (composite-before b.types (t ∷ []) i (omega (arith, r.0, tied.sized))) ∙ is)
-        | inr r ↦ let last = read-last None (i - length b.trampolines) k (sym r.1 ∙ e) in let no : None ≡ Some k = last.1 in absurd cc
+          | inl r ↦ tied.called i k f (sym r.1 ∙ e) (sym (composite-before b.types (t ∷ []) i (omega (arith, r.0, tied.sized))) ∙ is)
+          | inr r ↦ let last = read-last None (i - length b.trampolines) k (sym r.1 ∙ e) in let no : None ≡ Some k = last.1 in absurd cc
         ];
   }
 
@@ -91,8 +91,8 @@ module _ (b : Built) (tied : IsTied b) where
         (omega (arith, old.0, length-append b.types ts), composite-before b.types ts k old.0 ∙ old.1);
     called = λ i k f e is.
         elim (read-more b.trampolines (replicate (length ts) None) i) [
-          inl r ↦ tied.called i k f (sym r.1 ∙ e) (sym (composite-before b.types ts i (omega (arith, r.0, tied.sized))) ∙ is)
-        | inr r ↦ let no : None ≡ Some k = sym (read-none (length ts) (i - length b.trampolines)) ∙ sym r.1 ∙ e in absurd cc
+          | inl r ↦ tied.called i k f (sym r.1 ∙ e) (sym (composite-before b.types ts i (omega (arith, r.0, tied.sized))) ∙ is)
+          | inr r ↦ let no : None ≡ Some k = sym (read-none (length ts) (i - length b.trampolines)) ∙ sym r.1 ∙ e in absurd cc
         ];
   }
 
@@ -103,11 +103,11 @@ module _ (b : Built) (tied : IsTied b) where
     met = tied.met;
     called = λ j l g e at'.
         elim (read-set b.trampolines i j (Some k)) [
-          inl r ↦ tied.called j l g (sym r ∙ e) at'
-        | inr r ↦
-            let same : Some k ≡ Some l = sym r.1 ∙ e in
-            let one : f ≡ g = func-same f g (composite_at b.types j) (ap (composite_at b.types) (sym r.0) ∙ at) at' in
-            ap (λ h. b.met (mapped h)) (sym one) ∙ is ∙ same
+          | inl r ↦ tied.called j l g (sym r ∙ e) at'
+          | inr r ↦
+              let same : Some k ≡ Some l = sym r.1 ∙ e in
+              let one : f ≡ g = func-same f g (composite_at b.types j) (ap (composite_at b.types) (sym r.0) ∙ at) at' in
+              ap (λ h. b.met (mapped h)) (sym one) ∙ is ∙ same
         ];
   }
 
@@ -203,6 +203,7 @@ pub one-index : (b : Built) → IsTied b → (i j k l : ℕ) (f g : Called) → 
     → trampoline_in b i ≡ Some k → trampoline_in b j ≡ Some l → (k ≡ l → mapped f ≡ mapped g) × (mapped f ≡ mapped g → k ≡ l)
 one-index b tied i j k l f g at at' is is' =
     let x = tied.called i k f is at in
-    let y = tied.called j l g is' at' in
-    (λ same. func-same (mapped f) (mapped g) (composite_at b.types l) (ap (composite_at b.types) (sym same) ∙ (tied.met f k x).1) (tied.met g l y).1,
-    λ same. let both : Some k ≡ Some l = sym x ∙ ap b.met same ∙ y in cc)
+    let y = tied.called j l g is' at' in (
+      λ same. func-same (mapped f) (mapped g) (composite_at b.types l) (ap (composite_at b.types) (sym same) ∙ (tied.met f k x).1) (tied.met g l y).1,
+      λ same. let both : Some k ≡ Some l = sym x ∙ ap b.met same ∙ y in cc,
+    )

@@ -2,6 +2,7 @@
 #![tactic(auto)]
 
 mod builder;
+mod converter;
 mod error;
 mod group_converter;
 mod interner;
@@ -13,6 +14,7 @@ mod trace;
 mod unwrap;
 
 pub use builder::ModuleTypesBuilder;
+pub use converter::{TypeLookUp, WasmparserTypeConverter};
 pub use error::BuildError;
 pub use iterators::{RecGroupElements, RecGroups, TrampolineTypes};
 pub use laws::{holds_law, one_trampoline_law, ranges_law, runs_law, told_law, trampolines_law};
