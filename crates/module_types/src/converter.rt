@@ -41,7 +41,7 @@ fn reference_to_interned(ty: &WasmSubType, index: ModuleInternedTypeIndex) -> Wa
     }
 }
 
-/// What answers the interned index of each type of a module. Every closure of this type does.
+/// What answers the interned index of each type of a module. A closure does, as `Asked`.
 pub trait TypeLookUp {
     /// It may be asked at an index.
     ghost callable: { Self → Index TypeSpace → Type 0 };
@@ -55,17 +55,22 @@ pub trait TypeLookUp {
         ensures { gives self.now index result };
 }
 
-impl<F: Fn(TypeIndex) -> ModuleInternedTypeIndex> TypeLookUp for F {
-    ghost callable = { λ f i. F.pre f i };
+/// A closure that is asked for each index.
+#[derive(Drop)]
+pub struct Asked<F>(pub F);
 
-    ghost gives = { λ f i r. F.post f i r };
+impl<F: Fn(TypeIndex) -> ModuleInternedTypeIndex> TypeLookUp for Asked<F> {
+    ghost callable = { λ f i. F.pre f.0 i };
+
+    ghost gives = { λ f i r. F.post f.0 i r };
 
     fn interned_index(&self, index: TypeIndex) -> ModuleInternedTypeIndex {
-        self(index)
+        (self.0)(index)
     }
 }
 
 /// Converts types that name the types of a module by a look-up, and those of a list of types by their ids.
+#[derive(Drop)]
 pub struct WasmparserTypeConverter<'a, F: TypeLookUp> {
     types: &'a ModuleTypesBuilder,
     count: u32,

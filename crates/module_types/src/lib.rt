@@ -10,11 +10,13 @@ mod interning;
 mod iterators;
 mod laws;
 mod list;
+#[cfg(test)]
+mod tests;
 mod trace;
 mod unwrap;
 
 pub use builder::ModuleTypesBuilder;
-pub use converter::{TypeLookUp, WasmparserTypeConverter};
+pub use converter::{Asked, TypeLookUp, WasmparserTypeConverter};
 pub use error::BuildError;
 pub use iterators::{RecGroupElements, RecGroups, TrampolineTypes};
 pub use laws::{holds_law, one_trampoline_law, ranges_law, runs_law, told_law, trampolines_law};
