@@ -69,7 +69,7 @@ all-long b i [] = omega arith
 all-long b i (t ∷ ts) =
     omega (arith, grows-long b (meet b i t.composite.inner) (grows b i t.composite.inner), all-long (meet b i t.composite.inner) (suc i) ts)
 
-composite-before : (ts us : List Interned) (i : ℕ) → i < length ts → composite_at (ts ++ us) i ≡ composite_at ts i
+pub composite-before : (ts us : List Interned) (i : ℕ) → i < length ts → composite_at (ts ++ us) i ≡ composite_at ts i
 composite-before [] us i h = absurd (omega arith)
 composite-before (t ∷ ts) us zero h = refl
 composite-before (t ∷ ts) us (suc i) h = composite-before ts us i (omega arith)

@@ -22,7 +22,7 @@ use Rattle.wasm_types.specs.TypeViews.{sub_type_of}
 use Rattle.wasm_convert.specs.Conversion.{index_in}
 use Rattle.wasm_convert.specs.Known.{CanLookUp, Known, CanConvert}
 use Rattle.module_types.specs.Views.{interned_number, interned_of}
-use Rattle.module_types.specs.Conversion.{id_number, first_id, kind_in, group_of_id, members_of, members_by_index, look_by_id, Stands, KnowsId, interned_members}
+use Rattle.module_types.specs.Conversion.{id_number, first_id, kind_in, group_of_id, members_of, members_by_index, look_by_id, Stands, KnowsId, HasIndex, HoldsGroups, interned_members}
 use Rattle.module_types.specs.Builder.{Builder}
 use Rattle.module_types.proofs.Parts.{all-first, all-second}
 use Rattle.module_types.proofs.Places.{group-ends}
@@ -129,3 +129,17 @@ module _ (t : TypesData) (next : ℕ) (spans : List Span) (ids : ℕ → Option 
 
 pub members-long : (t : TypesData) (b : Builder) (k : ℕ) → length (interned_members t b k) ≡ length (members_of t k)
 members-long t b k = length-map (members_of t k) _
+
+-- an id of a group that stands, or of the one that comes next
+pub index-known : (t : TypesData) (b : Builder) (next k : ℕ) → HoldsGroups t b → (b.ids k ≡ None → next + length (members_of t k) < 4294967295)
+    → (n : ℕ) → n < length (types_by_id t.groups) → (group_of_id t n ≡ k) ⊎ IsSome (b.ids (group_of_id t n)) → HasIndex t next b.built.groups b.ids n
+index-known t b next k holds room n h held = record {
+  within = h;
+  stands = λ j e. let s = holds (group_of_id t n) j e in record { within = s.within; whole = s.whole };
+  room = λ none. by held none;
+} where
+  by : (group_of_id t n ≡ k) ⊎ IsSome (b.ids (group_of_id t n)) → b.ids (group_of_id t n) ≡ None → next + length (members_of t (group_of_id t n)) < 4294967295
+  by (inl same) none =
+      let back = sym same in
+      coe 0 1 (j. next + length (members_of t (back j)) < 4294967295) (room (ap b.ids back ∙ none))
+  by (inr some) none = absurd (not-some (b.ids (group_of_id t n)) some none)

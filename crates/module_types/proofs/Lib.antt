@@ -15,3 +15,5 @@ pub mod Runs
 pub mod Holding
 pub mod Finding
 pub mod MappedTypes
+pub mod Tying
+pub mod Interned

@@ -9,3 +9,6 @@ pub mod Runs
 pub mod TypeParts
 pub mod Lent
 pub mod TypeListShape
+pub mod ClosureAnswers
+pub mod Converter
+pub mod Tied

@@ -12,8 +12,8 @@ ghost use Rattle.module_types.specs.Builder.{is_function};
 ghost use Rattle.module_types.specs.Interner.{built};
 
 use crate::list::ModuleTypes;
-use crate::seed::Seeded;
 use entity_map::{EntityRef, OutOfMemory, TryCow};
+use form_lists::Seeded;
 use std::alloc::Global;
 use std::collections::HashMap;
 use wasm_index::ModuleInternedTypeIndex;

@@ -1,13 +1,13 @@
 //! Laws of interned lists. Each function is the proof of its clauses.
 
-ghost use Rattle.std.specs.Prelude.{◌≡◌, ◌↔◌, ◌<◌, ℕ, List, [], length, true};
-ghost use Rattle.wasm_spec.specs.declared.types.UnpackedIndex.{UnpackedIndex};
-ghost use Rattle.wasm_spec.specs.TypeData.{Group, map_group};
-ghost use Rattle.type_spec.specs.Interned.{Interned, Called, Built, empty, mapped, same_mapped, with_group, with_exception, with_startup};
+ghost use Rattle.std.specs.Prelude.{◌≡◌, ◌↔◌, ◌<◌, ℕ, List, [], length, Some, true};
+ghost use Rattle.wasm_spec.specs.TypeData.{Func};
+ghost use Rattle.type_spec.specs.Interned.{Interned, Called, Built, empty, mapped, same_mapped, with_group, with_exception, with_startup, composite_at};
 ghost use Rattle.form_types.specs.Types.{TypesData};
 ghost use Rattle.module_types.specs.Orderly.{IsOrderly};
 ghost use Rattle.module_types.specs.Builder.{Builder, new_builder, interns};
 ghost use Rattle.module_types.specs.Conversion.{members_of, HoldsGroups};
+ghost use Rattle.module_types.specs.Tied.{trampoline_in, IsTied};
 ghost use Rattle.module_types.specs.Runs.{with_groups, runs, firsts, AllFilled};
 
 use wasm_types::equality_law;
@@ -24,6 +24,18 @@ pub fn ranges_law()
 pub fn trampolines_law()
     ensures once { (f : Called) → mapped (mapped f) ≡ mapped f }
     ensures told { (f g : Called) → (same_mapped (mapped f) g ≡ true) ↔ (mapped f ≡ g) }
+{
+    equality_law();
+}
+
+/// Functions of a builder's list have one trampoline exactly where their mapped types are equal.
+pub fn one_trampoline_law()
+    ensures none { IsTied empty }
+    ensures group { (b : Built) (ts : List Interned) → IsTied b → IsTied (with_group b ts) }
+    ensures exception { (b : Built) (i : ℕ) → IsTied b → IsTied (with_exception b i) }
+    ensures startup { (b : Built) → IsTied b → IsTied (with_startup b true) }
+    ensures one { (b : Built) → IsTied b → (i j k l : ℕ) (f g : Called) → composite_at b.types i ≡ Func f → composite_at b.types j ≡ Func g
+        → trampoline_in b i ≡ Some k → trampoline_in b j ≡ Some l → (k ≡ l) ↔ (mapped f ≡ mapped g) }
 {
     equality_law();
 }

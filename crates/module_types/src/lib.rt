@@ -2,6 +2,7 @@
 #![tactic(auto)]
 
 mod builder;
+mod converter;
 mod error;
 mod group_converter;
 mod interner;
@@ -9,12 +10,14 @@ mod interning;
 mod iterators;
 mod laws;
 mod list;
-mod seed;
+#[cfg(test)]
+mod tests;
 mod trace;
 mod unwrap;
 
 pub use builder::ModuleTypesBuilder;
+pub use converter::{Asked, TypeLookUp, WasmparserTypeConverter};
 pub use error::BuildError;
 pub use iterators::{RecGroupElements, RecGroups, TrampolineTypes};
-pub use laws::{holds_law, ranges_law, runs_law, told_law, trampolines_law};
+pub use laws::{holds_law, one_trampoline_law, ranges_law, runs_law, told_law, trampolines_law};
 pub use list::{ModuleTypes, TypesMut, WasmTypesIter};

@@ -1,0 +1,14 @@
+-- Trampolines, and the types by which functions are called.
+use Rattle.std.specs.Prelude.{◌≡◌, ◌<◌, ℕ, get_or, length, Option, Some, None}
+use Rattle.wasm_spec.specs.TypeData.{Func}
+use Rattle.type_spec.specs.Interned.{Called, Built, mapped, composite_at}
+
+-- the trampoline of the type at an index
+abbrev pub trampoline_in : Built → ℕ → Option ℕ
+trampoline_in b i = get_or b.trampolines i None
+
+-- a function's trampoline is where its mapped type was met, and there stands the mapped type
+pub record IsTied (b : Built) : Type 0 where
+  pub sized : length b.trampolines ≡ length b.types
+  pub met : (f : Called) (k : ℕ) → b.met (mapped f) ≡ Some k → (k < length b.types) × (composite_at b.types k ≡ Func (mapped f))
+  pub called : (i k : ℕ) (f : Called) → trampoline_in b i ≡ Some k → composite_at b.types i ≡ Func f → b.met (mapped f) ≡ Some k
