@@ -1,4 +1,5 @@
 pub mod Entries
+pub mod Widths
 pub mod Digits
 pub mod ShortNumbers
 pub mod Agrees

@@ -4,7 +4,7 @@ ghost use Rattle.std.specs.Prelude.{◌≡◌, ◌↔◌, ◌^◌, ◌<◌, ◌�
 ghost use Rattle.wasm_spec.specs.declared.operators.What.{What};
 ghost use Rattle.wasm_spec.specs.Module.{Module};
 ghost use Rattle.wasm_spec.specs.Grammar.{Spells, Stops};
-ghost use Rattle.wasm_spec.specs.Sizes.{HasFewEntries};
+ghost use Rattle.wasm_spec.specs.Sizes.{HasFewEntries, HasShortTypes};
 ghost use Rattle.wasm_spec.specs.Interfaces.{HasNoInterfaceTypes};
 ghost use Rattle.form_data.specs.Views.{module_of, payload_of};
 ghost use Rattle.form_reader.specs.Outcomes.{ReadsAs};
@@ -63,6 +63,7 @@ pub fn read_module<'d>(alloc: Global, bytes: &'d [u8]) -> Result<Form<'d>, ReadE
     ensures no_interface_types { IfOk result (λ form. HasNoInterfaceTypes (module_of form)) }
     ensures whole { IfOk result (λ form. form.wasm.now ≡ bytes.now) }
     ensures few { IfOk result (λ form. HasFewEntries (module_of form)) }
+    ensures short { IfOk result (λ form. HasShortTypes (module_of form)) }
     // What is spelled is read, unless memory runs out.
     ensures complete { length bytes.now < 2 ^ 30 → (m : Module) → Spells bytes.now m → HasNoInterfaceTypes m → ReadsAs result m }
 

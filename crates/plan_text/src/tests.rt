@@ -1,151 +1,18 @@
-//! Texts of plans that are made by hand, of each operator, and the line of each refusal.
-
-ghost use Rattle.std.specs.Prelude.{◌≡◌, ◌≤◌, [], length, IfOk};
+//! The text of each operator, and the line of each refusal.
 
 use crate::expressions::append_offset;
+use crate::refusal_line;
 use crate::text::Text;
-use crate::{plan_text, refusal_line};
-use entity_map::{EntityRef, OutOfMemory, PrimaryMap};
-use init_plan::{MemoryInit, MemoryInitialization, MemorySegmentOffset, ModuleTranslation};
-use plan::{Plan, TranslateError};
+use entity_map::EntityRef;
+use init_plan::MemorySegmentOffset;
+use plan::TranslateError;
 use rule_spec::Rule;
 use std::alloc::Global;
 use std::test::Fail;
 use wasm_convert::{ConstExpr, ConstOp};
-use wasm_index::{
-    DataIndex, FuncIndex, GlobalIndex, MemoryIndex, ModuleInternedTypeIndex, RuntimeDataIndex,
-    StaticModuleIndex, TypeIndex,
-};
+use wasm_index::{FuncIndex, GlobalIndex, ModuleInternedTypeIndex, TypeIndex};
 use wasm_spec::What;
-use wasm_types::{EngineOrModuleTypeIndex, IndexType, Limits, Memory, WasmHeapType};
-
-const PAGE: Memory = Memory {
-    idx_type: IndexType::I32,
-    limits: Limits { min: 1, max: None },
-    shared: false,
-    page_size_log2: 16,
-};
-
-const TWO_SEGMENTS: &str = "\
-memories 0 1
-memory-init segmented
-segment 0 0 at i32.const 16
-segment 0 1 at i32.const 17
-runtime 0 0 3
-runtime 1 3 4
-";
-
-const WITH_IMAGES: &str = "\
-memories 1 1
-memory-init static
-segment 1 0 at i64.const -1
-segment 0 0 at static 1048576
-passive-data 2 1
-runtime 0 0 12
-runtime 1 12 20
-";
-
-// The empty translation, and what the tests ask of it.
-fn empty(alloc: Global) -> Result<ModuleTranslation<'static>, OutOfMemory>
-    ensures memories { IfOk result (λ t. t.module.memories ≡ []) }
-    ensures imports { IfOk result (λ t. t.module.num_imported_memories ≡ 0) }
-    ensures ranges { IfOk result (λ t. t.module.runtime_data ≡ []) }
-{
-    ModuleTranslation::new(alloc, StaticModuleIndex::new(0))
-}
-
-fn text_of(alloc: Global, translation: ModuleTranslation<'static>) -> Result<String, Fail>
-    requires { translation.module.num_imported_memories ≤ length translation.module.memories }
-{
-    let text = plan_text(alloc, &Plan { translation })?;
-    Ok(String::from_utf8(text)?)
-}
-
-// A segment of a plan at a constant place.
-fn segment(
-    alloc: Global,
-    memory: MemoryIndex,
-    place: ConstOp,
-    data: RuntimeDataIndex,
-) -> Result<(MemoryIndex, MemorySegmentOffset, RuntimeDataIndex), OutOfMemory> {
-    let place = MemorySegmentOffset::Expr(ConstExpr::new(alloc, &[place])?);
-    Ok((memory, place, data))
-}
-
-// The segments of the memory that is defined alone.
-fn two_segments(
-    alloc: Global,
-    first: RuntimeDataIndex,
-    second: RuntimeDataIndex,
-) -> Result<MemoryInit<'static>, OutOfMemory> {
-    let memory = MemoryIndex::new(0);
-    let first = segment(alloc, memory, ConstOp::I32Const(16), first)?;
-    let second = segment(alloc, memory, ConstOp::I32Const(17), second)?;
-    Ok(MemoryInit::Processed(vec![in alloc; first, second]?))
-}
-
-// One memory and two segments.
-fn with_segments(alloc: Global) -> Result<ModuleTranslation<'static>, OutOfMemory>
-    ensures { IfOk result (λ t. t.module.num_imported_memories ≤ length t.module.memories) }
-{
-    let mut translation = empty(alloc)?;
-    translation.module.memories.push(PAGE)?;
-    let first = translation.module.runtime_data.push(0..3)?;
-    let second = translation.module.runtime_data.push(3..4)?;
-    translation.memory_init = two_segments(alloc, first, second)?;
-    Ok(translation)
-}
-
-// A segment of a 64-bit place on the defined memory, and one that is an image of the imported memory.
-fn segment_and_image(
-    alloc: Global,
-    data: RuntimeDataIndex,
-) -> Result<MemoryInit<'static>, OutOfMemory> {
-    let (imported, defined) = (MemoryIndex::new(0), MemoryIndex::new(1));
-    let first = segment(alloc, defined, ConstOp::I64Const(-1), data)?;
-    let second = (imported, MemorySegmentOffset::Static(1048576), data);
-    Ok(MemoryInit::Processed(vec![in alloc; first, second]?))
-}
-
-// An imported and a defined memory that begin as images, and a passive segment.
-fn with_images(alloc: Global) -> Result<ModuleTranslation<'static>, OutOfMemory>
-    ensures { IfOk result (λ t. t.module.num_imported_memories ≤ length t.module.memories) }
-{
-    let mut translation = empty(alloc)?;
-    translation.module.memories.push(PAGE)?;
-    translation.module.memories.push(PAGE)?;
-    translation.module.num_imported_memories = 1;
-    let first = translation.module.runtime_data.push(0..12)?;
-    let second = translation.module.runtime_data.push(12..20)?;
-    translation.memory_init = segment_and_image(alloc, first)?;
-    translation.module.memory_initialization = MemoryInitialization::Static {
-        map: PrimaryMap::new(alloc),
-    };
-    let passive = DataIndex::new(2);
-    translation.runtime_data_map.insert(passive, Some(second))?;
-    Ok(translation)
-}
-
-#[test]
-fn the_empty_plan_has_two_lines(rt: HostRuntime) -> Result<(), Fail> {
-    let text = text_of(rt.alloc(), empty(rt.alloc())?)?;
-    assert_eq!(rt; text.as_str(), "memories 0 0\nmemory-init segmented\n");
-    Ok(())
-}
-
-#[test]
-fn segments_stand_in_order_before_their_ranges(rt: HostRuntime) -> Result<(), Fail> {
-    let text = text_of(rt.alloc(), with_segments(rt.alloc())?)?;
-    assert_eq!(rt; text.as_str(), TWO_SEGMENTS);
-    Ok(())
-}
-
-#[test]
-fn images_wide_constants_and_passive_data(rt: HostRuntime) -> Result<(), Fail> {
-    let text = text_of(rt.alloc(), with_images(rt.alloc())?)?;
-    assert_eq!(rt; text.as_str(), WITH_IMAGES);
-    Ok(())
-}
+use wasm_types::{EngineOrModuleTypeIndex, WasmHeapType};
 
 // The text of a place that two operators compute.
 fn place_text(alloc: Global, operator: ConstOp) -> Result<String, Fail> {

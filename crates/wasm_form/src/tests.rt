@@ -3,6 +3,7 @@
 mod counts;
 mod elements;
 mod expression_rows;
+mod ids;
 mod large;
 mod linked;
 mod operators;

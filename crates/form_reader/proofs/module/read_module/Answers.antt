@@ -2,6 +2,7 @@ use Rattle.std.proofs.Common.{arith}
 use Rattle.std.proofs.lemmas.Result.{err_from_is_err_and}
 use Rattle.form_reader.specs.declared.error.ReadError.TheVariants as errors
 use Rattle.form_reader.proofs.Entries.{few_entries}
+use Rattle.form_reader.proofs.Widths.{short_types}
 use Rattle.form_reader.proofs.Outcomes.{error_is, read_spells, read_none, read_only, fails_spelled, fails_unsupported, fails_malformed, fails_nowhere}
 use Rattle.form_reader.proofs.module.read_module.Goals as goal
 
@@ -36,3 +37,6 @@ returns-clause-complete c = λ short m s none. read_only c.args.bytes.now _ m c.
 
 pub returns-clause-few : goal.returns-clause-few
 returns-clause-few c = few_entries c.args.bytes.now _ (read_spells c.args.bytes.now _ c.in_ok-payloads.ensures) (omega arith)
+
+pub returns-clause-short : goal.returns-clause-short
+returns-clause-short c = short_types c.args.bytes.now _ (read_spells c.args.bytes.now _ c.in_ok-payloads.ensures) (omega arith)
