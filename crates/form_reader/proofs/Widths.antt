@@ -41,8 +41,8 @@ composite_wide : (b : ℕ) → CountsBytes wide (composite_after b)
 composite_wide b bytes x =
     chosen (b == 0x60) _ _ bytes x (wide x) (function_wide bytes x)
     (chosen (b == 0x5F) _ _ bytes x (wide x) (λ s.
-      let n = field_takes s.front s.value s.is_first in
-      omega (arith, n, ap wide s.is_second.1, length-map s.value field_of, ap length s.parts, length-append s.front s.back))
+    let n = field_takes s.front s.value s.is_first in
+    omega (arith, n, ap wide s.is_second.1, length-map s.value field_of, ap length s.parts, length-append s.front s.back))
     (chosen (b == 0x5E) _ _ bytes x (wide x) (λ s. omega (arith, ap wide s.is_second.1))
     (chosen (b == 0x5D) _ _ bytes x (wide x) (λ s. omega (arith, ap wide s.is_second.1))
     (chosen (b == 0x65) _ _ bytes x (wide x) (λ s. absurd s) (λ s. absurd s)))))
@@ -61,8 +61,8 @@ sub_type_wide : (b : ℕ) → CountsBytes width (sub_type_after b)
 sub_type_wide b bytes x =
     chosen (b == 0x50) _ _ bytes x (width x) (super_wide false bytes x)
     (chosen (b == 0x4F) _ _ bytes x (width x) (super_wide true bytes x) (λ s.
-      let n = composite_wide b s.front s.value s.is_first in
-      omega (arith, n, ap width s.is_second.1, ap length s.parts, length-append s.front s.back)))
+    let n = composite_wide b s.front s.value s.is_first in
+    omega (arith, n, ap width s.is_second.1, ap length s.parts, length-append s.front s.back)))
 
 member_wide : CountsBytes width (first_byte sub_type_after)
 member_wide [] x s = absurd s
@@ -98,8 +98,16 @@ types_weigh : Weighs (entries_as group Types).spells
 types_weigh bytes p s =
     let inside = s.is_second.1 in
     let n = vector_counts (total width) group group_wide inside.front inside.value inside.is_first in
-    omega (arith, n, ap weight inside.is_second.1, total_joined inside.value, ap length s.parts, length-append s.front s.back,
-    ap length inside.parts, length-append inside.front inside.back)
+    omega (
+      arith,
+      n,
+      ap weight inside.is_second.1,
+      total_joined inside.value,
+      ap length s.parts,
+      length-append s.front s.back,
+      ap length inside.parts,
+      length-append inside.front inside.back,
+    )
 
 -- other entries hold no types
 others_weigh : {A : Type 0} (part : Part A) (make : List A → Payload) → ((xs : List A) → weight (make xs) ≡ 0) → Weighs (entries_as part make).spells
@@ -132,7 +140,7 @@ section_weighs : (place next : ℕ) → Weighs (section place next).spells
 section_weighs place next [] p s = absurd s
 section_weighs place next (id ∷ bytes) p s =
     let n = chosen (id == 0) _ _ bytes p (weight p) (λ t. omega (arith, ap weight t.is_second.1.is_second))
-        (placed_weigh place next id (order_of id) bytes p) s in
+    (placed_weigh place next id (order_of id) bytes p) s in
     omega (arith, n)
 
 sections_weigh : (ps : Module) (place next : ℕ) (bytes : List ℕ) → SpellsSections place next bytes ps → total width (types ps) ≤ length bytes
@@ -141,8 +149,15 @@ sections_weigh (p ∷ ps) place next bytes (front, back, parts, is, later) =
     let one = section_weighs place next front p is in
     let others = sections_weigh ps (place + length front) (next_order next p) back later in
     let joined = ap (total width) (flat_map-append (λ (g : Group UnpackedIndex UnpackedIndex). g) (groups_of_section p) (groups ps)) in
-    omega (arith, one, others, joined, total-append (flat_map (λ (g : Group UnpackedIndex UnpackedIndex). g) (groups_of_section p)) (types ps),
-    ap length parts, length-append front back)
+    omega (
+      arith,
+      one,
+      others,
+      joined,
+      total-append (flat_map (λ (g : Group UnpackedIndex UnpackedIndex). g) (groups_of_section p)) (types ps),
+      ap length parts,
+      length-append front back,
+    )
 
 -- ---- modules
 
