@@ -8,8 +8,6 @@ mod failures;
 #[cfg(test)]
 mod memories;
 #[cfg(test)]
-mod planned;
-#[cfg(test)]
 mod refusals;
 #[cfg(test)]
 mod runs;
