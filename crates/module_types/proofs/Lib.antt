@@ -20,3 +20,8 @@ pub mod Interned
 pub mod Taking
 pub mod TakingBoth
 pub mod EqualLists
+pub mod WellNamed
+pub mod NamedSteps
+pub mod NamedLists
+pub mod Standing
+pub mod Compared

@@ -12,15 +12,15 @@ use Rattle.module_types.proofs.Taking.{IsCopy, Covers, form, Next, Stand, IsExac
 
 -- a type of the group that comes next, by its place in the list
 module _ (all : List (Group ℕ ℕ)) (number : ℕ → ℕ) (b : Built) (h : Home) (x : Next all number b h) where
-  next-home : (r : ℕ) → h.start ≤ r → r < h.start + length h.members → home all r ≡ h
+  pub next-home : (r : ℕ) → h.start ≤ r → r < h.start + length h.members → home all r ≡ h
   next-home r low high =
       let at = x.at in
       home-again all h.start r (omega (arith, x.some, x.inside)) (record { from = omega (arith, low, ap (λ (g : Home). g.start) at); to = omega (arith, high, ap (λ (g : Home). g.start) at, ap (λ (g : Home). length g.members) at) }) ∙ at
 
-  next-place : (r : ℕ) → h.start ≤ r → r < h.start + length h.members → r - (home all r).start ≡ r - h.start
+  pub next-place : (r : ℕ) → h.start ≤ r → r < h.start + length h.members → r - (home all r).start ≡ r - h.start
   next-place r low high = ap (λ (g : Home). r - g.start) (next-home r low high)
 
-  next-number : (r : ℕ) → h.start ≤ r → r < h.start + length h.members → number r ≡ length b.types + (r - h.start)
+  pub next-number : (r : ℕ) → h.start ≤ r → r < h.start + length h.members → number r ≡ length b.types + (r - h.start)
   next-number r low high =
       let at : r ≡ h.start + (r - h.start) = omega (arith, low) in
       ap number at ∙ x.numbers (r - h.start) (omega (arith, low, high))

@@ -12,3 +12,4 @@ pub mod TypeListShape
 pub mod ClosureAnswers
 pub mod Converter
 pub mod Tied
+pub mod ListGroups

@@ -1,18 +1,19 @@
 //! Laws of interned lists. Each function is the proof of its clauses.
 
-ghost use Rattle.std.specs.Prelude.{◌≡◌, ◌↔◌, ◌<◌, ℕ, List, [], length, get_or, Some, true};
+ghost use Rattle.std.specs.Prelude.{◌≡◌, ◌↔◌, ◌<◌, ℕ, Bool, List, [], length, get_or, Some, true};
 ghost use Rattle.wasm_spec.specs.TypeData.{Group, Func};
-ghost use Rattle.type_spec.specs.Equality.{SameType};
-ghost use Rattle.type_spec.specs.Interned.{Interned, Called, Built, empty, mapped, same_mapped, with_group, with_exception, with_startup, composite_at, taken};
+ghost use Rattle.type_spec.specs.Equality.{SameGroup, SameType};
+ghost use Rattle.type_spec.specs.Interned.{Interned, Called, Built, empty, mapped, same_mapped, with_group, with_exception, with_startup, composite_at, taken, interned};
 ghost use Rattle.type_spec.specs.Taken.{NameEarlier, TakeEqual, SameLists};
 ghost use Rattle.form_types.specs.Types.{TypesData};
 ghost use Rattle.module_types.specs.Orderly.{IsOrderly};
 ghost use Rattle.module_types.specs.Builder.{Builder, new_builder, interns};
 ghost use Rattle.module_types.specs.Conversion.{members_of, HoldsGroups};
 ghost use Rattle.module_types.specs.Tied.{trampoline_in, IsTied};
+ghost use Rattle.module_types.specs.ListGroups.{group_at, list_groups, IsWellNamed, EngineMap, TellTypes, IsCompared};
 ghost use Rattle.module_types.specs.Runs.{with_groups, runs, firsts, AllFilled};
 
-use wasm_types::equality_law;
+use wasm_types::{WasmRecGroup, equality_law};
 
 /// The groups of a builder lie behind one another, from the first type to the last: those of the empty one do, and each step keeps it.
 pub fn ranges_law()
@@ -71,4 +72,17 @@ pub fn declared_law()
 pub fn equal_lists_law()
     ensures { (ms ns : List (Group ℕ ℕ)) → NameEarlier 0 ms → NameEarlier 0 ns
         → SameLists (taken ms).built (taken ns).built ↔ TakeEqual ms ns }
+{}
+
+/// In the interned list of a module each reference names a type of its own group or of an earlier one, by its kind.
+pub fn well_named_law()
+    ensures { (ms : List (Group ℕ ℕ)) → NameEarlier 0 ms → (tags : List ℕ) (startup : Bool) → IsWellNamed (interned ms tags startup) }
+{}
+
+/// Where the engine's indices of two lists' types are equal exactly for equal types, canonical forms of a group of each, over its own
+/// range, are equal exactly where the groups are.
+pub fn compared_groups_law()
+    ensures { (b b' : Built) → IsWellNamed b → IsWellNamed b' → (engine engine' : EngineMap) → TellTypes b b' engine engine'
+        → (k l : ℕ) (x x' y y' : WasmRecGroup) → IsCompared b engine k x x' → IsCompared b' engine' l y y'
+        → (x' ≡ y') ↔ SameGroup (λ i j. SameType (list_groups b) (list_groups b') i j) (group_at b k) (group_at b' l) }
 {}

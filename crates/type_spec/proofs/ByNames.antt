@@ -62,11 +62,11 @@ zip-known-itself P same each (x ∷ xs) p = (each x (All-head P x xs p), zip-kno
 
 -- ---- kinds
 
-abbrev some_type : SubType ℕ ℕ
+abbrev pub some_type : SubType ℕ ℕ
 some_type = record { is_final = true; supertype = None; composite = record { inner = Struct []; shared = false } }
 
 -- the kind of the member at a place
-abbrev member_kind : {H R : Type 0} → Group H R → ℕ → SubType H R → NameKind
+abbrev pub member_kind : {H R : Type 0} → Group H R → ℕ → SubType H R → NameKind
 member_kind g p d = kind_of_type (get_or g p d).composite.inner
 
 kind-erased : (c : Composite ℕ ℕ) → kind_of_type (map_composite erased erased c) ≡ kind_of_type c
@@ -82,7 +82,7 @@ frame-kind g p lt =
     ap (λ (t : SubType (Unit {0}) (Unit {0})). kind_of_type t.composite.inner) (get_or-map (map_sub_type erased erased) g p some_type (map_sub_type erased erased some_type) lt)
     ∙ kind-erased (get_or g p some_type).composite.inner
 
-joined-kind : (gs : List (Group ℕ ℕ)) (i : ℕ) → i < size gs → kind_at gs i ≡ member_kind (joined gs) i some_type
+pub joined-kind : (gs : List (Group ℕ ℕ)) (i : ℕ) → i < size gs → kind_at gs i ≡ member_kind (joined gs) i some_type
 joined-kind [] i lt = absurd (omega arith)
 joined-kind ([] ∷ gs) i lt = joined-kind gs i lt
 joined-kind ((t ∷ ts) ∷ gs) zero lt = refl
