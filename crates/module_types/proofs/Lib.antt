@@ -25,3 +25,5 @@ pub mod NamedSteps
 pub mod NamedLists
 pub mod Standing
 pub mod Compared
+pub mod NamingEarlier
+pub mod DeclaredGroups

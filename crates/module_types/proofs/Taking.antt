@@ -24,7 +24,7 @@ module _ (all : List (Group ℕ ℕ)) where
     pub high : j < end
     pub same : SameType all all j i
 
-  first-found : (i from n j : ℕ) → first_equal all i from n ≡ Some j → Found i from (from + n) j
+  pub first-found : (i from n j : ℕ) → first_equal all i from n ≡ Some j → Found i from (from + n) j
   first-found i from zero j e = absurd (let no : None ≡ Some j = e in cc)
   first-found i from (suc n) j e = by (first-found i (suc from) n j) (same_type all all from i) refl e where
     by : (first_equal all i (suc from) n ≡ Some j → Found i (suc from) (suc from + n) j)
@@ -38,7 +38,7 @@ module _ (all : List (Group ℕ ℕ)) where
         }
     by rest false is e = let f = rest e in record { low = omega (arith, f.low); high = omega (arith, f.high); same = f.same }
 
-  none-found : (i from n : ℕ) → first_equal all i from n ≡ None → (j : ℕ) → from ≤ j → j < from + n → SameType all all j i → ⊥
+  pub none-found : (i from n : ℕ) → first_equal all i from n ≡ None → (j : ℕ) → from ≤ j → j < from + n → SameType all all j i → ⊥
   none-found i from zero e j low high same = omega (arith, low, high)
   none-found i from (suc n) e j low high same = by (none-found i (suc from) n) (same_type all all from i) refl e where
     by : (first_equal all i (suc from) n ≡ None → (j : ℕ) → suc from ≤ j → j < suc from + n → SameType all all j i → ⊥)
@@ -152,19 +152,19 @@ module _ (all : List (Group ℕ ℕ)) where
       abbrev here : Home
       here = record { start = start; members = g }
 
-      home-first : home all start ≡ here
+      pub home-first : home all start ≡ here
       home-first = h.homes start (omega arith) ∙ in_front start g gs start (omega (arith, some))
 
-      home-member : (p : ℕ) → p < length g → home all (start + p) ≡ here
+      pub home-member : (p : ℕ) → p < length g → home all (start + p) ≡ here
       home-member p lt = h.homes (start + p) (omega arith) ∙ in_front start g gs (start + p) (omega (arith, lt))
 
-      ends : start + length g ≤ size all
+      pub ends : start + length g ≤ size all
       ends = omega (arith, h.sized, size-cons g gs)
 
-      place-first : start - (home all start).start ≡ 0
+      pub place-first : start - (home all start).start ≡ 0
       place-first = ap (λ (x : Home). start - x.start) home-first ∙ omega arith
 
-      place-member : (p : ℕ) → p < length g → (start + p) - (home all (start + p)).start ≡ p
+      pub place-member : (p : ℕ) → p < length g → (start + p) - (home all (start + p)).start ≡ p
       place-member p lt = ap (λ (x : Home). (start + p) - x.start) (home-member p lt) ∙ omega arith
 
       -- a type of the group
@@ -173,7 +173,7 @@ module _ (all : List (Group ℕ ℕ)) where
         pub lt : place < length g
         pub is : i ≡ start + place
 
-      either : (i : ℕ) → i < start + length g → (i < start) ⊎ Member i
+      pub either : (i : ℕ) → i < start + length g → (i < start) ⊎ Member i
       either i lt = by (ltb i start) refl where
         by : (b : Bool) → ltb i start ≡ b → (i < start) ⊎ Member i
         by true e = inl (ltb-true i start e)
@@ -222,18 +222,21 @@ module _ (all : List (Group ℕ ℕ)) where
         again : (p : ℕ) → p < length g → home all (j + p) ≡ home all j
         again p lt = home-again all j (j + p) inside (record { from = omega (arith, starts); to = omega (arith, starts, long, lt) })
 
-        same-at : (p : ℕ) → p < length g → SameType all all (start + p) (j + p)
+        pub same-at : (p : ℕ) → p < length g → SameType all all (start + p) (j + p)
         same-at p lt =
             let at : j + p - (home all (j + p)).start ≡ p = ap (λ (x : Home). j + p - x.start) (again p lt) ∙ omega (arith, starts) in
             type-turned all all (j + p) (start + p)
             (type-beside all all j start (j + p) (start + p) found.same (again p lt) (home-member p lt ∙ sym home-first) (at ∙ sym (place-member p lt)))
+
+        pub earlier-member : (p : ℕ) → p < length g → j + p < start
+        earlier-member p lt = omega (arith, lt, before)
 
         counted-met : length (take_group all b start g (Some j)).declared ≡ start + length g
         counted-met =
             length-append b.declared (take (length g) (drop j b.declared))
             ∙ omega (arith, h.counted, before, length-take-le (length g) (drop j b.declared) (omega (arith, length-drop j b.declared, h.counted, before)))
 
-        number-met : (p : ℕ) → p < length g → number (start + p) ≡ number (j + p)
+        pub number-met : (p : ℕ) → p < length g → number (start + p) ≡ number (j + p)
         number-met p lt =
             let part = take (length g) (drop j b.declared) in
             let at : start + p ≡ length b.declared + p = omega (arith, h.counted) in
@@ -273,7 +276,7 @@ module _ (all : List (Group ℕ ℕ)) where
                   ∙ sym y.number_is),
             )
 
-        taking-met : Taking (take_group all b start g (Some j)) (start + length g) gs done
+        pub taking-met : Taking (take_group all b start g (Some j)) (start + length g) gs done
         taking-met = record {
           sized = sized-behind;
           homes = homes-behind;
@@ -293,14 +296,14 @@ module _ (all : List (Group ℕ ℕ)) where
         counted-new : length (take_group all b start g None).declared ≡ start + length g
         counted-new = length-append b.declared (range_with_len first (length g)) ∙ omega (arith, h.counted, length-range_with_len first (length g))
 
-        number-new : (p : ℕ) → p < length g → number (start + p) ≡ first + p
+        pub number-new : (p : ℕ) → p < length g → number (start + p) ≡ first + p
         number-new p lt =
             let at : start + p ≡ length b.declared + p = omega (arith, h.counted) in
             read-now None reads (start + p) (omega (arith, lt, counted-new))
             ∙ ap (λ i. get_or (b.declared ++ range_with_len first (length g)) i 0) at
             ∙ get_or-append-add b.declared (range_with_len first (length g)) p 0 ∙ get_or-range_with_len first (length g) p 0 lt
 
-        form-new : interned_group all b.declared start first g ≡ form here
+        pub form-new : interned_group all b.declared start first g ≡ form here
         form-new =
             names-same (kind_at all) (kind_at all) (name all b.declared start first) number g g (record {
               frames = refl;
@@ -360,7 +363,7 @@ module _ (all : List (Group ℕ ℕ)) where
           below = h.below;
         }
 
-        taking-new : Taking (take_group all b start g None) (start + length g) gs (here ∷ done)
+        pub taking-new : Taking (take_group all b start g None) (start + length g) gs (here ∷ done)
         taking-new = record {
           sized = sized-behind;
           homes = homes-behind;
@@ -402,7 +405,7 @@ module _ (all : List (Group ℕ ℕ)) where
           whole-new e reads _ _ (rest (take_group all b start g None) (here ∷ done) reads (taking-new e reads))
 
     -- a group without types changes nothing
-    taking-hollow : (b : Taken) (start : ℕ) (gs : List (Group ℕ ℕ)) (done : List Home) → Taking b start ([] ∷ gs) done → Taking b start gs done
+    pub taking-hollow : (b : Taken) (start : ℕ) (gs : List (Group ℕ ℕ)) (done : List Home) → Taking b start ([] ∷ gs) done → Taking b start gs done
     taking-hollow b start gs done h =
         let same : start + 0 ≡ start = omega arith in
         record {
@@ -437,8 +440,8 @@ module _ (all : List (Group ℕ ℕ)) where
   abbrev pub number_in : ℕ → ℕ
   number_in i = get_or (taken all).declared i 0
 
-  pub whole : NameEarlier 0 all → Whole number_in (taken all) empty [] (taken_groups all)
-  whole near = whole-from number_in all none_taken 0 [] (λ i. refl) (record {
+  pub starting : NameEarlier 0 all → Taking number_in none_taken 0 all []
+  starting near = record {
     sized = omega arith;
     homes = λ i le. refl;
     near = near;
@@ -446,4 +449,7 @@ module _ (all : List (Group ℕ ℕ)) where
     below = λ i lt. absurd (omega (arith, lt));
     exact = λ i j h k. absurd (omega (arith, h));
     copies = λ i lt. absurd (omega (arith, lt));
-  })
+  }
+
+  pub whole : NameEarlier 0 all → Whole number_in (taken all) empty [] (taken_groups all)
+  whole near = whole-from number_in all none_taken 0 [] (λ i. refl) (starting near)

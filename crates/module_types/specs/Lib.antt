@@ -13,3 +13,4 @@ pub mod ClosureAnswers
 pub mod Converter
 pub mod Tied
 pub mod ListGroups
+pub mod InTurn

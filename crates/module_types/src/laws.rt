@@ -2,14 +2,20 @@
 
 ghost use Rattle.std.specs.Prelude.{◌≡◌, ◌↔◌, ◌<◌, ℕ, Bool, List, [], length, get_or, Some, true};
 ghost use Rattle.wasm_spec.specs.TypeData.{Group, Func};
+ghost use Rattle.wasm_spec.specs.Module.{Module};
+ghost use Rattle.rule_spec.specs.Rules.{Keeps};
 ghost use Rattle.type_spec.specs.Equality.{SameGroup, SameType};
-ghost use Rattle.type_spec.specs.Interned.{Interned, Called, Built, empty, mapped, same_mapped, with_group, with_exception, with_startup, composite_at, taken, interned};
+ghost use Rattle.type_spec.specs.Interned.{Interned, Called, Built, empty, mapped, same_mapped, with_group, with_exception, with_startup};
+ghost use Rattle.type_spec.specs.Interned.{composite_at, taken, interned};
 ghost use Rattle.type_spec.specs.Taken.{NameEarlier, TakeEqual, SameLists};
 ghost use Rattle.form_types.specs.Types.{TypesData};
+ghost use Rattle.form_types.specs.Placed.{placed_groups};
+ghost use Rattle.form_types.specs.Numbered.{AreNumbered};
 ghost use Rattle.module_types.specs.Orderly.{IsOrderly};
 ghost use Rattle.module_types.specs.Builder.{Builder, new_builder, interns};
 ghost use Rattle.module_types.specs.Conversion.{members_of, HoldsGroups};
 ghost use Rattle.module_types.specs.Tied.{trampoline_in, IsTied};
+ghost use Rattle.module_types.specs.InTurn.{interns_declared, HasTaken};
 ghost use Rattle.module_types.specs.ListGroups.{group_at, list_groups, IsWellNamed, EngineMap, TellTypes, IsCompared};
 ghost use Rattle.module_types.specs.Runs.{with_groups, runs, firsts, AllFilled};
 
@@ -59,6 +65,18 @@ pub fn runs_law()
 pub fn told_law()
     ensures { (tss uss : List (List Interned)) → AllFilled tss → AllFilled uss
         → (tss ≡ uss) ↔ (((with_groups empty tss).types ≡ (with_groups empty uss).types) × ((with_groups empty tss).groups ≡ (with_groups empty uss).groups)) }
+{}
+
+/// In a module that keeps the rules each reference names a type of its own group or of an earlier one.
+pub fn earlier_law()
+    ensures { (m : Module) → Keeps m → NameEarlier 0 (placed_groups m) }
+{}
+
+/// A builder that interned the declared groups of a module in turn holds what the definition takes, and each declared type at the index
+/// that the definition gives it.
+pub fn declared_groups_law()
+    ensures { (m : Module) (t : TypesData) → AreNumbered m t → NameEarlier 0 (placed_groups m) → (validator : ℕ)
+        → HasTaken t (interns_declared t (new_builder validator) 0 (placed_groups m)) (taken (placed_groups m)) }
 {}
 
 /// Two declared types have one interned index exactly where they are equal.
