@@ -1,26 +1,25 @@
 -- Laid bytes, cut along the ranges of their places.
-use Rattle.std.proofs.Common.{◌≡◌, ℕ, zero, suc, ◌-◌, ◌<◌, ◌≤◌, List, [], ◌∷◌, ◌++◌, length, map, get_or, All, AllPairs, Option, Some, None, refl, sym, ◌∙◌, ap, arith, length-append}
+use Rattle.std.proofs.Common.{◌≡◌, ℕ, zero, suc, ◌-◌, ◌<◌, ◌≤◌, List, [], ◌∷◌, ◌++◌, length, map, get_or, All, Option, Some, None, refl, sym, ◌∙◌, ap, arith, length-append}
 use Rattle.std.specs.Prelude.{slice_get}
 use Rattle.std.proofs.Math.Logic.{⊎_elim}
 use Rattle.std.proofs.lemmas.Bool.{cases_lt}
 use Rattle.std.proofs.lemmas.Option.{slice_get_within, slice_get-get_or}
 use Rattle.memory_images.specs.declared.written.Written.{Written}
-use Rattle.memory_images.specs.Ranges.{segment_at, last_cover, last_cover_from, IsBefore}
+use Rattle.memory_images.specs.Ranges.{last_cover_from, IsBefore, AreWritten}
 use Rattle.memory_images.specs.declared.laid.Laid.{Laid}
-use Rattle.memory_images.specs.Contents.{contents_of, end_of, byte_in, pair_of, AreInOrder, IsOwned, IsCut}
+use Rattle.memory_images.specs.Contents.{contents_of, end_of, byte_in, pair_of, AreInOrder, AreParts, IsOwned, IsCut}
 use Rattle.memory_images.proofs.Covering.{Covering, covered, uncovered}
 use Rattle.memory_images.proofs.InOrder.{two_some, all_at, pair_at, InPart, part_or_zero, byte_of_part}
 use Rattle.memory_images.proofs.Ranges.{segment_at-range, range_at}
 
 -- what is known of the ranges
-module _ (laid : List Laid) (ranges : List Written) (places : (place : ℕ) → segment_at ranges place ≡ last_cover (map pair_of laid) place)
-    (some : All (λ w. w.start < w.end) ranges) (ordered : AllPairs IsBefore ranges) where
+module _ (laid : List Laid) (ranges : List Written) (written : AreWritten (map pair_of laid) ranges) where
   covering : (k : ℕ) (w : Written) → slice_get ranges k ≡ Some w → (place : ℕ) → w.start ≤ place → place < w.end → Covering laid w.segment place (contents_of laid place)
-  covering k w g place h l = covered laid place w.segment (sym (places place) ∙ segment_at-range ranges k w place ordered g h l)
+  covering k w g place h l = covered laid place w.segment (sym (written.places place) ∙ segment_at-range ranges k w place written.ordered g h l)
 
   pub owned : (k : ℕ) (w : Written) → slice_get ranges k ≡ Some w → IsOwned laid w
   owned k w g =
-      let lt : w.start < w.end = all_at (λ (v : Written). v.start < v.end) ranges k w some g in
+      let lt : w.start < w.end = all_at (λ (v : Written). v.start < v.end) ranges k w written.some g in
       let c = covering k w g w.start (omega arith) lt in
       let d = covering k w g (w.end - 1) (omega arith) (omega arith) in
       let same : d.part ≡ c.part = two_some (slice_get laid w.segment) d.part c.part d.is_part c.is_part in
@@ -54,13 +53,13 @@ module _ (laid : List Laid) (ranges : List Written) (places : (place : ℕ) → 
         past (x ∷ xs) zero h e = cc
         past (x ∷ xs) (suc i) h e = past xs i (omega arith) e
 
-    pub in_order : AreInOrder parts
+    in_order : AreInOrder parts
     in_order = record {
       some = λ i d l.
           let g : slice_get parts i ≡ Some (get_or parts i d) = slice_get-get_or parts i d l in
           let w = range_of i (get_or parts i d) g in
           let c = cut i w.0 (get_or parts i d) w.1 g in
-          let lt : w.0.start < w.0.end = all_at (λ (v : Written). v.start < v.end) ranges i w.0 some w.1 in
+          let lt : w.0.start < w.0.end = all_at (λ (v : Written). v.start < v.end) ranges i w.0 written.some w.1 in
           let s = c.start in
           let e = c.end in
           omega arith;
@@ -69,7 +68,7 @@ module _ (laid : List Laid) (ranges : List Written) (places : (place : ℕ) → 
           let h : slice_get parts j ≡ Some (get_or parts j d) = slice_get-get_or parts j d k in
           let w = range_of i (get_or parts i d) g in
           let v = range_of j (get_or parts j d) h in
-          let b : IsBefore w.0 v.0 = pair_at IsBefore ranges i j w.0 v.0 ordered w.1 v.1 l in
+          let b : IsBefore w.0 v.0 = pair_at IsBefore ranges i j w.0 v.0 written.ordered w.1 v.1 l in
           let a = b.apart in
           let e = (cut i w.0 (get_or parts i d) w.1 g).end in
           let s = (cut j v.0 (get_or parts j d) v.1 h).start in
@@ -87,12 +86,12 @@ module _ (laid : List Laid) (ranges : List Written) (places : (place : ℕ) → 
         let e = c.end in
         byte_of_part parts place in_order i ∙ sym (c.bytes place (omega arith) (omega arith))
 
-    pub same : (place : ℕ) → contents_of parts place ≡ contents_of laid place
+    same : (place : ℕ) → contents_of parts place ≡ contents_of laid place
     same place = over (last_cover_from 0 place (map pair_of laid)) refl where
       over : (o : Option ℕ) → last_cover_from 0 place (map pair_of laid) ≡ o → contents_of parts place ≡ contents_of laid place
       over None e = ⊎_elim (λ (z : contents_of parts place ≡ 0). z ∙ sym (uncovered laid place e)) (at_part place) (part_or_zero parts place)
       over (Some s) e =
-          let r = range_at ranges place s (places place ∙ e) in
+          let r = range_at ranges place s (written.places place ∙ e) in
           let x = part_of r.index r.range r.is_range in
           let c = cut r.index r.range x.0 r.is_range x.1 in
           let a = c.start in
@@ -101,7 +100,7 @@ module _ (laid : List Laid) (ranges : List Written) (places : (place : ℕ) → 
           let u = r.upto in
           at_part place (record { index = r.index; part = x.0; is_part = x.1; from = omega arith; upto = omega arith })
 
-    pub bound : (n : ℕ) → All (λ x. end_of x ≤ n) laid → All (λ x. end_of x ≤ n) parts
+    bound : (n : ℕ) → All (λ x. end_of x ≤ n) laid → All (λ x. end_of x ≤ n) parts
     bound n all = λ i d l.
         let g : slice_get parts i ≡ Some (get_or parts i d) = slice_get-get_or parts i d l in
         let w = range_of i (get_or parts i d) g in
@@ -110,6 +109,9 @@ module _ (laid : List Laid) (ranges : List Written) (places : (place : ℕ) → 
         let h = o.high in
         let m : end_of o.part ≤ n = all_at (λ (x : Laid). end_of x ≤ n) laid w.0.segment o.part all o.is_part in
         omega arith
+
+    pub are_parts : AreParts laid parts
+    are_parts = record { same = same; in_order = in_order; bound = bound }
 
 -- one more part
 pub cut_more : (laid : List Laid) (ranges : List Written) (parts : List Laid) (k : ℕ) (w : Written) (x : Laid) → length parts ≡ k → slice_get ranges k ≡ Some w → IsCut laid w x

@@ -4,14 +4,17 @@ use Rattle.std.specs.Prelude.{slice_get, nat_lt, ◌==◌, ◌&&◌}
 use Rattle.std.specs.Global.{Vec}
 use Rattle.std.specs.List.{AllZip, filter}
 use Rattle.std.specs.Int.{IsPowerOfTwo}
+use Rattle.std.specs.Option.{option_map}
 use Rattle.std.proofs.Math.Logic.{⊎_elim}
 use Rattle.std.proofs.lemmas.Bool.{and_parts, eqb-true, cases_eq}
-use Rattle.std.proofs.lemmas.Option.{slice_get-get_or, none-some, same_Some}
+use Rattle.std.proofs.lemmas.Option.{slice_get-map, slice_get-get_or, none-some, same_Some}
 use Rattle.replay_spec.specs.Data.{ActiveSegment}
 use Rattle.replay_spec.specs.Images.{ImageOptions, ImageMemory, size_of, IsPlaced, bytes_on, MayBeImage, IsStatic}
 use Rattle.replay_spec.proofs.Placed.{all-at, start-placed}
 use Rattle.replay_spec.proofs.Joined.{whole_pages, Stands}
 use Rattle.memory_images.specs.declared.laid.Laid.{Laid}
+use Rattle.memory_images.specs.declared.segment.Memory.{Memory}
+use Rattle.memory_images.specs.Views.{memory_of, memories_of}
 use Rattle.memory_images.specs.Contents.{end_of as laid_end, HasRoom}
 use Rattle.memory_images.specs.Layout.{IsLaidFrom, AreLaid, MayBeImages}
 
@@ -143,3 +146,16 @@ may_more options imports memories active m first at may so_far k memory l found 
     subst (λ n. bytes_on (imports + n) active ≢ [] → MayBeImage options memory (bytes_on (imports + n) active)) (sym is) here)
     (λ (ne : k ≢ m). so_far k memory (omega arith) found)
     (cases_eq k m)
+
+-- a memory, and what is laid into it
+pub record HasLaid (imports : ℕ) (defined : List Memory) (active : List ActiveSegment) (laid : List Laid) (m : ℕ) (memory : Memory) : Type 0 where
+  pub found : slice_get (memories_of defined) m ≡ Some (memory_of memory)
+  pub zip : AllZip IsLaidFrom laid (bytes_on (imports + m) active)
+
+pub laid_at : (imports : ℕ) (defined : List Memory) (active : List ActiveSegment) (all : List (Vec Laid)) (m : ℕ) (d : Memory) (own : Vec Laid)
+    → AreLaid imports (memories_of defined) active all → m < length defined → slice_get all (imports + m) ≡ Some own
+    → HasLaid imports defined active own.items m (get_or defined m d)
+laid_at imports defined active all m d own laid l at = record {
+  found = slice_get-map memory_of defined m ∙ ap (option_map memory_of) (slice_get-get_or defined m d l);
+  zip = laid.each (imports + m) own at;
+}

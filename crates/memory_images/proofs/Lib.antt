@@ -6,6 +6,7 @@ mod Covered
 mod Covering
 mod InOrder
 mod Ranges
+mod OneList
 mod CutParts
 mod Nonzero
 mod Laying

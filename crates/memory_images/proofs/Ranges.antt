@@ -6,16 +6,16 @@ use Rattle.memory_images.specs.declared.written.Written.{Written}
 use Rattle.memory_images.specs.Ranges.{is_within, segment_at, IsBefore}
 use Rattle.memory_images.proofs.InOrder.{two_some, pair_at}
 
-within_yes : (start end place : ℕ) → start ≤ place → place < end → is_within start end place ≡ true
+pub within_yes : (start end place : ℕ) → start ≤ place → place < end → is_within start end place ≡ true
 within_yes start end place h l = grind (arith, nat_tests)
 
-within_high : (start end place : ℕ) → end ≤ place → is_within start end place ≡ false
+pub within_high : (start end place : ℕ) → end ≤ place → is_within start end place ≡ false
 within_high start end place h = grind (arith, nat_tests)
 
 within_is : (start end place : ℕ) → is_within start end place ≡ true → (start ≤ place) × (place < end)
 within_is start end place h = (grind (arith, nat_tests), grind (arith, nat_tests))
 
-pairs_behind : {X : Type 0} (R : X → X → Type 0) (x : X) (xs : List X) → AllPairs R (x ∷ xs) → AllPairs R xs
+pub pairs_behind : {X : Type 0} (R : X → X → Type 0) (x : X) (xs : List X) → AllPairs R (x ∷ xs) → AllPairs R xs
 pairs_behind R x xs all = λ i j d lt k. all (suc i) (suc j) d (omega arith) (omega arith)
 
 -- a place of a range has the range's segment

@@ -22,6 +22,12 @@ pub record AreInOrder (laid : List Laid) : Type 0 where
   pub some : All (λ x. x.start < end_of x) laid
   pub apart : AllPairs (λ x y. end_of x ≤ y.start) laid
 
+-- parts that do not overlap, with the contents of laid bytes, and none past where these end
+pub record AreParts (laid parts : List Laid) : Type 0 where
+  pub same : (place : ℕ) → contents_of parts place ≡ contents_of laid place
+  pub in_order : AreInOrder parts
+  pub bound : (n : ℕ) → All (λ x. end_of x ≤ n) laid → All (λ x. end_of x ≤ n) parts
+
 -- a size in whole pages, of at most 64 bits, that all bytes stay below
 pub record HasRoom (page : ℕ) (laid : List Laid) : Type 0 where
   pub pages : ℕ

@@ -1,5 +1,5 @@
 -- Which of several segments a place belongs to.
-use Rattle.std.specs.Prelude.{◌≡◌, ◌≢◌, ℕ, suc, ◌+◌, ◌≤◌, Bool, nat_le, nat_lt, ◌&&◌, List, [], ◌∷◌, Option, Some, None, if◌then◌else◌}
+use Rattle.std.specs.Prelude.{◌≡◌, ◌≢◌, ℕ, suc, ◌+◌, ◌<◌, ◌≤◌, All, AllPairs, Bool, nat_le, nat_lt, ◌&&◌, List, [], ◌∷◌, Option, Some, None, if◌then◌else◌}
 use Rattle.memory_images.specs.declared.written.Written.{Written}
 
 -- whether a place lies from a start up to an end
@@ -29,3 +29,9 @@ segment_at (w ∷ ws) place = if is_within w.start w.end place then Some w.segme
 pub record IsBefore (a b : Written) : Type 0 where
   pub apart : a.end ≤ b.start
   pub differ : a.end ≡ b.start → a.segment ≢ b.segment
+
+-- ranges, in order and none empty, in which each place belongs to the last pair of start and length that covers it
+pub record AreWritten (segments : List (ℕ × ℕ)) (ranges : List Written) : Type 0 where
+  pub places : (place : ℕ) → segment_at ranges place ≡ last_cover segments place
+  pub some : All (λ w. w.start < w.end) ranges
+  pub ordered : AllPairs IsBefore ranges

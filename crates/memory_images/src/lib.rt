@@ -6,6 +6,7 @@ mod error;
 mod fill;
 mod image;
 mod laid;
+mod laws;
 mod layout;
 mod parts;
 mod place;
@@ -18,6 +19,7 @@ mod written;
 
 pub use error::ImageError;
 pub use image::Image;
+pub use laws::written_ranges_law;
 pub use plan::plan_images;
 pub use segment::{Active, Constant, ImageSettings, Memory};
 pub use written::{Written, written_ranges};

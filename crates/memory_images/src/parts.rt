@@ -1,7 +1,7 @@
 //! Laid bytes, cut so that no two overlap.
 
-ghost use Rattle.std.specs.Prelude.{◌≡◌, ℕ, ◌<◌, ◌≤◌, ◌^◌, length, map, slice_get, ◌+◌, All, IfOk};
-ghost use Rattle.memory_images.specs.Contents.{contents_of, end_of, AreInOrder, IsOwned, IsCut, pair_of};
+ghost use Rattle.std.specs.Prelude.{◌≡◌, ◌<◌, ◌^◌, map, ◌+◌, All, IfOk};
+ghost use Rattle.memory_images.specs.Contents.{end_of, AreParts, IsOwned, IsCut, pair_of};
 
 use crate::laid::Laid;
 use crate::written::{Written, written_ranges};
@@ -11,9 +11,7 @@ use std::alloc::Global;
 /// The same contents, from low places to high ones, where each place is laid once.
 pub fn parts_of<'d>(alloc: Global, laid: &[Laid<'d>]) -> Result<Vec<Laid<'d>>, OutOfMemory>
     requires { All (λ x. end_of x < 2 ^ 64) laid.now }
-    ensures same { IfOk result (λ v. (place : ℕ) → contents_of v.items place ≡ contents_of laid.now place) }
-    ensures in_order { IfOk result (λ v. AreInOrder v.items) }
-    ensures bound { IfOk result (λ v. (n : ℕ) → All (λ x. end_of x ≤ n) laid.now → All (λ x. end_of x ≤ n) v.items) }
+    ensures { IfOk result (λ v. AreParts laid.now v.items) }
 {
     let pairs = pairs_of(alloc, laid)?;
     let ranges = written_ranges(alloc, pairs.as_slice())?;

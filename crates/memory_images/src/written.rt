@@ -1,9 +1,9 @@
 //! Ranges of places and the segment that each belongs to.
 
-ghost use Rattle.std.specs.Prelude.{◌≡◌, ◌+◌, ◌^◌, ◌<◌, ℕ, All, AllPairs, IfOk};
+ghost use Rattle.std.specs.Prelude.{◌≡◌, ◌+◌, ◌^◌, ◌<◌, All, IfOk};
 ghost use Rattle.std.specs.Ordering.{nat_cmp};
 ghost use Rattle.std.specs.BTreeMap.{values, IsOrdered};
-ghost use Rattle.memory_images.specs.Ranges.{segment_at, last_cover, IsBefore};
+ghost use Rattle.memory_images.specs.Ranges.{AreWritten};
 
 use crate::uncovered::claim;
 use entity_map::OutOfMemory;
@@ -21,9 +21,7 @@ pub struct Written {
 /// The places that segments cover, in order, where each pair is a start and a length.
 pub fn written_ranges(alloc: Global, segments: &[(u64, u64)]) -> Result<Vec<Written>, OutOfMemory>
     requires { All (λ pair. pair.0 + pair.1 < 2 ^ 64) segments.now }
-    ensures places { IfOk result (λ v. (place : ℕ) → segment_at v.items place ≡ last_cover segments.now place) }
-    ensures some { IfOk result (λ v. All (λ w. w.start < w.end) v.items) }
-    ensures ordered { IfOk result (λ v. AllPairs IsBefore v.items) }
+    ensures { IfOk result (λ v. AreWritten segments.now v.items) }
 {
     let mut gaps = BTreeMap::new(alloc);
     gaps.insert(0, u64::MAX)?;

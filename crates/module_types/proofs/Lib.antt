@@ -17,3 +17,6 @@ pub mod Finding
 pub mod MappedTypes
 pub mod Tying
 pub mod Interned
+pub mod Taking
+pub mod TakingBoth
+pub mod EqualLists

@@ -1,8 +1,10 @@
 //! Laws of interned lists. Each function is the proof of its clauses.
 
-ghost use Rattle.std.specs.Prelude.{◌≡◌, ◌↔◌, ◌<◌, ℕ, List, [], length, Some, true};
-ghost use Rattle.wasm_spec.specs.TypeData.{Func};
-ghost use Rattle.type_spec.specs.Interned.{Interned, Called, Built, empty, mapped, same_mapped, with_group, with_exception, with_startup, composite_at};
+ghost use Rattle.std.specs.Prelude.{◌≡◌, ◌↔◌, ◌<◌, ℕ, List, [], length, get_or, Some, true};
+ghost use Rattle.wasm_spec.specs.TypeData.{Group, Func};
+ghost use Rattle.type_spec.specs.Equality.{SameType};
+ghost use Rattle.type_spec.specs.Interned.{Interned, Called, Built, empty, mapped, same_mapped, with_group, with_exception, with_startup, composite_at, taken};
+ghost use Rattle.type_spec.specs.Taken.{NameEarlier, TakeEqual, SameLists};
 ghost use Rattle.form_types.specs.Types.{TypesData};
 ghost use Rattle.module_types.specs.Orderly.{IsOrderly};
 ghost use Rattle.module_types.specs.Builder.{Builder, new_builder, interns};
@@ -56,4 +58,17 @@ pub fn runs_law()
 pub fn told_law()
     ensures { (tss uss : List (List Interned)) → AllFilled tss → AllFilled uss
         → (tss ≡ uss) ↔ (((with_groups empty tss).types ≡ (with_groups empty uss).types) × ((with_groups empty tss).groups ≡ (with_groups empty uss).groups)) }
+{}
+
+/// Two declared types have one interned index exactly where they are equal.
+pub fn declared_law()
+    ensures { (ms : List (Group ℕ ℕ)) → NameEarlier 0 ms → (i j : ℕ) → i < length (taken ms).declared → j < length (taken ms).declared
+        → (get_or (taken ms).declared i 0 ≡ get_or (taken ms).declared j 0) ↔ SameType ms ms i j }
+{}
+
+/// Before exception types and the startup type the interned lists of two modules are equal exactly where the groups that are taken of
+/// the two are equally many and equal in turn.
+pub fn equal_lists_law()
+    ensures { (ms ns : List (Group ℕ ℕ)) → NameEarlier 0 ms → NameEarlier 0 ns
+        → SameLists (taken ms).built (taken ns).built ↔ TakeEqual ms ns }
 {}

@@ -19,5 +19,8 @@ pub use builder::ModuleTypesBuilder;
 pub use converter::{Asked, TypeLookUp, WasmparserTypeConverter};
 pub use error::BuildError;
 pub use iterators::{RecGroupElements, RecGroups, TrampolineTypes};
-pub use laws::{holds_law, one_trampoline_law, ranges_law, runs_law, told_law, trampolines_law};
+pub use laws::{
+    declared_law, equal_lists_law, holds_law, one_trampoline_law, ranges_law, runs_law, told_law,
+    trampolines_law,
+};
 pub use list::{ModuleTypes, TypesMut, WasmTypesIter};

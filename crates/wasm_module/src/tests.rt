@@ -9,6 +9,7 @@ use crate::{
 };
 use entity_map::{Atom, EntityRef, OutOfMemory, ReservedValue, StringPool};
 use std::alloc::Global as Heap;
+use std::process::Abort;
 use std::test::Fail;
 use wasm_convert::{ConstExpr, ConstOp};
 use wasm_index::{
@@ -68,9 +69,26 @@ const SHARED: Memory = Memory {
     page_size_log2: 16,
 };
 
+// A record is dropped once in each of the two tests, at the end: what looks at it borrows it.
+
 #[test]
-fn new_record_is_empty(rt: HostRuntime) -> Result<(), Fail> {
+fn new_record_is_empty_and_grows(rt: HostRuntime) -> Result<(), Fail> {
     let mut module = new_module(rt.alloc())?;
+    new_record_is_empty(&rt, &module);
+    import_has_names_and_a_type(&rt, &mut module)
+}
+
+#[test]
+fn small_record_is_as_made(rt: HostRuntime) -> Result<(), Fail> {
+    let mut module = new_module(rt.alloc())?;
+    fill_and_look(&rt, rt.alloc(), &mut module)
+}
+
+fn new_record_is_empty(rt: &impl Abort, module: &Module)
+    requires initializers { module.now.initializers.items ≡ [] }
+    requires functions { module.now.functions ≡ [] }
+    requires no_imports { module.now.num_imported_funcs ≡ 0 }
+{
     assert_eq!(rt; module.module_index.index(), 7);
     assert_eq!(rt; module.strings.len(), 0);
     assert!(rt; module.exports.is_empty());
@@ -80,13 +98,34 @@ fn new_record_is_empty(rt: HostRuntime) -> Result<(), Fail> {
     assert!(rt; module.memories.is_empty());
     assert_eq!(rt; module.imports().count(), 0);
     assert_eq!(rt; module.defined_func_indices().count(), 0);
-    assert_eq!(rt; module.push_function(module_type(0))?, FuncIndex::new(0));
-    assert_eq!(rt;
-        module.push_tag(module_type(0), module_type(1))?,
-        TagIndex::new(0)
-    );
+}
+
+// A function that is imported, and a tag.
+fn import_has_names_and_a_type(rt: &impl Abort, module: &mut Module) -> Result<(), Fail>
+    requires strings { module.old.strings ≡ [] }
+    requires initializers { module.old.initializers.items ≡ [] }
+    requires functions { module.old.functions ≡ [] }
+    requires tags { module.old.tags ≡ [] }
+    requires no_imports { (module.old.num_imported_funcs ≡ 0) × (module.old.num_imported_tags ≡ 0) }
+{
+    let index = module.push_function(module_type(4))?;
+    assert_eq!(rt; index, FuncIndex::new(0));
+    let tag = module.push_tag(module_type(0), module_type(1))?;
+    assert_eq!(rt; tag, TagIndex::new(0));
     assert_eq!(rt; module.num_defined_funcs(), 1);
     assert_eq!(rt; module.num_defined_tags(), 1);
+    let (name, field) = insert_texts(&mut module.strings, "env", "run")?;
+    let index = index.into();
+    module
+        .initializers
+        .push(Initializer::Import { name, field, index })?;
+    assert!(rt; module.is_valid(index));
+    let (from, own, ty) = module.import(0).ok_or("no import")?;
+    assert_eq!(rt; from, "env");
+    assert_eq!(rt; own, "run");
+    assert!(rt; matches!(ty, EntityType::Function(signature) if signature == module_type(4)));
+    assert_eq!(rt; module.imports().count(), 1);
+    assert!(rt; module.import(1).is_none());
     Ok(())
 }
 
@@ -169,13 +208,20 @@ fn insert_texts(
 
 // One import and two definitions of each kind. The imports are a function, a table, a memory, a global, a tag
 // and the function again; the last table, the first memory and the last global are exported.
-fn small_module(alloc: Heap) -> Result<Module, OutOfMemory> {
-    let mut module = new_module(alloc)?;
+fn fill(module: &mut Module) -> Result<(), OutOfMemory>
+    requires strings { module.old.strings ≡ [] }
+    requires initializers { module.old.initializers.items ≡ [] }
+    requires functions { module.old.functions ≡ [] }
+    requires tables { module.old.tables ≡ [] }
+    requires memories { module.old.memories ≡ [] }
+    requires globals { module.old.globals ≡ [] }
+    requires tags { module.old.tags ≡ [] }
+{
     let third = module.strings.insert("third")?;
     let (name, field) = insert_texts(&mut module.strings, "env", "run")?;
-    push_each(&mut module, 0, UNSHARED)?;
-    push_each(&mut module, 10, SHARED)?;
-    push_each(&mut module, 20, UNSHARED)?;
+    push_each(module, 0, UNSHARED)?;
+    push_each(module, 10, SHARED)?;
+    push_each(module, 20, UNSHARED)?;
     for index in first_of_each_kind() {
         module
             .initializers
@@ -194,7 +240,27 @@ fn small_module(alloc: Heap) -> Result<Module, OutOfMemory> {
     module.num_imported_memories = 1;
     module.num_imported_globals = 1;
     module.num_imported_tags = 1;
-    Ok(module)
+    Ok(())
+}
+
+fn fill_and_look(rt: &impl Abort, alloc: Heap, module: &mut Module) -> Result<(), Fail>
+    requires strings { module.old.strings ≡ [] }
+    requires initializers { module.old.initializers.items ≡ [] }
+    requires functions { module.old.functions ≡ [] }
+    requires tables { module.old.tables ≡ [] }
+    requires memories { module.old.memories ≡ [] }
+    requires globals { module.old.globals ≡ [] }
+    requires tags { module.old.tags ≡ [] }
+{
+    fill(module)?;
+    defined_entities_follow_the_imported(rt, module);
+    entities_are_counted(rt, module);
+    first_entities_are_imported(rt, module);
+    entities_are_exported(rt, module);
+    entities_have_types(rt, module);
+    edges_are_visited_in_order(rt, alloc, module)?;
+    edges_become_the_engines(rt, module);
+    Ok(())
 }
 
 fn first_of_each_kind() -> [EntityIndex; 5] {
@@ -217,9 +283,7 @@ fn last_of_each_kind() -> [EntityIndex; 5] {
     ]
 }
 
-#[test]
-fn defined_entities_follow_the_imported(rt: HostRuntime) -> Result<(), Fail> {
-    let module = small_module(rt.alloc())?;
+fn defined_entities_follow_the_imported(rt: &impl Abort, module: &Module) {
     assert_eq!(rt; module.num_imported_funcs, 1);
     assert_eq!(rt; module.num_imported_tables, 1);
     assert_eq!(rt; module.num_imported_memories, 1);
@@ -281,12 +345,9 @@ fn defined_entities_follow_the_imported(rt: HostRuntime) -> Result<(), Fail> {
         assert_eq!(rt; import, None, "{kind}");
         assert_eq!(rt; first_defined, Some(0), "{kind}");
     }
-    Ok(())
 }
 
-#[test]
-fn entities_are_counted(rt: HostRuntime) -> Result<(), Fail> {
-    let module = small_module(rt.alloc())?;
+fn entities_are_counted(rt: &impl Abort, module: &Module) {
     assert!(rt; module.num_imported_funcs <= module.functions.len());
     assert!(rt; module.num_imported_tables <= module.tables.len());
     assert!(rt; module.num_imported_memories <= module.memories.len());
@@ -311,12 +372,9 @@ fn entities_are_counted(rt: HostRuntime) -> Result<(), Fail> {
             .index(),
         0
     );
-    Ok(())
 }
 
-#[test]
-fn first_entities_are_imported(rt: HostRuntime) -> Result<(), Fail> {
-    let module = small_module(rt.alloc())?;
+fn first_entities_are_imported(rt: &impl Abort, module: &Module) {
     for (place, entity) in first_of_each_kind().iter().enumerate() {
         assert!(rt; module.is_imported(*entity));
         assert!(rt; module.is_valid(*entity));
@@ -335,12 +393,9 @@ fn first_entities_are_imported(rt: HostRuntime) -> Result<(), Fail> {
     assert!(rt; !module.is_imported_global(GlobalIndex::new(1)));
     assert!(rt; !module.is_imported_tag(TagIndex::new(1)));
     assert_eq!(rt; module.import_index(6), None);
-    Ok(())
 }
 
-#[test]
-fn entities_are_exported(rt: HostRuntime) -> Result<(), Fail> {
-    let module = small_module(rt.alloc())?;
+fn entities_are_exported(rt: &impl Abort, module: &Module) {
     for (place, table, memory, global) in [(0, false, true, false), (2, true, false, true)] {
         assert_eq!(rt;
             module.is_exported_table(TableIndex::from_u32(place)),
@@ -355,12 +410,9 @@ fn entities_are_exported(rt: HostRuntime) -> Result<(), Fail> {
             global
         );
     }
-    Ok(())
 }
 
-#[test]
-fn entities_have_types(rt: HostRuntime) -> Result<(), Fail> {
-    let module = small_module(rt.alloc())?;
+fn entities_have_types(rt: &impl Abort, module: &Module) {
     for entity in last_of_each_kind() {
         assert!(rt; module.is_valid(entity));
         let as_made = match module.type_of(entity) {
@@ -372,24 +424,6 @@ fn entities_have_types(rt: HostRuntime) -> Result<(), Fail> {
         };
         assert!(rt; as_made);
     }
-    Ok(())
-}
-
-#[test]
-fn import_has_names_and_a_type(rt: HostRuntime) -> Result<(), Fail> {
-    let alloc = rt.alloc();
-    let mut module = new_module(alloc)?;
-    let (name, field) = insert_texts(&mut module.strings, "env", "run")?;
-    let index = module.push_function(module_type(4))?.into();
-    module.initializers = vec![in alloc; Initializer::Import { name, field, index }]?;
-    assert!(rt; module.is_valid(index));
-    let (from, own, ty) = module.import(0).ok_or("no import")?;
-    assert_eq!(rt; from, "env");
-    assert_eq!(rt; own, "run");
-    assert!(rt; matches!(ty, EntityType::Function(signature) if signature == module_type(4)));
-    assert_eq!(rt; module.imports().count(), 1);
-    assert!(rt; module.import(1).is_none());
-    Ok(())
 }
 
 // The numbers of the module indices that are visited, in order.
@@ -402,15 +436,17 @@ fn visited(alloc: Heap, module: &Module) -> Result<Vec<Option<u32>>, OutOfMemory
     Ok(numbers)
 }
 
-#[test]
-fn edges_of_a_module_are_visited_in_order(rt: HostRuntime) -> Result<(), Fail> {
-    let mut module = small_module(rt.alloc())?;
+fn edges_are_visited_in_order(
+    rt: &impl Abort,
+    alloc: Heap,
+    module: &mut Module,
+) -> Result<(), Fail> {
     assert!(rt; module.types.len() < 100);
     module.types.push(module_type(50))?;
     assert!(rt; module.passive_elements.len() < 100);
     module.passive_elements.push((reference_type(70), 1))?;
     module.startup = ModuleStartup::IfMemoriesNeedInit(module_type(60));
-    let numbers = visited(rt.alloc(), &module)?;
+    let numbers = visited(alloc, module)?;
     let wanted = [
         50, 0, 10, 20, 1, 11, 21, 2, 12, 22, 3, 4, 13, 14, 23, 24, 60,
     ];
@@ -421,9 +457,7 @@ fn edges_of_a_module_are_visited_in_order(rt: HostRuntime) -> Result<(), Fail> {
     Ok(())
 }
 
-#[test]
-fn edges_of_a_module_become_the_engines(rt: HostRuntime) -> Result<(), Fail> {
-    let mut module = small_module(rt.alloc())?;
+fn edges_become_the_engines(rt: &impl Abort, module: &mut Module) {
     module.startup = ModuleStartup::Always(module_type(60));
     assert!(rt; !module.is_canonicalized_for_runtime_usage());
     let answer = module.trace_mut(&mut |edge: &mut EngineOrModuleTypeIndex| -> Result<(), ()> {
@@ -432,5 +466,4 @@ fn edges_of_a_module_become_the_engines(rt: HostRuntime) -> Result<(), Fail> {
     });
     assert!(rt; answer.is_ok());
     assert!(rt; module.is_canonicalized_for_runtime_usage());
-    Ok(())
 }

@@ -1,15 +1,11 @@
-use Rattle.std.proofs.Common.{◌≡◌, ◌+◌, get_or, map, false, Some, ◌∙◌, ap, refl, arith}
-use Rattle.std.specs.Prelude.{slice_get}
-use Rattle.std.specs.List.{AllZip}
-use Rattle.std.specs.Option.{option_map}
+use Rattle.std.proofs.Common.{◌+◌, get_or, map, false, refl, arith}
 use Rattle.std.proofs.lemmas.Bool.{false≢true}
 use Rattle.std.proofs.lemmas.List.{length-map}
-use Rattle.std.proofs.lemmas.Option.{slice_get-map, slice_get-get_or, slice_get_read, slice_get_within}
+use Rattle.std.proofs.lemmas.Option.{slice_get_read, slice_get_within}
 use Rattle.replay_spec.specs.Images.{bytes_on}
 use Rattle.memory_images.specs.declared.segment.Memory.{Memory}
 use Rattle.memory_images.specs.Views.{memory_of, memories_of, active_of, options_of}
-use Rattle.memory_images.specs.Layout.{IsLaidFrom}
-use Rattle.memory_images.proofs.Inside.{all_fit, may_more}
+use Rattle.memory_images.proofs.Inside.{all_fit, may_more, laid_at}
 use Rattle.memory_images.proofs.rule.may_be_images.Goals as goal
 
 abbrev no_memory : Memory
@@ -32,14 +28,10 @@ returns-then-not-may_be_image c =
     let n = c.requires.laid.count in
     let k = length-map c.args.defined.now memory_of in
     let m = c.args.imported + c.memories.m in
-    let first : Memory = get_or c.args.defined.now c.memories.m no_memory in
-    let found : slice_get (memories_of c.args.defined.now) c.memories.m ≡ Some (memory_of first) =
-    slice_get-map memory_of c.args.defined.now c.memories.m ∙ ap (option_map memory_of) (slice_get-get_or c.args.defined.now c.memories.m no_memory t) in
     let at = slice_get_read c.args.all.now _ m c.index-all-imported.result refl (omega arith) c.index-all-imported.is in
-    let zip : AllZip IsLaidFrom c.as_slice.result.now (bytes_on m (map active_of c.args.segments.now)) =
-    rw c.as_slice.ensures.value (c.requires.laid.each m c.index-all-imported.result at) in
-    let both = c.if-not-may_be_image.ensures (bytes_on m (map active_of c.args.segments.now)) zip in
-    ((λ f. absurd (false≢true f)), (λ all. both.1 (λ some. all c.memories.m (memory_of first) found some)))
+    let has = laid_at c.args.imported c.args.defined.now (map active_of c.args.segments.now) c.args.all.now c.memories.m no_memory c.index-all-imported.result c.requires.laid t at in
+    let both = c.if-not-may_be_image.ensures (bytes_on m (map active_of c.args.segments.now)) (rw c.as_slice.ensures.value has.zip) in
+    ((λ f. absurd (false≢true f)), (λ all. both.1 (λ some. all c.memories.m (memory_of (get_or c.args.defined.now c.memories.m no_memory)) has.found some)))
 
 pub memories-preserved : goal.memories-preserved
 memories-preserved c =
@@ -47,14 +39,10 @@ memories-preserved c =
     let n = c.requires.laid.count in
     let k = length-map c.args.defined.now memory_of in
     let m = c.args.imported + c.memories.m in
-    let first : Memory = get_or c.args.defined.now c.memories.m no_memory in
-    let found : slice_get (memories_of c.args.defined.now) c.memories.m ≡ Some (memory_of first) =
-    slice_get-map memory_of c.args.defined.now c.memories.m ∙ ap (option_map memory_of) (slice_get-get_or c.args.defined.now c.memories.m no_memory t) in
     let at = slice_get_read c.args.all.now _ m c.index-all-imported.result refl (omega arith) c.index-all-imported.is in
-    let zip : AllZip IsLaidFrom c.as_slice.result.now (bytes_on m (map active_of c.args.segments.now)) =
-    rw c.as_slice.ensures.value (c.requires.laid.each m c.index-all-imported.result at) in
-    let both = c.if-not-may_be_image.ensures (bytes_on m (map active_of c.args.segments.now)) zip in
-    may_more (options_of c.args.settings) c.args.imported (memories_of c.args.defined.now) (map active_of c.args.segments.now) c.memories.m (memory_of first) found
+    let has = laid_at c.args.imported c.args.defined.now (map active_of c.args.segments.now) c.args.all.now c.memories.m no_memory c.index-all-imported.result c.requires.laid t at in
+    let both = c.if-not-may_be_image.ensures (bytes_on m (map active_of c.args.segments.now)) (rw c.as_slice.ensures.value has.zip) in
+    may_more (options_of c.args.settings) c.args.imported (memories_of c.args.defined.now) (map active_of c.args.segments.now) c.memories.m _ has.found
     (both.0 refl) c.memories.invariant
 
 pub returns : goal.returns
