@@ -1,6 +1,7 @@
 //! What a module's initialisers become: images, and segments that are left to be written.
 #![tactic(auto)]
 
+mod debug_info;
 mod error;
 mod image_data;
 mod images;
@@ -11,6 +12,7 @@ mod startup;
 mod table_init;
 mod translation;
 
+pub use debug_info::{BranchHint, DebugInfoData, FunctionMetadata, NameSection, WasmFileInfo};
 pub use error::PlanError;
 pub use memory_images::{Written, written_ranges};
 pub use translation::{
