@@ -1,7 +1,8 @@
 -- A builder that interned the declared groups of a module in turn holds what the definition takes.
-use Rattle.std.proofs.Common.{◌≡◌, ◌∙◌, ◌⊎◌, inl, inr, ℕ, zero, suc, ◌+◌, ◌-◌, ◌<◌, ◌≤◌, Bool, true, false, nat_eq, Option, Some, None, List, [], ◌∷◌, ◌++◌, length, get_or, take, replicate, map, refl, sym, ap, subst, arith, length-append}
-use Rattle.std.specs.Prelude.{slice_get, slice_index, if◌then◌else◌}
-use Rattle.std.specs.List.{flat_map}
+use Rattle.std.proofs.Common.{◌≡◌, ◌∙◌, ◌↔◌, ◌⊎◌, inl, inr, ℕ, zero, suc, ◌+◌, ◌-◌, ◌<◌, ◌≤◌, Bool, true, false, nat_eq, Option, Some, None, List, [], ◌∷◌, ◌++◌, length, get_or, take, replicate, map, refl, sym, ap, subst, arith, length-append}
+use Rattle.std.specs.Prelude.{slice_get, slice_index, IsSome, if◌then◌else◌}
+use Rattle.std.specs.List.{All, flat_map}
+use Rattle.std.proofs.lemmas.List.Elements.{All-map, All-weaker}
 use Rattle.std.proofs.lemmas.Bool.{ltb-true, ltb-false, eqb-true, eq-eqb}
 use Rattle.std.proofs.lemmas.List.{length-map, get_or-map, get_or_append_left, get_or-append-add, get_or-replicate, length-replicate}
 use Rattle.std.proofs.lemmas.List.Concat.{get_or-flat_map}
@@ -11,11 +12,11 @@ use Rattle.wasm_spec.specs.declared.types.UnpackedIndex.{UnpackedIndex}
 use Rattle.wasm_spec.specs.TypeData.{Composite, Func, Array, Struct, Cont, Exn, SubType, Group, map_composite, map_sub_type, map_group, group_edges}
 use Rattle.wasm_spec.specs.Module as plain
 use Rattle.type_data.specs.TypeShapes.{group_shape}
-use Rattle.type_data.specs.Names.{NameKind}
+use Rattle.type_data.specs.Names.{NameKind, plainly}
 use Rattle.type_spec.specs.Equality.{Home, home, SameType}
 use Rattle.type_spec.specs.Interned.{Interned, Span, Built, Taken, with_group, next_span, opened, kind_of_type, kind_at, first_equal, interned_group, take_group, take_groups, none_taken, taken}
 use Rattle.type_spec.specs.Taken.{NameEarlier}
-use Rattle.type_spec.proofs.Homes.{size, home-within, home-again, home-type}
+use Rattle.type_spec.proofs.Homes.{size, size-cons, home-within, home-again, home-type}
 use Rattle.type_spec.proofs.ByNames.{name_by, by_names, names-same, zip-known-itself, some_type, joined-kind}
 use Rattle.form_types.specs.Types.{NamedGroup, TypesData, types_by_id, group_numbers}
 use Rattle.form_types.specs.Placed.{placed_groups, id_at, named}
@@ -23,9 +24,10 @@ use Rattle.form_types.specs.Numbered.{AreNumbered}
 use Rattle.form_types.specs.Numbered as numbered
 use Rattle.form_types.proofs.Ruled.{size-places}
 use Rattle.module_types.specs.Builder.{Builder, new_builder, interns, interns_by}
-use Rattle.module_types.specs.Conversion.{first_id, kind_in, group_of_id, members_of, no_span, start_by, index_by_id, name_by_id, id_number, interned_members, interned_index}
-use Rattle.module_types.specs.InTurn.{interns_type, interns_declared, HasTaken}
+use Rattle.module_types.specs.Conversion.{first_id, kind_in, group_of_id, members_of, no_span, start_by, index_by_id, name_by_id, id_number, interned_members, interned_index, HoldsGroups, NamesInterned}
+use Rattle.module_types.specs.InTurn.{interns_type, interns_declared, HasTaken, CanIntern}
 use Rattle.module_types.proofs.Extends.{extends-group}
+use Rattle.module_types.proofs.Holding.{holds-kept}
 use Rattle.module_types.proofs.Places.{group-ends}
 use Rattle.module_types.proofs.Taking.{Member, Found, Taking, first-found, none-found, form, either, home-first, home-member, place-first, place-member, same-at, earlier-member, number-met, number-new, form-new, taking-met, taking-new, taking-hollow, whole, number_in, starting, ends}
 
@@ -352,22 +354,22 @@ module _ (m : plain.Module) (t : TypesData) (are : AreNumbered m t) (near : Name
             ids-old n (λ e. apart start (omega (arith, some)) e) ∙ has.fresh n (λ i lt. apart i (omega (arith, lt)));
       }
 
-  tied-by : (b : Builder) (s : Taken) (start : ℕ) (g : Group ℕ ℕ) (gs : List (Group ℕ ℕ)) (done : List Home) → Taking all number s start (g ∷ gs) done
-      → 0 < length g → Has b s start
+  -- what holds after each of the two steps holds after the step that is made
+  step-by : (b : Builder) (s : Taken) (start : ℕ) (g : Group ℕ ℕ) (gs : List (Group ℕ ℕ)) (done : List Home) → Taking all number s start (g ∷ gs) done
+      → 0 < length g → Has b s start → (Q : Builder → Taken → Type 0)
       → ((b' : Builder) (s' : Taken) (done' : List Home) → ((i : ℕ) → number i ≡ get_or (take_groups all s' (start + length g) gs).declared i 0)
-      → Taking all number s' (start + length g) gs done' → Has b' s' (start + length g)
-      → Has (interns_declared t b' (start + length g) gs) (take_groups all s' (start + length g) gs) (size all))
+      → Taking all number s' (start + length g) gs done' → Has b' s' (start + length g) → Q b' s')
       → (o : Option ℕ) → first_equal all start 0 start ≡ o
       → ((i : ℕ) → number i ≡ get_or (take_groups all (take_group all s start g o) (start + length g) gs).declared i 0)
-      → Has (interns_declared t (interns_type t b (id start)) (start + length g) gs) (take_groups all (take_group all s start g o) (start + length g) gs) (size all)
-  tied-by b s start g gs done h some has rest (Some j) e reads =
+      → Q (interns_type t b (id start)) (take_group all s start g o)
+  step-by b s start g gs done h some has Q rest (Some j) e reads =
       let found = first-found all start 0 start j e in
       let s' = take_group all s start g (Some j) in
-      subst (λ c. Has (interns_declared t c (start + length g) gs) (take_groups all s' (start + length g) gs) (size all)) (sym (none-more b s start g gs done h some has j found reads))
+      subst (λ c. Q c s') (sym (none-more b s start g gs done h some has j found reads))
       (rest b s' done reads (taking-met all number s start g gs done h some j found reads) (has-met b s start g gs done h some has j found reads))
-  tied-by b s start g gs done h some has rest None e reads =
+  step-by b s start g gs done h some has Q rest None e reads =
       let s' = take_group all s start g None in
-      subst (λ c. Has (interns_declared t c (start + length g) gs) (take_groups all s' (start + length g) gs) (size all)) (sym (one-more b s start g gs done h some has e reads))
+      subst (λ c. Q c s') (sym (one-more b s start g gs done h some has e reads))
       (rest _ s' _ reads (taking-new all number s start g gs done h some e reads) (has-new b s start g gs done h some has e reads))
 
   tied-from : (gs : List (Group ℕ ℕ)) (b : Builder) (s : Taken) (start : ℕ) (done : List Home)
@@ -376,16 +378,99 @@ module _ (m : plain.Module) (t : TypesData) (are : AreNumbered m t) (near : Name
   tied-from [] b s start done reads h has = let end : start ≡ size all = omega (arith, h.sized) in subst (Has b s) end has
   tied-from ([] ∷ gs) b s start done reads h has = tied-from gs b s start done reads (taking-hollow all number s start gs done h) has
   tied-from ((x ∷ xs) ∷ gs) b s start done reads h has =
-      tied-by b s start (x ∷ xs) gs done h (omega arith) has
+      step-by b s start (x ∷ xs) gs done h (omega arith) has
+      (λ c s'. Has (interns_declared t c (start + length (x ∷ xs)) gs) (take_groups all s' (start + length (x ∷ xs)) gs) (size all))
       (λ b' s' done' reads' h' has'. tied-from gs b' s' (start + length (x ∷ xs)) done' reads' h' has') (first_equal all start 0 start) refl reads
+
+  -- ---- the group that comes next
+
+  -- each step keeps what ids name
+  holds-from : (gs : List (Group ℕ ℕ)) (b : Builder) (start : ℕ) → HoldsGroups t b → HoldsGroups t (interns_declared t b start gs)
+  holds-from [] b start holds = holds
+  holds-from ([] ∷ gs) b start holds = holds-from gs b start holds
+  holds-from ((x ∷ xs) ∷ gs) b start holds =
+      let k = group start in
+      let ts = interned_members t b k in
+      holds-from gs (interns_type t b (id start)) (start + length (x ∷ xs)) (holds-kept t b k ts holds (length-map (members_of t k) _))
+
+  -- the group names those before it, which are held, and itself
+  pub record CanComeNext (b : Builder) (k : ℕ) : Type 0 where
+    pub known : k < length t.groups
+    pub filled : 0 < length (members_of t k)
+    pub named : NamesInterned t b k
+
+  comes-next : (b : Builder) (s : Taken) (start : ℕ) (g : Group ℕ ℕ) (gs : List (Group ℕ ℕ)) (done : List Home) → Taking all number s start (g ∷ gs) done
+      → 0 < length g → Has b s start → CanComeNext b (group start)
+  comes-next b s start g gs done h some has =
+      let lt = starts b s start g gs done h some has in
+      let x = id-at start lt in
+      let first = home-first all number s start g gs done h some in
+      let members : members_of t (group start) ≡ named t.declared g = x.members ∙ ap (λ (y : Home). named t.declared y.members) first in
+      let Is : UnpackedIndex → Type 0 = λ i. (group_of_id t (id_number i) ≡ group start) ⊎ IsSome (b.ids (group_of_id t (id_number i))) in
+      record {
+        known = x.known;
+        filled = omega (arith, ap length members, length-map g (map_sub_type (id_at t.declared) (id_at t.declared)), some);
+        named = subst (λ (y : NamedGroup). All Is (group_edges (λ i. i) y)) (sym members)
+            (subst (All Is) (sym ((plainly group_shape).edges_map (id_at t.declared) g))
+            (All-map Is (id_at t.declared) (group_edges (λ r. r) g)
+            (All-weaker (λ r. r < start + length g) (λ r. Is (id_at t.declared r))
+            (λ r below.
+            elim (either all number s start g gs done h some r below) [
+              | inl old ↦ inr (subst IsSome (sym (has.held r old).id_is) refl)
+              | inr y ↦ inl (ap group y.is ∙ member-group b s start g gs done h some has y.place y.lt)
+            ]) (group_edges (λ r. r) g) h.near.0)));
+      }
+
+  next-from : (gs : List (Group ℕ ℕ)) (g : Group ℕ ℕ) (rest : List (Group ℕ ℕ)) → 0 < length g → (b : Builder) (s : Taken) (start : ℕ) (done : List Home)
+      → ((i : ℕ) → number i ≡ get_or (take_groups all s start (gs ++ g ∷ rest)).declared i 0) → Taking all number s start (gs ++ g ∷ rest) done → Has b s start
+      → CanComeNext (interns_declared t b start gs) (group (start + size gs))
+  next-from [] g rest some b s start done reads h has =
+      let at : start ≡ start + 0 = omega arith in
+      subst (λ n. CanComeNext b (group n)) at (comes-next b s start g rest done h some has)
+  next-from ([] ∷ gs) g rest some b s start done reads h has = next-from gs g rest some b s start done reads (taking-hollow all number s start (gs ++ g ∷ rest) done h) has
+  next-from ((x ∷ xs) ∷ gs) g rest some b s start done reads h has =
+      let at : start + length (x ∷ xs) + size gs ≡ start + size ((x ∷ xs) ∷ gs) = omega (arith, size-cons (x ∷ xs) gs) in
+      step-by b s start (x ∷ xs) (gs ++ g ∷ rest) done h (omega arith) has
+      (λ c s'. CanComeNext (interns_declared t c (start + length (x ∷ xs)) gs) (group (start + size ((x ∷ xs) ∷ gs))))
+      (λ b' s' done' reads' h' has'.
+      subst (λ n. CanComeNext (interns_declared t b' (start + length (x ∷ xs)) gs) (group n)) at
+      (next-from gs g rest some b' s' (start + length (x ∷ xs)) done' reads' h' has')) (first_equal all start 0 start) refl reads
+
+  has-none : (validator : ℕ) → Has (new_builder validator) none_taken 0
+  has-none validator = record { built = refl; held = λ i lt. absurd (omega (arith, lt)); fresh = λ k none. refl }
+
+  pub can-intern : (validator : ℕ) (gs rest : List (Group ℕ ℕ)) (g : Group ℕ ℕ) → all ≡ gs ++ g ∷ rest → 0 < length g
+      → CanIntern t (interns_declared t (new_builder validator) 0 gs) (group (size gs))
+  can-intern validator gs rest g is some =
+      let at : 0 + size gs ≡ size gs = omega arith in
+      let c = next-from gs g rest some (new_builder validator) none_taken 0 []
+      (λ i. ap (λ (l : List (Group ℕ ℕ)). get_or (take_groups all none_taken 0 l).declared i 0) is)
+      (subst (λ (l : List (Group ℕ ℕ)). Taking all number none_taken 0 l []) is (starting all near)) (has-none validator) in
+      let d = subst (λ n. CanComeNext (interns_declared t (new_builder validator) 0 gs) (group n)) at c in
+      record {
+        known = d.known;
+        filled = d.filled;
+        holds = holds-from gs (new_builder validator) 0 (λ n j e. absurd (let no : None ≡ Some j = e in cc));
+        named = d.named;
+      }
 
   pub tied : (validator : ℕ) → HasTaken t (interns_declared t (new_builder validator) 0 all) (taken all)
   tied validator =
       let has = tied-from all (new_builder validator) none_taken 0 [] (λ i. refl) (starting all near)
-      (record { built = refl; held = λ i lt. absurd (omega (arith, lt)); fresh = λ k none. refl }) in
+      (has-none validator) in
       record {
         built = has.built;
         declared = λ i lt.
             let lt' : i < size all = omega (arith, lt, (whole all near).counted) in
             index-held (interns_declared t (new_builder validator) 0 all) i lt' (has.held i lt');
       }
+
+  -- two declared types have one interned index exactly where they are equal
+  pub told : (validator i j : ℕ) → i < length t.declared → j < length t.declared
+      → (interned_index t (interns_declared t (new_builder validator) 0 all) (id i) ≡ interned_index t (interns_declared t (new_builder validator) 0 all) (id j)) ↔ SameType all all i j
+  told validator i j lt lt' =
+      let w = whole all near in
+      let x = (tied validator).declared i (omega (arith, lt, are.each, counted, w.counted)) in
+      let y = (tied validator).declared j (omega (arith, lt', are.each, counted, w.counted)) in
+      let e = w.exact i j (omega (arith, lt, are.each, counted)) (omega (arith, lt', are.each, counted)) in
+      ((λ same. e.0 (sym x ∙ same ∙ y)), (λ same. x ∙ e.1 same ∙ sym y))

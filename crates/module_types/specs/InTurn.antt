@@ -4,7 +4,7 @@ use Rattle.wasm_spec.specs.TypeData.{Group}
 use Rattle.type_spec.specs.Interned.{Taken}
 use Rattle.form_types.specs.Types.{TypesData}
 use Rattle.module_types.specs.Builder.{Builder, interns}
-use Rattle.module_types.specs.Conversion.{group_of_id, interned_members, interned_index}
+use Rattle.module_types.specs.Conversion.{group_of_id, members_of, interned_members, interned_index, HoldsGroups, NamesInterned}
 
 -- the group of an id is interned
 abbrev pub interns_type : TypesData → Builder → ℕ → Builder
@@ -20,3 +20,10 @@ interns_declared t b start ((x ∷ xs) ∷ gs) = interns_declared t (interns_typ
 pub record HasTaken (t : TypesData) (b : Builder) (s : Taken) : Type 0 where
   pub built : b.built ≡ s.built
   pub declared : (i : ℕ) → i < length s.declared → interned_index t b (slice_index t.declared i) ≡ get_or s.declared i 0
+
+-- a group's id can be interned: it is that of a group with types, and the groups that it names outside itself are held
+pub record CanIntern (t : TypesData) (b : Builder) (k : ℕ) : Type 0 where
+  pub known : k < length t.groups
+  pub filled : 0 < length (members_of t k)
+  pub holds : HoldsGroups t b
+  pub named : NamesInterned t b k

@@ -1,6 +1,7 @@
 //! Laws of interned lists. Each function is the proof of its clauses.
 
-ghost use Rattle.std.specs.Prelude.{◌≡◌, ◌↔◌, ◌<◌, ℕ, Bool, List, [], length, get_or, Some, true};
+ghost use Rattle.std.specs.Prelude.{◌≡◌, ◌↔◌, ◌<◌, ℕ, Bool, List, [], ◌∷◌, ◌++◌, length, get_or, slice_index, Some, true};
+ghost use Rattle.std.specs.List.{flat_map};
 ghost use Rattle.wasm_spec.specs.TypeData.{Group, Func};
 ghost use Rattle.wasm_spec.specs.Module.{Module};
 ghost use Rattle.rule_spec.specs.Rules.{Keeps};
@@ -13,9 +14,9 @@ ghost use Rattle.form_types.specs.Placed.{placed_groups};
 ghost use Rattle.form_types.specs.Numbered.{AreNumbered};
 ghost use Rattle.module_types.specs.Orderly.{IsOrderly};
 ghost use Rattle.module_types.specs.Builder.{Builder, new_builder, interns};
-ghost use Rattle.module_types.specs.Conversion.{members_of, HoldsGroups};
+ghost use Rattle.module_types.specs.Conversion.{group_of_id, members_of, interned_index, HoldsGroups};
 ghost use Rattle.module_types.specs.Tied.{trampoline_in, IsTied};
-ghost use Rattle.module_types.specs.InTurn.{interns_declared, HasTaken};
+ghost use Rattle.module_types.specs.InTurn.{interns_declared, HasTaken, CanIntern};
 ghost use Rattle.module_types.specs.ListGroups.{group_at, list_groups, IsWellNamed, EngineMap, TellTypes, IsCompared};
 ghost use Rattle.module_types.specs.Runs.{with_groups, runs, firsts, AllFilled};
 
@@ -73,10 +74,22 @@ pub fn earlier_law()
 {}
 
 /// A builder that interned the declared groups of a module in turn holds what the definition takes, and each declared type at the index
-/// that the definition gives it.
+/// that the definition gives it; so two declared types have one interned index exactly where they are equal.
 pub fn declared_groups_law()
-    ensures { (m : Module) (t : TypesData) → AreNumbered m t → NameEarlier 0 (placed_groups m) → (validator : ℕ)
+    ensures taken { (m : Module) (t : TypesData) → AreNumbered m t → NameEarlier 0 (placed_groups m) → (validator : ℕ)
         → HasTaken t (interns_declared t (new_builder validator) 0 (placed_groups m)) (taken (placed_groups m)) }
+    ensures told { (m : Module) (t : TypesData) → AreNumbered m t → NameEarlier 0 (placed_groups m) → (validator i j : ℕ)
+        → i < length t.declared → j < length t.declared
+        → (interned_index t (interns_declared t (new_builder validator) 0 (placed_groups m)) (slice_index t.declared i)
+        ≡ interned_index t (interns_declared t (new_builder validator) 0 (placed_groups m)) (slice_index t.declared j))
+        ↔ SameType (placed_groups m) (placed_groups m) i j }
+{}
+
+/// After the declared groups before it each group can be interned.
+pub fn next_group_law()
+    ensures { (m : Module) (t : TypesData) → AreNumbered m t → NameEarlier 0 (placed_groups m) → (validator : ℕ)
+        (gs rest : List (Group ℕ ℕ)) (g : Group ℕ ℕ) → placed_groups m ≡ gs ++ g ∷ rest → 0 < length g
+        → CanIntern t (interns_declared t (new_builder validator) 0 gs) (group_of_id t (slice_index t.declared (length (flat_map (λ h. h) gs)))) }
 {}
 
 /// Two declared types have one interned index exactly where they are equal.
