@@ -1,18 +1,16 @@
 -- Canonical forms of groups of two interned lists are equal exactly where the groups are.
-use Rattle.std.proofs.Common.{◌≡◌, ◌∙◌, ◌↔◌, ℕ, ◌+◌, ◌-◌, ◌<◌, ◌≤◌, Bool, true, false, nat_le, nat_lt, List, length, get_or, refl, sym, ap, arith}
+use Rattle.std.proofs.Common.{◌≡◌, ◌∙◌, ◌↔◌, ℕ, ◌-◌, ◌<◌, ◌≤◌, Bool, true, false, nat_le, nat_lt, length, refl, sym, ap, arith}
 use Rattle.std.specs.Prelude.{if◌then◌else◌}
 use Rattle.std.proofs.lemmas.Bool.{ltb-true, ltb-false, leb-true, leb-false}
-use Rattle.wasm_spec.specs.TypeData.{Group, map_group, group_edges}
+use Rattle.wasm_spec.specs.TypeData.{map_group, group_edges}
 use Rattle.type_data.specs.TypeShapes.{group_shape}
-use Rattle.type_data.specs.Names.{Named, named}
+use Rattle.type_data.specs.Names.{named}
 use Rattle.type_spec.specs.Equality.{Home, home, target, target_by, SameTarget, SameGroup, SameType}
-use Rattle.type_spec.specs.Interned.{Span, Built}
+use Rattle.type_spec.specs.Interned.{Built}
 use Rattle.type_spec.proofs.Equivalence.{groups-type}
 use Rattle.type_spec.proofs.Homes.{size, home-again}
 use Rattle.type_spec.proofs.ByNames.{name_by, by_names, names-same, same-names, zip-known, same-kind}
 use Rattle.wasm_index.specs.Index.{number_of, index_of}
-use Rattle.wasm_index.specs.declared.index.Index.{Index}
-use Rattle.wasm_index.specs.declared.spaces.VMSharedTypeSpace.{VMSharedTypeSpace}
 use Rattle.wasm_types.specs.declared.index.EngineOrModuleTypeIndex.{EngineOrModuleTypeIndex}
 use Rattle.wasm_types.specs.declared.index.EngineOrModuleTypeIndex.TheVariants.{Engine, Module, RecGroup}
 use Rattle.wasm_types.specs.declared.sub.WasmRecGroup.{WasmRecGroup}
@@ -21,7 +19,7 @@ use Rattle.wasm_types.specs.ViewsTell.{tells, group_back}
 use Rattle.wasm_trace.specs.Canonical.{consed_edge}
 use Rattle.module_types.specs.Views.{index_at}
 use Rattle.module_types.specs.ListGroups.{unkinded, types_in, span_at, group_at, list_groups, kind_in, IsWellNamed, EngineMap, TellTypes, IsCompared}
-use Rattle.module_types.proofs.Standing.{StandsFrom, list-size, list-kind, stands-at, span-long, span-named}
+use Rattle.module_types.proofs.Standing.{list-size, list-kind, stands-at, span-long, span-named}
 
 -- what becomes of a reference from a group that begins at an index
 abbrev given_by : EngineMap → ℕ → Bool → ℕ → EngineOrModuleTypeIndex

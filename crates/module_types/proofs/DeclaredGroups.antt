@@ -1,35 +1,34 @@
 -- A builder that interned the declared groups of a module in turn holds what the definition takes.
-use Rattle.std.proofs.Common.{◌≡◌, ◌∙◌, ◌↔◌, ◌⊎◌, inl, inr, ℕ, zero, suc, ◌+◌, ◌-◌, ◌<◌, ◌≤◌, Bool, true, false, nat_eq, Option, Some, None, List, [], ◌∷◌, ◌++◌, length, get_or, take, replicate, map, refl, sym, ap, subst, arith, length-append}
+use Rattle.std.proofs.Common.{◌≡◌, ◌∙◌, ◌↔◌, ◌⊎◌, inl, inr, ℕ, zero, suc, ◌+◌, ◌-◌, ◌<◌, ◌≤◌, Bool, true, false, nat_eq, Option, Some, None, List, [], ◌∷◌, ◌++◌, length, get_or, take, replicate, refl, sym, ap, subst, arith, length-append}
 use Rattle.std.specs.Prelude.{slice_get, slice_index, IsSome, if◌then◌else◌}
-use Rattle.std.specs.List.{All, flat_map}
+use Rattle.std.specs.List.{All}
 use Rattle.std.proofs.lemmas.List.Elements.{All-map, All-weaker}
-use Rattle.std.proofs.lemmas.Bool.{ltb-true, ltb-false, eqb-true, eq-eqb}
+use Rattle.std.proofs.lemmas.Bool.{eqb-true, eq-eqb}
 use Rattle.std.proofs.lemmas.List.{length-map, get_or-map, get_or_append_left, get_or-append-add, get_or-replicate, length-replicate}
 use Rattle.std.proofs.lemmas.List.Concat.{get_or-flat_map}
 use Rattle.std.proofs.lemmas.Option.{slice_get-get_or}
-use lib.Dec.{ltb}
 use Rattle.wasm_spec.specs.declared.types.UnpackedIndex.{UnpackedIndex}
 use Rattle.wasm_spec.specs.TypeData.{Composite, Func, Array, Struct, Cont, Exn, SubType, Group, map_composite, map_sub_type, map_group, group_edges}
 use Rattle.wasm_spec.specs.Module as plain
 use Rattle.type_data.specs.TypeShapes.{group_shape}
 use Rattle.type_data.specs.Names.{NameKind, plainly}
 use Rattle.type_spec.specs.Equality.{Home, home, SameType}
-use Rattle.type_spec.specs.Interned.{Interned, Span, Built, Taken, with_group, next_span, opened, kind_of_type, kind_at, first_equal, interned_group, take_group, take_groups, none_taken, taken}
+use Rattle.type_spec.specs.Interned.{Interned, Span, Built, Taken, with_group, next_span, kind_of_type, kind_at, first_equal, interned_group, take_group, take_groups, none_taken, taken}
 use Rattle.type_spec.specs.Taken.{NameEarlier}
 use Rattle.type_spec.proofs.Homes.{size, size-cons, home-within, home-again, home-type}
-use Rattle.type_spec.proofs.ByNames.{name_by, by_names, names-same, zip-known-itself, some_type, joined-kind}
+use Rattle.type_spec.proofs.ByNames.{names-same, zip-known-itself, some_type, joined-kind}
 use Rattle.form_types.specs.Types.{NamedGroup, TypesData, types_by_id, group_numbers}
 use Rattle.form_types.specs.Placed.{placed_groups, id_at, named}
 use Rattle.form_types.specs.Numbered.{AreNumbered}
 use Rattle.form_types.specs.Numbered as numbered
 use Rattle.form_types.proofs.Ruled.{size-places}
-use Rattle.module_types.specs.Builder.{Builder, new_builder, interns, interns_by}
+use Rattle.module_types.specs.Builder.{Builder, new_builder, interns_by}
 use Rattle.module_types.specs.Conversion.{first_id, kind_in, group_of_id, members_of, no_span, start_by, index_by_id, name_by_id, id_number, interned_members, interned_index, HoldsGroups, NamesInterned}
 use Rattle.module_types.specs.InTurn.{interns_type, interns_declared, HasTaken, CanIntern}
 use Rattle.module_types.proofs.Extends.{extends-group}
 use Rattle.module_types.proofs.Holding.{holds-kept}
 use Rattle.module_types.proofs.Places.{group-ends}
-use Rattle.module_types.proofs.Taking.{Member, Found, Taking, first-found, none-found, form, either, home-first, home-member, place-first, place-member, same-at, earlier-member, number-met, number-new, form-new, taking-met, taking-new, taking-hollow, whole, number_in, starting, ends}
+use Rattle.module_types.proofs.Taking.{Found, Taking, first-found, none-found, either, home-first, home-member, place-first, place-member, same-at, earlier-member, number-met, number-new, form-new, taking-met, taking-new, taking-hollow, whole, number_in, starting, ends}
 
 -- ---- ids, and numbers of groups
 

@@ -27,3 +27,4 @@ pub mod Standing
 pub mod Compared
 pub mod NamingEarlier
 pub mod DeclaredGroups
+pub mod SameIndex

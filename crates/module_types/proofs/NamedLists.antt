@@ -1,6 +1,6 @@
 -- The interned list of a module is well named.
-use Rattle.std.proofs.Common.{◌≡◌, ◌∙◌, ◌<◌, ◌≤◌, ◌⊎◌, inl, inr, ℕ, zero, suc, ◌+◌, ◌-◌, Bool, true, false, None, List, [], ◌∷◌, ◌++◌, length, get_or, map, refl, sym, ap, subst, arith, length-append}
-use Rattle.std.specs.List.{All, flat_map}
+use Rattle.std.proofs.Common.{◌≡◌, ◌∙◌, ◌<◌, ◌≤◌, inl, inr, ℕ, zero, suc, ◌+◌, ◌-◌, Bool, true, false, None, List, [], ◌∷◌, ◌++◌, length, get_or, map, refl, sym, ap, subst, arith, length-append}
+use Rattle.std.specs.List.{All}
 use Rattle.std.proofs.lemmas.Bool.{ltb-true, ltb-false}
 use Rattle.std.proofs.lemmas.List.{length-map, get_or_past}
 use Rattle.std.proofs.lemmas.List.Elements.{All-nil, All-map, All-weaker, All-cons}
@@ -8,14 +8,14 @@ use lib.Dec.{ltb}
 use Rattle.wasm_spec.specs.TypeData.{Composite, Func, Array, Struct, Cont, Exn, SubType, Group, map_composite, map_sub_type, map_group, group_edges}
 use Rattle.type_data.specs.Shapes.{erased}
 use Rattle.type_data.specs.TypeShapes.{group_shape}
-use Rattle.type_data.specs.Names.{NameKind, Named, index_of, plainly}
-use Rattle.type_spec.specs.Equality.{Home, home, SameType}
-use Rattle.type_spec.specs.Interned.{Interned, Span, Built, empty, with_group, kind_of_type, kind_at, taken, interned, with_exceptions}
+use Rattle.type_data.specs.Names.{NameKind, plainly}
+use Rattle.type_spec.specs.Equality.{Home}
+use Rattle.type_spec.specs.Interned.{Interned, Built, empty, with_group, kind_of_type, kind_at, taken, interned, with_exceptions}
 use Rattle.type_spec.specs.Taken.{NameEarlier, taken_groups}
-use Rattle.type_spec.proofs.Homes.{size, home-within}
+use Rattle.type_spec.proofs.Homes.{size}
 use Rattle.type_spec.proofs.ByNames.{name_by, by_names, names-same, names-plain, zip-known-itself, home-kind, same-kind}
-use Rattle.module_types.specs.ListGroups.{unkinded, kind_in, list_groups, IsWellNamed}
-use Rattle.module_types.proofs.Taking.{Copy, IsCopy, Covers, form, Next, Stand, IsExactBelow, with_forms, number_in, whole}
+use Rattle.module_types.specs.ListGroups.{unkinded, kind_in, IsWellNamed}
+use Rattle.module_types.proofs.Taking.{IsCopy, Covers, form, Next, Stand, IsExactBelow, with_forms, number_in, whole}
 use Rattle.module_types.proofs.TakingBoth.{next-home, next-place, next-number}
 use Rattle.module_types.proofs.WellNamed.{AllBelow, Well, kind-before}
 use Rattle.module_types.proofs.NamedSteps.{group-steps, steps-exceptions, steps-startup}

@@ -3,7 +3,7 @@ use Rattle.std.proofs.Common.{◌≡◌, ◌∙◌, ◌<◌, ◌≤◌, ℕ, zer
 use Rattle.std.specs.Prelude.{if◌then◌else◌}
 use Rattle.std.specs.List.{All, flat_map}
 use Rattle.std.proofs.lemmas.List.Elements.{All-nil, All-cons, All-append, All-head, All-tail, All-weaker}
-use Rattle.wasm_spec.specs.TypeData.{Value, I32, I64, F32, F64, V128, Ref, Field, Composite, Func, Array, Struct, Cont, Exn, SubType, Group, map_value, map_field, map_composite, map_sub_type, map_group, value_edges, field_edges, composite_edges, sub_type_edges, group_edges}
+use Rattle.wasm_spec.specs.TypeData.{Value, I32, I64, F32, F64, V128, Ref, Composite, Func, Array, Struct, Cont, Exn, map_value, map_field, map_composite, map_sub_type, map_group, value_edges, field_edges, composite_edges, sub_type_edges, group_edges}
 use Rattle.std.specs.Option.{option_to_list}
 use Rattle.type_data.specs.Names.{NameKind, Named, index_of}
 use Rattle.type_spec.specs.Interned.{Interned, Called, Built, passed, mapped, same_mapped, plain, alone, meets, with_trampoline, meet_at, meet, meet_all, opened, with_group, field_for, exception_for, composite_at, is_among, with_exception, with_exceptions, startup_type, with_startup}

@@ -1,10 +1,9 @@
 -- In a module that keeps the rules each reference names a type of its own group or of an earlier one.
-use Rattle.std.proofs.Common.{◌≡◌, ◌∙◌, ◌<◌, ℕ, zero, suc, ◌+◌, List, [], ◌∷◌, length, get_or, take, map, refl, sym, ap, subst, arith}
+use Rattle.std.proofs.Common.{◌≡◌, ◌∙◌, ◌<◌, ℕ, suc, ◌+◌, List, [], ◌∷◌, length, get_or, take, map, sym, ap, subst, arith}
 use Rattle.std.specs.List.{All}
 use Rattle.std.proofs.lemmas.List.{get_or-map, length-map, take-map}
 use Rattle.wasm_spec.specs.TypeData.{Group, group_edges}
 use Rattle.wasm_spec.specs.Module as plain
-use Rattle.type_spec.specs.Equality.{Home}
 use Rattle.type_spec.specs.Taken.{NameEarlier}
 use Rattle.type_spec.proofs.Homes.{size, size-cons}
 use Rattle.rule_spec.specs.declared.rules.Rule.TheVariants.{L1}

@@ -1,16 +1,15 @@
 -- The groups of a well named list, where they stand.
 use Rattle.std.proofs.Common.{◌≡◌, ◌∙◌, ◌<◌, ◌≤◌, ℕ, zero, suc, ◌+◌, ◌-◌, List, [], ◌∷◌, ◌++◌, length, take, drop, get_or, map, refl, sym, ap, subst, arith}
-use Rattle.std.specs.List.{All}
-use Rattle.std.proofs.lemmas.List.{length-map, map-append, take-append-drop, drop-drop, drop-map, take-map}
+use Rattle.std.proofs.lemmas.List.{map-append, take-append-drop, drop-drop, drop-map, take-map}
 use Rattle.std.proofs.Math.ListN.{drop_of_length-le}
-use Rattle.wasm_spec.specs.TypeData.{Group, SubType, Composite, Func, Array, Struct, Cont, Exn, map_composite, map_sub_type, map_group, group_edges}
-use Rattle.type_data.specs.Names.{NameKind, Named, index_of}
-use Rattle.type_spec.specs.Equality.{Home, home, home_from}
-use Rattle.type_spec.specs.Interned.{Interned, Span, Built, kind_of_type, kind_at, composite_at}
+use Rattle.wasm_spec.specs.TypeData.{Group, Composite, Func, Array, Struct, Cont, Exn, map_composite, map_sub_type}
+use Rattle.type_data.specs.Names.{Named, index_of}
+use Rattle.type_spec.specs.Equality.{home_from}
+use Rattle.type_spec.specs.Interned.{Interned, Span, Built, kind_of_type, kind_at}
 use Rattle.type_spec.specs.Taken.{NameEarlier}
-use Rattle.type_spec.proofs.Homes.{joined, size, size-cons, in_front, behind}
+use Rattle.type_spec.proofs.Homes.{joined, size, in_front, behind}
 use Rattle.type_spec.proofs.ByNames.{name_by, by_names, some_type, joined-kind}
-use Rattle.module_types.specs.Orderly.{LieBetween, IsOrderly}
+use Rattle.module_types.specs.Orderly.{LieBetween}
 use Rattle.module_types.specs.Conversion.{no_span}
 use Rattle.module_types.specs.ListGroups.{unkinded, types_in, home_of, list_groups, kind_in, IsWellNamed}
 use Rattle.module_types.proofs.WellNamed.{AllBelow, groups_of, groups-size, types-long, unkinded-long, lie-low}

@@ -96,9 +96,9 @@ module _ (all : List (Group ℕ ℕ)) where
         | inr y ↦ inr (copy-again hs i j same y)
       ]
 
-  -- each type before a group that is taken is a copy of one in those before it
+  -- each type before a group that is taken is a copy of one in those before it, and in the end each type is
   abbrev pub Covers : List Home → List Home → Type 0
-  Covers done [] = Unit {0}
+  Covers done [] = (i : ℕ) → i < size all → IsCopy done i
   Covers done (h ∷ hs) = ((i : ℕ) → i < h.start → IsCopy done i) × Covers (h ∷ done) hs
 
   module _ (number : ℕ → ℕ) where
@@ -425,7 +425,7 @@ module _ (all : List (Group ℕ ℕ)) where
         let end : start ≡ size all = omega (arith, h.sized) in
         record {
           stand = tt;
-          covers = tt;
+          covers = λ i lt. h.copies i (omega (arith, lt, end));
           built = refl;
           counted = h.counted ∙ end;
           below = λ i lt. h.below i (omega (arith, lt, end));

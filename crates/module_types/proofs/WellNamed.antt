@@ -1,18 +1,18 @@
 -- A group that comes behind a well named list leaves it well named.
 use Rattle.std.proofs.Common.{◌≡◌, ◌∙◌, ◌<◌, ◌≤◌, ℕ, ◌+◌, ◌-◌, List, [], ◌∷◌, ◌++◌, length, take, drop, map, refl, sym, ap, subst, arith, length-append}
-use Rattle.std.specs.List.{All, flat_map}
+use Rattle.std.specs.List.{All}
 use Rattle.std.proofs.lemmas.List.{length-map, map-append, drop-append-le, take-append-le, length-drop, length-take-le}
 use Rattle.std.proofs.Math.Seq.{drop-append_seam, take-length}
 use Rattle.std.proofs.lemmas.List.Concat.{flat_map-append}
 use Rattle.std.proofs.lemmas.List.Elements.{All-append, All-weaker}
 use Rattle.wasm_spec.specs.TypeData.{Group, map_sub_type, group_edges, sub_type_edges}
 use Rattle.type_data.specs.Names.{index_of}
-use Rattle.type_spec.specs.Interned.{Interned, Span, kind_of_type, composite_at}
+use Rattle.type_spec.specs.Interned.{Interned, Span, kind_of_type}
 use Rattle.type_spec.specs.Taken.{NameEarlier}
 use Rattle.type_spec.proofs.Homes.{size, size-cons}
 use Rattle.type_spec.proofs.ByNames.{name_by, by_names, names-same, zip-known-itself}
-use Rattle.module_types.specs.Orderly.{LieBetween, IsOrderly}
-use Rattle.module_types.specs.ListGroups.{unkinded, types_in, kind_in, list_groups, IsWellNamed}
+use Rattle.module_types.specs.Orderly.{LieBetween}
+use Rattle.module_types.specs.ListGroups.{unkinded, types_in, kind_in}
 use Rattle.module_types.proofs.Along.{composite-before}
 use Rattle.module_types.proofs.Ordering.{one-more, lie-to}
 
@@ -41,7 +41,7 @@ lie-low first end (s ∷ ss) lie = let rest = lie-low s.end end ss lie.2 in omeg
 pub types-long : (ts : List Interned) (s : Span) → s.start ≤ s.end → s.end ≤ length ts → length (types_in ts s) ≡ s.end - s.start
 types-long ts s low high = length-take-le (s.end - s.start) (drop s.start ts) (omega (arith, length-drop s.start ts, low, high))
 
-types-before : (ts us : List Interned) (s : Span) → s.start ≤ s.end → s.end ≤ length ts → types_in (ts ++ us) s ≡ types_in ts s
+pub types-before : (ts us : List Interned) (s : Span) → s.start ≤ s.end → s.end ≤ length ts → types_in (ts ++ us) s ≡ types_in ts s
 types-before ts us s low high =
     ap (take (s.end - s.start)) (drop-append-le s.start ts us (omega (arith, low, high)))
     ∙ take-append-le (s.end - s.start) (drop s.start ts) us (omega (arith, length-drop s.start ts, low, high))
@@ -52,7 +52,7 @@ groups-before ts us (s ∷ ss) first end lie le =
     let low = lie-low s.end end ss lie.2 in
     λ i. unkinded (types-before ts us s (omega (arith, lie.1)) (omega (arith, low, le)) i) ∷ groups-before ts us ss s.end end lie.2 le i
 
-types-last : (ts us : List Interned) (s : Span) → s.start ≡ length ts → s.end ≡ length ts + length us → types_in (ts ++ us) s ≡ us
+pub types-last : (ts us : List Interned) (s : Span) → s.start ≡ length ts → s.end ≡ length ts + length us → types_in (ts ++ us) s ≡ us
 types-last ts us s start end =
     let long : s.end - s.start ≡ length us = omega (arith, start, end) in
     (λ i. take (long i) (drop (start i) (ts ++ us))) ∙ ap (take (length us)) (drop-append_seam ts us) ∙ take-length us

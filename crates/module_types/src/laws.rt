@@ -98,6 +98,12 @@ pub fn declared_law()
         → (get_or (taken ms).declared i 0 ≡ get_or (taken ms).declared j 0) ↔ SameType ms ms i j }
 {}
 
+/// Each declared type is equal to the interned type at its index.
+pub fn same_type_law()
+    ensures { (ms : List (Group ℕ ℕ)) → NameEarlier 0 ms → (tags : List ℕ) (startup : Bool) (i : ℕ) → i < length (taken ms).declared
+        → SameType ms (list_groups (interned ms tags startup)) i (get_or (taken ms).declared i 0) }
+{}
+
 /// Before exception types and the startup type the interned lists of two modules are equal exactly where the groups that are taken of
 /// the two are equally many and equal in turn.
 pub fn equal_lists_law()
