@@ -8,7 +8,7 @@ use Rattle.std.proofs.lemmas.List.{length-map, get_or-map, get_or_append_left, g
 use Rattle.std.proofs.lemmas.List.Concat.{get_or-flat_map}
 use Rattle.std.proofs.lemmas.Option.{slice_get-get_or}
 use Rattle.wasm_spec.specs.declared.types.UnpackedIndex.{UnpackedIndex}
-use Rattle.wasm_spec.specs.TypeData.{Composite, Func, Array, Struct, Cont, Exn, SubType, Group, map_composite, map_sub_type, map_group, group_edges}
+use Rattle.wasm_spec.specs.TypeData.{SubType, Group, map_sub_type, map_group, group_edges}
 use Rattle.wasm_spec.specs.Module as plain
 use Rattle.type_data.specs.TypeShapes.{group_shape}
 use Rattle.type_data.specs.Names.{NameKind, plainly}
@@ -28,6 +28,7 @@ use Rattle.module_types.specs.InTurn.{interns_type, interns_declared, HasTaken, 
 use Rattle.module_types.proofs.Extends.{extends-group}
 use Rattle.module_types.proofs.Holding.{holds-kept}
 use Rattle.module_types.proofs.Places.{group-ends}
+use Rattle.module_types.proofs.WellNamed.{kind-mapped}
 use Rattle.module_types.proofs.Taking.{Found, Taking, first-found, none-found, either, home-first, home-member, place-first, place-member, same-at, earlier-member, number-met, number-new, form-new, taking-met, taking-new, taking-hollow, whole, number_in, starting, ends}
 
 -- ---- ids, and numbers of groups
@@ -51,13 +52,6 @@ number-of (g ∷ gs) base (suc k) p lt lt' =
     ap (λ n. get_or (replicate (length g) base ++ group_numbers (base + 1) gs) n 0) at
     ∙ get_or-append-add (replicate (length g) base) (group_numbers (base + 1) gs) (first_id gs k + p) 0
     ∙ number-of gs (base + 1) k p (omega arith) lt' ∙ omega arith
-
-kind-mapped : {H R : Type 0} (h : ℕ → H) (f : ℕ → R) (c : Composite ℕ ℕ) → kind_of_type (map_composite h f c) ≡ kind_of_type c
-kind-mapped h f (Func t) = refl
-kind-mapped h f (Array t) = refl
-kind-mapped h f (Struct ts) = refl
-kind-mapped h f (Cont t) = refl
-kind-mapped h f (Exn t) = refl
 
 module _ (m : plain.Module) (t : TypesData) (are : AreNumbered m t) (near : NameEarlier 0 (placed_groups m)) where
   abbrev all : List (Group ℕ ℕ)

@@ -5,7 +5,7 @@ use Rattle.std.proofs.lemmas.Bool.{ltb-true, ltb-false}
 use Rattle.std.proofs.lemmas.List.{length-map, get_or_past}
 use Rattle.std.proofs.lemmas.List.Elements.{All-nil, All-map, All-weaker, All-cons}
 use lib.Dec.{ltb}
-use Rattle.wasm_spec.specs.TypeData.{Composite, Func, Array, Struct, Cont, Exn, SubType, Group, map_composite, map_sub_type, map_group, group_edges}
+use Rattle.wasm_spec.specs.TypeData.{Struct, SubType, Group, map_sub_type, map_group, group_edges}
 use Rattle.type_data.specs.Shapes.{erased}
 use Rattle.type_data.specs.TypeShapes.{group_shape}
 use Rattle.type_data.specs.Names.{NameKind, plainly}
@@ -17,7 +17,7 @@ use Rattle.type_spec.proofs.ByNames.{name_by, by_names, names-same, names-plain,
 use Rattle.module_types.specs.ListGroups.{unkinded, kind_in, IsWellNamed}
 use Rattle.module_types.proofs.Taking.{IsCopy, Covers, form, Next, Stand, IsExactBelow, with_forms, number_in, whole}
 use Rattle.module_types.proofs.TakingBoth.{next-home, next-place, next-number}
-use Rattle.module_types.proofs.WellNamed.{AllBelow, Well, kind-before}
+use Rattle.module_types.proofs.WellNamed.{kind-mapped, AllBelow, Well, kind-before}
 use Rattle.module_types.proofs.NamedSteps.{group-steps, steps-exceptions, steps-startup}
 
 -- the kinds of types that come behind
@@ -29,17 +29,10 @@ abbrev some_member : SubType (Unit {0}) (Unit {0})
 some_member = record { is_final = true; supertype = None; composite = record { inner = Struct []; shared = false } }
 
 module _ (kind : ℕ → NameKind) (number : ℕ → ℕ) where
-  kind-named : (c : Composite ℕ ℕ) → kind_of_type (map_composite (name_by kind number) number c) ≡ kind_of_type (map_composite (erased {R = ℕ}) (erased {R = ℕ}) c)
-  kind-named (Func f) = refl
-  kind-named (Array f) = refl
-  kind-named (Struct fs) = refl
-  kind-named (Cont f) = refl
-  kind-named (Exn e) = refl
-
   member-named : (g : Group ℕ ℕ) (p : ℕ) → p < length g
       → kind_in (by_names kind number g) p ≡ kind_of_type (get_or (map_group (erased {R = ℕ}) (erased {R = ℕ}) g) p some_member).composite.inner
   member-named [] p lt = absurd (omega arith)
-  member-named (t ∷ ts) zero lt = kind-named t.composite.inner
+  member-named (t ∷ ts) zero lt = kind-mapped (name_by kind number) number t.composite.inner ∙ sym (kind-mapped (erased {R = ℕ}) (erased {R = ℕ}) t.composite.inner)
   member-named (t ∷ ts) (suc p) lt = member-named ts p (omega arith)
 
 module _ (all : List (Group ℕ ℕ)) (number : ℕ → ℕ) (exact : IsExactBelow all number (size all)) where

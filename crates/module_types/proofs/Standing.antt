@@ -1,9 +1,9 @@
 -- The groups of a well named list, where they stand.
-use Rattle.std.proofs.Common.{◌≡◌, ◌∙◌, ◌<◌, ◌≤◌, ℕ, zero, suc, ◌+◌, ◌-◌, List, [], ◌∷◌, ◌++◌, length, take, drop, get_or, map, refl, sym, ap, subst, arith}
+use Rattle.std.proofs.Common.{◌≡◌, ◌∙◌, ◌<◌, ◌≤◌, ℕ, zero, suc, ◌+◌, ◌-◌, List, [], ◌∷◌, ◌++◌, length, take, drop, get_or, map, sym, ap, subst, arith}
 use Rattle.std.proofs.lemmas.List.{map-append, take-append-drop, drop-drop, drop-map, take-map}
 use Rattle.std.proofs.Math.ListN.{drop_of_length-le}
-use Rattle.wasm_spec.specs.TypeData.{Group, Composite, Func, Array, Struct, Cont, Exn, map_composite, map_sub_type}
-use Rattle.type_data.specs.Names.{Named, index_of}
+use Rattle.wasm_spec.specs.TypeData.{Group, map_sub_type}
+use Rattle.type_data.specs.Names.{index_of}
 use Rattle.type_spec.specs.Equality.{home_from}
 use Rattle.type_spec.specs.Interned.{Interned, Span, Built, kind_of_type, kind_at}
 use Rattle.type_spec.specs.Taken.{NameEarlier}
@@ -12,7 +12,7 @@ use Rattle.type_spec.proofs.ByNames.{name_by, by_names, some_type, joined-kind}
 use Rattle.module_types.specs.Orderly.{LieBetween}
 use Rattle.module_types.specs.Conversion.{no_span}
 use Rattle.module_types.specs.ListGroups.{unkinded, types_in, home_of, list_groups, kind_in, IsWellNamed}
-use Rattle.module_types.proofs.WellNamed.{AllBelow, groups_of, groups-size, types-long, unkinded-long, lie-low}
+use Rattle.module_types.proofs.WellNamed.{kind-mapped, AllBelow, groups_of, groups-size, types-long, unkinded-long, lie-low}
 
 -- a group with a number, in spans that begin at an index
 pub record StandsFrom (ts : List Interned) (ss : List Span) (first end : ℕ) (s : Span) : Type 0 where
@@ -61,16 +61,9 @@ joined-from ts (s ∷ ss) first lie =
     ∙ sym (map-append (map_sub_type (index_of {R = ℕ}) (λ (r : ℕ). r)) (take n (drop s.start ts)) (drop n (drop s.start ts)))
     ∙ ap unkinded (take-append-drop n (drop s.start ts)) ∙ ap (λ k. unkinded (drop k ts)) lie.0
 
-kind-kept : (c : Composite (Named ℕ) ℕ) → kind_of_type (map_composite (index_of {R = ℕ}) (λ (r : ℕ). r) c) ≡ kind_of_type c
-kind-kept (Func f) = refl
-kind-kept (Array f) = refl
-kind-kept (Struct fs) = refl
-kind-kept (Cont f) = refl
-kind-kept (Exn e) = refl
-
 kind-plain : (ts : List Interned) (i : ℕ) → i < length ts → kind_of_type (get_or (unkinded ts) i some_type).composite.inner ≡ kind_in ts i
 kind-plain [] i lt = absurd (omega arith)
-kind-plain (t ∷ ts) zero lt = kind-kept t.composite.inner
+kind-plain (t ∷ ts) zero lt = kind-mapped (index_of {R = ℕ}) (λ (r : ℕ). r) t.composite.inner
 kind-plain (t ∷ ts) (suc i) lt = kind-plain ts i (omega arith)
 
 module _ (b : Built) (w : IsWellNamed b) where
