@@ -66,13 +66,16 @@ module _ (b : Built) (w : IsWellNamed b) (k : ℕ) (lt : k < length b.groups) wh
 
   -- what the group is rewritten to, by names
   rewritten : (engine : EngineMap) (old new : WasmRecGroup) → IsCompared b engine k old new
-      → group_of new ≡ by_names (kind_in b.types) (λ i. consed_edge engine (span_at b k).start (index_at i)) (unkinded (types_in b.types (span_at b k)))
+      → group_of new ≡ by_names (kind_in b.types) (λ i. consed_edge engine (span_at b k).start (index_at i)) (unkinded (types_in b.types
+      (span_at b k)))
   rewritten engine old new is =
       let given = consed_edge engine (span_at b k).start in
       let kind = kind_in b.types in
       is.mapped ∙ ap (map_group (named given) given) (is.stands ∙ ap (map_group (named index_at) index_at) (sym (span-named b w (span_at b k))))
-      ∙ ap (map_group (named given) given) (group_shape.map_twice (name_by kind (λ (r : ℕ). r)) (named index_at) (λ (r : ℕ). r) index_at (unkinded (types_in b.types (span_at b k))))
-      ∙ group_shape.map_twice (λ i. named index_at (name_by kind (λ (r : ℕ). r) i)) (named given) index_at given (unkinded (types_in b.types (span_at b k)))
+      ∙ ap (map_group (named given) given) (group_shape.map_twice (name_by kind (λ (r : ℕ). r)) (named index_at) (λ (r : ℕ). r) index_at (unkinded
+      (types_in b.types (span_at b k))))
+      ∙ group_shape.map_twice (λ i. named index_at (name_by kind (λ (r : ℕ). r) i)) (named given) index_at given (unkinded (types_in b.types
+      (span_at b k)))
 
 module _ (b b' : Built) (w : IsWellNamed b) (w' : IsWellNamed b') (engine engine' : EngineMap) (told : TellTypes b b' engine engine')
     (k l : ℕ) (lt : k < length b.groups) (lt' : l < length b'.groups) where
@@ -117,7 +120,8 @@ module _ (b b' : Built) (w : IsWellNamed b) (w' : IsWellNamed b') (engine engine
         record { given_is = ap Engine ((told r t (in-list b w k lt r p) (in-list b' w' l lt' t q)).1 same); same = same }
 
     names : (r t : ℕ) → InSpan b w k lt r → InSpan b' w' l lt' t → SameTarget Same (target (λ i. i) start r) (target (λ i. i) start' t)
-        → name_by (kind_in b.types) (λ i. consed_edge engine start (index_at i)) r ≡ name_by (kind_in b'.types) (λ i. consed_edge engine' start' (index_at i)) t
+        → name_by (kind_in b.types) (λ i. consed_edge engine start (index_at i)) r ≡ name_by (kind_in b'.types) (λ i. consed_edge engine' start'
+        (index_at i)) t
     names r t p q same =
         let g = from r t p q (nat_le start r) (nat_le start' t) refl refl same in
         let index = given-is engine start r ∙ g.given_is ∙ sym (given-is engine' start' t) in
@@ -126,7 +130,8 @@ module _ (b b' : Built) (w : IsWellNamed b) (w' : IsWellNamed b') (engine engine
         ∙ list-kind b' w' t (in-list b' w' l lt' t q) in
         λ i. record { kind = kind i; index = index i }
 
-  pub compared : (x x' y y' : WasmRecGroup) → IsCompared b engine k x x' → IsCompared b' engine' l y y' → (x' ≡ y') ↔ SameGroup Same (group_at b k) (group_at b' l)
+  pub compared : (x x' y y' : WasmRecGroup) → IsCompared b engine k x x' → IsCompared b' engine' l y y'
+      → (x' ≡ y') ↔ SameGroup Same (group_at b k) (group_at b' l)
   compared x x' y y' is is' =
       let given = λ (i : ℕ). consed_edge engine start (index_at i) in
       let given' = λ (i : ℕ). consed_edge engine' start' (index_at i) in
@@ -146,6 +151,7 @@ module _ (b b' : Built) (w : IsWellNamed b) (w' : IsWellNamed b') (engine engine
             }),
         (λ groups. tells group_back x' y' (left ∙ names-same (kind_in b.types) (kind_in b'.types) given given' g h (record {
           frames = groups.frames;
-          edges = zip-known (InSpan b w k lt) (InSpan b' w' l lt') _ _ (names groups) (group_edges (λ r. r) g) (group_edges (λ r. r) h) near near' groups.edges;
+          edges = zip-known (InSpan b w k lt) (InSpan b' w' l lt') _ _ (names groups) (group_edges (λ r. r) g) (group_edges
+              (λ r. r) h) near near' groups.edges;
         }) ∙ sym right)),
       )

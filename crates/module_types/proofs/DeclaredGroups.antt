@@ -38,7 +38,8 @@ first-same [] k lt = absurd (omega arith)
 first-same (g ∷ gs) zero lt = refl
 first-same (g ∷ gs) (suc k) lt = length-append g (types_by_id (take k gs)) ∙ ap (λ n. length g + n) (first-same gs k (omega arith))
 
-number-of : (gs : List NamedGroup) (base k p : ℕ) → k < length gs → p < length (get_or gs k []) → get_or (group_numbers base gs) (first_id gs k + p) 0 ≡ base + k
+number-of : (gs : List NamedGroup) (base k p : ℕ) → k < length gs → p < length (get_or gs k [])
+    → get_or (group_numbers base gs) (first_id gs k + p) 0 ≡ base + k
 number-of [] base k p lt lt' = absurd (omega arith)
 number-of (g ∷ gs) base zero p lt lt' =
     let at : 0 + p ≡ p = omega arith in
@@ -86,7 +87,8 @@ module _ (m : plain.Module) (t : TypesData) (are : AreNumbered m t) (near : Name
       let w = home-within all i lt in
       let long : length (get_or t.groups s.number []) ≡ length (home all i).members = ap length s.group ∙ length-map (home all i).members _ in
       let place : i - (home all i).start < length (get_or t.groups s.number []) = omega (arith, long, w.from, w.to) in
-      let at : id i ≡ first_id t.groups s.number + (i - (home all i).start) = s.member ∙ ap (λ n. n + (i - (home all i).start)) (first-same t.groups s.number s.below) in
+      let at : id i ≡ first_id t.groups s.number + (i - (home all i).start) = s.member
+      ∙ ap (λ n. n + (i - (home all i).start)) (first-same t.groups s.number s.below) in
       let is : group i ≡ s.number =
       ap (λ n. get_or (group_numbers 0 t.groups) n 0) at ∙ number-of t.groups 0 s.number (i - (home all i).start) s.below place ∙ omega arith in
       record {
@@ -108,8 +110,10 @@ module _ (m : plain.Module) (t : TypesData) (are : AreNumbered m t) (near : Name
       let lt' : start < size all = omega (arith, w.from, lt) in
       let again : home all start ≡ home all i = home-again all i start lt (record { from = omega arith; to = omega (arith, w.from, w.to) }) in
       let x = id-at start lt' in
-      let long : length (members_of t (group start)) ≡ length (home all i).members = ap length x.members ∙ length-map (home all start).members _ ∙ ap (λ (h : Home). length h.members) again in
-      let at : id i ≡ first_id t.groups (group start) + (i - start) = are.row i (inside i lt) ∙ omega (arith, x.at, ap (λ (h : Home). start - h.start) again) in
+      let long : length (members_of t (group start)) ≡ length (home all i).members = ap length x.members ∙ length-map (home all start).members _
+      ∙ ap (λ (h : Home). length h.members) again in
+      let at : id i ≡ first_id t.groups (group start) + (i - start) = are.row i (inside i lt)
+      ∙ omega (arith, x.at, ap (λ (h : Home). start - h.start) again) in
       ap (λ n. get_or (group_numbers 0 t.groups) n 0) at
       ∙ number-of t.groups 0 (group start) (i - start) x.known (omega (arith, long, w.from, w.to)) ∙ omega arith
 
@@ -163,7 +167,8 @@ module _ (m : plain.Module) (t : TypesData) (are : AreNumbered m t) (near : Name
       ap (λ o. start_by t (length b.built.types) b.built.groups b.ids o + (id i - first_id t.groups (group i))) x.id_is
       ∙ ap (λ p. (get_or b.built.groups x.at no_span).start + p) place ∙ x.index
 
-  module _ (b : Builder) (s : Taken) (start : ℕ) (g : Group ℕ ℕ) (gs : List (Group ℕ ℕ)) (done : List Home) (h : Taking all number s start (g ∷ gs) done)
+  module _ (b : Builder) (s : Taken) (start : ℕ) (g : Group ℕ ℕ) (gs : List (Group ℕ ℕ)) (done : List Home) (h : Taking all number s start
+      (g ∷ gs) done)
       (some : 0 < length g) (has : Has b s start) where
     end : start + length g ≤ size all
     end = ends all number s start g gs done h some
@@ -247,7 +252,11 @@ module _ (m : plain.Module) (t : TypesData) (are : AreNumbered m t) (near : Name
                 let q = start + x.place in
                 let lt' : q < size all = omega (arith, end, x.lt) in
                 let one = member-group x.place x.lt in
-                let place : id q - first_id t.groups (group q) ≡ x.place = omega (arith, (id-at q lt').at, place-member all number s start g gs done h some x.place x.lt) in
+                let place : id q - first_id t.groups (group q) ≡ x.place = omega (
+                  arith,
+                  (id-at q lt').at,
+                  place-member all number s start g gs done h some x.place x.lt,
+                ) in
                 subst (λ i. interned_index t b (id i) ≡ number i) (sym x.is)
                 (ap (λ o. start_by t (length b.built.types) b.built.groups b.ids o + (id q - first_id t.groups (group q))) (ap b.ids one ∙ unheld)
                 ∙ (λ i. long-types i + place i) ∙ sym (number-new all number s start g gs done h some none reads x.place x.lt))
@@ -257,7 +266,8 @@ module _ (m : plain.Module) (t : TypesData) (are : AreNumbered m t) (near : Name
       next-is =
           let d = id_at t.declared in
           let first = home-first all number s start g gs done h some in
-          let members : members_of t (group start) ≡ named t.declared g = (id-at start starts).members ∙ ap (λ (x : Home). named t.declared x.members) first in
+          let members : members_of t (group start) ≡ named t.declared g = (id-at start starts).members
+          ∙ ap (λ (x : Home). named t.declared x.members) first in
           let look = λ (i : UnpackedIndex). name_by_id t (length b.built.types) b.built.groups b.ids (id_number i) in
           let index = λ (i : UnpackedIndex). index_by_id t (length b.built.types) b.built.groups b.ids (id_number i) in
           let kind : ℕ → NameKind = λ r. kind_in (slice_get (types_by_id t.groups) (id r)) in
@@ -392,7 +402,8 @@ module _ (m : plain.Module) (t : TypesData) (are : AreNumbered m t) (near : Name
     pub filled : 0 < length (members_of t k)
     pub named : NamesInterned t b k
 
-  comes-next : (b : Builder) (s : Taken) (start : ℕ) (g : Group ℕ ℕ) (gs : List (Group ℕ ℕ)) (done : List Home) → Taking all number s start (g ∷ gs) done
+  comes-next : (b : Builder) (s : Taken) (start : ℕ) (g : Group ℕ ℕ) (gs : List (Group ℕ ℕ)) (done : List Home)
+      → Taking all number s start (g ∷ gs) done
       → 0 < length g → Has b s start → CanComeNext b (group start)
   comes-next b s start g gs done h some has =
       let lt = starts b s start g gs done h some has in
@@ -414,13 +425,16 @@ module _ (m : plain.Module) (t : TypesData) (are : AreNumbered m t) (near : Name
             ]) (group_edges (λ r. r) g) h.near.0)));
       }
 
-  next-from : (gs : List (Group ℕ ℕ)) (g : Group ℕ ℕ) (rest : List (Group ℕ ℕ)) → 0 < length g → (b : Builder) (s : Taken) (start : ℕ) (done : List Home)
-      → ((i : ℕ) → number i ≡ get_or (take_groups all s start (gs ++ g ∷ rest)).declared i 0) → Taking all number s start (gs ++ g ∷ rest) done → Has b s start
+  next-from : (gs : List (Group ℕ ℕ)) (g : Group ℕ ℕ) (rest : List (Group ℕ ℕ)) → 0 < length g
+      → (b : Builder) (s : Taken) (start : ℕ) (done : List Home)
+      → ((i : ℕ) → number i ≡ get_or (take_groups all s start (gs ++ g ∷ rest)).declared i 0) → Taking all number s start (gs ++ g ∷ rest) done
+      → Has b s start
       → CanComeNext (interns_declared t b start gs) (group (start + size gs))
   next-from [] g rest some b s start done reads h has =
       let at : start ≡ start + 0 = omega arith in
       subst (λ n. CanComeNext b (group n)) at (comes-next b s start g rest done h some has)
-  next-from ([] ∷ gs) g rest some b s start done reads h has = next-from gs g rest some b s start done reads (taking-hollow all number s start (gs ++ g ∷ rest) done h) has
+  next-from ([] ∷ gs) g rest some b s start done reads h has = next-from gs g rest some b s start done reads (taking-hollow all number s start
+      (gs ++ g ∷ rest) done h) has
   next-from ((x ∷ xs) ∷ gs) g rest some b s start done reads h has =
       let at : start + length (x ∷ xs) + size gs ≡ start + size ((x ∷ xs) ∷ gs) = omega (arith, size-cons (x ∷ xs) gs) in
       step-by b s start (x ∷ xs) (gs ++ g ∷ rest) done h (omega arith) has
@@ -460,7 +474,8 @@ module _ (m : plain.Module) (t : TypesData) (are : AreNumbered m t) (near : Name
 
   -- two declared types have one interned index exactly where they are equal
   pub told : (validator i j : ℕ) → i < length t.declared → j < length t.declared
-      → (interned_index t (interns_declared t (new_builder validator) 0 all) (id i) ≡ interned_index t (interns_declared t (new_builder validator) 0 all) (id j)) ↔ SameType all all i j
+      → (interned_index t (interns_declared t (new_builder validator) 0 all) (id i) ≡ interned_index t (interns_declared t
+      (new_builder validator) 0 all) (id j)) ↔ SameType all all i j
   told validator i j lt lt' =
       let w = whole all near in
       let x = (tied validator).declared i (omega (arith, lt, are.each, counted, w.counted)) in

@@ -40,7 +40,11 @@ equal-lists ms ns near near' =
           (sym (ap (λ (b : Built). b.groups) is) ∙ same.groups ∙ ap (λ (b : Built). b.groups) is'))),
       (λ same.
           let one : (taken ms).built ≡ (taken ns).built = is ∙ ap (with_groups empty) (both.1 same) ∙ sym is' in
-          record { types = ap (λ (b : Built). b.types) one; groups = ap (λ (b : Built). b.groups) one; trampolines = ap (λ (b : Built). b.trampolines) one }),
+          record {
+            types = ap (λ (b : Built). b.types) one;
+            groups = ap (λ (b : Built). b.groups) one;
+            trampolines = ap (λ (b : Built). b.trampolines) one;
+          }),
     )
 
 pub declared : (ms : List (Group ℕ ℕ)) → NameEarlier 0 ms → (i j : ℕ) → i < length (taken ms).declared → j < length (taken ms).declared

@@ -32,7 +32,8 @@ module _ (kind : ℕ → NameKind) (number : ℕ → ℕ) where
   member-named : (g : Group ℕ ℕ) (p : ℕ) → p < length g
       → kind_in (by_names kind number g) p ≡ kind_of_type (get_or (map_group (erased {R = ℕ}) (erased {R = ℕ}) g) p some_member).composite.inner
   member-named [] p lt = absurd (omega arith)
-  member-named (t ∷ ts) zero lt = kind-mapped (name_by kind number) number t.composite.inner ∙ sym (kind-mapped (erased {R = ℕ}) (erased {R = ℕ}) t.composite.inner)
+  member-named (t ∷ ts) zero lt = kind-mapped (name_by kind number) number t.composite.inner
+      ∙ sym (kind-mapped (erased {R = ℕ}) (erased {R = ℕ}) t.composite.inner)
   member-named (t ∷ ts) (suc p) lt = member-named ts p (omega arith)
 
 module _ (all : List (Group ℕ ℕ)) (number : ℕ → ℕ) (exact : IsExactBelow all number (size all)) where
@@ -103,11 +104,13 @@ module _ (all : List (Group ℕ ℕ)) (number : ℕ → ℕ) (exact : IsExactBel
                   let r = h.start + c.member in
                   let inside : r < size all = omega (arith, c.lt, x.inside) in
                   let same = (exact i r lt inside).1 c.same in
-                  let at : number i < length (b.types ++ next) = omega (arith, same, x.numbers c.member c.lt, c.lt, long, length-append b.types next) in
+                  let at : number i < length (b.types ++ next) = omega
+                  (arith, same, x.numbers c.member c.lt, c.lt, long, length-append b.types next) in
                   record {
                     lt = omega (arith, at, whole);
                     kind = ap (λ ts. kind_in ts (number i)) s.types ∙ kind-before (b.types ++ next) s.more (number i) at
-                        ∙ ap (kind_in (b.types ++ next)) same ∙ member-kind r (omega arith) (omega (arith, c.lt)) ∙ sym (same-kind all all i r lt inside c.same);
+                        ∙ ap (kind_in (b.types ++ next)) same ∙ member-kind r (omega arith) (omega (arith, c.lt))
+                        ∙ sym (same-kind all all i r lt inside c.same);
                   }
               | inr old ↦
                   let is = found i lt old in
@@ -139,7 +142,8 @@ well-named ms near tags startup =
     let built : Well (taken ms).built.types (taken ms).built.groups = coe 0 1 (t. Well (sym w.built t).types (sym w.built t).groups) first in
     let low : (i : ℕ) → number_in ms i ≤ length (taken ms).built.types = λ i. by i (ltb i (size ms)) refl in
     let all = with_exceptions (taken ms).built [] (map (number_in ms) tags) in
-    let s = steps-exceptions (map (number_in ms) tags) (taken ms).built [] (All-map (λ i. i ≤ length (taken ms).built.types) (number_in ms) tags (each low tags)) in
+    let s = steps-exceptions (map (number_in ms) tags) (taken ms).built [] (All-map (λ i. i ≤ length (taken ms).built.types) (number_in ms) tags
+    (each low tags)) in
     let end = (steps-startup all startup).well (s.well built) in
     record { orderly = end.orderly; earlier = end.earlier; kinds = end.kinds } where
       by : (i : ℕ) (c : Bool) → ltb i (size ms) ≡ c → number_in ms i ≤ length (taken ms).built.types

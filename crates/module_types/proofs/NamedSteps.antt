@@ -39,7 +39,8 @@ module _ (kind : ℕ → NameKind) where
   value-named V128 = refl
   value-named (Ref r) = refl
 
-  values-named : (vs : List (Value (Named ℕ))) → map (map_value (name_by kind (λ (r : ℕ). r))) (map (map_value (index_of {R = ℕ})) (map passed vs)) ≡ map passed vs
+  values-named : (vs : List (Value (Named ℕ)))
+      → map (map_value (name_by kind (λ (r : ℕ). r))) (map (map_value (index_of {R = ℕ})) (map passed vs)) ≡ map passed vs
   values-named [] = refl
   values-named (v ∷ vs) = λ i. value-named v i ∷ values-named vs i
 
@@ -132,8 +133,13 @@ module _ (index : ℕ → Named ℕ) where
       let whole : map_sub_type index (λ r. r) (map_sub_type (index_of {R = ℕ}) (λ r. r) t) ∷ map_group index (λ r. r) (unkinded ts) ≡ t ∷ ts = same in
       let first : map_sub_type index (λ r. r) (map_sub_type (index_of {R = ℕ}) (λ r. r) t) ≡ t = cc in
       let inner : map_composite index (λ r. r) (map_composite (index_of {R = ℕ}) (λ r. r) (Func f)) ≡ Func f =
-      ap (λ c. map_composite index (λ r. r) (map_composite (index_of {R = ℕ}) (λ r. r) c)) (sym at) ∙ ap (λ (u : Interned). u.composite.inner) first ∙ at in
-      let function : record { params = map (map_value index) (map (map_value (index_of {R = ℕ})) f.params); results = map (map_value index) (map (map_value (index_of {R = ℕ})) f.results) } ≡ f = cc in
+      ap (λ c. map_composite index (λ r. r) (map_composite (index_of {R = ℕ}) (λ r. r) c)) (sym at)
+      ∙ ap (λ (u : Interned). u.composite.inner) first ∙ at in
+      let function : record {
+        params = map (map_value index) (map (map_value (index_of {R = ℕ})) f.params);
+        results = map (map_value index) (map
+            (map_value (index_of {R = ℕ})) f.results);
+      } ≡ f = cc in
       ap (λ (g : Called). g.params) function
   params-at (t ∷ ts) (suc i) f same at =
       let whole : map_sub_type index (λ r. r) (map_sub_type (index_of {R = ℕ}) (λ r. r) t) ∷ map_group index (λ r. r) (unkinded ts) ≡ t ∷ ts = same in
@@ -159,9 +165,11 @@ module _ (P : ℕ → Type 0) where
       let here = ((All-joined P (sub_type_edges (λ r. r) u) (group_edges (λ r. r) (unkinded ts))).0 all).0 in
       let inner = ((All-joined P (option_to_list u.supertype) (composite_edges (λ r. r) u.composite.inner)).0 here).1 in
       let function = subst (λ c. All P (composite_edges (λ r. r) (map_composite (index_of {R = ℕ}) (λ r. r) c))) at inner in
-      ((All-joined P (flat_map (value_edges (λ r. r)) (map (map_value (index_of {R = ℕ})) f.params)) (flat_map (value_edges (λ r. r)) (map (map_value (index_of {R = ℕ})) f.results))).0 function).0
+      ((All-joined P (flat_map (value_edges (λ r. r)) (map (map_value (index_of {R = ℕ})) f.params)) (flat_map (value_edges (λ r. r)) (map
+      (map_value (index_of {R = ℕ})) f.results))).0 function).0
   params-below (t ∷ ts) (suc i) f all at =
-      params-below ts i f ((All-joined P (sub_type_edges (λ r. r) (map_sub_type (index_of {R = ℕ}) (λ r. r) t)) (group_edges (λ r. r) (unkinded ts))).0 all).1 at
+      params-below ts i f ((All-joined P (sub_type_edges (λ r. r) (map_sub_type (index_of {R = ℕ}) (λ r. r) t)) (group_edges (λ r. r)
+      (unkinded ts))).0 all).1 at
 
 module _ (b : Built) (i : ℕ) (le : i ≤ length b.types) where
   abbrev exception : Composite (Named ℕ) ℕ → Interned
@@ -173,7 +181,8 @@ module _ (b : Built) (i : ℕ) (le : i ≤ length b.types) where
   bare-below : All Low (i ∷ [])
   bare-below = All-cons Low i [] (omega (arith, le)) (All-nil Low)
 
-  exception-below : (c : Composite (Named ℕ) ℕ) → composite_at b.types i ≡ c → Well b.types b.groups → AllBelow (length b.types + 1) (unkinded (exception c ∷ []))
+  exception-below : (c : Composite (Named ℕ) ℕ) → composite_at b.types i ≡ c → Well b.types b.groups
+      → AllBelow (length b.types + 1) (unkinded (exception c ∷ []))
   exception-below (Func f) at w =
       let params = params-below (λ r. r < length b.types) b.types i f w.below at in
       let low = All-weaker (λ r. r < length b.types) Low (λ r lt. omega (arith, lt)) _ params in

@@ -35,7 +35,8 @@ extends-exceptions (i ∷ is) b done = by (extends-exceptions is) (is_among i do
   by : ((c : Built) (done' : List ℕ) → Extends c (with_exceptions c done' is))
       → (there : Bool) → Extends b (if there then with_exceptions b done is else with_exceptions (with_exception b i) (i ∷ done) is)
   by rest true = rest b done
-  by rest false = extends-both b (with_exception b i) _ (extends-alone b (plain (exception_for i (composite_at b.types i)))) (rest (with_exception b i) (i ∷ done))
+  by rest false = extends-both b (with_exception b i) _ (extends-alone b (plain (exception_for i (composite_at b.types i)))) (rest
+      (with_exception b i) (i ∷ done))
 
 extends-startup : (b : Built) (startup : Bool) → Extends b (with_startup b startup)
 extends-startup b false = extends-none b b refl refl
@@ -98,13 +99,22 @@ module _ (all : List (Group ℕ ℕ)) (number : ℕ → ℕ) (exact : IsExactBel
     home-member p lt =
         let from = ap (λ (g : Home). g.start) home-there in
         let members = ap (λ (g : Home). length g.members) home-there ∙ length-map h.members (map_sub_type number number) in
-        home-again (list_groups l) first (first + p) (omega (arith, first-in, lt)) (record { from = omega (arith, from); to = omega (arith, from, members, lt) }) ∙ home-there
+        home-again (list_groups l) first (first + p) (omega (arith, first-in, lt)) (record {
+          from = omega (arith, from);
+          to = omega
+              (arith, from, members, lt);
+        }) ∙ home-there
 
     module _ (same : (i : ℕ) → i < size all → i < h.start → Same i (number i)) where
       target-there : (r : ℕ) → r < h.start + length h.members → (c d : Bool) → nat_le h.start r ≡ c → nat_le first (number r) ≡ d
           → SameTarget Same (target_by c (r - h.start) r) (target_by d (number r - first) (number r))
       target-there r lt true true e f = omega (arith, next-number all number b h x r (leb-true h.start r e) lt)
-      target-there r lt true false e f = absurd (omega (arith, next-number all number b h x r (leb-true h.start r e) lt, leb-false first (number r) f))
+      target-there r lt true false e f = absurd (omega (
+        arith,
+        next-number all number b h x r (leb-true h.start r e) lt,
+        leb-false first
+            (number r) f,
+      ))
       target-there r lt false true e f = absurd (omega (arith, x.below r (leb-false h.start r e), leb-true first (number r) f))
       target-there r lt false false e f = same r (omega (arith, lt, x.inside)) (leb-false h.start r e)
 
@@ -161,6 +171,7 @@ same-index ms near tags startup i lt =
     let is = map (number_in ms) tags in
     let made = with_exceptions (taken ms).built [] is in
     let l = interned ms tags startup in
-    let behind : Extends (taken ms).built l = extends-both (taken ms).built made l (extends-exceptions is (taken ms).built []) (extends-startup made startup) in
+    let behind : Extends (taken ms).built l = extends-both (taken ms).built made l (extends-exceptions is (taken ms).built [])
+    (extends-startup made startup) in
     all-same ms (number_in ms) w.exact l (well-named ms near tags startup) (taken_groups ms) empty [] w.stand w.covers
     (subst (λ b. Extends b l) w.built behind) (λ j below none. absurd none) i (omega (arith, lt, w.counted))

@@ -22,7 +22,8 @@ pub record StandsFrom (ts : List Interned) (ss : List Span) (first end : ℕ) (s
   pub at : home_from first (groups_of ts ss) s.start ≡ home_of ts s
   pub near : AllBelow s.end (unkinded (types_in ts s))
 
-stands-from : (ts : List Interned) (ss : List Span) (first end k : ℕ) → LieBetween first ss end → end ≤ length ts → NameEarlier first (groups_of ts ss)
+stands-from : (ts : List Interned) (ss : List Span) (first end k : ℕ) → LieBetween first ss end → end ≤ length ts
+    → NameEarlier first (groups_of ts ss)
     → k < length ss → StandsFrom ts ss first end (get_or ss k no_span)
 stands-from ts [] first end k lie le earlier lt = absurd (omega arith)
 stands-from ts (s ∷ ss) first end zero lie le earlier lt =
@@ -52,12 +53,14 @@ stands-from ts (s ∷ ss) first end (suc k) lie le earlier lt =
       near = r.near;
     }
 
-joined-from : (ts : List Interned) (ss : List Span) (first : ℕ) → LieBetween first ss (length ts) → joined (groups_of ts ss) ≡ unkinded (drop first ts)
+joined-from : (ts : List Interned) (ss : List Span) (first : ℕ) → LieBetween first ss (length ts)
+    → joined (groups_of ts ss) ≡ unkinded (drop first ts)
 joined-from ts [] first lie = ap unkinded (sym (drop_of_length-le ts (omega (arith, lie))))
 joined-from ts (s ∷ ss) first lie =
     let n = s.end - s.start in
     let at : s.start + n ≡ s.end = omega (arith, lie.1) in
-    ap (λ l. unkinded (types_in ts s) ++ l) (joined-from ts ss s.end lie.2 ∙ ap (λ k. unkinded (drop k ts)) (sym at) ∙ ap unkinded (sym (drop-drop n s.start ts)))
+    ap (λ l. unkinded (types_in ts s) ++ l) (joined-from ts ss s.end lie.2 ∙ ap (λ k. unkinded (drop k ts)) (sym at)
+    ∙ ap unkinded (sym (drop-drop n s.start ts)))
     ∙ sym (map-append (map_sub_type (index_of {R = ℕ}) (λ (r : ℕ). r)) (take n (drop s.start ts)) (drop n (drop s.start ts)))
     ∙ ap unkinded (take-append-drop n (drop s.start ts)) ∙ ap (λ k. unkinded (drop k ts)) lie.0
 
@@ -90,6 +93,8 @@ module _ (b : Built) (w : IsWellNamed b) where
   span-named s =
       let name = map_sub_type (name_by (kind_in b.types) (λ (r : ℕ). r)) (λ (r : ℕ). r) in
       let plain = map_sub_type (index_of {R = ℕ}) (λ (r : ℕ). r) in
-      ap (map name) (sym (map-in plain b.types s)) ∙ sym (map-in name (unkinded b.types) s) ∙ ap (λ ts. take (s.end - s.start) (drop s.start ts)) w.kinds where
-        map-in : {A B : Type 0} (f : A → B) (xs : List A) (s : Span) → take (s.end - s.start) (drop s.start (map f xs)) ≡ map f (take (s.end - s.start) (drop s.start xs))
+      ap (map name) (sym (map-in plain b.types s)) ∙ sym (map-in name (unkinded b.types) s)
+      ∙ ap (λ ts. take (s.end - s.start) (drop s.start ts)) w.kinds where
+        map-in : {A B : Type 0} (f : A → B) (xs : List A) (s : Span)
+            → take (s.end - s.start) (drop s.start (map f xs)) ≡ map f (take (s.end - s.start) (drop s.start xs))
         map-in f xs s = ap (take (s.end - s.start)) (drop-map f s.start xs) ∙ take-map f (s.end - s.start) (drop s.start xs)

@@ -28,7 +28,8 @@ module _ (all : List (Group ℕ ℕ)) where
   first-found i from zero j e = absurd (let no : None ≡ Some j = e in cc)
   first-found i from (suc n) j e = by (first-found i (suc from) n j) (same_type all all from i) refl e where
     by : (first_equal all i (suc from) n ≡ Some j → Found i (suc from) (suc from + n) j)
-        → (b : Bool) → same_type all all from i ≡ b → (if b then Some from else first_equal all i (suc from) n) ≡ Some j → Found i from (from + suc n) j
+        → (b : Bool) → same_type all all from i ≡ b → (if b then Some from else first_equal all i (suc from) n) ≡ Some j
+        → Found i from (from + suc n) j
     by rest true is e =
         let at : from ≡ j = let one : Some from ≡ Some j = e in cc in
         record {
@@ -185,7 +186,8 @@ module _ (all : List (Group ℕ ℕ)) where
       sized-behind : start + length g + size gs ≡ size all
       sized-behind = omega (arith, h.sized, size-cons g gs)
 
-      module _ (o : Option ℕ) (reads : (i : ℕ) → number i ≡ get_or (take_groups all (take_group all b start g o) (start + length g) gs).declared i 0) where
+      module _ (o : Option ℕ) (reads : (i : ℕ)
+          → number i ≡ get_or (take_groups all (take_group all b start g o) (start + length g) gs).declared i 0) where
         read-now : (i : ℕ) → i < length (take_group all b start g o).declared → number i ≡ get_or (take_group all b start g o).declared i 0
         read-now i lt = reads i ∙ read-grown _ _ (grown-all gs (take_group all b start g o) (start + length g)) i lt
 
@@ -226,7 +228,8 @@ module _ (all : List (Group ℕ ℕ)) where
         same-at p lt =
             let at : j + p - (home all (j + p)).start ≡ p = ap (λ (x : Home). j + p - x.start) (again p lt) ∙ omega (arith, starts) in
             type-turned all all (j + p) (start + p)
-            (type-beside all all j start (j + p) (start + p) found.same (again p lt) (home-member p lt ∙ sym home-first) (at ∙ sym (place-member p lt)))
+            (type-beside all all j start (j + p) (start + p) found.same (again p lt) (home-member p lt ∙ sym home-first) (at
+            ∙ sym (place-member p lt)))
 
         pub earlier-member : (p : ℕ) → p < length g → j + p < start
         earlier-member p lt = omega (arith, lt, before)
@@ -234,7 +237,13 @@ module _ (all : List (Group ℕ ℕ)) where
         counted-met : length (take_group all b start g (Some j)).declared ≡ start + length g
         counted-met =
             length-append b.declared (take (length g) (drop j b.declared))
-            ∙ omega (arith, h.counted, before, length-take-le (length g) (drop j b.declared) (omega (arith, length-drop j b.declared, h.counted, before)))
+            ∙ omega (
+              arith,
+              h.counted,
+              before,
+              length-take-le (length g) (drop j b.declared) (omega
+                  (arith, length-drop j b.declared, h.counted, before)),
+            )
 
         pub number-met : (p : ℕ) → p < length g → number (start + p) ≡ number (j + p)
         number-met p lt =
@@ -307,10 +316,12 @@ module _ (all : List (Group ℕ ℕ)) where
         form-new =
             names-same (kind_at all) (kind_at all) (name all b.declared start first) number g g (record {
               frames = refl;
-              edges = zip-known-itself (λ r. r < start + length g) _ (λ r lt. ap (λ n. name_by (kind_at all) (λ i. n) r) (by r lt (nat_lt r start) refl))
+              edges = zip-known-itself (λ r. r < start + length g) _ (λ r lt. ap (λ n. name_by (kind_at all) (λ i. n) r) (by r lt
+                  (nat_lt r start) refl))
                   (group_edges (λ r. r) g) h.near.0;
             }) where
-              by : (r : ℕ) → r < start + length g → (c : Bool) → nat_lt r start ≡ c → (if c then get_or b.declared r 0 else first + (r - start)) ≡ number r
+              by : (r : ℕ) → r < start + length g → (c : Bool) → nat_lt r start ≡ c
+                  → (if c then get_or b.declared r 0 else first + (r - start)) ≡ number r
               by r lt true e = sym (read-before None reads r (ltb-true r start e))
               by r lt false e =
                   let low = ltb-false r start e in
@@ -343,7 +354,8 @@ module _ (all : List (Group ℕ ℕ)) where
                 )
                 | inr n ↦ (
                   (λ same.
-                      let one : i ≡ k = omega (arith, m.is, n.is, same, ap number m.is, ap number n.is, number-new m.place m.lt, number-new n.place n.lt) in
+                      let one : i ≡ k = omega
+                      (arith, m.is, n.is, same, ap number m.is, ap number n.is, number-new m.place m.lt, number-new n.place n.lt) in
                       subst (λ x. SameType all all i x) one (type-itself all i)),
                   (λ same.
                       let moved : SameType all all (start + m.place) (start + n.place) = coe 0 1 (t. SameType all all (m.is t) (n.is t)) same in
@@ -372,18 +384,33 @@ module _ (all : List (Group ℕ ℕ)) where
           below = λ i lt.
               elim (either i lt) [
                 | inl old ↦ omega (arith, h.below i old, group-long b.built (interned_group all b.declared start first g))
-                | inr m ↦ omega (arith, ap number m.is, number-new m.place m.lt, m.lt, group-long b.built (interned_group all b.declared start first g), length-map g (map_sub_type (name_by (kind_at all) (name all b.declared start first)) (name all b.declared start first)))
+                | inr m ↦ omega (
+                  arith,
+                  ap number m.is,
+                  number-new m.place m.lt,
+                  m.lt,
+                  group-long b.built
+                      (interned_group all b.declared start first g),
+                  length-map g (map_sub_type (name_by (kind_at all)
+                      (name all b.declared start first)) (name all b.declared start first)),
+                )
               ];
           exact = exact-new;
           copies = λ i lt.
               elim (either i lt) [
                 | inl old ↦ inr (h.copies i old)
-                | inr m ↦ inl (record { member = m.place; lt = m.lt; same = subst (λ k. SameType all all k (start + m.place)) (sym m.is) (type-itself all (start + m.place)) })
+                | inr m ↦ inl (record {
+                  member = m.place;
+                  lt = m.lt;
+                  same = subst (λ k. SameType all all k (start + m.place)) (sym m.is)
+                      (type-itself all (start + m.place));
+                })
               ];
         }
 
         -- what follows behind the group's interned form
-        whole-new : (end : Taken) (hs : List Home) → Whole end (take_group all b start g None).built (here ∷ done) hs → Whole end b.built done (here ∷ hs)
+        whole-new : (end : Taken) (hs : List Home) → Whole end (take_group all b start g None).built (here ∷ done) hs
+            → Whole end b.built done (here ∷ hs)
         whole-new end hs w = record {
           stand = (next-new, subst (λ ts. Stand (with_group b.built ts) hs) form-new w.stand);
           covers = (h.copies, w.covers);
@@ -398,7 +425,8 @@ module _ (all : List (Group ℕ ℕ)) where
           → Whole (take_groups all b' (start + length g) gs) b'.built done' (new_groups all (start + length g) gs))
           → (o : Option ℕ) → first_equal all start 0 start ≡ o
           → ((i : ℕ) → number i ≡ get_or (take_groups all (take_group all b start g o) (start + length g) gs).declared i 0)
-          → Whole (take_groups all (take_group all b start g o) (start + length g) gs) b.built done (unless_met start g o (new_groups all (start + length g) gs))
+          → Whole (take_groups all (take_group all b start g o) (start + length g) gs) b.built done (unless_met start g o (new_groups all
+          (start + length g) gs))
       whole-by rest (Some j) e reads =
           rest (take_group all b start g (Some j)) done reads (taking-met j (first-found start 0 start j e) reads)
       whole-by rest None e reads =

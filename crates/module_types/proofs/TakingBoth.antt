@@ -15,7 +15,11 @@ module _ (all : List (Group ℕ ℕ)) (number : ℕ → ℕ) (b : Built) (h : Ho
   pub next-home : (r : ℕ) → h.start ≤ r → r < h.start + length h.members → home all r ≡ h
   next-home r low high =
       let at = x.at in
-      home-again all h.start r (omega (arith, x.some, x.inside)) (record { from = omega (arith, low, ap (λ (g : Home). g.start) at); to = omega (arith, high, ap (λ (g : Home). g.start) at, ap (λ (g : Home). length g.members) at) }) ∙ at
+      home-again all h.start r (omega (arith, x.some, x.inside)) (record {
+        from = omega (arith, low, ap (λ (g : Home). g.start) at);
+        to = omega
+            (arith, high, ap (λ (g : Home). g.start) at, ap (λ (g : Home). length g.members) at);
+      }) ∙ at
 
   pub next-place : (r : ℕ) → h.start ≤ r → r < h.start + length h.members → r - (home all r).start ≡ r - h.start
   next-place r low high = ap (λ (g : Home). r - g.start) (next-home r low high)
@@ -25,7 +29,8 @@ module _ (all : List (Group ℕ ℕ)) (number : ℕ → ℕ) (b : Built) (h : Ho
       let at : r ≡ h.start + (r - h.start) = omega (arith, low) in
       ap number at ∙ x.numbers (r - h.start) (omega (arith, low, high))
 
-module _ (ms ns : List (Group ℕ ℕ)) (number number' : ℕ → ℕ) (exact : IsExactBelow ms number (size ms)) (exact' : IsExactBelow ns number' (size ns)) where
+module _ (ms ns : List (Group ℕ ℕ)) (number number' : ℕ
+    → ℕ) (exact : IsExactBelow ms number (size ms)) (exact' : IsExactBelow ns number' (size ns)) where
   abbrev Same : ℕ → ℕ → Type 0
   Same i j = SameType ms ns i j
 
@@ -43,7 +48,8 @@ module _ (ms ns : List (Group ℕ ℕ)) (number number' : ℕ → ℕ) (exact : 
     (λ same. b.number_is ∙ (exact' b.other j b.lt lt).1 (type-chained ns ms ns b.other i j (type-turned ms ns i b.other b.same) same)),
   )
 
-  module _ (b : Built) (h k : Home) (x : Next ms number b h) (y : Next ns number' b k) (bridges : (i : ℕ) → i < size ms → i < h.start → Bridge i) where
+  module _ (b : Built) (h k : Home) (x : Next ms number b h) (y : Next ns number' b k) (bridges : (i : ℕ) → i < size ms → i < h.start
+      → Bridge i) where
     abbrev InH : ℕ → Type 0
     InH r = r < h.start + length h.members
 
@@ -124,7 +130,8 @@ module _ (ms ns : List (Group ℕ ℕ)) (number number' : ℕ → ℕ) (exact : 
                   lt = omega (arith, c.lt, long, y.inside);
                   same = type-chained ms ms ns i (h.start + p) (k.start + p) c.same
                       (same-at groups (h.start + p) (k.start + p) (omega (arith, c.lt)) (omega (arith, c.lt, long)) (omega arith) (omega arith) at);
-                  number_is = (exact i (h.start + p) lt (omega (arith, c.lt, x.inside))).1 c.same ∙ x.numbers p c.lt ∙ sym (y.numbers p (omega (arith, c.lt, long)));
+                  number_is = (exact i (h.start + p) lt (omega (arith, c.lt, x.inside))).1 c.same ∙ x.numbers p c.lt
+                      ∙ sym (y.numbers p (omega (arith, c.lt, long)));
                 }
             | inr old ↦ bridged i lt old
           ]

@@ -46,7 +46,8 @@ types-before ts us s low high =
     ap (take (s.end - s.start)) (drop-append-le s.start ts us (omega (arith, low, high)))
     ∙ take-append-le (s.end - s.start) (drop s.start ts) us (omega (arith, length-drop s.start ts, low, high))
 
-groups-before : (ts us : List Interned) (ss : List Span) (first end : ℕ) → LieBetween first ss end → end ≤ length ts → groups_of (ts ++ us) ss ≡ groups_of ts ss
+groups-before : (ts us : List Interned) (ss : List Span) (first end : ℕ) → LieBetween first ss end → end ≤ length ts
+    → groups_of (ts ++ us) ss ≡ groups_of ts ss
 groups-before ts us [] first end lie le = refl
 groups-before ts us (s ∷ ss) first end lie le =
     let low = lie-low s.end end ss lie.2 in
@@ -57,7 +58,8 @@ types-last ts us s start end =
     let long : s.end - s.start ≡ length us = omega (arith, start, end) in
     (λ i. take (long i) (drop (start i) (ts ++ us))) ∙ ap (take (length us)) (drop-append_seam ts us) ∙ take-length us
 
-pub groups-size : (ts : List Interned) (ss : List Span) (first end : ℕ) → LieBetween first ss end → end ≤ length ts → first + size (groups_of ts ss) ≡ end
+pub groups-size : (ts : List Interned) (ss : List Span) (first end : ℕ) → LieBetween first ss end → end ≤ length ts
+    → first + size (groups_of ts ss) ≡ end
 groups-size ts [] first end lie le = omega (arith, lie)
 groups-size ts (s ∷ ss) first end lie le =
     let low = lie-low s.end end ss lie.2 in
@@ -65,7 +67,8 @@ groups-size ts (s ∷ ss) first end lie le =
     let rest = groups-size ts ss s.end end lie.2 le in
     omega (arith, size-cons (unkinded (types_in ts s)) (groups_of ts ss), one, rest, lie.0, lie.1)
 
-earlier-more : (gs : List (Group ℕ ℕ)) (g : Group ℕ ℕ) (start : ℕ) → NameEarlier start gs → AllBelow (start + size gs + length g) g → NameEarlier start (gs ++ g ∷ [])
+earlier-more : (gs : List (Group ℕ ℕ)) (g : Group ℕ ℕ) (start : ℕ) → NameEarlier start gs → AllBelow (start + size gs + length g) g
+    → NameEarlier start (gs ++ g ∷ [])
 earlier-more [] g start earlier here = let e : start + 0 + length g ≡ start + length g = omega arith in (subst (λ n. AllBelow n g) e here, tt)
 earlier-more (h ∷ gs) g start earlier here =
     let e : start + size (h ∷ gs) + length g ≡ start + length h + size gs + length g = omega (arith, size-cons h gs) in
@@ -90,7 +93,8 @@ pub named-before : (ts us : List Interned) (g : Group ℕ ℕ) → AllBelow (len
 named-before ts us g below =
     names-same (kind_in (ts ++ us)) (kind_in ts) (λ r. r) (λ r. r) g g (record {
       frames = refl;
-      edges = zip-known-itself (λ r. r < length ts) _ (λ r lt. ap (λ k. name_by (λ i. k) (λ i. i) r) (kind-before ts us r lt)) (group_edges (λ r. r) g) below;
+      edges = zip-known-itself (λ r. r < length ts) _ (λ r lt. ap (λ k. name_by (λ i. k) (λ i. i) r) (kind-before ts us r lt)) (group_edges
+          (λ r. r) g) below;
     })
 
 -- ---- a group more

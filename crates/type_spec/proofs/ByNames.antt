@@ -49,14 +49,16 @@ module _ {R : Type 0} where
 -- ---- lists one by one, of what is known of their items
 
 pub zip-known : {A B : Type 0} (P : A → Type 0) (Q : B → Type 0) (same same' : A → B → Type 0)
-    → ((a : A) (b : B) → P a → Q b → same a b → same' a b) → (xs : List A) (ys : List B) → All P xs → All Q ys → AllZip same xs ys → AllZip same' xs ys
+    → ((a : A) (b : B) → P a → Q b → same a b → same' a b) → (xs : List A) (ys : List B)
+    → All P xs → All Q ys → AllZip same xs ys → AllZip same' xs ys
 zip-known P Q same same' each [] [] p q all = tt
 zip-known P Q same same' each [] (y ∷ ys) p q all = absurd all
 zip-known P Q same same' each (x ∷ xs) [] p q all = absurd all
 zip-known P Q same same' each (x ∷ xs) (y ∷ ys) p q all =
     (each x y (All-head P x xs p) (All-head Q y ys q) all.0, zip-known P Q same same' each xs ys (All-tail P x xs p) (All-tail Q y ys q) all.1)
 
-pub zip-known-itself : {A : Type 0} (P : A → Type 0) (same : A → A → Type 0) → ((a : A) → P a → same a a) → (xs : List A) → All P xs → AllZip same xs xs
+pub zip-known-itself : {A : Type 0} (P : A → Type 0) (same : A → A → Type 0) → ((a : A) → P a → same a a)
+    → (xs : List A) → All P xs → AllZip same xs xs
 zip-known-itself P same each [] p = tt
 zip-known-itself P same each (x ∷ xs) p = (each x (All-head P x xs p), zip-known-itself P same each xs (All-tail P x xs p))
 
@@ -79,7 +81,8 @@ kind-erased (Exn e) = refl
 frame-kind : (g : Group ℕ ℕ) (p : ℕ) → p < length g
     → member_kind (map_group erased erased g) p (map_sub_type erased erased some_type) ≡ member_kind g p some_type
 frame-kind g p lt =
-    ap (λ (t : SubType (Unit {0}) (Unit {0})). kind_of_type t.composite.inner) (get_or-map (map_sub_type erased erased) g p some_type (map_sub_type erased erased some_type) lt)
+    ap (λ (t : SubType (Unit {0}) (Unit {0})). kind_of_type t.composite.inner)
+    (get_or-map (map_sub_type erased erased) g p some_type (map_sub_type erased erased some_type) lt)
     ∙ kind-erased (get_or g p some_type).composite.inner
 
 pub joined-kind : (gs : List (Group ℕ ℕ)) (i : ℕ) → i < size gs → kind_at gs i ≡ member_kind (joined gs) i some_type

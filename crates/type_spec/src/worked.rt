@@ -37,11 +37,15 @@ pub fn worked_hollow()
 
 /// Lists that take equal groups in turn have one interned list, wherever the groups start; in another order they have another.
 pub fn worked_taken()
-    ensures repeated { taken_groups repeated ≡ record { start = 0; members = function true [] ∷ [] } ∷ record { start = 2; members = function false [] ∷ [] } ∷ [] }
-    ensures hollow { taken_groups hollow ≡ record { start = 0; members = function true [] ∷ [] } ∷ record { start = 1; members = function false [] ∷ [] } ∷ [] }
-    ensures turned { taken_groups turned ≡ record { start = 0; members = function false [] ∷ [] } ∷ record { start = 1; members = function true [] ∷ [] } ∷ [] }
+    ensures repeated { taken_groups repeated
+        ≡ record { start = 0; members = function true [] ∷ [] } ∷ record { start = 2; members = function false [] ∷ [] } ∷ [] }
+    ensures hollow { taken_groups hollow
+        ≡ record { start = 0; members = function true [] ∷ [] } ∷ record { start = 1; members = function false [] ∷ [] } ∷ [] }
+    ensures turned { taken_groups turned
+        ≡ record { start = 0; members = function false [] ∷ [] } ∷ record { start = 1; members = function true [] ∷ [] } ∷ [] }
     ensures one { (taken repeated).built.types ≡ (taken hollow).built.types }
-    ensures other { (taken turned).built.types ≡ record { is_final = false; supertype = None; composite = record { inner = Func (record { params = []; results = [] }); shared = false } }
+    ensures other { (taken turned).built.types
+        ≡ record { is_final = false; supertype = None; composite = record { inner = Func (record { params = []; results = [] }); shared = false } }
         ∷ plain (Func (record { params = []; results = [] })) ∷ [] }
 {}
 
