@@ -4,6 +4,7 @@
 mod error;
 mod image_data;
 mod images;
+mod laws;
 mod memory_init;
 mod memory_startup;
 mod runtime_data;
@@ -12,6 +13,7 @@ mod table_init;
 mod translation;
 
 pub use error::PlanError;
+pub use laws::{agreement_law, held_agreement_laws, held_expression_laws};
 pub use memory_images::{Written, written_ranges};
 pub use translation::{
     FunctionBodyData, MemoryInit, MemorySegmentOffset, ModuleTranslation, RuntimeBytes,
