@@ -1,12 +1,12 @@
 -- A form is made part by part.
 use Rattle.std.proofs.Common.{◌≡◌, ◌∙◌, ℕ, ◌+◌, ◌<◌, List, [], ◌∷◌, ◌++◌, length, map, take, get_or, sym, ap, append_assoc}
 use Rattle.std.specs.List.{flat_map}
-use Rattle.std.proofs.lemmas.List.{append-nil, map_more, map-append}
+use Rattle.std.proofs.lemmas.List.{append-nil, map_more}
 use Rattle.std.proofs.lemmas.List.Concat.{flat_map-append, flat_map_single}
 use Rattle.wasm_spec.specs.declared.types.UnpackedIndex.{UnpackedIndex}
 use Rattle.form_types.specs.declared.canonical.CanonicalGroup.{CanonicalGroup}
 use Rattle.form_types.specs.Codes.{ended}
-use Rattle.form_types.specs.Forms.{canonical_index, targets, Adds}
+use Rattle.form_types.specs.Forms.{Adds}
 
 pub Adds-none : (key : CanonicalGroup) → Adds key key [] []
 Adds-none key = record { frame = sym (append-nil key.frame.items); names = sym (append-nil key.references.items) }
@@ -22,7 +22,7 @@ Adds-then a b c cs ds rs ss first second = record {
 }
 
 -- one item of a list more
-module _ {X Y : Type 0} (view : Y → X) (ids : List ℕ) (start : ℕ) where
+module _ {X Y : Type 0} (view : Y → X) where
   one-more : {E : Type 0} (e : X → List E) (ys : List Y) (k : ℕ) (y : Y) → k < length ys → y ≡ get_or ys k y
       → flat_map e (map view (take (k + 1) ys)) ≡ flat_map e (map view (take k ys)) ++ e (view y)
   one-more e ys k y lt at =
@@ -32,23 +32,21 @@ module _ {X Y : Type 0} (view : Y → X) (ids : List ℕ) (start : ℕ) where
 
   pub Adds-more : (codes : X → List ℕ) (edges : X → List UnpackedIndex) (ys : List Y) (a b c : CanonicalGroup) (k : ℕ) (y : Y)
       → k < length ys → y ≡ get_or ys k y
-      → Adds a b (flat_map codes (map view (take k ys))) (targets ids start (flat_map edges (map view (take k ys))))
-      → Adds b c (codes (view y)) (targets ids start (edges (view y)))
-      → Adds a c (flat_map codes (map view (take (k + 1) ys))) (targets ids start (flat_map edges (map view (take (k + 1) ys))))
+      → Adds a b (flat_map codes (map view (take k ys))) (flat_map edges (map view (take k ys)))
+      → Adds b c (codes (view y)) (edges (view y))
+      → Adds a c (flat_map codes (map view (take (k + 1) ys))) (flat_map edges (map view (take (k + 1) ys)))
   Adds-more codes edges ys a b c k y lt at first second =
       let both = Adds-then a b c _ _ _ _ first second in
       record {
         frame = both.frame ∙ ap (λ l. a.frame.items ++ l) (sym (one-more codes ys k y lt at));
-        names = both.names ∙ ap (λ l. a.references.items ++ l)
-            (sym (map-append (canonical_index ids start) (flat_map edges (map view (take k ys))) (edges (view y)))
-            ∙ ap (targets ids start) (sym (one-more edges ys k y lt at)));
+        names = both.names ∙ ap (λ l. a.references.items ++ l) (sym (one-more edges ys k y lt at));
       }
 
   pub Adds-code : (code : X → ℕ) (edges : X → List UnpackedIndex) (ys : List Y) (a b c : CanonicalGroup) (k : ℕ) (y : Y)
       → k < length ys → y ≡ get_or ys k y
-      → Adds a b (map code (map view (take k ys))) (targets ids start (flat_map edges (map view (take k ys))))
-      → Adds b c (code (view y) ∷ []) (targets ids start (edges (view y)))
-      → Adds a c (map code (map view (take (k + 1) ys))) (targets ids start (flat_map edges (map view (take (k + 1) ys))))
+      → Adds a b (map code (map view (take k ys))) (flat_map edges (map view (take k ys)))
+      → Adds b c (code (view y) ∷ []) (edges (view y))
+      → Adds a c (map code (map view (take (k + 1) ys))) (flat_map edges (map view (take (k + 1) ys)))
   Adds-code code edges ys a b c k y lt at first second =
       let single = flat_map_single code in
       let more = Adds-more (λ x. code x ∷ []) edges ys a b c k y lt at

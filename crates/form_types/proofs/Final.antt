@@ -74,6 +74,7 @@ module _ (m : plain.Module) (n : Numbering) (b : Built (plain.groups m) n) (vali
   numbered = record {
     each = b.counted ∙ all;
     exact = λ i j h k. exact gs gs number number (size gs) (size gs) b.numbered.tells i j (within i h) (within j k);
+    row = λ i h. b.numbered.in_row i (within i h);
     held = λ i h. stands i (within i h);
     in_order = λ i id h lt. b.numbered.in_order i id (within i h) lt;
     nothing_else = λ id lt. let f = b.numbered.nothing_else id lt in (f.0, omega (arith, f.1, all), f.2);

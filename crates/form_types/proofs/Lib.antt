@@ -3,9 +3,9 @@ mod Looking
 mod Adding
 mod Decoding
 mod FormLaws
-mod Steps
+pub mod Steps
 mod Listing
 mod Rows
 mod Built
-mod Ruled
+pub mod Ruled
 mod Final

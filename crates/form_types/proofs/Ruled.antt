@@ -1,9 +1,9 @@
 -- What the rules say of the groups of a module.
-use Rattle.std.proofs.Common.{◌≡◌, ◌∙◌, ℕ, zero, suc, ◌+◌, ◌<◌, ◌≤◌, List, [], ◌∷◌, ◌++◌, length, get_or, take, map, Option, Some, None, refl, sym, ap, subst, arith, length-append}
+use Rattle.std.proofs.Common.{◌≡◌, ◌∙◌, ℕ, zero, suc, ◌+◌, ◌<◌, ◌≤◌, List, [], ◌∷◌, ◌++◌, length, get_or, take, map, Option, Some, None, refl, sym, ap, subst, arith, length-append, append_assoc}
 use Rattle.std.specs.Prelude.{IfSome}
 use Rattle.std.specs.Option.{option_to_list}
 use Rattle.std.specs.List.{All}
-use Rattle.std.proofs.lemmas.List.{length-map, map-append, take-map, map_more, get_or-map}
+use Rattle.std.proofs.lemmas.List.{length-map, map-append, append-nil}
 use Rattle.std.proofs.lemmas.List.Folds.{length-flat_map-take}
 use Rattle.std.proofs.lemmas.List.Elements.{All-nil, All-cons, All-head, All-tail, All-append, All-map}
 use Rattle.form_lists.proofs.AllSections.{All-joined}
@@ -16,14 +16,15 @@ use Rattle.type_data.specs.Names.{plainly}
 use Rattle.type_spec.proofs.Homes.{joined, size}
 use Rattle.rule_spec.specs.Lists.{Declared, Lists, declared_from, declared_groups, lists_of_module}
 use Rattle.rule_spec.specs.TypeRules.{IsBelow, KindIsBelow, IsDeclaredWell}
-use denote.Ref.{Bor}
-use Rattle.form_data.specs.declared.types.RecGroup.{RecGroup as RecGroupRead}
+use Rattle.form_types.specs.declared.groups.Formed.{Formed}
 use Rattle.form_data.specs.Views.{group_of}
 use Rattle.form_types.specs.Types.{NamedGroup, types_by_id}
-use Rattle.form_types.specs.Groups.{lent_groups}
+use Rattle.form_types.specs.declared.building.Numbering.{Numbering}
+use Rattle.form_types.specs.Forms.{form_of}
+use Rattle.form_types.specs.Groups.{GroupAndForm, read_form, formed_of, with_form, lent_groups}
 use Rattle.form_types.specs.Placed.{place_of, placed}
 use Rattle.form_types.proofs.Steps.{NearIn, all-becomes}
-use Rattle.form_types.proofs.Built.{places}
+use Rattle.form_types.proofs.Built.{Built, places}
 
 -- ---- the declared types are the joined groups
 
@@ -100,32 +101,94 @@ rules-near m k lt all =
     subst (All (λ r. r < size (places (take k gs)) + length (placed g))) (sym ((plainly group_shape).edges_map place_of g))
     (All-map (λ r. r < size (places (take k gs)) + length (placed g)) place_of (group_edges (λ i. i) g) near)
 
--- ---- the groups of a form, as they are lent one by one
+-- ---- the groups of a form, as they are taken one by one
 
-module _ (m : plain.Module) (lent : List (Bor RecGroupRead)) (whole : lent_groups lent ≡ plain.groups m)
-    (k : ℕ) (item : Bor RecGroupRead) (lt : k < length lent) (is : item ≡ get_or lent k item) where
-  below : k < length (plain.groups m)
-  below = omega (arith, lt, ap length whole, length-map lent (λ (g : Bor RecGroupRead). group_of g.now))
+front : {A : Type 0} (xs ys : List A) → take (length xs) (xs ++ ys) ≡ xs
+front [] ys = refl
+front (x ∷ xs) ys = ap (λ l. x ∷ l) (front xs ys)
 
-  done-is : lent_groups (take k lent) ≡ take k (plain.groups m)
-  done-is = sym (take-map (λ (g : Bor RecGroupRead). group_of g.now) k lent) ∙ ap (take k) whole
+behind : {A : Type 0} (xs : List A) (y : A) (ys : List A) (d : A) → get_or (xs ++ y ∷ ys) (length xs) d ≡ y
+behind [] y ys d = refl
+behind (x ∷ xs) y ys d = behind xs y ys d
 
-  pub at : get_or (plain.groups m) k [] ≡ group_of item.now
-  at =
-      ap (λ l. get_or l k []) (sym whole) ∙ get_or-map (λ (g : Bor RecGroupRead). group_of g.now) lent k item [] lt
-      ∙ ap (λ (g : Bor RecGroupRead). group_of g.now) (sym is)
+module _ (m : plain.Module) (done : List NamedGroup) (g : NamedGroup) (rest : List NamedGroup) (whole : done ++ g ∷ rest ≡ plain.groups m) where
+  below : length done < length (plain.groups m)
+  below = omega (arith, ap length whole, length-append done (g ∷ rest))
 
-  pub one-more : lent_groups (take (k + 1) lent) ≡ lent_groups (take k lent) ++ group_of item.now ∷ []
-  one-more =
-      map_more (λ (g : Bor RecGroupRead). group_of g.now) lent k item lt
-      ∙ ap (λ (g : Bor RecGroupRead). lent_groups (take k lent) ++ group_of g.now ∷ []) (sym is)
+  done-is : done ≡ take (length done) (plain.groups m)
+  done-is = sym (front done (g ∷ rest)) ∙ ap (take (length done)) whole
 
-  pub room : size (places (lent_groups (take k lent))) + length (group_of item.now) ≤ length (plain.types m)
+  at : get_or (plain.groups m) (length done) [] ≡ g
+  at = ap (λ l. get_or l (length done) []) (sym whole) ∙ behind done g rest []
+
+  pub room : size (places done) + length g ≤ length (plain.types m)
   room =
-      let fits = length-flat_map-take (λ (g : NamedGroup). g) (plain.groups m) k [] below in
-      omega (arith, fits, ap length at, size-places (lent_groups (take k lent)), ap (λ l. length (types_by_id l)) done-is)
+      let fits = length-flat_map-take (λ (g : NamedGroup). g) (plain.groups m) (length done) [] below in
+      omega (arith, fits, ap length at, size-places done, ap (λ l. length (types_by_id l)) done-is)
 
   pub near-next : All (IsDeclaredWell (lists_of_module m)) (declared_groups 0 (plain.groups m))
-      → NearIn (record { start = size (places (lent_groups (take k lent))); members = placed (group_of item.now) })
+      → NearIn (record { start = size (places done); members = placed g })
   near-next all =
-      coe 0 1 (t. NearIn (record { start = size (places (sym done-is t)); members = placed (at t) })) (rules-near m k below all)
+      coe 0 1 (t. NearIn (record { start = size (places (sym done-is t)); members = placed (at t) })) (rules-near m (length done) below all)
+
+-- what is lent are the groups, with their forms
+lent-are : (fs : List Formed) (gs : List NamedGroup) → map formed_of fs ≡ map with_form gs → lent_groups fs ≡ gs
+lent-are [] [] same = refl
+lent-are [] (g ∷ gs) same = cc
+lent-are (f ∷ fs) [] same = cc
+lent-are (f ∷ fs) (g ∷ gs) same =
+    let whole : formed_of f ∷ map formed_of fs ≡ with_form g ∷ map with_form gs = same in
+    let head : formed_of f ≡ with_form g = cc in
+    let tail : map formed_of fs ≡ map with_form gs = cc in
+    let rest = lent-are fs gs tail in
+    λ i. (head i).group ∷ rest i
+
+item-formed : (fs : List Formed) (f : Formed) (rest : List Formed) (gs : List NamedGroup) → map formed_of (fs ++ f ∷ rest) ≡ map with_form gs
+    → form_of f.form ≡ read_form (group_of f.group.now)
+item-formed [] f rest [] same = cc
+item-formed [] f rest (g ∷ gs) same =
+    let whole : formed_of f ∷ map formed_of rest ≡ with_form g ∷ map with_form gs = same in
+    let head : formed_of f ≡ with_form g = cc in
+    ap (λ (x : GroupAndForm). x.form) head ∙ ap (λ (x : GroupAndForm). read_form x.group) (sym head)
+item-formed (e ∷ es) f rest [] same = cc
+item-formed (e ∷ es) f rest (g ∷ gs) same =
+    let whole : formed_of e ∷ map formed_of (es ++ f ∷ rest) ≡ with_form g ∷ map with_form gs = same in
+    let tail : map formed_of (es ++ f ∷ rest) ≡ map with_form gs = cc in
+    item-formed es f rest gs tail
+
+-- some groups are numbered, and so many come next
+pub record Walks (m : plain.Module) (n : Numbering) (done rest : List Formed) (count : ℕ) : Type 0 where
+  pub built : Built (lent_groups done) n
+  pub all : map formed_of (done ++ rest) ≡ map with_form (plain.groups m)
+  pub counts : count ≡ length rest
+
+no-items : {A : Type 0} (xs : List A) → length xs ≡ 0 → xs ≡ []
+no-items [] none = refl
+no-items (x ∷ xs) none = absurd (omega arith)
+
+-- the last was numbered
+pub walked : (m : plain.Module) (n : Numbering) (done rest : List Formed) (count : ℕ) → Walks m n done rest count → count ≡ 0 → Built (plain.groups m) n
+walked m n done rest count w none =
+    let over : rest ≡ [] = no-items rest (sym w.counts ∙ none) in
+    let done-all : map formed_of done ≡ map with_form (plain.groups m) =
+    ap (map formed_of) (sym (append-nil done) ∙ ap (λ l. done ++ l) (sym over)) ∙ w.all in
+    subst (λ l. Built l n) (lent-are done (plain.groups m) done-all) w.built
+
+module _ (m : plain.Module) (n : Numbering) (done rest : List Formed) (count : ℕ) (w : Walks m n done rest count)
+    (item : Formed) (rest' : List Formed) (next : rest ≡ item ∷ rest') where
+  all-next : map formed_of (done ++ item ∷ rest') ≡ map with_form (plain.groups m)
+  all-next = ap (λ l. map formed_of (done ++ l)) (sym next) ∙ w.all
+
+  pub whole-next : lent_groups done ++ group_of item.group.now ∷ lent_groups rest' ≡ plain.groups m
+  whole-next = sym (map-append (λ (f : Formed). group_of f.group.now) done (item ∷ rest')) ∙ lent-are (done ++ item ∷ rest') (plain.groups m) all-next
+
+  pub form-next : form_of item.form ≡ read_form (group_of item.group.now)
+  form-next = item-formed done item rest' (plain.groups m) all-next
+
+  pub walks-more : (n' : Numbering) (count' : ℕ) → Built (lent_groups done ++ group_of item.group.now ∷ []) n' → count' + 1 ≡ count
+      → Walks m n' (done ++ item ∷ []) rest' count'
+  walks-more n' count' built left = record {
+    built = subst (λ l. Built l n') (sym (map-append (λ (f : Formed). group_of f.group.now) done (item ∷ []))) built;
+    all = ap (map formed_of) (append_assoc done (item ∷ []) rest') ∙ all-next;
+    counts = omega (arith, left, w.counts, ap length next);
+  }

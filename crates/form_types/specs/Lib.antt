@@ -1,11 +1,11 @@
 pub mod Ids
 pub mod Seen
-pub mod Groups
 pub mod Types
 pub mod Kept
 pub mod Placed
 pub mod Codes
 pub mod Forms
+pub mod Groups
 pub mod Numbered
 pub mod Distinct
 pub mod Finding

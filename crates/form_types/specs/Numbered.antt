@@ -23,6 +23,9 @@ pub record AreNumbered (m : Module) (t : TypesData) : Type 0 where
   -- two declared types have one id exactly where they are equal by group and place
   pub exact : (i j : ℕ) → i < length (plain.types m) → j < length (plain.types m)
       → (slice_index t.declared i ≡ slice_index t.declared j) ↔ SameType (placed_groups m) (placed_groups m) i j
+  -- the members of a group have ids in a row
+  pub row : (i : ℕ) → i < length (plain.types m)
+      → slice_index t.declared i ≡ slice_index t.declared (home (placed_groups m) i).start + (i - (home (placed_groups m) i).start)
   -- the group of each declared type is the group at its id
   pub held : (i : ℕ) → i < length (plain.types m) → Stands t (home (placed_groups m) i) i (slice_index t.declared i)
   -- ids come in the order of first occurrence: each below that of a declared type is that of a type declared before

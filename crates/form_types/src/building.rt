@@ -4,19 +4,20 @@ ghost use Rattle.std.specs.Prelude.{◌≡◌, ◌+◌, ◌<◌, ◌^◌, length
 ghost use Rattle.wasm_spec.specs.Sizes.{HasFewEntries, HasShortTypes};
 ghost use Rattle.rule_spec.specs.Rules.{Keeps};
 ghost use Rattle.form_data.specs.Views.{group_of, module_of};
+ghost use Rattle.form_types.specs.Forms.{form_of};
+ghost use Rattle.form_types.specs.Groups.{read_form};
 ghost use Rattle.form_types.specs.Distinct.{IsListed};
 ghost use Rattle.form_types.specs.Numbered.{AreNumbered};
 ghost use Rattle.form_types.specs.Adding.{HasNone, HasFewIds, AddsGroup};
 
-use crate::canonical::CanonicalGroup;
 use crate::distinct::Distinct;
-use crate::finding::{FirstIds, find_or_note, make_form, push_row, seed_of};
-use crate::groups::all_groups;
+use crate::finding::{FirstIds, find_or_note, next_form, push_row, seed_of};
+use crate::groups::{Formed, all_groups};
 use crate::named::named_group;
 use crate::numbering::Types;
 use crate::validator::Validator;
 use entity_map::OutOfMemory;
-use form_data::{Form, RecGroup};
+use form_data::Form;
 use form_lists::Seeded;
 use std::alloc::{AllocError, Global};
 use std::collections::HashMap;
@@ -26,8 +27,6 @@ use wasm_spec::CoreTypeId;
 #[derive(Drop)]
 pub struct Numbering {
     pub first_ids: FirstIds,
-    /// Room for the form of the group that is looked up.
-    pub form: CanonicalGroup,
     pub distinct: Distinct,
     pub declared: Vec<CoreTypeId>,
 }
@@ -39,25 +38,26 @@ impl Numbering {
     {
         Numbering {
             first_ids: HashMap::with_hasher(alloc, Seeded::new(seed)),
-            form: CanonicalGroup::new(alloc),
             distinct: Distinct::new(alloc),
             declared: Vec::new(alloc),
         }
     }
 
     /// Gives ids to the members of a group: those of an equal group, or new ones.
-    fn add_group(&mut self, alloc: Global, group: &RecGroup) -> Result<(), AllocError>
-        requires some { 0 < length group.now.types.items }
-        requires room { length self.old.declared.items + length group.now.types.items < 2 ^ 30 }
-        requires few { self.old.distinct.next + length group.now.types.items < 2 ^ 30 }
+    fn add_group(&mut self, alloc: Global, group: Formed<'_>) -> Result<(), AllocError>
+        requires some { 0 < length group.group.now.types.items }
+        requires formed { form_of group.form ≡ read_form (group_of group.group.now) }
+        requires room { length self.old.declared.items + length group.group.now.types.items < 2 ^ 30 }
+        requires few { self.old.distinct.next + length group.group.now.types.items < 2 ^ 30 }
         requires ids { HasFewIds self.old.first_ids }
         requires listed { IsListed self.old.distinct (map group_of self.old.distinct.groups.items) }
-        ensures { OnOk result (AddsGroup self.old self.new (group_of group.now)) }
+        ensures { OnOk result (AddsGroup self.old self.new (group_of group.entry.group.now)) }
     {
+        let Formed { group, form } = group;
         let members = group.types.as_slice();
-        make_form(&mut self.form, &self.declared, members)?;
+        let form = next_form(alloc, &self.declared, form)?;
         let next = self.distinct.next;
-        match find_or_note(alloc, &mut self.first_ids, &self.form, next)? {
+        match find_or_note(&mut self.first_ids, form, next)? {
             Some(first) => push_row(&mut self.declared, first, members.len())?,
             None => {
                 push_row(&mut self.declared, next, members.len())?;
@@ -86,9 +86,10 @@ impl Types {
         ensures numbered { IfOk result (AreNumbered (module_of form.now)) }
     {
         let groups = all_groups(alloc, form)?;
-        let mut numbering = Numbering::new(alloc, seed_of(alloc, &groups)?);
-        for group in &groups {
-            if !group.types.is_empty() {
+        let seed = seed_of(&groups);
+        let mut numbering = Numbering::new(alloc, seed);
+        for group in groups {
+            if !group.group.types.is_empty() {
                 numbering.add_group(alloc, group)?;
             }
         }
@@ -98,6 +99,7 @@ impl Types {
             numbers: numbering.distinct.numbers,
             spans: numbering.distinct.spans,
             declared: numbering.declared,
+            seed,
         })
     }
 }

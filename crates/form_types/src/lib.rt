@@ -11,6 +11,7 @@ mod groups;
 mod members;
 mod named;
 mod numbering;
+mod seen;
 mod validator;
 
 pub use elements::{CoreTypeIds, RecGroupId};

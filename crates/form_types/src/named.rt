@@ -7,7 +7,7 @@ ghost use Rattle.form_data.specs.Views.{function_of, composite_of, sub_type_of, 
 ghost use Rattle.form_types.specs.Seen.{ids_of};
 ghost use Rattle.form_types.specs.Placed.{named_index};
 
-use crate::canonical::{id_at, place_of};
+use crate::seen::{id_at, place_of};
 use form_data::{CompositeInnerType, FuncType, RecGroup, SubType};
 use std::alloc::{AllocError, Global};
 use wasm_spec::{CoreTypeId, FieldType, HeapType, RefType, StorageType, UnpackedIndex, ValType};

@@ -24,6 +24,7 @@ pub struct Types {
     /// The first id of each group, and the id after the last member.
     pub(crate) spans: Vec<(u32, u32)>,
     pub(crate) declared: Vec<CoreTypeId>,
+    pub(crate) seed: u64,
 }
 
 impl Model for Types {
@@ -45,6 +46,12 @@ impl Types {
         ensures sound { IsSound self.now }
     {
         self.validator
+    }
+
+    /// A digest of the module's groups, from which hashers begin whose keys come from the same module. No clause says more of it. (This
+    /// project's own.)
+    pub fn seed(&self) -> u64 {
+        self.seed
     }
 
     /// How many types are declared.

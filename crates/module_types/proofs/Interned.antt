@@ -1,10 +1,8 @@
 -- What an interned type is named by.
 use Rattle.std.proofs.Common.{◌≡◌, ◌∙◌, ℕ, Some, refl, sym, ap}
 use Rattle.std.specs.Prelude.{slice_get}
-use Rattle.type_data.specs.Names.{Named}
 use Rattle.type_spec.specs.Interned.{kind_of_type}
-use Rattle.wasm_index.specs.Index.{number_of, index_of}
-use Rattle.wasm_types.specs.declared.index.EngineOrModuleTypeIndex.TheVariants.{Module}
+use Rattle.wasm_index.specs.Index.{number_of}
 use Rattle.wasm_types.specs.declared.composite.WasmCompositeInnerType.{WasmCompositeInnerType}
 use Rattle.wasm_types.specs.declared.composite.WasmCompositeInnerType.TheVariants as inner
 use Rattle.wasm_types.specs.declared.sub.WasmSubType.{WasmSubType}

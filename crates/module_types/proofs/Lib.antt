@@ -17,3 +17,14 @@ pub mod Finding
 pub mod MappedTypes
 pub mod Tying
 pub mod Interned
+pub mod Taking
+pub mod TakingBoth
+pub mod EqualLists
+pub mod WellNamed
+pub mod NamedSteps
+pub mod NamedLists
+pub mod Standing
+pub mod Compared
+pub mod NamingEarlier
+pub mod DeclaredGroups
+pub mod SameIndex

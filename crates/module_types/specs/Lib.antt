@@ -12,3 +12,5 @@ pub mod TypeListShape
 pub mod ClosureAnswers
 pub mod Converter
 pub mod Tied
+pub mod ListGroups
+pub mod InTurn

@@ -67,7 +67,7 @@ impl ModuleTypesBuilder {
         ModuleTypesBuilder {
             alloc,
             validator,
-            interner: Interner::new(alloc, validator.0),
+            interner: Interner::new(alloc),
             ids: HashMap::new(alloc),
             exceptions: HashMap::new(alloc),
             startup: None,

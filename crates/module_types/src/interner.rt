@@ -5,11 +5,12 @@ ghost use Rattle.std.specs.Option.{option_map};
 ghost use Rattle.wasm_spec.specs.TypeData.{Func};
 ghost use Rattle.type_spec.specs.Interned.{empty, plain, alone, meet, meet_all, opened, with_group, with_exception, with_startup, composite_at};
 ghost use Rattle.wasm_index.specs.Index.{number_of};
-ghost use Rattle.wasm_types.specs.Trampolines.{trampoline_of};
+ghost use Rattle.entity_map.specs.Cow.{value_of};
 ghost use Rattle.module_types.specs.Views.{called_of, interned_of, field_at};
 ghost use Rattle.module_types.specs.Orderly.{IsOrderly};
 ghost use Rattle.module_types.specs.Builder.{is_function};
-ghost use Rattle.module_types.specs.Interner.{built};
+ghost use Rattle.module_types.specs.Interner.{built, IsMapped};
+ghost use Rattle.std.specs.HashMap.{get};
 
 use crate::list::ModuleTypes;
 use entity_map::{EntityRef, OutOfMemory, TryCow};
@@ -43,13 +44,24 @@ fn plain_function(ty: WasmFuncType) -> WasmSubType
     }
 }
 
-// The type by which functions of a type are called.
-fn mapped_type(alloc: Global, ty: &WasmFuncType) -> Result<WasmFuncType, OutOfMemory>
-    ensures { IfOk result (λ t. t ≡ trampoline_of ty.now) }
+// What is known of the type by which functions of a type are called.
+#[derive(Drop)]
+pub(crate) enum Mapped {
+    /// It was met at an index.
+    Met(ModuleInternedTypeIndex),
+    /// It is the function's own type, and was not met.
+    Own(WasmFuncType),
+    /// It is another type, and was not met.
+    Other(WasmFuncType),
+}
+
+// The type that is borrowed or owned.
+fn lent<'t>(ty: &'t TryCow<'t, WasmFuncType>) -> &'t WasmFuncType
+    ensures { result.now ≡ value_of ty.now }
 {
-    match ty.trampoline_type(alloc)? {
-        TryCow::Borrowed(same) => same.try_clone(alloc),
-        TryCow::Owned(mapped) => Ok(mapped),
+    match ty {
+        TryCow::Borrowed(same) => same,
+        TryCow::Owned(mapped) => mapped,
     }
 }
 
@@ -76,12 +88,22 @@ fn fields_of_params(alloc: Global, types: &[WasmValType]) -> Result<Vec<WasmFiel
 
 impl Interner {
     /// An interner that holds nothing.
-    pub(crate) fn new(alloc: Global, seed: u64) -> Interner
+    pub(crate) fn new(alloc: Global) -> Interner
         ensures { built result ≡ empty }
     {
         Interner {
             list: ModuleTypes::new(alloc),
-            met: HashMap::with_hasher(alloc, Seeded::new(seed)),
+            met: HashMap::with_hasher(alloc, Seeded::new(0)),
+        }
+    }
+
+    // Lets the hashes of mapped types begin from a seed, as long as none was met.
+    fn seed_from(&mut self, alloc: Global, seed: u64)
+        ensures list { self.new.list ≡ self.old.list }
+        ensures built { built self.new ≡ built self.old }
+    {
+        if self.met.is_empty() {
+            self.met = HashMap::with_hasher(alloc, Seeded::new(seed));
         }
     }
 
@@ -101,6 +123,20 @@ impl Interner {
         Ok(())
     }
 
+    // The type by which functions of a type are called: where it was met, or else the type. Looking up copies nothing.
+    fn find_mapped(&self, alloc: Global, func: &WasmFuncType) -> Result<Mapped, OutOfMemory>
+        ensures { IfOk result (IsMapped (get ⟦<WasmFuncType as PartialEq>⟧.eq self.now.met) func.now) }
+    {
+        let mapped = func.trampoline_type(alloc)?;
+        if let Some(found) = self.met.get(lent(&mapped)).copied() {
+            return Ok(Mapped::Met(found));
+        }
+        match mapped {
+            TryCow::Borrowed(own) => Ok(Mapped::Own(own.try_clone(alloc)?)),
+            TryCow::Owned(other) => Ok(Mapped::Other(other)),
+        }
+    }
+
     // Gives the type at an index its trampoline, if it is a function.
     fn meet(&mut self, alloc: Global, ty: ModuleInternedTypeIndex) -> Result<(), OutOfMemory>
         requires in_range { number_of ty < length self.old.list.types }
@@ -111,22 +147,21 @@ impl Interner {
         let WasmCompositeInnerType::Func(func) = &self.list[ty].composite_type.inner else {
             return Ok(());
         };
-        let key = mapped_type(alloc, func)?;
-        let is_own = key == *func;
-        if let Some(found) = self.met.get(&key).copied() {
-            self.list.call_by(ty, found);
-            return Ok(());
+        match self.find_mapped(alloc, func)? {
+            Mapped::Met(found) => self.list.call_by(ty, found),
+            Mapped::Own(key) => {
+                self.met.insert(key, ty)?;
+                self.list.call_by(ty, ty);
+            }
+            Mapped::Other(key) => {
+                let copy = key.try_clone(alloc)?;
+                let trampoline = self.list.next_ty();
+                self.met.insert(key, trampoline)?;
+                self.list.call_by(ty, trampoline);
+                self.push_alone(plain_function(copy), Some(trampoline))?;
+            }
         }
-        if is_own {
-            self.met.insert(key, ty)?;
-            self.list.call_by(ty, ty);
-            return Ok(());
-        }
-        let copy = key.try_clone(alloc)?;
-        let trampoline = self.list.next_ty();
-        self.met.insert(key, trampoline)?;
-        self.list.call_by(ty, trampoline);
-        self.push_alone(plain_function(copy), Some(trampoline))
+        Ok(())
     }
 
     // Gives each of the types from an index on its trampoline.
@@ -155,10 +190,11 @@ impl Interner {
         Ok(())
     }
 
-    /// Puts a group behind the others, and then the trampolines that are missing.
+    /// Puts a group behind the others, and then the trampolines that are missing. Where it is the first, mapped types are hashed from the seed.
     pub(crate) fn push_group(
         &mut self,
         alloc: Global,
+        seed: u64,
         members: Vec<WasmSubType>,
     ) -> Result<(), OutOfMemory>
         requires filled { 0 < length members.items }
@@ -166,6 +202,7 @@ impl Interner {
         requires room { length (with_group (built self.old) (map interned_of members.items)).types < u32.MAX }
         ensures { OnOk result (built self.new ≡ with_group (built self.old) (map interned_of members.items)) }
     {
+        self.seed_from(alloc, seed);
         let first = self.list.len_types();
         self.open_group(members)?;
         self.meet_all(alloc, first)

@@ -46,6 +46,7 @@ impl ModuleTypesBuilder {
     // Appends a group under an id that is not held, and gives its index.
     fn append_group(
         &mut self,
+        seed: u64,
         id: RecGroupId,
         members: Vec<WasmSubType>,
     ) -> Result<ModuleInternedRecGroupIndex, OutOfMemory>
@@ -59,7 +60,7 @@ impl ModuleTypesBuilder {
     {
         self.poisoned = true;
         let next = self.interner.list.next_rec_group();
-        self.interner.push_group(self.alloc, members)?;
+        self.interner.push_group(self.alloc, seed, members)?;
         self.ids.insert(id.0, next)?;
         self.poisoned = false;
         Ok(next)
@@ -95,7 +96,7 @@ impl ModuleTypesBuilder {
             self.poisoned = true;
             return Err(BuildError::OutOfMemory);
         };
-        match self.append_group(id, members) {
+        match self.append_group(types.seed(), id, members) {
             Ok(index) => Ok(index),
             Err(_) => Err(BuildError::OutOfMemory),
         }

@@ -1,16 +1,26 @@
 //! Laws of interned lists. Each function is the proof of its clauses.
 
-ghost use Rattle.std.specs.Prelude.{◌≡◌, ◌↔◌, ◌<◌, ℕ, List, [], length, Some, true};
-ghost use Rattle.wasm_spec.specs.TypeData.{Func};
-ghost use Rattle.type_spec.specs.Interned.{Interned, Called, Built, empty, mapped, same_mapped, with_group, with_exception, with_startup, composite_at};
+ghost use Rattle.std.specs.Prelude.{◌≡◌, ◌↔◌, ◌<◌, ℕ, Bool, List, [], ◌∷◌, ◌++◌, length, get_or, slice_index, Some, true};
+ghost use Rattle.std.specs.List.{flat_map};
+ghost use Rattle.wasm_spec.specs.TypeData.{Group, Func};
+ghost use Rattle.wasm_spec.specs.Module.{Module};
+ghost use Rattle.rule_spec.specs.Rules.{Keeps};
+ghost use Rattle.type_spec.specs.Equality.{SameGroup, SameType};
+ghost use Rattle.type_spec.specs.Interned.{Interned, Called, Built, empty, mapped, same_mapped, with_group, with_exception, with_startup};
+ghost use Rattle.type_spec.specs.Interned.{composite_at, taken, interned};
+ghost use Rattle.type_spec.specs.Taken.{NameEarlier, TakeEqual, SameLists};
 ghost use Rattle.form_types.specs.Types.{TypesData};
+ghost use Rattle.form_types.specs.Placed.{placed_groups};
+ghost use Rattle.form_types.specs.Numbered.{AreNumbered};
 ghost use Rattle.module_types.specs.Orderly.{IsOrderly};
 ghost use Rattle.module_types.specs.Builder.{Builder, new_builder, interns};
-ghost use Rattle.module_types.specs.Conversion.{members_of, HoldsGroups};
+ghost use Rattle.module_types.specs.Conversion.{group_of_id, members_of, interned_index, HoldsGroups};
 ghost use Rattle.module_types.specs.Tied.{trampoline_in, IsTied};
+ghost use Rattle.module_types.specs.InTurn.{interns_declared, HasTaken, CanIntern};
+ghost use Rattle.module_types.specs.ListGroups.{group_at, list_groups, IsWellNamed, EngineMap, TellTypes, IsCompared};
 ghost use Rattle.module_types.specs.Runs.{with_groups, runs, firsts, AllFilled};
 
-use wasm_types::equality_law;
+use wasm_types::{WasmRecGroup, equality_law};
 
 /// The groups of a builder lie behind one another, from the first type to the last: those of the empty one do, and each step keeps it.
 pub fn ranges_law()
@@ -56,4 +66,60 @@ pub fn runs_law()
 pub fn told_law()
     ensures { (tss uss : List (List Interned)) → AllFilled tss → AllFilled uss
         → (tss ≡ uss) ↔ (((with_groups empty tss).types ≡ (with_groups empty uss).types) × ((with_groups empty tss).groups ≡ (with_groups empty uss).groups)) }
+{}
+
+/// In a module that keeps the rules each reference names a type of its own group or of an earlier one.
+pub fn earlier_law()
+    ensures { (m : Module) → Keeps m → NameEarlier 0 (placed_groups m) }
+{}
+
+/// A builder that interned the declared groups of a module in turn holds what the definition takes, and each declared type at the index
+/// that the definition gives it; so two declared types have one interned index exactly where they are equal.
+pub fn declared_groups_law()
+    ensures taken { (m : Module) (t : TypesData) → AreNumbered m t → NameEarlier 0 (placed_groups m) → (validator : ℕ)
+        → HasTaken t (interns_declared t (new_builder validator) 0 (placed_groups m)) (taken (placed_groups m)) }
+    ensures told { (m : Module) (t : TypesData) → AreNumbered m t → NameEarlier 0 (placed_groups m) → (validator i j : ℕ)
+        → i < length t.declared → j < length t.declared
+        → (interned_index t (interns_declared t (new_builder validator) 0 (placed_groups m)) (slice_index t.declared i)
+        ≡ interned_index t (interns_declared t (new_builder validator) 0 (placed_groups m)) (slice_index t.declared j))
+        ↔ SameType (placed_groups m) (placed_groups m) i j }
+{}
+
+/// After the declared groups before it each group can be interned.
+pub fn next_group_law()
+    ensures { (m : Module) (t : TypesData) → AreNumbered m t → NameEarlier 0 (placed_groups m) → (validator : ℕ)
+        (gs rest : List (Group ℕ ℕ)) (g : Group ℕ ℕ) → placed_groups m ≡ gs ++ g ∷ rest → 0 < length g
+        → CanIntern t (interns_declared t (new_builder validator) 0 gs) (group_of_id t (slice_index t.declared (length (flat_map (λ h. h) gs)))) }
+{}
+
+/// Two declared types have one interned index exactly where they are equal.
+pub fn declared_law()
+    ensures { (ms : List (Group ℕ ℕ)) → NameEarlier 0 ms → (i j : ℕ) → i < length (taken ms).declared → j < length (taken ms).declared
+        → (get_or (taken ms).declared i 0 ≡ get_or (taken ms).declared j 0) ↔ SameType ms ms i j }
+{}
+
+/// Each declared type is equal to the interned type at its index.
+pub fn same_type_law()
+    ensures { (ms : List (Group ℕ ℕ)) → NameEarlier 0 ms → (tags : List ℕ) (startup : Bool) (i : ℕ) → i < length (taken ms).declared
+        → SameType ms (list_groups (interned ms tags startup)) i (get_or (taken ms).declared i 0) }
+{}
+
+/// Before exception types and the startup type the interned lists of two modules are equal exactly where the groups that are taken of
+/// the two are equally many and equal in turn.
+pub fn equal_lists_law()
+    ensures { (ms ns : List (Group ℕ ℕ)) → NameEarlier 0 ms → NameEarlier 0 ns
+        → SameLists (taken ms).built (taken ns).built ↔ TakeEqual ms ns }
+{}
+
+/// In the interned list of a module each reference names a type of its own group or of an earlier one, by its kind.
+pub fn well_named_law()
+    ensures { (ms : List (Group ℕ ℕ)) → NameEarlier 0 ms → (tags : List ℕ) (startup : Bool) → IsWellNamed (interned ms tags startup) }
+{}
+
+/// Where the engine's indices of two lists' types are equal exactly for equal types, canonical forms of a group of each, over its own
+/// range, are equal exactly where the groups are.
+pub fn compared_groups_law()
+    ensures { (b b' : Built) → IsWellNamed b → IsWellNamed b' → (engine engine' : EngineMap) → TellTypes b b' engine engine'
+        → (k l : ℕ) (x x' y y' : WasmRecGroup) → IsCompared b engine k x x' → IsCompared b' engine' l y y'
+        → (x' ≡ y') ↔ SameGroup (λ i j. SameType (list_groups b) (list_groups b') i j) (group_at b k) (group_at b' l) }
 {}

@@ -1,8 +1,9 @@
 -- Equality of types is an equivalence, and does not depend on how far down it is followed.
-use Rattle.std.proofs.Common.{◌≡◌, ◌∙◌, ◌<◌, ◌≤◌, ℕ, zero, suc, ◌+◌, ◌-◌, Bool, true, false, List, [], ◌∷◌, length, refl, sym, arith}
+use Rattle.std.proofs.Common.{◌≡◌, ◌∙◌, ◌<◌, ◌≤◌, ℕ, zero, suc, ◌+◌, ◌-◌, Bool, true, false, List, [], ◌∷◌, length, refl, sym, ap, arith}
 use Rattle.std.specs.Prelude.{nat_le, nat_lt, if◌then◌else◌}
 use Rattle.std.specs.List.{AllZip}
 use Rattle.std.proofs.lemmas.Bool.{ltb-false, leb-false}
+use Rattle.std.proofs.lemmas.List.{length-map}
 use Rattle.wasm_spec.specs.TypeData.{Group}
 use Rattle.type_data.specs.TypeShapes.{group_shape}
 use Rattle.type_data.specs.Names.{plainly, zip-becomes}
@@ -158,3 +159,32 @@ type-chained ms ns ls i j k x y =
 -- a type's own place is as far as one has to go
 pub type-deep : (d : ℕ) (ms ns : List (Group ℕ ℕ)) (i j : ℕ) → SameDown d ms ns i j → SameType ms ns i j
 type-deep d ms ns i j x = down-fuel d (suc i) ms ns i j (omega arith) x
+
+-- ---- types in equal groups
+
+abbrev TypeSame : List (Group ℕ ℕ) → List (Group ℕ ℕ) → ℕ → ℕ → Type 0
+TypeSame ms ns r s = SameType ms ns r s
+
+-- equal types stand in equal groups
+pub type-groups : (ms ns : List (Group ℕ ℕ)) (i j : ℕ) → SameType ms ns i j → SameGroup (TypeSame ms ns) (home ms i) (home ns j)
+type-groups ms ns i j x =
+    group-smaller (λ r s. SameDown i ms ns r s) (TypeSame ms ns) (home ms i) (home ns j) (λ r s before y. type-deep i ms ns r s y) x.1
+
+-- types at one place of equal groups are equal
+pub groups-type : (ms ns : List (Group ℕ ℕ)) (i j : ℕ) → i - (home ms i).start ≡ j - (home ns j).start
+    → SameGroup (TypeSame ms ns) (home ms i) (home ns j) → SameType ms ns i j
+groups-type ms ns i j at x = (
+  at,
+  group-smaller (TypeSame ms ns) (λ r s. SameDown i ms ns r s) (home ms i) (home ns j)
+      (λ r s before y. down-fuel (suc r) i ms ns r s (omega (arith, before, home-start ms i)) y) x,
+)
+
+-- equal groups are equally long
+pub groups-long : (P : ℕ → ℕ → Type 0) (g h : Home) → SameGroup P g h → length g.members ≡ length h.members
+groups-long P g h x = sym (length-map g.members _) ∙ ap length x.frames ∙ length-map h.members _
+
+-- types at equal places of the groups of equal types are equal
+pub type-beside : (ms ns : List (Group ℕ ℕ)) (i j k l : ℕ) → SameType ms ns i j → home ms k ≡ home ms i → home ns l ≡ home ns j
+    → k - (home ms k).start ≡ l - (home ns l).start → SameType ms ns k l
+type-beside ms ns i j k l x left right at =
+    groups-type ms ns k l at (coe 0 1 (t. SameGroup (TypeSame ms ns) (sym left t) (sym right t)) (type-groups ms ns i j x))

@@ -1,5 +1,5 @@
 -- Where the groups of a list stand in the joined list.
-use Rattle.std.proofs.Common.{◌≡◌, ◌∙◌, ℕ, zero, suc, ◌+◌, ◌-◌, ◌<◌, ◌≤◌, List, [], ◌∷◌, ◌++◌, length, get_or, Bool, true, false, refl, sym, ap, arith, length-append}
+use Rattle.std.proofs.Common.{◌≡◌, ◌∙◌, ℕ, ◌+◌, ◌-◌, ◌<◌, ◌≤◌, List, [], ◌∷◌, ◌++◌, length, get_or, Bool, true, false, refl, sym, ap, arith, length-append}
 use Rattle.std.specs.List.{flat_map}
 use Rattle.std.proofs.lemmas.Bool.{ltb-true, ltb-false, lt-ltb, le-ltb}
 use Rattle.std.proofs.lemmas.List.{get_or_append_left, get_or-append_right}
@@ -14,7 +14,7 @@ joined gs = flat_map (λ g. g) gs
 abbrev pub size : List (Group ℕ ℕ) → ℕ
 size gs = length (joined gs)
 
-size-cons : (g : Group ℕ ℕ) (gs : List (Group ℕ ℕ)) → size (g ∷ gs) ≡ length g + size gs
+pub size-cons : (g : Group ℕ ℕ) (gs : List (Group ℕ ℕ)) → size (g ∷ gs) ≡ length g + size gs
 size-cons g gs = length-append g (joined gs)
 
 -- the type at a place is a member of the group
@@ -23,10 +23,10 @@ pub record Holds (g : Home) (i : ℕ) : Type 0 where
   pub to : i < g.start + length g.members
 
 module _ (start : ℕ) (g : Group ℕ ℕ) (gs : List (Group ℕ ℕ)) (i : ℕ) where
-  in_front : i < start + length g → home_from start (g ∷ gs) i ≡ record { start = start; members = g }
+  pub in_front : i < start + length g → home_from start (g ∷ gs) i ≡ record { start = start; members = g }
   in_front lt = rw (lt-ltb i (start + length g) lt) refl
 
-  behind : start + length g ≤ i → home_from start (g ∷ gs) i ≡ home_from (start + length g) gs i
+  pub behind : start + length g ≤ i → home_from start (g ∷ gs) i ≡ home_from (start + length g) gs i
   behind le = rw (le-ltb i (start + length g) le) refl
 
 -- ---- the group at a place has it, and lies within the list

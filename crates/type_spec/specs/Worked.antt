@@ -25,6 +25,10 @@ longer = (function true [] ∷ []) ∷ (function true [] ∷ function false [] �
 abbrev pub repeated : List (Group ℕ ℕ)
 repeated = (function true [] ∷ []) ∷ (function true [] ∷ []) ∷ (function false [] ∷ []) ∷ []
 
+-- the same two, the open one first
+abbrev pub turned : List (Group ℕ ℕ)
+turned = (function false [] ∷ []) ∷ (function true [] ∷ []) ∷ []
+
 abbrev pub not_null : {H : Type 0} → Heap H → Value H
 not_null h = Ref (record { nullable = false; heap = h })
 

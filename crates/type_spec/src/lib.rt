@@ -7,5 +7,5 @@ mod worked;
 pub use laws::{canonical_law, decided_law, equivalence_law};
 pub use worked::{
     worked_as_called, worked_equality, worked_exceptions, worked_hollow, worked_repeated,
-    worked_trampoline,
+    worked_taken, worked_trampoline,
 };

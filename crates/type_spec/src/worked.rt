@@ -5,7 +5,8 @@ ghost use Rattle.wasm_spec.specs.TypeData.{Abstract, Concrete, Func, Exn, Val};
 ghost use Rattle.type_data.specs.Names.{FuncName};
 ghost use Rattle.type_spec.specs.Equality.{same_type};
 ghost use Rattle.type_spec.specs.Interned.{interned, taken, plain, startup_type};
-ghost use Rattle.type_spec.specs.Worked.{twice, rings, longer, repeated, itself, hollow, as_called, not_null, or_null};
+ghost use Rattle.type_spec.specs.Taken.{taken_groups};
+ghost use Rattle.type_spec.specs.Worked.{function, twice, rings, longer, repeated, turned, itself, hollow, as_called, not_null, or_null};
 
 use wasm_spec::AbstractHeapType;
 
@@ -32,6 +33,16 @@ pub fn worked_repeated()
 pub fn worked_hollow()
     ensures groups { (interned hollow [] false).groups ≡ record { start = 0; end = 1 } ∷ record { start = 1; end = 2 } ∷ [] }
     ensures declared { (taken hollow).declared ≡ 0 ∷ 1 ∷ [] }
+{}
+
+/// Lists that take equal groups in turn have one interned list, wherever the groups start; in another order they have another.
+pub fn worked_taken()
+    ensures repeated { taken_groups repeated ≡ record { start = 0; members = function true [] ∷ [] } ∷ record { start = 2; members = function false [] ∷ [] } ∷ [] }
+    ensures hollow { taken_groups hollow ≡ record { start = 0; members = function true [] ∷ [] } ∷ record { start = 1; members = function false [] ∷ [] } ∷ [] }
+    ensures turned { taken_groups turned ≡ record { start = 0; members = function false [] ∷ [] } ∷ record { start = 1; members = function true [] ∷ [] } ∷ [] }
+    ensures one { (taken repeated).built.types ≡ (taken hollow).built.types }
+    ensures other { (taken turned).built.types ≡ record { is_final = false; supertype = None; composite = record { inner = Func (record { params = []; results = [] }); shared = false } }
+        ∷ plain (Func (record { params = []; results = [] })) ∷ [] }
 {}
 
 /// A function that takes a reference has a trampoline of its own, in a group of its own.

@@ -12,16 +12,15 @@ use Rattle.form_types.proofs.building.Numbering.add_group.Goals as goal
 
 pub returns-in_ok-push_row-in-Some : goal.returns-in_ok-push_row-in-Some
 returns-in_ok-push_row-in-Some c =
-    let g = group_of c.args.group.now in
-    let form = c.make_form.new.form in
+    let g = group_of c.args.group.group.now in
+    let form = c.in_ok-form.form in
     let long : length c.as_slice-members.result.now ≡ length g =
-    ap length c.as_slice-members.ensures.value ∙ sym (length-map c.args.group.now.types.items sub_type_of) in
+    ap length c.as_slice-members.ensures.value ∙ sym (length-map c.args.group.group.now.types.items sub_type_of) in
     let found : Some c.in-Some.first ≡ first_of c.args.self.now.first_ids form = sym c.in-Some.is ∙ c.in_ok-first.ensures.found in
     record {
       form = form;
-      form_is = c.in_ok-make_form.ensures
-          ∙ (λ i. next_form (ids_of (c.deref.ensures.value i)) (placed (map sub_type_of (c.as_slice-members.ensures.value i))));
-      adds = subst (λ o. AddsBy c.args.self.now (record { first_ids = c.find_or_note.new.first_ids; form = form; distinct = c.args.self.now.distinct; declared = c.push_row.new.ids }) g form o) found (record {
+      form_is = c.in_ok-form.ensures g c.requires.formed ∙ ap (λ l. next_form (ids_of l) (placed g)) c.deref.ensures.value;
+      adds = subst (λ o. AddsBy c.args.self.now (record { first_ids = c.find_or_note.new.first_ids; distinct = c.args.self.now.distinct; declared = c.push_row.new.ids }) g form o) found (record {
         ids = c.in_ok-push_row-in-Some.ensures ∙ ap (λ n. ids_of c.args.self.now.declared.items ++ range_with_len c.in-Some.first n) long;
         listed = c.requires.listed;
         met = rw c.in-Some.is at c.in_ok-first.ensures.noted;
@@ -30,10 +29,10 @@ returns-in_ok-push_row-in-Some c =
 
 pub returns-in_ok-push-in-None : goal.returns-in_ok-push-in-None
 returns-in_ok-push-in-None c =
-    let g = group_of c.args.group.now in
-    let form = c.make_form.new.form in
+    let g = group_of c.args.group.group.now in
+    let form = c.in_ok-form.form in
     let long : length c.as_slice-members.result.now ≡ length g =
-    ap length c.as_slice-members.ensures.value ∙ sym (length-map c.args.group.now.types.items sub_type_of) in
+    ap length c.as_slice-members.ensures.value ∙ sym (length-map c.args.group.group.now.types.items sub_type_of) in
     let found : None ≡ first_of c.args.self.now.first_ids form = sym c.in-None.is ∙ c.in_ok-first.ensures.found in
     let named : group_of c.in_ok-named-in-None.named ≡ map_group (named_index (ids_of c.push_row-in-None.new.ids.items)) (named_index (ids_of c.push_row-in-None.new.ids.items)) g =
     c.in_ok-named-in-None.ensures
@@ -41,9 +40,8 @@ returns-in_ok-push-in-None c =
     (map sub_type_of (c.as_slice-members.ensures.value i))) in
     record {
       form = form;
-      form_is = c.in_ok-make_form.ensures
-          ∙ (λ i. next_form (ids_of (c.deref.ensures.value i)) (placed (map sub_type_of (c.as_slice-members.ensures.value i))));
-      adds = subst (λ o. AddsBy c.args.self.now (record { first_ids = c.find_or_note.new.first_ids; form = form; distinct = c.push.new.self; declared = c.push_row-in-None.new.ids }) g form o) found (record {
+      form_is = c.in_ok-form.ensures g c.requires.formed ∙ ap (λ l. next_form (ids_of l) (placed g)) c.deref.ensures.value;
+      adds = subst (λ o. AddsBy c.args.self.now (record { first_ids = c.find_or_note.new.first_ids; distinct = c.push.new.self; declared = c.push_row-in-None.new.ids }) g form o) found (record {
         ids = c.in_ok-push_row-in-None.ensures ∙ ap (λ n. ids_of c.args.self.now.declared.items ++ range_with_len c.args.self.now.distinct.next n) long;
         listed = subst (λ x. IsListed c.push.new.self (map group_of c.args.self.now.distinct.groups.items ++ x ∷ [])) named c.in_ok-push-in-None.ensures;
         met = rw c.in-None.is at c.in_ok-first.ensures.noted;

@@ -2,7 +2,6 @@ use Rattle.std.proofs.Common.{◌≡◌, take}
 use Rattle.std.proofs.lemmas.List.{get_or_default, take_all}
 use Rattle.wasm_spec.specs.TypeData.{field_of, field_edges}
 use Rattle.form_types.specs.Codes.{field_codes}
-use Rattle.form_types.specs.Seen.{ids_of}
 use Rattle.form_types.proofs.Adding.{Adds-none, Adds-end, Adds-more}
 use Rattle.form_types.proofs.canonical.CanonicalGroup.add_fields.Goals as goal
 
@@ -11,7 +10,7 @@ loop-field-init c = Adds-none c.args.self.now
 
 pub loop-field-preserved : goal.loop-field-preserved
 loop-field-preserved c =
-    Adds-more field_of (ids_of c.args.seen.ids.now) c.args.seen.start field_codes (field_edges (λ i. i)) c.args.fields.now
+    Adds-more field_of field_codes (field_edges (λ i. i)) c.args.fields.now
     c.args.self.now c.loop-field.self c.add_field.new.self c.loop-field.field-index _ c.loop-field-test.true
     (get_or_default c.args.fields.now c.loop-field.field-index _ _ c.loop-field-test.true) c.loop-field.invariant c.in_ok-add_field.ensures
 

@@ -2,11 +2,10 @@ use Rattle.std.proofs.Common.{map, take}
 use Rattle.wasm_spec.specs.TypeData.{group_edges}
 use Rattle.form_data.specs.Views.{sub_type_of}
 use Rattle.form_types.specs.Codes.{group_codes}
-use Rattle.form_types.specs.Seen.{ids_of}
-use Rattle.form_types.specs.Forms.{targets, Adds}
+use Rattle.form_types.specs.Forms.{Adds}
 use Rattle.form_types.proofs.canonical.CanonicalGroup.add_group.Given as goal
 
 abbrev pub invariant-loop-ty : goal.invariant-loop-ty
 invariant-loop-ty l =
     Adds l.initial.self l.self (group_codes (map sub_type_of (take l.ty-index l.types)))
-    (targets (ids_of l.seen.ids.now) l.seen.start (group_edges (λ i. i) (map sub_type_of (take l.ty-index l.types))))
+    (group_edges (λ i. i) (map sub_type_of (take l.ty-index l.types)))

@@ -2,7 +2,6 @@ use Rattle.std.proofs.Common.{◌≡◌, take}
 use Rattle.std.proofs.lemmas.List.{get_or_default, take_all}
 use Rattle.wasm_spec.specs.TypeData.{value_of, value_edges}
 use Rattle.form_types.specs.Codes.{value_code}
-use Rattle.form_types.specs.Seen.{ids_of}
 use Rattle.form_types.proofs.Adding.{Adds-none, Adds-end, Adds-code}
 use Rattle.form_types.proofs.canonical.CanonicalGroup.add_values.Goals as goal
 
@@ -11,7 +10,7 @@ loop-value-init c = Adds-none c.args.self.now
 
 pub loop-value-preserved : goal.loop-value-preserved
 loop-value-preserved c =
-    Adds-code value_of (ids_of c.args.seen.ids.now) c.args.seen.start value_code (value_edges (λ i. i)) c.args.values.now
+    Adds-code value_of value_code (value_edges (λ i. i)) c.args.values.now
     c.args.self.now c.loop-value.self c.add_value.new.self c.loop-value.value-index _ c.loop-value-test.true
     (get_or_default c.args.values.now c.loop-value.value-index _ _ c.loop-value-test.true) c.loop-value.invariant c.in_ok-add_value.ensures
 

@@ -2,11 +2,10 @@ use Rattle.std.proofs.Common.{map, take}
 use Rattle.std.specs.List.{flat_map}
 use Rattle.wasm_spec.specs.TypeData.{value_of, value_edges}
 use Rattle.form_types.specs.Codes.{value_code}
-use Rattle.form_types.specs.Seen.{ids_of}
-use Rattle.form_types.specs.Forms.{targets, Adds}
+use Rattle.form_types.specs.Forms.{Adds}
 use Rattle.form_types.proofs.canonical.CanonicalGroup.add_values.Given as goal
 
 abbrev pub invariant-loop-value : goal.invariant-loop-value
 invariant-loop-value l =
     Adds l.initial.self l.self (map value_code (map value_of (take l.value-index l.values)))
-    (targets (ids_of l.seen.ids.now) l.seen.start (flat_map (value_edges (λ i. i)) (map value_of (take l.value-index l.values))))
+    (flat_map (value_edges (λ i. i)) (map value_of (take l.value-index l.values)))

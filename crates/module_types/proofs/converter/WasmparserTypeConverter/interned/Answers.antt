@@ -1,7 +1,6 @@
 use Rattle.std.proofs.Common.{◌<◌, length, sym}
 use Rattle.std.specs.Option.{option_map}
-use Rattle.wasm_index.specs.Index.{number_of, index_of}
-use Rattle.module_types.specs.Converter.{answered, answered-is, answered-held}
+use Rattle.module_types.specs.Converter.{answered-is, answered-held}
 use Rattle.module_types.proofs.converter.WasmparserTypeConverter.interned.Goals as goal
 
 pub returns-clause-answered : goal.returns-clause-answered

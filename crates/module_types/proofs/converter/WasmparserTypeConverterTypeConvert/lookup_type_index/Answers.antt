@@ -1,17 +1,14 @@
-use Rattle.std.proofs.Common.{◌≡◌, ◌∙◌, ◌<◌, length, map, nat_eq, refl, sym, ap}
+use Rattle.std.proofs.Common.{◌∙◌, length, map, nat_eq, sym, ap}
 use Rattle.std.specs.Option.{option_map}
 use Rattle.std.specs.Map.{lookup}
 use Rattle.wasm_spec.specs.declared.types.UnpackedIndex.TheVariants as index
-use Rattle.wasm_spec.specs.TypeData.{Concrete}
 use Rattle.wasm_index.specs.Index.{number_of, index_of}
 use Rattle.wasm_types.specs.declared.index.EngineOrModuleTypeIndex.TheVariants.{Module}
 use Rattle.wasm_convert.specs.Conversion.{index_in}
 use Rattle.wasm_convert.specs.Known.{CanLookUp}
 use Rattle.module_types.specs.Views.{span_of}
-use Rattle.module_types.specs.TypeList.{TypeList}
 use Rattle.module_types.specs.Conversion.{KnowsId}
 use Rattle.module_types.specs.Converter.{KnowsIndex, knows_ids, look_index}
-use Rattle.module_types.proofs.Interned.{name-is}
 use Rattle.module_types.proofs.converter.WasmparserTypeConverterTypeConvert.lookup_type_index.Goals as goal
 
 pub interned-requires-clause-below : goal.interned-requires-clause-below
