@@ -7,3 +7,8 @@ pub mod ImagesSeen
 pub mod Planning
 pub mod ImagesOff
 pub mod MemoriesKept
+mod Held
+mod Holding
+mod Agreeing
+mod WholeRanges
+mod OtherHalf

@@ -43,6 +43,7 @@ MemoryHalfIsReady-new i t h = record {
   segmented = new-segmented i t h;
   no_ranges = new-ranges i t h;
   no_runtime = h.no_runtime;
+  no_alignment = h.no_alignment;
   nothing_found = h.nothing_found;
   imports = rw (new-imports i t h, new-memories i t h) (omega arith);
   few_memories = rw (new-memories i t h) (omega arith);

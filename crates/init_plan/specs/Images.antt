@@ -1,5 +1,5 @@
 -- The memories of a translated module, as the image rule asks of them.
-use Rattle.std.specs.Prelude.{◌≡◌, ◌++◌, ◌+◌, Bool, false, true, ℕ, List, length, map, drop, slice_get, Option, None, Some}
+use Rattle.std.specs.Prelude.{◌≡◌, ◌++◌, ◌+◌, ◌%◌, IsSomeAnd, Bool, false, true, ℕ, List, length, map, drop, slice_get, Option, None, Some}
 use Rattle.std.specs.Global.{Vec}
 use Rattle.memory_images.specs.declared.image.Image.{Image}
 use Rattle.memory_images.specs.Images.{images_of as images_seen}
@@ -28,9 +28,9 @@ image_memories m = map image_memory (drop m.num_imported_memories m.memories)
 abbrev pub image_options : Tunables → ℕ → ℕ → ImageOptions
 image_options tunables page_size max_image = record { enabled = tunables.memory_init_cow; page = page_size; max_image = max_image }
 
--- memories begin as images exactly where the image rule holds, and the alignment is then the size of their pages
+-- memories begin as images exactly where the image rule holds; the alignment is then the size of their pages, and else there is none
 pub record BeginsByRule (options : ImageOptions) (old new : ModuleTranslation) : Type 0 where
-  pub segmented : IsSegmented new.module.memory_initialization → (IsStatic options old.module.num_imported_memories (image_memories old.module) (initializers_of old) → ⊥) × (new.data_align ≡ old.data_align)
+  pub segmented : IsSegmented new.module.memory_initialization → (IsStatic options old.module.num_imported_memories (image_memories old.module) (initializers_of old) → ⊥) × (new.data_align ≡ None)
   pub images : (IsSegmented new.module.memory_initialization → ⊥) → IsStatic options old.module.num_imported_memories (image_memories old.module) (initializers_of old) × (new.data_align ≡ Some options.page)
 
 -- each image of a plan is whole pages within its memory, has the contents, and is tight
@@ -39,6 +39,15 @@ HasTightImages options imports memories active passive plan = (planned : PlansIm
     → (m : ℕ) (memory : ImageMemory) (image : MemoryImage) → slice_get memories m ≡ Some memory
     → slice_get planned.images (imports + m) ≡ Some (Some image)
     → IsTight options memory (written_on active (imports + m)) (bytes_on (imports + m) active) image
+
+-- a range from a page to a page
+abbrev pub IsWholeRange : ℕ → ℕ × ℕ → Type 0
+IsWholeRange page range = (range.0 % page ≡ 0) × (range.1 % page ≡ 0)
+
+-- the runtime data of each image have such a range
+abbrev pub HasWholeRanges : ℕ → List (Option (ℕ × ℕ)) → List (ℕ × ℕ) → Type 0
+HasWholeRanges page images ranges = (m start index : ℕ) → slice_get images m ≡ Some (Some (start, index))
+    → IsSomeAnd (slice_get ranges index) (IsWholeRange page)
 
 -- ---- the steps
 

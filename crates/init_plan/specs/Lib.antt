@@ -4,3 +4,5 @@ pub mod Errors
 pub mod Images
 pub mod Startup
 pub mod Tables
+pub mod Held
+pub mod Agreement

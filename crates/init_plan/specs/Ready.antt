@@ -10,6 +10,7 @@ pub record MemoryHalfIsReady (t : ModuleTranslation) : Type 0 where
   pub segmented : IsSegmented t.module.memory_initialization
   pub no_ranges : ranges_of t.module ≡ []
   pub no_runtime : t.runtime_data ≡ []
+  pub no_alignment : t.data_align ≡ None
   pub nothing_found : t.runtime_data_map ≡ record { default = None; items = [] }
   pub imports : t.module.num_imported_memories ≤ length t.module.memories
   pub few_memories : length t.module.memories < 2 ^ 30

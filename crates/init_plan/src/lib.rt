@@ -5,6 +5,7 @@ mod debug_info;
 mod error;
 mod image_data;
 mod images;
+mod laws;
 mod memory_init;
 mod memory_startup;
 mod runtime_data;
@@ -14,6 +15,7 @@ mod translation;
 
 pub use debug_info::{BranchHint, DebugInfoData, FunctionMetadata, NameSection, WasmFileInfo};
 pub use error::PlanError;
+pub use laws::{agreement_law, held_agreement_laws, held_expression_laws};
 pub use memory_images::{Written, written_ranges};
 pub use translation::{
     FunctionBodyData, MemoryInit, MemorySegmentOffset, ModuleTranslation, RuntimeBytes,

@@ -1,6 +1,6 @@
 //! Startup, where the memories are planned.
 
-ghost use Rattle.std.specs.Prelude.{◌≡◌, ◌↔◌, ◌<◌, ◌≤◌, ◌^◌, ℕ, length, map, sum_by, false, true, is_none, IsTrue, All, Contains, Err, None, OnOk};
+ghost use Rattle.std.specs.Prelude.{◌≡◌, ◌⊎◌, ◌↔◌, ◌<◌, ◌≤◌, ◌^◌, ℕ, length, map, sum_by, false, true, is_none, IsTrue, All, Contains, Err, None, OnOk};
 ghost use Rattle.std.specs.List.{list_all, filter_map};
 ghost use Rattle.module_types.specs.Builder.{shown, starts};
 ghost use Rattle.replay_spec.specs.Startup.{is_empty, raised_by_memories};
@@ -8,7 +8,8 @@ ghost use Rattle.init_plan.specs.Startup.{raised, types_after, startup_kind, wit
 ghost use Rattle.std.specs.Int.{IsPowerOfTwo};
 ghost use Rattle.replay_spec.specs.Plan.{MemoryPlan, AgreesOver, left_to_write, ranges_from};
 ghost use Rattle.replay_spec.specs.Images.{IsMemoryPlan};
-ghost use Rattle.init_plan.specs.Images.{image_options, image_memories, BeginsByRule, HasTightImages};
+ghost use Rattle.init_plan.specs.Images.{image_options, image_memories, BeginsByRule, HasTightImages, HasWholeRanges};
+ghost use Rattle.init_plan.specs.Tables.{TableHalfIsReady};
 ghost use Rattle.init_plan.specs.Ready.{MemoryHalfIsReady};
 ghost use Rattle.init_plan.specs.Views.{memory_plan_of, images_of, processed_of, IsPlace, initializers_of, passive_data_of, passive_bytes, defined_sizes, ranges_of, FindsData, IsProcessed, OnlyMemoryInitChanges};
 
@@ -53,8 +54,9 @@ impl ModuleTranslation<'_> {
         ensures tight { OnOk result (HasTightImages (image_options tunables.now page_size max_image) self.old.module.num_imported_memories
             (image_memories self.old.module) (initializers_of self.old) (passive_bytes self.old) (memory_plan_of self.new)) }
 
-        // Runtime data stand end to end from 0.
+        // Runtime data stand end to end from 0, those of images from page to page.
         ensures ranges { OnOk result (ranges_of self.new.module ≡ ranges_from 0 (map length (memory_plan_of self.new).runtime)) }
+        ensures whole_ranges { OnOk result (HasWholeRanges page_size (memory_plan_of self.new).images (ranges_of self.new.module)) }
 
         // Each passive segment is found with its bytes, and no other.
         ensures found { OnOk result (All (FindsData (memory_plan_of self.new)) (passive_data_of self.old)) }
@@ -68,12 +70,16 @@ impl ModuleTranslation<'_> {
             OnOk result (shown types.new ≡ types_after kind self.old.module.startup (shown types.old)) }
 
         ensures same { OnOk result (OnlyMemoryInitChanges self.old self.new) }
+        ensures tables_ready { TableHalfIsReady self.old → OnOk result (TableHalfIsReady self.new) }
 
-        // Too large exactly where the runtime data of the plan pass 4294967295 bytes.
+        // Too large exactly where the runtime data of the plan pass 4294967295 bytes, whatever the builder is.
         ensures fits { OnOk result (sum_by length (memory_plan_of self.new).runtime < 2 ^ 32) }
         ensures too_large { result ≡ Err PlanError.TooLarge → (plan : MemoryPlan) → IsMemoryPlan (image_options tunables.now page_size max_image)
             self.old.module.num_imported_memories (image_memories self.old.module) (initializers_of self.old) (passive_bytes self.old) plan
             → 2 ^ 32 ≤ sum_by length plan.runtime }
+        ensures large { (plan : MemoryPlan) → IsMemoryPlan (image_options tunables.now page_size max_image)
+            self.old.module.num_imported_memories (image_memories self.old.module) (initializers_of self.old) (passive_bytes self.old) plan
+            → 2 ^ 32 ≤ sum_by length plan.runtime → (result ≡ Err PlanError.TooLarge) ⊎ (result ≡ Err PlanError.OutOfMemory) }
 
         // Poisoned where the builder was, unless another refusal came before.
         ensures usable { OnOk result (types.old.is_poisoned ≡ false) }

@@ -7,6 +7,7 @@ ghost use Rattle.replay_spec.specs.Startup.{is_empty};
 ghost use Rattle.replay_spec.specs.Tables.{IsTablePlan, AgreesOnTables};
 ghost use Rattle.table_images.specs.Views.{initial_of};
 ghost use Rattle.init_plan.specs.Startup.{raised, types_after, with_startup};
+ghost use Rattle.init_plan.specs.Ready.{MemoryHalfIsReady};
 ghost use Rattle.init_plan.specs.Tables.{TableHalfIsReady, AreCounted, OnlyTableInitChanges, own_tables, tables_of, elements_of, plan_of_tables, startup_with_tables};
 
 use crate::error::PlanError;
@@ -44,6 +45,7 @@ impl ModuleTranslation<'_> {
             OnOk result (shown types.new ≡ types_after kind self.old.module.startup (shown types.old)) }
 
         ensures same { OnOk result (OnlyTableInitChanges self.old self.new) }
+        ensures memories_ready { MemoryHalfIsReady self.old → OnOk result (MemoryHalfIsReady self.new) }
         ensures poisoned { (result ≡ Err PlanError.Poisoned) ↔ (types.old.is_poisoned ≡ true) }
         ensures never_too_large { result ≢ Err PlanError.TooLarge }
     {

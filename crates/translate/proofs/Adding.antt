@@ -57,7 +57,7 @@ Adds-nothing f = record {
   active = sym (append-nil _);
   passive = sym (append-nil _);
   count = omega arith;
-  same = record { record_of_module = refl; wasm = refl; found = refl; runtime = refl };
+  same = record { record_of_module = refl; wasm = refl; found = refl; runtime = refl; alignment = refl };
 }
 
 SameButLists-both : (a b c : Filling) → SameButLists a.translation b.translation → SameButLists b.translation c.translation
@@ -67,6 +67,7 @@ SameButLists-both a b c ab bc = record {
   wasm = bc.wasm ∙ ab.wasm;
   found = bc.found ∙ ab.found;
   runtime = bc.runtime ∙ ab.runtime;
+  alignment = bc.alignment ∙ ab.alignment;
 }
 
 -- a list that gains two lists gains them joined

@@ -223,6 +223,7 @@ module _ (m : Module) (can : CanBePlanned m) (few : HasFewEntries m) where
         segmented = subst (λ (x : TranslatedModule). IsSegmented x.memory_initialization) (sym added.same.record_of_module) (new-segmented _ _ empty.is_new);
         no_ranges = ap ranges_of added.same.record_of_module ∙ new-ranges _ _ empty.is_new;
         no_runtime = added.same.runtime ∙ empty.is_new.no_runtime;
+        no_alignment = added.same.alignment ∙ empty.is_new.no_alignment;
         nothing_found = added.same.found ∙ empty.is_new.nothing_found;
         imports = omega (arith, no_imports);
         few_memories = omega (arith, memory_count, few.memories);

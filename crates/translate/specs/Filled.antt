@@ -65,6 +65,7 @@ pub record SameButLists (old new : ModuleTranslation) : Type 0 where
   pub wasm : new.wasm ≡ old.wasm
   pub found : new.runtime_data_map ≡ old.runtime_data_map
   pub runtime : new.runtime_data ≡ old.runtime_data
+  pub alignment : new.data_align ≡ old.data_align
 
 -- the lists gained these memories and data segments, and nothing else changed
 pub record Adds (old new : Filling) (types : List MemoryType) (ss : List Segment) : Type 0 where
