@@ -1,0 +1,35 @@
+-- Which types an environment knows: those that the record of its translation holds, by their indices (core specification, 2.5, types).
+use Rattle.std.specs.Prelude.{◌<◌, ℕ, List, length, slice_get, Option, Some, None, IsSomeAnd, option_and_then}
+use Rattle.wasm_spec.specs.declared.types.UnpackedIndex.{UnpackedIndex}
+use Rattle.wasm_spec.specs.declared.types.UnpackedIndex.TheVariants as index
+use Rattle.wasm_index.specs.Index.{number_of}
+use Rattle.wasm_types.specs.declared.index.EngineOrModuleTypeIndex.{EngineOrModuleTypeIndex}
+use Rattle.wasm_types.specs.Views.{module_index}
+use Rattle.wasm_convert.specs.Conversion.{LookUp}
+use Rattle.module_types.specs.Views.{TypeIndex}
+use Rattle.module_types.specs.Builder.{Kept}
+use Rattle.module_types.specs.Converter.{interned_name}
+
+-- the interned type of a type of a record
+abbrev pub interned_in : List EngineOrModuleTypeIndex → ℕ → Option TypeIndex
+interned_in types i = option_and_then module_index (slice_get types i)
+
+abbrev pub number_or_zero : Option TypeIndex → ℕ
+number_or_zero None = 0
+number_or_zero (Some k) = number_of k
+
+-- each is an interned type, of so many
+abbrev pub AreHeld : List EngineOrModuleTypeIndex → ℕ → Type 0
+AreHeld types count = (i : ℕ) → i < length types → IsSomeAnd (interned_in types i) (λ k. number_of k < count)
+
+-- over the types of a record, and what a builder keeps
+module _ (types : List EngineOrModuleTypeIndex) (b : Kept) where
+  -- the types of the module, where the builder holds them
+  abbrev pub KnowsType : UnpackedIndex → Type 0
+  KnowsType (index.Module i) = (i < length types) × AreHeld types (length b.list.types)
+  KnowsType _ = ⊥
+
+  -- what each is named by
+  abbrev pub look_type : LookUp
+  look_type (index.Module i) = interned_name b (number_or_zero (interned_in types i))
+  look_type _ = interned_name b 0

@@ -1,0 +1,9 @@
+pub mod Errors
+pub mod Environment
+pub mod Firsts
+pub mod Types
+pub mod Escapes
+pub mod Entities
+pub mod Initialisers
+pub mod Translation
+pub mod Worked
