@@ -1,7 +1,6 @@
 -- A translation, as the plain values of the definitions.
-use Rattle.std.specs.Prelude.{◌≡◌, ℕ, ◌+◌, nat_eq, false, List, [], length, map, drop, slice_get, sum_by, Option, None, Some}
+use Rattle.std.specs.Prelude.{◌≡◌, ℕ, ◌+◌, List, [], length, map, drop, slice_get, sum_by, Option, None, Some}
 use Rattle.std.specs.Option.{option_map}
-use Rattle.std.specs.Map.{lookup}
 use Rattle.std.specs.Borrow.{Bor}
 use Rattle.entity_map.specs.Secondary.{value_at}
 use Rattle.wasm_index.specs.declared.index.Index.{Index}
@@ -19,8 +18,6 @@ use Rattle.wasm_module.specs.declared.module.Module.{Module}
 use Rattle.wasm_module.specs.declared.memory_initialization.MemoryInitialization.{MemoryInitialization}
 use Rattle.wasm_module.specs.declared.memory_initialization.MemoryInitialization.TheVariants as initialization
 use Rattle.wasm_module.specs.declared.memory_initialization.MemoryInitializer.{MemoryInitializer}
-use Rattle.init_plan.specs.declared.debug_info.BranchHint.{BranchHint}
-use Rattle.init_plan.specs.declared.debug_info.DebugInfoData.{DebugInfoData}
 use Rattle.init_plan.specs.declared.translation.ModuleTranslation.{ModuleTranslation}
 use Rattle.init_plan.specs.declared.translation.RuntimeBytes.{RuntimeBytes}
 use Rattle.init_plan.specs.declared.translation.RuntimeBytes.TheVariants as runtime
@@ -76,10 +73,6 @@ data_total t = total_bytes (initializers_of t) (passive_data_of t)
 -- the minimum sizes of the defined memories, in bytes
 abbrev pub defined_sizes : Module → List ℕ
 defined_sizes m = map minimum_bytes (drop m.num_imported_memories m.memories)
-
--- the hints of a function
-abbrev pub hints_of : ModuleTranslation → ℕ → Option (List BranchHint)
-hints_of t function = option_map (λ hints. hints.items) (lookup (λ index. nat_eq function (number_of index)) t.branch_hints.entries)
 
 -- ---- after the plan
 
@@ -168,15 +161,6 @@ SameButPassive old new = new ≡ record old { passive_data = new.passive_data }
 abbrev pub SameButSegments : ModuleTranslation → ModuleTranslation → Type 0
 SameButSegments old new = new ≡ record old { memory_init = new.memory_init }
 
--- no name, and nothing of the functions' source
-pub record TellsNothing (d : DebugInfoData) : Type 0 where
-  pub no_name : d.name_section.module_name ≡ None
-  pub no_functions : d.name_section.func_names.entries ≡ []
-  pub no_locals : d.name_section.locals_names.entries ≡ []
-  pub no_code : d.wasm_file.code_section_offset ≡ 0
-  pub no_imports : d.wasm_file.imported_func_count ≡ 0
-  pub no_metadata : d.wasm_file.funcs.items ≡ []
-
 -- the empty translation
 pub record IsNewTranslation (module_index : Index StaticModuleSpace) (t : ModuleTranslation) : Type 0 where
   pub record_of_module : record_of t.module ≡ empty_record module_index
@@ -184,8 +168,6 @@ pub record IsNewTranslation (module_index : Index StaticModuleSpace) (t : Module
   pub at_the_beginning : t.wasm_module_offset ≡ 0
   pub no_bodies : t.function_body_inputs ≡ []
   pub no_signatures : t.exported_signatures.items ≡ []
-  pub no_source : TellsNothing t.debuginfo
-  pub all_read : t.has_unparsed_debuginfo ≡ false
   pub no_alignment : t.data_align ≡ None
   pub nothing_found : t.runtime_data_map ≡ record { default = None; items = [] }
   pub no_numbers : t.passive_elem_map ≡ record { default = None; items = [] }
@@ -198,5 +180,3 @@ pub record IsNewTranslation (module_index : Index StaticModuleSpace) (t : Module
   pub unprocessed : IsUnprocessed t.memory_init
   pub no_segments : initializers_of t ≡ []
   pub no_passive : passive_data_of t ≡ []
-  pub no_types : t.types ≡ None
-  pub no_hints : t.branch_hints.entries ≡ []

@@ -1,16 +1,12 @@
 //! A module with the data that its record leaves out.
 
-ghost use Rattle.std.specs.Prelude.{◌≡◌, ◌++◌, ◌∷◌, [], length, Some, IfOk, OnOk, OnErr, IsSome};
-ghost use Rattle.std.specs.Option.{option_map};
+ghost use Rattle.std.specs.Prelude.{◌≡◌, ◌++◌, ◌∷◌, [], length, IfOk, OnOk, OnErr};
 ghost use Rattle.wasm_index.specs.Index.{number_of};
-ghost use Rattle.init_plan.specs.Views.{bytes_of, passive_data_of, hints_of, IsNewTranslation, SameButPassive};
+ghost use Rattle.init_plan.specs.Views.{bytes_of, passive_data_of, IsNewTranslation, SameButPassive};
 
-use crate::debug_info::{BranchHint, DebugInfoData};
 use entity_map::{OutOfMemory, PrimaryMap, SecondaryMap};
 use form_data::FunctionBody;
-use form_types::Types;
 use std::alloc::Global;
-use std::collections::BTreeMap;
 use wasm_convert::ConstExpr;
 use wasm_index::{
     DataIndex, DefinedFuncIndex, DefinedGlobalIndex, ElemIndex, FuncIndex, MemoryIndex,
@@ -30,10 +26,6 @@ pub struct ModuleTranslation<'d> {
     pub function_body_inputs: PrimaryMap<DefinedFuncIndex, FunctionBodyData<'d>>,
     /// The types of the functions to which references are made, each once, in order.
     pub exported_signatures: Vec<ModuleInternedTypeIndex>,
-    /// What is known of the module's source.
-    pub debuginfo: DebugInfoData<'d>,
-    /// Whether the module has sections of debug information, none of which is read.
-    pub has_unparsed_debuginfo: bool,
     /// The alignment of memory images in bytes, where the memories begin as images.
     pub data_align: Option<u64>,
     /// The runtime data of each passive data segment.
@@ -53,8 +45,6 @@ pub struct ModuleTranslation<'d> {
     /// The active data segments, before and after they are planned.
     pub memory_init: MemoryInit<'d>,
     pub(crate) passive_data: Vec<(DataIndex, &'d [u8])>,
-    pub(crate) types: Option<Types>,
-    pub(crate) branch_hints: BTreeMap<FuncIndex, Vec<BranchHint>>,
 }
 
 /// A function body that is compiled later.
@@ -111,8 +101,6 @@ impl<'d> ModuleTranslation<'d> {
             wasm_module_offset: 0,
             function_body_inputs: PrimaryMap::new(alloc),
             exported_signatures: Vec::new(alloc),
-            debuginfo: DebugInfoData::new(alloc),
-            has_unparsed_debuginfo: false,
             data_align: None,
             runtime_data_map: SecondaryMap::new(alloc, None),
             passive_elem_map: SecondaryMap::new(alloc, None),
@@ -126,8 +114,6 @@ impl<'d> ModuleTranslation<'d> {
             },
             memory_init: MemoryInit::Unprocessed(Vec::new(alloc)),
             passive_data: Vec::new(alloc),
-            types: None,
-            branch_hints: BTreeMap::new(alloc),
         })
     }
 
@@ -150,37 +136,5 @@ impl<'d> ModuleTranslation<'d> {
     {
         self.passive_data.push((index, bytes))?;
         Ok(())
-    }
-
-    /// The types of the module, by ids.
-    pub fn get_types(&self) -> &Types
-        requires { IsSome self.now.types }
-        ensures { self.now.types ≡ Some result.now }
-    {
-        match &self.types {
-            Some(types) => types,
-            None => unreachable!(),
-        }
-    }
-
-    /// Sets the types of the module.
-    pub fn set_types(&mut self, types: Types)
-        ensures { self.new ≡ record self.old { types = Some types } }
-    {
-        self.types = Some(types);
-    }
-
-    /// The hints of a function, in order; none where no entry of it stands.
-    pub fn branch_hints(&self, func: FuncIndex) -> Option<&[BranchHint]>
-        ensures { option_map (λ hints. hints.now) result ≡ hints_of self.now (number_of func) }
-    {
-        self.branch_hints.get(&func).map(|hints| hints.as_slice())
-    }
-
-    /// Puts these hints in the place of all that stood.
-    pub fn set_branch_hints(&mut self, hints: BTreeMap<FuncIndex, Vec<BranchHint>>)
-        ensures { self.new ≡ record self.old { branch_hints = hints } }
-    {
-        self.branch_hints = hints;
     }
 }
