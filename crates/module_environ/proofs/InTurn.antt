@@ -1,0 +1,104 @@
+-- Declared types that are interned in turn, one after another.
+use Rattle.std.proofs.Common.{◌≡◌, ◌∙◌, ℕ, ◌+◌, ◌<◌, Option, Some, None, List, [], ◌∷◌, ◌++◌, length, get_or, take, refl, sym, ap, subst, arith}
+use Rattle.std.specs.Prelude.{◌^◌, slice_index, map}
+use Rattle.std.proofs.Math.Seq.{take-length}
+use Rattle.std.proofs.lemmas.List.{length-map, length-take-le, map-append, take_more}
+use Rattle.wasm_spec.specs.Module as plain
+use Rattle.type_spec.specs.Interned.{Interned, with_group, taken}
+use Rattle.type_spec.proofs.Homes.{size}
+use Rattle.form_types.specs.Types.{TypesData}
+use Rattle.form_types.specs.Placed.{placed_groups}
+use Rattle.form_types.proofs.Ruled.{size-places}
+use Rattle.wasm_index.specs.Index.{number_of}
+use Rattle.wasm_types.specs.declared.index.EngineOrModuleTypeIndex.{EngineOrModuleTypeIndex}
+use Rattle.wasm_types.specs.declared.index.EngineOrModuleTypeIndex.TheVariants.{Module}
+use Rattle.module_types.specs.Views.{TypeIndex}
+use Rattle.module_types.specs.Builder.{Builder, new_builder, noted, interns_by}
+use Rattle.module_types.specs.Conversion.{group_of_id, members_of, interned_members, interned_index, HoldsGroups, NamesInterned}
+use Rattle.module_types.specs.InTurn.{interns_type}
+use Rattle.module_types.proofs.Holding.{holds-kept}
+use Rattle.module_types.proofs.Taking.{number_in, whole}
+use Rattle.module_environ.specs.Types.{declared, type_index, AreTypesOf, HoldsGroupsAlone}
+use Rattle.module_environ.proofs.Reaching.{Reached, reach-none, reach-next, reach-can, reach-index, reach-all, reach-room}
+
+module _ (m : plain.Module) (t : TypesData) (of : AreTypesOf m t) where
+  -- so many of the module's types were interned, and listed by their indices
+  pub record Interns (b : Builder) (i : ℕ) (types : List EngineOrModuleTypeIndex) : Type 0 where
+    pub reached : Reached m t of.numbered of.earlier b i
+    pub holds : HoldsGroups t b
+    pub listed : types ≡ map type_index (take i (declared m))
+    pub alone : HoldsGroupsAlone t.validator b
+
+  pub interns-none : (b : Builder) → b ≡ new_builder t.validator → Interns b 0 []
+  interns-none b new = subst (λ c. Interns c 0 []) (sym new) (record {
+    reached = reach-none m t of.numbered of.earlier t.validator;
+    holds = λ k j e. absurd (let no : None ≡ Some j = e in cc);
+    listed = refl;
+    alone = refl;
+  })
+
+  module _ (b : Builder) (i : ℕ) (types : List EngineOrModuleTypeIndex) (x : Interns b i types) (lt : i < length t.declared) where
+    inside : i < size (placed_groups m)
+    inside = omega (arith, lt, of.numbered.each, size-places (plain.groups m))
+
+    counted : size (placed_groups m) < 2 ^ 30
+    counted = omega (arith, of.few, size-places (plain.groups m))
+
+    abbrev id : ℕ
+    id = slice_index t.declared i
+
+    abbrev later : Builder
+    later = interns_type t b id
+
+    reached-later : Reached m t of.numbered of.earlier later (i + 1)
+    reached-later = reach-next m t of.numbered of.earlier b i x.reached inside
+
+    alone-by : (k : ℕ) (ts : List Interned) (o : Option ℕ) → HoldsGroupsAlone t.validator (interns_by b k ts o)
+    alone-by k ts (Some j) = x.alone
+    alone-by k ts None =
+        ap (λ (c : Builder). record c { built = with_group b.built ts; ids = noted b.ids k (length b.built.groups) }) x.alone
+
+    pub listed-long : length types ≡ i
+    listed-long =
+        let long : length (declared m) ≡ size (placed_groups m) = (whole (placed_groups m) of.earlier).counted in
+        ap length x.listed ∙ length-map (take i (declared m)) type_index ∙ length-take-le i (declared m) (omega (arith, inside, long))
+
+    module _ (n : ℕ) (is : n ≡ id) where
+      pub names : NamesInterned t b (group_of_id t n)
+      names = subst (λ k. NamesInterned t b (group_of_id t k)) (sym is) (reach-can m t of.numbered of.earlier b i x.reached inside).named
+
+      pub room : length (interns_type t b n).built.types < 4294967295
+      room = subst (λ k. length (interns_type t b k).built.types < 4294967295) (sym is)
+          (reach-room m t of.numbered of.earlier later (i + 1) reached-later counted)
+
+      pub interns-next : (c : Builder) (index : TypeIndex) → c ≡ interns_type t b n → number_of index ≡ interned_index t c n
+          → Interns c (i + 1) (types ++ Module index ∷ [])
+      interns-next c index made at =
+          let all = placed_groups m in
+          let made' : c ≡ later = made ∙ ap (interns_type t b) is in
+          let k = group_of_id t id in
+          let long : i < length (declared m) = omega (arith, inside, (whole all of.earlier).counted) in
+          let number : number_of index ≡ number_in all i = at ∙ (λ j. interned_index t (made' j) (is j))
+          ∙ reach-index m t of.numbered of.earlier b i inside reached-later in
+          record {
+            reached = subst (λ d. Reached m t of.numbered of.earlier d (i + 1)) (sym made') reached-later;
+            holds = subst (HoldsGroups t) (sym made')
+                (holds-kept t b k (interned_members t b k) x.holds (length-map (members_of t k) _));
+            listed = (λ j. x.listed j ++ type_index (number j) ∷ [])
+                ∙ sym (map-append type_index (take i (declared m)) (get_or (declared m) i 0 ∷ []))
+                ∙ ap (map type_index) (sym (take_more (declared m) i 0 long));
+            alone = subst (HoldsGroupsAlone t.validator) (sym made') (alone-by k (interned_members t b k) (b.ids k));
+          }
+
+  -- in the end all are listed
+  module _ (b : Builder) (types : List EngineOrModuleTypeIndex) (x : Interns b (length t.declared) types) where
+    sized : length t.declared ≡ size (placed_groups m)
+    sized = omega (arith, of.numbered.each, size-places (plain.groups m))
+
+    pub listed-all : types ≡ map type_index (declared m)
+    listed-all =
+        let long : length t.declared ≡ length (declared m) = omega (arith, sized, (whole (placed_groups m) of.earlier).counted) in
+        x.listed ∙ ap (λ n. map type_index (take n (declared m))) long ∙ ap (map type_index) (take-length (declared m))
+
+    pub built-all : b.built ≡ (taken (placed_groups m)).built
+    built-all = reach-all m t of.numbered of.earlier b (subst (Reached m t of.numbered of.earlier b) sized x.reached)

@@ -1,0 +1,4 @@
+mod Looking
+mod Counting
+mod Reaching
+mod InTurn

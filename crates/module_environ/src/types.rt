@@ -1,0 +1,39 @@
+//! The types of a module, interned.
+
+ghost use Rattle.std.specs.Prelude.{◌≡◌, map, IfOk, OnOk, OnErr, Err};
+ghost use Rattle.wasm_spec.specs.Module.{Module};
+ghost use Rattle.type_spec.specs.Interned.{taken};
+ghost use Rattle.form_types.specs.Placed.{placed_groups};
+ghost use Rattle.module_types.specs.Builder.{shown, new_builder};
+ghost use Rattle.module_environ.specs.Types.{declared, type_index, AreTypesOf, HoldsGroupsAlone};
+
+use crate::error::EnvironError;
+use entity_map::PrimaryMap;
+use form_types::Types;
+use module_types::ModuleTypesBuilder;
+use std::alloc::Global;
+use wasm_index::TypeIndex;
+use wasm_types::EngineOrModuleTypeIndex;
+
+/// Interns the groups of a module's declared types in order, with a new builder, and gives the interned index of each declared type.
+pub(crate) fn intern_types(
+    alloc: Global,
+    types: &Types,
+    builder: &mut ModuleTypesBuilder,
+) -> Result<PrimaryMap<TypeIndex, EngineOrModuleTypeIndex>, EnvironError>
+    requires of_module { (m : Module) × AreTypesOf m types.now }
+    requires new { shown builder.old ≡ new_builder types.now.validator }
+    ensures indices { IfOk result (λ indices. (m : Module) → AreTypesOf m types.now → indices ≡ map type_index (declared m)) }
+    ensures built { OnOk result ((m : Module) → AreTypesOf m types.now → (shown builder.new).built ≡ (taken (placed_groups m)).built) }
+    ensures alone { OnOk result (HoldsGroupsAlone types.now.validator (shown builder.new)) }
+    ensures memory { OnErr result (result ≡ Err EnvironError.OutOfMemory) }
+{
+    let count = types.core_type_count_in_module();
+    let mut indices = PrimaryMap::with_capacity(alloc, count as usize)?;
+    for place in 0..count {
+        let id = types.core_type_at_in_module(place);
+        let index = builder.intern_type(types, id)?;
+        indices.push(EngineOrModuleTypeIndex::Module(index))?;
+    }
+    Ok(indices)
+}
