@@ -1,0 +1,2 @@
+pub mod Risen
+pub mod Cells
