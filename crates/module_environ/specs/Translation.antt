@@ -1,14 +1,12 @@
 -- The translation of a module, before its memories and tables are planned: each field is a list of the module (core specification, 2.5).
-use Rattle.std.specs.Prelude.{◌≡◌, ℕ, Bool, true, false, List, [], ◌∷◌, length, map, drop, slice_get, not, Some, None, unwrap_or}
-use Rattle.std.specs.List.{flat_map, list_any}
+use Rattle.std.specs.Prelude.{◌≡◌, ℕ, Bool, true, false, List, [], length, map, drop, slice_get, not, None, unwrap_or}
+use Rattle.std.specs.List.{list_any}
 use Rattle.std.specs.Option.{option_map}
 use Rattle.entity_map.specs.Secondary.{value_at}
 use Rattle.wasm_spec.specs.Module.{function_import, table_import, memory_import, global_import, tag_import}
 use Rattle.wasm_spec.specs.Module as plain
 use Rattle.rule_spec.specs.Lists.{lists_of_module}
 use Rattle.form_data.specs.Views.{body_of}
-use Rattle.form_types.specs.Numbered.{AreNumbered}
-use Rattle.form_types.specs.Types.{TypesData}
 use Rattle.wasm_index.specs.declared.index.Index.{Index}
 use Rattle.wasm_index.specs.declared.spaces.StaticModuleSpace.{StaticModuleSpace}
 use Rattle.wasm_index.specs.Index.{number_of}
@@ -28,15 +26,6 @@ use Rattle.module_environ.specs.Types.{declared, interned_at, interned_list, typ
 use Rattle.module_environ.specs.Entities.{count_of, imported_entities, exported_entities, resolved_import, resolved_export, function_types, tables_data, globals_data, tags_of}
 use Rattle.module_environ.specs.Escapes.{escaping, AreSignatures}
 use Rattle.module_environ.specs.Initialisers.{known_values, left_initialisers, value_seen, initialiser_seen, first_values, first_value_seen, active_elements, segment_seen, passive_items, items_seen, passive_numbers, passive_data_from}
-
--- where the code section's contents begin, and 0 without one
-abbrev pub code_places : plain.Payload → List ℕ
-code_places (plain.Code place bodies) = place ∷ []
-code_places _ = []
-
-abbrev pub first_or_zero : List ℕ → ℕ
-first_or_zero [] = 0
-first_or_zero (n ∷ ns) = n
 
 -- the type of the startup function is the last of the interned ones
 abbrev pub startup_when : plain.Module → Bool → ModuleStartup
@@ -98,22 +87,13 @@ pub record HasData (m : plain.Module) (t : ModuleTranslation) : Type 0 where
   pub nothing_found : t.runtime_data_map ≡ record { default = None; items = [] }
   pub no_alignment : t.data_align ≡ None
 
--- the bodies of the defined functions, and where the code stands
-pub record HasCode (m : plain.Module) (t : ModuleTranslation) : Type 0 where
-  pub bodies : map (λ input. body_of input.body) t.function_body_inputs ≡ (lists_of_module m).bodies
-  pub place : t.debuginfo.wasm_file.code_section_offset ≡ first_or_zero (flat_map code_places m)
-  pub imports : t.debuginfo.wasm_file.imported_func_count ≡ count_of function_import (plain.imports m)
-
--- the types of the module by ids, of the validator
-pub record HasTypes (m : plain.Module) (validator : ℕ) (t : ModuleTranslation) : Type 0 where
-  pub types : TypesData
-  pub set : t.types ≡ Some types
-  pub numbered : AreNumbered m types
-  pub made : types.validator ≡ validator
+-- the bodies of the defined functions
+abbrev pub HasCode : plain.Module → ModuleTranslation → Type 0
+HasCode m t = map (λ input. body_of input.body) t.function_body_inputs ≡ (lists_of_module m).bodies
 
 -- the translation of the module that these bytes spell
-pub record IsTranslation (tunables : Tunables) (module_index : Index StaticModuleSpace) (validator : ℕ) (bytes : List ℕ) (m : plain.Module)
-    (t : ModuleTranslation) : Type 0 where
+pub record IsTranslation (tunables : Tunables) (module_index : Index StaticModuleSpace) (bytes : List ℕ) (m : plain.Module) (t : ModuleTranslation)
+    : Type 0 where
   pub entities : HasEntities m t
   pub counts : CountsImports m t
   pub escapes : Escapes tunables.debug_guest m t
@@ -122,7 +102,6 @@ pub record IsTranslation (tunables : Tunables) (module_index : Index StaticModul
   pub elements : HasElements m t
   pub data_segments : HasData m t
   pub code : HasCode m t
-  pub types : HasTypes m validator t
   pub startup : t.module.startup ≡ startup_when m (not (leaves_nothing (lists_of_module m)))
   pub index : t.module.module_index ≡ module_index
   pub wasm : t.wasm.now ≡ bytes
