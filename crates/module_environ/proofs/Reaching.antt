@@ -532,5 +532,9 @@ module _ (m : plain.Module) (t : TypesData) (are : AreNumbered m t) (near : Name
   reach-index b i lt r = index-held (interns_type t b (id i)) i lt (r.has.held i (omega (arith, r.le)))
 
   -- there is room for all
-  pub reach-room : (b : Builder) (i : ℕ) → Reached b i → size all < 2 ^ 30 → held b.built < 4294967295
-  reach-room b i r few = omega (arith, r.few, r.taking.sized, few)
+  pub reach-few : (b : Builder) (i : ℕ) → Reached b i → size all < 2 ^ 30 → held b.built < 2 ^ 31
+  reach-few b i r few = omega (arith, r.few, r.taking.sized, few)
+
+  -- each index is that of a type that is held
+  pub reach-held : (b : Builder) (i : ℕ) → Reached b i → (j : ℕ) → j < i → number j < held b.built
+  reach-held b i r j lt = omega (arith, r.taking.below j (omega (arith, lt, r.le)), ap held r.has.built)
