@@ -29,20 +29,23 @@ intern_type-requires-clause-holds c = (c.loop-place.invariant c.requires.of_modu
 pub intern_type-requires-clause-named : goal.intern_type-requires-clause-named
 intern_type-requires-clause-named c =
     let of = c.requires.of_module in
-    let lt : c.loop-place.place < length c.args.types.now.declared = omega (arith, c.loop-place-test.true, c.core_type_count_in_module-count.ensures) in
+    let lt : c.loop-place.place < length c.args.types.now.declared = omega
+    (arith, c.loop-place-test.true, c.core_type_count_in_module-count.ensures) in
     names of.0 c.args.types.now of.1 (shown c.loop-place.builder) c.loop-place.place c.loop-place.indices (c.loop-place.invariant of.0 of.1) lt
     c.core_type_at_in_module-id.result.0 c.core_type_at_in_module-id.ensures.id
 
 pub intern_type-requires-clause-room : goal.intern_type-requires-clause-room
 intern_type-requires-clause-room c = λ sound.
     let of = c.requires.of_module in
-    let lt : c.loop-place.place < length c.args.types.now.declared = omega (arith, c.loop-place-test.true, c.core_type_count_in_module-count.ensures) in
+    let lt : c.loop-place.place < length c.args.types.now.declared = omega
+    (arith, c.loop-place-test.true, c.core_type_count_in_module-count.ensures) in
     room of.0 c.args.types.now of.1 (shown c.loop-place.builder) c.loop-place.place c.loop-place.indices (c.loop-place.invariant of.0 of.1) lt
     c.core_type_at_in_module-id.result.0 c.core_type_at_in_module-id.ensures.id
 
 pub returns-in_err-index-clause-memory : goal.returns-in_err-index-clause-memory
 returns-in_err-index-clause-memory c =
-    let sound : c.loop-place.builder.is_poisoned ≡ false = ap (λ (b : Builder). b.is_poisoned) (c.loop-place.invariant c.requires.of_module.0 c.requires.of_module.1).alone in
+    let sound : c.loop-place.builder.is_poisoned ≡ false = ap (λ (b : Builder). b.is_poisoned)
+    (c.loop-place.invariant c.requires.of_module.0 c.requires.of_module.1).alone in
     let p = err_from_is_err_and c.from_residual-in_err-index.result c.from_residual-in_err-index.ensures.1 in
     let memory = unpoisoned c.in_err-index.field-0.0
     (λ same. absurd (let no : true ≡ false = sym (c.intern_type.ensures.poisoned.0 (c.in_err-index.was ∙ ap Err same)) ∙ sound in cc)) in
@@ -52,7 +55,8 @@ returns-in_err-index-clause-memory c =
 pub push-requires : goal.push-requires
 push-requires c =
     let of = c.requires.of_module in
-    let lt : c.loop-place.place < length c.args.types.now.declared = omega (arith, c.loop-place-test.true, c.core_type_count_in_module-count.ensures) in
+    let lt : c.loop-place.place < length c.args.types.now.declared = omega
+    (arith, c.loop-place-test.true, c.core_type_count_in_module-count.ensures) in
     let long = listed-long of.0 c.args.types.now of.1 (shown c.loop-place.builder) c.loop-place.place c.loop-place.indices
     (c.loop-place.invariant of.0 of.1) lt in
     omega (arith, long, lt, of.1.numbered.each, of.1.few)
