@@ -1,8 +1,9 @@
 -- Declared types that are interned in turn, one after another.
 use Rattle.std.proofs.Common.{◌≡◌, ◌∙◌, ℕ, ◌+◌, ◌<◌, Option, Some, None, List, [], ◌∷◌, ◌++◌, length, get_or, take, refl, sym, ap, subst, arith}
-use Rattle.std.specs.Prelude.{◌^◌, slice_index, map}
+use Rattle.std.specs.Prelude.{◌^◌, slice_index, slice_get, option_and_then, IsSomeAnd, map}
 use Rattle.std.proofs.Math.Seq.{take-length}
-use Rattle.std.proofs.lemmas.List.{length-map, length-take-le, map-append, take_more}
+use Rattle.std.proofs.lemmas.List.{length-map, length-take-le, get_or-map, map-append, take_more}
+use Rattle.std.proofs.lemmas.Option.{slice_get-get_or}
 use Rattle.wasm_spec.specs.Module as plain
 use Rattle.type_spec.specs.Interned.{Interned, with_group, taken}
 use Rattle.type_spec.proofs.Homes.{size}
@@ -12,6 +13,7 @@ use Rattle.form_types.proofs.Ruled.{size-places}
 use Rattle.wasm_index.specs.Index.{number_of}
 use Rattle.wasm_types.specs.declared.index.EngineOrModuleTypeIndex.{EngineOrModuleTypeIndex}
 use Rattle.wasm_types.specs.declared.index.EngineOrModuleTypeIndex.TheVariants.{Module}
+use Rattle.wasm_types.specs.Views.{module_index}
 use Rattle.module_types.specs.Views.{TypeIndex}
 use Rattle.module_types.specs.Builder.{Builder, new_builder, noted, interns_by}
 use Rattle.module_types.specs.Conversion.{group_of_id, members_of, interned_members, interned_index, HoldsGroups, NamesInterned}
@@ -19,7 +21,8 @@ use Rattle.module_types.specs.InTurn.{interns_type}
 use Rattle.module_types.proofs.Holding.{holds-kept}
 use Rattle.module_types.proofs.Taking.{number_in, whole}
 use Rattle.module_environ.specs.Types.{declared, type_index, AreTypesOf, HoldsGroupsAlone}
-use Rattle.module_environ.proofs.Reaching.{Reached, reach-none, reach-next, reach-can, reach-index, reach-all, reach-room}
+use Rattle.module_environ.specs.Environment.{AreHeld}
+use Rattle.module_environ.proofs.Reaching.{Reached, reach-none, reach-next, reach-can, reach-index, reach-all, reach-few, reach-held}
 
 module _ (m : plain.Module) (t : TypesData) (of : AreTypesOf m t) where
   -- so many of the module's types were interned, and listed by their indices
@@ -69,7 +72,7 @@ module _ (m : plain.Module) (t : TypesData) (of : AreTypesOf m t) where
 
       pub room : length (interns_type t b n).built.types < 4294967295
       room = subst (λ k. length (interns_type t b k).built.types < 4294967295) (sym is)
-          (reach-room m t of.numbered of.earlier later (i + 1) reached-later counted)
+          (omega (arith, reach-few m t of.numbered of.earlier later (i + 1) reached-later counted))
 
       pub interns-next : (c : Builder) (index : TypeIndex) → c ≡ interns_type t b n → number_of index ≡ interned_index t c n
           → Interns c (i + 1) (types ++ Module index ∷ [])
@@ -102,3 +105,17 @@ module _ (m : plain.Module) (t : TypesData) (of : AreTypesOf m t) where
 
     pub built-all : b.built ≡ (taken (placed_groups m)).built
     built-all = reach-all m t of.numbered of.earlier b (subst (Reached m t of.numbered of.earlier b) sized x.reached)
+
+    pub few-all : length b.built.types < 2 ^ 31
+    few-all = reach-few m t of.numbered of.earlier b (length t.declared) x.reached (omega (arith, of.few, size-places (plain.groups m)))
+
+    pub held-all : AreHeld types (length b.built.types)
+    held-all i lt =
+        let d = declared m in
+        let sizes : length types ≡ length d = ap length listed-all ∙ length-map d type_index in
+        let inside : i < length t.declared = omega (arith, lt, sizes, sized, (whole (placed_groups m) of.earlier).counted) in
+        let is : slice_get types i ≡ Some (type_index (get_or d i 0)) = ap (λ l. slice_get l i) listed-all
+        ∙ slice_get-get_or (map type_index d) i (type_index 0) (omega (arith, lt, sizes, length-map d type_index))
+        ∙ ap Some (get_or-map type_index d i 0 (type_index 0) (omega (arith, lt, sizes))) in
+        subst (λ o. IsSomeAnd (option_and_then module_index o) (λ k. number_of k < length b.built.types)) (sym is)
+        (reach-held m t of.numbered of.earlier b (length t.declared) x.reached i inside)

@@ -430,7 +430,8 @@ module _ (m : plain.Module) (t : TypesData) (are : AreNumbered m t) (near : Name
       → Taking all number s start gs done → Has b s start → start < size all → held b.built ≤ start + start
       → Reached (interns_type t b (id start)) (start + 1)
   reach-new [] b s start done reads is h has lt few = absurd (omega (arith, h.sized, lt))
-  reach-new ([] ∷ gs) b s start done reads is h has lt few = reach-new gs b s start done reads is (taking-hollow all number s start gs done h) has lt few
+  reach-new ([] ∷ gs) b s start done reads is h has lt few = reach-new gs b s start done reads is
+      (taking-hollow all number s start gs done h) has lt few
   reach-new ((x ∷ xs) ∷ gs) b s start done reads is h has lt few =
       let end = start + length (x ∷ xs) in
       let o = first_equal all start 0 start in
@@ -457,10 +458,12 @@ module _ (m : plain.Module) (t : TypesData) (are : AreNumbered m t) (near : Name
     by true e =
         let x = r.has.held i (ltb-true i r.start e) in
         let none : interns_type t b (id i) ≡ b = ap (interns_by b (group i) (interned_members t b (group i))) x.id_is in
-        subst (λ c. Reached c (i + 1)) (sym none) (record { s = r.s; start = r.start; gs = r.gs; done = r.done; reads = r.reads; whole_is = r.whole_is; taking = r.taking; has = r.has; le = omega (arith, ltb-true i r.start e); few = r.few })
+        subst (λ c. Reached c (i + 1)) (sym none)
+        (record { s = r.s; start = r.start; gs = r.gs; done = r.done; reads = r.reads; whole_is = r.whole_is; taking = r.taking; has = r.has; le = omega (arith, ltb-true i r.start e); few = r.few })
     by false e =
         let at : r.start ≡ i = omega (arith, r.le, ltb-false i r.start e) in
-        subst (λ n. Reached (interns_type t b (id n)) (n + 1)) at (reach-new r.gs b r.s r.start r.done r.reads r.whole_is r.taking r.has (omega (arith, at, lt)) r.few)
+        subst (λ n. Reached (interns_type t b (id n)) (n + 1)) at (reach-new r.gs b r.s r.start r.done r.reads r.whole_is r.taking r.has (omega
+        (arith, at, lt)) r.few)
 
   can-new : (gs : List (Group ℕ ℕ)) (b : Builder) (s : Taken) (start : ℕ) (done : List Home) → Taking all number s start gs done → Has b s start
       → start < size all → CanComeNext b (group start)
@@ -485,15 +488,18 @@ module _ (m : plain.Module) (t : TypesData) (are : AreNumbered m t) (near : Name
   near-from [] start i low lt near = absurd (omega (arith, low, lt))
   near-from (g ∷ gs) start i low lt near = by (near-from gs (start + length g) i) (ltb i (start + length g)) refl where
     by : (start + length g ≤ i → i < start + length g + size gs → NameEarlier (start + length g) gs
-        → All (λ j. j < (home_from (start + length g) gs i).start + length (home_from (start + length g) gs i).members) (group_edges (λ j. j) (home_from (start + length g) gs i).members))
+        → All (λ j. j < (home_from (start + length g) gs i).start + length (home_from (start + length g) gs i).members) (group_edges (λ j. j)
+        (home_from (start + length g) gs i).members))
         → (c : Bool) → ltb i (start + length g) ≡ c
-        → All (λ j. j < (home_from start (g ∷ gs) i).start + length (home_from start (g ∷ gs) i).members) (group_edges (λ j. j) (home_from start (g ∷ gs) i).members)
+        → All (λ j. j < (home_from start (g ∷ gs) i).start + length (home_from start (g ∷ gs) i).members) (group_edges (λ j. j) (home_from start
+        (g ∷ gs) i).members)
     by rest true e = rw (in_front start g gs i (ltb-true i (start + length g) e)) near.0
     by rest false e =
         let l = ltb-false i (start + length g) e in
         rw (behind start g gs i l) (rest l (omega (arith, lt, size-cons g gs)) near.1)
 
-  ends-before : (gs : List (Group ℕ ℕ)) (s : Taken) (start : ℕ) (done : List Home) → Taking all number s start gs done → (i : ℕ) → i < start → i < size all
+  ends-before : (gs : List (Group ℕ ℕ)) (s : Taken) (start : ℕ) (done : List Home) → Taking all number s start gs done → (i : ℕ) → i < start
+      → i < size all
       → (home all i).start + length (home all i).members ≤ start
   ends-before [] s start done h i before lt = omega (arith, h.sized, (home-within all i lt).high)
   ends-before ([] ∷ gs) s start done h i before lt = ends-before gs s start done (taking-hollow all number s start gs done h) i before lt
@@ -502,7 +508,13 @@ module _ (m : plain.Module) (t : TypesData) (are : AreNumbered m t) (near : Name
     by true e =
         let w = home-within all i lt in
         let again = home-again all i start lt (record { from = omega (arith, w.from, before); to = ltb-true start _ e }) in
-        absurd (omega (arith, before, w.from, ap (λ (y : Home). y.start) (sym (home-first all number s start (x ∷ xs) gs done h (omega arith)) ∙ again)))
+        absurd (omega (
+          arith,
+          before,
+          w.from,
+          ap (λ (y : Home). y.start) (sym (home-first all number s start (x ∷ xs) gs done h (omega arith))
+              ∙ again),
+        ))
     by false e = ltb-false start _ e
 
   -- before it a type's group can be interned
@@ -523,14 +535,20 @@ module _ (m : plain.Module) (t : TypesData) (are : AreNumbered m t) (near : Name
               (subst (All Is) (sym ((plainly group_shape).edges_map (id_at t.declared) (home all i).members))
               (All-map Is (id_at t.declared) (group_edges (λ j. j) (home all i).members)
               (All-weaker (λ j. j < (home all i).start + length (home all i).members) (λ j. Is (id_at t.declared j))
-              (λ j below. inr (subst IsSome (sym (r.has.held j (omega (arith, below, ends-before r.gs r.s r.start r.done r.taking i before lt))).id_is) refl))
+              (λ j below. inr (subst IsSome (sym (r.has.held j (omega
+              (arith, below, ends-before r.gs r.s r.start r.done r.taking i before lt))).id_is) refl))
               (group_edges (λ j. j) (home all i).members) (near-from all 0 i (omega arith) (omega (arith, lt)) near))));
         }
 
   -- and what a call answers is the definition's index
-  pub reach-index : (b : Builder) (i : ℕ) → i < size all → Reached (interns_type t b (id i)) (i + 1) → interned_index t (interns_type t b (id i)) (id i) ≡ number i
+  pub reach-index : (b : Builder) (i : ℕ) → i < size all → Reached (interns_type t b (id i)) (i + 1)
+      → interned_index t (interns_type t b (id i)) (id i) ≡ number i
   reach-index b i lt r = index-held (interns_type t b (id i)) i lt (r.has.held i (omega (arith, r.le)))
 
   -- there is room for all
-  pub reach-room : (b : Builder) (i : ℕ) → Reached b i → size all < 2 ^ 30 → held b.built < 4294967295
-  reach-room b i r few = omega (arith, r.few, r.taking.sized, few)
+  pub reach-few : (b : Builder) (i : ℕ) → Reached b i → size all < 2 ^ 30 → held b.built < 2 ^ 31
+  reach-few b i r few = omega (arith, r.few, r.taking.sized, few)
+
+  -- each index is that of a type that is held
+  pub reach-held : (b : Builder) (i : ℕ) → Reached b i → (j : ℕ) → j < i → number j < held b.built
+  reach-held b i r j lt = omega (arith, r.taking.below j (omega (arith, lt, r.le)), ap held r.has.built)

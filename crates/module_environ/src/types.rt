@@ -1,10 +1,11 @@
 //! The types of a module, interned.
 
-ghost use Rattle.std.specs.Prelude.{◌≡◌, map, IfOk, OnOk, OnErr, Err};
+ghost use Rattle.std.specs.Prelude.{◌≡◌, ◌<◌, ◌^◌, length, map, IfOk, OnOk, OnErr, Err};
 ghost use Rattle.wasm_spec.specs.Module.{Module};
 ghost use Rattle.type_spec.specs.Interned.{taken};
 ghost use Rattle.form_types.specs.Placed.{placed_groups};
 ghost use Rattle.module_types.specs.Builder.{shown, new_builder};
+ghost use Rattle.module_environ.specs.Environment.{AreHeld};
 ghost use Rattle.module_environ.specs.Types.{declared, type_index, AreTypesOf, HoldsGroupsAlone};
 
 use crate::error::EnvironError;
@@ -25,6 +26,9 @@ pub(crate) fn intern_types(
     requires new { shown builder.old ≡ new_builder types.now.validator }
     ensures indices { IfOk result (λ indices. (m : Module) → AreTypesOf m types.now → indices ≡ map type_index (declared m)) }
     ensures built { OnOk result ((m : Module) → AreTypesOf m types.now → (shown builder.new).built ≡ (taken (placed_groups m)).built) }
+    // Each index is that of a type that the builder holds, and there is room for more.
+    ensures held { IfOk result (λ indices. AreHeld indices (length builder.new.list.types)) }
+    ensures few { OnOk result (length builder.new.list.types < 2 ^ 31) }
     ensures alone { OnOk result (HoldsGroupsAlone types.now.validator (shown builder.new)) }
     ensures memory { OnErr result (result ≡ Err EnvironError.OutOfMemory) }
 {
