@@ -3,6 +3,8 @@
 
 mod environment;
 mod error;
+#[cfg(test)]
+mod tests;
 mod types;
 mod worked;
 
