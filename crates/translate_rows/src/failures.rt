@@ -1,44 +1,27 @@
 //! Reads, writes and allocations that fail.
 
-use crate::bytes::{OVERLAP, OVERLAP_TEXT, run_over, words_of};
+use crate::bytes::{OVERLAP, OVERLAP_TEXT, outcome_of, run_over};
 use devices::{ListSink, ListSource, SliceSource};
 use std::test::Fail;
-use translate::run;
 
 #[test]
 fn a_failed_read_writes_nothing(rt: HostRuntime) -> Result<(), Fail> {
-    let words = words_of(rt.alloc(), &["plan"])?;
     let mut source = ListSource::new(&OVERLAP, 7, &[2]);
-    let mut store = Vec::new(rt.alloc());
     let mut sink = ListSink::new(rt.alloc(), 4096, 4096, &[])?;
-    let report = run(
-        rt.alloc(),
-        words.as_slice(),
-        &mut source,
-        &mut store,
-        &mut sink,
-    );
-    assert_eq!(rt; report.status, 3);
-    assert_eq!(rt; report.bytes, &OVERLAP[..7]);
+    let outcome = outcome_of(rt.alloc(), &["plan"], &mut source, &mut sink)?;
+    assert_eq!(rt; outcome.status, 3);
+    assert_eq!(rt; outcome.read.as_slice(), &OVERLAP[..7]);
     assert_eq!(rt; sink.held().len(), 0);
     Ok(())
 }
 
 #[test]
 fn a_failed_write_leaves_a_prefix(rt: HostRuntime) -> Result<(), Fail> {
-    let words = words_of(rt.alloc(), &["plan"])?;
     let mut source = SliceSource::new(&OVERLAP);
-    let mut store = Vec::new(rt.alloc());
     let mut sink = ListSink::new(rt.alloc(), 4096, 16, &[2])?;
-    let report = run(
-        rt.alloc(),
-        words.as_slice(),
-        &mut source,
-        &mut store,
-        &mut sink,
-    );
-    assert_eq!(rt; report.status, 4);
-    assert!(rt; report.plan.is_some());
+    let outcome = outcome_of(rt.alloc(), &["plan"], &mut source, &mut sink)?;
+    assert_eq!(rt; outcome.status, 4);
+    assert!(rt; outcome.is_planned);
     assert_eq!(rt; sink.held(), &OVERLAP_TEXT.as_bytes()[..16]);
     Ok(())
 }
@@ -46,21 +29,13 @@ fn a_failed_write_leaves_a_prefix(rt: HostRuntime) -> Result<(), Fail> {
 /// The source is read to its end by one call more than it has pieces; the text is written by as many calls as it has pieces.
 #[test]
 fn each_piece_and_each_failing_call(rt: HostRuntime) -> Result<(), Fail> {
-    let words = words_of(rt.alloc(), &["plan"])?;
     let text = OVERLAP_TEXT.as_bytes();
     for piece in 1..41usize {
         for failing in 1..9u64 {
             let failing_calls = [failing];
             let mut source = ListSource::new(&OVERLAP, piece, &failing_calls);
-            let mut store = Vec::new(rt.alloc());
             let mut sink = ListSink::new(rt.alloc(), 4096, piece, &failing_calls)?;
-            let report = run(
-                rt.alloc(),
-                words.as_slice(),
-                &mut source,
-                &mut store,
-                &mut sink,
-            );
+            let outcome = outcome_of(rt.alloc(), &["plan"], &mut source, &mut sink)?;
             let reads = OVERLAP.len().div_ceil(piece) as u64 + 1;
             let writes = text.len().div_ceil(piece) as u64;
             let want = if failing <= reads {
@@ -70,7 +45,7 @@ fn each_piece_and_each_failing_call(rt: HostRuntime) -> Result<(), Fail> {
             } else {
                 0
             };
-            assert_eq!(rt; report.status, want, "pieces of {piece}, call {failing}");
+            assert_eq!(rt; outcome.status, want, "pieces of {piece}, call {failing}");
             let written = match want {
                 3 => 0,
                 4 => (failing as usize - 1) * piece,
