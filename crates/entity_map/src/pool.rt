@@ -4,6 +4,7 @@ ghost use Rattle.std.specs.Prelude.{◌≡◌, ◌<◌, ◌-◌, [], length, sli
 ghost use Rattle.entity_map.specs.Pool.{atom_number, with_text, HasEachOnce};
 
 use crate::memory::OutOfMemory;
+use crate::seed::Seeded;
 use indexmap::IndexSet;
 use std::alloc::Global;
 use std::marker::Model;
@@ -16,7 +17,7 @@ pub struct Atom(u32);
 #[derive(Drop)]
 pub struct StringPool {
     alloc: Global,
-    texts: IndexSet<String>,
+    texts: IndexSet<String, Seeded>,
 }
 
 impl Model for StringPool {
@@ -37,9 +38,16 @@ impl StringPool {
     pub fn new(alloc: Global) -> Self
         ensures { result ≡ [] }
     {
+        StringPool::seeded(alloc, 0)
+    }
+
+    /// The pool of no text, whose hashes begin from a seed: texts that were chosen to collide without it do not.
+    pub fn seeded(alloc: Global, seed: u64) -> Self
+        ensures { result ≡ [] }
+    {
         StringPool {
             alloc,
-            texts: IndexSet::new(alloc),
+            texts: IndexSet::with_hasher(alloc, Seeded::new(seed)),
         }
     }
 

@@ -15,7 +15,8 @@ use wasm_spec::{GlobalType, TableType, TypeRef};
 
 /// The lists of a module.
 pub fn gather_lists<'f, 'd>(alloc: Global, form: &'f Form<'d>) -> Result<Lists<'f, 'd>, AllocError>
-    ensures { IfOk result (λ l. lists_of l ≡ lists_of_module (module_of form.now)) }
+    ensures lists { IfOk result (λ l. lists_of l ≡ lists_of_module (module_of form.now)) }
+    ensures of_form { IfOk result (λ l. l.form ≡ form.entry) }
 {
     let types = declared_types(alloc, form)?;
     let mut spaces = Spaces {

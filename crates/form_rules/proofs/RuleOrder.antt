@@ -28,8 +28,8 @@ number_at i d lt =
     numbered_at in_order 1 i d all lt ∙ (let e : 1 + i ≡ i + 1 = omega arith in e)
 
 -- the rules before the one that is broken are kept
-pub first_broken : (i : ℕ) (d rule : Rule) (l : Lists) (m : plain.Module) → i < 10
-    → (let e : Result (Unit {0}) CheckError = Err (Invalid (get_or in_order i d)) in e) ≡ Err (Invalid rule)
+pub first_broken : {A : Type 0} (i : ℕ) (d rule : Rule) (l : Lists) (m : plain.Module) → i < 10
+    → (let e : Result A CheckError = Err (Invalid (get_or in_order i d)) in e) ≡ Err (Invalid rule)
     → ((r : Rule) → number_of r < i + 1 → Kept r l) → l ≡ lists_of_module m → KeepsBefore rule m
 first_broken i d rule l m lt is before same = λ lower less.
     let named : get_or in_order i d ≡ rule = cc in

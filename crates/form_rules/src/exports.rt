@@ -11,8 +11,9 @@ ghost use Rattle.rule_spec.specs.Rules.{AreExported, AreDistinct};
 ghost use Rattle.form_lists.specs.Views.{lists_of};
 ghost use Rattle.form_rules.specs.Names.{HasNames};
 
+use entity_map::Seeded;
 use form_data::Export;
-use form_lists::{Lists, Seeded, exports_of};
+use form_lists::{Lists, exports_of};
 use std::alloc::{AllocError, Global};
 use std::collections::HashSet;
 use std::hash::{DefaultHasher, Hasher};

@@ -49,13 +49,29 @@ pub fn check(alloc: Global, form: &Form<'_>) -> Result<(), CheckError>
     // What keeps the rules passes, unless memory runs out.
     ensures complete { Keeps (module_of form.now) → ChecksOrNoMemory result }
 {
+    checked_lists(alloc, form)?;
+    Ok(())
+}
+
+/// The lists of a module that keeps the listed rules.
+///
+/// # Errors
+/// Those of `check`.
+pub fn checked_lists<'f, 'd>(alloc: Global, form: &'f Form<'d>) -> Result<Lists<'f, 'd>, CheckError>
+    ensures lists { IfOk result (λ l. lists_of l ≡ lists_of_module (module_of form.now)) }
+    ensures of_form { IfOk result (λ l. l.form ≡ form.entry) }
+    ensures kept { OnOk result (Keeps (module_of form.now)) }
+    ensures broken { (rule : Rule) → result ≡ Err (CheckError.Invalid rule) → ¬ Kept rule (lists_of_module (module_of form.now)) }
+    ensures first { (rule : Rule) → result ≡ Err (CheckError.Invalid rule) → KeepsBefore rule (module_of form.now) }
+    ensures complete { Keeps (module_of form.now) → ChecksOrNoMemory result }
+{
     let lists = gather_lists(alloc, form)?;
     for rule in RULES {
         if !keeps(alloc, rule, &lists)? {
             return Err(CheckError::Invalid(rule));
         }
     }
-    Ok(())
+    Ok(lists)
 }
 
 /// Whether a rule is kept.

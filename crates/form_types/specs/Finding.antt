@@ -3,7 +3,7 @@ use Rattle.std.specs.Prelude.{ℕ, List, length, Option, slice_index}
 use Rattle.std.specs.HashMap.{get, HashMap}
 use Rattle.wasm_spec.specs.TypeData.{Group}
 use Rattle.type_spec.specs.Equality.{canonical}
-use Rattle.form_lists.specs.declared.seed.Seeded.{Seeded}
+use Rattle.entity_map.specs.declared.seed.Seeded.{Seeded}
 use Rattle.form_types.specs.declared.canonical.CanonicalGroup.{CanonicalGroup}
 use Rattle.form_types.specs.contracts.canonical.CanonicalGroupPartialEq.TheImpl as group
 use Rattle.form_types.specs.Forms.{Form, form}

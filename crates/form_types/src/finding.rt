@@ -12,7 +12,7 @@ ghost use Rattle.form_types.specs.Finding.{first_of, next_form};
 use crate::canonical::CanonicalGroup;
 use crate::groups::Formed;
 use crate::seen::Seen;
-use form_lists::Seeded;
+use entity_map::Seeded;
 use std::alloc::{AllocError, Global};
 use std::collections::HashMap;
 use std::hash::{DefaultHasher, Hash, Hasher};

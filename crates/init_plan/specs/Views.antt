@@ -1,6 +1,7 @@
 -- A translation, as the plain values of the definitions.
-use Rattle.std.specs.Prelude.{◌≡◌, ℕ, ◌+◌, List, [], length, map, drop, slice_get, sum_by, Option, None, Some}
+use Rattle.std.specs.Prelude.{◌≡◌, ℕ, ◌+◌, nat_eq, false, List, [], length, map, drop, slice_get, sum_by, Option, None, Some}
 use Rattle.std.specs.Option.{option_map}
+use Rattle.std.specs.Map.{lookup}
 use Rattle.std.specs.Borrow.{Bor}
 use Rattle.entity_map.specs.Secondary.{value_at}
 use Rattle.wasm_index.specs.declared.index.Index.{Index}
@@ -18,6 +19,9 @@ use Rattle.wasm_module.specs.declared.module.Module.{Module}
 use Rattle.wasm_module.specs.declared.memory_initialization.MemoryInitialization.{MemoryInitialization}
 use Rattle.wasm_module.specs.declared.memory_initialization.MemoryInitialization.TheVariants as initialization
 use Rattle.wasm_module.specs.declared.memory_initialization.MemoryInitializer.{MemoryInitializer}
+use Rattle.form_types.specs.Types.{TypesData}
+use Rattle.init_plan.specs.declared.debug_info.BranchHint.{BranchHint}
+use Rattle.init_plan.specs.declared.debug_info.DebugInfoData.{DebugInfoData}
 use Rattle.init_plan.specs.declared.translation.ModuleTranslation.{ModuleTranslation}
 use Rattle.init_plan.specs.declared.translation.RuntimeBytes.{RuntimeBytes}
 use Rattle.init_plan.specs.declared.translation.RuntimeBytes.TheVariants as runtime
@@ -54,7 +58,19 @@ passive_segment_of p = (number_of p.0, p.1.now)
 
 -- the passive data segments, in order
 abbrev pub passive_data_of : ModuleTranslation → List (ℕ × List ℕ)
-passive_data_of t = map passive_segment_of t.passive_data.items
+passive_data_of t = map passive_segment_of t.hidden.passive_data.items
+
+-- the types by ids, where they are set
+abbrev pub types_of : ModuleTranslation → Option TypesData
+types_of t = t.hidden.types
+
+-- the hints of each function that has an entry, by its index
+abbrev pub hint_entries_of : ModuleTranslation → List (ℕ × List BranchHint)
+hint_entries_of t = map (λ e. (number_of e.0, e.1.items)) t.hidden.branch_hints.entries
+
+-- the hints of a function
+abbrev pub hints_of : ModuleTranslation → ℕ → Option (List BranchHint)
+hints_of t function = option_map (λ hints. hints.items) (lookup (λ index. nat_eq function (number_of index)) t.hidden.branch_hints.entries)
 
 abbrev pub active_bytes : ModuleTranslation → List (List ℕ)
 active_bytes t = map (λ s. s.bytes) (initializers_of t)
@@ -155,11 +171,28 @@ OnlyMemoryInitChanges old new = new ≡ record old {
 
 -- all but the passive data
 abbrev pub SameButPassive : ModuleTranslation → ModuleTranslation → Type 0
-SameButPassive old new = new ≡ record old { passive_data = new.passive_data }
+SameButPassive old new = new ≡ record old { hidden = record old.hidden { passive_data = new.hidden.passive_data } }
+
+-- all but the types by ids
+abbrev pub SameButTypes : ModuleTranslation → ModuleTranslation → Type 0
+SameButTypes old new = new ≡ record old { hidden = record old.hidden { types = new.hidden.types } }
+
+-- all but the hints
+abbrev pub SameButHints : ModuleTranslation → ModuleTranslation → Type 0
+SameButHints old new = new ≡ record old { hidden = record old.hidden { branch_hints = new.hidden.branch_hints } }
 
 -- all but the active data segments
 abbrev pub SameButSegments : ModuleTranslation → ModuleTranslation → Type 0
 SameButSegments old new = new ≡ record old { memory_init = new.memory_init }
+
+-- no name, and nothing of the functions' source
+pub record TellsNothing (d : DebugInfoData) : Type 0 where
+  pub no_name : d.name_section.module_name ≡ None
+  pub no_functions : d.name_section.func_names.entries ≡ []
+  pub no_locals : d.name_section.locals_names.entries ≡ []
+  pub no_code : d.wasm_file.code_section_offset ≡ 0
+  pub no_imports : d.wasm_file.imported_func_count ≡ 0
+  pub no_metadata : d.wasm_file.funcs.items ≡ []
 
 -- the empty translation
 pub record IsNewTranslation (module_index : Index StaticModuleSpace) (t : ModuleTranslation) : Type 0 where
@@ -168,6 +201,8 @@ pub record IsNewTranslation (module_index : Index StaticModuleSpace) (t : Module
   pub at_the_beginning : t.wasm_module_offset ≡ 0
   pub no_bodies : t.function_body_inputs ≡ []
   pub no_signatures : t.exported_signatures.items ≡ []
+  pub no_source : TellsNothing t.debuginfo
+  pub all_read : t.has_unparsed_debuginfo ≡ false
   pub no_alignment : t.data_align ≡ None
   pub nothing_found : t.runtime_data_map ≡ record { default = None; items = [] }
   pub no_numbers : t.passive_elem_map ≡ record { default = None; items = [] }
@@ -180,3 +215,5 @@ pub record IsNewTranslation (module_index : Index StaticModuleSpace) (t : Module
   pub unprocessed : IsUnprocessed t.memory_init
   pub no_segments : initializers_of t ≡ []
   pub no_passive : passive_data_of t ≡ []
+  pub no_types : types_of t ≡ None
+  pub no_hints : hint_entries_of t ≡ []

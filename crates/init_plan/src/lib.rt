@@ -1,7 +1,9 @@
 //! What a module's initialisers become: images, and segments that are left to be written.
 #![tactic(auto)]
 
+mod debug_info;
 mod error;
+mod hidden;
 mod image_data;
 mod images;
 mod laws;
@@ -12,6 +14,7 @@ mod startup;
 mod table_init;
 mod translation;
 
+pub use debug_info::{BranchHint, DebugInfoData, FunctionMetadata, NameSection, WasmFileInfo};
 pub use error::PlanError;
 pub use laws::{agreement_law, held_agreement_laws, held_expression_laws};
 pub use memory_images::{Written, written_ranges};

@@ -1,12 +1,17 @@
 //! A module with the data that its record leaves out.
 
-ghost use Rattle.std.specs.Prelude.{◌≡◌, ◌++◌, ◌∷◌, [], length, IfOk, OnOk, OnErr};
+ghost use Rattle.std.specs.Prelude.{◌≡◌, ◌++◌, ◌∷◌, [], length, map, Some, IfOk, OnOk, OnErr, IsSome};
+ghost use Rattle.std.specs.Option.{option_map};
 ghost use Rattle.wasm_index.specs.Index.{number_of};
-ghost use Rattle.init_plan.specs.Views.{bytes_of, passive_data_of, IsNewTranslation, SameButPassive};
+ghost use Rattle.init_plan.specs.Views.{bytes_of, passive_data_of, types_of, hints_of, hint_entries_of, IsNewTranslation, SameButPassive, SameButTypes, SameButHints};
 
+use crate::debug_info::{BranchHint, DebugInfoData};
+use crate::hidden::Hidden;
 use entity_map::{OutOfMemory, PrimaryMap, SecondaryMap};
 use form_data::FunctionBody;
+use form_types::Types;
 use std::alloc::Global;
+use std::collections::BTreeMap;
 use wasm_convert::ConstExpr;
 use wasm_index::{
     DataIndex, DefinedFuncIndex, DefinedGlobalIndex, ElemIndex, FuncIndex, MemoryIndex,
@@ -26,6 +31,10 @@ pub struct ModuleTranslation<'d> {
     pub function_body_inputs: PrimaryMap<DefinedFuncIndex, FunctionBodyData<'d>>,
     /// The types of the functions to which references are made, each once, in order.
     pub exported_signatures: Vec<ModuleInternedTypeIndex>,
+    /// What is known of the module's source.
+    pub debuginfo: DebugInfoData<'d>,
+    /// Whether the module has sections of debug information, none of which is read.
+    pub has_unparsed_debuginfo: bool,
     /// The alignment of memory images in bytes, where the memories begin as images.
     pub data_align: Option<u64>,
     /// The runtime data of each passive data segment.
@@ -44,7 +53,7 @@ pub struct ModuleTranslation<'d> {
     pub table_initialization: TableInitialization,
     /// The active data segments, before and after they are planned.
     pub memory_init: MemoryInit<'d>,
-    pub(crate) passive_data: Vec<(DataIndex, &'d [u8])>,
+    pub(crate) hidden: Hidden<'d>,
 }
 
 /// A function body that is compiled later.
@@ -101,6 +110,8 @@ impl<'d> ModuleTranslation<'d> {
             wasm_module_offset: 0,
             function_body_inputs: PrimaryMap::new(alloc),
             exported_signatures: Vec::new(alloc),
+            debuginfo: DebugInfoData::new(alloc),
+            has_unparsed_debuginfo: false,
             data_align: None,
             runtime_data_map: SecondaryMap::new(alloc, None),
             passive_elem_map: SecondaryMap::new(alloc, None),
@@ -113,7 +124,7 @@ impl<'d> ModuleTranslation<'d> {
                 segments: Vec::new(alloc),
             },
             memory_init: MemoryInit::Unprocessed(Vec::new(alloc)),
-            passive_data: Vec::new(alloc),
+            hidden: Hidden::new(alloc),
         })
     }
 
@@ -134,7 +145,41 @@ impl<'d> ModuleTranslation<'d> {
         ensures err { OnErr result (passive_data_of self.new ≡ passive_data_of self.old) }
         ensures same { SameButPassive self.old self.new }
     {
-        self.passive_data.push((index, bytes))?;
+        self.hidden.passive_data.push((index, bytes))?;
         Ok(())
+    }
+
+    /// The types of the module, by ids, once they are set.
+    pub fn get_types(&self) -> &Types
+        requires { IsSome (types_of self.now) }
+        ensures { types_of self.now ≡ Some result.now }
+    {
+        self.hidden.types.as_ref().unwrap()
+    }
+
+    /// Sets the types of the module.
+    pub fn set_types(&mut self, types: Types)
+        ensures set { types_of self.new ≡ Some types }
+        ensures same { SameButTypes self.old self.new }
+    {
+        self.hidden.types = Some(types);
+    }
+
+    /// The hints of a function's branches, in order; none where no entry of it stands.
+    pub fn branch_hints(&self, func: FuncIndex) -> Option<&[BranchHint]>
+        ensures { option_map (λ hints. hints.now) result ≡ hints_of self.now (number_of func) }
+    {
+        self.hidden
+            .branch_hints
+            .get(&func)
+            .map(|hints| hints.as_slice())
+    }
+
+    /// Puts these hints in the place of all that stood.
+    pub fn set_branch_hints(&mut self, hints: BTreeMap<FuncIndex, Vec<BranchHint>>)
+        ensures set { hint_entries_of self.new ≡ map (λ e. (number_of e.0, e.1.items)) hints.entries }
+        ensures same { SameButHints self.old self.new }
+    {
+        self.hidden.branch_hints = hints;
     }
 }

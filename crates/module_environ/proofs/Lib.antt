@@ -2,3 +2,44 @@ mod Looking
 mod Counting
 mod Reaching
 mod InTurn
+mod FromRules
+mod RuledSections
+mod FilledInitialisers
+mod FilledSections
+mod Started
+mod Formed
+mod Carried
+mod Together
+mod Answering
+pub mod Numbering
+pub mod Flagging
+pub mod Typed
+pub mod Signatures
+pub mod Referring
+pub mod FirstCauses
+pub mod Escaped
+mod GrownPool
+mod ImportsInTurn
+mod ExportsInTurn
+mod ImportPlaces
+mod FilledEntities
+mod Filling
+pub mod GatheredTables
+pub mod LookedUp
+mod GatheredGlobals
+pub mod HeldExpressions
+pub mod HoldsLists
+pub mod BySection
+pub mod HeldElements
+pub mod DataSteps
+pub mod ElementsNoted
+pub mod MemoriesReady
+pub mod TablesReady
+pub mod Bodies
+pub mod DeclaredKinds
+pub mod DeclaredLooks
+pub mod Naming
+mod Places
+mod Excepting
+pub mod Tagging
+pub mod Agreeing

@@ -1,7 +1,6 @@
 -- A converter over the types of a record looks each up to its interned type.
 use Rattle.std.proofs.Common.{◌≡◌, ◌∙◌, ◌<◌, ℕ, List, length, Option, Some, None, refl, sym, ap, subst}
-use Rattle.std.specs.Prelude.{IsSomeAnd}
-use Rattle.wasm_spec.specs.declared.types.UnpackedIndex.{UnpackedIndex}
+use Rattle.std.specs.Prelude.{IsSome, IsSomeAnd}
 use Rattle.wasm_spec.specs.declared.types.UnpackedIndex.TheVariants as index
 use Rattle.form_types.specs.Types.{TypesData}
 use Rattle.wasm_index.specs.declared.index.Index.{Index}
@@ -12,7 +11,7 @@ use Rattle.module_types.specs.Views.{TypeIndex}
 use Rattle.module_types.specs.Builder.{Kept}
 use Rattle.module_types.specs.ClosureAnswers.{Answer, AnswersBelow}
 use Rattle.module_types.specs.Converter.{interned_name, look_index, answered, answered-is}
-use Rattle.module_environ.specs.Environment.{interned_in, number_or_zero, AreHeld, KnowsType, look_type}
+use Rattle.module_environ.specs.Environment.{interned_in, number_or_zero, AreHeld, look_type}
 
 module _ (types : List EngineOrModuleTypeIndex) where
   -- what the record answers at an index
@@ -28,26 +27,24 @@ module _ (types : List EngineOrModuleTypeIndex) where
     held = h;
   }
 
-  known-held : (b : Kept) (i : UnpackedIndex) → KnowsType types b i → AreHeld types (length b.list.types)
-  known-held b (index.Module i) (below, held) = held
-  known-held b (index.Id id) h = absurd h
-  known-held b (index.RecGroup i) h = absurd h
+  pub answers-of : (count bound : ℕ) → bound ≡ length types → AreHeld types count → AnswersBelow Gives count bound
+  answers-of count bound e held n h = answer-of count n (interned_in types n) refl (held n (subst (λ m. n < m) e h))
 
-  pub answers-of : (b : Kept) (bound : ℕ) (i : UnpackedIndex) → bound ≡ length types → KnowsType types b i → AnswersBelow Gives (length b.list.types) bound
-  answers-of b bound i e knows n h =
-      answer-of (length b.list.types) n (interned_in types n) refl (known-held b i knows n (subst (λ m. n < m) e h))
-
-  -- so a converter whose look-up gives what the record answers looks up what the environment looks up
-  module _ (given : Index TypeSpace → TypeIndex → Type 0) (gives : (i : Index TypeSpace) (r : TypeIndex) → Gives i r → given i r) (c : Kept) (bound : ℕ)
+  -- so a converter whose look-up gives what the record answers looks up the types of the record
+  module _ (given : Index TypeSpace → TypeIndex → Type 0) (gives : (i : Index TypeSpace) (r : TypeIndex) → Gives i r → given i r)
+      (c : Kept) (bound : ℕ)
       (answers : AnswersBelow given (length c.list.types) bound) (ids : Option TypesData) (b : Kept) (same : c ≡ b) (e : bound ≡ length types) where
     number-is : (i : ℕ) → i < bound → (o : Option TypeIndex) → interned_in types i ≡ o → IsSomeAnd o (λ k. number_of k < length b.list.types)
         → answered given c bound answers ids i ≡ number_or_zero o
     number-is i h None at held = absurd held
     number-is i h (Some k) at held = sym (answered-is given c bound answers ids i h k (gives (index_of i) k at))
 
-    pub look-is : (i : UnpackedIndex) → KnowsType types b i → look_index given c bound answers ids i ≡ look_type types b i
-    look-is (index.Module i) (below, held) =
+    pub look-is : AreHeld types (length b.list.types) → (i : ℕ) → i < length types
+        → look_index given c bound answers ids (index.Module i) ≡ look_type types b (index.Module i)
+    look-is held i below =
         let number = number-is i (subst (λ n. i < n) (sym e) below) (interned_in types i) refl (held i below) in
         ap (interned_name c) number ∙ ap (λ k. interned_name k (number_or_zero (interned_in types i))) same
-    look-is (index.Id id) h = absurd h
-    look-is (index.RecGroup i) h = absurd h
+
+pub some-in : (count : ℕ) (o : Option TypeIndex) → IsSomeAnd o (λ k. number_of k < count) → IsSome o
+some-in count None h = absurd h
+some-in count (Some k) h = refl

@@ -1,6 +1,7 @@
 -- The entities of a translated module, and what it imports and exports (core specification, 2.5).
-use Rattle.std.specs.Prelude.{ℕ, List, [], ◌∷◌, ◌++◌, length, map, Option, unwrap_or}
+use Rattle.std.specs.Prelude.{ℕ, List, [], ◌∷◌, ◌++◌, length, map, slice_get, Option, unwrap_or}
 use Rattle.std.specs.List.{filter_map, enumerate_from}
+use Rattle.entity_map.specs.Pool.{atom_number}
 use Rattle.entity_map.specs.declared.pool.Atom.{Atom}
 use Rattle.wasm_spec.specs.declared.entities.TypeRef.{TypeRef}
 use Rattle.wasm_spec.specs.declared.entities.TypeRef.TheVariants as imported
@@ -18,8 +19,6 @@ use Rattle.wasm_convert.specs.Conversion.{global_type_of, table_type_of}
 use Rattle.wasm_module.specs.declared.function.FunctionType.{FunctionType}
 use Rattle.wasm_module.specs.declared.initializer.Initializer.{Initializer}
 use Rattle.wasm_module.specs.declared.initializer.Initializer.TheVariants as initializer
-use Rattle.wasm_module.specs.Record.{ModuleRecord}
-use Rattle.wasm_module.specs.Imports.{text_of}
 use Rattle.module_environ.specs.Types.{declared_type, type_index, exception_at, look_up_in}
 use Rattle.module_environ.specs.Escapes.{number_among}
 
@@ -60,16 +59,16 @@ entity_at kind.Tag index = entity.Tag (index_of index)
 abbrev pub exported_entities : List Export → List (List ℕ × EntityIndex)
 exported_entities exports = map (λ (e : Export). (e.name, entity_at e.kind e.index)) exports
 
--- ---- names in a record: atoms of its pool
+-- ---- names in a record: atoms of its pool, which is a list of texts
 
-abbrev pub text_or_empty : ModuleRecord → Atom → List ℕ
-text_or_empty r atom = unwrap_or (text_of r atom) []
+abbrev pub text_at : List (List ℕ) → Atom → List ℕ
+text_at texts atom = unwrap_or (slice_get texts (atom_number atom)) []
 
-abbrev pub resolved_import : ModuleRecord → Initializer → NamedEntity
-resolved_import r (initializer.Import name field index) = (text_or_empty r name, text_or_empty r field, index)
+abbrev pub resolved_import : List (List ℕ) → Initializer → NamedEntity
+resolved_import texts (initializer.Import name field index) = (text_at texts name, text_at texts field, index)
 
-abbrev pub resolved_export : ModuleRecord → Atom × EntityIndex → List ℕ × EntityIndex
-resolved_export r e = (text_or_empty r e.0, e.1)
+abbrev pub resolved_export : List (List ℕ) → Atom × EntityIndex → List ℕ × EntityIndex
+resolved_export texts e = (text_at texts e.0, e.1)
 
 -- ---- index spaces
 

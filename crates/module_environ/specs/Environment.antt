@@ -1,6 +1,5 @@
 -- Which types an environment knows: those that the record of its translation holds, by their indices (core specification, 2.5, types).
 use Rattle.std.specs.Prelude.{◌<◌, ℕ, List, length, slice_get, Option, Some, None, IsSomeAnd, option_and_then}
-use Rattle.wasm_spec.specs.declared.types.UnpackedIndex.{UnpackedIndex}
 use Rattle.wasm_spec.specs.declared.types.UnpackedIndex.TheVariants as index
 use Rattle.wasm_index.specs.Index.{number_of}
 use Rattle.wasm_types.specs.declared.index.EngineOrModuleTypeIndex.{EngineOrModuleTypeIndex}
@@ -24,11 +23,6 @@ AreHeld types count = (i : ℕ) → i < length types → IsSomeAnd (interned_in 
 
 -- over the types of a record, and what a builder keeps
 module _ (types : List EngineOrModuleTypeIndex) (b : Kept) where
-  -- the types of the module, where the builder holds them
-  abbrev pub KnowsType : UnpackedIndex → Type 0
-  KnowsType (index.Module i) = (i < length types) × AreHeld types (length b.list.types)
-  KnowsType _ = ⊥
-
   -- what each is named by
   abbrev pub look_type : LookUp
   look_type (index.Module i) = interned_name b (number_or_zero (interned_in types i))

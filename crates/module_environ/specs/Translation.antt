@@ -1,12 +1,14 @@
 -- The translation of a module, before its memories and tables are planned: each field is a list of the module (core specification, 2.5).
-use Rattle.std.specs.Prelude.{◌≡◌, ℕ, Bool, true, false, List, [], length, map, drop, slice_get, not, None, unwrap_or}
-use Rattle.std.specs.List.{list_any}
+use Rattle.std.specs.Prelude.{◌≡◌, ℕ, Bool, true, false, List, [], ◌∷◌, length, map, drop, slice_get, not, Some, None, unwrap_or}
+use Rattle.std.specs.List.{flat_map, list_any}
 use Rattle.std.specs.Option.{option_map}
 use Rattle.entity_map.specs.Secondary.{value_at}
 use Rattle.wasm_spec.specs.Module.{function_import, table_import, memory_import, global_import, tag_import}
 use Rattle.wasm_spec.specs.Module as plain
 use Rattle.rule_spec.specs.Lists.{lists_of_module}
 use Rattle.form_data.specs.Views.{body_of}
+use Rattle.form_types.specs.Numbered.{AreNumbered}
+use Rattle.form_types.specs.Types.{TypesData}
 use Rattle.wasm_index.specs.declared.index.Index.{Index}
 use Rattle.wasm_index.specs.declared.spaces.StaticModuleSpace.{StaticModuleSpace}
 use Rattle.wasm_index.specs.Index.{number_of}
@@ -14,18 +16,26 @@ use Rattle.wasm_types.specs.declared.tunables.Tunables.{Tunables}
 use Rattle.wasm_types.specs.Collected.{heap_is_collected}
 use Rattle.wasm_types.specs.EntityViews.{global_of, table_of}
 use Rattle.wasm_types.specs.Memories.{memory_of}
-use Rattle.wasm_module.specs.Record.{record_of}
 use Rattle.wasm_module.specs.Elements.{element_type, element_count}
 use Rattle.wasm_module.specs.declared.startup.ModuleStartup.{ModuleStartup}
 use Rattle.wasm_module.specs.declared.startup.ModuleStartup.TheVariants as startup
 use Rattle.replay_spec.specs.Data.{active_segments}
 use Rattle.replay_spec.specs.Startup.{leaves_nothing}
 use Rattle.init_plan.specs.declared.translation.ModuleTranslation.{ModuleTranslation}
-use Rattle.init_plan.specs.Views.{initializers_of, passive_data_of, IsUnprocessed, IsSegmented, ranges_of}
+use Rattle.init_plan.specs.Views.{initializers_of, passive_data_of, types_of, IsUnprocessed, IsSegmented, ranges_of}
 use Rattle.module_environ.specs.Types.{declared, interned_at, interned_list, type_index, look_up_in}
 use Rattle.module_environ.specs.Entities.{count_of, imported_entities, exported_entities, resolved_import, resolved_export, function_types, tables_data, globals_data, tags_of}
 use Rattle.module_environ.specs.Escapes.{escaping, AreSignatures}
 use Rattle.module_environ.specs.Initialisers.{known_values, left_initialisers, value_seen, initialiser_seen, first_values, first_value_seen, active_elements, segment_seen, passive_items, items_seen, passive_numbers, passive_data_from}
+
+-- where the code section's contents begin, and 0 without one
+abbrev pub code_places : plain.Payload → List ℕ
+code_places (plain.Code place bodies) = place ∷ []
+code_places _ = []
+
+abbrev pub first_or_zero : List ℕ → ℕ
+first_or_zero [] = 0
+first_or_zero (n ∷ ns) = n
 
 -- the type of the startup function is the last of the interned ones
 abbrev pub startup_when : plain.Module → Bool → ModuleStartup
@@ -34,13 +44,11 @@ startup_when m true = startup.Always (type_index (length (interned_list m false)
 
 -- imports, exports and what each index space holds; types by their interned indices
 pub record HasEntities (m : plain.Module) (t : ModuleTranslation) : Type 0 where
-  pub types : t.module.types ≡ map type_index (declared m)
-  pub imports : map (resolved_import (record_of t.module)) t.module.initializers.items ≡ imported_entities m
-  pub exports : map (resolved_export (record_of t.module)) t.module.exports.entries ≡ exported_entities (lists_of_module m).exports
+  pub imports : map (resolved_import t.module.strings) t.module.initializers.items ≡ imported_entities m
+  pub exports : map (resolved_export t.module.strings) t.module.exports.entries ≡ exported_entities (lists_of_module m).exports
   pub tables : map table_of t.module.tables ≡ tables_data m
   pub memories : t.module.memories ≡ map memory_of (plain.memories m)
   pub globals : map global_of t.module.globals ≡ globals_data m
-  pub tags : t.module.tags ≡ tags_of m
   pub start : option_map number_of t.start_func ≡ slice_get (lists_of_module m).starts 0
 
 -- how many entities of each space are imported
@@ -87,20 +95,36 @@ pub record HasData (m : plain.Module) (t : ModuleTranslation) : Type 0 where
   pub nothing_found : t.runtime_data_map ≡ record { default = None; items = [] }
   pub no_alignment : t.data_align ≡ None
 
--- the bodies of the defined functions
-abbrev pub HasCode : plain.Module → ModuleTranslation → Type 0
-HasCode m t = map (λ input. body_of input.body) t.function_body_inputs ≡ (lists_of_module m).bodies
-
--- the translation of the module that these bytes spell
-pub record IsTranslation (tunables : Tunables) (module_index : Index StaticModuleSpace) (bytes : List ℕ) (m : plain.Module) (t : ModuleTranslation)
-    : Type 0 where
+-- what each section but those of types, tags and code becomes
+pub record HasSections (debugged : Bool) (m : plain.Module) (t : ModuleTranslation) : Type 0 where
   pub entities : HasEntities m t
   pub counts : CountsImports m t
-  pub escapes : Escapes tunables.debug_guest m t
+  pub escapes : Escapes debugged m t
   pub heap : NeedsHeap t
   pub globals : HasGlobals m t
   pub elements : HasElements m t
   pub data_segments : HasData m t
+
+-- the bodies of the defined functions, and where the code stands
+pub record HasCode (m : plain.Module) (t : ModuleTranslation) : Type 0 where
+  pub bodies : map (λ input. body_of input.body) t.function_body_inputs ≡ (lists_of_module m).bodies
+  pub place : t.debuginfo.wasm_file.code_section_offset ≡ first_or_zero (flat_map code_places m)
+  pub imports : t.debuginfo.wasm_file.imported_func_count ≡ count_of function_import (plain.imports m)
+
+-- declared types and tags, and the types of the module by ids, of the validator
+pub record HasTypes (m : plain.Module) (validator : ℕ) (t : ModuleTranslation) : Type 0 where
+  pub declared : t.module.types ≡ map type_index (declared m)
+  pub tags : t.module.tags ≡ tags_of m
+  pub types : TypesData
+  pub set : types_of t ≡ Some types
+  pub numbered : AreNumbered m types
+  pub made : types.validator ≡ validator
+
+-- the translation of the module that these bytes spell
+pub record IsTranslation (tunables : Tunables) (module_index : Index StaticModuleSpace) (validator : ℕ) (bytes : List ℕ) (m : plain.Module)
+    (t : ModuleTranslation) : Type 0 where
+  pub types : HasTypes m validator t
+  pub sections : HasSections tunables.debug_guest m t
   pub code : HasCode m t
   pub startup : t.module.startup ≡ startup_when m (not (leaves_nothing (lists_of_module m)))
   pub index : t.module.module_index ≡ module_index

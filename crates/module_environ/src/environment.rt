@@ -1,47 +1,30 @@
 //! What a module is translated with.
 
-ghost use Rattle.std.specs.Prelude.{◌≡◌, [], Some, IsSome, IfOk};
-ghost use Rattle.wasm_index.specs.Index.{number_of};
-ghost use Rattle.init_plan.specs.Views.{IsNewTranslation};
-ghost use Rattle.module_environ.specs.Environment.{KnowsType, look_type, interned_in};
+ghost use Rattle.std.specs.Prelude.{◌≡◌, [], false, IfOk};
+ghost use Rattle.module_environ.specs.Named.{IsNamed, name_in};
+ghost use Rattle.module_types.specs.Builder.{shown, new_builder};
 
-use entity_map::{OutOfMemory, PrimaryMap};
+use entity_map::OutOfMemory;
 use form_types::Validator;
-use init_plan::ModuleTranslation;
-use module_types::{ModuleTypesBuilder, TypeLookUp, WasmparserTypeConverter};
+use module_types::ModuleTypesBuilder;
 use std::alloc::Global;
 use wasm_convert::TypeConvert;
-use wasm_index::{ModuleInternedTypeIndex, StaticModuleIndex, TypeIndex};
+use wasm_index::StaticModuleIndex;
 use wasm_spec::UnpackedIndex;
 use wasm_types::{EngineOrModuleTypeIndex, Tunables, WasmHeapType};
 
-/// What a module is translated with, and what it becomes: an `R`.
+/// What a module is translated with. It owns no memory, so that it can be handed on whole.
 #[derive(Drop)]
-pub struct Environment<'a, R> {
+pub struct ModuleEnvironment<'a, 'd> {
     pub(crate) tunables: &'a Tunables,
     pub(crate) validator: &'a Validator,
     pub(crate) types: &'a mut ModuleTypesBuilder,
-    pub(crate) result: R,
+    pub(crate) module_index: StaticModuleIndex,
+    /// The bytes that were translated: none yet.
+    pub(crate) wasm: &'d [u8],
 }
 
-/// The environment of a module that is translated.
-pub type ModuleEnvironment<'a, 'd> = Environment<'a, ModuleTranslation<'d>>;
-
-/// The interned index of each type of a record.
-#[derive(Drop)]
-struct RecordTypes<'a>(&'a PrimaryMap<TypeIndex, EngineOrModuleTypeIndex>);
-
-impl TypeLookUp for RecordTypes<'_> {
-    ghost callable = { λ types i. IsSome (interned_in types.0.now (number_of i)) };
-
-    ghost gives = { λ types i r. interned_in types.0.now (number_of i) ≡ Some r };
-
-    fn interned_index(&self, index: TypeIndex) -> ModuleInternedTypeIndex {
-        self.0[index].unwrap_module_type_index()
-    }
-}
-
-impl<'a, 'd> Environment<'a, ModuleTranslation<'d>> {
+impl<'a, 'd> ModuleEnvironment<'a, 'd> {
     /// An environment of no type yet, for the types of a validator, which a builder that holds none takes up.
     pub fn new(
         alloc: Global,
@@ -50,37 +33,35 @@ impl<'a, 'd> Environment<'a, ModuleTranslation<'d>> {
         types: &'a mut ModuleTypesBuilder,
         module_index: StaticModuleIndex,
     ) -> Result<Self, OutOfMemory>
-        requires of_validator { types.old.validator ≡ validator.now }
-        requires empty { types.old.list.types ≡ [] }
-        ensures new { IfOk result (λ e. IsNewTranslation module_index e.result) }
+        requires empty { types.old.is_poisoned ≡ false → shown types.old ≡ new_builder validator.now }
+        ensures index { IfOk result (λ e. e.module_index ≡ module_index) }
         ensures tunables { IfOk result (λ e. e.tunables ≡ tunables.entry) }
         ensures validator { IfOk result (λ e. e.validator ≡ validator.entry) }
         ensures types { IfOk result (λ e. e.types.now ≡ types.old) }
         ensures same_types { IfOk result (λ e. e.types.ghost_name ≡ types.entry.ghost_name) }
     {
-        Ok(Environment {
+        let _ = alloc;
+        Ok(ModuleEnvironment {
             tunables,
             validator,
-            result: ModuleTranslation::new(alloc, module_index)?,
             types,
+            module_index,
+            wasm: &[],
         })
     }
 }
 
-impl TypeConvert for Environment<'_, ModuleTranslation<'_>> {
-    ghost knows = { λ e i. KnowsType e.result.module.types e.types.now i };
+/// An environment knows the types of its record, which has none before the translation, and the translation consumes it.
+impl TypeConvert for ModuleEnvironment<'_, '_> {
+    ghost knows = { λ e i. IsNamed [] i };
 
-    ghost look_up = { λ e i. look_type e.result.module.types e.types.now i };
+    ghost look_up = { λ e i. name_in [] i };
 
-    fn lookup_heap_type(&self, index: UnpackedIndex) -> WasmHeapType {
-        let declared = RecordTypes(&self.result.module.types);
-        let count = self.result.module.types.len() as u32;
-        WasmparserTypeConverter::new(self.types, count, declared).lookup_heap_type(index)
+    fn lookup_heap_type(&self, _index: UnpackedIndex) -> WasmHeapType {
+        unreachable!()
     }
 
-    fn lookup_type_index(&self, index: UnpackedIndex) -> EngineOrModuleTypeIndex {
-        let declared = RecordTypes(&self.result.module.types);
-        let count = self.result.module.types.len() as u32;
-        WasmparserTypeConverter::new(self.types, count, declared).lookup_type_index(index)
+    fn lookup_type_index(&self, _index: UnpackedIndex) -> EngineOrModuleTypeIndex {
+        unreachable!()
     }
 }

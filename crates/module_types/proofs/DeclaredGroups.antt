@@ -33,12 +33,12 @@ use Rattle.module_types.proofs.Taking.{Found, Taking, first-found, none-found, e
 
 -- ---- ids, and numbers of groups
 
-first-same : (gs : List NamedGroup) (k : ℕ) → k < length gs → numbered.first_id gs k ≡ first_id gs k
+pub first-same : (gs : List NamedGroup) (k : ℕ) → k < length gs → numbered.first_id gs k ≡ first_id gs k
 first-same [] k lt = absurd (omega arith)
 first-same (g ∷ gs) zero lt = refl
 first-same (g ∷ gs) (suc k) lt = length-append g (types_by_id (take k gs)) ∙ ap (λ n. length g + n) (first-same gs k (omega arith))
 
-number-of : (gs : List NamedGroup) (base k p : ℕ) → k < length gs → p < length (get_or gs k [])
+pub number-of : (gs : List NamedGroup) (base k p : ℕ) → k < length gs → p < length (get_or gs k [])
     → get_or (group_numbers base gs) (first_id gs k + p) 0 ≡ base + k
 number-of [] base k p lt lt' = absurd (omega arith)
 number-of (g ∷ gs) base zero p lt lt' =
@@ -55,23 +55,23 @@ number-of (g ∷ gs) base (suc k) p lt lt' =
     ∙ number-of gs (base + 1) k p (omega arith) lt' ∙ omega arith
 
 module _ (m : plain.Module) (t : TypesData) (are : AreNumbered m t) (near : NameEarlier 0 (placed_groups m)) where
-  abbrev all : List (Group ℕ ℕ)
+  abbrev pub all : List (Group ℕ ℕ)
   all = placed_groups m
 
-  abbrev number : ℕ → ℕ
+  abbrev pub number : ℕ → ℕ
   number = number_in all
 
-  abbrev id : ℕ → ℕ
+  abbrev pub id : ℕ → ℕ
   id i = slice_index t.declared i
 
   -- the number of the group of a declared type
-  abbrev group : ℕ → ℕ
+  abbrev pub group : ℕ → ℕ
   group i = group_of_id t (id i)
 
-  counted : size all ≡ length (plain.types m)
+  pub counted : size all ≡ length (plain.types m)
   counted = size-places (plain.groups m)
 
-  inside : (i : ℕ) → i < size all → i < length (plain.types m)
+  pub inside : (i : ℕ) → i < size all → i < length (plain.types m)
   inside i lt = omega (arith, lt, counted)
 
   -- where the id of a declared type stands
@@ -81,7 +81,7 @@ module _ (m : plain.Module) (t : TypesData) (are : AreNumbered m t) (near : Name
     pub at : id i ≡ first_id t.groups (group i) + (i - (home all i).start)
     pub within : i - (home all i).start < length (members_of t (group i))
 
-  id-at : (i : ℕ) → i < size all → IdAt i
+  pub id-at : (i : ℕ) → i < size all → IdAt i
   id-at i lt =
       let s = are.held i (inside i lt) in
       let w = home-within all i lt in
@@ -99,11 +99,11 @@ module _ (m : plain.Module) (t : TypesData) (are : AreNumbered m t) (near : Name
       }
 
   -- equal types have ids of one group
-  same-group : (i j : ℕ) → i < size all → j < size all → SameType all all i j → group i ≡ group j
+  pub same-group : (i j : ℕ) → i < size all → j < size all → SameType all all i j → group i ≡ group j
   same-group i j lt lt' same = ap (group_of_id t) ((are.exact i j (inside i lt) (inside j lt')).1 same)
 
   -- so have the members of a group
-  first-group : (i : ℕ) → i < size all → group i ≡ group (home all i).start
+  pub first-group : (i : ℕ) → i < size all → group i ≡ group (home all i).start
   first-group i lt =
       let w = home-within all i lt in
       let start = (home all i).start in
@@ -118,14 +118,14 @@ module _ (m : plain.Module) (t : TypesData) (are : AreNumbered m t) (near : Name
       ∙ number-of t.groups 0 (group start) (i - start) x.known (omega (arith, long, w.from, w.to)) ∙ omega arith
 
   -- groups with ids of one group are equal
-  group-same : (i j : ℕ) → i < size all → j < size all → i - (home all i).start ≡ j - (home all j).start → group i ≡ group j → SameType all all i j
+  pub group-same : (i j : ℕ) → i < size all → j < size all → i - (home all i).start ≡ j - (home all j).start → group i ≡ group j → SameType all all i j
   group-same i j lt lt' place same =
       let x = id-at i lt in
       let y = id-at j lt' in
       (are.exact i j (inside i lt) (inside j lt')).0 (x.at ∙ (λ k. first_id t.groups (same k) + place k) ∙ sym y.at)
 
   -- the type of a declared type's id is of its kind
-  kind-held : (i : ℕ) → i < size all → kind_in (slice_get (types_by_id t.groups) (id i)) ≡ kind_at all i
+  pub kind-held : (i : ℕ) → i < size all → kind_in (slice_get (types_by_id t.groups) (id i)) ≡ kind_at all i
   kind-held i lt =
       let x = id-at i lt in
       let p = i - (home all i).start in
@@ -160,7 +160,7 @@ module _ (m : plain.Module) (t : TypesData) (are : AreNumbered m t) (near : Name
     pub held : (i : ℕ) → i < start → HoldsAt b i
     pub fresh : (k : ℕ) → ((i : ℕ) → i < start → group i ≡ k → ⊥) → b.ids k ≡ None
 
-  index-held : (b : Builder) (i : ℕ) → i < size all → HoldsAt b i → interned_index t b (id i) ≡ number i
+  pub index-held : (b : Builder) (i : ℕ) → i < size all → HoldsAt b i → interned_index t b (id i) ≡ number i
   index-held b i lt x =
       let at = (id-at i lt).at in
       let place : id i - first_id t.groups (group i) ≡ i - (home all i).start = omega (arith, at) in
@@ -170,16 +170,16 @@ module _ (m : plain.Module) (t : TypesData) (are : AreNumbered m t) (near : Name
   module _ (b : Builder) (s : Taken) (start : ℕ) (g : Group ℕ ℕ) (gs : List (Group ℕ ℕ)) (done : List Home) (h : Taking all number s start
       (g ∷ gs) done)
       (some : 0 < length g) (has : Has b s start) where
-    end : start + length g ≤ size all
+    pub end : start + length g ≤ size all
     end = ends all number s start g gs done h some
 
-    starts : start < size all
+    pub starts : start < size all
     starts = omega (arith, end, some)
 
-    k : ℕ
+    pub k : ℕ
     k = group start
 
-    member-group : (p : ℕ) → p < length g → group (start + p) ≡ group start
+    pub member-group : (p : ℕ) → p < length g → group (start + p) ≡ group start
     member-group p lt =
         first-group (start + p) (omega (arith, end, lt))
         ∙ ap (λ (x : Home). group x.start) (home-member all number s start g gs done h some p lt)
@@ -187,18 +187,18 @@ module _ (m : plain.Module) (t : TypesData) (are : AreNumbered m t) (near : Name
     -- an equal group is held
     module _ (j : ℕ) (found : Found all start 0 (0 + start) j)
         (reads : (i : ℕ) → number i ≡ get_or (take_groups all (take_group all s start g (Some j)) (start + length g) gs).declared i 0) where
-      before : j < start
+      pub before : j < start
       before = omega (arith, found.high)
 
-      held-met : HoldsAt b j
+      pub held-met : HoldsAt b j
       held-met = has.held j before
 
-      none-more : interns_type t b (id start) ≡ b
+      pub none-more : interns_type t b (id start) ≡ b
       none-more =
           let one = same-group j start (omega (arith, before, starts)) starts found.same in
           ap (interns_by b (group start) (interned_members t b (group start))) (ap b.ids (sym one) ∙ held-met.id_is)
 
-      has-met : Has b (take_group all s start g (Some j)) (start + length g)
+      pub has-met : Has b (take_group all s start g (Some j)) (start + length g)
       has-met = record {
         built = has.built;
         held = λ i lt.
@@ -224,7 +224,7 @@ module _ (m : plain.Module) (t : TypesData) (are : AreNumbered m t) (near : Name
     -- a new group is appended
     module _ (none : first_equal all start 0 start ≡ None)
         (reads : (i : ℕ) → number i ≡ get_or (take_groups all (take_group all s start g None) (start + length g) gs).declared i 0) where
-      other : (i : ℕ) → i < start → group i ≡ group start → ⊥
+      pub other : (i : ℕ) → i < start → group i ≡ group start → ⊥
       other i lt same =
           let first = (home all i).start in
           let lt' : i < size all = omega (arith, lt, starts) in
@@ -235,16 +235,16 @@ module _ (m : plain.Module) (t : TypesData) (are : AreNumbered m t) (near : Name
           none-found all start 0 start none first (omega arith) (omega (arith, w.from, lt))
           (group-same first start (omega (arith, w.from, lt')) starts place (sym (first-group i lt') ∙ same))
 
-      unheld : b.ids (group start) ≡ None
+      pub unheld : b.ids (group start) ≡ None
       unheld = has.fresh (group start) other
 
-      abbrev next : List Interned
+      abbrev pub next : List Interned
       next = interned_members t b (group start)
 
-      long-types : length b.built.types ≡ length s.built.types
+      pub long-types : length b.built.types ≡ length s.built.types
       long-types = ap (λ (c : Built). length c.types) has.built
 
-      index-next : (r : ℕ) → r < start + length g → interned_index t b (id r) ≡ number r
+      pub index-next : (r : ℕ) → r < start + length g → interned_index t b (id r) ≡ number r
       index-next r lt =
           elim (either all number s start g gs done h some r lt) [
             | inl old ↦ index-held b r (omega (arith, lt, end)) (has.held r old)
@@ -262,7 +262,7 @@ module _ (m : plain.Module) (t : TypesData) (are : AreNumbered m t) (near : Name
                 ∙ (λ i. long-types i + place i) ∙ sym (number-new all number s start g gs done h some none reads x.place x.lt))
           ]
 
-      next-is : next ≡ interned_group all s.declared start (length s.built.types) g
+      pub next-is : next ≡ interned_group all s.declared start (length s.built.types) g
       next-is =
           let d = id_at t.declared in
           let first = home-first all number s start g gs done h some in
@@ -280,22 +280,22 @@ module _ (m : plain.Module) (t : TypesData) (are : AreNumbered m t) (near : Name
           })
           ∙ sym (form-new all number s start g gs done h some none reads)
 
-      abbrev later : Builder
+      abbrev pub later : Builder
       later = interns_by b (group start) next None
 
-      one-more : interns_type t b (id start) ≡ later
+      pub one-more : interns_type t b (id start) ≡ later
       one-more = ap (interns_by b (group start) next) unheld
 
-      built-new : later.built ≡ (take_group all s start g None).built
+      pub built-new : later.built ≡ (take_group all s start g None).built
       built-new = λ i. with_group (has.built i) (next-is i)
 
-      abbrev groups-more : List Span
+      abbrev pub groups-more : List Span
       groups-more = (extends-group b.built next).groups_more
 
-      groups-are : later.built.groups ≡ (b.built.groups ++ next_span b.built (length next) ∷ []) ++ groups-more
+      pub groups-are : later.built.groups ≡ (b.built.groups ++ next_span b.built (length next) ∷ []) ++ groups-more
       groups-are = (extends-group b.built next).groups
 
-      groups-long : length later.built.groups ≡ length b.built.groups + 1 + length groups-more
+      pub groups-long : length later.built.groups ≡ length b.built.groups + 1 + length groups-more
       groups-long =
           omega (
             arith,
@@ -304,7 +304,7 @@ module _ (m : plain.Module) (t : TypesData) (are : AreNumbered m t) (near : Name
             length-append b.built.groups (next_span b.built (length next) ∷ []),
           )
 
-      span-new : get_or later.built.groups (length b.built.groups) no_span ≡ next_span b.built (length next)
+      pub span-new : get_or later.built.groups (length b.built.groups) no_span ≡ next_span b.built (length next)
       span-new =
           let at : length b.built.groups ≡ length b.built.groups + 0 = omega arith in
           ap (λ l. get_or l (length b.built.groups) no_span) groups-are
@@ -313,23 +313,23 @@ module _ (m : plain.Module) (t : TypesData) (are : AreNumbered m t) (near : Name
           ∙ ap (λ n. get_or (b.built.groups ++ next_span b.built (length next) ∷ []) n no_span) at
           ∙ get_or-append-add b.built.groups (next_span b.built (length next) ∷ []) 0 no_span
 
-      span-old : (n : ℕ) → n < length b.built.groups → get_or later.built.groups n no_span ≡ get_or b.built.groups n no_span
+      pub span-old : (n : ℕ) → n < length b.built.groups → get_or later.built.groups n no_span ≡ get_or b.built.groups n no_span
       span-old n lt =
           ap (λ l. get_or l n no_span) groups-are
           ∙ get_or_append_left (b.built.groups ++ next_span b.built (length next) ∷ []) groups-more no_span n
           (omega (arith, lt, length-append b.built.groups (next_span b.built (length next) ∷ [])))
           ∙ get_or_append_left b.built.groups (next_span b.built (length next) ∷ []) no_span n lt
 
-      ids-new : later.ids (group start) ≡ Some (length b.built.groups)
+      pub ids-new : later.ids (group start) ≡ Some (length b.built.groups)
       ids-new = ap (λ c. if c then Some (length b.built.groups) else b.ids (group start)) (eq-eqb (group start) (group start) refl)
 
-      ids-old : (n : ℕ) → (group start ≡ n → ⊥) → later.ids n ≡ b.ids n
+      pub ids-old : (n : ℕ) → (group start ≡ n → ⊥) → later.ids n ≡ b.ids n
       ids-old n apart = by (nat_eq (group start) n) refl where
         by : (c : Bool) → nat_eq (group start) n ≡ c → (if c then Some (length b.built.groups) else b.ids n) ≡ b.ids n
         by true e = absurd (apart (eqb-true (group start) n e))
         by false e = refl
 
-      has-new : Has later (take_group all s start g None) (start + length g)
+      pub has-new : Has later (take_group all s start g None) (start + length g)
       has-new = record {
         built = built-new;
         held = λ i lt.
@@ -358,7 +358,7 @@ module _ (m : plain.Module) (t : TypesData) (are : AreNumbered m t) (near : Name
       }
 
   -- what holds after each of the two steps holds after the step that is made
-  step-by : (b : Builder) (s : Taken) (start : ℕ) (g : Group ℕ ℕ) (gs : List (Group ℕ ℕ)) (done : List Home) → Taking all number s start (g ∷ gs) done
+  pub step-by : (b : Builder) (s : Taken) (start : ℕ) (g : Group ℕ ℕ) (gs : List (Group ℕ ℕ)) (done : List Home) → Taking all number s start (g ∷ gs) done
       → 0 < length g → Has b s start → (Q : Builder → Taken → Type 0)
       → ((b' : Builder) (s' : Taken) (done' : List Home) → ((i : ℕ) → number i ≡ get_or (take_groups all s' (start + length g) gs).declared i 0)
       → Taking all number s' (start + length g) gs done' → Has b' s' (start + length g) → Q b' s')
@@ -375,7 +375,7 @@ module _ (m : plain.Module) (t : TypesData) (are : AreNumbered m t) (near : Name
       subst (λ c. Q c s') (sym (one-more b s start g gs done h some has e reads))
       (rest _ s' _ reads (taking-new all number s start g gs done h some e reads) (has-new b s start g gs done h some has e reads))
 
-  tied-from : (gs : List (Group ℕ ℕ)) (b : Builder) (s : Taken) (start : ℕ) (done : List Home)
+  pub tied-from : (gs : List (Group ℕ ℕ)) (b : Builder) (s : Taken) (start : ℕ) (done : List Home)
       → ((i : ℕ) → number i ≡ get_or (take_groups all s start gs).declared i 0) → Taking all number s start gs done → Has b s start
       → Has (interns_declared t b start gs) (take_groups all s start gs) (size all)
   tied-from [] b s start done reads h has = let end : start ≡ size all = omega (arith, h.sized) in subst (Has b s) end has
@@ -388,7 +388,7 @@ module _ (m : plain.Module) (t : TypesData) (are : AreNumbered m t) (near : Name
   -- ---- the group that comes next
 
   -- each step keeps what ids name
-  holds-from : (gs : List (Group ℕ ℕ)) (b : Builder) (start : ℕ) → HoldsGroups t b → HoldsGroups t (interns_declared t b start gs)
+  pub holds-from : (gs : List (Group ℕ ℕ)) (b : Builder) (start : ℕ) → HoldsGroups t b → HoldsGroups t (interns_declared t b start gs)
   holds-from [] b start holds = holds
   holds-from ([] ∷ gs) b start holds = holds-from gs b start holds
   holds-from ((x ∷ xs) ∷ gs) b start holds =
@@ -402,7 +402,7 @@ module _ (m : plain.Module) (t : TypesData) (are : AreNumbered m t) (near : Name
     pub filled : 0 < length (members_of t k)
     pub named : NamesInterned t b k
 
-  comes-next : (b : Builder) (s : Taken) (start : ℕ) (g : Group ℕ ℕ) (gs : List (Group ℕ ℕ)) (done : List Home)
+  pub comes-next : (b : Builder) (s : Taken) (start : ℕ) (g : Group ℕ ℕ) (gs : List (Group ℕ ℕ)) (done : List Home)
       → Taking all number s start (g ∷ gs) done
       → 0 < length g → Has b s start → CanComeNext b (group start)
   comes-next b s start g gs done h some has =
@@ -425,7 +425,7 @@ module _ (m : plain.Module) (t : TypesData) (are : AreNumbered m t) (near : Name
             ]) (group_edges (λ r. r) g) h.near.0)));
       }
 
-  next-from : (gs : List (Group ℕ ℕ)) (g : Group ℕ ℕ) (rest : List (Group ℕ ℕ)) → 0 < length g
+  pub next-from : (gs : List (Group ℕ ℕ)) (g : Group ℕ ℕ) (rest : List (Group ℕ ℕ)) → 0 < length g
       → (b : Builder) (s : Taken) (start : ℕ) (done : List Home)
       → ((i : ℕ) → number i ≡ get_or (take_groups all s start (gs ++ g ∷ rest)).declared i 0) → Taking all number s start (gs ++ g ∷ rest) done
       → Has b s start
@@ -443,7 +443,7 @@ module _ (m : plain.Module) (t : TypesData) (are : AreNumbered m t) (near : Name
       subst (λ n. CanComeNext (interns_declared t b' (start + length (x ∷ xs)) gs) (group n)) at
       (next-from gs g rest some b' s' (start + length (x ∷ xs)) done' reads' h' has')) (first_equal all start 0 start) refl reads
 
-  has-none : (validator : ℕ) → Has (new_builder validator) none_taken 0
+  pub has-none : (validator : ℕ) → Has (new_builder validator) none_taken 0
   has-none validator = record { built = refl; held = λ i lt. absurd (omega (arith, lt)); fresh = λ k none. refl }
 
   pub can-intern : (validator : ℕ) (gs rest : List (Group ℕ ℕ)) (g : Group ℕ ℕ) → all ≡ gs ++ g ∷ rest → 0 < length g

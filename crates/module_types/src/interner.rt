@@ -13,8 +13,7 @@ ghost use Rattle.module_types.specs.Interner.{built, IsMapped};
 ghost use Rattle.std.specs.HashMap.{get};
 
 use crate::list::ModuleTypes;
-use entity_map::{EntityRef, OutOfMemory, TryCow};
-use form_lists::Seeded;
+use entity_map::{EntityRef, OutOfMemory, Seeded, TryCow};
 use std::alloc::Global;
 use std::collections::HashMap;
 use wasm_index::ModuleInternedTypeIndex;

@@ -3,7 +3,15 @@
 use init_plan::ModuleTranslation;
 
 /// What a translation of a module gives.
-#[derive(Drop)]
 pub struct Plan<'d> {
     pub translation: ModuleTranslation<'d>,
+}
+
+// One call in place of a walk over the parts, wherever a plan is let go.
+impl Drop for Plan<'_> {
+    fn drop(self) {
+        let Plan {
+            translation: _translation,
+        } = self;
+    }
 }

@@ -32,13 +32,23 @@ pub(crate) fn fill<'d>(alloc: Global, form: Form<'d>) -> Result<ModuleTranslatio
 }
 
 /// A translation whose lists grow, one section after another.
-#[derive(Drop)]
 struct Filling<'d> {
     translation: ModuleTranslation<'d>,
     /// The active data segments so far.
     active: Vec<MemoryInitializer<'d>>,
     /// The number of data segments so far, which is the index of the next.
     next_data: u32,
+}
+
+// One call in place of a walk over the parts, wherever it is let go.
+impl Drop for Filling<'_> {
+    fn drop(self) {
+        let Filling {
+            translation: _translation,
+            active: _active,
+            next_data: _,
+        } = self;
+    }
 }
 
 impl<'d> Filling<'d> {

@@ -1,9 +1,13 @@
-use Rattle.form_data.specs.Views.{module_of}
-use Rattle.form_lists.specs.Views.{lists_of}
-use Rattle.form_rules.proofs.RuleOrder.{first_broken}
+use Rattle.std.proofs.Common.{◌≡◌, Result, Ok, Err, sym, ap, ◌∙◌}
+use Rattle.std.proofs.lemmas.Result.{err_from_is_err_and}
+use Rattle.form_rules.specs.declared.error.CheckError.{CheckError}
+use Rattle.form_rules.specs.declared.error.CheckError.TheVariants.{Invalid}
 use Rattle.form_rules.proofs.rules.check.Goals as goal
 
-pub returns-then-not-branch-clause-first : goal.returns-then-not-branch-clause-first
-returns-then-not-branch-clause-first c = λ rule is.
-    first_broken c.loop-rule.rule-index _ rule (lists_of c.in_ok-lists.lists) (module_of c.args.form.now) c.loop-rule-test.true is
-    c.loop-rule.invariant c.in_ok-lists.ensures
+pub returns-in_err-checked_lists-clause-first : goal.returns-in_err-checked_lists-clause-first
+returns-in_err-checked_lists-clause-first c = λ rule is.
+    let p = err_from_is_err_and c.from_residual.result c.from_residual.ensures.1 in
+    let e : CheckError = c.in_err-checked_lists.field-0.0 in
+    let same : e ≡ Invalid rule =
+    sym p.2 ∙ (let named : (let r : Result (Unit {0}) CheckError = Err p.0 in r) ≡ Err (Invalid rule) = sym p.1 ∙ is in cc) in
+    c.in_err-checked_lists.ensures.first rule (ap Err same)

@@ -1,0 +1,78 @@
+-- Cutting `.dwo` takes nothing of `.debug_`.
+use Rattle.std.proofs.Common.{◌≡◌, ℕ, zero, suc, ◌-◌, ◌≤◌, List, ◌++◌, length, take, drop, get_or, Bool, true, false, cond, eqb, refl, sym, ap, ◌∙◌, arith, inl, inr, append_assoc}
+use Rattle.std.specs.Prelude.{codes}
+use Rattle.std.specs.List.{starts_with, ends_with}
+use Rattle.std.specs.Cmp.{unsigned_Decides}
+use Rattle.std.proofs.lemmas.Bool.{cases_lt}
+use Rattle.std.proofs.lemmas.Slice.Eq.{starts_is, ends_is}
+use Rattle.std.proofs.lemmas.List.{take-append-drop, take-append-le, get_or-append_right}
+use Rattle.custom_sections.specs.DebugNames.{without_dwo, is_debug}
+
+same_tests : (a b : Bool) → (a ≡ true → b ≡ true) → (b ≡ true → a ≡ true) → a ≡ b
+same_tests true b f g = sym (f refl)
+same_tests false true f g = g refl
+same_tests false false f g = refl
+
+-- no byte of `.dwo` is the last one of `.debug_`
+no_mark : (i : ℕ) → get_or (codes ".dwo") i 0 ≡ 95 → ⊥
+no_mark zero e = absurd (omega arith)
+no_mark (suc zero) e = absurd (omega arith)
+no_mark (suc (suc zero)) e = absurd (omega arith)
+no_mark (suc (suc (suc zero))) e = absurd (omega arith)
+no_mark (suc (suc (suc (suc i)))) e = absurd (omega arith)
+
+starts_with_mark : (name rest : List ℕ) → name ≡ codes ".debug_" ++ rest → starts_with eqb name (codes ".debug_") ≡ true
+starts_with_mark name rest e = (starts_is unsigned_Decides name (codes ".debug_") (starts_with eqb name (codes ".debug_")) refl).1 rest e
+
+mark_of : (name : List ℕ) → starts_with eqb name (codes ".debug_") ≡ true → name ≡ codes ".debug_" ++ drop 7 name
+mark_of name h = (starts_is unsigned_Decides name (codes ".debug_") (starts_with eqb name (codes ".debug_")) refl).0 h
+
+last_byte : (name rest : List ℕ) → name ≡ codes ".debug_" ++ rest → get_or name 6 0 ≡ 95
+last_byte name rest e = rw e refl
+
+module _ (name : List ℕ) (ends : ends_with eqb name (codes ".dwo") ≡ true) where
+  parts : name ≡ take (length name - 4) name ++ codes ".dwo"
+  parts = (ends_is unsigned_Decides name (codes ".dwo") (ends_with eqb name (codes ".dwo")) refl).0 ends
+
+  starts_after : starts_with eqb (take (length name - 4) name) (codes ".debug_") ≡ true → starts_with eqb name (codes ".debug_") ≡ true
+  starts_after h =
+      let front : List ℕ = take (length name - 4) name in
+      starts_with_mark name (drop 7 front ++ codes ".dwo")
+      (parts ∙ ap (λ (l : List ℕ). l ++ codes ".dwo") (mark_of front h) ∙ append_assoc (codes ".debug_") (drop 7 front) (codes ".dwo"))
+
+  long : (front : List ℕ) → name ≡ front ++ codes ".dwo" → starts_with eqb name (codes ".debug_") ≡ true → 7 ≤ length front
+  long front e h = elim (cases_lt (length front) 7) [
+    | inr le ↦ le
+    | inl lt ↦
+        let short : length front ≤ 6 = omega arith in
+        absurd (no_mark (6 - length front)
+        (sym (get_or-append_right front (codes ".dwo") (length front) 6 0 refl short) ∙ ap (λ (l : List ℕ). get_or l 6 0) (sym e)
+        ∙ last_byte name (drop 7 name) (mark_of name h)))
+  ]
+
+  front_starts : (front : List ℕ) → name ≡ front ++ codes ".dwo" → starts_with eqb name (codes ".debug_") ≡ true
+      → starts_with eqb front (codes ".debug_") ≡ true
+  front_starts front e h =
+      let mark : take 7 name ≡ codes ".debug_" = ap (λ (l : List ℕ). take 7 l) (mark_of name h) in
+      let same : take 7 name ≡ take 7 front = ap (λ (l : List ℕ). take 7 l) e ∙ take-append-le 7 front (codes ".dwo") (long front e h) in
+      starts_with_mark front (drop 7 front)
+      (sym (take-append-drop 7 front) ∙ ap (λ (l : List ℕ). l ++ drop 7 front) (sym same ∙ mark))
+
+  cut_keeps : starts_with eqb (take (length name - 4) name) (codes ".debug_") ≡ starts_with eqb name (codes ".debug_")
+  cut_keeps = same_tests _ _ starts_after (front_starts (take (length name - 4) name) parts)
+
+one_cut : (t : Bool) (name cut : List ℕ) → ends_with eqb name (codes ".dwo") ≡ t
+    → starts_with eqb cut (codes ".debug_") ≡ starts_with eqb (take (length name - 4) name) (codes ".debug_")
+    → starts_with eqb (cond t cut name) (codes ".debug_") ≡ starts_with eqb name (codes ".debug_")
+one_cut true name cut e h = h ∙ cut_keeps name e
+one_cut false name cut e h = refl
+
+all_cuts_keep : (n : ℕ) (name : List ℕ) → starts_with eqb (without_dwo n name) (codes ".debug_") ≡ starts_with eqb name (codes ".debug_")
+all_cuts_keep zero name = refl
+all_cuts_keep (suc n) name =
+    one_cut (ends_with eqb name (codes ".dwo")) name (without_dwo n (take (length name - 4) name)) refl
+    (all_cuts_keep n (take (length name - 4) name))
+
+pub debug_is : (name : List ℕ) → starts_with eqb name (codes ".debug_") ≡ is_debug name
+unfolding is_debug
+debug_is name = sym (all_cuts_keep (length name) name)

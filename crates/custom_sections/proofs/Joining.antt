@@ -1,0 +1,91 @@
+-- Names of subsections one after the other, as a loop reads them.
+use Rattle.std.proofs.Common.{◌≡◌, ℕ, suc, ◌-◌, ◌+◌, ◌<◌, ◌≤◌, List, length, Bool, true, false, Option, Some, None, refl, sym, ap, ◌∙◌, append_assoc, arith}
+use Rattle.std.specs.Option.{option_or}
+use Rattle.std.proofs.lemmas.List.{append-nil}
+use Rattle.custom_sections.specs.Reading.{taken}
+use Rattle.custom_sections.specs.NameReading.{NameLists, no_names, joined, subsection, subsection_then, sized_subsection_at, subsections_before, names_of_section}
+use Rattle.custom_sections.proofs.Takes.{read_from_taken, fault_from_none}
+
+pub same_lists : (a b : Option (List ℕ)) (f g : List (ℕ × List ℕ)) (l m : List (ℕ × List (ℕ × List ℕ))) → a ≡ b → f ≡ g → l ≡ m
+    → (let r : NameLists = record { module_name = a; functions = f; locals = l } in r) ≡ record { module_name = b; functions = g; locals = m }
+same_lists a b f g l m d e h = cc
+
+or_regroups : (a b c : Option (List ℕ)) → option_or c (option_or b a) ≡ option_or (option_or c b) a
+or_regroups a b (Some x) = refl
+or_regroups a b None = refl
+
+pub joined_regroups : (a b c : NameLists) → joined (joined a b) c ≡ joined a (joined b c)
+joined_regroups a b c = same_lists _ _ _ _ _ _ (or_regroups a.module_name b.module_name c.module_name)
+    (append_assoc a.functions b.functions c.functions) (append_assoc a.locals b.locals c.locals)
+
+pub joined_none : (a : NameLists) → joined a no_names ≡ a
+joined_none a = same_lists _ _ _ _ _ _ refl (append-nil a.functions) (append-nil a.locals)
+
+module _ (locals : Bool) where
+  -- what so many subsections add to the names before
+  abbrev pub still_named : NameLists → ℕ → List ℕ → NameLists
+  still_named names n bytes = joined names (subsections_before locals n bytes)
+
+  pub at_start : (bytes : List ℕ) → still_named no_names (length bytes - 0) bytes ≡ names_of_section locals bytes
+  unfolding names_of_section
+  at_start bytes =
+      let k : length bytes - 0 ≡ length bytes = omega arith in
+      let none : (later : NameLists) → joined no_names later ≡ later = λ later. none_joined later in
+      rw k (none (subsections_before locals (length bytes) bytes))
+    where
+      or_none : (o : Option (List ℕ)) → option_or o None ≡ o
+      or_none (Some x) = refl
+      or_none None = refl
+
+      none_joined : (later : NameLists) → joined no_names later ≡ later
+      none_joined later = same_lists _ _ _ _ _ _ (or_none later.module_name) refl refl
+
+  more_is : (names : NameLists) (n : ℕ) (bytes : List ℕ) (id : ℕ) (contents rest : List ℕ)
+      → Some ((id, contents), rest) ≡ taken (sized_subsection_at bytes) → (subsection locals id contents).1 ≡ true
+      → still_named names (suc n) bytes ≡ still_named (joined names (subsection locals id contents).0) n rest
+  unfolding subsections_before
+  more_is names n bytes id contents rest e filled =
+      rw (read_from_taken (sized_subsection_at bytes) ((id, contents), rest) (sym e), filled)
+      (sym (joined_regroups names (subsection locals id contents).0 (subsections_before locals n rest)))
+
+  pub more : (names : NameLists) (count i : ℕ) (bytes : List ℕ) (id : ℕ) (contents rest : List ℕ) (total : NameLists) → i < count
+      → Some ((id, contents), rest) ≡ taken (sized_subsection_at bytes) → (subsection locals id contents).1 ≡ true
+      → still_named names (count - i) bytes ≡ total → still_named (joined names (subsection locals id contents).0) (count - (i + 1)) rest ≡ total
+  more names count i bytes id contents rest total lt e filled h =
+      let k : count - i ≡ suc (count - (i + 1)) = omega arith in
+      sym (more_is names (count - (i + 1)) bytes id contents rest e filled) ∙ ap (λ n. still_named names n bytes) (sym k) ∙ h
+
+  ends_is : (names : NameLists) (n : ℕ) (bytes : List ℕ) (id : ℕ) (contents rest : List ℕ)
+      → Some ((id, contents), rest) ≡ taken (sized_subsection_at bytes) → (subsection locals id contents).1 ≡ false
+      → still_named names (suc n) bytes ≡ joined names (subsection locals id contents).0
+  unfolding subsections_before
+  ends_is names n bytes id contents rest e filled =
+      rw (read_from_taken (sized_subsection_at bytes) ((id, contents), rest) (sym e), filled) refl
+
+  -- a subsection with a fault in it is the last
+  pub ends : (names : NameLists) (count i : ℕ) (bytes : List ℕ) (id : ℕ) (contents rest : List ℕ) (total : NameLists) → i < count
+      → Some ((id, contents), rest) ≡ taken (sized_subsection_at bytes) → (subsection locals id contents).1 ≡ false
+      → still_named names (count - i) bytes ≡ total → joined names (subsection locals id contents).0 ≡ total
+  ends names count i bytes id contents rest total lt e filled h =
+      let k : count - i ≡ suc (count - (i + 1)) = omega arith in
+      sym (ends_is names (count - (i + 1)) bytes id contents rest e filled) ∙ ap (λ n. still_named names n bytes) (sym k) ∙ h
+
+  none_is : (names : NameLists) (n : ℕ) (bytes : List ℕ) → None ≡ taken (sized_subsection_at bytes) → still_named names (suc n) bytes ≡ names
+  unfolding subsections_before
+  none_is names n bytes e =
+      let f = fault_from_none (sized_subsection_at bytes) (sym e) in
+      ap (λ (later : NameLists). joined names later) (ap (λ read. subsection_then locals read (subsections_before locals n)) f.1) ∙ joined_none names
+
+  -- where no subsection stands, there is no more
+  pub none : (names : NameLists) (count i : ℕ) (bytes : List ℕ) (total : NameLists) → i < count
+      → None ≡ taken (sized_subsection_at bytes) → still_named names (count - i) bytes ≡ total → names ≡ total
+  none names count i bytes total lt e h =
+      let k : count - i ≡ suc (count - (i + 1)) = omega arith in
+      sym (none_is names (count - (i + 1)) bytes e) ∙ ap (λ n. still_named names n bytes) (sym k) ∙ h
+
+  pub is_done : (names : NameLists) (count i : ℕ) (bytes : List ℕ) (total : NameLists) → count ≤ i
+      → still_named names (count - i) bytes ≡ total → names ≡ total
+  unfolding subsections_before
+  is_done names count i bytes total le h =
+      let k : count - i ≡ 0 = omega arith in
+      sym (joined_none names) ∙ ap (λ n. still_named names n bytes) (sym k) ∙ h

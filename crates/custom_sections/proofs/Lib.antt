@@ -1,0 +1,12 @@
+pub mod Takes
+pub mod Shorts
+pub mod HintLaws
+pub mod Elements
+pub mod Before
+pub mod Joining
+pub mod Subsections
+pub mod Keeping
+pub mod Debugging
+pub mod WorkedHints
+pub mod WorkedNames
+pub mod NameSpellings

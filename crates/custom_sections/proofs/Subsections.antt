@@ -1,0 +1,66 @@
+-- What the names of a subsection add.
+use Rattle.std.proofs.Common.{◌≡◌, ℕ, ◌≤◌, List, ◌++◌, Bool, true, false, Option, Some, None, refl, sym, ap, ◌∙◌, arith, eqb}
+use Rattle.std.proofs.lemmas.List.{append-nil}
+use Rattle.std.proofs.lemmas.Bool.{ne_eqb}
+use Rattle.form_reader.specs.Reading.{whole}
+use Rattle.form_reader.specs.ReadingEntries.{name_at}
+use Rattle.custom_sections.specs.Reading.{taken}
+use Rattle.custom_sections.specs.NameReading.{NameLists, no_names, joined, module_named, functions_named, locals_named, names_before, locals_before, vector_before, subsection}
+use Rattle.custom_sections.proofs.Takes.{read_from_taken, fault_from_none}
+use Rattle.custom_sections.proofs.Joining.{same_lists, joined_none}
+
+module _ (locals : Bool) (contents : List ℕ) where
+  module_is : subsection locals 0 contents ≡ module_named (whole name_at contents)
+  unfolding subsection
+  module_is = refl
+
+  pub no_module : None ≡ taken (whole name_at contents) → subsection locals 0 contents ≡ (no_names, false)
+  no_module e = module_is ∙ ap module_named (fault_from_none (whole name_at contents) (sym e)).1
+
+  pub one_module : (text : List ℕ) → Some text ≡ taken (whole name_at contents)
+      → subsection locals 0 contents ≡ (record no_names { module_name = Some text }, true)
+  one_module text e = module_is ∙ ap module_named (read_from_taken (whole name_at contents) text (sym e))
+
+  pub functions_are : subsection locals 1 contents ≡ functions_named (names_before contents)
+  unfolding subsection
+  functions_are = refl
+
+  pub locals_are : locals ≡ true → subsection locals 2 contents ≡ locals_named (vector_before locals_before contents)
+  unfolding subsection
+  locals_are e = rw e refl
+
+  pub locals_skipped : locals ≡ false → subsection locals 2 contents ≡ (no_names, true)
+  unfolding subsection
+  locals_skipped e = rw e refl
+
+  pub skipped : (id : ℕ) → 3 ≤ id → subsection locals id contents ≡ (no_names, true)
+  unfolding subsection
+  skipped id le =
+      let not_zero : eqb id 0 ≡ false = ne_eqb id 0 (λ e. absurd (omega arith)) in
+      let not_one : eqb id 1 ≡ false = ne_eqb id 1 (λ e. absurd (omega arith)) in
+      let not_two : eqb id 2 ≡ false = ne_eqb id 2 (λ e. absurd (omega arith)) in
+      rw (not_zero, not_one, not_two) refl
+
+-- ---- what is added
+
+pub nothing : (names : NameLists) (read : NameLists × Bool) (filled : Bool) → read ≡ (no_names, filled) → names ≡ joined names read.0
+nothing names read filled e = sym (joined_none names) ∙ ap (λ (r : NameLists × Bool). joined names r.0) (sym e)
+
+pub fills : (read : NameLists × Bool) (names : NameLists) (filled : Bool) → read ≡ (names, filled) → filled ≡ read.1
+fills read names filled e = ap (λ (r : NameLists × Bool). r.1) (sym e)
+
+pub with_module : (names : NameLists) (text : List ℕ) (read : NameLists × Bool) → read ≡ (record no_names { module_name = Some text }, true)
+    → record names { module_name = Some text } ≡ joined names read.0
+with_module names text read e =
+    same_lists _ _ _ _ _ _ refl (sym (append-nil names.functions)) (sym (append-nil names.locals))
+    ∙ ap (λ (r : NameLists × Bool). joined names r.0) (sym e)
+
+pub with_functions : (names : NameLists) (functions : List (ℕ × List ℕ)) (part : List (ℕ × List ℕ) × Option (List ℕ)) (read : NameLists × Bool)
+    → functions ≡ names.functions ++ part.0 → read ≡ functions_named part → record names { functions = functions } ≡ joined names read.0
+with_functions names functions part read f e =
+    same_lists _ _ _ _ _ _ refl f (sym (append-nil names.locals)) ∙ ap (λ (r : NameLists × Bool). joined names r.0) (sym e)
+
+pub with_locals : (names : NameLists) (locals : List (ℕ × List (ℕ × List ℕ))) (part : List (ℕ × List (ℕ × List ℕ)) × Option (List ℕ))
+    (read : NameLists × Bool) → locals ≡ names.locals ++ part.0 → read ≡ locals_named part → record names { locals = locals } ≡ joined names read.0
+with_locals names locals part read l e =
+    same_lists _ _ _ _ _ _ refl (sym (append-nil names.functions)) l ∙ ap (λ (r : NameLists × Bool). joined names r.0) (sym e)

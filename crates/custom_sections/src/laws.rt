@@ -1,0 +1,13 @@
+//! Laws of the definitions.
+
+ghost use Rattle.std.specs.Prelude.{◌≡◌, ℕ, List, ◌++◌, Bool, Some};
+ghost use Rattle.custom_sections.specs.NameReading.{NameLists, names_before, names_of_section};
+ghost use Rattle.custom_sections.specs.NameGrammar.{name_map, SpellsSubsections, joined_all};
+
+/// What the grammar of the standard spells is read whole: names one after another, whatever follows, and a section without a fault.
+pub fn spelled_names_are_read()
+    ensures vector { (front rest : List ℕ) (names : List (ℕ × List ℕ)) → name_map.spells front names
+        → names_before (front ++ rest) ≡ (names, Some rest) }
+    ensures section { (locals : Bool) (bytes : List ℕ) (all : List NameLists) → SpellsSubsections locals bytes all
+        → names_of_section locals bytes ≡ joined_all all }
+{}

@@ -1,0 +1,19 @@
+//! The contents of two custom sections: names, and hints at branches.
+#![tactic(auto)]
+
+mod debug;
+mod hints;
+mod kept;
+mod laws;
+mod names;
+mod parts;
+#[cfg(test)]
+mod tests;
+mod worked;
+
+pub use debug::is_debug_name;
+pub use hints::{Hint, read_hints};
+pub use kept::{kept_hints, kept_names};
+pub use laws::spelled_names_are_read;
+pub use names::{Names, read_names};
+pub use worked::{worked_debug_names, worked_hints, worked_kept, worked_names};

@@ -1,0 +1,178 @@
+//! Names of a module, its functions and their locals, up to the first fault of their section.
+
+ghost use Rattle.std.specs.Prelude.{◌≡◌, ◌++◌, map, IfOk};
+ghost use Rattle.std.specs.Option.{option_map};
+ghost use Rattle.custom_sections.specs.Reading.{taken};
+ghost use Rattle.custom_sections.specs.Views.{text_of, locals_of, names_of};
+ghost use Rattle.custom_sections.specs.NameReading.{naming_at, names_before, locals_before, vector_before, sized_subsection_at};
+ghost use Rattle.custom_sections.specs.NameReading.{subsection as subsection_names, joined, is_filled as filled, names_of_section};
+ghost use Rattle.form_reader.specs.Reading.{whole};
+ghost use Rattle.form_reader.specs.ReadingEntries.{name_at};
+
+use crate::parts::{counted_bytes, first_byte, name, u32_at};
+use entity_map::OutOfMemory;
+use std::alloc::Global;
+
+/// A subsection with the name of the module.
+const MODULE: u8 = 0;
+
+/// A subsection with names of functions.
+const FUNCTIONS: u8 = 1;
+
+/// A subsection with names of locals.
+const LOCALS: u8 = 2;
+
+/// What a name section says, as far as it could be read. Names stand in the order of the section; of several for one index, the last one counts.
+#[derive(Drop)]
+pub struct Names<'d> {
+    pub module_name: Option<&'d str>,
+    pub functions: Vec<(u32, &'d str)>,
+    /// Functions, and the names of their locals by the locals' indices.
+    pub locals: Vec<(u32, Vec<(u32, &'d str)>)>,
+}
+
+/// An index and its name, and the bytes after them.
+#[tactic(auto, unfolding(crate::specs::NameReading::naming_at))]
+fn naming(bytes: &[u8]) -> Option<((u32, &str), &[u8])>
+    ensures { option_map (λ x. (text_of x.0, x.1.now)) result ≡ taken (naming_at bytes.now) }
+{
+    let (index, rest) = u32_at(bytes)?;
+    let (name, rest) = name(rest)?;
+    Some(((index, name), rest))
+}
+
+/// Adds a count and that many names, up to a fault; the bytes after them, where there is none.
+///
+/// The list grows as names are read, since the count may be any number.
+fn add_names<'d>(
+    names: &mut Vec<(u32, &'d str)>,
+    bytes: &'d [u8],
+) -> Result<Option<&'d [u8]>, OutOfMemory>
+    ensures added { IfOk result (λ _. map text_of names.new.items ≡ map text_of names.old.items ++ (names_before bytes.now).0) }
+    ensures left { IfOk result (λ rest. option_map (λ bytes. bytes.now) rest ≡ (names_before bytes.now).1) }
+{
+    let Some((count, mut rest)) = u32_at(bytes) else {
+        return Ok(None);
+    };
+    'names: for _ in 0..count {
+        let Some((name, after)) = naming(rest) else {
+            return Ok(None);
+        };
+        names.push(name)?;
+        rest = after;
+    }
+    Ok(Some(rest))
+}
+
+/// Adds a count and that many functions with the names of their locals, up to a fault; the bytes after them, where there is none.
+fn add_locals<'d>(
+    alloc: Global,
+    locals: &mut Vec<(u32, Vec<(u32, &'d str)>)>,
+    bytes: &'d [u8],
+) -> Result<Option<&'d [u8]>, OutOfMemory>
+    ensures added { IfOk result (λ _. map locals_of locals.new.items
+        ≡ map locals_of locals.old.items ++ (vector_before locals_before bytes.now).0) }
+    ensures left { IfOk result (λ rest. option_map (λ bytes. bytes.now) rest ≡ (vector_before locals_before bytes.now).1) }
+{
+    let Some((count, mut rest)) = u32_at(bytes) else {
+        return Ok(None);
+    };
+    'functions: for _ in 0..count {
+        let Some((function, of_function)) = u32_at(rest) else {
+            return Ok(None);
+        };
+        let mut names = Vec::new(alloc);
+        let after = add_names(&mut names, of_function)?;
+        locals.push((function, names))?;
+        let Some(after) = after else {
+            return Ok(None);
+        };
+        rest = after;
+    }
+    Ok(Some(rest))
+}
+
+/// The id and the contents of a subsection, and the bytes after it.
+#[tactic(auto, unfolding(crate::specs::NameReading::sized_subsection_at))]
+fn subsection(bytes: &[u8]) -> Option<((u8, &[u8]), &[u8])>
+    ensures { option_map (λ x. ((x.0.0, x.0.1.now), x.1.now)) result ≡ taken (sized_subsection_at bytes.now) }
+{
+    let (id, rest) = first_byte(bytes)?;
+    let (contents, rest) = counted_bytes(rest)?;
+    Some(((id, contents), rest))
+}
+
+/// The name that fills some bytes.
+#[tactic(auto, unfolding(form_reader::specs::Reading::whole))]
+fn whole_name(bytes: &[u8]) -> Option<&str>
+    ensures { option_map (λ text. text.now) result ≡ taken (whole name_at bytes.now) }
+{
+    match name(bytes) {
+        Some((name, [])) => Some(name),
+        _ => None,
+    }
+}
+
+/// Whether there was no fault, and no byte is left.
+fn is_filled(rest: Option<&[u8]>) -> bool
+    ensures { result ≡ filled (option_map (λ bytes. bytes.now) rest.entry) }
+{
+    match rest {
+        Some(rest) => rest.is_empty(),
+        None => false,
+    }
+}
+
+impl<'d> Names<'d> {
+    /// Adds the names of a subsection, those of locals where they are asked for; whether they fill it.
+    fn add(
+        &mut self,
+        alloc: Global,
+        id: u8,
+        contents: &'d [u8],
+        locals: bool,
+    ) -> Result<bool, OutOfMemory>
+        ensures added { IfOk result (λ _. names_of self.new ≡ joined (names_of self.old) (subsection_names locals id contents.now).0) }
+        ensures filled { IfOk result (λ filled. filled ≡ (subsection_names locals id contents.now).1) }
+    {
+        match id {
+            MODULE => {
+                let Some(name) = whole_name(contents) else {
+                    return Ok(false);
+                };
+                self.module_name = Some(name);
+                Ok(true)
+            }
+            FUNCTIONS => Ok(is_filled(add_names(&mut self.functions, contents)?)),
+            LOCALS if locals => Ok(is_filled(add_locals(alloc, &mut self.locals, contents)?)),
+            _ => Ok(true),
+        }
+    }
+}
+
+/// Reads the contents of a name section, the names of locals where they are asked for. A fault ends the names, and what stands before it is kept.
+pub fn read_names<'d>(
+    alloc: Global,
+    contents: &'d [u8],
+    locals: bool,
+) -> Result<Names<'d>, OutOfMemory>
+    ensures { IfOk result (λ names. names_of names ≡ names_of_section locals contents.now) }
+{
+    let mut names = Names {
+        module_name: None,
+        functions: Vec::new(alloc),
+        locals: Vec::new(alloc),
+    };
+    let mut rest = contents;
+    'subsections: for _ in 0..contents.len() {
+        let Some(((id, body), after)) = subsection(rest) else {
+            return Ok(names);
+        };
+        let filled = names.add(alloc, id, body, locals)?;
+        if !filled {
+            return Ok(names);
+        }
+        rest = after;
+    }
+    Ok(names)
+}

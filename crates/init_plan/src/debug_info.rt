@@ -1,0 +1,80 @@
+//! Names of a module, and what tells how its functions were written.
+
+ghost use Rattle.init_plan.specs.Views.{TellsNothing};
+
+use std::alloc::Global;
+use std::collections::BTreeMap;
+use wasm_index::FuncIndex;
+use wasm_types::WasmValType;
+
+/// What is known of the source of a module.
+pub struct DebugInfoData<'d> {
+    pub name_section: NameSection<'d>,
+    pub wasm_file: WasmFileInfo,
+}
+
+/// The names that the name section gives (core specification, appendix, custom sections).
+#[derive(Drop)]
+pub struct NameSection<'d> {
+    pub module_name: Option<&'d str>,
+    pub func_names: BTreeMap<FuncIndex, &'d str>,
+    /// The names of each function's locals, by their indices.
+    pub locals_names: BTreeMap<FuncIndex, BTreeMap<u32, &'d str>>,
+}
+
+/// What is known of the functions of a file.
+#[derive(Drop)]
+pub struct WasmFileInfo {
+    /// Where the contents of the code section begin in the file, in bytes, or 0 without a code section.
+    pub code_section_offset: u64,
+    /// How many functions are imported.
+    pub imported_func_count: u32,
+    /// The functions that are defined, in order, where they are asked for.
+    pub funcs: Vec<FunctionMetadata>,
+}
+
+/// The types of a function's parameters and locals.
+#[derive(Drop)]
+pub struct FunctionMetadata {
+    pub params: Vec<WasmValType>,
+    /// Runs of locals of one type, with their lengths.
+    pub locals: Vec<(u32, WasmValType)>,
+}
+
+/// Whether a branch of a function is likely to be taken.
+#[derive(Clone, Copy, Debug, PartialEq, Eq)]
+pub struct BranchHint {
+    /// Where the branch stands, in bytes from the beginning of the function's body.
+    pub func_offset: u32,
+    pub taken: bool,
+}
+
+// One call in place of a walk over the parts, wherever a translation is let go.
+impl Drop for DebugInfoData<'_> {
+    fn drop(self) {
+        let DebugInfoData {
+            name_section: _name_section,
+            wasm_file: _wasm_file,
+        } = self;
+    }
+}
+
+impl DebugInfoData<'_> {
+    /// No name and no function.
+    pub(crate) fn new(alloc: Global) -> Self
+        ensures { TellsNothing result }
+    {
+        DebugInfoData {
+            name_section: NameSection {
+                module_name: None,
+                func_names: BTreeMap::new(alloc),
+                locals_names: BTreeMap::new(alloc),
+            },
+            wasm_file: WasmFileInfo {
+                code_section_offset: 0,
+                imported_func_count: 0,
+                funcs: Vec::new(alloc),
+            },
+        }
+    }
+}

@@ -1,0 +1,59 @@
+-- The lists of a module, one section after another.
+use Rattle.std.proofs.Common.{◌≡◌, ◌∙◌, ℕ, ◌+◌, ◌<◌, ◌≤◌, suc, List, [], ◌∷◌, ◌++◌, length, map, take, drop, get_or, sym, ap, subst, arith, drop-cons}
+use Rattle.std.specs.Prelude.{All}
+use Rattle.std.specs.List.{flat_map}
+use Rattle.std.proofs.lemmas.List.{append-nil, length-append, length-map, map-append, map_more, map_push, take_more, take-append-drop, get_or-map, get_or_append_left, get_or-append-add}
+use Rattle.std.proofs.lemmas.List.Concat.{flat_map-append}
+
+All-left : {X : Type 0} (P : X → Type 0) (xs ys : List X) → All P (xs ++ ys) → All P xs
+All-left P xs ys h k d lt = let l = length-append xs ys in subst P (get_or_append_left xs ys d k lt) (h k d (omega (arith, l)))
+
+All-right : {X : Type 0} (P : X → Type 0) (xs ys : List X) → All P (xs ++ ys) → All P ys
+All-right P xs ys h k d lt = let l = length-append xs ys in subst P (get_or-append-add xs ys k d) (h (length xs + k) d (omega (arith, l)))
+
+-- a list is what stands before an item, the item and what stands after it
+split : {X : Type 0} (xs : List X) (i : ℕ) (x : X) → i < length xs → x ≡ get_or xs i x → xs ≡ take i xs ++ (x ∷ drop (suc i) xs)
+split {X} xs i x lt is = sym (take-append-drop i xs)
+    ∙ ap (λ (ys : List X). take i xs ++ ys) (drop-cons xs i x lt ∙ ap (λ (y : X). y ∷ drop (suc i) xs) (sym is))
+
+-- what is true of each item as it is seen
+pub at-item : {X Y : Type 0} (P : Y → Type 0) (view : X → Y) (xs : List X) (i : ℕ) (x : X) → i < length xs → x ≡ get_or xs i x
+    → All P (map view xs) → P (view x)
+at-item P view xs i x lt is all =
+    subst P (get_or-map view xs i x (view x) lt ∙ ap view (sym is)) (all i (view x) (let long = length-map xs view in omega (arith, long)))
+
+-- one item more
+pub item-more : {X Y : Type 0} (view : X → Y) (xs : List X) (i : ℕ) (x : X) → i < length xs → x ≡ get_or xs i x
+    → map view (take (i + 1) xs) ≡ map view (take i xs) ++ view x ∷ []
+item-more {X} view xs i x lt is = map_more view xs i x lt ∙ ap (λ (y : X). map view (take i xs) ++ view y ∷ []) (sym is)
+
+-- what one section more gives
+pub section-push : {X Y A : Type 0} (f : Y → List A) (view : X → Y) (xs : List X) (x : X)
+    → flat_map f (map view (xs ++ x ∷ [])) ≡ flat_map f (map view xs) ++ f (view x)
+section-push f view xs x = ap (flat_map f) (map_push view xs x) ∙ flat_map-append f (map view xs) (view x ∷ [])
+    ∙ ap (λ l. flat_map f (map view xs) ++ l) (append-nil (f (view x)))
+
+pub section-more : {X Y A : Type 0} (f : Y → List A) (view : X → Y) (xs : List X) (i : ℕ) (x : X) → i < length xs → x ≡ get_or xs i x
+    → flat_map f (map view (take (i + 1) xs)) ≡ flat_map f (map view (take i xs)) ++ f (view x)
+section-more {X} f view xs i x lt is =
+    ap (λ (l : List X). flat_map f (map view l)) (take_more xs i x lt ∙ ap (λ (y : X). take i xs ++ y ∷ []) (sym is))
+    ∙ section-push f view (take i xs) x
+
+-- what sections give, of which one is looked at
+module _ {X Y A : Type 0} (f : Y → List A) (view : X → Y) (xs : List X) (i : ℕ) (x : X) (lt : i < length xs) (is : x ≡ get_or xs i x) where
+  parts : flat_map f (map view xs) ≡ flat_map f (map view (take i xs)) ++ (f (view x) ++ flat_map f (map view (drop (suc i) xs)))
+  parts = ap (λ (l : List X). flat_map f (map view l)) (split xs i x lt is)
+      ∙ ap (flat_map f) (map-append view (take i xs) (x ∷ drop (suc i) xs))
+      ∙ flat_map-append f (map view (take i xs)) (view x ∷ map view (drop (suc i) xs))
+
+  pub section-few : length (flat_map f (map view (take i xs))) + length (f (view x)) ≤ length (flat_map f (map view xs))
+  section-few =
+      let before = flat_map f (map view (take i xs)) in
+      let after = flat_map f (map view (drop (suc i) xs)) in
+      omega (arith, ap length parts, length-append before (f (view x) ++ after), length-append (f (view x)) after)
+
+  pub section-all : (P : A → Type 0) → All P (flat_map f (map view xs)) → All P (f (view x))
+  section-all P h =
+      let before = flat_map f (map view (take i xs)) in
+      let after = flat_map f (map view (drop (suc i) xs)) in
+      All-left P (f (view x)) after (All-right P before (f (view x) ++ after) (subst (All P) parts h))

@@ -1,0 +1,56 @@
+-- What a translation holds of the sections does not depend on its types, tags, code and startup.
+use Rattle.std.proofs.Common.{◌≡◌, Bool, sym, subst}
+use Rattle.wasm_spec.specs.Module as plain
+use Rattle.init_plan.specs.declared.translation.ModuleTranslation.{ModuleTranslation}
+use Rattle.module_environ.specs.Translation.{HasEntities, CountsImports, Escapes, HasGlobals, HasElements, HasData, HasSections}
+
+-- of a translation these fields may be others
+abbrev pub Carries : ModuleTranslation → ModuleTranslation → Type 0
+Carries t u = u ≡ record t {
+  «module» = record t.module { types = u.module.types; tags = u.module.tags; startup = u.module.startup };
+  wasm = u.wasm;
+  function_body_inputs = u.function_body_inputs;
+  debuginfo = u.debuginfo;
+  hidden = record t.hidden { types = u.hidden.types };
+}
+
+pub sections-carry : (debugged : Bool) (m : plain.Module) (t u : ModuleTranslation) → Carries t u → HasSections debugged m t → HasSections debugged m u
+sections-carry debugged m t u same s =
+    let e : HasEntities m t = s.entities in
+    let c : CountsImports m t = s.counts in
+    let x : Escapes debugged m t = s.escapes in
+    let g : HasGlobals m t = s.globals in
+    let l : HasElements m t = s.elements in
+    let d : HasData m t = s.data_segments in
+    subst (HasSections debugged m) (sym same) (record {
+      entities = record {
+        imports = e.imports;
+        exports = e.exports;
+        tables = e.tables;
+        memories = e.memories;
+        globals = e.globals;
+        start = e.start;
+      };
+      counts = record { functions = c.functions; tables = c.tables; memories = c.memories; globals = c.globals; tags = c.tags };
+      escapes = record { functions = x.functions; count = x.count; signatures = x.signatures };
+      heap = s.heap;
+      globals = record { known = g.known; left = g.left };
+      elements = record {
+        first = l.first;
+        active = l.active;
+        no_images = l.no_images;
+        passive = l.passive;
+        kinds = l.kinds;
+        numbers = l.numbers;
+      };
+      data_segments = record {
+        unprocessed = d.unprocessed;
+        active = d.active;
+        passive = d.passive;
+        segmented = d.segmented;
+        no_ranges = d.no_ranges;
+        no_runtime = d.no_runtime;
+        nothing_found = d.nothing_found;
+        no_alignment = d.no_alignment;
+      };
+    })

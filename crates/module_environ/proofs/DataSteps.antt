@@ -1,0 +1,61 @@
+-- Data segments, added one after another.
+use Rattle.std.proofs.Common.{◌≡◌, ◌∙◌, ℕ, ◌+◌, List, [], ◌∷◌, ◌++◌, length, map, refl, sym, ap, arith, append_assoc}
+use Rattle.std.specs.List.{cons_option}
+use Rattle.std.proofs.lemmas.List.{map-append}
+use Rattle.wasm_spec.specs.declared.operators.Operator.{Operator}
+use Rattle.wasm_spec.specs.declared.operators.Operator.TheVariants as op
+use Rattle.wasm_spec.specs.Module.{Expression, Segment}
+use Rattle.form_data.specs.declared.form.ConstExpr.{ConstExpr}
+use Rattle.form_data.specs.declared.form.DataKind.{DataKind}
+use Rattle.form_data.specs.declared.form.DataKind.TheVariants as kinds
+use Rattle.form_data.specs.Views.{data_kind_of}
+use Rattle.wasm_index.specs.Index.{number_of}
+use Rattle.wasm_convert.specs.Conversion.{LookUp}
+use Rattle.wasm_convert.specs.Operators.{const_op_of, operator_of, with_any_null}
+use Rattle.wasm_convert.specs.Constants.{const_ops_of, expression_of}
+use Rattle.wasm_module.specs.declared.memory_initialization.MemoryInitializer.{MemoryInitializer}
+use Rattle.replay_spec.specs.Data.{ActiveSegment, active_of_kind}
+use Rattle.init_plan.specs.Held.{held}
+use Rattle.init_plan.specs.declared.translation.ModuleTranslation.{ModuleTranslation}
+use Rattle.init_plan.specs.Views.{active_segment_of, SameButPassive}
+use Rattle.module_environ.specs.Initialisers.{passive_data_in, passive_data_from}
+
+-- an expression that is converted is held
+back : (look : LookUp) (o : Operator) → operator_of (const_op_of look o) ≡ with_any_null o
+back look (op.RefNull heap) = refl
+back look _ = refl
+
+pub converted-held : (look : LookUp) (e : Expression) → expression_of (const_ops_of look e) ≡ held e
+converted-held look [] = refl
+converted-held look (o ∷ os) = (λ i. back look o i ∷ converted-held look os i)
+
+-- an active segment more
+pub active-added : (look : LookUp) (old new : List MemoryInitializer) (x : MemoryInitializer) (kind : DataKind) (memory : ℕ) (offset : ConstExpr)
+    (bytes : List ℕ) → kind ≡ kinds.Active memory offset → new ≡ old ++ x ∷ [] → number_of x.memory_index ≡ memory
+    → x.offset ≡ const_ops_of look offset.ops.items → held offset.ops.items ≡ offset.ops.items → x.bytes.now ≡ bytes
+    → map active_segment_of new ≡ map active_segment_of old ++ cons_option (active_of_kind (data_kind_of kind) bytes) []
+active-added look old new x kind memory offset bytes is grows at place whole these =
+    let seen : active_segment_of x ≡ record { memory = memory; offset = offset.ops.items; bytes = bytes } =
+    λ i. record { memory = at i; offset = (ap expression_of place ∙ converted-held look offset.ops.items ∙ whole) i; bytes = these i } in
+    ap (map active_segment_of) grows ∙ map-append active_segment_of old (x ∷ [])
+    ∙ ap (λ (s : ActiveSegment). map active_segment_of old ++ s ∷ []) seen
+    ∙ ap (λ (k : DataKind). map active_segment_of old ++ cons_option (active_of_kind (data_kind_of k) bytes) []) (sym is)
+
+pub passive_data-append : (n : ℕ) (xs ys : List Segment)
+    → passive_data_from n (xs ++ ys) ≡ passive_data_from n xs ++ passive_data_from (n + length xs) ys
+passive_data-append n [] ys = ap (λ k. passive_data_from k ys) (let same : n ≡ n + 0 = omega arith in same)
+passive_data-append n (x ∷ xs) ys =
+    let next : n + 1 + length xs ≡ n + length (x ∷ xs) = omega arith in
+    ap (λ (ps : List (ℕ × List ℕ)). passive_data_in x.kind n x.bytes ++ ps)
+    (passive_data-append (n + 1) xs ys ∙ ap (λ (k : ℕ). passive_data_from (n + 1) xs ++ passive_data_from k ys) next)
+    ∙ sym (append_assoc (passive_data_in x.kind n x.bytes) (passive_data_from (n + 1) xs) (passive_data_from (n + length (x ∷ xs)) ys))
+
+-- a list that grew twice
+pub grown : {A : Type 0} (a b c xs ys zs : List A) → b ≡ a ++ xs → c ≡ b ++ ys → zs ≡ xs ++ ys → c ≡ a ++ zs
+grown {A = A} a b c xs ys zs first second both =
+    second ∙ ap (λ (l : List A). l ++ ys) first ∙ append_assoc a xs ys ∙ ap (λ (l : List A). a ++ l) (sym both)
+
+pub same-both : (a b c : ModuleTranslation) → SameButPassive a b → SameButPassive b c → SameButPassive a c
+same-both a b c ab bc =
+    let passed : ModuleTranslation → ModuleTranslation = λ t. record t { hidden = record t.hidden { passive_data = c.hidden.passive_data } } in
+    bc ∙ ap passed ab

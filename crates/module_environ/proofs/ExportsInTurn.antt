@@ -1,0 +1,168 @@
+-- Exports, entered one after another.
+use Rattle.std.proofs.Common.{◌≡◌, ◌≢◌, ◌<◌, ℕ, ◌+◌, Bool, true, false, cond, List, [], ◌∷◌, ◌++◌, length, map, take, drop, get_or, slice_get, unwrap_or, is_some, All, IfSome, Some, nat_eq, inl, inr, refl, sym, ap, subst, ◌∙◌, append_assoc, arith}
+use Rattle.std.specs.List.{flat_map}
+use Rattle.std.proofs.lemmas.List.{length-append, get_or_append_left, get_or_at, map_more, map_push, map-append, take-append-drop}
+use Rattle.std.proofs.lemmas.Bool.Decides.{eqb_tells}
+use Rattle.std.proofs.lemmas.List.Concat.{flat_map-append}
+use Rattle.std.proofs.lemmas.List.Elements.{All-head, All-tail, All-same, All-push, All-map, All-weaker, All-get_or, All-from_get_or, filter_map-append}
+use Rattle.indexmap.specs.IndexMap.{insert_entry}
+use Rattle.entity_map.specs.Entity.{reserved_number}
+use Rattle.entity_map.specs.Pool.{atom_number}
+use Rattle.entity_map.specs.declared.pool.Atom.{Atom}
+use Rattle.wasm_spec.specs.Module.{Export, exports_of_section}
+use Rattle.wasm_spec.specs.Module as plain
+use Rattle.wasm_spec.specs.Sizes.{HasFewEntries}
+use Rattle.wasm_spec.specs.declared.entities.ExternalKind.{ExternalKind}
+use Rattle.wasm_spec.specs.declared.entities.ExternalKind.TheVariants as kind
+use Rattle.wasm_types.specs.declared.entity.EntityIndex.{EntityIndex}
+use Rattle.form_data.specs.declared.form.Export.{Export as Read}
+use Rattle.form_data.specs.declared.form.Payload.{Payload}
+use Rattle.form_data.specs.Views.{export_of, payload_of}
+use Rattle.rule_spec.specs.Indices.{IsInSpace, space_size}
+use Rattle.rule_spec.specs.Lists.{lists_of_module}
+use Rattle.rule_spec.specs.Rules.{AreDistinct}
+use Rattle.form_lists.proofs.Gathering.{entries_of_more}
+use Rattle.form_lists.proofs.AllSections.{All-from_map, All-parts}
+use Rattle.form_rules.proofs.ExportNames.{distinct_front}
+use Rattle.module_environ.specs.Entities.{text_at, entity_at, resolved_export}
+use Rattle.module_environ.specs.Escapes.{exported_function}
+use Rattle.module_environ.specs.Exported.{exported_functions, CanExport, AreEntered}
+use Rattle.module_environ.specs.Flags.{Flags, flagged}
+use Rattle.module_environ.specs.Pooled.{GrowsBy, IsPooled}
+use Rattle.module_environ.proofs.Filling.{flagged-then}
+use Rattle.module_environ.proofs.GrownPool.{pooled-grown, exports-grown}
+
+-- ---- functions that are noted
+
+-- references after others
+pub noted-then : (old now new : Flags) (es fs gs : List Export) → now ≡ flagged old (exported_functions es)
+    → new ≡ flagged now (exported_functions fs) → gs ≡ es ++ fs → new ≡ flagged old (exported_functions gs)
+noted-then old now new es fs gs first second both =
+    flagged-then old now new (exported_functions es) (exported_functions fs) (exported_functions gs) first second
+    (ap exported_functions both ∙ filter_map-append (λ (e : Export). exported_function e.kind e.index) es fs)
+
+-- ---- one name more
+
+-- atoms are compared by their numbers
+pub same-atom : (x y : Atom) → nat_eq x.0 y.0 ≡ true → x ≡ y
+same-atom x y same = elim (eqb_tells x.0 y.0) [ inl equal ↦ λ j. record { 0 = equal.1 j } | inr other ↦ absurd (cc) ]
+
+-- an atom of a text that no entry has
+insert-new : (eq : Atom → Atom → Bool) → ((x y : Atom) → eq x y ≡ true → x ≡ y) → (texts : List (List ℕ)) (name : List ℕ) (k : Atom) (v : EntityIndex)
+    → text_at texts k ≡ name → (es : List (Atom × EntityIndex)) → All (λ e. text_at texts e.0 ≢ name) es → insert_entry eq es k v ≡ es ++ (k, v) ∷ []
+insert-new eq same texts name k v named [] others = refl
+insert-new eq same texts name k v named (e ∷ es) others =
+    let P : Atom × EntityIndex → Type 0 = λ x. text_at texts x.0 ≢ name in
+    by (All-head P e es others) (insert-new eq same texts name k v named es (All-tail P e es others)) (eq k e.0) refl where
+      by : text_at texts e.0 ≢ name → insert_entry eq es k v ≡ es ++ (k, v) ∷ [] → (b : Bool) → eq k e.0 ≡ b
+          → cond b ((e.0, v) ∷ es) (e ∷ insert_entry eq es k v) ≡ e ∷ (es ++ (k, v) ∷ [])
+      by other rest true is = absurd (other (ap (text_at texts) (sym (same k e.0 is)) ∙ named))
+      by other rest false is = ap (λ (xs : List (Atom × EntityIndex)). e ∷ xs) rest
+
+-- the exports before have other names
+others-named : (before : List Export) (e : Export) → AreDistinct (before ++ e ∷ []) → All (λ (b : Export). b.name ≢ e.name) before
+others-named before e distinct = All-from_get_or (λ (b : Export). b.name ≢ e.name) before e (λ i lt same.
+    let left : get_or (before ++ e ∷ []) i e ≡ get_or before i e = get_or_append_left before (e ∷ []) e i lt in
+    let right : get_or (before ++ e ∷ []) (length before) e ≡ e = get_or_at before e [] e (length before) refl in
+    distinct i (length before) e lt (omega (arith, length-append before (e ∷ [])))
+    (ap (λ (x : Export). x.name) left ∙ same ∙ sym (ap (λ (x : Export). x.name) right)))
+
+-- in a pool that grows
+entered-grown : (n : ℕ) (es : List Export) (old new : List (List ℕ)) (entries : List (Atom × EntityIndex)) → GrowsBy n old new
+    → AreEntered es old entries → AreEntered es new entries
+entered-grown n es old new entries grows h = record {
+  entities = exports-grown n old new grows entries h.pooled ∙ h.entities;
+  pooled = All-weaker (λ (e : Atom × EntityIndex). IsPooled old e.0) (λ (e : Atom × EntityIndex). IsPooled new e.0)
+      (λ e. pooled-grown n old new grows e.0) entries h.pooled;
+}
+
+-- an export of a name of its own goes last
+pub entered-push : (eq : Atom → Atom → Bool) → ((x y : Atom) → eq x y ≡ true → x ≡ y) → (before : List Export) (e : Export) (old new : List (List ℕ))
+    (now after : List (Atom × EntityIndex)) (k : Atom) (v : EntityIndex) → GrowsBy 1 old new → slice_get new (atom_number k) ≡ Some e.name
+    → v ≡ entity_at e.kind e.index → after ≡ insert_entry eq now k v → AreEntered before old now → AreDistinct (before ++ e ∷ [])
+    → AreEntered (before ++ e ∷ []) new after
+entered-push eq same before e old new now after k v grows stands is inserted h distinct =
+    let moved = entered-grown 1 before old new now grows h in
+    let Other : List ℕ × EntityIndex → Type 0 = λ x. x.0 ≢ e.name in
+    let view : Export → List ℕ × EntityIndex = λ (x : Export). (x.name, entity_at x.kind x.index) in
+    let named : text_at new k ≡ e.name = ap (λ r. unwrap_or r []) stands in
+    let others : All (λ (x : Atom × EntityIndex). text_at new x.0 ≢ e.name) now =
+    All-from_map Other (resolved_export new) now
+    (All-same Other (map (resolved_export new) now) (map view before) moved.entities (All-map Other view before (others-named before e distinct))) in
+    let last : after ≡ now ++ (k, v) ∷ [] = inserted ∙ insert-new eq same new e.name k v named now others in
+    record {
+      entities = ap (map (resolved_export new)) last ∙ map_push (resolved_export new) now (k, v)
+          ∙ (λ j. moved.entities j ++ (named j, is j) ∷ []) ∙ sym (map_push view before e);
+      pooled = All-same (λ (x : Atom × EntityIndex). IsPooled new x.0) after (now ++ (k, v) ∷ []) last
+          (All-push (λ (x : Atom × EntityIndex). IsPooled new x.0) now (k, v) moved.pooled (ap is_some stands));
+    }
+
+-- ---- over exports
+
+module _ (es : List Read) (k : ℕ) (e : Read) (lt : k < length es) (at : e ≡ get_or es k e) where
+  pub exports-more : map export_of (take (k + 1) es) ≡ map export_of (take k es) ++ export_of e ∷ []
+  exports-more = map_more export_of es k e lt ∙ ap (λ (x : Read). map export_of (take k es) ++ export_of x ∷ []) (sym at)
+
+  pub more-after : (before : List Export) → before ++ map export_of (take (k + 1) es) ≡ (before ++ map export_of (take k es)) ++ export_of e ∷ []
+  more-after before =
+      ap (λ (xs : List Export). before ++ xs) exports-more ∙ sym (append_assoc before (map export_of (take k es)) (export_of e ∷ []))
+
+  pub distinct-so_far : (before : List Export) → AreDistinct (before ++ map export_of es)
+      → AreDistinct ((before ++ map export_of (take k es)) ++ export_of e ∷ [])
+  distinct-so_far before distinct =
+      let rest = map export_of (drop (k + 1) es) in
+      let whole : before ++ map export_of es ≡ (before ++ map export_of (take (k + 1) es)) ++ rest =
+      ap (λ (xs : List Read). before ++ map export_of xs) (sym (take-append-drop (k + 1) es))
+      ∙ ap (λ (xs : List Export). before ++ xs) (map-append export_of (take (k + 1) es) (drop (k + 1) es))
+      ∙ sym (append_assoc before (map export_of (take (k + 1) es)) rest) in
+      subst AreDistinct (more-after before) (distinct_front (before ++ map export_of (take (k + 1) es)) rest (subst AreDistinct whole distinct))
+
+  pub can-export : (count : ℕ) → All (CanExport count) (map export_of es) → CanExport count (export_of e)
+  can-export count all =
+      let P : Read → Type 0 = λ x. CanExport count (export_of x) in
+      subst P (sym at) (All-get_or P es k e lt (All-from_map (CanExport count) export_of es all))
+
+-- ---- over sections
+
+module _ (ps : List Payload) (k : ℕ) (p : Payload) (es : List Export) (lt : k < length ps) (at : p ≡ get_or ps k p)
+    (same : es ≡ exports_of_section (payload_of p)) where
+  pub section-more : flat_map exports_of_section (map payload_of (take (k + 1) ps)) ≡ flat_map exports_of_section (map payload_of (take k ps)) ++ es
+  section-more = entries_of_more exports_of_section ps k p lt at
+      ∙ ap (λ (xs : List Export). flat_map exports_of_section (map payload_of (take k ps)) ++ xs) (sym same)
+
+  pub distinct-sections : AreDistinct (flat_map exports_of_section (map payload_of ps))
+      → AreDistinct (flat_map exports_of_section (map payload_of (take k ps)) ++ es)
+  distinct-sections distinct =
+      let through = flat_map exports_of_section (map payload_of (take (k + 1) ps)) in
+      let rest = flat_map exports_of_section (map payload_of (drop (k + 1) ps)) in
+      let whole : flat_map exports_of_section (map payload_of ps) ≡ through ++ rest =
+      ap (λ (qs : List Payload). flat_map exports_of_section (map payload_of qs)) (sym (take-append-drop (k + 1) ps))
+      ∙ ap (flat_map exports_of_section) (map-append payload_of (take (k + 1) ps) (drop (k + 1) ps))
+      ∙ flat_map-append exports_of_section (map payload_of (take (k + 1) ps)) (map payload_of (drop (k + 1) ps)) in
+      subst AreDistinct section-more (distinct_front through rest (subst AreDistinct whole distinct))
+
+  pub section-can_export : (count : ℕ) → All (CanExport count) (flat_map exports_of_section (map payload_of ps)) → All (CanExport count) es
+  section-can_export count all =
+      let P : plain.Payload → Type 0 = λ q. All (CanExport count) (exports_of_section q) in
+      let Q : Payload → Type 0 = λ q. P (payload_of q) in
+      All-same (CanExport count) es (exports_of_section (payload_of p)) same
+      (subst Q (sym at) (All-get_or Q ps k p lt
+      (All-from_map P payload_of ps ((All-parts (CanExport count) exports_of_section (map payload_of ps)).0 all))))
+
+-- ---- in a module that keeps the rules
+
+can-convert : (m : plain.Module) → HasFewEntries m → (e : Export) → IsInSpace (lists_of_module m) e → CanExport (length (plain.functions m)) e
+can-convert m few e within = let both = by e.kind e.index within in record { index = both.0; function = both.1 } where
+  by : (k : ExternalKind) (index : ℕ) → index < space_size (lists_of_module m) k
+      → (index < reserved_number) × IfSome (exported_function k index) (λ f. f < length (plain.functions m))
+  by kind.Func index lt = (omega (arith, lt, few.functions), lt)
+  by kind.Table index lt = (omega (arith, lt, few.tables), tt)
+  by kind.Memory index lt = (omega (arith, lt, few.memories), tt)
+  by kind.Global index lt = (omega (arith, lt, few.globals), tt)
+  by kind.Tag index lt = (omega (arith, lt, few.tags), tt)
+
+-- what exports of entries that there are want of a caller
+pub exports-can : (m : plain.Module) → HasFewEntries m → All (IsInSpace (lists_of_module m)) (flat_map exports_of_section m)
+    → All (CanExport (length (plain.functions m))) (flat_map exports_of_section m)
+exports-can m few within =
+    All-weaker (IsInSpace (lists_of_module m)) (CanExport (length (plain.functions m))) (can-convert m few) (flat_map exports_of_section m) within

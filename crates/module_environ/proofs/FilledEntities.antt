@@ -1,0 +1,100 @@
+-- The types of what was gathered are known, and the entities converted from them are those of the module.
+use Rattle.std.proofs.Common.{◌≡◌, ◌∙◌, ℕ, ◌≤◌, List, length, map, sym, ap, subst, arith}
+use Rattle.std.specs.Prelude.{All}
+use Rattle.std.proofs.lemmas.List.{length-map, length-append}
+use Rattle.std.proofs.lemmas.List.Elements.{All-weaker}
+use Rattle.wasm_spec.specs.declared.entities.GlobalType.{GlobalType}
+use Rattle.wasm_spec.specs.declared.entities.MemoryType.{MemoryType}
+use Rattle.wasm_spec.specs.declared.entities.TableType.{TableType}
+use Rattle.wasm_spec.specs.declared.types.UnpackedIndex.{UnpackedIndex}
+use Rattle.wasm_spec.specs.Module.{TableDef, table_import}
+use Rattle.wasm_spec.specs.Module as plain
+use Rattle.rule_spec.specs.declared.rules.Rule.TheVariants.{L4, L10}
+use Rattle.rule_spec.specs.Limits.{HasLimits}
+use Rattle.rule_spec.specs.Lists.{lists_of_module}
+use Rattle.rule_spec.specs.Lists as rule
+use Rattle.rule_spec.specs.References.{RefersIn, ValueRefersIn}
+use Rattle.form_lists.specs.declared.lists.Lists.{Lists}
+use Rattle.wasm_types.specs.declared.table.Table.{Table}
+use Rattle.wasm_types.specs.EntityData.{global_edges, table_edges, map_global, map_table}
+use Rattle.wasm_types.specs.EntityViews.{table_of}
+use Rattle.wasm_types.specs.Memories.{memory_of, HasPageSize}
+use Rattle.wasm_convert.specs.Conversion.{LookUp, global_type_of, table_type_of}
+use Rattle.wasm_convert.specs.Known.{Known}
+use Rattle.module_environ.specs.Entities.{count_of, tables_data, globals_data}
+use Rattle.module_environ.specs.Filling.{module_in, IsGathered, LooksUpTypes}
+use Rattle.module_environ.specs.Types.{look_up_in}
+use Rattle.module_environ.proofs.Agreeing.{known-table, known-global, tables-alike, globals-alike, all-tables, all-globals}
+
+module _ (l : Lists) (gathered : IsGathered l) where
+  abbrev m : plain.Module
+  m = module_in l
+
+  tables-are : l.spaces.table_types.items ≡ plain.tables m
+  tables-are = ap (λ (r : rule.Lists). r.table_types) gathered.lists
+
+  memories-are : l.spaces.memories.items ≡ plain.memories m
+  memories-are = ap (λ (r : rule.Lists). r.memories) gathered.lists
+
+  globals-are : l.spaces.global_types.items ≡ plain.globals m
+  globals-are = ap (λ (r : rule.Lists). r.global_types) gathered.lists
+
+  -- ---- memories
+
+  pub pages : (ts : List MemoryType) → ts ≡ l.spaces.memories.items → All HasPageSize ts
+  pages ts are =
+      subst (All HasPageSize) (sym (are ∙ memories-are))
+      (All-weaker HasLimits HasPageSize (λ t limits. limits.page_size) (plain.memories m) (gathered.keeps L4).memories)
+
+  pub memories-filled : (ts : List MemoryType) → ts ≡ l.spaces.memories.items → map memory_of ts ≡ map memory_of (plain.memories m)
+  memories-filled ts are = ap (map memory_of) (are ∙ memories-are)
+
+  -- ---- tables and globals
+
+  abbrev count : ℕ
+  count = length (lists_of_module m).types
+
+  module _ (known : UnpackedIndex → Type 0) (look : LookUp) (looks : LooksUpTypes m known look) where
+    abbrev KnowsTable : TableType → Type 0
+    KnowsTable t = Known known (table_edges (λ i. i) (table_type_of t))
+
+    abbrev KnowsGlobal : GlobalType → Type 0
+    KnowsGlobal t = Known known (global_edges (λ i. i) (global_type_of t))
+
+    pub tables-looked : (ts : List TableType) → ts ≡ l.spaces.table_types.items → All KnowsTable ts
+    tables-looked ts are =
+        subst (All KnowsTable) (sym (are ∙ tables-are))
+        (All-weaker (λ (t : TableType). RefersIn count t.element_type) KnowsTable (known-table known count looks.knows)
+        (plain.tables m) (all-tables count m (gathered.keeps L10)))
+
+    pub globals-looked : (ts : List GlobalType) → ts ≡ l.spaces.global_types.items → All KnowsGlobal ts
+    globals-looked ts are =
+        subst (All KnowsGlobal) (sym (are ∙ globals-are))
+        (All-weaker (λ (t : GlobalType). ValueRefersIn count t.content_type) KnowsGlobal (known-global known count looks.knows)
+        (plain.globals m) (all-globals count m (gathered.keeps L10)))
+
+    pub tables-filled : (ts : List TableType) → ts ≡ l.spaces.table_types.items
+        → map (λ t. map_table look (table_type_of t)) ts ≡ tables_data m
+    tables-filled ts are =
+        ap (map (λ (t : TableType). map_table look (table_type_of t))) (are ∙ tables-are)
+        ∙ tables-alike look (look_up_in m) count looks.same (plain.tables m) (all-tables count m (gathered.keeps L10))
+
+    pub globals-filled : (ts : List GlobalType) → ts ≡ l.spaces.global_types.items
+        → map (λ t. map_global look (global_type_of t)) ts ≡ globals_data m
+    globals-filled ts are =
+        ap (map (λ (t : GlobalType). map_global look (global_type_of t))) (are ∙ globals-are)
+        ∙ globals-alike look (look_up_in m) count looks.same (plain.globals m) (all-globals count m (gathered.keeps L10))
+
+  -- ---- the imported tables come first
+
+  pub imported-within : (ts : List TableType) → ts ≡ l.spaces.table_types.items → (tables : List Table) → (look : LookUp)
+      → map table_of tables ≡ map (λ t. map_table look (table_type_of t)) ts → count_of table_import (plain.imports m) ≤ length tables
+  imported-within ts are tables look filled =
+      omega (
+        arith,
+        length-map tables table_of,
+        ap length filled,
+        length-map ts (λ (t : TableType). map_table look (table_type_of t)),
+        ap length (are ∙ tables-are),
+        length-append (plain.imported_of table_import m) (map (λ (d : TableDef). d.type) (lists_of_module m).tables),
+      )

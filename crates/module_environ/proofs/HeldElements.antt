@@ -1,0 +1,208 @@
+-- Element segments, held one after another.
+use Rattle.std.proofs.Common.{◌≡◌, ◌≢◌, ◌∙◌, ℕ, ◌+◌, ◌<◌, ◌≤◌, zero, suc, Bool, true, false, List, [], ◌∷◌, ◌++◌, length, map, Option, None, Some, refl, sym, ap, subst, arith, inl, inr, append_assoc}
+use Rattle.std.specs.Prelude.{slice_get, unwrap_or, if◌then◌else◌}
+use Rattle.std.specs.Option.{option_map}
+use Rattle.std.specs.List.{cons_option}
+use Rattle.std.proofs.lemmas.Bool.Decides.{eqb_tells}
+use Rattle.std.proofs.lemmas.List.{append-nil, length-append, length_push, length-map, map-append}
+use Rattle.std.proofs.lemmas.List.Elements.{filter-append, filter_map-append}
+use Rattle.entity_map.specs.Secondary.{Defaulted, value_at, with_value}
+use Rattle.entity_map.proofs.SecondaryLemmas.{value_at-with_value, value_at-with_value_elsewhere}
+use Rattle.wasm_spec.specs.Module.{Expression, ElementKind, PassiveElement, DeclaredElement, ActiveElement, Element}
+use Rattle.wasm_index.specs.declared.index.Index.{Index}
+use Rattle.wasm_index.specs.declared.spaces.PassiveElemSpace.{PassiveElemSpace}
+use Rattle.wasm_index.specs.Index.{index_of, number_of}
+use Rattle.wasm_convert.specs.Conversion.{LookUp}
+use Rattle.wasm_convert.specs.Constants.{const_ops_of}
+use Rattle.wasm_types.specs.declared.value.WasmRefType.{WasmRefType}
+use Rattle.wasm_module.specs.declared.table_initialization.TableSegment.{TableSegment}
+use Rattle.wasm_module.specs.declared.table_initialization.TableSegmentElements.{TableSegmentElements}
+use Rattle.wasm_module.specs.Elements.{element_type, element_count}
+use Rattle.replay_spec.specs.Startup.{is_passive, passive_elements}
+use Rattle.module_environ.specs.declared.elements.ElementSegments.{ElementSegments}
+use Rattle.module_environ.specs.Initialisers.{ActiveItems, Items, active_in, active_elements, segment_seen, passive_items, items_in, items_seen, passive_numbers}
+use Rattle.module_environ.specs.Segments.{HoldsElements, AddsElements, HasRoom}
+
+-- ---- numbers among the passive ones
+
+passive_numbers-append : (n m : ℕ) (xs ys : List Element) → m ≡ n + length (passive_elements xs)
+    → passive_numbers n (xs ++ ys) ≡ passive_numbers n xs ++ passive_numbers m ys
+passive_numbers-append n m [] ys is = ap (λ k. passive_numbers k ys) (let same : n ≡ m = omega (arith, is) in same)
+passive_numbers-append n m (x ∷ xs) ys is =
+    by (is_passive x.kind) is (λ e. passive_numbers-append (n + 1) m xs ys e) (λ e. passive_numbers-append n m xs ys e)
+  where
+    by : (b : Bool) → m ≡ n + length (if b then x ∷ passive_elements xs else passive_elements xs)
+        → (m ≡ n + 1 + length (passive_elements xs) → passive_numbers (n + 1) (xs ++ ys) ≡ passive_numbers (n + 1) xs ++ passive_numbers m ys)
+        → (m ≡ n + length (passive_elements xs) → passive_numbers n (xs ++ ys) ≡ passive_numbers n xs ++ passive_numbers m ys)
+        → (if b then Some n ∷ passive_numbers (n + 1) (xs ++ ys) else None ∷ passive_numbers n (xs ++ ys))
+        ≡ (if b then Some n ∷ passive_numbers (n + 1) xs else None ∷ passive_numbers n xs) ++ passive_numbers m ys
+    by true e passes other = ap (λ (l : List (Option ℕ)). Some n ∷ l) (passes (omega (arith, e)))
+    by false e passes other = ap (λ (l : List (Option ℕ)). None ∷ l) (other e)
+
+length-passive_numbers : (n : ℕ) (xs : List Element) → length (passive_numbers n xs) ≡ length xs
+length-passive_numbers n [] = refl
+length-passive_numbers n (x ∷ xs) = by (is_passive x.kind) (length-passive_numbers (n + 1) xs) (length-passive_numbers n xs) where
+  by : (b : Bool) → length (passive_numbers (n + 1) xs) ≡ length xs → length (passive_numbers n xs) ≡ length xs
+      → length (if b then Some n ∷ passive_numbers (n + 1) xs else None ∷ passive_numbers n xs) ≡ suc (length xs)
+  by true passes other = ap suc passes
+  by false passes other = ap suc other
+
+few_passive : (xs : List Element) → length (passive_elements xs) ≤ length xs
+few_passive [] = omega arith
+few_passive (x ∷ xs) = by (is_passive x.kind) (few_passive xs) where
+  by : (b : Bool) → length (passive_elements xs) ≤ length xs
+      → length (if b then x ∷ passive_elements xs else passive_elements xs) ≤ length (x ∷ xs)
+  by true le = omega arith
+  by false le = omega arith
+
+-- the number at a place of a longer list
+abbrev number_in : List (Option ℕ) → ℕ → Option ℕ
+number_in ns i = unwrap_or (slice_get ns i) None
+
+number_in-none : (ns : List (Option ℕ)) (i : ℕ) → number_in (ns ++ None ∷ []) i ≡ number_in ns i
+number_in-none [] zero = refl
+number_in-none [] (suc i) = refl
+number_in-none (n ∷ ns) zero = refl
+number_in-none (n ∷ ns) (suc i) = number_in-none ns i
+
+number_in-last : (ns : List (Option ℕ)) (o : Option ℕ) → number_in (ns ++ o ∷ []) (length ns) ≡ o
+number_in-last [] o = refl
+number_in-last (n ∷ ns) o = number_in-last ns o
+
+number_in-other : (ns : List (Option ℕ)) (o : Option ℕ) (i : ℕ) → i ≢ length ns → number_in (ns ++ o ∷ []) i ≡ number_in ns i
+number_in-other [] o zero ne = absurd (ne refl)
+number_in-other [] o (suc i) ne = refl
+number_in-other (n ∷ ns) o zero ne = refl
+number_in-other (n ∷ ns) o (suc i) ne = number_in-other ns o i (λ e. ne (ap suc e))
+
+-- ---- one segment more
+
+abbrev kind_seen : TableSegmentElements → WasmRefType × ℕ
+kind_seen items = (element_type items, element_count items)
+
+counted : (look : LookUp) (before : List Element) (s : ElementSegments) → HoldsElements look before s → length s.passive
+    ≡ length (passive_elements before)
+counted look before s holds =
+    sym (length-map s.passive items_seen) ∙ ap length holds.passive ∙ length-map (passive_elements before) (λ (x : Element). items_in look x.items)
+
+module _ (look : LookUp) (before : List Element) (e : Element) (old : ElementSegments) (holds : HoldsElements look before old) where
+  abbrev next : ℕ
+  next = length (passive_elements before)
+
+  abbrev earlier : List (Option ℕ)
+  earlier = passive_numbers 0 before
+
+  holds-more : (new : ElementSegments)
+      → map segment_seen new.active.items ≡ map segment_seen old.active.items ++ active_elements look (e ∷ [])
+      → map items_seen new.passive ≡ map items_seen old.passive ++ passive_items look (e ∷ [])
+      → new.kinds ≡ map kind_seen new.passive
+      → ((i : ℕ) → option_map number_of (value_at new.numbers i) ≡ number_in (earlier ++ passive_numbers next (e ∷ [])) i)
+      → new.count ≡ old.count + 1 → HoldsElements look (before ++ e ∷ []) new
+  holds-more new active passive kinds numbers count = record {
+    active = active ∙ ap (λ (l : List ActiveItems). l ++ active_elements look (e ∷ [])) holds.active
+        ∙ sym (filter_map-append (λ (x : Element). active_in look x.kind x.items) before (e ∷ []));
+    passive = passive ∙ ap (λ (l : List Items). l ++ passive_items look (e ∷ [])) holds.passive
+        ∙ sym (map-append (λ (x : Element). items_in look x.items) (passive_elements before) (passive_elements (e ∷ [])))
+        ∙ ap (map (λ (x : Element). items_in look x.items)) (sym (filter-append (λ (x : Element). is_passive x.kind) before (e ∷ [])));
+    kinds = kinds;
+    numbers = λ i. numbers i ∙ ap (λ (ns : List (Option ℕ)). number_in ns i) (sym (passive_numbers-append 0 next before (e ∷ []) (omega arith)));
+    count = omega (arith, count, holds.count, length_push before e);
+  }
+
+  -- one that is not passive keeps all but the active ones
+  holds-other : (new : ElementSegments) → is_passive e.kind ≡ false
+      → map segment_seen new.active.items ≡ map segment_seen old.active.items ++ active_elements look (e ∷ [])
+      → new.passive ≡ old.passive → new.kinds ≡ old.kinds → new.numbers ≡ old.numbers → new.count ≡ old.count + 1
+      → HoldsElements look (before ++ e ∷ []) new
+  holds-other new isnt active passive kinds numbers count =
+      holds-more new active
+      (ap (map items_seen) passive ∙ sym (append-nil (map items_seen old.passive))
+      ∙ ap (λ (b : Bool). map items_seen old.passive ++ map (λ (x : Element). items_in look x.items) (if b then e ∷ [] else [])) (sym isnt))
+      (kinds ∙ holds.kinds ∙ ap (map kind_seen) (sym passive))
+      (λ i. ap (λ (d : Defaulted (Option (Index PassiveElemSpace))). option_map number_of (value_at d i)) numbers ∙ holds.numbers i
+      ∙ sym (number_in-none earlier i)
+      ∙ ap (λ (b : Bool). number_in (earlier ++ (if b then Some next ∷ [] else None ∷ [])) i) (sym isnt))
+      count
+
+  pub holds-active : (table : Option ℕ) (offset : Expression) (s : TableSegment) (new : ElementSegments) → e.kind ≡ ActiveElement table offset
+      → number_of s.table_index ≡ unwrap_or table 0 → s.offset ≡ const_ops_of look offset → items_seen s.elements ≡ items_in look e.items
+      → new.active.items ≡ old.active.items ++ s ∷ []
+      → new.passive ≡ old.passive → new.kinds ≡ old.kinds → new.numbers ≡ old.numbers → new.count ≡ old.count + 1
+      → HoldsElements look (before ++ e ∷ []) new
+  holds-active table offset s new is at place items active =
+      let seen : segment_seen s ≡ record { table = unwrap_or table 0; offset = const_ops_of look offset; items = items_in look e.items } =
+      λ i. record { table = at i; offset = place i; items = items i } in
+      holds-other new (ap is_passive is)
+      (ap (map segment_seen) active ∙ map-append segment_seen old.active.items (s ∷ [])
+      ∙ ap (λ (a : ActiveItems). map segment_seen old.active.items ++ a ∷ []) seen
+      ∙ ap (λ (k : ElementKind). map segment_seen old.active.items ++ cons_option (active_in look k e.items) []) (sym is))
+
+  pub holds-declared : (new : ElementSegments) → e.kind ≡ DeclaredElement → new.active.items ≡ old.active.items
+      → new.passive ≡ old.passive → new.kinds ≡ old.kinds → new.numbers ≡ old.numbers → new.count ≡ old.count + 1
+      → HoldsElements look (before ++ e ∷ []) new
+  holds-declared new is active =
+      holds-other new (ap is_passive is)
+      (ap (map segment_seen) active ∙ sym (append-nil (map segment_seen old.active.items))
+      ∙ ap (λ (k : ElementKind). map segment_seen old.active.items ++ cons_option (active_in look k e.items) []) (sym is))
+
+  numbers-passive : (n k i : ℕ) → n ≡ length before → k ≡ next
+      → option_map number_of (value_at (with_value old.numbers n (Some (index_of {Space = PassiveElemSpace} k))) i)
+      ≡ number_in (earlier ++ Some next ∷ []) i
+  numbers-passive n k i at is =
+      let long : n ≡ length earlier = at ∙ sym (length-passive_numbers 0 before) in
+      let v : Option (Index PassiveElemSpace) = Some (index_of k) in
+      elim (eqb_tells i n) [
+        | inl same ↦ subst (λ j. option_map number_of (value_at (with_value old.numbers n v) j) ≡ number_in (earlier ++ Some next ∷ []) j)
+            (sym same.1)
+            (ap (option_map number_of) (value_at-with_value old.numbers n v) ∙ ap Some is
+            ∙ sym (ap (number_in (earlier ++ Some next ∷ [])) long ∙ number_in-last earlier (Some next)))
+        | inr other ↦ ap (option_map number_of) (value_at-with_value_elsewhere old.numbers n v i other.1) ∙ holds.numbers i
+            ∙ sym (number_in-other earlier (Some next) i (λ e. other.1 (e ∙ sym long)))
+      ]
+
+  pub holds-passive : (x : TableSegmentElements) (n : ℕ) (new : ElementSegments) → e.kind ≡ PassiveElement
+      → items_seen x ≡ items_in look e.items → n ≡ old.count
+      → new.active.items ≡ old.active.items → new.passive ≡ old.passive ++ x ∷ [] → new.kinds ≡ old.kinds ++ kind_seen x ∷ []
+      → new.numbers ≡ with_value old.numbers n (Some (index_of (length old.passive))) → new.count ≡ old.count + 1
+      → HoldsElements look (before ++ e ∷ []) new
+  holds-passive x n new is items at active passive kinds numbers count =
+      let passes : is_passive e.kind ≡ true = ap is_passive is in
+      holds-more new
+      (ap (map segment_seen) active ∙ sym (append-nil (map segment_seen old.active.items))
+      ∙ ap (λ (k : ElementKind). map segment_seen old.active.items ++ cons_option (active_in look k e.items) []) (sym is))
+      (ap (map items_seen) passive ∙ map-append items_seen old.passive (x ∷ [])
+      ∙ ap (λ (y : Items). map items_seen old.passive ++ y ∷ []) items
+      ∙ ap (λ (b : Bool). map items_seen old.passive ++ map (λ (x : Element). items_in look x.items) (if b then e ∷ [] else [])) (sym passes))
+      (kinds ∙ ap (λ (ks : List (WasmRefType × ℕ)). ks ++ kind_seen x ∷ []) holds.kinds ∙ sym (map-append kind_seen old.passive (x ∷ []))
+      ∙ ap (map kind_seen) (sym passive))
+      (λ i. ap (λ (d : Defaulted (Option (Index PassiveElemSpace))). option_map number_of (value_at d i)) numbers
+      ∙ numbers-passive n (length old.passive) i (at ∙ holds.count) (counted look before old holds)
+      ∙ ap (λ (b : Bool). number_in (earlier ++ (if b then Some next ∷ [] else None ∷ [])) i) (sym passes))
+      count
+
+-- ---- many
+
+module _ (look : LookUp) where
+  pub adds-none : (s : ElementSegments) → AddsElements look s s []
+  adds-none s before h = subst (λ es. HoldsElements look es s) (sym (append-nil before)) h
+
+  pub adds-both : (a b c : ElementSegments) (xs ys : List Element) → AddsElements look a b xs → AddsElements look b c ys
+      → AddsElements look a c (xs ++ ys)
+  adds-both a b c xs ys first second before h = subst (λ es. HoldsElements look es c) (append_assoc before xs ys)
+      (second (before ++ xs) (first before h))
+
+  -- room for what comes behind
+  pub room-after : (a b : ElementSegments) (n k : ℕ) (es : List Element) → HasRoom look a n → AddsElements look a b es → length es + k ≤ n
+      → HasRoom look b k
+  room-after a b n k es room added le = (room.0 ++ es, added room.0 room.1, omega (arith, length-append room.0 es, room.2, le))
+
+  -- so lists are short
+  pub room-counts : (a : ElementSegments) → HasRoom look a 1
+      → (a.count < 4294967295) × (length a.kinds < 4294967294) × (length a.passive < 4294967294)
+  room-counts a room =
+      let passive = counted look room.0 a room.1 in
+      let kinds = ap length room.1.kinds ∙ length-map a.passive kind_seen in (
+        omega (arith, room.2, room.1.count),
+        omega (arith, room.2, few_passive room.0, passive, kinds),
+        omega (arith, room.2, few_passive room.0, passive),
+      )

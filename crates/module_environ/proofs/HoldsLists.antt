@@ -1,0 +1,291 @@
+-- A translation holds the lists of its module, in the form in which plans are said to agree with a module.
+use Rattle.std.proofs.Common.{◌≡◌, ◌<◌, ◌+◌, ◌-◌, ℕ, zero, suc, Bool, true, false, List, [], ◌∷◌, ◌++◌, length, map, drop, All, Option, Some, None, refl, sym, ap, ◌∙◌, arith}
+use Rattle.std.specs.Prelude.{is_none, slice_get, unwrap_or, if◌then◌else◌}
+use Rattle.std.specs.List.{filter_map, cons_option, enumerate_from}
+use Rattle.std.specs.Option.{option_map}
+use Rattle.std.proofs.lemmas.List.{drop-map, drop_at, length-map, map-append}
+use Rattle.std.proofs.lemmas.List.Elements.{All-head, All-tail}
+use Rattle.wasm_spec.specs.declared.entities.TableType.{TableType}
+use Rattle.wasm_spec.specs.declared.types.HeapType.{HeapType}
+use Rattle.wasm_spec.specs.declared.types.HeapType.TheVariants.{Abstract, Concrete}
+use Rattle.wasm_spec.specs.declared.types.AbstractHeapType.{AbstractHeapType}
+use Rattle.wasm_spec.specs.declared.types.AbstractHeapType.TheVariants as abstract
+use Rattle.wasm_spec.specs.declared.types.UnpackedIndex.{UnpackedIndex}
+use Rattle.wasm_spec.specs.declared.types.UnpackedIndex.TheVariants as index
+use Rattle.wasm_spec.specs.TypeData as types
+use Rattle.wasm_spec.specs.TypeData.{Heap, Reference, SubType, Group, Composite, Func, Array, Struct, Cont, Exn, heap_of, map_heap, map_composite}
+use Rattle.wasm_spec.specs.Module as plain
+use Rattle.wasm_spec.specs.Module.{Expression, TableDef, GlobalDef, ElementKind, PassiveElement, DeclaredElement, ActiveElement, ElementItems, Functions, Expressions, Element, table_import, memory_import, imported_of}
+use Rattle.rule_spec.specs.Lists.{Declared, declared_from, declared_groups, lists_of_module}
+use Rattle.rule_spec.specs.TypeRules.{IsBelow, HeapIsBelow}
+use Rattle.rule_spec.specs.References.{TableRefersIn, AllReferIn}
+use Rattle.rule_spec.specs.Rules.{Keeps}
+use Rattle.rule_spec.specs.declared.rules.Rule.TheVariants as rule
+use Rattle.type_data.specs.Names.{NameKind, FuncName}
+use Rattle.type_spec.specs.Interned as interned
+use Rattle.form_types.specs.Placed.{place_of, placed}
+use Rattle.wasm_types.specs.declared.heap.WasmHeapType.{WasmHeapType}
+use Rattle.wasm_types.specs.declared.heap.WasmHeapType.TheVariants as heap
+use Rattle.wasm_types.specs.declared.table.Table.{Table}
+use Rattle.wasm_types.specs.Tops.{top_of}
+use Rattle.wasm_types.specs.EntityData.{TableData, map_table}
+use Rattle.wasm_types.specs.EntityViews.{table_of}
+use Rattle.wasm_types.specs.ValueViews.{Name, heap_of as heap_seen}
+use Rattle.wasm_convert.specs.declared.operators.ConstOp.{ConstOp}
+use Rattle.wasm_convert.specs.Conversion.{LookUp, table_type_of}
+use Rattle.wasm_convert.specs.Constants.{const_ops_of, expression_of}
+use Rattle.wasm_module.specs.declared.table_initialization.TableInitialValue.{TableInitialValue}
+use Rattle.wasm_module.specs.declared.table_initialization.TableInitialValue.TheVariants as initial
+use Rattle.wasm_module.specs.declared.table_initialization.TableSegment.{TableSegment}
+use Rattle.wasm_module.specs.declared.table_initialization.TableSegmentElements.{TableSegmentElements}
+use Rattle.wasm_module.specs.declared.table_initialization.TableSegmentElements.TheVariants as elements
+use Rattle.table_images.specs.Views.{is_func, items_of, active_elements_of, initial_of, defined_table_of, defined_tables_of}
+use Rattle.replay_spec.specs.Values.{Value, const_value}
+use Rattle.replay_spec.specs.Elements.{ActiveElements, DefinedTable, is_function_type, has_functions_on_top, defined_table, defined_tables, active_of_element}
+use Rattle.replay_spec.specs.Elements as replay
+use Rattle.replay_spec.specs.Globals.{simple_of, kept_of}
+use Rattle.init_plan.specs.declared.translation.ModuleTranslation.{ModuleTranslation}
+use Rattle.init_plan.specs.Tables.{own_tables}
+use Rattle.init_plan.specs.Held.{held, held_items, held_elements, held_table, HoldsMemories, HoldsTables, HoldsGlobals}
+use Rattle.module_environ.proofs.HeldExpressions.{map_alike, map_both, held-is, const_held}
+use Rattle.module_environ.specs.Types.{look_up_in}
+use Rattle.module_environ.specs.Initialisers.{initialiser_seen, first_values, first_value_seen, Items, FunctionItems, ExpressionItems, items_in, items_seen, ActiveItems, active_in, active_elements, segment_seen}
+use Rattle.module_environ.specs.Translation.{HasEntities, CountsImports, HasGlobals, HasElements, HasData}
+
+-- ---- lists
+
+map_gathered : {X Y Z : Type 0} (f : Y → Z) (g : X → Option Y) (xs : List X) → map f (filter_map g xs) ≡ filter_map (λ x. option_map f (g x)) xs
+map_gathered {Y = Y} f g [] = refl
+map_gathered {Y = Y} f g (x ∷ xs) = by (filter_map g xs) (map_gathered f g xs) (g x) where
+  by : (ys : List Y) → map f ys ≡ filter_map (λ x. option_map f (g x)) xs → (o : Option Y)
+      → map f (cons_option o ys) ≡ cons_option (option_map f o) (filter_map (λ x. option_map f (g x)) xs)
+  by ys rest None = rest
+  by ys rest (Some y) = λ i. f y ∷ rest i
+
+gathered_alike : {X Y : Type 0} (f g : X → Option Y) → ((x : X) → f x ≡ g x) → (xs : List X) → filter_map f xs ≡ filter_map g xs
+gathered_alike f g same [] = refl
+gathered_alike f g same (x ∷ xs) = λ i. cons_option (same x i) (gathered_alike f g same xs i)
+
+-- ---- globals
+
+simple_held : (n : ℕ) (es : List Expression) → filter_map simple_of (enumerate_from n (map held es)) ≡ filter_map simple_of (enumerate_from n es)
+simple_held n [] = refl
+simple_held n (e ∷ es) = λ i. cons_option (option_map (λ v. (n, v)) (const_held e i)) (simple_held (n + 1) es i)
+
+held_at : ℕ × Expression → ℕ × Expression
+held_at g = (g.0, held g.1)
+
+kept_held : (n : ℕ) (es : List Expression)
+    → filter_map kept_of (enumerate_from n (map held es)) ≡ map held_at (filter_map kept_of (enumerate_from n es))
+unfolding held_at
+kept_held n [] = refl
+kept_held n (e ∷ es) =
+    ap (λ (v : Option Value). cons_option (if is_none v then Some (n, held e) else None) (filter_map kept_of (enumerate_from (n + 1) (map held es))))
+    (const_held e)
+    ∙ by (filter_map kept_of (enumerate_from (n + 1) es)) (kept_held (n + 1) es) (is_none (const_value e)) where
+      by : (kept : List (ℕ × Expression)) → filter_map kept_of (enumerate_from (n + 1) (map held es)) ≡ map held_at kept → (left : Bool)
+          → cons_option (if left then Some (n, held e) else None) (filter_map kept_of (enumerate_from (n + 1) (map held es)))
+          ≡ map held_at (cons_option (if left then Some (n, e) else None) kept)
+      by kept rest true = λ i. (n, held e) ∷ rest i
+      by kept rest false = rest
+
+pub holds_globals : (m : plain.Module) (t : ModuleTranslation) → HasGlobals m t
+    → length t.module.globals - t.module.num_imported_globals ≡ length (lists_of_module m).globals → HoldsGlobals m t
+unfolding held_at
+holds_globals m t has counted =
+    let globals = (lists_of_module m).globals in
+    let es = map (λ (g : GlobalDef). g.init) globals in
+    let back : ℕ × List ConstOp → ℕ × Expression = λ g. (g.0, expression_of g.1) in
+    let kept = filter_map kept_of (enumerate_from 0 es) in
+    record {
+      count = counted ∙ sym (length-map globals (λ (g : GlobalDef). g.init)) ∙ sym (length-map es held);
+      simple = has.known ∙ sym (simple_held 0 es);
+      kept = sym (map_both back (initialiser_seen (λ e. e)) t.global_initializers.items) ∙ ap (map back) has.left
+          ∙ map_both back (λ (g : ℕ × Expression). (g.0, const_ops_of (look_up_in m) g.1)) kept
+          ∙ map_alike _ held_at (λ g. λ i. (g.0, held-is (look_up_in m) g.1 i)) kept ∙ sym (kept_held 0 es);
+    }
+
+-- ---- memories
+
+pub holds_memories : (m : plain.Module) (t : ModuleTranslation) → HasEntities m t → CountsImports m t → HasData m t → HoldsMemories m t
+holds_memories m t entities counts has = record { imports = counts.memories; memories = entities.memories; active = has.active }
+
+-- ---- active element segments
+
+-- their items without what the plan of tables does not hold
+plain_items : Items → ElementItems
+plain_items (FunctionItems functions) = Functions functions
+plain_items (ExpressionItems type expressions) =
+    Expressions (record { nullable = type.nullable; heap = Abstract abstract.Any }) (map expression_of expressions)
+
+plain_active : ActiveItems → ActiveElements
+plain_active a = record { table = a.table; offset = expression_of a.offset; items = plain_items a.items }
+
+plain_seen : (s : TableSegment) → active_elements_of s ≡ plain_active (segment_seen s)
+unfolding plain_items plain_active
+plain_seen s =
+    ap (λ (items : ElementItems). record { table = (segment_seen s).table; offset = expression_of s.offset; items = items }) (by s.elements) where
+      by : (x : TableSegmentElements) → items_of x ≡ plain_items (items_seen x)
+      by (elements.Functions functions) = refl
+      by (elements.Expressions ty expressions) = refl
+
+items_held : (look : LookUp) (items : ElementItems) → plain_items (items_in look items) ≡ held_items items
+unfolding plain_items
+items_held look (Functions indices) = refl
+items_held look (Expressions type items) =
+    ap (Expressions (record { nullable = type.nullable; heap = Abstract abstract.Any }))
+    (map_both expression_of (const_ops_of look) items ∙ map_alike (λ e. expression_of (const_ops_of look e)) held (held-is look) items)
+
+active_held : (look : LookUp) (kind : ElementKind) (items : ElementItems)
+    → option_map plain_active (active_in look kind items) ≡ option_map held_elements (active_of_element kind items)
+unfolding plain_active
+active_held look PassiveElement items = refl
+active_held look DeclaredElement items = refl
+active_held look (ActiveElement table offset) items =
+    λ i. Some (record { table = unwrap_or table 0; offset = held-is look offset i; items = items_held look items i })
+
+elements_held : (look : LookUp) (es : List Element) → map plain_active (active_elements look es) ≡ map held_elements (replay.active_elements es)
+elements_held look es =
+    map_gathered plain_active (λ (e : Element). active_in look e.kind e.items) es
+    ∙ gathered_alike _ _ (λ (e : Element). active_held look e.kind e.items) es
+    ∙ sym (map_gathered held_elements (λ (e : Element). active_of_element e.kind e.items) es)
+
+-- ---- the kinds of declared types
+
+names_function : NameKind → Bool
+names_function FuncName = true
+names_function _ = false
+
+-- whether the declared type, if there is one, is a function type
+function_at : Option Declared → Bool
+function_at o = is_function_type (option_map (λ (d : Declared). d.type.composite.inner) o)
+
+one_kind : (c : Composite UnpackedIndex UnpackedIndex)
+    → is_function_type (Some c) ≡ names_function (interned.kind_of_type (map_composite place_of place_of c))
+unfolding names_function
+one_kind (Func f) = refl
+one_kind (Array f) = refl
+one_kind (Struct fs) = refl
+one_kind (Cont i) = refl
+one_kind (Exn t) = refl
+
+-- a group before others
+within_group : (rest : List Declared) (hs : List (Group ℕ ℕ))
+    → ((i : ℕ) → i < length rest → function_at (slice_get rest i) ≡ names_function (interned.kind_at hs i))
+    → (end index : ℕ) (g : Group UnpackedIndex UnpackedIndex) (i : ℕ) → i < length (declared_from end index g ++ rest)
+    → function_at (slice_get (declared_from end index g ++ rest) i) ≡ names_function (interned.kind_at (placed g ∷ hs) i)
+unfolding function_at
+within_group rest hs behind end index [] i lt = behind i lt
+within_group rest hs behind end index (t ∷ ts) zero lt = one_kind t.composite.inner
+within_group rest hs behind end index (t ∷ ts) (suc i) lt = within_group rest hs behind end (index + 1) ts i (omega (arith, lt))
+
+kinds_same : (gs : List (Group UnpackedIndex UnpackedIndex)) (index i : ℕ) → i < length (declared_groups index gs)
+    → function_at (slice_get (declared_groups index gs) i) ≡ names_function (interned.kind_at (map placed gs) i)
+kinds_same [] index i lt = absurd (omega (arith, lt))
+kinds_same (g ∷ gs) index i lt =
+    within_group (declared_groups (index + length g) gs) (map placed gs) (kinds_same gs (index + length g)) (index + length g) index g i lt
+
+-- ---- tables
+
+-- whether functions are on top, of a heap type as data
+functions_on_top : Heap Name → Bool
+functions_on_top (types.Concrete name) = names_function name.kind
+functions_on_top (types.Abstract abstract.Func) = true
+functions_on_top (types.Abstract abstract.NoFunc) = true
+functions_on_top (types.Abstract _) = false
+
+on_top_seen : (h : WasmHeapType) → is_func (top_of h) ≡ functions_on_top (heap_seen h)
+unfolding functions_on_top names_function
+on_top_seen heap.Extern = refl
+on_top_seen heap.NoExtern = refl
+on_top_seen heap.Func = refl
+on_top_seen (heap.ConcreteFunc i) = refl
+on_top_seen heap.NoFunc = refl
+on_top_seen heap.Exn = refl
+on_top_seen (heap.ConcreteExn i) = refl
+on_top_seen heap.NoExn = refl
+on_top_seen heap.Cont = refl
+on_top_seen (heap.ConcreteCont i) = refl
+on_top_seen heap.NoCont = refl
+on_top_seen heap.Any = refl
+on_top_seen heap.Eq = refl
+on_top_seen heap.I31 = refl
+on_top_seen heap.Array = refl
+on_top_seen (heap.ConcreteArray i) = refl
+on_top_seen heap.Struct = refl
+on_top_seen (heap.ConcreteStruct i) = refl
+on_top_seen heap.None = refl
+
+on_top_same : (m : plain.Module) (h : HeapType) → HeapIsBelow (length (lists_of_module m).types) (heap_of h)
+    → functions_on_top (map_heap (look_up_in m) (heap_of h)) ≡ has_functions_on_top (lists_of_module m) h
+unfolding functions_on_top function_at HeapIsBelow
+on_top_same m (Abstract h) below = by h where
+  by : (h : AbstractHeapType) → functions_on_top (types.Abstract h) ≡ has_functions_on_top (lists_of_module m) (Abstract h)
+  by abstract.Func = refl
+  by abstract.NoFunc = refl
+  by _ = refl
+on_top_same m (Concrete (index.Module i)) below = sym (kinds_same (plain.groups m) 0 i (All-head (IsBelow _) (index.Module i) [] below))
+on_top_same m (Concrete (index.RecGroup i)) below = absurd (All-head (IsBelow (length (lists_of_module m).types)) (index.RecGroup i) [] below)
+on_top_same m (Concrete (index.Id i)) below = absurd (All-head (IsBelow (length (lists_of_module m).types)) (index.Id i) [] below)
+
+initial_held : (look : LookUp) (v : TableInitialValue) (e : Option Expression) → first_value_seen v ≡ option_map (const_ops_of look) e
+    → initial_of v ≡ option_map held e
+initial_held look v e same = seen v ∙ ap (option_map expression_of) same ∙ back e where
+  seen : (v : TableInitialValue) → initial_of v ≡ option_map expression_of (first_value_seen v)
+  seen initial.Null = refl
+  seen (initial.Expr e) = refl
+
+  back : (e : Option Expression) → option_map expression_of (option_map (const_ops_of look) e) ≡ option_map held e
+  back None = refl
+  back (Some e) = ap Some (held-is look e)
+
+module _ (m : plain.Module) where
+  table_in : TableType → TableData Name
+  table_in t = map_table (look_up_in m) (table_type_of t)
+
+  table_held : (t : Table) (v : TableInitialValue) (d : TableDef) → TableRefersIn (length (lists_of_module m).types) d → table_of t ≡ table_in d.type
+      → first_value_seen v ≡ option_map (const_ops_of (look_up_in m)) d.init → defined_table_of t v ≡ held_table (defined_table (lists_of_module m) d)
+  unfolding table_in
+  table_held t v d below same value =
+      let minimum : t.limits.min ≡ d.type.initial = ap (λ (x : TableData Name). x.limits.min) same in
+      let functions = on_top_seen t.ref_type.heap_type ∙ ap (λ (x : TableData Name). functions_on_top x.reference.heap) same
+      ∙ on_top_same m d.type.element_type.heap below.elements in
+      let first = initial_held (look_up_in m) v d.init value in
+      λ i. record { minimum = minimum i; functions = functions i; initial = first i }
+
+  tables_held : (ts : List Table) (vs : List TableInitialValue) (ds : List TableDef) → All (TableRefersIn (length (lists_of_module m).types)) ds
+      → map table_of ts ≡ map (λ (d : TableDef). table_in d.type) ds → map first_value_seen vs ≡ first_values (look_up_in m) ds
+      → defined_tables_of ts vs ≡ map held_table (map (defined_table (lists_of_module m)) ds)
+  tables_held [] vs [] below same values = refl
+  tables_held [] vs (d ∷ ds) below same values = cc
+  tables_held (t ∷ ts) vs [] below same values = cc
+  tables_held (t ∷ ts) [] (d ∷ ds) below same values = cc
+  tables_held (t ∷ ts) (v ∷ vs) (d ∷ ds) below same values =
+      let here : table_of t ≡ table_in d.type = cc in
+      let others : map table_of ts ≡ map (λ (d : TableDef). table_in d.type) ds = cc in
+      let value : first_value_seen v ≡ option_map (const_ops_of (look_up_in m)) d.init = cc in
+      let others_values : map first_value_seen vs ≡ first_values (look_up_in m) ds = cc in
+      let P = TableRefersIn (length (lists_of_module m).types) in
+      let one = table_held t v d (All-head P d ds below) here value in
+      let rest = tables_held ts vs ds (All-tail P d ds below) others others_values in
+      λ i. one i ∷ rest i
+
+  pub holds_tables : (t : ModuleTranslation) → Keeps m → HasEntities m t → CountsImports m t → HasElements m t → HoldsTables m t
+  unfolding table_in
+  holds_tables t keeps entities counts has =
+      let defs = (lists_of_module m).tables in
+      let imported = imported_of table_import m in
+      let below : AllReferIn (length (lists_of_module m).types) (lists_of_module m) = keeps rule.L10 in
+      let own : map table_of (own_tables t) ≡ map (λ (d : TableDef). table_in d.type) defs =
+      sym (drop-map table_of t.module.num_imported_tables t.module.tables)
+      ∙ ap (drop t.module.num_imported_tables) (entities.tables ∙ map-append table_in imported (map (λ (d : TableDef). d.type) defs))
+      ∙ drop_at (map table_in imported) (map table_in (map (λ (d : TableDef). d.type) defs)) t.module.num_imported_tables
+      (length-map imported table_in ∙ sym counts.tables)
+      ∙ map_both table_in (λ (d : TableDef). d.type) defs in
+      record {
+        imports = counts.tables;
+        tables = tables_held (own_tables t) t.table_initialization.initial_values defs below.tables own has.first;
+        active = map_alike active_elements_of (λ s. plain_active (segment_seen s)) plain_seen t.table_initialization.segments.items
+            ∙ sym (map_both plain_active segment_seen t.table_initialization.segments.items)
+            ∙ ap (map plain_active) has.active ∙ elements_held (look_up_in m) (lists_of_module m).elements;
+      }

@@ -1,0 +1,115 @@
+-- Imports, counted and given their entities one after another.
+use Rattle.std.proofs.Common.{◌≡◌, ◌≤◌, ◌<◌, ◌^◌, ℕ, ◌+◌, List, [], ◌∷◌, ◌++◌, length, map, take, get_or, Option, None, Some, suc, refl, sym, ap, subst, ◌∙◌, append_assoc, arith}
+use Rattle.std.specs.List.{filter_map, cons_option}
+use Rattle.std.proofs.lemmas.List.{append-nil, length-append, length-map, length-take-le, map_more, map_push}
+use Rattle.std.proofs.lemmas.List.Elements.{All-push, All-weaker, filter_map-append}
+use Rattle.wasm_spec.specs.declared.entities.TypeRef.{TypeRef}
+use Rattle.wasm_spec.specs.declared.entities.TypeRef.TheVariants as imported
+use Rattle.wasm_spec.specs.Module.{Import, function_import, table_import, memory_import, global_import, tag_import}
+use Rattle.wasm_index.specs.Index.{index_of}
+use Rattle.wasm_types.specs.declared.entity.EntityIndex.{EntityIndex}
+use Rattle.wasm_types.specs.declared.entity.EntityIndex.TheVariants as entity
+use Rattle.wasm_module.specs.declared.initializer.Initializer.{Initializer}
+use Rattle.form_data.specs.declared.form.Import.{Import as Read}
+use Rattle.form_data.specs.Views.{import_of}
+use Rattle.module_environ.specs.declared.imports.ImportCounts.{ImportCounts}
+use Rattle.module_environ.specs.Entities.{NamedEntity, count_of, brought, imports_after, resolved_import}
+use Rattle.module_environ.specs.Imported.{AreCounted, HaveIndices, AreImported, one_if, counted, next_entity}
+use Rattle.module_environ.specs.Pooled.{GrowsBy, HasPooledNames}
+use Rattle.module_environ.proofs.GrownPool.{length-grown, names-grown, imports-grown}
+
+-- ---- counts
+
+length-one : {A : Type 0} (o : Option A) → length (cons_option o []) ≡ one_if o
+length-one None = refl
+length-one (Some x) = refl
+
+pub count_of-push : {A : Type 0} (kind : TypeRef → Option A) (is : List Import) (i : Import)
+    → count_of kind (is ++ i ∷ []) ≡ count_of kind is + one_if (kind i.type)
+count_of-push kind is i =
+    ap length (filter_map-append (λ (j : Import). kind j.type) is (i ∷ []))
+    ∙ length-append (filter_map (λ (j : Import). kind j.type) is) (cons_option (kind i.type) [])
+    ∙ ap (λ (n : ℕ). count_of kind is + n) (length-one (kind i.type))
+
+pub count_of-le : {A : Type 0} (kind : TypeRef → Option A) (is : List Import) → count_of kind is ≤ length is
+count_of-le kind [] = omega arith
+count_of-le {A = A} kind (i ∷ is) = by (kind i.type) (filter_map (λ (j : Import). kind j.type) is) (count_of-le kind is) where
+  by : (o : Option A) (others : List A) → length others ≤ length is → length (cons_option o others) ≤ suc (length is)
+  by None others le = omega (arith, le)
+  by (Some x) others le = omega (arith, le)
+
+pub counted-push : (is : List Import) (i : Import) (c : ImportCounts) → AreCounted is c → AreCounted (is ++ i ∷ []) (counted c i.type)
+counted-push is i c h = record {
+  functions = ap (λ (n : ℕ). n + one_if (function_import i.type)) h.functions ∙ sym (count_of-push function_import is i);
+  tables = ap (λ (n : ℕ). n + one_if (table_import i.type)) h.tables ∙ sym (count_of-push table_import is i);
+  memories = ap (λ (n : ℕ). n + one_if (memory_import i.type)) h.memories ∙ sym (count_of-push memory_import is i);
+  globals = ap (λ (n : ℕ). n + one_if (global_import i.type)) h.globals ∙ sym (count_of-push global_import is i);
+  tags = ap (λ (n : ℕ). n + one_if (tag_import i.type)) h.tags ∙ sym (count_of-push tag_import is i);
+}
+
+-- the counts of few imports are numbers of indices
+pub counted-few : (is : List Import) (c : ImportCounts) → AreCounted is c → length is < 2 ^ 30 → HaveIndices c
+counted-few is c h few = record {
+  functions = omega (arith, few, h.functions, count_of-le function_import is);
+  tables = omega (arith, few, h.tables, count_of-le table_import is);
+  memories = omega (arith, few, h.memories, count_of-le memory_import is);
+  globals = omega (arith, few, h.globals, count_of-le global_import is);
+  tags = omega (arith, few, h.tags, count_of-le tag_import is);
+}
+
+-- ---- entities
+
+pub next-brought : (is : List Import) (c : ImportCounts) → AreCounted is c → (type : TypeRef) → next_entity c type ≡ brought is type
+next-brought is c h (imported.Func type) = ap (λ (n : ℕ). entity.Function (index_of n)) h.functions
+next-brought is c h (imported.Table type) = ap (λ (n : ℕ). entity.Table (index_of n)) h.tables
+next-brought is c h (imported.Memory type) = ap (λ (n : ℕ). entity.Memory (index_of n)) h.memories
+next-brought is c h (imported.Global type) = ap (λ (n : ℕ). entity.Global (index_of n)) h.globals
+next-brought is c h (imported.Tag type) = ap (λ (n : ℕ). entity.Tag (index_of n)) h.tags
+
+pub imports_after-push : (before is : List Import) (i : Import)
+    → imports_after before (is ++ i ∷ []) ≡ imports_after before is ++ (i.space, i.name, brought (before ++ is) i.type) ∷ []
+imports_after-push before [] i =
+    ap (λ (bs : List Import). (let one : NamedEntity = (i.space, i.name, brought bs i.type) in one) ∷ []) (sym (append-nil before))
+imports_after-push before (j ∷ is) i =
+    ap (λ (es : List NamedEntity). (j.space, j.name, brought before j.type) ∷ es) (imports_after-push (before ++ j ∷ []) is i
+    ∙ ap (λ (bs : List Import). imports_after (before ++ j ∷ []) is ++ (i.space, i.name, brought bs i.type) ∷ []) (append_assoc before (j ∷ []) is))
+
+-- ---- as they are converted
+
+pub imported-push : (is : List Import) (i : Import) (old new : List (List ℕ)) (before : List Initializer) (one : Initializer) (c : ImportCounts)
+    → GrowsBy 2 old new → HasPooledNames new one → resolved_import new one ≡ (i.space, i.name, next_entity c i.type)
+    → AreImported is old before c → AreImported (is ++ i ∷ []) new (before ++ one ∷ []) (counted c i.type)
+imported-push is i old new before one c grows pooled resolved h = record {
+  entities = map_push (resolved_import new) before one
+      ∙ ap (λ (es : List NamedEntity). es ++ resolved_import new one ∷ []) (imports-grown 2 old new grows before h.pooled ∙ h.entities)
+      ∙ ap (λ (e : NamedEntity). imports_after [] is ++ e ∷ []) (resolved
+      ∙ ap (λ (x : EntityIndex). (let named : NamedEntity = (i.space, i.name, x) in named)) (next-brought is c h.counted i.type))
+      ∙ sym (imports_after-push [] is i);
+  pooled = All-push (HasPooledNames new) before one
+      (All-weaker (HasPooledNames old) (HasPooledNames new) (names-grown 2 old new grows) before h.pooled) pooled;
+  counted = counted-push is i c h.counted;
+  few = omega (arith, h.few, length-grown 2 old new grows, length-append is (i ∷ []));
+}
+
+-- one import more, converted
+pub imported-step : (before : List Import) (is : List Read) (k : ℕ) (i : Read) → k < length is → i ≡ get_or is k i
+    → (old new : List (List ℕ)) (now after : List Initializer) (one : Initializer) (c d : ImportCounts) → d ≡ counted c i.ty
+    → GrowsBy 2 old new → HasPooledNames new one → resolved_import new one ≡ (i.«module».now, i.name.now, next_entity c i.ty)
+    → after ≡ now ++ one ∷ []
+    → AreImported (before ++ map import_of (take k is)) old now c → AreImported (before ++ map import_of (take (k + 1) is)) new after d
+imported-step before is k i lt at old new now after one c d counts grows pooled resolved pushed h =
+    let so_far = before ++ map import_of (take k is) in
+    let one_more = imported-push so_far (import_of i) old new now one c grows pooled resolved h in
+    let there : before ++ map import_of (take (k + 1) is) ≡ so_far ++ import_of i ∷ [] =
+    ap (λ (js : List Import). before ++ js)
+    (map_more import_of is k i lt ∙ ap (λ (x : Read). map import_of (take k is) ++ import_of x ∷ []) (sym at))
+    ∙ sym (append_assoc before (map import_of (take k is)) (import_of i ∷ [])) in
+    subst (λ (js : List Import). AreImported js new after d) (sym there)
+    (subst (λ (x : ImportCounts). AreImported (so_far ++ import_of i ∷ []) new after x) (sym counts)
+    (subst (λ (xs : List Initializer). AreImported (so_far ++ import_of i ∷ []) new xs (counted c i.ty)) (sym pushed) one_more))
+
+-- of few imports, those so far are few
+pub few-before : (before : List Import) (is : List Read) (k : ℕ) → k < length is → length before + length is < 2 ^ 30
+    → length (before ++ map import_of (take k is)) < 2 ^ 30
+few-before before is k lt few =
+    omega (arith, few, length-append before (map import_of (take k is)), length-map (take k is) import_of, length-take-le k is (omega arith))

@@ -1,0 +1,227 @@
+-- The tables of a translated module may be planned.
+use Rattle.std.proofs.Common.{◌≡◌, ◌∙◌, ℕ, ◌+◌, ◌<◌, ◌≤◌, Bool, true, false, List, [], ◌∷◌, length, map, take, Option, Some, None, sym, ap, subst, arith, refl}
+use Rattle.std.specs.Prelude.{All, IfSome, unwrap_or, nat_lt}
+use Rattle.std.specs.Option.{option_map}
+use Rattle.std.specs.List.{cons_option, enumerate_from}
+use Rattle.std.specs.Global.{Vec}
+use Rattle.std.proofs.lemmas.Bool.{ltb-true}
+use Rattle.std.proofs.lemmas.List.{length-map, length-append, get_or-map}
+use Rattle.std.proofs.lemmas.List.Elements.{All-nil, All-cons, All-head, All-tail, All-map, All-weaker}
+use Rattle.wasm_spec.specs.declared.entities.GlobalType.{GlobalType}
+use Rattle.wasm_spec.specs.declared.operators.Operator.{Operator}
+use Rattle.wasm_spec.specs.declared.operators.Operator.TheVariants as op
+use Rattle.wasm_spec.specs.Module as plain
+use Rattle.wasm_spec.specs.Module.{Expression, ElementItems, Functions, Expressions, ElementKind, PassiveElement, DeclaredElement, ActiveElement, Element, TableDef, Module}
+use Rattle.wasm_spec.specs.Sizes.{HasFewEntries}
+use Rattle.rule_spec.specs.declared.rules.Rule.TheVariants.{L6, L9}
+use Rattle.rule_spec.specs.declared.classes.Class.{Class}
+use Rattle.rule_spec.specs.declared.classes.Class.TheVariants as class
+use Rattle.rule_spec.specs.Lists.{Lists, lists_of_module}
+use Rattle.rule_spec.specs.Typing.{Signature, refers_to, where_true, HasClass}
+use Rattle.rule_spec.specs.Expressions.{HasTypedInitialiser, HasTypedItems, IsElementTyped}
+use Rattle.rule_spec.specs.Indices.{NamesTable, NamesFunctions, IsElementInRange}
+use Rattle.rule_spec.specs.Rules.{Keeps}
+use Rattle.wasm_index.specs.declared.index.Index.{Index}
+use Rattle.wasm_index.specs.declared.spaces.FuncSpace.{FuncSpace}
+use Rattle.wasm_index.specs.Index.{number_of}
+use Rattle.wasm_types.specs.declared.table.Table.{Table}
+use Rattle.wasm_types.specs.EntityViews.{table_of}
+use Rattle.wasm_convert.specs.Conversion.{LookUp}
+use Rattle.wasm_convert.specs.Constants.{const_ops_of, expression_of}
+use Rattle.wasm_convert.specs.declared.operators.ConstOp.{ConstOp}
+use Rattle.wasm_module.specs.declared.table_initialization.TableInitialValue.{TableInitialValue}
+use Rattle.wasm_module.specs.declared.table_initialization.TableInitialValue.TheVariants as initial
+use Rattle.wasm_module.specs.declared.table_initialization.TableSegment.{TableSegment}
+use Rattle.wasm_module.specs.declared.table_initialization.TableSegmentElements.{TableSegmentElements}
+use Rattle.wasm_module.specs.declared.table_initialization.TableSegmentElements.TheVariants as elements
+use Rattle.replay_spec.specs.Elements.{ActiveElements, DefinedTable}
+use Rattle.replay_spec.specs.Tables.{image_cells, initial_function, expression_cell}
+use Rattle.table_images.specs.Views.{active_elements_of, initial_of, items_of, defined_tables_of, image_of}
+use Rattle.table_images.specs.Steps.{images_of}
+use Rattle.init_plan.specs.declared.translation.ModuleTranslation.{ModuleTranslation}
+use Rattle.init_plan.specs.Tables.{IsAmong, own_tables, TableHalfIsReady}
+use Rattle.module_environ.specs.Types.{look_up_in}
+use Rattle.module_environ.specs.Initialisers.{ActiveItems, Items, FunctionItems, ExpressionItems, active_in, active_elements, segment_seen, items_in, items_seen, first_value_seen}
+use Rattle.module_environ.specs.Translation.{HasElements, HasEntities, CountsImports, Escapes}
+
+All-unmap : {X Y : Type 0} (P : Y → Type 0) (f : X → Y) (xs : List X) → All P (map f xs) → All (λ x. P (f x)) xs
+All-unmap P f xs h k d lt = subst P (get_or-map f xs k d (f d) lt) (h k (f d) (let long = length-map xs f in omega (arith, long)))
+
+-- ---- functions in expressions
+
+-- what one operator names is a function
+named : (l : Lists) (n : ℕ) (visible : List GlobalType) (f : ℕ) (b : Bool) (s : Signature) → nat_lt f n ≡ b → where_true b (refers_to []) ≡ Some s
+    → f < n
+named l n visible f true s is e = ltb-true f n is
+named l n visible f false s is e = let none : None ≡ Some s = e in absurd (cc)
+
+module _ (look : LookUp) (l : Lists) (visible : List GlobalType) (c : Class) where
+  abbrev cell : Expression → Option ℕ
+  cell e = unwrap_or (expression_cell e) None
+
+  cell-one : (o : Operator) → HasClass l visible (o ∷ []) c → IsAmong (length l.functions) (cell (expression_of (const_ops_of look (o ∷ []))))
+  cell-one (op.RefFunc f) typed = named l (length l.functions) visible f (nat_lt f (length l.functions)) typed.1.signed refl typed.1.is_signed
+  cell-one _ typed = tt
+
+  cell-among : (e : Expression) → HasClass l visible e c → IsAmong (length l.functions) (cell (expression_of (const_ops_of look e)))
+  cell-among [] typed = tt
+  cell-among (o ∷ []) typed = cell-one o typed
+  cell-among (o ∷ p ∷ os) typed = tt
+
+-- ---- items
+
+abbrev cells : Items → List (Option ℕ)
+cells (FunctionItems functions) = map Some functions
+cells (ExpressionItems type list) = map (λ e. unwrap_or (expression_cell e) None) (map expression_of list)
+
+cells-seen : (x : TableSegmentElements) → image_cells (items_of x) ≡ cells (items_seen x)
+cells-seen (elements.Functions functions) = refl
+cells-seen (elements.Expressions ty list) = refl
+
+module _ (look : LookUp) (l : Lists) where
+  cells-among : (items : ElementItems) → NamesFunctions l items → HasTypedItems l items
+      → All (IsAmong (length l.functions)) (cells (items_in look items))
+  cells-among (Functions indices) names typed = All-map (IsAmong (length l.functions)) Some indices names
+  cells-among (Expressions type list) names typed =
+      let A : Option ℕ → Type 0 = IsAmong (length l.functions) in
+      let cell : Expression → Option ℕ = λ e. unwrap_or (expression_cell e) None in
+      All-map A cell (map expression_of (map (const_ops_of look) list))
+      (All-map (λ (e : Expression). A (cell e)) expression_of (map (const_ops_of look) list)
+      (All-map (λ (e : List ConstOp). A (cell (expression_of e))) (const_ops_of look) list
+      (All-weaker _ (λ (e : Expression). A (cell (expression_of (const_ops_of look e)))) (λ e t. cell-among look l l.global_types class.Ref e t)
+      list typed)))
+
+  -- what is known of an active segment
+  pub record IsActiveReady (a : ActiveItems) : Type 0 where
+    pub table : a.table < length l.table_types
+    pub functions : All (IsAmong (length l.functions)) (cells a.items)
+
+  active-ready : (es : List Element) → All (IsElementInRange l) es → All (IsElementTyped l) es → All IsActiveReady (active_elements look es)
+  active-ready [] ranged typed = All-nil IsActiveReady
+  active-ready (e ∷ es) ranged typed =
+      with_kind e.kind (All-head (IsElementInRange l) e es ranged).table
+      (cells-among e.items (All-head (IsElementInRange l) e es ranged).items (All-head (IsElementTyped l) e es typed).items)
+      (active-ready es (All-tail (IsElementInRange l) e es ranged) (All-tail (IsElementTyped l) e es typed)) where
+        with_kind : (k : ElementKind) → NamesTable l k → All (IsAmong (length l.functions)) (cells (items_in look e.items))
+            → All IsActiveReady (active_elements look es) → All IsActiveReady (cons_option (active_in look k e.items) (active_elements look es))
+        with_kind PassiveElement table functions others = others
+        with_kind DeclaredElement table functions others = others
+        with_kind (ActiveElement table offset) in' functions others =
+            All-cons IsActiveReady _ (active_elements look es) (record { table = in'; functions = functions }) others
+
+few_active : (look : LookUp) (es : List Element) → length (active_elements look es) ≤ length es
+few_active look [] = omega arith
+few_active look (e ∷ es) = with_kind e.kind (few_active look es) where
+  with_kind : (k : ElementKind) → length (active_elements look es) ≤ length es
+      → length (cons_option (active_in look k e.items) (active_elements look es)) ≤ length (e ∷ es)
+  with_kind PassiveElement few = omega arith
+  with_kind DeclaredElement few = omega arith
+  with_kind (ActiveElement table offset) few = omega arith
+
+-- ---- initial values
+
+initial-seen : (v : TableInitialValue) → initial_of v ≡ option_map expression_of (first_value_seen v)
+initial-seen initial.Null = refl
+initial-seen (initial.Expr e) = refl
+
+module _ (look : LookUp) (l : Lists) (visible : List GlobalType) (c : Class) where
+  initial-among : (o : Option Expression) → IfSome o (λ e. HasClass l visible e c)
+      → IsAmong (length l.functions) (initial_function (option_map expression_of (option_map (const_ops_of look) o)))
+  initial-among None typed = tt
+  initial-among (Some e) typed = cell-among look l visible c e typed
+
+All-defined : (P : Option Expression → Type 0) (ts : List Table) (vs : List TableInitialValue) → All (λ (v : TableInitialValue). P (initial_of v)) vs
+    → All (λ (d : DefinedTable). P d.initial) (defined_tables_of ts vs)
+All-defined P [] vs h = All-nil (λ (d : DefinedTable). P d.initial)
+All-defined P (t ∷ ts) [] h = All-nil (λ (d : DefinedTable). P d.initial)
+All-defined P (t ∷ ts) (v ∷ vs) h =
+    All-cons (λ (d : DefinedTable). P d.initial) _ (defined_tables_of ts vs) (All-head (λ (x : TableInitialValue). P (initial_of x)) v vs h)
+    (All-defined P ts vs (All-tail (λ (x : TableInitialValue). P (initial_of x)) v vs h))
+
+-- ---- images
+
+no_images : {T : Type 0} (images : List (Vec (Index FuncSpace))) (tables : List T) → map (λ image. image.items) images ≡ map (λ table. []) tables
+    → All (λ (image : List (Option ℕ)). image ≡ []) (images_of images)
+no_images {T} images tables none =
+    All-map (λ (image : List (Option ℕ)). image ≡ []) (λ (v : Vec (Index FuncSpace)). image_of v.items) images
+    (All-weaker (λ (v : Vec (Index FuncSpace)). v.items ≡ []) (λ (v : Vec (Index FuncSpace)). image_of v.items ≡ []) (λ v e. ap image_of e) images
+    (All-unmap (λ (l : List (Index FuncSpace)). l ≡ []) (λ (v : Vec (Index FuncSpace)). v.items) images
+    (subst (All (λ (l : List (Index FuncSpace)). l ≡ [])) (sym none)
+    (All-map (λ (l : List (Index FuncSpace)). l ≡ []) (λ (t : T). []) tables (λ k d lt. refl)))))
+
+length-enumerate : {X : Type 0} (n : ℕ) (xs : List X) → length (enumerate_from n xs) ≡ length xs
+length-enumerate n [] = refl
+length-enumerate n (x ∷ xs) = let more = length-enumerate (n + 1) xs in omega arith
+
+-- ---- the whole
+
+module _ (debugged : Bool) (m : Module) (t : ModuleTranslation) (has : HasElements m t) (entities : HasEntities m t) (counts : CountsImports m t)
+    (escapes : Escapes debugged m t) (kept : Keeps m) (few : HasFewEntries m) where
+  abbrev l : Lists
+  l = lists_of_module m
+
+  abbrev look : LookUp
+  look = look_up_in m
+
+  table_count : length t.module.tables ≡ length (plain.tables m)
+  table_count = sym (length-map t.module.tables table_of) ∙ ap length entities.tables ∙ length-map (plain.tables m) _
+
+  function_count : length t.module.functions ≡ length (plain.functions m)
+  function_count = ap length escapes.functions ∙ length-map (enumerate_from 0 (plain.functions m)) _ ∙ length-enumerate 0 (plain.functions m)
+
+  own_count : length (plain.tables m) ≡ t.module.num_imported_tables + length l.tables
+  own_count = length-append (plain.imported_of plain.table_import m) (map (λ (d : TableDef). d.type) l.tables)
+      ∙ (let long = length-map l.tables (λ (d : TableDef). d.type) in omega (arith, counts.tables, long))
+
+  ready : All (IsActiveReady look l) (map segment_seen t.table_initialization.segments.items)
+  ready = subst (All (IsActiveReady look l)) (sym has.active) (active-ready look l l.elements (kept L9).elements (kept L6).elements)
+
+  each : All (λ (s : TableSegment). IsActiveReady look l (segment_seen s)) t.table_initialization.segments.items
+  each = All-unmap (IsActiveReady look l) segment_seen t.table_initialization.segments.items ready
+
+  initials : All (λ (v : TableInitialValue). IsAmong (length t.module.functions) (initial_function (initial_of v)))
+      t.table_initialization.initial_values
+  initials =
+      let A : Option (List ConstOp) → Type 0 = λ o. IsAmong (length t.module.functions) (initial_function (option_map expression_of o)) in
+      let typed : All (λ (d : TableDef). A (option_map (const_ops_of look) d.init)) l.tables =
+      All-weaker (HasTypedInitialiser l) (λ (d : TableDef). A (option_map (const_ops_of look) d.init))
+      (λ d h. subst (λ n. IsAmong n (initial_function (option_map expression_of (option_map (const_ops_of look) d.init)))) (sym function_count)
+      (initial-among look l (take l.imported_globals l.global_types) class.Ref d.init h)) l.tables (kept L6).tables in
+      let seen : All A (map first_value_seen t.table_initialization.initial_values) =
+      subst (All A) (sym has.first) (All-map A (λ (d : TableDef). option_map (const_ops_of look) d.init) l.tables typed) in
+      All-weaker (λ (v : TableInitialValue). A (first_value_seen v))
+      (λ (v : TableInitialValue). IsAmong (length t.module.functions) (initial_function (initial_of v)))
+      (λ v h. subst (λ o. IsAmong (length t.module.functions) (initial_function o)) (sym (initial-seen v)) h) t.table_initialization.initial_values
+      (All-unmap A first_value_seen t.table_initialization.initial_values seen)
+
+  pub tables-ready : TableHalfIsReady t
+  tables-ready =
+      let segments = t.table_initialization.segments.items in
+      record {
+        imports = omega (arith, table_count, own_count);
+        few_tables = omega (arith, table_count, few.tables);
+        few_functions = omega (arith, function_count, few.functions);
+        each_value =
+            let count = sym (length-map t.table_initialization.initial_values first_value_seen) ∙ ap length has.first ∙ length-map l.tables _ in
+            omega (arith, count, table_count, own_count);
+        each_image =
+            let count = sym (length-map t.module.table_initialization (λ image. image.items)) ∙ ap length has.no_images ∙ length-map l.tables _ in
+            omega (arith, count, table_count, own_count);
+        no_images = no_images t.module.table_initialization l.tables has.no_images;
+        few_segments =
+            let count = length-map segments active_elements_of in
+            let same = sym (length-map segments segment_seen) ∙ ap length has.active in
+            let le = few_active look l.elements in
+            omega (arith, count, same, le, few.elements);
+        in_range = All-map (λ (s : ActiveElements). s.table < length t.module.tables) active_elements_of segments
+            (All-weaker (λ (s : TableSegment). IsActiveReady look l (segment_seen s))
+            (λ (s : TableSegment). number_of s.table_index < length t.module.tables)
+            (λ s h. let in' = h.table in omega (arith, in', table_count)) segments each);
+        functions = All-map (λ (s : ActiveElements). All (IsAmong (length t.module.functions)) (image_cells s.items)) active_elements_of segments
+            (All-weaker (λ (s : TableSegment). IsActiveReady look l (segment_seen s))
+            (λ (s : TableSegment). All (IsAmong (length t.module.functions)) (image_cells (items_of s.elements)))
+            (λ s h. subst (All (IsAmong (length t.module.functions))) (sym (cells-seen s.elements))
+            (subst (λ n. All (IsAmong n) (cells (items_seen s.elements))) (sym function_count) h.functions)) segments each);
+        initial_functions = All-defined (λ o. IsAmong (length t.module.functions) (initial_function o)) (own_tables t)
+            t.table_initialization.initial_values initials;
+      }

@@ -1,0 +1,57 @@
+use Rattle.std.proofs.Common.{◌∙◌, length, refl, ap, arith}
+use Rattle.std.specs.Prelude.{drop}
+use Rattle.std.specs.List.{list_any}
+use Rattle.wasm_types.specs.Collected.{heap_is_collected}
+use Rattle.wasm_types.specs.declared.table.Table.{Table}
+use Rattle.module_environ.proofs.FilledEntities.{pages, memories-filled, tables-looked, globals-looked}
+use Rattle.module_environ.proofs.FilledEntities.{tables-filled, globals-filled, imported-within}
+use Rattle.module_environ.proofs.sections.fill_entities.Goals as goal
+
+pub convert_tables-requires-clause-known : goal.convert_tables-requires-clause-known
+convert_tables-requires-clause-known g c =
+    let dyn = goal.TypeConvert-dyn g c.args.env.now in
+    tables-looked c.args.lists.now c.requires.gathered (dyn.knows c.args.env.now.1) (dyn.look_up c.args.env.now.1) c.requires.looks
+    c.as_slice.result.now c.as_slice.ensures.value
+
+pub convert_memories-requires-clause-pages : goal.convert_memories-requires-clause-pages
+convert_memories-requires-clause-pages g c = pages c.args.lists.now c.requires.gathered c.as_slice-2.result.now c.as_slice-2.ensures.value
+
+pub convert_globals-requires-clause-known : goal.convert_globals-requires-clause-known
+convert_globals-requires-clause-known g c =
+    let dyn = goal.TypeConvert-dyn g c.args.env.now in
+    globals-looked c.args.lists.now c.requires.gathered (dyn.knows c.args.env.now.1) (dyn.look_up c.args.env.now.1) c.requires.looks
+    c.as_slice-3.result.now c.as_slice-3.ensures.value
+
+pub split_at-requires : goal.split_at-requires
+split_at-requires g c =
+    let dyn = goal.TypeConvert-dyn g c.args.env.now in
+    let within = imported-within c.args.lists.now c.requires.gathered c.as_slice.result.now c.as_slice.ensures.value c.in_ok-entities.field-0
+    (dyn.look_up c.args.env.now.1) c.in_ok-entities.ensures in
+    omega (arith, within, c.in_ok-initializers.ensures.counts.tables, ap length c.as_slice-4.ensures)
+
+pub returns : goal.returns
+returns g c =
+    let dyn = goal.TypeConvert-dyn g c.args.env.now in
+    let l = c.args.lists.now in
+    let gathered = c.requires.gathered in
+    let knows = dyn.knows c.args.env.now.1 in
+    let look = dyn.look_up c.args.env.now.1 in
+    let counts = c.in_ok-initializers.ensures.counts in
+    record {
+      imports = c.in_ok-initializers.ensures.imports;
+      pooled = c.in_ok-initializers.ensures.pooled;
+      few_texts = omega (arith, c.in_ok-initializers.ensures.pool, gathered.few.imports);
+      functions = counts.functions;
+      imported_tables = counts.tables;
+      imported_memories = counts.memories;
+      imported_globals = counts.globals;
+      tags = counts.tags;
+      tables = c.in_ok-entities.ensures
+          ∙ tables-filled l gathered knows look c.requires.looks c.as_slice.result.now c.as_slice.ensures.value;
+      memories = c.in_ok-entities-2.ensures ∙ memories-filled l gathered c.as_slice-2.result.now c.as_slice-2.ensures.value;
+      globals = c.in_ok-entities-3.ensures
+          ∙ globals-filled l gathered knows look c.requires.looks c.as_slice-3.result.now c.as_slice-3.ensures.value;
+      heap = c.hold_collected-entities.ensures ∙ ap (list_any (λ (table : Table). heap_is_collected table.ref_type.heap_type))
+          (c.split_at.ensures.back ∙ ap (drop c.in_ok-initializers.counts.tables) c.as_slice-4.ensures);
+      same = refl;
+    }

@@ -1,0 +1,116 @@
+use Rattle.std.proofs.Common.{◌≡◌, ◌∙◌, length, map, ap, subst, arith}
+use Rattle.std.specs.List.{range_with_len}
+use Rattle.wasm_spec.specs.Module as plain
+use Rattle.rule_spec.specs.Lists.{lists_of_module}
+use Rattle.wasm_index.specs.Index.{number_of}
+use Rattle.module_environ.specs.Entities.{function_types}
+use Rattle.module_environ.specs.Escapes.{escaping, references, AreSignatures}
+use Rattle.module_environ.proofs.sections.fill_sections.OwnLists.{same-1-1}
+use Rattle.module_environ.specs.Filling.{module_in}
+use Rattle.module_environ.specs.Flags.{Flags, flagged}
+use Rattle.module_environ.specs.Types.{interned_at}
+use Rattle.module_environ.proofs.FilledSections.{looks-declared, carried-looks, functions-named, starts-below, functions-are, imported-are}
+use Rattle.module_environ.proofs.FilledSections.{behind, all-noted, noted-where, noted-not}
+use Rattle.module_environ.proofs.FilledSections.{entities-filled, counts-filled, heap-filled, data-filled}
+use Rattle.module_environ.proofs.sections.fill_sections.Goals as goal
+use Rattle.module_environ.proofs.sections.fill_sections.Goals.{then-debugged+in_ok-flag_range-2, else-debugged}
+
+pub fill_entities-requires-clause-looks : goal.fill_entities-requires-clause-looks
+fill_entities-requires-clause-looks c =
+    carried-looks (module_in c.args.lists.now) _ _ same-1-1 (record { ref_ptr = _; now = c.in_ok-env.env })
+    (looks-declared (module_in c.args.lists.now) c.requires.of_module c.args.indices.now c.requires.listed c.args.types.now c.requires.built _ _
+    c.in_ok-env.ensures.knows c.in_ok-env.ensures.looks)
+
+pub fill_initialisers-requires-clause-looks : goal.fill_initialisers-requires-clause-looks
+fill_initialisers-requires-clause-looks c =
+    carried-looks (module_in c.args.lists.now) _ _ same-1-1 (record { ref_ptr = _; now = c.in_ok-env.env })
+    (looks-declared (module_in c.args.lists.now) c.requires.of_module c.args.indices.now c.requires.listed c.args.types.now c.requires.built _ _
+    c.in_ok-env.ensures.knows c.in_ok-env.ensures.looks)
+
+pub function_types-requires-clause-types : goal.function_types-requires-clause-types
+function_types-requires-clause-types c =
+    functions-named c.args.lists.now c.requires.gathered c.requires.of_module c.args.indices.now c.requires.listed c.as_slice-functions.result.now
+    c.as_slice-functions.ensures.value
+
+pub exported_signatures-requires-clause-types : goal.exported_signatures-requires-clause-types
+exported_signatures-requires-clause-types c =
+    functions-named c.args.lists.now c.requires.gathered c.requires.of_module c.args.indices.now c.requires.listed c.as_slice-functions.result.now
+    c.as_slice-functions.ensures.value
+
+pub start_function-translation-requires : goal.start_function-translation-requires
+start_function-translation-requires c = starts-below c.args.lists.now c.requires.gathered
+
+pub returns-clause-sections : goal.returns-clause-sections
+returns-clause-sections c =
+    let l = c.args.lists.now in
+    let m = module_in l in
+    let gathered = c.requires.gathered in
+    let first = c.in_ok-fill_entities.ensures in
+    let second = c.in_ok-fill_initialisers.ensures in
+    let t = c.fill_initialisers.new.translation in
+    let new = c.requires.new in
+    let functions = c.as_slice-functions.ensures.value ∙ functions-are l gathered in
+    let after : c.if-debugged.escaping ≡ flagged c.fill_initialisers.new.escaping (behind c.args.debugged (lists_of_module m)) =
+    elim c.if-debugged.branch [
+      | then-debugged+in_ok-flag_range-2 w ↦
+          noted-where (lists_of_module m) c.fill_initialisers.new.escaping c.if-debugged.escaping c.args.debugged w.if-debugged.true _ _
+          (imported-are l gathered)
+          (omega (arith, w.len-then-debugged.ensures, ap length (functions-are l gathered), imported-are l gathered))
+          (w.escaping-is ∙ w.in_ok-flag_range-2.ensures)
+      | else-debugged w ↦
+          noted-not (lists_of_module m) c.fill_initialisers.new.escaping c.if-debugged.escaping c.args.debugged w.if-debugged.false w.escaping-is
+    ] in
+    let noted : c.if-debugged.escaping.order ≡ escaping c.args.debugged (lists_of_module m) =
+    ap (λ (f : Flags). f.order) (all-noted c.args.debugged (lists_of_module m) c.in_ok-escaping.escaping c.flag_range.new.self
+    c.fill_initialisers.new.escaping c.if-debugged.escaping
+    (c.in_ok-flag_range.ensures ∙ ap (λ n. flagged c.in_ok-escaping.escaping (range_with_len 0 n)) (imported-are l gathered)) second.noted after)
+    ∙ ap (λ (f : Flags). (flagged f (references c.args.debugged (lists_of_module m))).order) c.in_ok-escaping.ensures in
+    let counts = counts-filled m _ _ new _ first _ _ t second in
+    let segments = data-filled m _ _ new _ first _ _ t second in
+    let start = c.start_function-translation in
+    let entities = entities-filled m _ _ new _ first _ _ t second start.result start.ensures in
+    record {
+      entities = record {
+        imports = entities.imports;
+        exports = entities.exports;
+        tables = entities.tables;
+        memories = entities.memories;
+        globals = entities.globals;
+        start = entities.start;
+      };
+      counts = record {
+        functions = counts.functions;
+        tables = counts.tables;
+        memories = counts.memories;
+        globals = counts.globals;
+        tags = counts.tags;
+      };
+      escapes = record {
+        functions = c.in_ok-translation.ensures m c.requires.listed functions ∙ ap (function_types m) noted;
+        count = c.len-translation.ensures ∙ ap length noted;
+        signatures =
+            let types = map (interned_at m) (plain.functions m) in
+            subst (λ order. AreSignatures order types (map number_of c.in_ok-translation-2.field-0.items)) noted
+            (c.in_ok-translation-2.ensures m c.requires.listed functions);
+      };
+      heap = heap-filled m _ _ new _ first _ _ t second;
+      globals = record { known = second.globals.known; left = second.globals.left };
+      elements = record {
+        first = second.elements.first;
+        active = second.elements.active;
+        no_images = second.elements.no_images;
+        passive = second.elements.passive;
+        kinds = second.elements.kinds;
+        numbers = second.elements.numbers;
+      };
+      data_segments = record {
+        unprocessed = segments.unprocessed;
+        active = segments.active;
+        passive = segments.passive;
+        segmented = segments.segmented;
+        no_ranges = segments.no_ranges;
+        no_runtime = segments.no_runtime;
+        nothing_found = segments.nothing_found;
+        no_alignment = segments.no_alignment;
+      };
+    }

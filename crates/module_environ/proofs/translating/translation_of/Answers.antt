@@ -1,0 +1,101 @@
+use Rattle.std.proofs.Common.{◌≡◌, refl, sym, ap, ◌∙◌, subst, map, Ok}
+use Rattle.std.proofs.lemmas.Result.{err_from_is_err_and}
+use Rattle.rule_spec.specs.Rules.{Keeps}
+use Rattle.form_data.specs.Views.{body_of, module_of}
+use Rattle.init_plan.specs.declared.translation.ModuleTranslation.{ModuleTranslation}
+use Rattle.module_environ.proofs.Answering.{ReadingTells, read_cause, read_complete, was_readable, read_as, form_cause, is_translated}
+use Rattle.module_environ.proofs.translating.translation_of.Goals as goal
+
+-- ---- the bytes are not read
+
+pub returns-in_err-form-clause-cause : goal.returns-in_err-form-clause-cause
+returns-in_err-form-clause-cause c =
+    let p = err_from_is_err_and c.from_residual.result c.from_residual.ensures.1 in
+    let e = c.read_module.ensures in
+    let tells : ReadingTells c.args.bytes.now c.read_module.result = record {
+      complete = e.complete;
+      too_large = e.too_large;
+      unsupported = e.unsupported;
+      malformed = e.malformed;
+      stops_nowhere = e.stops_nowhere;
+    } in
+    rw (p.1, p.2) (read_cause c.args.bytes.now _ c.read_module.result c.in_err-form.field-0.0 tells c.in_err-form.was)
+
+pub returns-in_err-form-clause-complete : goal.returns-in_err-form-clause-complete
+returns-in_err-form-clause-complete c = λ m can kept sound.
+    let p = err_from_is_err_and c.from_residual.result c.from_residual.ensures.1 in
+    let e = c.read_module.ensures in
+    let tells : ReadingTells c.args.bytes.now c.read_module.result = record {
+      complete = e.complete;
+      too_large = e.too_large;
+      unsupported = e.unsupported;
+      malformed = e.malformed;
+      stops_nowhere = e.stops_nowhere;
+    } in
+    rw p.1 (p.2 ∙ read_complete c.args.bytes.now c.read_module.result c.in_err-form.field-0.0 m tells c.in_err-form.was can)
+
+-- ---- its form becomes no translation
+
+pub returns-in_err-translate_form-clause-cause : goal.returns-in_err-translate_form-clause-cause
+returns-in_err-translate_form-clause-cause c =
+    let p = err_from_is_err_and c.from_residual-in_err-translate_form.result c.from_residual-in_err-translate_form.ensures.1 in
+    let e = c.in_ok-form.ensures in
+    let tells : ReadingTells c.args.bytes.now (Ok c.in_ok-form.form) = record {
+      complete = e.complete;
+      too_large = e.too_large;
+      unsupported = e.unsupported;
+      malformed = e.malformed;
+      stops_nowhere = e.stops_nowhere;
+    } in
+    rw (p.1, p.2) (form_cause c.args.bytes.now (module_of c.in_ok-form.form) c.args.types.now.is_poisoned _
+    (was_readable c.args.bytes.now c.in_ok-form.form tells e.read e.no_interface_types) c.in_err-translate_form.ensures.cause)
+
+pub returns-in_err-translate_form-clause-complete : goal.returns-in_err-translate_form-clause-complete
+returns-in_err-translate_form-clause-complete c = λ m can kept sound.
+    let p = err_from_is_err_and c.from_residual-in_err-translate_form.result c.from_residual-in_err-translate_form.ensures.1 in
+    let e = c.in_ok-form.ensures in
+    let tells : ReadingTells c.args.bytes.now (Ok c.in_ok-form.form) = record {
+      complete = e.complete;
+      too_large = e.too_large;
+      unsupported = e.unsupported;
+      malformed = e.malformed;
+      stops_nowhere = e.stops_nowhere;
+    } in
+    let same : module_of c.in_ok-form.form ≡ m = read_as c.args.bytes.now c.in_ok-form.form m tells can in
+    rw p.1 (p.2 ∙ c.in_err-translate_form.ensures.complete (subst Keeps (sym same) kept) sound)
+
+-- ---- there is no memory for its code
+
+pub returns-in_err-bodies-clause-cause : goal.returns-in_err-bodies-clause-cause
+returns-in_err-bodies-clause-cause c =
+    let p = err_from_is_err_and c.from_residual-in_err-bodies.result c.from_residual-in_err-bodies.ensures.1 in
+    rw (p.1, p.2) tt
+
+pub returns-in_err-bodies-clause-complete : goal.returns-in_err-bodies-clause-complete
+returns-in_err-bodies-clause-complete c = λ m can kept sound.
+    let p = err_from_is_err_and c.from_residual-in_err-bodies.result c.from_residual-in_err-bodies.ensures.1 in
+    rw p.1 p.2
+
+-- ---- it is translated
+
+pub returns-clause-translated : goal.returns-clause-translated
+returns-clause-translated c =
+    let m = module_of c.in_ok-form.form in
+    let formed = c.translate_form.new.translation in
+    let e = c.in_ok-form.ensures in
+    let tells : ReadingTells c.args.bytes.now (Ok c.in_ok-form.form) = record {
+      complete = e.complete;
+      too_large = e.too_large;
+      unsupported = e.unsupported;
+      malformed = e.malformed;
+      stops_nowhere = e.stops_nowhere;
+    } in
+    let coded : ModuleTranslation = record formed {
+      wasm = c.args.bytes;
+      function_body_inputs = c.replace-none.new.dest;
+      debuginfo = record formed.debuginfo { wasm_file = record formed.debuginfo.wasm_file { code_section_offset = c.in_ok-bodies.place } };
+    } in
+    is_translated c.args.tunables.now c.args.module_index c.args.validator.now c.args.bytes.now m c.in_ok-translation.translation formed coded
+    c.translate_form.new.types (was_readable c.args.bytes.now c.in_ok-form.form tells e.read e.no_interface_types) e.few
+    c.in_ok-translation.ensures c.in_ok-translate_form.ensures.formed refl
+    (ap (map (λ input. body_of input.body)) c.replace-none.ensures.after ∙ c.in_ok-bodies.ensures.bodies) c.in_ok-bodies.ensures.place

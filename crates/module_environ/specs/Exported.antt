@@ -1,0 +1,24 @@
+-- What exports become, one after another.
+use Rattle.std.specs.Prelude.{◌≡◌, ◌<◌, ℕ, List, map, All, IfSome}
+use Rattle.std.specs.List.{filter_map}
+use Rattle.entity_map.specs.Entity.{reserved_number}
+use Rattle.entity_map.specs.declared.pool.Atom.{Atom}
+use Rattle.wasm_spec.specs.Module.{Export}
+use Rattle.wasm_types.specs.declared.entity.EntityIndex.{EntityIndex}
+use Rattle.module_environ.specs.Entities.{resolved_export, exported_entities}
+use Rattle.module_environ.specs.Escapes.{exported_function}
+use Rattle.module_environ.specs.Pooled.{IsPooled}
+
+-- the functions among what is exported
+abbrev pub exported_functions : List Export → List ℕ
+exported_functions exports = filter_map (λ (e : Export). exported_function e.kind e.index) exports
+
+-- an export of an index, and where it is a function, of one of so many
+pub record CanExport (functions : ℕ) (e : Export) : Type 0 where
+  pub index : e.index < reserved_number
+  pub function : IfSome (exported_function e.kind e.index) (λ f. f < functions)
+
+-- what these exports became, in order; their names are in the pool
+pub record AreEntered (exports : List Export) (texts : List (List ℕ)) (entries : List (Atom × EntityIndex)) : Type 0 where
+  pub entities : map (resolved_export texts) entries ≡ exported_entities exports
+  pub pooled : All (λ e. IsPooled texts e.0) entries

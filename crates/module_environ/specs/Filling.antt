@@ -1,0 +1,115 @@
+-- What filling a translation from the lists of a module needs, and what it makes.
+use Rattle.std.specs.Prelude.{◌≡◌, ℕ, ◌<◌, ◌^◌, List, ◌++◌, length, map, drop, slice_get, All}
+use Rattle.std.specs.List.{flat_map, filter_map, list_any}
+use Rattle.std.specs.Option.{option_map}
+use Rattle.wasm_spec.specs.declared.types.UnpackedIndex.{UnpackedIndex}
+use Rattle.wasm_spec.specs.declared.types.UnpackedIndex.TheVariants as index
+use Rattle.wasm_spec.specs.Module.{function_import, table_import, memory_import, global_import, tag_import}
+use Rattle.wasm_spec.specs.Module as plain
+use Rattle.wasm_spec.specs.Sizes.{HasFewEntries}
+use Rattle.rule_spec.specs.Lists.{lists_of_module}
+use Rattle.rule_spec.specs.Lists as rule
+use Rattle.rule_spec.specs.Rules.{Keeps}
+use Rattle.form_data.specs.Views.{module_of}
+use Rattle.form_lists.specs.declared.lists.Lists.{Lists}
+use Rattle.form_lists.specs.Views.{lists_of}
+use Rattle.wasm_types.specs.Collected.{heap_is_collected}
+use Rattle.wasm_types.specs.EntityViews.{global_of, table_of}
+use Rattle.wasm_types.specs.Memories.{memory_of}
+use Rattle.wasm_convert.specs.Conversion.{LookUp}
+use Rattle.wasm_module.specs.declared.module.Module.{Module}
+use Rattle.replay_spec.specs.Data.{active_segments}
+use Rattle.init_plan.specs.declared.translation.ModuleTranslation.{ModuleTranslation}
+use Rattle.init_plan.specs.Views.{initializers_of, passive_data_of, IsUnprocessed}
+use Rattle.module_environ.specs.Types.{look_up_in}
+use Rattle.module_environ.specs.LookUps.{AgreeBelow}
+use Rattle.module_environ.specs.Flags.{Flags, flagged}
+use Rattle.module_environ.specs.Escapes.{referred, referred_if_any, item_functions}
+use Rattle.module_environ.specs.Exported.{exported_functions}
+use Rattle.module_environ.specs.Pooled.{GrowsBy, HasPooledNames}
+use Rattle.module_environ.specs.Entities.{count_of, imported_entities, exported_entities, resolved_import, resolved_export, tables_data, globals_data}
+use Rattle.module_environ.specs.Initialisers.{passive_data_from}
+use Rattle.module_environ.specs.Translation.{HasGlobals, HasElements}
+
+-- the module whose lists these are
+abbrev pub module_in : Lists → plain.Module
+module_in l = module_of l.form.now
+
+-- the lists are those of a module that keeps the rules and has few entries
+pub record IsGathered (l : Lists) : Type 0 where
+  pub lists : lists_of l ≡ lists_of_module (module_in l)
+  pub keeps : Keeps (module_in l)
+  pub few : HasFewEntries (module_in l)
+
+-- the declared types are known, and each is looked up to its interned type
+pub record LooksUpTypes (m : plain.Module) (known : UnpackedIndex → Type 0) (look : LookUp) : Type 0 where
+  pub knows : (i : ℕ) → i < length (lists_of_module m).types → known (index.Module i)
+  pub same : AgreeBelow look (look_up_in m) (length (lists_of_module m).types)
+
+-- imports and index spaces but those of functions and tags are filled in
+pub record FillsEntities (m : plain.Module) (old new : Module) : Type 0 where
+  pub imports : map (resolved_import new.strings) new.initializers.items ≡ imported_entities m
+  pub pooled : All (HasPooledNames new.strings) new.initializers.items
+  pub few_texts : length new.strings < 2 ^ 31
+  pub functions : new.num_imported_funcs ≡ count_of function_import (plain.imports m)
+  pub imported_tables : new.num_imported_tables ≡ count_of table_import (plain.imports m)
+  pub imported_memories : new.num_imported_memories ≡ count_of memory_import (plain.imports m)
+  pub imported_globals : new.num_imported_globals ≡ count_of global_import (plain.imports m)
+  pub tags : new.num_imported_tags ≡ count_of tag_import (plain.imports m)
+  pub tables : map table_of new.tables ≡ tables_data m
+  pub memories : new.memories ≡ map memory_of (plain.memories m)
+  pub globals : map global_of new.globals ≡ globals_data m
+  pub heap : new.needs_gc_heap ≡ list_any (λ table. heap_is_collected table.ref_type.heap_type) (drop new.num_imported_tables new.tables)
+  pub same : new ≡ record old {
+    strings = new.strings;
+    initializers = new.initializers;
+    num_imported_funcs = new.num_imported_funcs;
+    num_imported_tables = new.num_imported_tables;
+    num_imported_memories = new.num_imported_memories;
+    num_imported_globals = new.num_imported_globals;
+    num_imported_tags = new.num_imported_tags;
+    needs_gc_heap = new.needs_gc_heap;
+    tables = new.tables;
+    memories = new.memories;
+    globals = new.globals;
+  }
+
+-- the references that initialisers, exports and segments make
+abbrev pub references_of : rule.Lists → List ℕ
+references_of l =
+    flat_map (λ t. referred_if_any t.init) l.tables
+    ++ flat_map (λ g. referred g.init) l.globals
+    ++ exported_functions l.exports
+    ++ flat_map (λ e. item_functions e.items) l.elements
+
+-- exports, first values and segments are filled in, and their references noted
+pub record FillsInitialisers (m : plain.Module) (before after : Flags) (old new : ModuleTranslation) : Type 0 where
+  pub exports : map (resolved_export new.module.strings) new.module.exports.entries ≡ exported_entities (lists_of_module m).exports
+  pub texts : GrowsBy (2 ^ 30) old.module.strings new.module.strings
+  pub globals : HasGlobals m new
+  pub elements : HasElements m new
+  pub unprocessed : IsUnprocessed new.memory_init
+  pub active : initializers_of new ≡ active_segments m
+  pub passive : passive_data_of new ≡ passive_data_from 0 (plain.segments m)
+  pub noted : after ≡ flagged before (references_of (lists_of_module m))
+  pub same : new ≡ record old {
+    «module» = record old.module {
+      strings = new.module.strings;
+      exports = new.module.exports;
+      table_initialization = new.module.table_initialization;
+      passive_elements = new.module.passive_elements;
+      global_initializers = new.module.global_initializers;
+    };
+    passive_elem_map = new.passive_elem_map;
+    global_initializers = new.global_initializers;
+    passive_elements = new.passive_elements;
+    table_initialization = new.table_initialization;
+    memory_init = new.memory_init;
+    hidden = record old.hidden { passive_data = new.hidden.passive_data };
+  }
+
+-- what the sections leave of a translation
+pub record LeavesRest (old new : ModuleTranslation) : Type 0 where
+  pub index : new.module.module_index ≡ old.module.module_index
+  pub startup : new.module.startup ≡ old.module.startup
+  pub offset : new.wasm_module_offset ≡ old.wasm_module_offset

@@ -1,0 +1,65 @@
+//! Function bodies.
+
+ghost use Rattle.std.specs.Prelude.{◌≡◌, ◌+◌, ◌<◌, ◌^◌, ◌++◌, length, map, IfOk, OnOk};
+ghost use Rattle.std.specs.List.{flat_map};
+ghost use Rattle.wasm_spec.specs.Module.{bodies_of_section};
+ghost use Rattle.wasm_spec.specs.Sizes.{HasFewEntries};
+ghost use Rattle.std.specs.Option.{option_to_list};
+ghost use Rattle.form_data.specs.Views.{body_of, module_of, payload_of};
+ghost use Rattle.module_environ.specs.Translation.{code_places, first_or_zero};
+
+use entity_map::{OutOfMemory, PrimaryMap};
+use form_data::{Form, FunctionBody, Payload};
+use init_plan::FunctionBodyData;
+use std::alloc::Global;
+use wasm_index::DefinedFuncIndex;
+
+/// The bodies of the defined functions, and the place of the code section's contents, 0 without one.
+pub(crate) fn take_bodies<'d>(
+    alloc: Global,
+    form: Form<'d>,
+) -> Result<(PrimaryMap<DefinedFuncIndex, FunctionBodyData<'d>>, u64), OutOfMemory>
+    requires few { HasFewEntries (module_of form) }
+    ensures bodies { IfOk result (λ r. map (λ input. body_of input.body) r.0 ≡ flat_map bodies_of_section (module_of form.entry)) }
+    ensures place { IfOk result (λ r. r.1 ≡ first_or_zero (flat_map code_places (module_of form.entry))) }
+{
+    let mut bodies = PrimaryMap::new(alloc);
+    let mut place = None;
+    for payload in form.payloads {
+        place = place.or(code_place(&payload));
+        add_bodies(&mut bodies, bodies_in(alloc, payload))?;
+    }
+    Ok((bodies, place.unwrap_or(0)))
+}
+
+fn code_place(payload: &Payload<'_>) -> Option<u64>
+    ensures { option_to_list result ≡ code_places (payload_of payload.now) }
+{
+    match payload {
+        Payload::Code { offset, .. } => Some(*offset),
+        _ => None,
+    }
+}
+
+fn bodies_in<'d>(alloc: Global, payload: Payload<'d>) -> Vec<FunctionBody<'d>>
+    ensures { map body_of result.items ≡ bodies_of_section (payload_of payload.entry) }
+{
+    match payload {
+        Payload::Code { bodies, .. } => bodies,
+        _ => Vec::new(alloc),
+    }
+}
+
+fn add_bodies<'d>(
+    bodies: &mut PrimaryMap<DefinedFuncIndex, FunctionBodyData<'d>>,
+    more: Vec<FunctionBody<'d>>,
+) -> Result<(), OutOfMemory>
+    requires { length bodies.old + length more.items < 2 ^ 30 }
+    ensures { OnOk result (map (λ input. body_of input.body) bodies.new
+        ≡ map (λ input. body_of input.body) bodies.old ++ map body_of more.entry.items) }
+{
+    for body in more {
+        bodies.push(FunctionBodyData { body })?;
+    }
+    Ok(())
+}

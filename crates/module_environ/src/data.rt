@@ -1,0 +1,150 @@
+//! Data segments.
+
+ghost use Rattle.std.specs.Prelude.{◌≡◌, ◌+◌, ◌++◌, ◌<◌, ◌^◌, ◌∷◌, [], length, map, IfOk, OnOk};
+ghost use Rattle.std.specs.List.{filter_map};
+ghost use Rattle.wasm_spec.specs.Module.{segments};
+ghost use Rattle.wasm_spec.specs.Sizes.{HasFewEntries};
+ghost use Rattle.form_data.specs.Views.{module_of, segment_of};
+ghost use Rattle.replay_spec.specs.Data.{active_of_kind, active_segments};
+ghost use Rattle.init_plan.specs.Views.{active_segment_of, initializers_of, passive_data_of, IsUnprocessed, SameButPassive};
+ghost use Rattle.module_environ.specs.Initialisers.{passive_data_from};
+ghost use Rattle.module_environ.specs.Segments.{AreDataConvertible, IsDataConvertible};
+
+use crate::offsets::convert_offset;
+use entity_map::{EntityRef, OutOfMemory};
+use form_data::{DataKind, DataSegment, Form};
+use form_lists::segments_of;
+use init_plan::{MemoryInit, MemoryInitializer, ModuleTranslation};
+use std::alloc::Global;
+use wasm_convert::TypeConvert;
+use wasm_index::{DataIndex, MemoryIndex};
+
+/// The data segments: active ones as they are, to be planned, and passive ones by their index.
+pub(crate) fn add_segments<'d>(
+    alloc: Global,
+    env: &dyn TypeConvert,
+    form: &Form<'d>,
+    translation: &mut ModuleTranslation<'d>,
+) -> Result<(), OutOfMemory>
+    requires few { HasFewEntries (module_of form.now) }
+    requires convertible { AreDataConvertible (knows env.now) (segments (module_of form.now)) }
+    requires none { passive_data_of translation.old ≡ [] }
+    ensures active { OnOk result (initializers_of translation.new ≡ active_segments (module_of form.now)) }
+    ensures passive { OnOk result (passive_data_of translation.new ≡ passive_data_from 0 (segments (module_of form.now))) }
+    ensures unprocessed { OnOk result (IsUnprocessed translation.new.memory_init) }
+    ensures same { OnOk result (translation.new ≡ record translation.old {
+      memory_init = translation.new.memory_init;
+      hidden = record translation.old.hidden { passive_data = translation.new.hidden.passive_data };
+    }) }
+{
+    let active = convert_active(alloc, env, form)?;
+    translation.memory_init = MemoryInit::Unprocessed(active);
+    add_passive(form, translation)
+}
+
+/// The active segments, in order.
+fn convert_active<'d>(
+    alloc: Global,
+    env: &dyn TypeConvert,
+    form: &Form<'d>,
+) -> Result<Vec<MemoryInitializer<'d>>, OutOfMemory>
+    requires { AreDataConvertible (knows env.now) (segments (module_of form.now)) }
+    ensures { IfOk result (λ active. map active_segment_of active.items ≡ active_segments (module_of form.now)) }
+{
+    let mut active = Vec::new(alloc);
+    for payload in &form.payloads {
+        add_all_active(alloc, env, &mut active, segments_of(payload))?;
+    }
+    Ok(active)
+}
+
+fn add_all_active<'d>(
+    alloc: Global,
+    env: &dyn TypeConvert,
+    active: &mut Vec<MemoryInitializer<'d>>,
+    segments: &[DataSegment<'d>],
+) -> Result<(), OutOfMemory>
+    requires { AreDataConvertible (knows env.now) (map segment_of segments.now) }
+    ensures { OnOk result (map active_segment_of active.new.items ≡ map active_segment_of active.old.items
+        ++ filter_map (λ s. active_of_kind s.kind s.bytes) (map segment_of segments.now)) }
+{
+    for segment in segments {
+        add_active(alloc, env, active, segment)?;
+    }
+    Ok(())
+}
+
+fn add_active<'d>(
+    alloc: Global,
+    env: &dyn TypeConvert,
+    active: &mut Vec<MemoryInitializer<'d>>,
+    segment: &DataSegment<'d>,
+) -> Result<(), OutOfMemory>
+    requires { IsDataConvertible (knows env.now) (segment_of segment.now).kind }
+    ensures { OnOk result (map active_segment_of active.new.items ≡ map active_segment_of active.old.items
+        ++ filter_map (λ s. active_of_kind s.kind s.bytes) (segment_of segment.now ∷ [])) }
+{
+    if let DataKind::Active {
+        memory_index,
+        offset,
+    } = &segment.kind
+    {
+        active.push(MemoryInitializer {
+            memory_index: MemoryIndex::from_u32(*memory_index),
+            offset: convert_offset(alloc, env, offset)?,
+            bytes: segment.bytes,
+        })?;
+    }
+    Ok(())
+}
+
+/// Notes the passive segments by their indices.
+fn add_passive<'d>(
+    form: &Form<'d>,
+    translation: &mut ModuleTranslation<'d>,
+) -> Result<(), OutOfMemory>
+    requires few { length (segments (module_of form.now)) < 2 ^ 30 }
+    ensures passive { OnOk result (passive_data_of translation.new
+        ≡ passive_data_of translation.old ++ passive_data_from 0 (segments (module_of form.now))) }
+    ensures same { SameButPassive translation.old translation.new }
+{
+    let mut next = 0;
+    for payload in &form.payloads {
+        let segments = segments_of(payload);
+        add_all_passive(translation, next, segments)?;
+        next += segments.len();
+    }
+    Ok(())
+}
+
+fn add_all_passive<'d>(
+    translation: &mut ModuleTranslation<'d>,
+    first: usize,
+    segments: &[DataSegment<'d>],
+) -> Result<(), OutOfMemory>
+    requires { first + length segments.now < 2 ^ 30 }
+    ensures passive { OnOk result (passive_data_of translation.new
+        ≡ passive_data_of translation.old ++ passive_data_from first (map segment_of segments.now)) }
+    ensures same { SameButPassive translation.old translation.new }
+{
+    for (place, segment) in segments.iter().enumerate() {
+        note_passive(translation, first + place, segment)?;
+    }
+    Ok(())
+}
+
+fn note_passive<'d>(
+    translation: &mut ModuleTranslation<'d>,
+    index: usize,
+    segment: &DataSegment<'d>,
+) -> Result<(), OutOfMemory>
+    requires { index < u32.MAX }
+    ensures passive { OnOk result (passive_data_of translation.new
+        ≡ passive_data_of translation.old ++ passive_data_from index (segment_of segment.now ∷ [])) }
+    ensures same { SameButPassive translation.old translation.new }
+{
+    if let DataKind::Passive = segment.kind {
+        translation.push_passive_data(DataIndex::new(index), segment.bytes)?;
+    }
+    Ok(())
+}

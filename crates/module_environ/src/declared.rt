@@ -1,0 +1,93 @@
+//! What indices of declared types name, while a module is translated.
+
+ghost use Rattle.std.specs.Prelude.{◌≡◌, ◌<◌, ℕ, length, Some, IsSome, IfOk};
+ghost use Rattle.wasm_spec.specs.declared.types.UnpackedIndex.TheVariants.{Module};
+ghost use Rattle.wasm_index.specs.Index.{number_of};
+ghost use Rattle.module_environ.specs.Environment.{AreHeld, look_type, interned_in};
+ghost use Rattle.module_environ.specs.Named.{IsNamed, name_in};
+
+use entity_map::{OutOfMemory, PrimaryMap};
+use module_types::{ModuleTypesBuilder, TypeLookUp, WasmparserTypeConverter};
+use std::alloc::Global;
+use wasm_convert::TypeConvert;
+use wasm_index::{ModuleInternedTypeIndex, TypeIndex};
+use wasm_spec::UnpackedIndex;
+use wasm_types::{EngineOrModuleTypeIndex, WasmHeapType};
+
+/// The interned index of each type of a record.
+#[derive(Drop)]
+pub(crate) struct RecordTypes<'a>(&'a PrimaryMap<TypeIndex, EngineOrModuleTypeIndex>);
+
+impl TypeLookUp for RecordTypes<'_> {
+    ghost callable = { λ types i. IsSome (interned_in types.0.now (number_of i)) };
+
+    ghost gives = { λ types i r. interned_in types.0.now (number_of i) ≡ Some r };
+
+    fn interned_index(&self, index: TypeIndex) -> ModuleInternedTypeIndex {
+        self.0[index].unwrap_module_type_index()
+    }
+}
+
+/// A converter of types that name declared types, each by its interned index.
+pub(crate) fn declared_converter<'a>(
+    types: &'a ModuleTypesBuilder,
+    declared: &'a PrimaryMap<TypeIndex, EngineOrModuleTypeIndex>,
+) -> WasmparserTypeConverter<'a, RecordTypes<'a>>
+    requires { AreHeld declared.now (length types.now.list.types) }
+    ensures knows { (i : ℕ) → i < length declared.now
+        → ⟦<WasmparserTypeConverter<'a, RecordTypes<'a>> as TypeConvert>⟧.knows result (Module i) }
+    ensures looks { (i : ℕ) → i < length declared.now
+        → ⟦<WasmparserTypeConverter<'a, RecordTypes<'a>> as TypeConvert>⟧.look_up result (Module i) ≡ look_type declared.now types.now (Module i) }
+{
+    let count = declared.len() as u32;
+    WasmparserTypeConverter::new(types, count, RecordTypes(declared))
+}
+
+/// The declared types of a module, each as a reference to its interned type. It holds no borrow, so that it can stand behind a trait object.
+#[derive(Drop)]
+pub(crate) struct DeclaredTypes {
+    names: Vec<WasmHeapType>,
+}
+
+impl TypeConvert for DeclaredTypes {
+    ghost knows = { λ d i. IsNamed d.names.items i };
+
+    ghost look_up = { λ d i. name_in d.names.items i };
+
+    fn lookup_heap_type(&self, index: UnpackedIndex) -> WasmHeapType {
+        match index {
+            UnpackedIndex::Module(number) => self.names[number as usize],
+            _ => unreachable!(),
+        }
+    }
+
+    fn lookup_type_index(&self, index: UnpackedIndex) -> EngineOrModuleTypeIndex {
+        match self.lookup_heap_type(index) {
+            WasmHeapType::ConcreteFunc(index)
+            | WasmHeapType::ConcreteArray(index)
+            | WasmHeapType::ConcreteStruct(index)
+            | WasmHeapType::ConcreteCont(index)
+            | WasmHeapType::ConcreteExn(index) => index,
+            _ => unreachable!(),
+        }
+    }
+}
+
+/// What each declared type is named by, whose interned indices are listed.
+pub(crate) fn declared_types(
+    alloc: Global,
+    types: &ModuleTypesBuilder,
+    indices: &PrimaryMap<TypeIndex, EngineOrModuleTypeIndex>,
+) -> Result<DeclaredTypes, OutOfMemory>
+    requires { AreHeld indices.now (length types.now.list.types) }
+    ensures knows { IfOk result (λ d. (i : ℕ) → i < length indices.now → ⟦<DeclaredTypes as TypeConvert>⟧.knows d (Module i)) }
+    ensures looks { IfOk result (λ d. (i : ℕ) → i < length indices.now
+        → ⟦<DeclaredTypes as TypeConvert>⟧.look_up d (Module i) ≡ look_type indices.now types.now (Module i)) }
+{
+    let converter = declared_converter(types, indices);
+    let mut names = Vec::with_capacity(alloc, indices.len())?;
+    for number in 0..indices.len() as u32 {
+        names.push(converter.lookup_heap_type(UnpackedIndex::Module(number)))?;
+    }
+    Ok(DeclaredTypes { names })
+}

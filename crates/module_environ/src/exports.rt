@@ -1,0 +1,111 @@
+//! What a module exports.
+
+ghost use Rattle.std.specs.Prelude.{◌≡◌, ◌+◌, ◌-◌, ◌<◌, ◌^◌, ◌++◌, ◌∷◌, [], List, length, map, All, IfOk, OnOk};
+ghost use Rattle.std.specs.List.{flat_map};
+ghost use Rattle.wasm_spec.specs.Module.{exports_of_section};
+ghost use Rattle.wasm_spec.specs.Module as plain;
+ghost use Rattle.wasm_spec.specs.Sizes.{HasFewEntries};
+ghost use Rattle.form_data.specs.Views.{export_of, module_of};
+ghost use Rattle.rule_spec.specs.Rules.{AreDistinct};
+ghost use Rattle.module_environ.specs.Entities.{entity_at, exported_entities, resolved_export};
+ghost use Rattle.module_environ.specs.Exported.{CanExport, AreEntered, exported_functions};
+ghost use Rattle.module_environ.specs.Flags.{flagged};
+ghost use Rattle.module_environ.specs.Pooled.{GrowsBy};
+
+use crate::escapes::Escaping;
+use entity_map::{Atom, EntityRef, OutOfMemory, StringPool};
+use form_data::{Export, Form};
+use form_lists::exports_of;
+use indexmap::IndexMap;
+use std::alloc::Global;
+use wasm_index::{FuncIndex, GlobalIndex, MemoryIndex, TableIndex, TagIndex};
+use wasm_spec::ExternalKind;
+use wasm_types::EntityIndex;
+
+/// What is exported, in order; the names go into the pool, and exported functions are noted.
+pub(crate) fn convert_exports(
+    alloc: Global,
+    form: &Form<'_>,
+    strings: &mut StringPool,
+    escaping: &mut Escaping,
+) -> Result<IndexMap<Atom, EntityIndex>, OutOfMemory>
+    requires few { HasFewEntries (module_of form.now) }
+    requires room { length strings.old < 2 ^ 31 }
+    requires distinct { AreDistinct (flat_map exports_of_section (module_of form.now)) }
+    requires in_range { All (CanExport escaping.old.count) (flat_map exports_of_section (module_of form.now)) }
+    ensures exports { IfOk result (λ es. map (resolved_export strings.new) es.entries
+        ≡ exported_entities (flat_map exports_of_section (module_of form.now))) }
+    ensures noted { OnOk result (escaping.new
+        ≡ flagged escaping.old (exported_functions (flat_map exports_of_section (module_of form.now)))) }
+    ensures pool { OnOk result (GrowsBy (length (flat_map exports_of_section (module_of form.now))) strings.old strings.new) }
+{
+    // An atom is a number of our own, which no name chooses: the map needs no seed.
+    let mut exports = IndexMap::new(alloc);
+    for payload in &form.payloads {
+        add_exports(&mut exports, strings, escaping, exports_of(payload))?;
+    }
+    Ok(exports)
+}
+
+/// Adds exports to those before.
+fn add_exports(
+    entries: &mut IndexMap<Atom, EntityIndex>,
+    strings: &mut StringPool,
+    escaping: &mut Escaping,
+    exports: &[Export<'_>],
+) -> Result<(), OutOfMemory>
+    requires room { length strings.old + length exports.now < u32.MAX - 1 }
+    requires in_range { All (CanExport escaping.old.count) (map export_of exports.now) }
+    ensures pool { OnOk result (GrowsBy (length (map export_of exports.now)) strings.old strings.new) }
+    ensures noted { OnOk result (escaping.new ≡ flagged escaping.old (exported_functions (map export_of exports.now))) }
+    ensures entered { OnOk result ((before : List plain.Export) → AreEntered before strings.old entries.old.entries
+        → AreDistinct (before ++ map export_of exports.now) → AreEntered (before ++ map export_of exports.now) strings.new entries.new.entries) }
+{
+    for export in exports {
+        add_export(entries, strings, export)?;
+        note_function(escaping, export)?;
+    }
+    Ok(())
+}
+
+/// Adds an export to those before.
+fn add_export(
+    entries: &mut IndexMap<Atom, EntityIndex>,
+    strings: &mut StringPool,
+    export: &Export<'_>,
+) -> Result<(), OutOfMemory>
+    requires room { length strings.old < u32.MAX - 1 }
+    requires in_range { export.now.index < u32.MAX }
+    ensures pool { OnOk result (GrowsBy 1 strings.old strings.new) }
+    ensures entered { OnOk result ((before : List plain.Export) → AreEntered before strings.old entries.old.entries
+        → AreDistinct (before ++ export_of export.now ∷ []) → AreEntered (before ++ export_of export.now ∷ []) strings.new entries.new.entries) }
+{
+    let name = strings.insert(export.name)?;
+    entries.insert(name, exported_entity(export))?;
+    Ok(())
+}
+
+/// The entity that is exported.
+fn exported_entity(export: &Export<'_>) -> EntityIndex
+    requires { export.now.index < u32.MAX }
+    ensures { result ≡ entity_at export.now.kind export.now.index }
+{
+    match export.kind {
+        ExternalKind::Func => EntityIndex::Function(FuncIndex::from_u32(export.index)),
+        ExternalKind::Table => EntityIndex::Table(TableIndex::from_u32(export.index)),
+        ExternalKind::Memory => EntityIndex::Memory(MemoryIndex::from_u32(export.index)),
+        ExternalKind::Global => EntityIndex::Global(GlobalIndex::from_u32(export.index)),
+        ExternalKind::Tag => EntityIndex::Tag(TagIndex::from_u32(export.index)),
+    }
+}
+
+/// Notes what is exported, where it is a function.
+fn note_function(escaping: &mut Escaping, export: &Export<'_>) -> Result<(), OutOfMemory>
+    requires { CanExport escaping.old.count (export_of export.now) }
+    ensures { OnOk result (escaping.new ≡ flagged escaping.old (exported_functions (export_of export.now ∷ []))) }
+{
+    match export.kind {
+        ExternalKind::Func => escaping.flag(FuncIndex::from_u32(export.index)),
+        _ => Ok(()),
+    }
+}

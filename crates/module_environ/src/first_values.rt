@@ -1,0 +1,97 @@
+//! What the cells of the defined tables hold first.
+
+ghost use Rattle.std.specs.Prelude.{◌≡◌, ◌+◌, ◌<◌, ◌++◌, [], length, map, replicate, All, IfOk, IfSome, OnOk};
+ghost use Rattle.std.specs.List.{flat_map};
+ghost use Rattle.std.specs.Option.{option_map};
+ghost use Rattle.wasm_spec.specs.Module.{tables_of_section};
+ghost use Rattle.form_data.specs.Views.{module_of, table_of};
+ghost use Rattle.wasm_convert.specs.Constants.{const_ops_of};
+ghost use Rattle.module_environ.specs.Convertible.{IsConvertible};
+ghost use Rattle.module_environ.specs.Escapes.{referred_if_any};
+ghost use Rattle.module_environ.specs.Flags.{flagged};
+ghost use Rattle.module_environ.specs.Initialisers as initial;
+
+use crate::escapes::Escaping;
+use crate::expressions::convert_expression;
+use entity_map::{OutOfMemory, PrimaryMap};
+use form_data::{Form, TableDef};
+use form_lists::tables_of;
+use std::alloc::Global;
+use wasm_convert::TypeConvert;
+use wasm_index::{DefinedTableIndex, FuncIndex};
+use wasm_module::TableInitialValue;
+
+/// The first values of the defined tables, in order; functions that they refer to are noted.
+pub(crate) fn first_values(
+    alloc: Global,
+    env: &dyn TypeConvert,
+    form: &Form<'_>,
+    escaping: &mut Escaping,
+) -> Result<PrimaryMap<DefinedTableIndex, TableInitialValue>, OutOfMemory>
+    requires convertible { All (λ t. IfSome t.init (IsConvertible (knows env.now) escaping.old.count))
+        (flat_map tables_of_section (module_of form.now)) }
+    requires few { length (flat_map tables_of_section (module_of form.now)) < u32.MAX }
+    ensures values { IfOk result (λ vs. map initial.first_value_seen vs
+        ≡ initial.first_values (look_up env.now) (flat_map tables_of_section (module_of form.now))) }
+    ensures noted { OnOk result (escaping.new
+        ≡ flagged escaping.old (flat_map (λ t. referred_if_any t.init) (flat_map tables_of_section (module_of form.now)))) }
+{
+    let mut values = PrimaryMap::new(alloc);
+    for payload in &form.payloads {
+        add_first_values(alloc, env, tables_of(payload), &mut values, escaping)?;
+    }
+    Ok(values)
+}
+
+fn add_first_values(
+    alloc: Global,
+    env: &dyn TypeConvert,
+    tables: &[TableDef],
+    values: &mut PrimaryMap<DefinedTableIndex, TableInitialValue>,
+    escaping: &mut Escaping,
+) -> Result<(), OutOfMemory>
+    requires convertible { All (λ t. IfSome t.init (IsConvertible (knows env.now) escaping.old.count)) (map table_of tables.now) }
+    requires few { length values.old + length tables.now < u32.MAX }
+    ensures values { OnOk result (map initial.first_value_seen values.new
+        ≡ map initial.first_value_seen values.old ++ initial.first_values (look_up env.now) (map table_of tables.now)) }
+    ensures noted { OnOk result (escaping.new ≡ flagged escaping.old (flat_map (λ t. referred_if_any t.init) (map table_of tables.now))) }
+{
+    for table in tables {
+        values.push(first_value(alloc, env, table, escaping)?)?;
+    }
+    Ok(())
+}
+
+fn first_value(
+    alloc: Global,
+    env: &dyn TypeConvert,
+    table: &TableDef,
+    escaping: &mut Escaping,
+) -> Result<TableInitialValue, OutOfMemory>
+    requires { IfSome (table_of table.now).init (IsConvertible (knows env.now) escaping.old.count) }
+    ensures value { IfOk result (λ v. initial.first_value_seen v ≡ option_map (const_ops_of (look_up env.now)) (table_of table.now).init) }
+    ensures noted { OnOk result (escaping.new ≡ flagged escaping.old (referred_if_any (table_of table.now).init)) }
+{
+    match &table.init {
+        None => Ok(TableInitialValue::Null),
+        Some(expression) => {
+            let value = convert_expression(alloc, env, expression, escaping)?;
+            Ok(TableInitialValue::Expr(value))
+        }
+    }
+}
+
+/// No image yet of each of so many tables.
+pub(crate) fn no_images(
+    alloc: Global,
+    count: usize,
+) -> Result<PrimaryMap<DefinedTableIndex, Vec<FuncIndex>>, OutOfMemory>
+    requires { count < u32.MAX }
+    ensures { IfOk result (λ images. map (λ image. image.items) images ≡ replicate count []) }
+{
+    let mut images = PrimaryMap::with_capacity(alloc, count)?;
+    for _ in 0..count {
+        images.push(Vec::new(alloc))?;
+    }
+    Ok(images)
+}

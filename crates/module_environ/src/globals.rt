@@ -1,0 +1,89 @@
+//! The first values of the defined globals.
+
+ghost use Rattle.std.specs.Prelude.{◌≡◌, ◌+◌, ◌<◌, ◌++◌, ◌∷◌, [], length, map, All, IfOk, OnOk};
+ghost use Rattle.std.specs.List.{flat_map};
+ghost use Rattle.wasm_spec.specs.Module.{globals_of_section};
+ghost use Rattle.form_data.specs.Views.{module_of, global_of};
+ghost use Rattle.module_environ.specs.Convertible.{IsConvertible};
+ghost use Rattle.module_environ.specs.Escapes.{referred};
+ghost use Rattle.module_environ.specs.Flags.{flagged};
+ghost use Rattle.module_environ.specs.Initialisers.{known_values, left_initialisers, value_seen, initialiser_seen};
+ghost use Rattle.module_environ.specs.FirstGlobals.{seen_globals, AddsGlobals, AddsInitialiser};
+
+use crate::escapes::Escaping;
+use crate::expressions::convert_expression;
+use entity_map::{EntityRef, OutOfMemory};
+use form_data::{Form, GlobalDef};
+use form_lists::globals_of;
+use std::alloc::Global;
+use wasm_convert::{ConstExpr, GlobalConstValue, TypeConvert};
+use wasm_index::DefinedGlobalIndex;
+
+/// How the defined globals begin: each is in one of the two lists, by its number among the defined globals, in order.
+#[derive(Drop)]
+pub(crate) struct FirstGlobals {
+    /// Those whose value is known.
+    pub known: Vec<(DefinedGlobalIndex, GlobalConstValue)>,
+    /// The others, with their initialisers.
+    pub left: Vec<(DefinedGlobalIndex, ConstExpr)>,
+}
+
+/// How the defined globals begin; functions that their initialisers refer to are noted.
+pub(crate) fn first_globals(
+    alloc: Global,
+    env: &dyn TypeConvert,
+    form: &Form<'_>,
+    escaping: &mut Escaping,
+) -> Result<FirstGlobals, OutOfMemory>
+    requires convertible { All (λ g. IsConvertible (knows env.now) escaping.old.count g.init) (flat_map globals_of_section (module_of form.now)) }
+    requires few { length (flat_map globals_of_section (module_of form.now)) < u32.MAX }
+    ensures known { IfOk result (λ g. map value_seen g.known.items ≡ known_values (flat_map globals_of_section (module_of form.now))) }
+    ensures left { IfOk result (λ g. map (initialiser_seen (λ e. e)) g.left.items
+        ≡ left_initialisers (look_up env.now) (flat_map globals_of_section (module_of form.now))) }
+    ensures noted { OnOk result (escaping.new
+        ≡ flagged escaping.old (flat_map (λ g. referred g.init) (flat_map globals_of_section (module_of form.now)))) }
+{
+    let mut first = FirstGlobals {
+        known: Vec::new(alloc),
+        left: Vec::new(alloc),
+    };
+    for payload in &form.payloads {
+        add_globals(alloc, env, globals_of(payload), &mut first, escaping)?;
+    }
+    Ok(first)
+}
+
+fn add_globals(
+    alloc: Global,
+    env: &dyn TypeConvert,
+    globals: &[GlobalDef],
+    first: &mut FirstGlobals,
+    escaping: &mut Escaping,
+) -> Result<(), OutOfMemory>
+    requires convertible { All (λ g. IsConvertible (knows env.now) escaping.old.count g.init) (map global_of globals.now) }
+    requires few { seen_globals first.old + length globals.now < u32.MAX }
+    ensures added { OnOk result (AddsGlobals (look_up env.now) first.old first.new (map global_of globals.now)) }
+    ensures noted { OnOk result (escaping.new ≡ flagged escaping.old (flat_map (λ g. referred g.init) (map global_of globals.now))) }
+{
+    for global in globals {
+        let initialiser = convert_expression(alloc, env, &global.init, escaping)?;
+        first.add(initialiser)?;
+    }
+    Ok(())
+}
+
+impl FirstGlobals {
+    // The next global begins with the value of this expression.
+    fn add(&mut self, initialiser: ConstExpr) -> Result<(), OutOfMemory>
+        requires { seen_globals self.old < u32.MAX }
+        ensures { OnOk result (AddsInitialiser self.old self.new initialiser) }
+    {
+        // Each global before is in one of the lists.
+        let index = DefinedGlobalIndex::new(self.known.len() + self.left.len());
+        match initialiser.const_eval() {
+            Some(value) => self.known.push((index, value))?,
+            None => self.left.push((index, initialiser))?,
+        }
+        Ok(())
+    }
+}

@@ -1,0 +1,155 @@
+//! What a module imports.
+
+ghost use Rattle.std.specs.Prelude.{◌≡◌, ◌+◌, ◌-◌, ◌*◌, ◌<◌, ◌≤◌, ◌^◌, ◌++◌, [], List, length, map, All, IfOk, OnOk};
+ghost use Rattle.wasm_spec.specs.Module as plain;
+ghost use Rattle.wasm_spec.specs.Sizes.{HasFewEntries};
+ghost use Rattle.form_data.specs.Views.{import_of, module_of};
+ghost use Rattle.wasm_index.specs.Index.{index_of};
+ghost use Rattle.module_environ.specs.Entities.{imported_entities, resolved_import};
+ghost use Rattle.module_environ.specs.Imported.{AreCounted, HaveIndices, AreImported, counted, next_entity};
+ghost use Rattle.module_environ.specs.Pooled.{GrowsBy, HasPooledNames};
+
+use entity_map::{EntityRef, OutOfMemory, StringPool};
+use form_data::{Export, Form, Import};
+use form_lists::{exports_of, imports_of};
+use std::alloc::Global;
+use std::hash::{DefaultHasher, Hasher};
+use wasm_index::Index;
+use wasm_module::Initializer;
+use wasm_spec::TypeRef;
+use wasm_types::EntityIndex;
+
+/// How many entities of each kind are imported.
+#[derive(Clone, Copy)]
+pub(crate) struct ImportCounts {
+    pub functions: u32,
+    pub tables: u32,
+    pub memories: u32,
+    pub globals: u32,
+    pub tags: u32,
+}
+
+impl ImportCounts {
+    /// Of no import.
+    fn none() -> Self
+        ensures { AreCounted [] result }
+    {
+        ImportCounts {
+            functions: 0,
+            tables: 0,
+            memories: 0,
+            globals: 0,
+            tags: 0,
+        }
+    }
+
+    /// Counts an import of a type, and gives the entity that it brings.
+    fn next(&mut self, ty: TypeRef) -> EntityIndex
+        requires { HaveIndices self.old }
+        ensures entity { result ≡ next_entity self.old ty }
+        ensures counts { self.new ≡ counted self.old ty }
+    {
+        match ty {
+            TypeRef::Func(_) => EntityIndex::Function(take_next(&mut self.functions)),
+            TypeRef::Table(_) => EntityIndex::Table(take_next(&mut self.tables)),
+            TypeRef::Memory(_) => EntityIndex::Memory(take_next(&mut self.memories)),
+            TypeRef::Global(_) => EntityIndex::Global(take_next(&mut self.globals)),
+            TypeRef::Tag(_) => EntityIndex::Tag(take_next(&mut self.tags)),
+        }
+    }
+}
+
+/// The index after so many, which is counted.
+fn take_next<Space>(count: &mut u32) -> Index<Space>
+    requires { count.old < u32.MAX }
+    ensures index { result ≡ index_of count.old }
+    ensures count { count.new ≡ count.old + 1 }
+{
+    let index = Index::from_u32(*count);
+    *count += 1;
+    index
+}
+
+/// The seed of the pool: a digest of all names of imports and exports.
+/// Names that a stranger chose to collide would have to be chosen for the digest that they change.
+pub(crate) fn name_seed(form: &Form<'_>) -> u64 {
+    let mut digest = DefaultHasher::new();
+    for payload in &form.payloads {
+        add_import_names(&mut digest, imports_of(payload));
+        add_export_names(&mut digest, exports_of(payload));
+    }
+    digest.finish()
+}
+
+fn add_import_names(digest: &mut DefaultHasher, imports: &[Import<'_>]) {
+    for import in imports {
+        digest.write(import.module.as_bytes());
+        digest.write(import.name.as_bytes());
+    }
+}
+
+fn add_export_names(digest: &mut DefaultHasher, exports: &[Export<'_>]) {
+    for export in exports {
+        digest.write(export.name.as_bytes());
+    }
+}
+
+/// What is imported, in order; the names go into the pool.
+pub(crate) fn convert_imports(
+    alloc: Global,
+    form: &Form<'_>,
+    strings: &mut StringPool,
+) -> Result<(Vec<Initializer>, ImportCounts), OutOfMemory>
+    requires few { HasFewEntries (module_of form.now) }
+    requires empty { strings.old ≡ [] }
+    ensures imports { IfOk result (λ r. map (resolved_import strings.new) r.0.items ≡ imported_entities (module_of form.now)) }
+    ensures counts { IfOk result (λ r. AreCounted (plain.imports (module_of form.now)) r.1) }
+    ensures pool { OnOk result (length strings.new ≤ 2 * length (plain.imports (module_of form.now))) }
+    ensures pooled { IfOk result (λ r. All (HasPooledNames strings.new) r.0.items) }
+{
+    let mut initializers = Vec::new(alloc);
+    let mut counts = ImportCounts::none();
+    for payload in &form.payloads {
+        add_imports(&mut initializers, &mut counts, strings, imports_of(payload))?;
+    }
+    Ok((initializers, counts))
+}
+
+/// Adds imports to those before.
+fn add_imports(
+    initializers: &mut Vec<Initializer>,
+    counts: &mut ImportCounts,
+    strings: &mut StringPool,
+    imports: &[Import<'_>],
+) -> Result<(), OutOfMemory>
+    requires { (before : List plain.Import) × AreImported before strings.old initializers.old.items counts.old
+        × (length before + length imports.now < 2 ^ 30) }
+    ensures { OnOk result ((before : List plain.Import) → AreImported before strings.old initializers.old.items counts.old
+        → AreImported (before ++ map import_of imports.now) strings.new initializers.new.items counts.new) }
+{
+    for import in imports {
+        let initializer = convert_import(counts, strings, import)?;
+        initializers.push(initializer)?;
+    }
+    Ok(())
+}
+
+/// An import by the atoms of its names and by its entity, which is counted.
+fn convert_import(
+    counts: &mut ImportCounts,
+    strings: &mut StringPool,
+    import: &Import<'_>,
+) -> Result<Initializer, OutOfMemory>
+    requires few { HaveIndices counts.old }
+    requires room { length strings.old < u32.MAX - 2 }
+    ensures counts { OnOk result (counts.new ≡ counted counts.old import.now.ty) }
+    ensures pool { OnOk result (GrowsBy 2 strings.old strings.new) }
+    ensures pooled { IfOk result (HasPooledNames strings.new) }
+    ensures import { IfOk result (λ i. resolved_import strings.new i
+        ≡ ((import_of import.now).space, (import_of import.now).name, next_entity counts.old import.now.ty)) }
+{
+    let name = strings.insert(import.module)?;
+    let field = strings.insert(import.name)?;
+    let index = counts.next(import.ty);
+    Ok(Initializer::Import { name, field, index })
+}

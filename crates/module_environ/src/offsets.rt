@@ -1,0 +1,22 @@
+//! Offsets of segments.
+
+ghost use Rattle.std.specs.Prelude.{◌≡◌, IfOk};
+ghost use Rattle.wasm_convert.specs.Constants.{const_ops_of};
+ghost use Rattle.module_environ.specs.Segments.{IsOffset};
+
+use entity_map::OutOfMemory;
+use std::alloc::Global;
+use wasm_convert::{ConstExpr, TypeConvert};
+
+/// An offset, converted. It is a number, so it makes no reference to a function.
+pub(crate) fn convert_offset(
+    alloc: Global,
+    env: &dyn TypeConvert,
+    offset: &form_data::ConstExpr,
+) -> Result<ConstExpr, OutOfMemory>
+    requires { IsOffset (knows env.now) offset.now.ops.items }
+    ensures { IfOk result (λ e. e ≡ const_ops_of (look_up env.now) offset.now.ops.items) }
+{
+    let (offset, _functions) = ConstExpr::from_wasmparser(alloc, env, offset)?;
+    Ok(offset)
+}

@@ -1,0 +1,144 @@
+//! The sections of a module as a translation holds them: all but types, tags and code.
+
+ghost use Rattle.std.specs.Prelude.{◌≡◌, ◌<◌, ◌^◌, [], length, map, OnOk};
+ghost use Rattle.wasm_spec.specs.Module.{imports, function_import};
+ghost use Rattle.form_types.specs.Types.{TypesData};
+ghost use Rattle.module_types.specs.Builder.{shown};
+ghost use Rattle.type_spec.specs.Interned.{taken};
+ghost use Rattle.form_types.specs.Placed.{placed_groups};
+ghost use Rattle.init_plan.specs.Views.{IsNewTranslation, passive_data_of};
+ghost use Rattle.module_environ.specs.Entities.{count_of};
+ghost use Rattle.module_environ.specs.Environment.{AreHeld};
+ghost use Rattle.module_environ.specs.Types.{declared, type_index, AreTypesOf};
+ghost use Rattle.module_environ.specs.Translation.{HasSections};
+ghost use Rattle.module_environ.specs.Filling.{module_in, IsGathered, LooksUpTypes, FillsEntities, FillsInitialisers, LeavesRest};
+
+use crate::data::add_segments;
+use crate::declared::declared_types;
+use crate::elements::{ElementSegments, convert_elements};
+use crate::escapes::Escaping;
+use crate::exports::convert_exports;
+use crate::first_values::{first_values, no_images};
+use crate::functions::{exported_signatures, function_types};
+use crate::globals::{FirstGlobals, first_globals};
+use crate::imports::{convert_imports, name_seed};
+use crate::spaces::{convert_globals, convert_memories, convert_tables, hold_collected};
+use crate::start::start_function;
+use entity_map::{OutOfMemory, PrimaryMap, StringPool};
+use form_lists::Lists;
+use init_plan::{ModuleTranslation, held_expression_laws};
+use module_types::ModuleTypesBuilder;
+use std::alloc::Global;
+use wasm_convert::TypeConvert;
+use wasm_index::TypeIndex;
+use wasm_module::Module;
+use wasm_types::EngineOrModuleTypeIndex;
+
+/// Fills an empty translation with the sections of a module, whose declared types the builder holds.
+pub(crate) fn fill_sections<'d>(
+    alloc: Global,
+    debugged: bool,
+    lists: &Lists<'_, 'd>,
+    indices: &PrimaryMap<TypeIndex, EngineOrModuleTypeIndex>,
+    types: &ModuleTypesBuilder,
+    translation: &mut ModuleTranslation<'d>,
+) -> Result<(), OutOfMemory>
+    requires gathered { IsGathered lists.now }
+    requires of_module { (t : TypesData) × AreTypesOf (module_in lists.now) t }
+    requires listed { indices.now ≡ map type_index (declared (module_in lists.now)) }
+    requires held { AreHeld indices.now (length types.now.list.types) }
+    requires built { (shown types.now).built ≡ (taken (placed_groups (module_in lists.now))).built }
+    requires new { IsNewTranslation translation.old.module.module_index translation.old }
+    ensures sections { OnOk result (HasSections debugged (module_in lists.now) translation.new) }
+    ensures imports { OnOk result
+        (translation.new.debuginfo.wasm_file.imported_func_count ≡ count_of function_import (imports (module_in lists.now))) }
+    ensures rest { OnOk result (LeavesRest translation.old translation.new) }
+{
+    let env = declared_types(alloc, types, indices)?;
+    fill_entities(alloc, &env, lists, &mut translation.module)?;
+    let mut escaping = Escaping::new(alloc, lists.spaces.functions.len())?;
+    let imported = lists.imported_functions as u32;
+    escaping.flag_range(0, imported)?;
+    fill_initialisers(alloc, &env, lists, &mut escaping, translation)?;
+    if debugged {
+        escaping.flag_range(imported, lists.spaces.functions.len() as u32 - imported)?;
+    }
+    let functions = lists.spaces.functions.as_slice();
+    translation.module.functions = function_types(alloc, functions, indices, &escaping)?;
+    translation.exported_signatures = exported_signatures(alloc, functions, indices, &escaping)?;
+    translation.module.num_escaped_funcs = escaping.len();
+    translation.start_func = start_function(lists.form);
+    translation.debuginfo.wasm_file.imported_func_count = imported;
+    Ok(())
+}
+
+/// Fills in the imports, and all index spaces but those of functions and tags.
+fn fill_entities(
+    alloc: Global,
+    env: &dyn TypeConvert,
+    lists: &Lists<'_, '_>,
+    entities: &mut Module,
+) -> Result<(), OutOfMemory>
+    requires gathered { IsGathered lists.now }
+    requires looks { LooksUpTypes (module_in lists.now) (knows env.now) (look_up env.now) }
+    ensures { OnOk result (FillsEntities (module_in lists.now) entities.old entities.new) }
+{
+    entities.strings = StringPool::seeded(alloc, name_seed(lists.form));
+    let (initializers, counts) = convert_imports(alloc, lists.form, &mut entities.strings)?;
+    entities.initializers = initializers;
+    entities.num_imported_funcs = counts.functions as usize;
+    entities.num_imported_tables = counts.tables as usize;
+    entities.num_imported_memories = counts.memories as usize;
+    entities.num_imported_globals = counts.globals as usize;
+    entities.num_imported_tags = counts.tags as usize;
+    let spaces = &lists.spaces;
+    entities.tables = convert_tables(alloc, env, spaces.table_types.as_slice())?;
+    entities.memories = convert_memories(alloc, spaces.memories.as_slice())?;
+    entities.globals = convert_globals(alloc, env, spaces.global_types.as_slice())?;
+    let (_, defined) = entities
+        .tables
+        .as_slice()
+        .split_at(entities.num_imported_tables);
+    entities.needs_gc_heap = hold_collected(defined);
+    Ok(())
+}
+
+/// Fills in what tables and globals hold first, exports, and segments.
+fn fill_initialisers<'d>(
+    alloc: Global,
+    env: &dyn TypeConvert,
+    lists: &Lists<'_, 'd>,
+    escaping: &mut Escaping,
+    translation: &mut ModuleTranslation<'d>,
+) -> Result<(), OutOfMemory>
+    requires gathered { IsGathered lists.now }
+    requires looks { LooksUpTypes (module_in lists.now) (knows env.now) (look_up env.now) }
+    requires functions { escaping.old.count ≡ length lists.now.spaces.functions.items }
+    requires few_texts { length translation.old.module.strings < 2 ^ 31 }
+    requires no_data { passive_data_of translation.old ≡ [] }
+    ensures { OnOk result (FillsInitialisers (module_in lists.now) escaping.old escaping.new translation.old translation.new) }
+{
+    let form = lists.form;
+    let values = first_values(alloc, env, form, escaping)?;
+    translation.module.table_initialization = no_images(alloc, values.len())?;
+    translation.table_initialization.initial_values = values;
+    let FirstGlobals { known, left } = first_globals(alloc, env, form, escaping)?;
+    translation.module.global_initializers = known;
+    translation.global_initializers = left;
+    let strings = &mut translation.module.strings;
+    translation.module.exports = convert_exports(alloc, form, strings, escaping)?;
+    let ElementSegments {
+        active,
+        passive,
+        kinds,
+        numbers,
+        count: _,
+    } = convert_elements(alloc, env, form, escaping)?;
+    translation.table_initialization.segments = active;
+    translation.passive_elements = passive;
+    translation.module.passive_elements = kinds;
+    translation.passive_elem_map = numbers;
+    // What says that an offset is held whole: it does nothing when it is run.
+    held_expression_laws();
+    add_segments(alloc, env, form, translation)
+}

@@ -1,0 +1,67 @@
+//! The tags of a module, each with its exception type.
+
+ghost use Rattle.std.specs.Prelude.{◌≡◌, ◌<◌, ◌+◌, ◌^◌, false, length, IsTrue, IsSome, IfOk, OnOk, OnErr, Err};
+ghost use Rattle.wasm_spec.specs.Module.{Module};
+ghost use Rattle.type_spec.specs.Interned.{composite_at};
+ghost use Rattle.module_types.specs.Builder.{shown, is_function, excepts};
+ghost use Rattle.module_environ.specs.Environment.{interned_in};
+ghost use Rattle.module_environ.specs.Entities.{tags_of};
+ghost use Rattle.module_environ.specs.Tagged.{CanTag, GainsExceptions, function_at, tag_at};
+ghost use Rattle.module_environ.specs.Types.{interned_list};
+
+use crate::error::EnvironError;
+use entity_map::{EntityRef, PrimaryMap};
+use module_types::ModuleTypesBuilder;
+use std::alloc::Global;
+use wasm_index::{TagIndex, TypeIndex};
+use wasm_types::{EngineOrModuleTypeIndex, Tag};
+
+/// The tags, each with its exception type, which the builder gains where it has none for that function type.
+pub(crate) fn convert_tags(
+    alloc: Global,
+    tags: &[u32],
+    declared: &PrimaryMap<TypeIndex, EngineOrModuleTypeIndex>,
+    types: &mut ModuleTypesBuilder,
+) -> Result<PrimaryMap<TagIndex, Tag>, EnvironError>
+    requires of_module { (m : Module) × CanTag m tags.now declared.now (shown types.old) }
+    requires few_tags { length tags.now < 2 ^ 30 }
+    requires few_types { length types.old.list.types < 2 ^ 31 }
+    ensures tags { IfOk result (λ converted. (m : Module) → CanTag m tags.now declared.now (shown types.old) → converted ≡ tags_of m) }
+    ensures built { OnOk result ((m : Module) → CanTag m tags.now declared.now (shown types.old) → (shown types.new).built ≡ interned_list m false) }
+    ensures gains { OnOk result (GainsExceptions (shown types.old) (shown types.new)) }
+    // There is room for one more type.
+    ensures few { OnOk result (length types.new.list.types < 2 ^ 31 + 2 ^ 30) }
+    ensures memory { OnErr result (result ≡ Err EnvironError.OutOfMemory) }
+{
+    let mut converted = PrimaryMap::with_capacity(alloc, tags.len())?;
+    for index in tags {
+        let tag = convert_tag(*index, declared, types)?;
+        converted.push(tag)?;
+    }
+    Ok(converted)
+}
+
+/// The tag of the function type at an index.
+fn convert_tag(
+    index: u32,
+    declared: &PrimaryMap<TypeIndex, EngineOrModuleTypeIndex>,
+    types: &mut ModuleTypesBuilder,
+) -> Result<Tag, EnvironError>
+    requires below { index < length declared.now }
+    requires few { length declared.now < 2 ^ 30 }
+    requires names { IsSome (interned_in declared.now index) }
+    requires held { function_at declared.now index < length types.old.list.types }
+    requires called { IsTrue (is_function (composite_at (shown types.old).built.types (function_at declared.now index))) }
+    requires room { length (excepts (shown types.old) (function_at declared.now index)).built.types < u32.MAX }
+    requires sound { types.old.is_poisoned ≡ false }
+    ensures tag { IfOk result (λ tag. tag ≡ tag_at (shown types.old) (function_at declared.now index)) }
+    ensures defined { OnOk result (shown types.new ≡ excepts (shown types.old) (function_at declared.now index)) }
+    ensures memory { OnErr result (result ≡ Err EnvironError.OutOfMemory) }
+{
+    let signature = declared[TypeIndex::from_u32(index)];
+    let exception = types.define_exception_type_for_tag(signature.unwrap_module_type_index())?;
+    Ok(Tag {
+        signature,
+        exception: EngineOrModuleTypeIndex::Module(exception),
+    })
+}

@@ -1,0 +1,143 @@
+//! The translation of a module: its bytes are read and checked, and each section becomes a part of the record.
+
+ghost use Rattle.std.specs.Prelude.{◌≡◌, ◌^◌, ◌≤◌, ◌&&◌, length, false, is_none, IfOk, IfErr, OnOk, Err};
+ghost use Rattle.wasm_spec.specs.Module.{Module};
+ghost use Rattle.wasm_spec.specs.Sizes.{HasFewEntries, HasShortTypes};
+ghost use Rattle.rule_spec.specs.Rules.{Keeps};
+ghost use Rattle.form_data.specs.Views.{module_of};
+ghost use Rattle.module_types.specs.Builder.{shown, new_builder};
+ghost use Rattle.init_plan.specs.Views.{IsNewTranslation};
+ghost use Rattle.module_environ.specs.Readable.{IsReadable, HasCause, SucceedsOrNoMemory};
+ghost use Rattle.replay_spec.specs.Startup.{is_empty};
+ghost use Rattle.module_environ.specs.Translated.{IsTranslated};
+ghost use Rattle.module_environ.specs.Forming.{IsFormed, FormCause};
+
+use crate::code::take_bodies;
+use crate::environment::ModuleEnvironment;
+use crate::error::EnvironError;
+use crate::sections::fill_sections;
+use crate::tags::convert_tags;
+use crate::types::intern_types;
+use form_data::Form;
+use form_reader::read_module;
+use form_rules::checked_lists;
+use form_types::{Types, Validator};
+use init_plan::ModuleTranslation;
+use module_types::ModuleTypesBuilder;
+use std::alloc::Global;
+use std::mem;
+use wasm_index::StaticModuleIndex;
+use wasm_types::Tunables;
+
+impl<'a, 'd> ModuleEnvironment<'a, 'd> {
+    /// The translation of the module that the bytes spell: each section as the record holds it, with types interned by the builder, and
+    /// nothing planned yet.
+    ///
+    /// # Errors
+    /// `TooLarge` for 2^30 bytes or more; `Malformed` and `Unsupported` by what the bytes spell; `Invalid` where the module breaks a listed
+    /// rule; `Poisoned` where the builder was poisoned; `OutOfMemory`, after which the builder may be.
+    pub fn translate(
+        self,
+        alloc: Global,
+        bytes: &'d [u8],
+    ) -> Result<ModuleTranslation<'d>, EnvironError>
+        requires types { self.types.now.is_poisoned ≡ false → shown self.types.now ≡ new_builder self.validator.now }
+
+        // The bytes spell a module that keeps the listed rules, and the translation is that of the module.
+        ensures translated { IfOk result (λ t.
+            IsTranslated self.entry.tunables.now self.entry.module_index self.entry.validator.now bytes.now t self.exit.1.1.0.now) }
+
+        // Each refusal has its cause; length goes first.
+        ensures cause { IfErr result (HasCause bytes.now self.entry.types.now.is_poisoned) }
+        ensures too_long { 2 ^ 30 ≤ length bytes.now → result ≡ Err EnvironError.TooLarge }
+
+        // A module that keeps the rules has a translation, unless memory runs out.
+        ensures complete { (m : Module) → IsReadable bytes.now m → Keeps m → self.entry.types.now.is_poisoned ≡ false → SucceedsOrNoMemory result }
+    {
+        let ModuleEnvironment {
+            tunables,
+            validator,
+            types,
+            module_index,
+            wasm: _,
+        } = self;
+        translation_of(alloc, tunables, validator, types, module_index, bytes)
+    }
+}
+
+/// The translation of the module that the bytes spell.
+fn translation_of<'d>(
+    alloc: Global,
+    tunables: &Tunables,
+    validator: &Validator,
+    types: &mut ModuleTypesBuilder,
+    module_index: StaticModuleIndex,
+    bytes: &'d [u8],
+) -> Result<ModuleTranslation<'d>, EnvironError>
+    requires types { types.old.is_poisoned ≡ false → shown types.old ≡ new_builder validator.now }
+    ensures translated { IfOk result (λ t. IsTranslated tunables.now module_index validator.now bytes.now t types.new) }
+    ensures cause { IfErr result (HasCause bytes.now types.old.is_poisoned) }
+    ensures too_long { 2 ^ 30 ≤ length bytes.now → result ≡ Err EnvironError.TooLarge }
+    ensures complete { (m : Module) → IsReadable bytes.now m → Keeps m → types.old.is_poisoned ≡ false → SucceedsOrNoMemory result }
+{
+    let form = read_module(alloc, bytes)?;
+    let mut translation = ModuleTranslation::new(alloc, module_index)?;
+    translate_form(alloc, tunables, validator, types, &form, &mut translation)?;
+    translation.wasm = bytes;
+    let (bodies, place) = take_bodies(alloc, form)?;
+    // The list of before, which is empty, is let go as a value of its own.
+    let _none = mem::replace(&mut translation.function_body_inputs, bodies);
+    translation.debuginfo.wasm_file.code_section_offset = place;
+    Ok(translation)
+}
+
+/// Fills an empty translation with all of a module but its bytes and its code.
+fn translate_form<'d>(
+    alloc: Global,
+    tunables: &Tunables,
+    validator: &Validator,
+    types: &mut ModuleTypesBuilder,
+    form: &Form<'d>,
+    translation: &mut ModuleTranslation<'d>,
+) -> Result<(), EnvironError>
+    requires few { HasFewEntries (module_of form.now) }
+    requires short { HasShortTypes (module_of form.now) }
+    requires new { IsNewTranslation translation.old.module.module_index translation.old }
+    requires types { types.old.is_poisoned ≡ false → shown types.old ≡ new_builder validator.now }
+    ensures formed { OnOk result
+        (IsFormed tunables.now.debug_guest validator.now (module_of form.now) translation.old translation.new types.new) }
+    ensures cause { IfErr result (FormCause (module_of form.now) types.old.is_poisoned) }
+    ensures complete { Keeps (module_of form.now) → types.old.is_poisoned ≡ false → SucceedsOrNoMemory result }
+{
+    let lists = checked_lists(alloc, form)?;
+    if types.is_poisoned() {
+        return Err(EnvironError::Poisoned);
+    }
+    let ids = Types::build(alloc, validator, form)?;
+    let indices = intern_types(alloc, &ids, types)?;
+    fill_sections(
+        alloc,
+        tunables.debug_guest,
+        &lists,
+        &indices,
+        types,
+        translation,
+    )?;
+    translation.module.tags = convert_tags(alloc, lists.spaces.tags.as_slice(), &indices, types)?;
+    translation.module.types = indices;
+    translation.set_types(ids);
+    if !leaves_nothing(translation) {
+        translation.require_startup_func(types)?;
+    }
+    Ok(())
+}
+
+/// Whether no global's initialiser is left, and there is no start function and no passive element segment.
+fn leaves_nothing(translation: &ModuleTranslation<'_>) -> bool
+    ensures { let t = translation.now in
+        result ≡ (is_empty t.global_initializers.items && is_none t.start_func && is_empty t.passive_elements) }
+{
+    translation.global_initializers.is_empty()
+        && translation.start_func.is_none()
+        && translation.passive_elements.is_empty()
+}

@@ -1,0 +1,8 @@
+use Rattle.std.proofs.Common.{◌≡◌, ◌++◌}
+use Rattle.std.specs.List.{flat_map, range_with_len}
+use Rattle.module_generator.specs.Generated.{function_type}
+use Rattle.module_generator.proofs.sections.type_section.Given as goal
+
+-- the elements so far are written
+abbrev pub invariant-loop-k : goal.invariant-loop-k
+invariant-loop-k l = l.contents.items ≡ l.initial.contents.items ++ flat_map function_type (range_with_len 0 l.k)

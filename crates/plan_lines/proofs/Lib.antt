@@ -1,0 +1,4 @@
+pub mod Hexadecimal
+pub mod Plain
+pub mod Trampolines
+pub mod Written

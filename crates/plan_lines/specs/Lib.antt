@@ -1,0 +1,14 @@
+pub mod ContextLines
+pub mod Expressions
+pub mod GlobalLines
+pub mod HintLines
+pub mod LayoutLines
+pub mod MemoryLines
+pub mod ModuleLines
+pub mod NameLines
+pub mod Numbers
+pub mod Quoted
+pub mod SegmentLines
+pub mod TableLines
+pub mod TypeLines
+pub mod TypeListLines

@@ -1,0 +1,53 @@
+//! Names between quotes.
+
+ghost use Rattle.std.specs.Prelude.{◌≡◌, ◌↔◌, ◌++◌, All, IsTrue, OnOk};
+ghost use Rattle.plan_lines.specs.Quoted.{is_plain, quoted_byte, quoted_bytes, quoted_text};
+
+use crate::text::Text;
+use entity_map::OutOfMemory;
+
+// Whether a byte stands for itself.
+fn is_plain(byte: u8) -> bool
+    ensures { result ≡ is_plain byte }
+{
+    (0x20..=0x7E).contains(&byte) && byte != b'"' && byte != b'\\'
+}
+
+fn are_plain(bytes: &[u8]) -> bool
+    ensures { IsTrue result ↔ All (λ byte. IsTrue (is_plain byte)) bytes.now }
+{
+    bytes.iter().all(|byte| is_plain(*byte))
+}
+
+fn append_byte(text: &mut Text, byte: u8) -> Result<(), OutOfMemory>
+    ensures { OnOk result (text.new ≡ text.old ++ quoted_byte byte) }
+{
+    if is_plain(byte) {
+        return text.push_byte(byte);
+    }
+    text.push_byte(b'\\')?;
+    text.push_hexadecimal(u128::from(byte), 2)
+}
+
+#[tactic(auto, using(crate::proofs::Plain::plain_bytes))]
+fn append_bytes(text: &mut Text, words: &str) -> Result<(), OutOfMemory>
+    ensures { OnOk result (text.new ≡ text.old ++ quoted_bytes words.now) }
+{
+    let bytes = words.as_bytes();
+    if are_plain(bytes) {
+        return text.push_str(words);
+    }
+    for byte in bytes {
+        append_byte(text, *byte)?;
+    }
+    Ok(())
+}
+
+/// Appends a name between quotes. A byte that does not stand for itself is a backslash and its two digits.
+pub fn append_quoted(text: &mut Text, words: &str) -> Result<(), OutOfMemory>
+    ensures { OnOk result (text.new ≡ text.old ++ quoted_text words.now) }
+{
+    text.push_byte(b'"')?;
+    append_bytes(text, words)?;
+    text.push_byte(b'"')
+}

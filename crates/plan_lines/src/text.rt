@@ -1,0 +1,110 @@
+//! A text that grows in memory.
+
+ghost use Rattle.std.specs.Prelude.{◌≡◌, ◌<◌, ◌≤◌, ◌++◌, ◌∷◌, [], false, OnOk};
+ghost use Rattle.std.specs.Fmt.{digit_glyph, AppendsText};
+ghost use Rattle.plan_lines.specs.Expressions.{hexadecimal};
+
+use entity_map::OutOfMemory;
+use itoa::{Buffer, Integer};
+use std::alloc::Global;
+use std::fmt::{self, Display, Write};
+use std::marker::Model;
+
+/// Bytes that are written from the first to the last. After a failure the text may end anywhere.
+#[derive(Drop)]
+pub struct Text {
+    bytes: Vec<u8>,
+}
+
+impl Model for Text {
+    ghost use Rattle.std.specs.Prelude.{ℕ, List};
+
+    ghost Value = { List ℕ };
+
+    ghost view = { λ t. t.bytes.items };
+}
+
+impl Text {
+    /// The empty text.
+    pub fn new(alloc: Global) -> Self
+        ensures { result ≡ [] }
+    {
+        Text {
+            bytes: Vec::new(alloc),
+        }
+    }
+
+    /// The bytes of the text.
+    pub fn into_bytes(self) -> Vec<u8>
+        ensures { result.items ≡ self }
+    {
+        self.bytes
+    }
+
+    /// Appends words.
+    #[inline]
+    pub fn push_str(&mut self, words: &str) -> Result<(), OutOfMemory>
+        ensures { OnOk result (self.new ≡ self.old ++ words.now) }
+    {
+        self.bytes.extend_from_slice(words.as_bytes())?;
+        Ok(())
+    }
+
+    /// Appends one byte.
+    #[inline]
+    pub fn push_byte(&mut self, byte: u8) -> Result<(), OutOfMemory>
+        ensures { OnOk result (self.new ≡ self.old ++ byte ∷ []) }
+    {
+        self.bytes.push(byte)?;
+        Ok(())
+    }
+
+    /// Appends a number in decimal, with a minus sign where it is below 0.
+    #[inline]
+    pub fn push_number<I: Integer>(&mut self, number: I) -> Result<(), OutOfMemory>
+        ensures { OnOk result (self.new ≡ self.old ++ I.text number) }
+    {
+        let mut buffer = Buffer::new();
+        self.push_str(buffer.format(number))
+    }
+
+    /// Appends the last digits of a number in base 16, so many of them, with zeros in front where it has fewer.
+    pub fn push_hexadecimal(&mut self, number: u128, digits: usize) -> Result<(), OutOfMemory>
+        requires { digits ≤ 32 }
+        ensures { OnOk result (self.new ≡ self.old ++ hexadecimal digits number) }
+    {
+        for place in (0..digits).rev() {
+            let digit = (number >> (4 * place)) % 16;
+            self.push_byte(hexadecimal_digit(digit as u8))?;
+        }
+        Ok(())
+    }
+
+    /// Appends what a value displays.
+    #[inline]
+    pub fn push_display<D: Display + Drop>(&mut self, value: D) -> Result<(), OutOfMemory>
+        ensures { OnOk result (AppendsText self.old self.new (D.output value)) }
+    {
+        write!(self, "{value}").map_err(|_| OutOfMemory)
+    }
+}
+
+/// A write fails only for want of memory.
+impl Write for Text {
+    ghost write_str_gives = { λ text words longer. longer ≡ text ++ words };
+
+    fn write_str(&mut self, words: &str) -> fmt::Result {
+        self.push_str(words).map_err(|_| fmt::Error)
+    }
+}
+
+fn hexadecimal_digit(digit: u8) -> u8
+    requires { digit < 16 }
+    ensures { result ≡ digit_glyph false digit }
+{
+    if digit < 10 {
+        b'0' + digit
+    } else {
+        b'a' + (digit - 10)
+    }
+}

@@ -1,7 +1,0 @@
-use Rattle.std.proofs.Common.{◌≡◌, ◌++◌}
-use Rattle.plan_text.specs.Expressions.{hexadecimal}
-use Rattle.plan_text.proofs.text.Text.push_hexadecimal.Given as goal
-
--- with the digits that are left, the text becomes the whole
-abbrev pub invariant-loop-place : goal.invariant-loop-place
-invariant-loop-place l = l.self ++ hexadecimal l.place l.number ≡ l.initial.self ++ hexadecimal l.digits l.number
