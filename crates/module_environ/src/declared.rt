@@ -2,7 +2,9 @@
 
 ghost use Rattle.std.specs.Prelude.{◌≡◌, ◌<◌, ℕ, length, Some, IsSome, IfOk};
 ghost use Rattle.wasm_spec.specs.declared.types.UnpackedIndex.TheVariants.{Module};
+ghost use Rattle.wasm_spec.specs.TypeData.{Concrete};
 ghost use Rattle.wasm_index.specs.Index.{number_of};
+ghost use Rattle.wasm_types.specs.ValueViews.{heap_of};
 ghost use Rattle.module_environ.specs.Environment.{AreHeld, look_type, interned_in};
 ghost use Rattle.module_environ.specs.Named.{IsNamed, name_in};
 
@@ -55,21 +57,37 @@ impl TypeConvert for DeclaredTypes {
     ghost look_up = { λ d i. name_in d.names.items i };
 
     fn lookup_heap_type(&self, index: UnpackedIndex) -> WasmHeapType {
-        match index {
-            UnpackedIndex::Module(number) => self.names[number as usize],
-            _ => unreachable!(),
-        }
+        named_heap_type(&self.names, index)
     }
 
     fn lookup_type_index(&self, index: UnpackedIndex) -> EngineOrModuleTypeIndex {
-        match self.lookup_heap_type(index) {
-            WasmHeapType::ConcreteFunc(index)
-            | WasmHeapType::ConcreteArray(index)
-            | WasmHeapType::ConcreteStruct(index)
-            | WasmHeapType::ConcreteCont(index)
-            | WasmHeapType::ConcreteExn(index) => index,
-            _ => unreachable!(),
-        }
+        named_index(&self.names, index)
+    }
+}
+
+/// The reference by which a declared type is named.
+pub(crate) fn named_heap_type(names: &[WasmHeapType], index: UnpackedIndex) -> WasmHeapType
+    requires { IsNamed names.now index }
+    ensures { heap_of result ≡ Concrete (name_in names.now index) }
+{
+    match index {
+        UnpackedIndex::Module(number) => names[number as usize],
+        _ => unreachable!(),
+    }
+}
+
+/// The interned index of a declared type.
+pub(crate) fn named_index(names: &[WasmHeapType], index: UnpackedIndex) -> EngineOrModuleTypeIndex
+    requires { IsNamed names.now index }
+    ensures { result ≡ (name_in names.now index).index }
+{
+    match named_heap_type(names, index) {
+        WasmHeapType::ConcreteFunc(index)
+        | WasmHeapType::ConcreteArray(index)
+        | WasmHeapType::ConcreteStruct(index)
+        | WasmHeapType::ConcreteCont(index)
+        | WasmHeapType::ConcreteExn(index) => index,
+        _ => unreachable!(),
     }
 }
 

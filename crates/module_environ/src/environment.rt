@@ -1,9 +1,10 @@
 //! What a module is translated with.
 
-ghost use Rattle.std.specs.Prelude.{◌≡◌, [], false, IfOk};
+ghost use Rattle.std.specs.Prelude.{◌≡◌, false, IfOk};
 ghost use Rattle.module_environ.specs.Named.{IsNamed, name_in};
 ghost use Rattle.module_types.specs.Builder.{shown, new_builder};
 
+use crate::declared::{named_heap_type, named_index};
 use entity_map::OutOfMemory;
 use form_types::Validator;
 use module_types::ModuleTypesBuilder;
@@ -20,8 +21,8 @@ pub struct ModuleEnvironment<'a, 'd> {
     pub(crate) validator: &'a Validator,
     pub(crate) types: &'a mut ModuleTypesBuilder,
     pub(crate) module_index: StaticModuleIndex,
-    /// The bytes that were translated: none yet.
-    pub(crate) wasm: &'d [u8],
+    /// What each type of the record is named by: the record has none yet.
+    pub(crate) declared: &'d [WasmHeapType],
 }
 
 impl<'a, 'd> ModuleEnvironment<'a, 'd> {
@@ -46,22 +47,22 @@ impl<'a, 'd> ModuleEnvironment<'a, 'd> {
             validator,
             types,
             module_index,
-            wasm: &[],
+            declared: &[],
         })
     }
 }
 
-/// An environment knows the types of its record, which has none before the translation, and the translation consumes it.
+/// An environment knows the types of its record by their indices, and no type by its id. A new one knows none.
 impl TypeConvert for ModuleEnvironment<'_, '_> {
-    ghost knows = { λ e i. IsNamed [] i };
+    ghost knows = { λ e i. IsNamed e.declared.now i };
 
-    ghost look_up = { λ e i. name_in [] i };
+    ghost look_up = { λ e i. name_in e.declared.now i };
 
-    fn lookup_heap_type(&self, _index: UnpackedIndex) -> WasmHeapType {
-        unreachable!()
+    fn lookup_heap_type(&self, index: UnpackedIndex) -> WasmHeapType {
+        named_heap_type(self.declared, index)
     }
 
-    fn lookup_type_index(&self, _index: UnpackedIndex) -> EngineOrModuleTypeIndex {
-        unreachable!()
+    fn lookup_type_index(&self, index: UnpackedIndex) -> EngineOrModuleTypeIndex {
+        named_index(self.declared, index)
     }
 }

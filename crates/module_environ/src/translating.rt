@@ -59,7 +59,7 @@ impl<'a, 'd> ModuleEnvironment<'a, 'd> {
             validator,
             types,
             module_index,
-            wasm: _,
+            declared: _,
         } = self;
         translation_of(alloc, tunables, validator, types, module_index, bytes)
     }
