@@ -21,7 +21,6 @@ name_of_rule rule.L10 = codes "L10"
 
 abbrev pub name_of_spelling : What → List ℕ
 name_of_spelling what.Component = codes "component"
-name_of_spelling what.Section = codes "section"
 name_of_spelling what.Shared = codes "shared"
 name_of_spelling what.Supertypes = codes "supertypes"
 name_of_spelling what.Operator = codes "operator"

@@ -44,7 +44,6 @@ fn what_line(what: What) -> &'static str
 {
     match what {
         What::Component => "refused unsupported component\n",
-        What::Section => "refused unsupported section\n",
         What::Shared => "refused unsupported shared\n",
         What::Supertypes => "refused unsupported supertypes\n",
         What::Operator => "refused unsupported operator\n",

@@ -23,7 +23,6 @@ fn each_refusal_has_its_line(rt: HostRuntime) {
     }
     for (what, line) in [
         (What::Component, "refused unsupported component\n"),
-        (What::Section, "refused unsupported section\n"),
         (What::Shared, "refused unsupported shared\n"),
         (What::Supertypes, "refused unsupported supertypes\n"),
         (What::Operator, "refused unsupported operator\n"),
