@@ -1,6 +1,6 @@
 //! The trait of a collector that lays out objects.
 
-ghost use Rattle.std.specs.Prelude.{◌≡◌, ◌+◌, ◌^◌, ◌<◌, ◌≤◌, ℕ, IfOk, OnOk, Err, false, option_map};
+ghost use Rattle.std.specs.Prelude.{◌≡◌, ◌+◌, ◌^◌, ◌<◌, ◌≤◌, ℕ, IfOk, OnOk, Err, option_map};
 ghost use Rattle.gc_layout.specs.Arrays.{array_layout_of};
 ghost use Rattle.gc_layout.specs.Fields.{struct_layout_of, exn_layout_of};
 ghost use Rattle.gc_layout.specs.Objects.{object_layout, gc_layout_of, fixed_size};
@@ -33,8 +33,8 @@ pub trait GcTypeLayouts {
     fn exception_tag_defined_offset(&self) -> u32
         ensures { result ≡ header_size + 4 };
 
-    /// The layout of the objects of a type that threads do not share; None exactly for function types and continuation types,
-    /// which have no objects in the heap.
+    /// The layout of the objects of a type, shared or not; None exactly for function types and continuation types, which have no objects
+    /// in the heap.
     ///
     /// # Errors
     /// `OffsetOverflow` exactly where the size passes `u32::MAX`, unless memory ends first.
@@ -43,7 +43,6 @@ pub trait GcTypeLayouts {
         alloc: Global,
         ty: &WasmCompositeType,
     ) -> Result<Option<GcLayout>, LayoutError>
-        requires { ty.now.shared ≡ false }
         ensures exact { IfOk result (λ layout. option_map object_layout layout ≡ gc_layout_of header_size ty.now.inner) }
         ensures fits { OnOk result (fixed_size (gc_layout_of header_size ty.now.inner) ≤ 4294967295) }
         ensures overflow { result ≡ Err LayoutError.OffsetOverflow → 4294967295 < fixed_size (gc_layout_of header_size ty.now.inner) }

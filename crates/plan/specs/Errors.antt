@@ -1,25 +1,27 @@
 -- What each layer's error is to the whole.
-use Rattle.form_reader.specs.declared.error.ReadError.{ReadError}
-use Rattle.form_reader.specs.declared.error.ReadError.TheVariants as read
-use Rattle.form_rules.specs.declared.error.CheckError.{CheckError}
-use Rattle.form_rules.specs.declared.error.CheckError.TheVariants as checks
+use Rattle.module_environ.specs.declared.error.EnvironError.{EnvironError}
+use Rattle.module_environ.specs.declared.error.EnvironError.TheVariants as environ
 use Rattle.init_plan.specs.declared.error.PlanError.{PlanError}
 use Rattle.init_plan.specs.declared.error.PlanError.TheVariants as plan
+use Rattle.gc_layout.specs.declared.error.LayoutError.{LayoutError}
+use Rattle.gc_layout.specs.declared.error.LayoutError.TheVariants as layout
 use Rattle.plan.specs.declared.error.TranslateError.{TranslateError}
 use Rattle.plan.specs.declared.error.TranslateError.TheVariants as refusal
 
-abbrev pub error_of_read : ReadError → TranslateError
-error_of_read read.Malformed = refusal.Malformed
-error_of_read (read.Unsupported what) = refusal.Unsupported what
-error_of_read read.TooLarge = refusal.TooLarge
-error_of_read read.OutOfMemory = refusal.OutOfMemory
-
-abbrev pub error_of_check : CheckError → TranslateError
-error_of_check (checks.Invalid rule) = refusal.Invalid rule
-error_of_check checks.OutOfMemory = refusal.OutOfMemory
+-- a builder is poisoned by want of memory alone
+abbrev pub error_of_translation : EnvironError → TranslateError
+error_of_translation environ.Malformed = refusal.Malformed
+error_of_translation (environ.Invalid rule) = refusal.Invalid rule
+error_of_translation (environ.Unsupported what) = refusal.Unsupported what
+error_of_translation environ.TooLarge = refusal.TooLarge
+error_of_translation environ.OutOfMemory = refusal.OutOfMemory
+error_of_translation environ.Poisoned = refusal.OutOfMemory
 
 abbrev pub error_of_plan : PlanError → TranslateError
 error_of_plan plan.TooLarge = refusal.TooLarge
 error_of_plan plan.OutOfMemory = refusal.OutOfMemory
--- a builder is poisoned by want of memory alone
 error_of_plan plan.Poisoned = refusal.OutOfMemory
+
+abbrev pub error_of_layout : LayoutError → TranslateError
+error_of_layout layout.OffsetOverflow = refusal.OffsetOverflow
+error_of_layout layout.OutOfMemory = refusal.OutOfMemory

@@ -1,13 +1,14 @@
 //! Why a module has no plan.
 
 ghost use Rattle.std.specs.Prelude.{◌≡◌};
-ghost use Rattle.plan.specs.Errors.{error_of_read, error_of_check, error_of_plan};
+ghost use Rattle.plan.specs.Errors.{error_of_translation, error_of_plan, error_of_layout};
 ghost use Rattle.plan.specs.declared.error.TranslateError.TheVariants as refusal;
 
-use form_reader::ReadError;
-use form_rules::CheckError;
+use gc_layout::LayoutError;
 use init_plan::PlanError;
+use module_environ::EnvironError;
 use rule_spec::Rule;
+use vm_offsets::OffsetOverflow;
 use wasm_spec::What;
 
 /// Why bytes have no plan.
@@ -17,7 +18,7 @@ pub enum TranslateError {
     Malformed,
     /// The module breaks a listed rule.
     Invalid(Rule),
-    /// Reading comes to a spelling that is not taken, or the module holds what is not planned yet.
+    /// Reading comes to a spelling that is not taken.
     Unsupported(What),
     /// The input has 2^30 bytes or more, or the runtime data pass 4294967295 bytes.
     TooLarge,
@@ -27,26 +28,17 @@ pub enum TranslateError {
     OutOfMemory,
 }
 
-impl From<ReadError> for TranslateError {
-    ghost from_gives = { λ e error. error ≡ error_of_read e };
+impl From<EnvironError> for TranslateError {
+    ghost from_gives = { λ e error. error ≡ error_of_translation e };
 
-    fn from(e: ReadError) -> TranslateError {
+    fn from(e: EnvironError) -> TranslateError {
         match e {
-            ReadError::Malformed => TranslateError::Malformed,
-            ReadError::Unsupported(what) => TranslateError::Unsupported(what),
-            ReadError::TooLarge => TranslateError::TooLarge,
-            ReadError::OutOfMemory => TranslateError::OutOfMemory,
-        }
-    }
-}
-
-impl From<CheckError> for TranslateError {
-    ghost from_gives = { λ e error. error ≡ error_of_check e };
-
-    fn from(e: CheckError) -> TranslateError {
-        match e {
-            CheckError::Invalid(rule) => TranslateError::Invalid(rule),
-            CheckError::OutOfMemory => TranslateError::OutOfMemory,
+            EnvironError::Malformed => TranslateError::Malformed,
+            EnvironError::Invalid(rule) => TranslateError::Invalid(rule),
+            EnvironError::Unsupported(what) => TranslateError::Unsupported(what),
+            EnvironError::TooLarge => TranslateError::TooLarge,
+            // A builder is poisoned by want of memory alone.
+            EnvironError::OutOfMemory | EnvironError::Poisoned => TranslateError::OutOfMemory,
         }
     }
 }
@@ -57,9 +49,27 @@ impl From<PlanError> for TranslateError {
     fn from(e: PlanError) -> TranslateError {
         match e {
             PlanError::TooLarge => TranslateError::TooLarge,
-            // A builder is poisoned by want of memory alone.
             PlanError::OutOfMemory | PlanError::Poisoned => TranslateError::OutOfMemory,
         }
+    }
+}
+
+impl From<LayoutError> for TranslateError {
+    ghost from_gives = { λ e error. error ≡ error_of_layout e };
+
+    fn from(e: LayoutError) -> TranslateError {
+        match e {
+            LayoutError::OffsetOverflow => TranslateError::OffsetOverflow,
+            LayoutError::OutOfMemory => TranslateError::OutOfMemory,
+        }
+    }
+}
+
+impl From<OffsetOverflow> for TranslateError {
+    ghost from_gives = { λ _ error. error ≡ refusal.OffsetOverflow };
+
+    fn from(_e: OffsetOverflow) -> TranslateError {
+        TranslateError::OffsetOverflow
     }
 }
 
