@@ -3,10 +3,12 @@
 
 mod lines;
 mod refusal;
+mod summary;
 #[cfg(test)]
 mod tests;
 mod worked;
 
 pub use lines::plan_text;
 pub use refusal::refusal_line;
+pub use summary::summary_text;
 pub use worked::worked_refusals;

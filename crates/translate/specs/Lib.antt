@@ -1,6 +1,6 @@
-pub mod Stage
+pub mod Options
+pub mod Contexts
 pub mod Valid
-pub mod Commands
-pub mod Filled
+pub mod Initialised
 pub mod Planned
 pub mod Runs

@@ -1,89 +1,77 @@
 -- What a plan says of a module, and why there is none.
-use Rattle.std.specs.Prelude.{◌≡◌, ◌⊎◌, ℕ, ◌^◌, ◌≤◌, List, ◌++◌, length, map, Option, None, Some, Result, Ok, Err, slice_get}
-use Rattle.std.specs.List.{filter_map}
-use Rattle.wasm_spec.specs.Module.{DataKind, Passive, Active, Segment, Module, memories, imported_memories, segments, data_size}
+use Rattle.std.specs.Prelude.{◌≡◌, ◌⊎◌, ◌↔◌, ℕ, ◌^◌, ◌<◌, ◌≤◌, List, length, map, sum_by, Option, None, option_map, Result, Ok, Err}
+use Rattle.wasm_spec.specs.Module.{Module, types}
 use Rattle.wasm_spec.specs.Grammar.{Spells, Stops}
 use Rattle.wasm_spec.specs.declared.operators.What.{What}
-use Rattle.wasm_spec.specs.declared.operators.What.TheVariants as what
-use Rattle.rule_spec.specs.Lists.{lists_of_module}
-use Rattle.rule_spec.specs.Rules.{Kept, KeepsBefore}
-use Rattle.wasm_index.specs.Index.{number_of}
-use Rattle.wasm_types.specs.Memories.{memory_of}
-use Rattle.replay_spec.specs.Data.{active_segments}
-use Rattle.replay_spec.specs.Plan.{MemoryPlan, Agrees, kept_segments, planned_from, ranges_from, FindsPassive}
-use Rattle.init_plan.specs.Views.{memory_plan_of, ranges_of, IsSegmented, IsProcessed}
+use Rattle.type_spec.specs.Equality.{SameType}
+use Rattle.type_spec.specs.Taken.{SameLists}
+use Rattle.rule_spec.specs.Rules.{Keeps}
+use Rattle.replay_spec.specs.Plan.{MemoryPlan}
+use Rattle.form_types.specs.Placed.{placed_groups}
+use Rattle.wasm_types.specs.declared.func.WasmFuncType.{WasmFuncType}
+use Rattle.module_types.specs.Views.{TypeIndex}
+use Rattle.module_types.specs.Held.{built_of}
+use Rattle.init_plan.specs.Views.{memory_plan_of}
+use Rattle.init_plan.specs.Tables.{plan_of_tables}
+use Rattle.gc_layout.specs.Objects.{object_layout, gc_layout_of}
+use Rattle.vm_offsets.specs.Layouts.{fields_of}
+use Rattle.module_environ.specs.Readable.{IsReadable, Breaks}
+use Rattle.module_environ.specs.Types.{interned_list, interned_at}
 use Rattle.plan.specs.declared.plan.Plan.{Plan}
 use Rattle.plan.specs.declared.error.TranslateError.{TranslateError}
 use Rattle.plan.specs.declared.error.TranslateError.TheVariants as refusal
-use Rattle.translate.specs.Stage.{OnlyPlannedSections, OnlyConstantOffsets}
-use Rattle.translate.specs.Valid.{IsReadable, CanBePlanned}
+use Rattle.translate.specs.Options.{InitOptions, Options, header_size, startup_by, runs, PlansMemories}
+use Rattle.translate.specs.Contexts.{context_of, HasSizes, Overflows}
+use Rattle.translate.specs.Initialised.{IsInitialised}
 
--- the bytes of a passive segment
-abbrev pub passive_bytes_of : DataKind → List ℕ → Option (List ℕ)
-passive_bytes_of Passive bytes = Some bytes
-passive_bytes_of (Active memory offset) bytes = None
-
--- the runtime data of a module: the bytes of its active segments, and then those of its passive ones
-abbrev pub runtime_data : Module → List (List ℕ)
-runtime_data m = map (λ s. s.bytes) (active_segments m) ++ filter_map (λ s. passive_bytes_of s.kind s.bytes) (segments m)
-
--- a passive segment is found with its bytes, and nothing else is found
-abbrev pub Finds : MemoryPlan → Option ℕ → Option Segment → Type 0
-Finds plan found None = found ≡ None
-Finds plan found (Some s) = FindsPassive plan found s.kind s.bytes
+-- a list of types tells nothing of where mapped types were met
+abbrev pub nothing_met : WasmFuncType → Option TypeIndex
+nothing_met f = None
 
 -- the plan is that of the module
-pub record IsPlanOf (bytes : List ℕ) (m : Module) (plan : Plan) : Type 0 where
-  -- over any imports, it leaves in each memory what the module's data segments leave, and traps where they trap
-  pub agrees : Agrees m (memory_plan_of plan.translation)
-  -- no memory begins as an image, and the active segments are left to be written, in order
-  pub segmented : IsSegmented plan.translation.module.memory_initialization
-  pub is_processed : IsProcessed plan.translation.memory_init
-  pub left : kept_segments (memory_plan_of plan.translation) ≡ active_segments m
-  -- entry by entry: the first is written from runtime data 0, the next from 1, and so on
-  pub processed : (memory_plan_of plan.translation).segments ≡ planned_from 0 (active_segments m)
-  pub memories : plan.translation.module.memories ≡ map memory_of (memories m)
-  pub imports : plan.translation.module.num_imported_memories ≡ length (imported_memories m)
-  pub runtime : (memory_plan_of plan.translation).runtime ≡ runtime_data m
-  -- the ranges of runtime data stand end to end from 0
-  pub ranges : ranges_of plan.translation.module ≡ ranges_from 0 (map length (runtime_data m))
-  pub passive : (index : ℕ) → Finds (memory_plan_of plan.translation) ((memory_plan_of plan.translation).passive index) (slice_get (segments m) index)
-  pub module_index : number_of plan.translation.module.module_index ≡ 0
-  pub wasm : plan.translation.wasm.now ≡ bytes
+pub record IsPlanOf (o : Options) (bytes : List ℕ) (m : Module) (plan : Plan) : Type 0 where
+  -- in each phase it gives what the module's initialisers give; all other fields are the module's lists
+  pub translation : IsInitialised o.init bytes m plan.translation
+  -- its types are the interned types of the module, with a startup type exactly where startup may run
+  pub types : SameLists (built_of plan.types nothing_met) (interned_list m (runs (startup_by m (memory_plan_of plan.translation) (plan_of_tables plan.translation))))
+  -- two declared types have one index exactly where they are equal by group and place
+  pub equal_types : (i j : ℕ) → i < length (types m) → j < length (types m)
+      → (interned_at m i ≡ interned_at m j) ↔ SameType (placed_groups m) (placed_groups m) i j
+  -- each type has the layout of its objects
+  pub layouts : map (option_map object_layout) plan.layouts ≡ map (λ t. gc_layout_of (header_size o.collector) t.composite_type.inner) plan.types.types
+  -- the context has the module's counts
+  pub offsets : fields_of plan.offsets ≡ context_of o m (memory_plan_of plan.translation) (plan_of_tables plan.translation)
+  pub sizes : HasSizes o m (memory_plan_of plan.translation) (plan_of_tables plan.translation)
 
--- the bytes spell a module of those that are planned so far, which keeps the listed rules, and the plan is its plan
-pub record IsPlanned (bytes : List ℕ) (plan : Plan) : Type 0 where
+-- the bytes spell a module that keeps the listed rules, and the plan is its plan
+pub record IsPlanned (o : Options) (bytes : List ℕ) (plan : Plan) : Type 0 where
   pub meaning : Module
   pub read : IsReadable bytes meaning
-  pub can : CanBePlanned meaning
-  pub planned : IsPlanOf bytes meaning plan
+  pub keeps : Keeps meaning
+  pub planned : IsPlanOf o bytes meaning plan
 
--- the module holds what is not planned yet: another section, or else another operator in a data offset
-abbrev pub IsUnplanned : What → Module → Type 0
-IsUnplanned what.Section m = ¬ OnlyPlannedSections m
-IsUnplanned what.Operator m = OnlyPlannedSections m × ¬ OnlyConstantOffsets m
-IsUnplanned _ m = ⊥
+-- the bytes spell a module that keeps the listed rules, of which a fact holds
+pub record KeepsAnd (bytes : List ℕ) (P : Module → Type 0) : Type 0 where
+  pub meaning : Module
+  pub read : IsReadable bytes meaning
+  pub keeps : Keeps meaning
+  pub fact : P meaning
 
--- the bytes spell a module without interface types of which a fact holds
-abbrev pub ReadsSome : List ℕ → (Module → Type 0) → Type 0
-ReadsSome bytes P = (m : Module) × IsReadable bytes m × P m
+-- the runtime data of the module pass 4294967295 bytes
+abbrev pub HasMuchData : InitOptions → Module → Type 0
+HasMuchData i m = (plan : MemoryPlan) → PlansMemories i m plan → 2 ^ 32 ≤ sum_by length plan.runtime
 
 -- why the bytes are refused
-abbrev pub HasCause : List ℕ → TranslateError → Type 0
-HasCause bytes refusal.Malformed = ((m : Module) → ¬ Spells bytes m) × ((what : What) → ¬ Stops bytes what)
+abbrev pub HasCause : Options → List ℕ → TranslateError → Type 0
+HasCause o bytes refusal.Malformed = ((m : Module) → ¬ Spells bytes m) × ((what : What) → ¬ Stops bytes what)
 -- the rule that is named is the first that is broken
-HasCause bytes (refusal.Invalid rule) = ReadsSome bytes (λ m. ¬ Kept rule (lists_of_module m) × KeepsBefore rule m)
-HasCause bytes (refusal.Unsupported what) = Stops bytes what ⊎ ReadsSome bytes (IsUnplanned what)
-HasCause bytes refusal.TooLarge = (2 ^ 30 ≤ length bytes) ⊎ ReadsSome bytes (λ m. 2 ^ 32 ≤ data_size m)
-HasCause bytes refusal.OffsetOverflow = ⊥
-HasCause bytes refusal.OutOfMemory = Unit {0}
-
--- this is the refusal, or there is no memory to find it
-abbrev pub IsRefusedAs : {A : Type 0} → Result A TranslateError → TranslateError → Type 0
-IsRefusedAs (Ok answer) named = ⊥
-IsRefusedAs (Err e) named = (e ≡ named) ⊎ (e ≡ refusal.OutOfMemory)
+HasCause o bytes (refusal.Invalid rule) = Breaks rule bytes
+HasCause o bytes (refusal.Unsupported what) = Stops bytes what
+HasCause o bytes refusal.TooLarge = (2 ^ 30 ≤ length bytes) ⊎ KeepsAnd bytes (HasMuchData o.init)
+HasCause o bytes refusal.OffsetOverflow = KeepsAnd bytes (Overflows o)
+HasCause o bytes refusal.OutOfMemory = Unit {0}
 
 -- there is a plan, or no memory for it
-abbrev pub SucceedsOrNoMemory : Result Plan TranslateError → Type 0
-SucceedsOrNoMemory (Ok plan) = Unit {0}
+abbrev pub SucceedsOrNoMemory : {A : Type 0} → Result A TranslateError → Type 0
+SucceedsOrNoMemory (Ok answer) = Unit {0}
 SucceedsOrNoMemory (Err e) = e ≡ refusal.OutOfMemory

@@ -1,0 +1,26 @@
+-- The summary of a module that was made.
+use Rattle.std.specs.Prelude.{ℕ, List, [], ◌∷◌, ◌++◌, length, codes}
+use Rattle.init_plan.specs.Views.{ranges_of}
+use Rattle.vm_offsets.specs.Layouts.{size_of_context}
+use Rattle.plan.specs.declared.plan.Plan.{Plan}
+use Rattle.plan_lines.specs.ModuleLines.{startup_line}
+use Rattle.plan_lines.specs.Numbers.{numbers_line}
+
+-- where the last runtime data end: they stand end to end from 0
+abbrev pub last_end : List (ℕ × ℕ) → ℕ
+last_end [] = 0
+last_end (range ∷ []) = range.1
+last_end (range ∷ next ∷ ranges) = last_end (next ∷ ranges)
+
+abbrev pub runtime_total : Plan → ℕ
+runtime_total plan = last_end (ranges_of plan.translation.module)
+
+-- its number, its bytes, its types, the bytes of its runtime data, and the lines of startup and of the context
+unfoldable pub summary_of : ℕ → ℕ → Plan → List ℕ
+summary_of number bytes plan =
+    numbers_line (codes "generated") (number ∷ [])
+    ++ numbers_line (codes "bytes") (bytes ∷ [])
+    ++ numbers_line (codes "types") (length plan.types.types ∷ [])
+    ++ numbers_line (codes "runtime") (runtime_total plan ∷ [])
+    ++ startup_line plan.translation.module.startup
+    ++ numbers_line (codes "context") (size_of_context plan.offsets ∷ [])

@@ -1,0 +1,43 @@
+//! The summary of a module that was made.
+
+ghost use Rattle.std.specs.Prelude.{◌≡◌, IfOk};
+ghost use Rattle.plan_text.specs.Summary.{summary_of, runtime_total};
+
+use entity_map::OutOfMemory;
+use plan::Plan;
+use plan_lines::{Text, append_context, append_numbers, append_startup};
+use std::alloc::Global;
+
+/// The summary of the plan of a module that was made: its number, its size in bytes, how many types it has, the bytes of its runtime data,
+/// and the lines of startup and of the context.
+///
+/// # Errors
+/// `OutOfMemory` where the text finds no memory.
+#[tactic(auto, unfolding(crate::specs::Summary::summary_of))]
+pub fn summary_text(
+    alloc: Global,
+    n: u32,
+    length: u64,
+    plan: &Plan<'_>,
+) -> Result<Vec<u8>, OutOfMemory>
+    ensures { IfOk result (λ text. text.items ≡ summary_of n length plan.now) }
+{
+    let mut text = Text::new(alloc);
+    append_numbers(&mut text, "generated", &[u64::from(n)])?;
+    append_numbers(&mut text, "bytes", &[length])?;
+    append_numbers(&mut text, "types", &[plan.types.len_types() as u64])?;
+    append_numbers(&mut text, "runtime", &[runtime_total(plan)])?;
+    append_startup(&mut text, &plan.translation.module.startup)?;
+    append_context(&mut text, &plan.offsets)?;
+    Ok(text.into_bytes())
+}
+
+// The bytes of the runtime data, which stand end to end: where the last ends.
+fn runtime_total(plan: &Plan<'_>) -> u64
+    ensures { result ≡ runtime_total plan.now }
+{
+    match plan.translation.module.runtime_data.as_slice().last() {
+        Some(range) => u64::from(range.end),
+        None => 0,
+    }
+}

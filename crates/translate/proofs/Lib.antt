@@ -1,7 +1,0 @@
-pub mod Unimaged
-pub mod Adding
-pub mod Readiness
-pub mod OneWord
-pub mod Causes
-pub mod Segments
-pub mod Plans

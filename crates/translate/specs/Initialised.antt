@@ -1,0 +1,85 @@
+-- A translation whose memories and tables are planned.
+use Rattle.std.specs.Prelude.{◌≡◌, ℕ, ◌^◌, ◌<◌, List, false, length, map, sum_by, slice_get, Option, Some, None}
+use Rattle.wasm_spec.specs.Module.{Module, Segment, segments, imported_memories, defined_memories}
+use Rattle.rule_spec.specs.Rules.{Keeps}
+use Rattle.wasm_index.specs.Index.{index_of}
+use Rattle.replay_spec.specs.Data.{active_segments}
+use Rattle.replay_spec.specs.Images.{image_memory_of}
+use Rattle.replay_spec.specs.Plan.{MemoryPlan, ranges_from, FindsPassive}
+use Rattle.module_types.specs.Builder.{Kept, shown}
+use Rattle.init_plan.specs.declared.translation.ModuleTranslation.{ModuleTranslation}
+use Rattle.init_plan.specs.Views.{memory_plan_of, ranges_of, IsSegmented, IsProcessed}
+use Rattle.init_plan.specs.Images.{HasTightImages, HasWholeRanges}
+use Rattle.init_plan.specs.Tables.{plan_of_tables}
+use Rattle.init_plan.specs.Held.{plan_of_globals}
+use Rattle.init_plan.specs.Agreement.{AgreesInAll}
+use Rattle.init_plan.specs.Startup.{startup_with}
+use Rattle.module_environ.specs.Readable.{IsReadable}
+use Rattle.module_environ.specs.Translation.{IsTranslation}
+use Rattle.module_environ.specs.Types.{interned_list, type_index}
+use Rattle.translate.specs.Options.{InitOptions, images, passive_bytes, startup_by, runs, BecomesImages, PlansMemories, PlansTables}
+
+-- a passive segment is found with its bytes, and nothing else is found
+abbrev pub Finds : MemoryPlan → Option ℕ → Option Segment → Type 0
+Finds plan found None = found ≡ None
+Finds plan found (Some s) = FindsPassive plan found s.kind s.bytes
+
+-- all but how memories and tables begin, runtime data, what is left to be written, and startup
+abbrev pub OnlyInitChanges : ModuleTranslation → ModuleTranslation → Type 0
+OnlyInitChanges old new = new ≡ record old {
+  «module» = record old.module {
+    memory_initialization = new.module.memory_initialization;
+    table_initialization = new.module.table_initialization;
+    runtime_data = new.module.runtime_data;
+    startup = new.module.startup;
+  };
+  table_initialization = new.table_initialization;
+  runtime_data_map = new.runtime_data_map;
+  runtime_data = new.runtime_data;
+  memory_init = new.memory_init;
+  data_align = new.data_align;
+}
+
+-- in all else it is the translation of the module
+pub record TranslatesRest (i : InitOptions) (bytes : List ℕ) (m : Module) (t : ModuleTranslation) : Type 0 where
+  pub before : ModuleTranslation
+  pub translation : IsTranslation i.tunables (index_of 0) 0 bytes m before
+  pub same : OnlyInitChanges before t
+
+-- its memories, and what is left to be written to them
+pub record InitialisesMemories (i : InitOptions) (m : Module) (t : ModuleTranslation) : Type 0 where
+  -- by the image rule all active segments become images, or all are kept, in order
+  pub plan : PlansMemories i m (memory_plan_of t)
+  pub segmented : IsSegmented t.module.memory_initialization → (¬ BecomesImages i m) × (t.data_align ≡ None)
+  pub images : ¬ IsSegmented t.module.memory_initialization → BecomesImages i m × (t.data_align ≡ Some i.page_size)
+  pub processed : IsProcessed t.memory_init
+  -- each image is whole pages within its memory, has the contents, and is tight
+  pub tight : HasTightImages (images i) (length (imported_memories m)) (map image_memory_of (defined_memories m)) (active_segments m)
+      (passive_bytes m) (memory_plan_of t)
+  -- the ranges of runtime data stand end to end from 0, those of images from page to page
+  pub ranges : ranges_of t.module ≡ ranges_from 0 (map length (memory_plan_of t).runtime)
+  pub whole_ranges : HasWholeRanges i.page_size (memory_plan_of t).images (ranges_of t.module)
+  pub fits : sum_by length (memory_plan_of t).runtime < 2 ^ 32
+  pub passive : (index : ℕ) → Finds (memory_plan_of t) ((memory_plan_of t).passive index) (slice_get (segments m) index)
+
+-- the translation of the module, planned
+pub record IsInitialised (i : InitOptions) (bytes : List ℕ) (m : Module) (t : ModuleTranslation) : Type 0 where
+  pub rest : TranslatesRest i bytes m t
+  -- replayed over any imports it gives the globals, table cells, memory bytes and traps of the module's initialisers
+  pub agrees : AgreesInAll m (plan_of_globals t) (memory_plan_of t) (plan_of_tables t)
+  pub memories : InitialisesMemories i m t
+  -- images of tables take the longest prefix of element segments that they may, and the others are kept, in order
+  pub tables : PlansTables i m (plan_of_tables t)
+  -- startup runs exactly when something is left to be done; its type comes last
+  pub startup : t.module.startup ≡ startup_with (startup_by m (memory_plan_of t) (plan_of_tables t)) (type_index (length (interned_list m false).types))
+
+-- the bytes spell a module that keeps the listed rules; this is its translation, planned, and the builder holds its types, with a startup
+-- type exactly where startup may run
+pub record Initialises (i : InitOptions) (bytes : List ℕ) (t : ModuleTranslation) (b : Kept) : Type 0 where
+  pub meaning : Module
+  pub read : IsReadable bytes meaning
+  pub keeps : Keeps meaning
+  pub initialised : IsInitialised i bytes meaning t
+  pub types : (shown b).built ≡ interned_list meaning (runs (startup_by meaning (memory_plan_of t) (plan_of_tables t)))
+  pub sound : b.is_poisoned ≡ false
+  pub few : length b.list.types < 4294967295
