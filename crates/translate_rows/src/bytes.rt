@@ -1,11 +1,33 @@
-//! Modules as bytes, their texts, and a run over memory.
+//! Modules as bytes, with the whole texts of their plans.
 
-use devices::{ListSink, OutOfMemory, SliceSource, Source};
-use std::alloc::{AllocError, Global};
-use translate::run;
-
-/// The header of a module.
+/// The header of a module, which alone is the smallest module.
 pub const HEADER: [u8; 8] = [0x00, 0x61, 0x73, 0x6D, 0x01, 0x00, 0x00, 0x00];
+
+pub const HEADER_TEXT: &str = "types 0\n\
+    functions 0 0\n\
+    tables 0 0\n\
+    memories 0 0\n\
+    globals 0 0\n\
+    tags 0 0\n\
+    gc-heap no\n\
+    memory-init segmented\n\
+    startup none\n\
+    region 0 runtime data lengths\n\
+    region 0 runtime data base pointers\n\
+    region 0 startup funcref\n\
+    region 0 module functions\n\
+    region 0 defined tags\n\
+    region 0 defined globals\n\
+    region 0 defined tables\n\
+    region 0 imported tags\n\
+    region 0 imported globals\n\
+    region 0 imported tables\n\
+    region 0 imported functions\n\
+    region 0 owned memories\n\
+    region 0 defined memories\n\
+    region 0 imported memories\n\
+    region 48 static vmctx data\n\
+    context 48\n";
 
 /// A memory of one page and two data segments, the second of which covers a byte of the first.
 pub const OVERLAP: [u8; 30] = [
@@ -13,67 +35,107 @@ pub const OVERLAP: [u8; 30] = [
     0x00, 0x41, 0x10, 0x0B, 0x03, 0x01, 0x02, 0x03, 0x00, 0x41, 0x11, 0x0B, 0x01, 0x09,
 ];
 
-pub const OVERLAP_TEXT: &str = "memories 0 1
-memory-init segmented
-segment 0 0 at i32.const 16
-segment 0 1 at i32.const 17
-runtime 0 0 3
-runtime 1 3 4
-";
+pub const OVERLAP_TEXT: &str = "types 1\n\
+    type 0 (func)\n\
+    group 0 0 1\n\
+    functions 0 0\n\
+    tables 0 0\n\
+    memories 0 1\n\
+    globals 0 0\n\
+    tags 0 0\n\
+    gc-heap no\n\
+    memory-init segmented\n\
+    segment 0 0 at i32.const 16\n\
+    segment 0 1 at i32.const 17\n\
+    runtime 0 0 3\n\
+    runtime 1 3 4\n\
+    startup always 0\n\
+    region 8 runtime data lengths\n\
+    region 16 runtime data base pointers\n\
+    region 32 startup funcref\n\
+    region 0 module functions\n\
+    region 0 defined tags\n\
+    region 0 defined globals\n\
+    region 8 defined tables\n\
+    region 0 imported tags\n\
+    region 0 imported globals\n\
+    region 0 imported tables\n\
+    region 0 imported functions\n\
+    region 16 owned memories\n\
+    region 8 defined memories\n\
+    region 0 imported memories\n\
+    region 48 static vmctx data\n\
+    context 136\n";
 
-pub const EMPTY_TEXT: &str = "memories 0 0
-memory-init segmented
-";
+/// A small program as a linker writes it: each size in five bytes, and custom sections behind.
+pub const LINKED: [u8; 216] = [
+    0x00, 0x61, 0x73, 0x6D, 0x01, 0x00, 0x00, 0x00, 0x01, 0x8A, 0x80, 0x80, 0x80, 0x00, 0x02, 0x60,
+    0x00, 0x00, 0x60, 0x02, 0x7F, 0x7F, 0x01, 0x7F, 0x03, 0x83, 0x80, 0x80, 0x80, 0x00, 0x02, 0x00,
+    0x01, 0x04, 0x85, 0x80, 0x80, 0x80, 0x00, 0x01, 0x70, 0x01, 0x02, 0x02, 0x05, 0x83, 0x80, 0x80,
+    0x80, 0x00, 0x01, 0x00, 0x11, 0x06, 0x89, 0x80, 0x80, 0x80, 0x00, 0x01, 0x7F, 0x01, 0x41, 0x80,
+    0x80, 0xC0, 0x00, 0x0B, 0x07, 0x93, 0x80, 0x80, 0x80, 0x00, 0x02, 0x06, 0x6D, 0x65, 0x6D, 0x6F,
+    0x72, 0x79, 0x02, 0x00, 0x06, 0x5F, 0x73, 0x74, 0x61, 0x72, 0x74, 0x00, 0x00, 0x09, 0x87, 0x80,
+    0x80, 0x80, 0x00, 0x01, 0x00, 0x41, 0x01, 0x0B, 0x01, 0x01, 0x0A, 0x8C, 0x80, 0x80, 0x80, 0x00,
+    0x02, 0x02, 0x00, 0x0B, 0x07, 0x00, 0x20, 0x00, 0x20, 0x01, 0x6A, 0x0B, 0x0B, 0x8F, 0x80, 0x80,
+    0x80, 0x00, 0x01, 0x00, 0x41, 0x80, 0x80, 0xC0, 0x00, 0x0B, 0x06, 0x68, 0x65, 0x6C, 0x6C, 0x6F,
+    0x00, 0x00, 0x99, 0x80, 0x80, 0x80, 0x00, 0x04, 0x6E, 0x61, 0x6D, 0x65, 0x01, 0x8E, 0x80, 0x80,
+    0x80, 0x00, 0x02, 0x00, 0x06, 0x5F, 0x73, 0x74, 0x61, 0x72, 0x74, 0x01, 0x03, 0x61, 0x64, 0x64,
+    0x00, 0xA2, 0x80, 0x80, 0x80, 0x00, 0x09, 0x70, 0x72, 0x6F, 0x64, 0x75, 0x63, 0x65, 0x72, 0x73,
+    0x01, 0x0C, 0x70, 0x72, 0x6F, 0x63, 0x65, 0x73, 0x73, 0x65, 0x64, 0x2D, 0x62, 0x79, 0x01, 0x05,
+    0x63, 0x6C, 0x61, 0x6E, 0x67, 0x02, 0x31, 0x38,
+];
 
-/// The list of these words.
-pub fn words_of(alloc: Global, words: &[&str]) -> Result<Vec<String>, OutOfMemory> {
-    let mut list = Vec::new(alloc);
-    for word in words {
-        list.push(String::from_str(alloc, word)?)
-            .map_err(AllocError::from)?;
-    }
-    Ok(list)
-}
+/// The text of its plan with images of memories and tables.
+pub const LINKED_TEXT: &str = "types 3\n\
+    type 0 (func) trampoline 0\n\
+    type 1 (func (param i32 i32) (result i32)) trampoline 1\n\
+    type 2 (func)\n\
+    group 0 0 1\n\
+    group 1 1 2\n\
+    group 2 2 3\n\
+    declared 0 0\n\
+    declared 1 1\n\
+    functions 0 2\n\
+    tables 0 1\n\
+    memories 0 1\n\
+    globals 0 1\n\
+    tags 0 0\n\
+    gc-heap no\n\
+    escape 0 0\n\
+    escape 1 1\n\
+    signature 0\n\
+    signature 1\n\
+    export \"memory\" memory 0\n\
+    export \"_start\" function 0\n\
+    func-name 0 \"_start\"\n\
+    func-name 1 \"add\"\n\
+    global 0 i32.const 1048576\n\
+    table-image 0 2 null 1\n\
+    memory-init static\n\
+    data-align 4096\n\
+    image 0 1048576 0\n\
+    segment 0 0 at static 1048576\n\
+    runtime 0 0 4096\n\
+    startup if-memories-need-init 2\n\
+    region 4 runtime data lengths\n\
+    region 8 runtime data base pointers\n\
+    region 32 startup funcref\n\
+    region 64 module functions\n\
+    region 0 defined tags\n\
+    region 16 defined globals\n\
+    region 24 defined tables\n\
+    region 0 imported tags\n\
+    region 0 imported globals\n\
+    region 0 imported tables\n\
+    region 0 imported functions\n\
+    region 16 owned memories\n\
+    region 8 defined memories\n\
+    region 0 imported memories\n\
+    region 48 static vmctx data\n\
+    context 220\n";
 
-/// What a run did: its status, the bytes that it read, and whether there is a plan.
-#[derive(Drop)]
-pub struct Outcome {
-    pub status: u8,
-    pub read: Vec<u8>,
-    pub is_planned: bool,
-}
-
-/// A run of the words. A report holds a whole translation, and to drop one is dear to prove: it is done here alone, by a call.
-pub fn outcome_of<S: Source>(
-    alloc: Global,
-    words: &[&str],
-    source: &mut S,
-    sink: &mut ListSink<'_>,
-) -> Result<Outcome, OutOfMemory> {
-    let words = words_of(alloc, words)?;
-    let mut store = Vec::new(alloc);
-    let report = run(alloc, words.as_slice(), source, &mut store, sink);
-    let read = Vec::from_slice(alloc, report.bytes);
-    let (status, is_planned) = (report.status, report.plan.is_some());
-    drop(report);
-    Ok(Outcome {
-        status,
-        read: read?,
-        is_planned,
-    })
-}
-
-/// The status of a run of the words over bytes in memory, and what it writes.
-pub fn run_over(alloc: Global, words: &[&str], bytes: &[u8]) -> Result<(u8, Vec<u8>), OutOfMemory> {
-    let mut source = SliceSource::new(bytes);
-    let mut sink = ListSink::new(alloc, 4096, 4096, &[])?;
-    let outcome = outcome_of(alloc, words, &mut source, &mut sink)?;
-    Ok((outcome.status, Vec::from_slice(alloc, sink.held())?))
-}
-
-/// The header and what follows it.
-pub fn after_header(alloc: Global, sections: &[u8]) -> Result<Vec<u8>, OutOfMemory> {
-    let mut bytes = Vec::from_slice(alloc, &HEADER)?;
-    bytes.extend_from_slice(sections)?;
-    Ok(bytes)
-}
+/// A tag, whose exceptions hold an i32 and a v128.
+pub const EXCEPTION: [u8; 21] = [
+    0x00, 0x61, 0x73, 0x6D, 0x01, 0x00, 0x00, 0x00, 0x01, 0x06, 0x01, 0x60, 0x02, 0x7F, 0x7B, 0x00,
+    0x0D, 0x03, 0x01, 0x00, 0x00,
+];

@@ -6,8 +6,20 @@ mod bytes;
 #[cfg(test)]
 mod failures;
 #[cfg(test)]
+mod images;
+#[cfg(test)]
 mod memories;
+#[cfg(test)]
+mod prefixes;
 #[cfg(test)]
 mod refusals;
 #[cfg(test)]
+mod rows;
+#[cfg(test)]
 mod runs;
+#[cfg(test)]
+mod tables;
+#[cfg(test)]
+mod texts;
+#[cfg(test)]
+mod types;
