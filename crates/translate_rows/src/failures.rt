@@ -5,12 +5,12 @@ use crate::runs::{outcome_of, run_over};
 use devices::{ListSink, ListSource, SliceSource};
 use std::test::Fail;
 
-/// The source is read to its end by one call more than it has pieces.
+/// The bytes that the source gives by a call, and the calls that read it to its end, of which the last gives nothing.
 #[test]
 fn each_read_that_fails(rt: HostRuntime) -> Result<(), Fail> {
-    for piece in [1, 7, 16, 30, 4096usize] {
-        let reads = OVERLAP.len().div_ceil(piece) as u64 + 1;
-        for failing in 1..reads + 2 {
+    for (piece, reads) in [(1, 31), (7, 6), (16, 3), (30, 2), (4096usize, 2u64)] {
+        assert!(rt; piece > 0);
+        for failing in 1..reads.saturating_add(2) {
             let failing_calls = [failing];
             let mut source = ListSource::new(&OVERLAP, piece, &failing_calls);
             let mut sink = ListSink::new(rt.alloc(), 4096, 4096, &[])?;
@@ -21,7 +21,8 @@ fn each_read_that_fails(rt: HostRuntime) -> Result<(), Fail> {
             } else {
                 assert_eq!(rt; outcome.status, 3, "pieces of {piece}, call {failing}");
                 assert_eq!(rt; sink.held().len(), 0);
-                let read = OVERLAP.len().min((failing as usize - 1) * piece);
+                let read = (failing as usize - 1).saturating_mul(piece);
+                let read = OVERLAP.len().min(read);
                 assert_eq!(rt; outcome.read.as_slice(), &OVERLAP[..read]);
             }
         }
@@ -29,13 +30,13 @@ fn each_read_that_fails(rt: HostRuntime) -> Result<(), Fail> {
     Ok(())
 }
 
-/// The text is written by as many calls as it has pieces.
+/// The bytes that the sink takes by a call, and the calls that write the whole text.
 #[test]
 fn each_write_that_fails(rt: HostRuntime) -> Result<(), Fail> {
     let text = OVERLAP_TEXT.as_bytes();
-    for most in [1, 16, 64, 100, 4096usize] {
-        let writes = text.len().div_ceil(most) as u64;
-        for failing in 1..writes + 2 {
+    for (most, writes) in [(1, 637), (16, 40), (64, 10), (100, 7), (4096usize, 1u64)] {
+        assert!(rt; most > 0);
+        for failing in 1..writes.saturating_add(2) {
             let failing_calls = [failing];
             let mut source = SliceSource::new(&OVERLAP);
             let mut sink = ListSink::new(rt.alloc(), 4096, most, &failing_calls)?;
@@ -43,8 +44,9 @@ fn each_write_that_fails(rt: HostRuntime) -> Result<(), Fail> {
             let want = if failing > writes { 0 } else { 4 };
             assert_eq!(rt; outcome.status, want, "pieces of {most}, call {failing}");
             assert!(rt; outcome.is_planned);
-            let written = text.len().min((failing as usize - 1) * most);
-            assert_eq!(rt; sink.held(), &text[..written]);
+            let written = (failing as usize - 1).saturating_mul(most);
+            let written = text.len().min(written);
+            assert!(rt; sink.held() == &text[..written]);
         }
     }
     Ok(())
@@ -62,6 +64,7 @@ fn a_write_that_fails_leaves_a_prefix(rt: HostRuntime) -> Result<(), Fail> {
     for (words, bytes, room, most, failing, want) in cases {
         let failing_calls = [failing];
         let mut source = SliceSource::new(bytes);
+        assert!(rt; most > 0);
         let mut sink = ListSink::new(rt.alloc(), room, most, &failing_calls)?;
         let outcome = outcome_of(rt.alloc(), words, &mut source, &mut sink)?;
         assert_eq!(rt; outcome.status, 4, "{want}");
