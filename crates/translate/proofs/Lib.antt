@@ -4,4 +4,5 @@ mod Unchanged
 mod PlannedMemories
 mod PlannedTables
 mod Refusals
+mod AllPlanned
 pub mod Counts

@@ -72,7 +72,7 @@ module _ (i : InitOptions) (m : Module) (old : ModuleTranslation) (has : HoldsDa
     with_any_tables = record {
       plan = to_module (λ n ms ss ps. IsMemoryPlan (images i) n ms ss ps (memory_plan_of mid)) tell.planned;
       segmented = λ is. ((λ h. (tell.begins.segmented is).0 (became h)), (tell.begins.segmented is).1);
-      images = λ is. (becomes (tell.begins.images is).0, (tell.begins.images is).1);
+      imaged = λ is. (becomes (tell.begins.images is).0, (tell.begins.images is).1);
       processed = tell.processed;
       tight = to_module (λ n ms ss ps. HasTightImages (images i) n ms ss ps (memory_plan_of mid)) tell.tight;
       ranges = tell.ranges;

@@ -45,6 +45,6 @@ memories_complete i bytes m plan.Poisoned can same much = refl
 
 -- the tables have no plan for want of memory alone
 pub tables_error : (e : PlanError) → (e ≡ plan.TooLarge → ⊥) → error_of_plan e ≡ refusal.OutOfMemory
-tables_error plan.TooLarge no = absurd (no refl)
-tables_error plan.OutOfMemory no = refl
-tables_error plan.Poisoned no = refl
+tables_error plan.TooLarge never = absurd (never refl)
+tables_error plan.OutOfMemory never = refl
+tables_error plan.Poisoned never = refl
