@@ -1,6 +1,6 @@
 //! What a module is translated with.
 
-ghost use Rattle.std.specs.Prelude.{◌≡◌, false, IfOk};
+ghost use Rattle.std.specs.Prelude.{◌≡◌, false, IfOk, IsOk};
 ghost use Rattle.module_environ.specs.Named.{IsNamed, name_in};
 ghost use Rattle.module_types.specs.Builder.{shown, new_builder};
 
@@ -35,6 +35,7 @@ impl<'a, 'd> ModuleEnvironment<'a, 'd> {
         module_index: StaticModuleIndex,
     ) -> Result<Self, OutOfMemory>
         requires empty { types.old.is_poisoned ≡ false → shown types.old ≡ new_builder validator.now }
+        ensures made { IsOk result }
         ensures index { IfOk result (λ e. e.module_index ≡ module_index) }
         ensures tunables { IfOk result (λ e. e.tunables ≡ tunables.entry) }
         ensures validator { IfOk result (λ e. e.validator ≡ validator.entry) }

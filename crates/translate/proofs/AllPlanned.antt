@@ -1,0 +1,131 @@
+-- A translation whose memories and then tables are planned is the planned translation of its module.
+use Rattle.std.proofs.Common.{◌≡◌, ◌<◌, ◌+◌, ℕ, Bool, false, List, length, map, sym, ap, subst, ◌∙◌}
+use Rattle.std.proofs.lemmas.List.{length-map}
+use Rattle.wasm_spec.specs.Module.{Module, defined_memories}
+use Rattle.rule_spec.specs.Lists.{Lists, lists_of_module}
+use Rattle.wasm_index.specs.declared.index.Index.{Index}
+use Rattle.wasm_index.specs.declared.spaces.StaticModuleSpace.{StaticModuleSpace}
+use Rattle.wasm_index.specs.Index.{index_of}
+use Rattle.wasm_types.specs.declared.tunables.Tunables.{Tunables}
+use Rattle.replay_spec.specs.Globals.{GlobalPlan, AgreesOnGlobals}
+use Rattle.replay_spec.specs.Images.{image_memory_of}
+use Rattle.replay_spec.specs.Plan.{MemoryPlan, Agrees}
+use Rattle.replay_spec.specs.Startup.{Startup, startup_of, first_startup, raised_by_tables, raised_by_memories}
+use Rattle.replay_spec.specs.Tables.{TablePlan, IsTablePlan}
+use Rattle.type_spec.specs.Interned.{Built}
+use Rattle.module_types.specs.Builder.{Kept, Builder, shown}
+use Rattle.module_types.specs.Views.{interned_of}
+use Rattle.init_plan.specs.declared.translation.ModuleTranslation.{ModuleTranslation}
+use Rattle.init_plan.specs.Agreement.{AgreesOnElements, AgreesInAll}
+use Rattle.init_plan.specs.Held.{initialisers, plan_of_globals, HoldsTables}
+use Rattle.init_plan.specs.Images.{image_memories}
+use Rattle.init_plan.specs.Startup.{startup_kind, raised, types_after}
+use Rattle.init_plan.specs.Tables.{tables_of, elements_of, plan_of_tables, startup_with_tables, OnlyTableInitChanges}
+use Rattle.init_plan.specs.Views.{memory_plan_of, OnlyMemoryInitChanges}
+use Rattle.module_environ.specs.Translated.{IsTranslated}
+use Rattle.module_environ.specs.Types.{interned_list}
+use Rattle.translate.specs.Options.{InitOptions, startup_by}
+use Rattle.translate.specs.Initialised.{Initialises}
+use Rattle.translate.proofs.PlannedMemories.{HoldsData, MemoriesTell, initialises_memories}
+use Rattle.translate.proofs.PlannedTables.{holds_still, plans_tables}
+use Rattle.translate.proofs.Started.{IsStarted, next, starts_first, first_room, few_types, raised-memories, raised-tables}
+use Rattle.translate.proofs.Unchanged.{changes_both}
+
+-- what was translated with equal words is translated with these
+pub translated_with : (a b : Tunables) (i j : Index StaticModuleSpace) (v w : ℕ) (bytes : List ℕ) (t : ModuleTranslation) (types : Kept)
+    → a ≡ b → i ≡ j → v ≡ w → IsTranslated a i v bytes t types → IsTranslated b j w bytes t types
+translated_with a b i j v w bytes t types ab ij vw h =
+    subst (λ (x : ℕ). IsTranslated b j x bytes t types) vw (subst (λ (x : Index StaticModuleSpace). IsTranslated b x v bytes t types) ij
+    (subst (λ (x : Tunables). IsTranslated x i v bytes t types) ab h))
+
+-- the laws that are cited
+pub record Laws (m : Module) : Type 0 where
+  pub startup : (l : Lists) (tables : TablePlan) (memories : MemoryPlan)
+      → raised_by_tables tables (raised_by_memories memories (first_startup l)) ≡ startup_of l tables memories
+  pub agreement : (globals : GlobalPlan) (memories : MemoryPlan) (tables : TablePlan)
+      → AgreesOnGlobals (lists_of_module m).imported_globals (initialisers (lists_of_module m)) globals
+      → Agrees m memories → AgreesOnElements m tables → AgreesInAll m globals memories tables
+
+-- the plan of the memories of a translation, and then that of its tables
+pub record Plans (i : InitOptions) (m : Module) (old mid new : ModuleTranslation) (b mid_types new_types : Kept) : Type 0 where
+  pub memories : MemoriesTell i old mid
+  pub memories_same : OnlyMemoryInitChanges old mid
+  pub memories_startup : mid.module.startup ≡ raised (raised_by_memories (memory_plan_of mid) (startup_kind old.module.startup)) old.module.startup (shown b)
+  pub memories_types : shown mid_types ≡ types_after (raised_by_memories (memory_plan_of mid) (startup_kind old.module.startup)) old.module.startup (shown b)
+  pub tables : IsTablePlan i.tunables.table_lazy_init mid.module.num_imported_tables (tables_of mid) (elements_of mid) (plan_of_tables new)
+  pub tables_same : OnlyTableInitChanges mid new
+  pub tables_startup : new.module.startup ≡ raised (startup_with_tables mid (plan_of_tables new)) mid.module.startup (shown mid_types)
+  pub tables_types : shown new_types ≡ types_after (startup_with_tables mid (plan_of_tables new)) mid.module.startup (shown mid_types)
+  pub agree_globals : AgreesOnGlobals (lists_of_module m).imported_globals (initialisers (lists_of_module m)) (plan_of_globals old)
+  pub agree_memories : Agrees m (memory_plan_of mid)
+  pub agree_tables : AgreesOnElements m (plan_of_tables new)
+
+module _ (i : InitOptions) (bytes : List ℕ) (old : ModuleTranslation) (b : Kept) (told : IsTranslated i.tunables (index_of 0) 0 bytes old b) where
+  abbrev listed : Built
+  listed = interned_list told.meaning false
+
+  abbrev kind : Startup
+  kind = first_startup (lists_of_module told.meaning)
+
+  pub started : IsStarted listed kind old.module.startup (shown b)
+  started = starts_first told.meaning old.module.startup (shown b) told.translation.startup told.types
+
+  pub room : length listed.types + 1 < 4294967295
+  room = first_room told.meaning (shown b) told.types
+
+  pub holds_data : image_memories old.module ≡ map image_memory_of (defined_memories told.meaning) → HoldsData told.meaning old
+  holds_data memories = record { holds = told.ready.holds_memories; memories = memories; passive = told.translation.sections.data_segments.passive }
+
+  -- startup, once the memories are planned
+  pub started_memories : (mid : ModuleTranslation) (types : Kept)
+      → mid.module.startup ≡ raised (raised_by_memories (memory_plan_of mid) (startup_kind old.module.startup)) old.module.startup (shown b)
+      → shown types ≡ types_after (raised_by_memories (memory_plan_of mid) (startup_kind old.module.startup)) old.module.startup (shown b)
+      → IsStarted listed (raised_by_memories (memory_plan_of mid) kind) mid.module.startup (shown types)
+  started_memories mid types startup grown =
+      next listed (raised_by_memories (memory_plan_of mid)) kind old.module.startup mid.module.startup (shown b) (shown types)
+      (raised-memories (memory_plan_of mid)) started startup grown
+
+  module _ (mid new : ModuleTranslation) (mid_types new_types : Kept) (laws : Laws told.meaning)
+      (plans : Plans i told.meaning old mid new b mid_types new_types) (memories : image_memories old.module ≡ map image_memory_of (defined_memories told.meaning)) where
+    -- the plan of the tables keeps that of the memories, and both the globals
+    plan_same : memory_plan_of new ≡ memory_plan_of mid
+    plan_same = ap memory_plan_of plans.tables_same
+
+    globals_same : plan_of_globals new ≡ plan_of_globals old
+    globals_same = ap plan_of_globals plans.tables_same ∙ ap plan_of_globals plans.memories_same
+
+    abbrev last_kind : Startup
+    last_kind = startup_by told.meaning (memory_plan_of new) (plan_of_tables new)
+
+    last_started : IsStarted listed last_kind new.module.startup (shown new_types)
+    last_started =
+        let raised_to = laws.startup (lists_of_module told.meaning) (plan_of_tables new) (memory_plan_of mid)
+        ∙ ap (startup_of (lists_of_module told.meaning) (plan_of_tables new)) (sym plan_same) in
+        subst (λ (k : Startup). IsStarted listed k new.module.startup (shown new_types)) raised_to
+        (next listed (raised_by_tables (plan_of_tables new)) (raised_by_memories (memory_plan_of mid) kind) mid.module.startup new.module.startup
+        (shown mid_types) (shown new_types) (raised-tables (plan_of_tables new))
+        (started_memories mid mid_types plans.memories_startup plans.memories_types) plans.tables_startup plans.tables_types)
+
+    agreed : AgreesInAll told.meaning (plan_of_globals new) (memory_plan_of new) (plan_of_tables new)
+    agreed = laws.agreement (plan_of_globals new) (memory_plan_of new) (plan_of_tables new)
+        (subst (AgreesOnGlobals (lists_of_module told.meaning).imported_globals (initialisers (lists_of_module told.meaning))) (sym globals_same) plans.agree_globals)
+        (subst (Agrees told.meaning) (sym plan_same) plans.agree_memories) plans.agree_tables
+
+    pub all_planned : Initialises i bytes new new_types
+    all_planned = record {
+      meaning = told.meaning;
+      read = told.read;
+      keeps = told.keeps;
+      initialised = record {
+        rest = record { before = old; translation = told.translation; same = changes_both old mid new plans.memories_same plans.tables_same };
+        agrees = agreed;
+        memories = initialises_memories i told.meaning old (holds_data memories) mid new plans.memories plans.tables_same;
+        tables = plans_tables i told.meaning mid (plan_of_tables new)
+            (holds_still told.meaning old mid plans.memories_same told.ready.holds_tables) plans.tables;
+        startup = last_started.startup;
+      };
+      types = last_started.built;
+      sound = last_started.sound;
+      few = let fewer = few_types listed last_kind new.module.startup (shown new_types) last_started room in
+          subst (λ (n : ℕ). n < 4294967295) (length-map new_types.list.types interned_of) fewer;
+    }

@@ -1,0 +1,8 @@
+mod Segments
+mod Started
+mod Unchanged
+mod PlannedMemories
+mod PlannedTables
+mod Refusals
+mod AllPlanned
+pub mod Counts

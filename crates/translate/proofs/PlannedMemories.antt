@@ -1,0 +1,88 @@
+-- What the plan of a translation's memories promises of the module whose lists the translation holds.
+use Rattle.std.proofs.Common.{◌≡◌, ◌<◌, ◌^◌, ℕ, List, length, map, Option, None, Some, refl, sym, ap, subst}
+use Rattle.std.specs.Prelude.{All, Contains, slice_get, sum_by}
+use Rattle.wasm_spec.specs.Module.{Module, imported_memories, defined_memories, segments}
+use Rattle.replay_spec.specs.Data.{ActiveSegment, active_segments}
+use Rattle.replay_spec.specs.Images.{ImageMemory, image_memory_of, IsStatic, IsMemoryPlan}
+use Rattle.replay_spec.specs.Plan.{MemoryPlan, ranges_from}
+use Rattle.init_plan.specs.declared.translation.ModuleTranslation.{ModuleTranslation}
+use Rattle.init_plan.specs.Views.{initializers_of, passive_data_of, memory_plan_of, ranges_of, FindsData, IsProcessed}
+use Rattle.init_plan.specs.Views as held
+use Rattle.init_plan.specs.Images.{image_memories, BeginsByRule, HasTightImages, HasWholeRanges}
+use Rattle.init_plan.specs.Held.{HoldsMemories}
+use Rattle.init_plan.specs.Tables.{OnlyTableInitChanges}
+use Rattle.module_environ.specs.Initialisers.{passive_data_from}
+use Rattle.translate.specs.Options.{InitOptions, images, passive_bytes, BecomesImages, PlansMemories}
+use Rattle.translate.specs.Initialised.{InitialisesMemories}
+use Rattle.translate.proofs.Segments.{finds}
+use Rattle.translate.proofs.Unchanged.{with_tables}
+
+-- what holds of four lists holds of lists that are equal to these
+moved : (P : ℕ → List ImageMemory → List ActiveSegment → List (List ℕ) → Type 0) (a b : ℕ) (c d : List ImageMemory) (e f : List ActiveSegment)
+    (g h : List (List ℕ)) → a ≡ b → c ≡ d → e ≡ f → g ≡ h → P a c e g → P b d f h
+moved P a b c d e f g h ab cd ef gh x =
+    subst (P b d f) gh (subst (λ (s : List ActiveSegment). P b d s g) ef
+    (subst (λ (m : List ImageMemory). P b m e g) cd (subst (λ (n : ℕ). P n c e g) ab x)))
+
+-- a translation holds the memories and data segments of the module
+pub record HoldsData (m : Module) (old : ModuleTranslation) : Type 0 where
+  pub holds : HoldsMemories m old
+  pub memories : image_memories old.module ≡ map image_memory_of (defined_memories m)
+  pub passive : passive_data_of old ≡ passive_data_from 0 (segments m)
+
+-- what the plan of memories promises
+pub record MemoriesTell (i : InitOptions) (old mid : ModuleTranslation) : Type 0 where
+  pub planned : IsMemoryPlan (images i) old.module.num_imported_memories (image_memories old.module) (initializers_of old) (held.passive_bytes old) (memory_plan_of mid)
+  pub begins : BeginsByRule (images i) old mid
+  pub processed : IsProcessed mid.memory_init
+  pub tight : HasTightImages (images i) old.module.num_imported_memories (image_memories old.module) (initializers_of old) (held.passive_bytes old) (memory_plan_of mid)
+  pub ranges : ranges_of mid.module ≡ ranges_from 0 (map length (memory_plan_of mid).runtime)
+  pub whole_ranges : HasWholeRanges i.page_size (memory_plan_of mid).images (ranges_of mid.module)
+  pub found : All (FindsData (memory_plan_of mid)) (passive_data_of old)
+  pub others : (index : ℕ) → ¬ Contains (map (λ p. p.0) (passive_data_of old)) index → (memory_plan_of mid).passive index ≡ None
+  pub fits : sum_by length (memory_plan_of mid).runtime < 2 ^ 32
+
+module _ (i : InitOptions) (m : Module) (old : ModuleTranslation) (has : HoldsData m old) where
+  passive_same : held.passive_bytes old ≡ passive_bytes m
+  passive_same = ap (map (λ (p : ℕ × List ℕ). p.1)) has.passive
+
+  to_module : (P : ℕ → List ImageMemory → List ActiveSegment → List (List ℕ) → Type 0)
+      → P old.module.num_imported_memories (image_memories old.module) (initializers_of old) (held.passive_bytes old)
+      → P (length (imported_memories m)) (map image_memory_of (defined_memories m)) (active_segments m) (passive_bytes m)
+  to_module P h = moved P _ _ _ _ _ _ _ _ has.holds.imports has.memories has.holds.active passive_same h
+
+  from_module : (P : ℕ → List ImageMemory → List ActiveSegment → List (List ℕ) → Type 0)
+      → P (length (imported_memories m)) (map image_memory_of (defined_memories m)) (active_segments m) (passive_bytes m)
+      → P old.module.num_imported_memories (image_memories old.module) (initializers_of old) (held.passive_bytes old)
+  from_module P h = moved P _ _ _ _ _ _ _ _ (sym has.holds.imports) (sym has.memories) (sym has.holds.active) (sym passive_same) h
+
+  -- a plan of the module is one of the translation
+  pub plans_held : (plan : MemoryPlan) → PlansMemories i m plan
+      → IsMemoryPlan (images i) old.module.num_imported_memories (image_memories old.module) (initializers_of old) (held.passive_bytes old) plan
+  plans_held plan h = from_module (λ n ms ss ps. IsMemoryPlan (images i) n ms ss ps plan) h
+
+  module _ (mid new : ModuleTranslation) (tell : MemoriesTell i old mid) where
+    becomes : IsStatic (images i) old.module.num_imported_memories (image_memories old.module) (initializers_of old) → BecomesImages i m
+    becomes h = to_module (λ n ms ss ps. IsStatic (images i) n ms ss) h
+
+    became : BecomesImages i m → IsStatic (images i) old.module.num_imported_memories (image_memories old.module) (initializers_of old)
+    became h = from_module (λ n ms ss ps. IsStatic (images i) n ms ss) h
+
+    with_any_tables : InitialisesMemories i m (with_tables new mid)
+    with_any_tables = record {
+      plan = to_module (λ n ms ss ps. IsMemoryPlan (images i) n ms ss ps (memory_plan_of mid)) tell.planned;
+      segmented = λ is. ((λ h. (tell.begins.segmented is).0 (became h)), (tell.begins.segmented is).1);
+      imaged = λ is. (becomes (tell.begins.images is).0, (tell.begins.images is).1);
+      processed = tell.processed;
+      tight = to_module (λ n ms ss ps. HasTightImages (images i) n ms ss ps (memory_plan_of mid)) tell.tight;
+      ranges = tell.ranges;
+      whole_ranges = tell.whole_ranges;
+      fits = tell.fits;
+      passive = λ index. finds (memory_plan_of mid) (segments m) (subst (All (FindsData (memory_plan_of mid))) has.passive tell.found)
+          (λ k none. tell.others k (subst (λ (ps : List (ℕ × List ℕ)). ¬ Contains (map (λ p. p.0) ps) k) (sym has.passive) none))
+          index (slice_get (segments m) index) refl;
+    }
+
+    -- the plan of the tables keeps it
+    pub initialises_memories : OnlyTableInitChanges mid new → InitialisesMemories i m new
+    initialises_memories same = subst (InitialisesMemories i m) (sym same) with_any_tables

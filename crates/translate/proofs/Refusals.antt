@@ -1,0 +1,50 @@
+-- Why the layers below refuse, as why the whole does.
+use Rattle.std.proofs.Common.{◌≡◌, ◌≤◌, ◌^◌, ℕ, Bool, List, length, refl, sym, subst, inl, inr, arith}
+use Rattle.std.specs.Prelude.{sum_by}
+use Rattle.wasm_spec.specs.Module.{Module}
+use Rattle.rule_spec.specs.Rules.{Keeps}
+use Rattle.init_plan.specs.declared.error.PlanError.{PlanError}
+use Rattle.init_plan.specs.declared.error.PlanError.TheVariants as plan
+use Rattle.module_environ.specs.declared.error.EnvironError.{EnvironError}
+use Rattle.module_environ.specs.declared.error.EnvironError.TheVariants as environ
+use Rattle.module_environ.specs.Readable.{IsReadable}
+use Rattle.module_environ.specs.Readable as below
+use Rattle.plan.specs.Errors.{error_of_translation, error_of_plan}
+use Rattle.plan.specs.declared.error.TranslateError.TheVariants as refusal
+use Rattle.translate.specs.Options.{InitOptions, Options}
+use Rattle.translate.specs.Planned.{HasMuchData, HasCause}
+use Rattle.translate.specs.Valid.{CanBeInitialised}
+
+-- there is no translation
+pub translation_cause : (o : Options) (bytes : List ℕ) (poisoned : Bool) (e : EnvironError) → below.HasCause bytes poisoned e
+    → HasCause o bytes (error_of_translation e)
+translation_cause o bytes poisoned environ.Malformed h = h
+translation_cause o bytes poisoned (environ.Invalid rule) h = h
+translation_cause o bytes poisoned (environ.Unsupported what) h = h
+translation_cause o bytes poisoned environ.TooLarge h = inl h
+translation_cause o bytes poisoned environ.OutOfMemory h = tt
+translation_cause o bytes poisoned environ.Poisoned h = tt
+
+-- the memories have no plan
+pub memories_cause : (i : InitOptions) (o : Options) (bytes : List ℕ) (m : Module) (e : PlanError) → o.init ≡ i → IsReadable bytes m → Keeps m
+    → (e ≡ plan.TooLarge → HasMuchData i m) → HasCause o bytes (error_of_plan e)
+memories_cause i o bytes m plan.TooLarge is read keeps much =
+    inr (record { meaning = m; read = read; keeps = keeps; fact = subst (λ (j : InitOptions). HasMuchData j m) (sym is) (much refl) })
+memories_cause i o bytes m plan.OutOfMemory is read keeps much = tt
+memories_cause i o bytes m plan.Poisoned is read keeps much = tt
+
+-- where its data fit, that is for want of memory
+pub memories_complete : (i : InitOptions) (bytes : List ℕ) (m : Module) (e : PlanError) (can : CanBeInitialised i bytes) → can.meaning ≡ m
+    → (e ≡ plan.TooLarge → HasMuchData i m) → error_of_plan e ≡ refusal.OutOfMemory
+memories_complete i bytes m plan.TooLarge can same much =
+    let large : 2 ^ 32 ≤ sum_by length can.memories.runtime =
+    (subst (HasMuchData i) (sym same) (much refl)) can.memories can.memory_plan in
+    absurd (omega (arith, large, can.runtime))
+memories_complete i bytes m plan.OutOfMemory can same much = refl
+memories_complete i bytes m plan.Poisoned can same much = refl
+
+-- the tables have no plan for want of memory alone
+pub tables_error : (e : PlanError) → (e ≡ plan.TooLarge → ⊥) → error_of_plan e ≡ refusal.OutOfMemory
+tables_error plan.TooLarge never = absurd (never refl)
+tables_error plan.OutOfMemory never = refl
+tables_error plan.Poisoned never = refl

@@ -1,0 +1,131 @@
+-- Startup, as it is raised from one call to the next, and the builder beside it.
+use Rattle.std.proofs.Common.{◌≡◌, ◌<◌, ◌+◌, ℕ, Bool, true, false, not, List, [], ◌∷◌, length, length-append, Option, Some, None, refl, sym, ap, subst, ◌∙◌, arith}
+use Rattle.std.specs.Prelude.{if◌then◌else◌}
+use Rattle.wasm_spec.specs.Module.{Module}
+use Rattle.rule_spec.specs.Lists.{lists_of_module}
+use Rattle.type_spec.specs.Interned.{Built, startup_type, with_startup}
+use Rattle.wasm_index.specs.Index.{index_of}
+use Rattle.wasm_types.specs.declared.index.EngineOrModuleTypeIndex.{EngineOrModuleTypeIndex}
+use Rattle.wasm_module.specs.declared.startup.ModuleStartup.{ModuleStartup}
+use Rattle.replay_spec.specs.Plan.{MemoryPlan}
+use Rattle.replay_spec.specs.Startup.{Startup, Never, Always, IfMemoriesNeedInit, leaves_nothing, keeps_no_table, keeps_no_data, has_no_image, first_startup, raised_by_tables, raised_by_images, raised_by_memories}
+use Rattle.replay_spec.specs.Tables.{TablePlan}
+use Rattle.module_types.specs.Builder.{Builder, starts}
+use Rattle.init_plan.specs.Startup.{startup_kind, startup_with, raised, types_after}
+use Rattle.module_environ.specs.Types.{interned_list, type_index}
+use Rattle.module_environ.specs.Translated.{HoldsTypes, startup_index_when, starts_always}
+use Rattle.module_environ.specs.Translation.{startup_when}
+use Rattle.translate.specs.Options.{runs}
+
+-- the startup type comes next, where there is one
+abbrev index_when : Built → Bool → Option ℕ
+index_when types false = None
+index_when types true = Some (length types.types)
+
+-- startup runs then, and the builder holds these types, and the startup type behind them where it may run
+pub record IsStarted (types : Built) (kind : Startup) (s : ModuleStartup) (b : Builder) : Type 0 where
+  pub startup : s ≡ startup_with kind (type_index (length types.types))
+  pub built : b.built ≡ with_startup types (runs kind)
+  pub index : b.startup ≡ index_when types (runs kind)
+  pub sound : b.is_poisoned ≡ false
+
+-- when it runs
+pub kind_of : (types : Built) (kind : Startup) (s : ModuleStartup) (b : Builder) → IsStarted types kind s b → startup_kind s ≡ kind
+kind_of types kind s b h = ap startup_kind h.startup ∙ by kind (type_index (length types.types)) where
+  by : (k : Startup) (ty : EngineOrModuleTypeIndex) → startup_kind (startup_with k ty) ≡ k
+  by Never ty = refl
+  by Always ty = refl
+  by IfMemoriesNeedInit ty = refl
+
+-- one type more has room where two have
+pub has_room : (types : Built) (kind : Startup) (s : ModuleStartup) (b : Builder) → IsStarted types kind s b → length types.types + 1 < 4294967295
+    → length (starts b).built.types < 4294967295
+has_room types Never s b h room = rw (h.index, h.built) (let l = length-append types.types (startup_type ∷ []) in omega (arith, l))
+has_room types Always s b h room = rw (h.index, h.built) (let l = length-append types.types (startup_type ∷ []) in omega (arith, l))
+has_room types IfMemoriesNeedInit s b h room = rw (h.index, h.built) (let l = length-append types.types (startup_type ∷ []) in omega (arith, l))
+
+-- it is never lowered
+abbrev IsRaised : Startup → Startup → Type 0
+IsRaised before after = after ≡ Never → before ≡ Never
+
+pub raise : (types : Built) (before after : Startup) (s : ModuleStartup) (b : Builder) → IsStarted types before s b → IsRaised before after
+    → IsStarted types after (raised after s b) (types_after after s b)
+raise types Never Never s b h up = record { startup = refl; built = h.built; index = h.index; sound = h.sound }
+raise types Never Always s b h up = rw h.startup (record {
+  startup = rw (h.index, h.built) refl;
+  built = rw (h.index, h.built) refl;
+  index = rw (h.index, h.built) refl;
+  sound = rw h.index h.sound;
+})
+raise types Never IfMemoriesNeedInit s b h up = rw h.startup (record {
+  startup = rw (h.index, h.built) refl;
+  built = rw (h.index, h.built) refl;
+  index = rw (h.index, h.built) refl;
+  sound = rw h.index h.sound;
+})
+raise types Always Never s b h up = let e : Always ≡ Never = up refl in absurd cc
+raise types Always Always s b h up = rw h.startup (record { startup = refl; built = h.built; index = h.index; sound = h.sound })
+raise types Always IfMemoriesNeedInit s b h up = rw h.startup (record { startup = refl; built = h.built; index = h.index; sound = h.sound })
+raise types IfMemoriesNeedInit Never s b h up = let e : IfMemoriesNeedInit ≡ Never = up refl in absurd cc
+raise types IfMemoriesNeedInit Always s b h up = rw h.startup (record { startup = refl; built = h.built; index = h.index; sound = h.sound })
+raise types IfMemoriesNeedInit IfMemoriesNeedInit s b h up = rw h.startup (record { startup = refl; built = h.built; index = h.index; sound = h.sound })
+
+-- raised by a plan, from the startup that stands
+pub next : (types : Built) (by : Startup → Startup) (kind : Startup) (s after : ModuleStartup) (b gained : Builder)
+    → ((k : Startup) → IsRaised k (by k)) → IsStarted types kind s b → after ≡ raised (by (startup_kind s)) s b
+    → gained ≡ types_after (by (startup_kind s)) s b → IsStarted types (by kind) after gained
+next types by kind s after b gained up h startup grown =
+    let same = kind_of types kind s b h in
+    let is_after : after ≡ raised (by kind) s b = startup ∙ ap (λ (k : Startup). raised (by k) s b) same in
+    let is_gained : gained ≡ types_after (by kind) s b = grown ∙ ap (λ (k : Startup). types_after (by k) s b) same in
+    subst (IsStarted types (by kind) after) (sym is_gained)
+    (subst (λ (x : ModuleStartup). IsStarted types (by kind) x (types_after (by kind) s b)) (sym is_after)
+    (raise types kind (by kind) s b h (up kind)))
+
+-- the types are few, with the startup type too
+pub few_types : (types : Built) (kind : Startup) (s : ModuleStartup) (b : Builder) → IsStarted types kind s b → length types.types + 1 < 4294967295
+    → length b.built.types < 4294967295
+few_types types kind s b h room = rw h.built (by (runs kind)) where
+  by : (r : Bool) → length (with_startup types r).types < 4294967295
+  by true = let l = length-append types.types (startup_type ∷ []) in omega (arith, l)
+  by false = omega arith
+
+-- ---- by the plans
+
+pub raised-memories : (plan : MemoryPlan) (k : Startup) → IsRaised k (raised_by_memories plan k)
+raised-memories plan k = by (keeps_no_data plan) k where
+  images : (v : Bool) (k : Startup) → (let s : Startup = if v then raised_by_images plan k else Always in s) ≡ Never → k ≡ Never
+  images v Never e = refl
+  images true Always e = e
+  images false Always e = e
+  images true IfMemoriesNeedInit e = e
+  images false IfMemoriesNeedInit e = absurd (let h : Always ≡ Never = e in cc)
+
+  by : (v : Bool) (k : Startup) → (if v then raised_by_images plan k else Always) ≡ Never → k ≡ Never
+  by v k e = images v k e
+
+pub raised-tables : (plan : TablePlan) (k : Startup) → IsRaised k (raised_by_tables plan k)
+raised-tables plan k = by (keeps_no_table plan) where
+  by : (v : Bool) → (if v then k else Always) ≡ Never → k ≡ Never
+  by true e = e
+  by false e = absurd (let h : Always ≡ Never = e in cc)
+
+-- ---- before the plans
+
+first : (m : Module) (nothing : Bool) (s : ModuleStartup) (b : Builder) → s ≡ startup_when m (not nothing) → b.built ≡ interned_list m (not nothing)
+    → b.startup ≡ startup_index_when m (not nothing) → b.is_poisoned ≡ false
+    → IsStarted (interned_list m false) (if nothing then Never else Always) s b
+first m true s b startup built index sound = record { startup = startup; built = built; index = index; sound = sound }
+first m false s b startup built index sound = record { startup = startup; built = built; index = index; sound = sound }
+
+pub starts_first : (m : Module) (s : ModuleStartup) (b : Builder) → s ≡ startup_when m (starts_always m) → HoldsTypes m b
+    → IsStarted (interned_list m false) (first_startup (lists_of_module m)) s b
+starts_first m s b startup h = first m (leaves_nothing (lists_of_module m)) s b startup h.built h.startup h.sound
+
+few : (m : Module) (runs : Bool) (n : ℕ) → n ≡ length (interned_list m runs).types → n + 1 < 4294967295 → length (interned_list m false).types + 1 < 4294967295
+few m true n e lt = let l = length-append (interned_list m false).types (startup_type ∷ []) in omega (arith, e, l)
+few m false n e lt = omega (arith, e)
+
+-- there is room for the startup type
+pub first_room : (m : Module) (b : Builder) → HoldsTypes m b → length (interned_list m false).types + 1 < 4294967295
+first_room m b h = few m (starts_always m) (length b.built.types) (ap (λ (t : Built). length t.types) h.built) h.room
