@@ -51,7 +51,7 @@ pub record InitialisesMemories (i : InitOptions) (m : Module) (t : ModuleTransla
   -- by the image rule all active segments become images, or all are kept, in order
   pub plan : PlansMemories i m (memory_plan_of t)
   pub segmented : IsSegmented t.module.memory_initialization → (¬ BecomesImages i m) × (t.data_align ≡ None)
-  pub images : ¬ IsSegmented t.module.memory_initialization → BecomesImages i m × (t.data_align ≡ Some i.page_size)
+  pub imaged : ¬ IsSegmented t.module.memory_initialization → BecomesImages i m × (t.data_align ≡ Some i.page_size)
   pub processed : IsProcessed t.memory_init
   -- each image is whole pages within its memory, has the contents, and is tight
   pub tight : HasTightImages (images i) (length (imported_memories m)) (map image_memory_of (defined_memories m)) (active_segments m)
