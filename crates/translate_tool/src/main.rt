@@ -17,10 +17,11 @@ const NO_WORDS: u8 = 6;
 
 /// The words after the program's name; none where the system does not give them.
 fn words_of(rt: &HostRuntime) -> Option<Result<Vec<String>, AllocError>> {
-    let Ok(words) = env::args(rt) else {
-        return None;
-    };
-    Some(words.skip(1).collect(rt.alloc()))
+    match env::args(rt) {
+        Ok(words) => Some(words.skip(1).collect(rt.alloc())),
+        Err(error) if error.kind() == io::ErrorKind::OutOfMemory => Some(Err(AllocError)),
+        Err(_) => None,
+    }
 }
 
 /// What the program ends with after a run: its status.
