@@ -109,6 +109,7 @@ module _ (debugged : Bool) (m : Module) (t other : ModuleTranslation) where
     memories = has.memories;
     globals = has.globals;
     start = has.start;
+    pooled = record { imports = has.pooled.imports; exports = has.pooled.exports; name = has.pooled.name };
   }
 
   counts_same : CountsImports m t → CountsImports m done
@@ -121,7 +122,7 @@ module _ (debugged : Bool) (m : Module) (t other : ModuleTranslation) where
   }
 
   escapes_same : Escapes debugged m t → Escapes debugged m done
-  escapes_same has = record { functions = has.functions; count = has.count; signatures = has.signatures }
+  escapes_same has = record { functions = has.functions; count = has.count; below = has.below; signatures = has.signatures }
 
   globals_same : HasGlobals m t → HasGlobals m done
   globals_same has = record { known = has.known; left = has.left }

@@ -30,9 +30,10 @@ sections-carry debugged m t u same s =
         memories = e.memories;
         globals = e.globals;
         start = e.start;
+        pooled = record { imports = e.pooled.imports; exports = e.pooled.exports; name = e.pooled.name };
       };
       counts = record { functions = c.functions; tables = c.tables; memories = c.memories; globals = c.globals; tags = c.tags };
-      escapes = record { functions = x.functions; count = x.count; signatures = x.signatures };
+      escapes = record { functions = x.functions; count = x.count; below = x.below; signatures = x.signatures };
       heap = s.heap;
       globals = record { known = g.known; left = g.left };
       elements = record {

@@ -1,8 +1,9 @@
 -- Exports, entered one after another.
-use Rattle.std.proofs.Common.{◌≡◌, ◌≢◌, ◌<◌, ℕ, ◌+◌, Bool, true, false, cond, List, [], ◌∷◌, ◌++◌, length, map, take, drop, get_or, slice_get, unwrap_or, is_some, All, IfSome, Some, nat_eq, inl, inr, refl, sym, ap, subst, ◌∙◌, append_assoc, arith}
+use Rattle.std.proofs.Common.{◌≡◌, ◌≢◌, ◌<◌, ℕ, ◌+◌, Bool, true, false, cond, List, [], ◌∷◌, ◌++◌, length, map, take, drop, get_or, slice_get, unwrap_or, All, IfSome, Some, nat_eq, inl, inr, refl, sym, ap, subst, ◌∙◌, append_assoc, arith}
 use Rattle.std.specs.List.{flat_map}
 use Rattle.std.proofs.lemmas.List.{length-append, get_or_append_left, get_or_at, map_more, map_push, map-append, take-append-drop}
 use Rattle.std.proofs.lemmas.Bool.Decides.{eqb_tells}
+use Rattle.std.proofs.lemmas.Option.{slice_get_within}
 use Rattle.std.proofs.lemmas.List.Concat.{flat_map-append}
 use Rattle.std.proofs.lemmas.List.Elements.{All-head, All-tail, All-same, All-push, All-map, All-weaker, All-get_or, All-from_get_or, filter_map-append}
 use Rattle.indexmap.specs.IndexMap.{insert_entry}
@@ -28,7 +29,7 @@ use Rattle.module_environ.specs.Entities.{text_at, entity_at, resolved_export}
 use Rattle.module_environ.specs.Escapes.{exported_function}
 use Rattle.module_environ.specs.Exported.{exported_functions, CanExport, AreEntered}
 use Rattle.module_environ.specs.Flags.{Flags, flagged}
-use Rattle.module_environ.specs.Pooled.{GrowsBy, IsPooled}
+use Rattle.module_environ.specs.Pooled.{GrowsBy, HasText}
 use Rattle.module_environ.proofs.Filling.{flagged-then}
 use Rattle.module_environ.proofs.GrownPool.{pooled-grown, exports-grown}
 
@@ -72,7 +73,7 @@ entered-grown : (n : ℕ) (es : List Export) (old new : List (List ℕ)) (entrie
     → AreEntered es old entries → AreEntered es new entries
 entered-grown n es old new entries grows h = record {
   entities = exports-grown n old new grows entries h.pooled ∙ h.entities;
-  pooled = All-weaker (λ (e : Atom × EntityIndex). IsPooled old e.0) (λ (e : Atom × EntityIndex). IsPooled new e.0)
+  pooled = All-weaker (λ (e : Atom × EntityIndex). HasText old e.0) (λ (e : Atom × EntityIndex). HasText new e.0)
       (λ e. pooled-grown n old new grows e.0) entries h.pooled;
 }
 
@@ -93,8 +94,8 @@ entered-push eq same before e old new now after k v grows stands is inserted h d
     record {
       entities = ap (map (resolved_export new)) last ∙ map_push (resolved_export new) now (k, v)
           ∙ (λ j. moved.entities j ++ (named j, is j) ∷ []) ∙ sym (map_push view before e);
-      pooled = All-same (λ (x : Atom × EntityIndex). IsPooled new x.0) after (now ++ (k, v) ∷ []) last
-          (All-push (λ (x : Atom × EntityIndex). IsPooled new x.0) now (k, v) moved.pooled (ap is_some stands));
+      pooled = All-same (λ (x : Atom × EntityIndex). HasText new x.0) after (now ++ (k, v) ∷ []) last
+          (All-push (λ (x : Atom × EntityIndex). HasText new x.0) now (k, v) moved.pooled (slice_get_within new (atom_number k) e.name stands));
     }
 
 -- ---- over exports

@@ -1,6 +1,6 @@
 -- What a translation holds after its initialisers, exports and segments are filled in.
 use Rattle.std.proofs.Common.{◌≡◌, ◌<◌, ◌^◌, ℕ, List, [], ◌++◌, length, map, Result, Ok, Err, replicate, sym, ap, subst, ◌∙◌, arith}
-use Rattle.std.specs.Prelude.{OnOk}
+use Rattle.std.specs.Prelude.{All, OnOk}
 use Rattle.std.specs.Option.{option_map}
 use Rattle.std.proofs.lemmas.List.{length-map}
 use Rattle.wasm_spec.specs.Module.{TableDef}
@@ -21,7 +21,7 @@ use Rattle.module_environ.specs.Entities.{exported_entities, resolved_export}
 use Rattle.module_environ.specs.Filling.{module_in, IsGathered, FillsInitialisers, references_of}
 use Rattle.module_environ.specs.Flags.{Flags, flagged}
 use Rattle.module_environ.specs.Initialisers.{first_values, first_value_seen, passive_data_from}
-use Rattle.module_environ.specs.Pooled.{GrowsBy}
+use Rattle.module_environ.specs.Pooled.{GrowsBy, HasText}
 use Rattle.module_environ.specs.Translation.{HasGlobals, HasElements}
 use Rattle.module_environ.proofs.Flagging.{flagged-append}
 use Rattle.module_environ.proofs.GatheredTables.{none_of_each}
@@ -69,7 +69,8 @@ no_images_of look tables values images first n is none =
 -- the data segments are filled in last
 pub fills : (m : plain.Module) (before after : Flags) (old mid new : ModuleTranslation)
     → map (resolved_export mid.module.strings) mid.module.exports.entries ≡ exported_entities (lists_of_module m).exports
-    → GrowsBy (2 ^ 30) old.module.strings mid.module.strings → HasGlobals m mid → HasElements m mid
+    → GrowsBy (2 ^ 30) old.module.strings mid.module.strings → All (λ e. HasText mid.module.strings e.0) mid.module.exports.entries
+    → HasGlobals m mid → HasElements m mid
     → after ≡ flagged before (references_of (lists_of_module m))
     → mid ≡ record old {
       «module» = record old.module {
@@ -87,7 +88,7 @@ pub fills : (m : plain.Module) (before after : Flags) (old mid new : ModuleTrans
     → initializers_of new ≡ active_segments m → passive_data_of new ≡ passive_data_from 0 (plain.segments m) → IsUnprocessed new.memory_init
     → new ≡ record mid { memory_init = new.memory_init; hidden = record mid.hidden { passive_data = new.hidden.passive_data } }
     → FillsInitialisers m before after old new
-fills m before after old mid new exports texts globals elements noted made active passive unprocessed same =
+fills m before after old mid new exports texts pooled globals elements noted made active passive unprocessed same =
     let last : ModuleTranslation = record mid {
       memory_init = new.memory_init;
       hidden = record mid.hidden { passive_data = new.hidden.passive_data };
@@ -96,6 +97,7 @@ fills m before after old mid new exports texts globals elements noted made activ
       exports = subst (λ (t : ModuleTranslation). map (resolved_export t.module.strings) t.module.exports.entries
           ≡ exported_entities (lists_of_module m).exports) (sym same) exports;
       texts = subst (λ (t : ModuleTranslation). GrowsBy (2 ^ 30) old.module.strings t.module.strings) (sym same) texts;
+      pooled = subst (λ (t : ModuleTranslation). All (λ e. HasText t.module.strings e.0) t.module.exports.entries) (sym same) pooled;
       globals = subst (HasGlobals m) (sym same) (let h : HasGlobals m last = record { known = globals.known; left = globals.left } in h);
       elements = subst (HasElements m) (sym same) (let h : HasElements m last = record {
         first = elements.first;

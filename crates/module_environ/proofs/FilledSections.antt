@@ -5,7 +5,7 @@ use borrow.Pointer.Hide.{carry_now, carried_same}
 use denote.Param.Table.{Entry}
 use mir.Syntax.{Dict}
 use Rattle.std.specs.Borrow.{Bor}
-use Rattle.std.specs.Prelude.{All, IsSomeAnd, slice_get, drop, if◌then◌else◌}
+use Rattle.std.specs.Prelude.{All, IfSome, IsSomeAnd, slice_get, drop, if◌then◌else◌}
 use Rattle.std.specs.List.{flat_map, list_any, range_with_len}
 use Rattle.std.specs.Option.{option_map, option_and_then}
 use Rattle.std.proofs.lemmas.List.{append-nil, length-append}
@@ -36,6 +36,7 @@ use Rattle.wasm_types.specs.Memories.{memory_of}
 use Rattle.wasm_convert.specs.Conversion.{LookUp}
 use Rattle.wasm_convert.specs.declared.convert.TypeConvert.{Ghosts}
 use Rattle.wasm_module.specs.declared.module.Module.{Module}
+use Rattle.wasm_module.specs.Record.{ModuleRecord}
 use Rattle.module_types.specs.Builder.{Kept, shown}
 use Rattle.init_plan.specs.declared.translation.ModuleTranslation.{ModuleTranslation}
 use Rattle.init_plan.specs.Views.{IsNewTranslation, IsSegmented, ranges_of}
@@ -48,11 +49,12 @@ use Rattle.module_environ.specs.Filling.{module_in, IsGathered, LooksUpTypes, Fi
 use Rattle.module_environ.specs.Flags.{Flags, flagged}
 use Rattle.module_environ.specs.LookUps.{AgreeBelow}
 use Rattle.module_environ.specs.Translation.{HasEntities, CountsImports, NeedsHeap, HasData}
+use Rattle.module_environ.specs.Pooled.{HasText, HasTexts}
 use Rattle.module_environ.specs.Types.{declared, look_up_in, type_index, AreTypesOf}
 use Rattle.module_environ.proofs.DeclaredLooks.{listed-long, look-declared, agree-chained}
 use Rattle.module_environ.proofs.Flagging.{flagged-append}
 use Rattle.module_environ.proofs.FromRules.{below-by}
-use Rattle.module_environ.proofs.GrownPool.{imports-grown}
+use Rattle.module_environ.proofs.GrownPool.{imports-grown, names-grown}
 
 -- ---- declared types
 
@@ -168,6 +170,11 @@ module _ (l : Lists) (gathered : IsGathered l) where
 
 -- ---- the whole
 
+-- the empty record has no name
+new-name : (index : Index StaticModuleSpace) (empty : ModuleTranslation) → IsNewTranslation index empty → (texts : List (List ℕ))
+    → IfSome empty.module.name (HasText texts)
+new-name index empty new texts = subst (λ n. IfSome n (HasText texts)) (sym (ap (λ (r : ModuleRecord). r.name) new.record_of_module)) tt
+
 -- an empty translation whose entities are filled in, and then its initialisers
 module _ (m : plain.Module) (index : Index StaticModuleSpace) (empty : ModuleTranslation) (new : IsNewTranslation index empty)
     (entities : Module) (first : FillsEntities m empty.module entities) (before after : Flags) (t : ModuleTranslation)
@@ -188,32 +195,6 @@ module _ (m : plain.Module) (index : Index StaticModuleSpace) (empty : ModuleTra
   stays : (P : Module → Type 0) → P kept → P t.module
   stays P p = subst P (sym module-is) p
 
-  pub entities-filled : (start : Option (Index FuncSpace)) → option_map number_of start ≡ slice_get (lists_of_module m).starts 0
-      → HasEntities m (record t { start_func = start })
-  entities-filled start is = record {
-    imports = stays (λ x. map (resolved_import t.module.strings) x.initializers.items ≡ imported_entities m)
-        (imports-grown (2 ^ 30) entities.strings t.module.strings second.texts entities.initializers.items first.pooled ∙ first.imports);
-    exports = second.exports;
-    tables = stays (λ x. map table_of x.tables ≡ tables_data m) first.tables;
-    memories = stays (λ x. x.memories ≡ map memory_of (plain.memories m)) first.memories;
-    globals = stays (λ x. map global_of x.globals ≡ globals_data m) first.globals;
-    start = is;
-  }
-
-  pub counts-filled : CountsImports m t
-  counts-filled = record {
-    functions = stays (λ x. x.num_imported_funcs ≡ count_of plain.function_import (plain.imports m)) first.functions;
-    tables = stays (λ x. x.num_imported_tables ≡ count_of plain.table_import (plain.imports m)) first.imported_tables;
-    memories = stays (λ x. x.num_imported_memories ≡ count_of plain.memory_import (plain.imports m)) first.imported_memories;
-    globals = stays (λ x. x.num_imported_globals ≡ count_of plain.global_import (plain.imports m)) first.imported_globals;
-    tags = stays (λ x. x.num_imported_tags ≡ count_of plain.tag_import (plain.imports m)) first.tags;
-  }
-
-  pub heap-filled : NeedsHeap t
-  heap-filled =
-      let collected : List Table → Bool = list_any (λ table. heap_is_collected table.ref_type.heap_type) in
-      stays (λ x. x.needs_gc_heap ≡ collected (drop x.num_imported_tables x.tables)) first.heap
-
   -- what the entities leave of the empty record
   begins : (P : Module → Type 0) → P (record empty.module {
     strings = entities.strings;
@@ -229,6 +210,40 @@ module _ (m : plain.Module) (index : Index StaticModuleSpace) (empty : ModuleTra
     globals = entities.globals;
   }) → P entities
   begins P p = subst P (sym first.same) p
+
+  pub entities-filled : (start : Option (Index FuncSpace)) → option_map number_of start ≡ slice_get (lists_of_module m).starts 0
+      → HasEntities m (record t { start_func = start })
+  entities-filled start is = record {
+    imports = stays (λ x. map (resolved_import t.module.strings) x.initializers.items ≡ imported_entities m)
+        (imports-grown (2 ^ 30) entities.strings t.module.strings second.texts entities.initializers.items first.pooled ∙ first.imports);
+    exports = second.exports;
+    tables = stays (λ x. map table_of x.tables ≡ tables_data m) first.tables;
+    memories = stays (λ x. x.memories ≡ map memory_of (plain.memories m)) first.memories;
+    globals = stays (λ x. map global_of x.globals ≡ globals_data m) first.globals;
+    start = is;
+    pooled = record {
+      imports = stays (λ x. All (HasTexts t.module.strings) x.initializers.items)
+          (All-weaker (HasTexts entities.strings) (HasTexts t.module.strings) (names-grown (2 ^ 30) entities.strings t.module.strings second.texts)
+          entities.initializers.items first.pooled);
+      exports = second.pooled;
+      name = stays (λ x. IfSome x.name (HasText t.module.strings))
+          (begins (λ x. IfSome x.name (HasText t.module.strings)) (new-name index empty new t.module.strings));
+    };
+  }
+
+  pub counts-filled : CountsImports m t
+  counts-filled = record {
+    functions = stays (λ x. x.num_imported_funcs ≡ count_of plain.function_import (plain.imports m)) first.functions;
+    tables = stays (λ x. x.num_imported_tables ≡ count_of plain.table_import (plain.imports m)) first.imported_tables;
+    memories = stays (λ x. x.num_imported_memories ≡ count_of plain.memory_import (plain.imports m)) first.imported_memories;
+    globals = stays (λ x. x.num_imported_globals ≡ count_of plain.global_import (plain.imports m)) first.imported_globals;
+    tags = stays (λ x. x.num_imported_tags ≡ count_of plain.tag_import (plain.imports m)) first.tags;
+  }
+
+  pub heap-filled : NeedsHeap t
+  heap-filled =
+      let collected : List Table → Bool = list_any (λ table. heap_is_collected table.ref_type.heap_type) in
+      stays (λ x. x.needs_gc_heap ≡ collected (drop x.num_imported_tables x.tables)) first.heap
 
   pub data-filled : HasData m t
   data-filled = record {

@@ -15,7 +15,7 @@ use Rattle.form_data.specs.Views.{import_of}
 use Rattle.module_environ.specs.declared.imports.ImportCounts.{ImportCounts}
 use Rattle.module_environ.specs.Entities.{NamedEntity, count_of, brought, imports_after, resolved_import}
 use Rattle.module_environ.specs.Imported.{AreCounted, HaveIndices, AreImported, one_if, counted, next_entity}
-use Rattle.module_environ.specs.Pooled.{GrowsBy, HasPooledNames}
+use Rattle.module_environ.specs.Pooled.{GrowsBy, HasTexts}
 use Rattle.module_environ.proofs.GrownPool.{length-grown, names-grown, imports-grown}
 
 -- ---- counts
@@ -77,7 +77,7 @@ imports_after-push before (j ∷ is) i =
 -- ---- as they are converted
 
 pub imported-push : (is : List Import) (i : Import) (old new : List (List ℕ)) (before : List Initializer) (one : Initializer) (c : ImportCounts)
-    → GrowsBy 2 old new → HasPooledNames new one → resolved_import new one ≡ (i.space, i.name, next_entity c i.type)
+    → GrowsBy 2 old new → HasTexts new one → resolved_import new one ≡ (i.space, i.name, next_entity c i.type)
     → AreImported is old before c → AreImported (is ++ i ∷ []) new (before ++ one ∷ []) (counted c i.type)
 imported-push is i old new before one c grows pooled resolved h = record {
   entities = map_push (resolved_import new) before one
@@ -85,8 +85,8 @@ imported-push is i old new before one c grows pooled resolved h = record {
       ∙ ap (λ (e : NamedEntity). imports_after [] is ++ e ∷ []) (resolved
       ∙ ap (λ (x : EntityIndex). (let named : NamedEntity = (i.space, i.name, x) in named)) (next-brought is c h.counted i.type))
       ∙ sym (imports_after-push [] is i);
-  pooled = All-push (HasPooledNames new) before one
-      (All-weaker (HasPooledNames old) (HasPooledNames new) (names-grown 2 old new grows) before h.pooled) pooled;
+  pooled = All-push (HasTexts new) before one
+      (All-weaker (HasTexts old) (HasTexts new) (names-grown 2 old new grows) before h.pooled) pooled;
   counted = counted-push is i c h.counted;
   few = omega (arith, h.few, length-grown 2 old new grows, length-append is (i ∷ []));
 }
@@ -94,7 +94,7 @@ imported-push is i old new before one c grows pooled resolved h = record {
 -- one import more, converted
 pub imported-step : (before : List Import) (is : List Read) (k : ℕ) (i : Read) → k < length is → i ≡ get_or is k i
     → (old new : List (List ℕ)) (now after : List Initializer) (one : Initializer) (c d : ImportCounts) → d ≡ counted c i.ty
-    → GrowsBy 2 old new → HasPooledNames new one → resolved_import new one ≡ (i.«module».now, i.name.now, next_entity c i.ty)
+    → GrowsBy 2 old new → HasTexts new one → resolved_import new one ≡ (i.«module».now, i.name.now, next_entity c i.ty)
     → after ≡ now ++ one ∷ []
     → AreImported (before ++ map import_of (take k is)) old now c → AreImported (before ++ map import_of (take (k + 1) is)) new after d
 imported-step before is k i lt at old new now after one c d counts grows pooled resolved pushed h =

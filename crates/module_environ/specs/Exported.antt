@@ -7,7 +7,7 @@ use Rattle.wasm_spec.specs.Module.{Export}
 use Rattle.wasm_types.specs.declared.entity.EntityIndex.{EntityIndex}
 use Rattle.module_environ.specs.Entities.{resolved_export, exported_entities}
 use Rattle.module_environ.specs.Escapes.{exported_function}
-use Rattle.module_environ.specs.Pooled.{IsPooled}
+use Rattle.module_environ.specs.Pooled.{HasText}
 
 -- the functions among what is exported
 abbrev pub exported_functions : List Export → List ℕ
@@ -21,4 +21,4 @@ pub record CanExport (functions : ℕ) (e : Export) : Type 0 where
 -- what these exports became, in order; their names are in the pool
 pub record AreEntered (exports : List Export) (texts : List (List ℕ)) (entries : List (Atom × EntityIndex)) : Type 0 where
   pub entities : map (resolved_export texts) entries ≡ exported_entities exports
-  pub pooled : All (λ e. IsPooled texts e.0) entries
+  pub pooled : All (λ e. HasText texts e.0) entries

@@ -26,7 +26,7 @@ use Rattle.module_environ.specs.LookUps.{AgreeBelow}
 use Rattle.module_environ.specs.Flags.{Flags, flagged}
 use Rattle.module_environ.specs.Escapes.{referred, referred_if_any, item_functions}
 use Rattle.module_environ.specs.Exported.{exported_functions}
-use Rattle.module_environ.specs.Pooled.{GrowsBy, HasPooledNames}
+use Rattle.module_environ.specs.Pooled.{GrowsBy, HasText, HasTexts}
 use Rattle.module_environ.specs.Entities.{count_of, imported_entities, exported_entities, resolved_import, resolved_export, tables_data, globals_data}
 use Rattle.module_environ.specs.Initialisers.{passive_data_from}
 use Rattle.module_environ.specs.Translation.{HasGlobals, HasElements}
@@ -49,7 +49,7 @@ pub record LooksUpTypes (m : plain.Module) (known : UnpackedIndex → Type 0) (l
 -- imports and index spaces but those of functions and tags are filled in
 pub record FillsEntities (m : plain.Module) (old new : Module) : Type 0 where
   pub imports : map (resolved_import new.strings) new.initializers.items ≡ imported_entities m
-  pub pooled : All (HasPooledNames new.strings) new.initializers.items
+  pub pooled : All (HasTexts new.strings) new.initializers.items
   pub few_texts : length new.strings < 2 ^ 31
   pub functions : new.num_imported_funcs ≡ count_of function_import (plain.imports m)
   pub imported_tables : new.num_imported_tables ≡ count_of table_import (plain.imports m)
@@ -86,6 +86,7 @@ references_of l =
 pub record FillsInitialisers (m : plain.Module) (before after : Flags) (old new : ModuleTranslation) : Type 0 where
   pub exports : map (resolved_export new.module.strings) new.module.exports.entries ≡ exported_entities (lists_of_module m).exports
   pub texts : GrowsBy (2 ^ 30) old.module.strings new.module.strings
+  pub pooled : All (λ e. HasText new.module.strings e.0) new.module.exports.entries
   pub globals : HasGlobals m new
   pub elements : HasElements m new
   pub unprocessed : IsUnprocessed new.memory_init

@@ -10,7 +10,7 @@ use Rattle.wasm_types.specs.declared.entity.EntityIndex.TheVariants as entity
 use Rattle.wasm_module.specs.declared.initializer.Initializer.{Initializer}
 use Rattle.module_environ.specs.declared.imports.ImportCounts.{ImportCounts}
 use Rattle.module_environ.specs.Entities.{count_of, imports_after, resolved_import}
-use Rattle.module_environ.specs.Pooled.{HasPooledNames}
+use Rattle.module_environ.specs.Pooled.{HasTexts}
 
 -- so many imports are there of each kind
 pub record AreCounted (is : List Import) (counts : ImportCounts) : Type 0 where
@@ -53,6 +53,6 @@ next_entity c (imported.Tag type) = entity.Tag (index_of c.tags)
 -- what these imports became: their names are in the pool, which has no others
 pub record AreImported (is : List Import) (texts : List (List ℕ)) (initializers : List Initializer) (counts : ImportCounts) : Type 0 where
   pub entities : map (resolved_import texts) initializers ≡ imports_after [] is
-  pub pooled : All (HasPooledNames texts) initializers
+  pub pooled : All (HasTexts texts) initializers
   pub counted : AreCounted is counts
   pub few : length texts ≤ 2 * length is

@@ -1,5 +1,5 @@
 -- The translation of a module, before its memories and tables are planned: each field is a list of the module (core specification, 2.5).
-use Rattle.std.specs.Prelude.{◌≡◌, ℕ, Bool, true, false, List, [], ◌∷◌, length, map, drop, slice_get, not, Some, None, unwrap_or}
+use Rattle.std.specs.Prelude.{◌≡◌, ◌≤◌, ℕ, Bool, true, false, List, [], ◌∷◌, length, map, drop, slice_get, not, All, IfSome, Some, None, unwrap_or}
 use Rattle.std.specs.List.{flat_map, list_any}
 use Rattle.std.specs.Option.{option_map}
 use Rattle.entity_map.specs.Secondary.{value_at}
@@ -26,6 +26,7 @@ use Rattle.init_plan.specs.Views.{initializers_of, passive_data_of, types_of, Is
 use Rattle.module_environ.specs.Types.{declared, interned_at, interned_list, type_index, look_up_in}
 use Rattle.module_environ.specs.Entities.{count_of, imported_entities, exported_entities, resolved_import, resolved_export, function_types, tables_data, globals_data, tags_of}
 use Rattle.module_environ.specs.Escapes.{escaping, AreSignatures}
+use Rattle.module_environ.specs.Pooled.{HasText, HasTexts}
 use Rattle.module_environ.specs.Initialisers.{known_values, left_initialisers, value_seen, initialiser_seen, first_values, first_value_seen, active_elements, segment_seen, passive_items, items_seen, passive_numbers, passive_data_from}
 
 -- where the code section's contents begin, and 0 without one
@@ -42,6 +43,12 @@ abbrev pub startup_when : plain.Module → Bool → ModuleStartup
 startup_when m false = startup.None
 startup_when m true = startup.Always (type_index (length (interned_list m false).types))
 
+-- each name of the record has its text in the pool
+pub record HasPooledNames (t : ModuleTranslation) : Type 0 where
+  pub imports : All (HasTexts t.module.strings) t.module.initializers.items
+  pub exports : All (λ e. HasText t.module.strings e.0) t.module.exports.entries
+  pub name : IfSome t.module.name (HasText t.module.strings)
+
 -- imports, exports and what each index space holds; types by their interned indices
 pub record HasEntities (m : plain.Module) (t : ModuleTranslation) : Type 0 where
   pub imports : map (resolved_import t.module.strings) t.module.initializers.items ≡ imported_entities m
@@ -50,6 +57,7 @@ pub record HasEntities (m : plain.Module) (t : ModuleTranslation) : Type 0 where
   pub memories : t.module.memories ≡ map memory_of (plain.memories m)
   pub globals : map global_of t.module.globals ≡ globals_data m
   pub start : option_map number_of t.start_func ≡ slice_get (lists_of_module m).starts 0
+  pub pooled : HasPooledNames t
 
 -- how many entities of each space are imported
 pub record CountsImports (m : plain.Module) (t : ModuleTranslation) : Type 0 where
@@ -63,6 +71,7 @@ pub record CountsImports (m : plain.Module) (t : ModuleTranslation) : Type 0 whe
 pub record Escapes (debugged : Bool) (m : plain.Module) (t : ModuleTranslation) : Type 0 where
   pub functions : t.module.functions ≡ function_types m (escaping debugged (lists_of_module m))
   pub count : t.module.num_escaped_funcs ≡ length (escaping debugged (lists_of_module m))
+  pub below : t.module.num_escaped_funcs ≤ length t.module.functions
   pub signatures : AreSignatures (escaping debugged (lists_of_module m)) (map (interned_at m) (plain.functions m)) (map number_of t.exported_signatures.items)
 
 -- whether a table of the table section holds references that are collected

@@ -103,7 +103,8 @@ impl Escaping {
 
     /// To how many functions references are made.
     pub(crate) fn len(&self) -> usize
-        ensures { result ≡ length self.now.order }
+        ensures len { result ≡ length self.now.order }
+        ensures few { result ≤ self.now.count }
     {
         self.order.len()
     }

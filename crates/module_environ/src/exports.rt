@@ -10,7 +10,7 @@ ghost use Rattle.rule_spec.specs.Rules.{AreDistinct};
 ghost use Rattle.module_environ.specs.Entities.{entity_at, exported_entities, resolved_export};
 ghost use Rattle.module_environ.specs.Exported.{CanExport, AreEntered, exported_functions};
 ghost use Rattle.module_environ.specs.Flags.{flagged};
-ghost use Rattle.module_environ.specs.Pooled.{GrowsBy};
+ghost use Rattle.module_environ.specs.Pooled.{GrowsBy, HasText};
 
 use crate::escapes::Escaping;
 use entity_map::{Atom, EntityRef, OutOfMemory, StringPool};
@@ -38,6 +38,7 @@ pub(crate) fn convert_exports(
     ensures noted { OnOk result (escaping.new
         ≡ flagged escaping.old (exported_functions (flat_map exports_of_section (module_of form.now)))) }
     ensures pool { OnOk result (GrowsBy (length (flat_map exports_of_section (module_of form.now))) strings.old strings.new) }
+    ensures pooled { IfOk result (λ es. All (λ e. HasText strings.new e.0) es.entries) }
 {
     // An atom is a number of our own, which no name chooses: the map needs no seed.
     let mut exports = IndexMap::new(alloc);

@@ -7,7 +7,7 @@ ghost use Rattle.form_data.specs.Views.{import_of, module_of};
 ghost use Rattle.wasm_index.specs.Index.{index_of};
 ghost use Rattle.module_environ.specs.Entities.{imported_entities, resolved_import};
 ghost use Rattle.module_environ.specs.Imported.{AreCounted, HaveIndices, AreImported, counted, next_entity};
-ghost use Rattle.module_environ.specs.Pooled.{GrowsBy, HasPooledNames};
+ghost use Rattle.module_environ.specs.Pooled.{GrowsBy, HasTexts};
 
 use entity_map::{EntityRef, OutOfMemory, StringPool};
 use form_data::{Export, Form, Import};
@@ -105,7 +105,7 @@ pub(crate) fn convert_imports(
     ensures imports { IfOk result (λ r. map (resolved_import strings.new) r.0.items ≡ imported_entities (module_of form.now)) }
     ensures counts { IfOk result (λ r. AreCounted (plain.imports (module_of form.now)) r.1) }
     ensures pool { OnOk result (length strings.new ≤ 2 * length (plain.imports (module_of form.now))) }
-    ensures pooled { IfOk result (λ r. All (HasPooledNames strings.new) r.0.items) }
+    ensures pooled { IfOk result (λ r. All (HasTexts strings.new) r.0.items) }
 {
     let mut initializers = Vec::new(alloc);
     let mut counts = ImportCounts::none();
@@ -135,6 +135,7 @@ fn add_imports(
 }
 
 /// An import by the atoms of its names and by its entity, which is counted.
+#[tactic(auto, using(std::proofs::lemmas::Option::slice_get_within))]
 fn convert_import(
     counts: &mut ImportCounts,
     strings: &mut StringPool,
@@ -144,7 +145,7 @@ fn convert_import(
     requires room { length strings.old < u32.MAX - 2 }
     ensures counts { OnOk result (counts.new ≡ counted counts.old import.now.ty) }
     ensures pool { OnOk result (GrowsBy 2 strings.old strings.new) }
-    ensures pooled { IfOk result (HasPooledNames strings.new) }
+    ensures pooled { IfOk result (HasTexts strings.new) }
     ensures import { IfOk result (λ i. resolved_import strings.new i
         ≡ ((import_of import.now).space, (import_of import.now).name, next_entity counts.old import.now.ty)) }
 {

@@ -118,4 +118,4 @@ returns g c =
     (λ active passive unprocessed same. fills m c.args.escaping.now c.convert_elements.new.escaping old mid c.add_segments.new.translation
     c.in_ok-translation-2.ensures.exports
     (grows_less (length l.exports) old.module.strings c.convert_exports.new.strings r.few.exports c.in_ok-translation-2.ensures.pool)
-    globals elements noted refl active passive unprocessed same)
+    c.in_ok-translation-2.ensures.pooled globals elements noted refl active passive unprocessed same)

@@ -1,5 +1,7 @@
-use Rattle.std.proofs.Common.{◌≡◌, ◌∙◌, length, map, ap, subst, arith}
-use Rattle.std.specs.List.{range_with_len}
+use Rattle.std.proofs.Common.{◌≡◌, ◌∙◌, length, map, sym, ap, subst, arith}
+use Rattle.std.specs.List.{enumerate_from, range_with_len}
+use Rattle.std.proofs.lemmas.List.{length-map}
+use Rattle.std.proofs.lemmas.List.FromFn.{length-enumerate_from}
 use Rattle.wasm_spec.specs.Module as plain
 use Rattle.rule_spec.specs.Lists.{lists_of_module}
 use Rattle.wasm_index.specs.Index.{number_of}
@@ -50,6 +52,10 @@ returns-clause-sections c =
     let t = c.fill_initialisers.new.translation in
     let new = c.requires.new in
     let functions = c.as_slice-functions.ensures.value ∙ functions-are l gathered in
+    let made = c.in_ok-translation.ensures m c.requires.listed functions in
+    let all = enumerate_from 0 (plain.functions m) in
+    let counted : length c.in_ok-translation.field-0 ≡ length c.as_slice-functions.result.now =
+    ap length made ∙ length-map all _ ∙ length-enumerate_from 0 (plain.functions m) ∙ ap length (sym functions) in
     let after : c.if-debugged.escaping ≡ flagged c.fill_initialisers.new.escaping (behind c.args.debugged (lists_of_module m)) =
     elim c.if-debugged.branch [
       | then-debugged+in_ok-flag_range-2 w ↦
@@ -60,10 +66,12 @@ returns-clause-sections c =
       | else-debugged w ↦
           noted-not (lists_of_module m) c.fill_initialisers.new.escaping c.if-debugged.escaping c.args.debugged w.if-debugged.false w.escaping-is
     ] in
-    let noted : c.if-debugged.escaping.order ≡ escaping c.args.debugged (lists_of_module m) =
-    ap (λ (f : Flags). f.order) (all-noted c.args.debugged (lists_of_module m) c.in_ok-escaping.escaping c.flag_range.new.self
+    let whole : c.if-debugged.escaping ≡ flagged c.in_ok-escaping.escaping (references c.args.debugged (lists_of_module m)) =
+    all-noted c.args.debugged (lists_of_module m) c.in_ok-escaping.escaping c.flag_range.new.self
     c.fill_initialisers.new.escaping c.if-debugged.escaping
-    (c.in_ok-flag_range.ensures ∙ ap (λ n. flagged c.in_ok-escaping.escaping (range_with_len 0 n)) (imported-are l gathered)) second.noted after)
+    (c.in_ok-flag_range.ensures ∙ ap (λ n. flagged c.in_ok-escaping.escaping (range_with_len 0 n)) (imported-are l gathered)) second.noted after in
+    let noted : c.if-debugged.escaping.order ≡ escaping c.args.debugged (lists_of_module m) =
+    ap (λ (f : Flags). f.order) whole
     ∙ ap (λ (f : Flags). (flagged f (references c.args.debugged (lists_of_module m))).order) c.in_ok-escaping.ensures in
     let counts = counts-filled m _ _ new _ first _ _ t second in
     let segments = data-filled m _ _ new _ first _ _ t second in
@@ -77,6 +85,7 @@ returns-clause-sections c =
         memories = entities.memories;
         globals = entities.globals;
         start = entities.start;
+        pooled = record { imports = entities.pooled.imports; exports = entities.pooled.exports; name = entities.pooled.name };
       };
       counts = record {
         functions = counts.functions;
@@ -86,8 +95,16 @@ returns-clause-sections c =
         tags = counts.tags;
       };
       escapes = record {
-        functions = c.in_ok-translation.ensures m c.requires.listed functions ∙ ap (function_types m) noted;
-        count = c.len-translation.ensures ∙ ap length noted;
+        functions = made ∙ ap (function_types m) noted;
+        count = c.len-translation.ensures.len ∙ ap length noted;
+        below = omega (
+          arith,
+          c.len-translation.ensures.few,
+          counted,
+          ap (λ (f : Flags). f.count) whole,
+          ap (λ (f : Flags). f.count) c.in_ok-escaping.ensures,
+          ap length c.as_slice-functions.ensures.value,
+        );
         signatures =
             let types = map (interned_at m) (plain.functions m) in
             subst (λ order. AreSignatures order types (map number_of c.in_ok-translation-2.field-0.items)) noted
