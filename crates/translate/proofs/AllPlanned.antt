@@ -32,11 +32,12 @@ use Rattle.translate.proofs.Started.{IsStarted, next, starts_first, first_room, 
 use Rattle.translate.proofs.Unchanged.{changes_both}
 
 -- what was translated with equal words is translated with these
-pub translated_with : (a b : Tunables) (i j : Index StaticModuleSpace) (v w : ℕ) (bytes : List ℕ) (t : ModuleTranslation) (types : Kept)
-    → a ≡ b → i ≡ j → v ≡ w → IsTranslated a i v bytes t types → IsTranslated b j w bytes t types
-translated_with a b i j v w bytes t types ab ij vw h =
-    subst (λ (x : ℕ). IsTranslated b j x bytes t types) vw (subst (λ (x : Index StaticModuleSpace). IsTranslated b x v bytes t types) ij
-    (subst (λ (x : Tunables). IsTranslated x i v bytes t types) ab h))
+pub translated_with : (a b : Tunables) (i j : Index StaticModuleSpace) (v w : ℕ) (bytes : List ℕ) (t : ModuleTranslation) (before types : Kept)
+    → a ≡ b → i ≡ j → v ≡ w → before ≡ types → IsTranslated a i v bytes t before → IsTranslated b j w bytes t types
+translated_with a b i j v w bytes t before types ab ij vw same h =
+    subst (IsTranslated b j w bytes t) same (subst (λ (x : ℕ). IsTranslated b j x bytes t before) vw
+    (subst (λ (x : Index StaticModuleSpace). IsTranslated b x v bytes t before) ij
+    (subst (λ (x : Tunables). IsTranslated x i v bytes t before) ab h)))
 
 -- the laws that are cited
 pub record Laws (m : Module) : Type 0 where

@@ -1,6 +1,7 @@
 -- What a plan says of a module, and why there is none.
 use Rattle.std.specs.Prelude.{◌≡◌, ◌⊎◌, ◌↔◌, ℕ, ◌^◌, ◌<◌, ◌≤◌, List, length, map, sum_by, Option, None, option_map, Result, Ok, Err}
-use Rattle.wasm_spec.specs.Module.{Module, types}
+use Rattle.wasm_spec.specs.Module as plain
+use Rattle.wasm_spec.specs.Module.{Module}
 use Rattle.wasm_spec.specs.Grammar.{Spells, Stops}
 use Rattle.wasm_spec.specs.declared.operators.What.{What}
 use Rattle.type_spec.specs.Equality.{SameType}
@@ -35,7 +36,7 @@ pub record IsPlanOf (o : Options) (bytes : List ℕ) (m : Module) (plan : Plan) 
   -- its types are the interned types of the module, with a startup type exactly where startup may run
   pub types : SameLists (built_of plan.types nothing_met) (interned_list m (runs (startup_by m (memory_plan_of plan.translation) (plan_of_tables plan.translation))))
   -- two declared types have one index exactly where they are equal by group and place
-  pub equal_types : (i j : ℕ) → i < length (types m) → j < length (types m)
+  pub equal_types : (i j : ℕ) → i < length (plain.types m) → j < length (plain.types m)
       → (interned_at m i ≡ interned_at m j) ↔ SameType (placed_groups m) (placed_groups m) i j
   -- each type has the layout of its objects
   pub layouts : map (option_map object_layout) plan.layouts ≡ map (λ t. gc_layout_of (header_size o.collector) t.composite_type.inner) plan.types.types
