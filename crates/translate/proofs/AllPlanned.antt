@@ -1,5 +1,5 @@
 -- A translation whose memories and then tables are planned is the planned translation of its module.
-use Rattle.std.proofs.Common.{◌≡◌, ◌<◌, ◌+◌, ℕ, Bool, false, List, length, map, sym, ap, subst, ◌∙◌}
+use Rattle.std.proofs.Common.{◌≡◌, ◌<◌, ◌+◌, ℕ, false, List, length, map, sym, ap, subst, ◌∙◌}
 use Rattle.std.proofs.lemmas.List.{length-map}
 use Rattle.wasm_spec.specs.Module.{Module, defined_memories}
 use Rattle.rule_spec.specs.Lists.{Lists, lists_of_module}
@@ -13,11 +13,11 @@ use Rattle.replay_spec.specs.Plan.{MemoryPlan, Agrees}
 use Rattle.replay_spec.specs.Startup.{Startup, startup_of, first_startup, raised_by_tables, raised_by_memories}
 use Rattle.replay_spec.specs.Tables.{TablePlan, IsTablePlan}
 use Rattle.type_spec.specs.Interned.{Built}
-use Rattle.module_types.specs.Builder.{Kept, Builder, shown}
+use Rattle.module_types.specs.Builder.{Kept, shown}
 use Rattle.module_types.specs.Views.{interned_of}
 use Rattle.init_plan.specs.declared.translation.ModuleTranslation.{ModuleTranslation}
 use Rattle.init_plan.specs.Agreement.{AgreesOnElements, AgreesInAll}
-use Rattle.init_plan.specs.Held.{initialisers, plan_of_globals, HoldsTables}
+use Rattle.init_plan.specs.Held.{initialisers, plan_of_globals}
 use Rattle.init_plan.specs.Images.{image_memories}
 use Rattle.init_plan.specs.Startup.{startup_kind, raised, types_after}
 use Rattle.init_plan.specs.Tables.{tables_of, elements_of, plan_of_tables, startup_with_tables, OnlyTableInitChanges}

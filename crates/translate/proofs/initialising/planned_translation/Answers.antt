@@ -1,19 +1,19 @@
-use Rattle.std.proofs.Common.{◌≡◌, ap, ◌∙◌, Bor, Err, rules}
+use Rattle.std.proofs.Common.{◌≡◌, ap, ◌∙◌, refl, Bor, Err, rules}
 use Rattle.std.proofs.lemmas.Result.{err_from_is_err_and}
 use Rattle.rule_spec.specs.declared.rules.Rule.TheVariants.{L6}
 use Rattle.wasm_index.specs.Index.{index_of}
 use Rattle.wasm_types.specs.declared.tunables.Tunables.{Tunables}
+use Rattle.replay_spec.specs.Plan.{MemoryPlan}
 use Rattle.module_types.specs.Builder.{Builder, Kept}
 use Rattle.init_plan.specs.Views.{memory_plan_of}
 use Rattle.init_plan.specs.Tables.{plan_of_tables}
-use Rattle.replay_spec.specs.Plan.{MemoryPlan}
 use Rattle.init_plan.specs.declared.error.PlanError.TheVariants as plan
 use Rattle.plan.specs.Errors.{error_of_translation}
 use Rattle.translate.specs.Options.{init_options, PlansMemories}
 use Rattle.translate.proofs.AllPlanned.{translated_with, started, room, started_memories, holds_data, all_planned}
 use Rattle.translate.proofs.PlannedMemories.{plans_held}
 use Rattle.translate.proofs.PlannedTables.{holds_still}
-use Rattle.translate.proofs.Refusals.{translation_cause, memories_cause, memories_complete, tables_error}
+use Rattle.translate.proofs.Refusals.{memories_cause, memories_complete, tables_error}
 use Rattle.translate.proofs.Started.{has_room}
 use Rattle.translate.proofs.initialising.planned_translation.Goals as goal
 
@@ -44,10 +44,9 @@ returns-in_err-finalize_memory_init-clause-cause c =
     let i = init_options c.args.tunables.now c.args.page_size c.args.max_image in
     let bytes = c.args.bytes.now in
     let old = c.in_ok-translation.translation in
-    let back : c.translate.new.self.1.1.0 ≡ c.types-2-1.given.0 = search rules in
     let told = translated_with _ c.args.tunables.now _ (index_of 0) _ 0 bytes old _ _
     (ap (λ (r : Bor Tunables). r.now) c.in_ok-environment.ensures.tunables) (c.in_ok-environment.ensures.index ∙ c.from_u32-index.ensures)
-    (ap (λ r. r.now) c.in_ok-environment.ensures.validator ∙ c.requires.number) back c.in_ok-translation.ensures.translated in
+    (ap (λ r. r.now) c.in_ok-environment.ensures.validator ∙ c.requires.number) refl c.in_ok-translation.ensures.translated in
     let held = c.held_agreement_laws.ensures.memories told.meaning old told.ready.holds_memories in
     let p = err_from_is_err_and c.from_residual-in_err-finalize_memory_init.result c.from_residual-in_err-finalize_memory_init.ensures.1 in
     let e = c.in_err-finalize_memory_init in
@@ -60,10 +59,9 @@ returns-in_err-finalize_memory_init-clause-complete c = λ can.
     let i = init_options c.args.tunables.now c.args.page_size c.args.max_image in
     let bytes = c.args.bytes.now in
     let old = c.in_ok-translation.translation in
-    let back : c.translate.new.self.1.1.0 ≡ c.types-2-1.given.0 = search rules in
     let told = translated_with _ c.args.tunables.now _ (index_of 0) _ 0 bytes old _ _
     (ap (λ (r : Bor Tunables). r.now) c.in_ok-environment.ensures.tunables) (c.in_ok-environment.ensures.index ∙ c.from_u32-index.ensures)
-    (ap (λ r. r.now) c.in_ok-environment.ensures.validator ∙ c.requires.number) back c.in_ok-translation.ensures.translated in
+    (ap (λ r. r.now) c.in_ok-environment.ensures.validator ∙ c.requires.number) refl c.in_ok-translation.ensures.translated in
     let held = c.held_agreement_laws.ensures.memories told.meaning old told.ready.holds_memories in
     let p = err_from_is_err_and c.from_residual-in_err-finalize_memory_init.result c.from_residual-in_err-finalize_memory_init.ensures.1 in
     let e = c.in_err-finalize_memory_init in
@@ -88,7 +86,7 @@ finalize_table_init-requires-clause-room c = λ sound.
     (room i bytes old _ told)
 
 pub returns-in_err-finalize_table_init-clause-cause : goal.returns-in_err-finalize_table_init-clause-cause
-returns-in_err-finalize_table_init-clause-cause c = 
+returns-in_err-finalize_table_init-clause-cause c =
     let p = err_from_is_err_and c.from_residual-in_err-finalize_table_init.result c.from_residual-in_err-finalize_table_init.ensures.1 in
     let never = tables_error c.in_err-finalize_table_init.field-0.0 (λ is. c.finalize_table_init.ensures.never_too_large (c.in_err-finalize_table_init.was ∙ ap Err is)) in
     rw (p.1, p.2, never) (λ o same. tt)
