@@ -1,5 +1,5 @@
 -- The lines of a module's record that are not in a file of their own.
-use Rattle.std.specs.Prelude.{ℕ, ◌==◌, Bool, List, [], ◌∷◌, ◌++◌, length, Option, Some, None, if◌then◌else◌, codes}
+use Rattle.std.specs.Prelude.{ℕ, ◌+◌, ◌==◌, Bool, List, [], ◌∷◌, ◌++◌, length, Option, Some, None, if◌then◌else◌, codes}
 use Rattle.std.specs.List.{flat_map}
 use Rattle.entity_map.specs.Entity.{reserved_number}
 use Rattle.wasm_index.specs.declared.index.Index.{Index}
@@ -19,9 +19,14 @@ use Rattle.plan_lines.specs.TypeLines.{listed_number}
 abbrev pub HasNames : List (List ℕ) → Initializer → Type 0
 HasNames pool (Import name field e) = IsInPool pool name × IsInPool pool field
 
--- what a module is given
-abbrev pub initializer_line : List (List ℕ) → Initializer → List ℕ
-initializer_line pool (Import name field e) = import_line pool name field e
+-- what a module is given, with its place
+abbrev pub initializer_line : List (List ℕ) → ℕ → Initializer → List ℕ
+initializer_line pool place (Import name field e) = import_line pool place name field e
+
+-- all that a module is given, where the first stands at place n
+abbrev pub initializer_lines_from : List (List ℕ) → ℕ → List Initializer → List ℕ
+initializer_lines_from pool n [] = []
+initializer_lines_from pool n (i ∷ is) = initializer_line pool n i ++ initializer_lines_from pool (n + 1) is
 
 -- how many entities of each kind are imported, and how many are defined
 unfoldable pub count_lines : ModuleRecord → List ℕ

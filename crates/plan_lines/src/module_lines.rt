@@ -1,11 +1,10 @@
 //! The lines of a module's record that are not in a file of their own.
 
 ghost use Rattle.std.specs.Prelude.{◌≡◌, ◌++◌, All, OnOk};
-ghost use Rattle.std.specs.List.{flat_map};
 ghost use Rattle.wasm_module.specs.Record.{record_of};
 ghost use Rattle.vm_offsets.specs.Modules.{HoldsImports};
 ghost use Rattle.plan_lines.specs.Numbers.{keyed_lines};
-ghost use Rattle.plan_lines.specs.ModuleLines.{HasNames, initializer_line, count_lines, gc_heap_line, escape_lines, start_lines, startup_line};
+ghost use Rattle.plan_lines.specs.ModuleLines.{HasNames, initializer_line, initializer_lines_from, count_lines, gc_heap_line, escape_lines, start_lines, startup_line};
 
 use crate::name_lines::append_import;
 use crate::numbers::{append_counts, append_numbers};
@@ -18,26 +17,27 @@ use wasm_module::{FunctionType, Initializer, Module, ModuleStartup};
 fn append_initializer(
     text: &mut Text,
     pool: &StringPool,
+    place: usize,
     initializer: &Initializer,
 ) -> Result<(), OutOfMemory>
     requires { HasNames pool.now initializer.now }
-    ensures { OnOk result (text.new ≡ text.old ++ initializer_line pool.now initializer.now) }
+    ensures { OnOk result (text.new ≡ text.old ++ initializer_line pool.now place initializer.now) }
 {
     let Initializer::Import { name, field, index } = initializer;
-    append_import(text, pool, *name, *field, *index)
+    append_import(text, pool, place, *name, *field, *index)
 }
 
-/// Appends the lines of the imports. The texts of their names must be in the pool.
+/// Appends the lines of the imports, which are numbered from 0. The texts of their names must be in the pool.
 pub fn append_imports(
     text: &mut Text,
     pool: &StringPool,
     imports: &[Initializer],
 ) -> Result<(), OutOfMemory>
     requires { All (HasNames pool.now) imports.now }
-    ensures { OnOk result (text.new ≡ text.old ++ flat_map (initializer_line pool.now) imports.now) }
+    ensures { OnOk result (text.new ≡ text.old ++ initializer_lines_from pool.now 0 imports.now) }
 {
-    for import in imports {
-        append_initializer(text, pool, import)?;
+    for (place, import) in imports.iter().enumerate() {
+        append_initializer(text, pool, place, import)?;
     }
     Ok(())
 }

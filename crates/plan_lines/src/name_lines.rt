@@ -51,20 +51,23 @@ fn append_entity(text: &mut Text, entity: EntityIndex) -> Result<(), OutOfMemory
     text.push_number(kind_number(entity))
 }
 
-/// Appends the line of an import. The texts of its names must be in the pool.
+/// Appends the line of an import, with its place among the imports. The texts of its names must be in the pool.
 #[tactic(auto, unfolding(crate::specs::NameLines::import_line))]
 pub fn append_import(
     text: &mut Text,
     pool: &StringPool,
+    place: usize,
     name: Atom,
     field: Atom,
     entity: EntityIndex,
 ) -> Result<(), OutOfMemory>
     requires name { IsInPool pool.now name }
     requires field { IsInPool pool.now field }
-    ensures { OnOk result (text.new ≡ text.old ++ import_line pool.now name field entity) }
+    ensures { OnOk result (text.new ≡ text.old ++ import_line pool.now place name field entity) }
 {
     text.push_str("import ")?;
+    text.push_number(place)?;
+    text.push_byte(b' ')?;
     append_atom(text, pool, name)?;
     text.push_byte(b' ')?;
     append_atom(text, pool, field)?;

@@ -1,15 +1,14 @@
-//! Plans that are made by hand: the empty one, one of an image beside a segment, and startup that is required twice.
+//! Translations that are made by hand: the empty one, one of an image beside a segment, and startup that is required twice.
 
 ghost use Rattle.std.specs.Prelude.{◌≡◌, ◌≤◌, length, IfOk, OnOk};
 
 use crate::made::empty;
 use crate::memories::ONE_PAGE;
-use crate::texts::{append_startup, count_types};
+use crate::texts::{count_types, memories_text, startup_text};
 use entity_map::{EntityRef, PrimaryMap};
 use form_types::Validator;
 use init_plan::{MemoryInit, MemoryInitialization, MemorySegmentOffset, ModuleTranslation};
 use module_types::ModuleTypesBuilder;
-use plan_text::plan_text;
 use std::alloc::Global;
 use std::test::Fail;
 use wasm_convert::{ConstExpr, ConstOp};
@@ -17,13 +16,13 @@ use wasm_index::{DataIndex, MemoryIndex};
 use wasm_types::Memory;
 
 fn empty_text(alloc: Global) -> Result<(u32, String), Fail> {
-    let plan = empty(alloc)?;
-    let number = plan.translation.module_index().as_u32();
-    Ok((number, String::from_utf8(plan_text(alloc, &plan)?)?))
+    let translation = empty(alloc)?;
+    let number = translation.module_index().as_u32();
+    Ok((number, memories_text(alloc, &translation)?))
 }
 
 #[test]
-fn the_empty_plan_has_two_lines(rt: HostRuntime) -> Result<(), Fail> {
+fn the_empty_translation_has_two_lines(rt: HostRuntime) -> Result<(), Fail> {
     let (number, text) = empty_text(rt.alloc())?;
     assert_eq!(rt; number, 3);
     assert_eq!(rt; text.as_str(), "memories 0 0\nmemory-init segmented\n");
@@ -40,7 +39,7 @@ fn one_imported_and_one_defined(alloc: Global) -> Result<PrimaryMap<MemoryIndex,
 }
 
 // A segment of the defined memory and an image of the imported one, which share runtime data, and a passive segment.
-fn plan_by_hand(alloc: Global, translation: &mut ModuleTranslation<'_>) -> Result<(), Fail>
+fn fill_by_hand(alloc: Global, translation: &mut ModuleTranslation<'_>) -> Result<(), Fail>
     ensures { OnOk result (translation.new.module.num_imported_memories ≤ length translation.new.module.memories) }
 {
     let mut ranges = PrimaryMap::new(alloc);
@@ -68,9 +67,9 @@ fn plan_by_hand(alloc: Global, translation: &mut ModuleTranslation<'_>) -> Resul
 }
 
 fn text_by_hand(alloc: Global) -> Result<String, Fail> {
-    let mut plan = empty(alloc)?;
-    plan_by_hand(alloc, &mut plan.translation)?;
-    Ok(String::from_utf8(plan_text(alloc, &plan)?)?)
+    let mut translation = empty(alloc)?;
+    fill_by_hand(alloc, &mut translation)?;
+    memories_text(alloc, &translation)
 }
 
 #[test]
@@ -83,12 +82,11 @@ fn images_wide_constants_and_passive_data(rt: HostRuntime) -> Result<(), Fail> {
 }
 
 fn startup_required_twice(alloc: Global) -> Result<String, Fail> {
-    let mut plan = empty(alloc)?;
+    let mut translation = empty(alloc)?;
     let mut types = ModuleTypesBuilder::new(alloc, &Validator::new(0));
-    plan.translation.require_startup_func(&mut types)?;
-    plan.translation.require_startup_func(&mut types)?;
-    let mut text = String::new(alloc);
-    append_startup(alloc, &mut text, &plan.translation.module.startup)?;
+    translation.require_startup_func(&mut types)?;
+    translation.require_startup_func(&mut types)?;
+    let mut text = startup_text(alloc, &translation.module.startup)?;
     let count = count_types(types);
     text.push_str(format!(in alloc; "types {count}\n")?.as_str())?;
     Ok(text)

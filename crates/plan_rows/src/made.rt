@@ -7,20 +7,19 @@ ghost use Rattle.init_plan.specs.Views.{passive_data_of};
 
 use entity_map::EntityRef;
 use init_plan::ModuleTranslation;
-use plan::Plan;
 use std::alloc::{AllocError, Global};
 use std::test::Fail;
 use wasm_index::{ModuleInternedTypeIndex, StaticModuleIndex};
 use wasm_module::ModuleStartup;
 use wasm_types::{EngineOrModuleTypeIndex, Tunables};
 
-/// The plan of the empty translation. It is boxed, so that a function which holds it drops it by one call.
-pub fn empty<'a>(alloc: Global) -> Result<Box<Plan<'a>>, Fail>
-    ensures ready { IfOk result (λ plan. MemoryHalfIsReady plan.value.translation) }
-    ensures no_passive { IfOk result (λ plan. passive_data_of plan.value.translation ≡ []) }
+/// The empty translation. It is boxed, so that a function which holds it drops it by one call.
+pub fn empty<'a>(alloc: Global) -> Result<Box<ModuleTranslation<'a>>, Fail>
+    ensures ready { IfOk result (λ made. MemoryHalfIsReady made.value) }
+    ensures no_passive { IfOk result (λ made. passive_data_of made.value ≡ []) }
 {
     let translation = ModuleTranslation::new(alloc, StaticModuleIndex::from_u32(3))?;
-    Ok(boxed(alloc, Plan { translation })?)
+    Ok(boxed(alloc, translation)?)
 }
 
 fn boxed<T: Drop>(alloc: Global, value: T) -> Result<Box<T>, AllocError>

@@ -171,18 +171,18 @@ pub fn text_of(alloc: Global, row: &MemoryRow<'_>) -> Result<String, Fail> {
     if row.page_log2 >= 64 {
         return Err(Fail::from("no page size"));
     }
-    let mut plan = empty(alloc)?;
+    let mut translation = empty(alloc)?;
     let mut types = ModuleTypesBuilder::new(alloc, &Validator::new(0));
-    fill(alloc, &mut plan.translation, row)?;
-    plan.translation.module.startup = startup_of(row.before);
-    match plan.translation.finalize_memory_init(
+    fill(alloc, &mut translation, row)?;
+    translation.module.startup = startup_of(row.before);
+    match translation.finalize_memory_init(
         alloc,
         &tunables(row.images, false),
         page_size(row.page_log2),
         row.max_image,
         &mut types,
     ) {
-        Ok(()) => planned_text(alloc, &plan, types),
+        Ok(()) => planned_text(alloc, &translation, types),
         Err(PlanError::TooLarge) => Ok(String::from_str(alloc, "refused too large\n")?),
         Err(error) => Err(Fail::from(error)),
     }

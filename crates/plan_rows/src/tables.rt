@@ -279,11 +279,10 @@ fn fill(
 
 /// How the tables of a row are planned, as a text.
 pub fn text_of(alloc: Global, row: &TableRow<'_>) -> Result<String, Fail> {
-    let mut plan = empty(alloc)?;
+    let mut translation = empty(alloc)?;
     let mut types = ModuleTypesBuilder::new(alloc, &Validator::new(0));
-    fill(alloc, &mut plan.translation, row)?;
-    plan.translation.module.startup = startup_of(row.before);
-    plan.translation
-        .finalize_table_init(alloc, &tunables(false, row.lazy), &mut types)?;
-    planned_tables(alloc, &plan.translation, types)
+    fill(alloc, &mut translation, row)?;
+    translation.module.startup = startup_of(row.before);
+    translation.finalize_table_init(alloc, &tunables(false, row.lazy), &mut types)?;
+    planned_tables(alloc, &translation, types)
 }

@@ -1,17 +1,18 @@
-//! The text of a plan, with lines for what the plan's own text does not print.
+//! The lines of what is planned of a translation, with lines for what a plan's own text does not print.
 
 ghost use Rattle.std.specs.Prelude.{◌≤◌, length};
 
 use entity_map::{EntityRef, PrimaryMap, ReservedValue};
-use init_plan::{MemoryInitialization, ModuleTranslation, RuntimeBytes};
+use init_plan::{ModuleTranslation, RuntimeBytes};
 use module_types::ModuleTypesBuilder;
-use plan::Plan;
-use plan_text::plan_text;
+use plan_lines::{
+    Text, append_alignment, append_counts, append_initialization, append_initialization_images,
+    append_passive_data, append_runtime_data, append_segments, append_startup,
+};
 use std::alloc::Global;
 use std::test::Fail;
 use wasm_index::{FuncIndex, RuntimeDataIndex};
 use wasm_module::{ModuleStartup, TableInitialValue};
-use wasm_types::EngineOrModuleTypeIndex;
 
 // The bytes of a runtime data.
 fn bytes_of<'a>(data: &'a RuntimeBytes) -> &'a [u8] {
@@ -44,48 +45,6 @@ fn append_all_bytes(
     Ok(())
 }
 
-fn append_images(
-    alloc: Global,
-    text: &mut String,
-    initialization: &MemoryInitialization,
-) -> Result<(), Fail> {
-    let MemoryInitialization::Static { map } = initialization else {
-        return Ok(());
-    };
-    for (memory, image) in map.iter() {
-        let memory = memory.as_u32();
-        if let Some((offset, index)) = image {
-            let index = index.as_u32();
-            text.push_str(format!(in alloc; "image {memory} {offset} {index}\n")?.as_str())?;
-        }
-    }
-    Ok(())
-}
-
-pub fn append_startup(
-    alloc: Global,
-    text: &mut String,
-    startup: &ModuleStartup,
-) -> Result<(), Fail> {
-    let line = match startup {
-        ModuleStartup::None => String::from_str(alloc, "startup none\n")?,
-        ModuleStartup::Always(ty) => format!(in alloc; "startup always {}\n", number_of(*ty))?,
-        ModuleStartup::IfMemoriesNeedInit(ty) => {
-            format!(in alloc; "startup if-memories-need-init {}\n", number_of(*ty))?
-        }
-    };
-    text.push_str(line.as_str())?;
-    Ok(())
-}
-
-// The index of a type of the module.
-fn number_of(ty: EngineOrModuleTypeIndex) -> u32 {
-    match ty {
-        EngineOrModuleTypeIndex::Module(index) => index.as_u32(),
-        _ => u32::MAX,
-    }
-}
-
 pub fn count_types(types: ModuleTypesBuilder) -> usize {
     if types.is_poisoned() {
         return 0;
@@ -93,22 +52,45 @@ pub fn count_types(types: ModuleTypesBuilder) -> usize {
     types.finish().len_types()
 }
 
-/// The text of a plan, the alignment and places of images, the bytes that are not zero, startup, and the number of types.
+/// The lines of memories: their counts, segments, runtime data, and the alignment and places of images.
+pub fn memories_text(alloc: Global, translation: &ModuleTranslation<'_>) -> Result<String, Fail>
+    requires { translation.now.module.num_imported_memories ≤ length translation.now.module.memories }
+{
+    let module = &translation.module;
+    let mut text = Text::new(alloc);
+    append_counts(
+        &mut text,
+        "memories",
+        module.num_imported_memories,
+        module.memories.len(),
+    )?;
+    append_initialization(&mut text, &module.memory_initialization)?;
+    append_segments(&mut text, &translation.memory_init)?;
+    append_passive_data(&mut text, &translation.runtime_data_map)?;
+    append_runtime_data(&mut text, &module.runtime_data)?;
+    append_alignment(&mut text, translation.data_align)?;
+    append_initialization_images(&mut text, &module.memory_initialization)?;
+    Ok(String::from_utf8(text.into_bytes())?)
+}
+
+/// The line of startup.
+pub fn startup_text(alloc: Global, startup: &ModuleStartup) -> Result<String, Fail> {
+    let mut text = Text::new(alloc);
+    append_startup(&mut text, startup)?;
+    Ok(String::from_utf8(text.into_bytes())?)
+}
+
+/// The lines of memories, the bytes that are not zero, startup, and the number of types.
 pub fn planned_text(
     alloc: Global,
-    plan: &Plan<'_>,
+    translation: &ModuleTranslation<'_>,
     types: ModuleTypesBuilder,
 ) -> Result<String, Fail>
-    requires { plan.now.translation.module.num_imported_memories ≤ length plan.now.translation.module.memories }
+    requires { translation.now.module.num_imported_memories ≤ length translation.now.module.memories }
 {
-    let mut text = String::from_utf8(plan_text(alloc, plan)?)?;
-    let translation = &plan.translation;
-    if let Some(align) = translation.data_align {
-        text.push_str(format!(in alloc; "data-align {align}\n")?.as_str())?;
-    }
-    append_images(alloc, &mut text, &translation.module.memory_initialization)?;
+    let mut text = memories_text(alloc, translation)?;
     append_all_bytes(alloc, &mut text, &translation.runtime_data)?;
-    append_startup(alloc, &mut text, &translation.module.startup)?;
+    text.push_str(startup_text(alloc, &translation.module.startup)?.as_str())?;
     let count = count_types(types);
     text.push_str(format!(in alloc; "types {count}\n")?.as_str())?;
     Ok(text)
@@ -172,7 +154,7 @@ pub fn planned_tables(
         let (table, count) = (segment.table_index.as_u32(), segment.elements.len());
         text.push_str(format!(in alloc; "element {table} {count}\n")?.as_str())?;
     }
-    append_startup(alloc, &mut text, &translation.module.startup)?;
+    text.push_str(startup_text(alloc, &translation.module.startup)?.as_str())?;
     let count = count_types(types);
     text.push_str(format!(in alloc; "types {count}\n")?.as_str())?;
     Ok(text)

@@ -12,7 +12,7 @@ use Rattle.plan_lines.specs.GlobalLines.{global_line, global_expression_line}
 use Rattle.plan_lines.specs.HintLines.{function_hints}
 use Rattle.plan_lines.specs.LayoutLines.{layout_lines}
 use Rattle.plan_lines.specs.MemoryLines.{alignment_lines, passive_lines, runtime_line}
-use Rattle.plan_lines.specs.ModuleLines.{HasNames, initializer_line, count_lines, gc_heap_line, escape_lines, start_lines, startup_line}
+use Rattle.plan_lines.specs.ModuleLines.{HasNames, initializer_lines_from, count_lines, gc_heap_line, escape_lines, start_lines, startup_line}
 use Rattle.plan_lines.specs.NameLines.{IsInPool, HasName, export_line, module_name_lines, function_name_line}
 use Rattle.plan_lines.specs.Numbers.{numbers_line, keyed_lines}
 use Rattle.plan_lines.specs.SegmentLines.{table_value_lines, element_line, initialization_line, initialization_images, segment_lines}
@@ -24,7 +24,7 @@ use Rattle.plan_lines.specs.TypeListLines.{type_list_lines}
 unfoldable pub entities_text : ModuleTranslation → List ℕ
 entities_text t =
     keyed_lines declared_line t.module.types
-    ++ flat_map (initializer_line t.module.strings) t.module.initializers.items
+    ++ initializer_lines_from t.module.strings 0 t.module.initializers.items
     ++ count_lines (record_of t.module)
     ++ gc_heap_line t.module.needs_gc_heap
     ++ keyed_lines escape_lines t.module.functions

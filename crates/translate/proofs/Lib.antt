@@ -6,3 +6,8 @@ mod PlannedTables
 mod Refusals
 mod AllPlanned
 pub mod Counts
+mod LayoutsInTurn
+mod ObjectSizes
+mod OnePlan
+mod PlansFit
+mod Planning

@@ -1,7 +1,7 @@
-use Rattle.std.proofs.Common.{◌≡◌, ◌++◌, take}
-use Rattle.std.specs.List.{flat_map}
-use Rattle.plan_lines.specs.ModuleLines.{initializer_line}
+use Rattle.std.proofs.Common.{◌≡◌, ◌++◌, drop}
+use Rattle.plan_lines.specs.ModuleLines.{initializer_lines_from}
 use Rattle.plan_lines.proofs.module_lines.append_imports.Given as goal
 
-abbrev pub invariant-loop-import : goal.invariant-loop-import
-invariant-loop-import l = l.text ≡ l.initial.text ++ flat_map (initializer_line l.pool) (take l.import-index l.imports)
+abbrev pub invariant-loop-place : goal.invariant-loop-place
+invariant-loop-place l = l.text ++ initializer_lines_from l.pool l.place (drop l.place l.imports)
+    ≡ l.initial.text ++ initializer_lines_from l.pool 0 l.imports

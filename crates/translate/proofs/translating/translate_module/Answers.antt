@@ -1,0 +1,73 @@
+use Rattle.std.proofs.Common.{◌≡◌, ◌∙◌, ◌<◌, Err, length, refl, sym, ap, subst, arith}
+use Rattle.std.proofs.lemmas.Result.{err_from_is_err_and}
+use Rattle.module_types.specs.TypeList.{TypeList}
+use Rattle.wasm_module.specs.Record.{record_of}
+use Rattle.vm_offsets.specs.Modules.{module_counts}
+use Rattle.translate.specs.Options.{Options, with_options}
+use Rattle.translate.proofs.Counts.{holds_imports, counts_same, few_escape}
+use Rattle.translate.proofs.PlansFit.{valid-begins}
+use Rattle.translate.proofs.Planning.{told-apart, same-lists, layout-cause, layout-complete, context-cause, context-fits, sizes-fit}
+use Rattle.translate.proofs.translating.translate_module.Goals as goal
+
+-- ---- there is no translation
+
+pub returns-in_err-translation-clause-cause : goal.returns-in_err-translation-clause-cause
+returns-in_err-translation-clause-cause c =
+    let o = with_options c.args.tunables.now c.args.collector c.args.ptr c.args.page_size c.args.max_image in
+    let p = err_from_is_err_and c.from_residual.result c.from_residual.ensures.1 in
+    rw (p.1, p.2) (c.in_err-translation.ensures.cause o refl)
+
+pub returns-in_err-translation-clause-complete : goal.returns-in_err-translation-clause-complete
+returns-in_err-translation-clause-complete c = λ valid.
+    let o = with_options c.args.tunables.now c.args.collector c.args.ptr c.args.page_size c.args.max_image in
+    let p = err_from_is_err_and c.from_residual.result c.from_residual.ensures.1 in
+    rw p.1 (p.2 ∙ c.in_err-translation.ensures.complete (valid-begins o c.args.bytes.now valid))
+
+-- ---- there are no layouts
+
+pub layouts_for-requires : goal.layouts_for-requires
+layouts_for-requires c =
+    let same = ap (λ (l : TypeList). length l.types) c.finish-types.ensures in
+    omega (arith, same, c.in_ok-translation.ensures.initialised.few)
+
+pub returns-in_err-layouts-clause-cause : goal.returns-in_err-layouts-clause-cause
+returns-in_err-layouts-clause-cause c =
+    let o = with_options c.args.tunables.now c.args.collector c.args.ptr c.args.page_size c.args.max_image in
+    let p = err_from_is_err_and c.from_residual-in_err-layouts.result c.from_residual-in_err-layouts.ensures.1 in
+    rw (p.1, p.2) (layout-cause o c.args.bytes.now c.in_ok-translation.translation _ c.in_ok-translation.ensures.initialised c.finish-types.result
+    c.finish-types.ensures c.in_err-layouts.field-0.0 c.in_err-layouts.ensures.causes (λ is. c.layouts_for.ensures.overflow (c.in_err-layouts.was ∙ ap Err is)))
+
+pub returns-in_err-layouts-clause-complete : goal.returns-in_err-layouts-clause-complete
+returns-in_err-layouts-clause-complete c = λ valid.
+    let o = with_options c.args.tunables.now c.args.collector c.args.ptr c.args.page_size c.args.max_image in
+    let p = err_from_is_err_and c.from_residual-in_err-layouts.result c.from_residual-in_err-layouts.ensures.1 in
+    rw p.1 (p.2 ∙ layout-complete o c.args.bytes.now c.in_ok-translation.translation _ c.in_ok-translation.ensures.initialised c.finish-types.result
+    c.finish-types.ensures c.in_err-layouts.field-0.0 c.in_err-layouts.ensures.causes (λ is. c.layouts_for.ensures.overflow (c.in_err-layouts.was ∙ ap Err is)) valid)
+
+-- ---- the layout of the context
+
+pub new-requires-3-clause-imports : goal.new-requires-3-clause-imports
+new-requires-3-clause-imports c = ?
+
+-- ---- there is a plan
+
+pub returns-clause-planned : goal.returns-clause-planned
+returns-clause-planned c =
+    let o = with_options c.args.tunables.now c.args.collector c.args.ptr c.args.page_size c.args.max_image in
+    let init = c.in_ok-translation.ensures.initialised in
+    let t = c.in_ok-translation.translation in
+    let counted = counts_same o.init c.args.bytes.now init.meaning t init.initialised o refl in
+    record {
+      meaning = init.meaning;
+      read = init.read;
+      keeps = init.keeps;
+      planned = record {
+        translation = init.initialised;
+        types = same-lists o c.args.bytes.now t _ init c.finish-types.result c.finish-types.ensures;
+        equal_types = told-apart init.meaning init.keeps;
+        layouts = c.in_ok-layouts.ensures.layouts;
+        offsets = c.in_ok-offsets.ensures.ok ∙ counted;
+        sizes = sizes-fit o c.args.bytes.now t _ init c.finish-types.result c.finish-types.ensures _ counted c.in_ok-layouts.ensures.fits
+            c.in_ok-offsets.ensures.overflow.1;
+      };
+    }
