@@ -1,5 +1,5 @@
 -- A translation whose memories and then tables are planned is the planned translation of its module.
-use Rattle.std.proofs.Common.{◌≡◌, ◌<◌, ◌+◌, ℕ, Bool, false, List, length, map, sym, ap, subst, ◌∙◌}
+use Rattle.std.proofs.Common.{◌≡◌, ◌<◌, ◌+◌, ℕ, false, List, length, map, sym, ap, subst, ◌∙◌}
 use Rattle.std.proofs.lemmas.List.{length-map}
 use Rattle.wasm_spec.specs.Module.{Module, defined_memories}
 use Rattle.rule_spec.specs.Lists.{Lists, lists_of_module}
@@ -13,11 +13,11 @@ use Rattle.replay_spec.specs.Plan.{MemoryPlan, Agrees}
 use Rattle.replay_spec.specs.Startup.{Startup, startup_of, first_startup, raised_by_tables, raised_by_memories}
 use Rattle.replay_spec.specs.Tables.{TablePlan, IsTablePlan}
 use Rattle.type_spec.specs.Interned.{Built}
-use Rattle.module_types.specs.Builder.{Kept, Builder, shown}
+use Rattle.module_types.specs.Builder.{Kept, shown}
 use Rattle.module_types.specs.Views.{interned_of}
 use Rattle.init_plan.specs.declared.translation.ModuleTranslation.{ModuleTranslation}
 use Rattle.init_plan.specs.Agreement.{AgreesOnElements, AgreesInAll}
-use Rattle.init_plan.specs.Held.{initialisers, plan_of_globals, HoldsTables}
+use Rattle.init_plan.specs.Held.{initialisers, plan_of_globals}
 use Rattle.init_plan.specs.Images.{image_memories}
 use Rattle.init_plan.specs.Startup.{startup_kind, raised, types_after}
 use Rattle.init_plan.specs.Tables.{tables_of, elements_of, plan_of_tables, startup_with_tables, OnlyTableInitChanges}
@@ -32,11 +32,12 @@ use Rattle.translate.proofs.Started.{IsStarted, next, starts_first, first_room, 
 use Rattle.translate.proofs.Unchanged.{changes_both}
 
 -- what was translated with equal words is translated with these
-pub translated_with : (a b : Tunables) (i j : Index StaticModuleSpace) (v w : ℕ) (bytes : List ℕ) (t : ModuleTranslation) (types : Kept)
-    → a ≡ b → i ≡ j → v ≡ w → IsTranslated a i v bytes t types → IsTranslated b j w bytes t types
-translated_with a b i j v w bytes t types ab ij vw h =
-    subst (λ (x : ℕ). IsTranslated b j x bytes t types) vw (subst (λ (x : Index StaticModuleSpace). IsTranslated b x v bytes t types) ij
-    (subst (λ (x : Tunables). IsTranslated x i v bytes t types) ab h))
+pub translated_with : (a b : Tunables) (i j : Index StaticModuleSpace) (v w : ℕ) (bytes : List ℕ) (t : ModuleTranslation) (before types : Kept)
+    → a ≡ b → i ≡ j → v ≡ w → before ≡ types → IsTranslated a i v bytes t before → IsTranslated b j w bytes t types
+translated_with a b i j v w bytes t before types ab ij vw same h =
+    subst (IsTranslated b j w bytes t) same (subst (λ (x : ℕ). IsTranslated b j x bytes t before) vw
+    (subst (λ (x : Index StaticModuleSpace). IsTranslated b x v bytes t before) ij
+    (subst (λ (x : Tunables). IsTranslated x i v bytes t before) ab h)))
 
 -- the laws that are cited
 pub record Laws (m : Module) : Type 0 where

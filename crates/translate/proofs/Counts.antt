@@ -1,5 +1,5 @@
 -- The counts of a planned translation are those of the module, and its spaces hold what is imported into them.
-use Rattle.std.proofs.Common.{◌≡◌, ◌≤◌, ◌<◌, ◌+◌, ◌-◌, ◌^◌, ℕ, Bool, true, false, not, cond, List, [], ◌∷◌, ◌++◌, length, length-append, map, drop, refl, sym, ap, ◌∙◌, arith}
+use Rattle.std.proofs.Common.{◌≡◌, ◌≤◌, ◌+◌, ◌-◌, ℕ, false, not, cond, List, [], ◌∷◌, ◌++◌, length, length-append, map, drop, refl, sym, ap, ◌∙◌, arith}
 use Rattle.std.specs.Prelude.{count_by}
 use Rattle.std.specs.List.{enumerate_from, flat_map}
 use Rattle.std.proofs.lemmas.List.{length-map}
@@ -14,7 +14,6 @@ use Rattle.wasm_types.specs.declared.index.EngineOrModuleTypeIndex.{EngineOrModu
 use Rattle.wasm_types.specs.EntityViews.{global_of, table_of}
 use Rattle.wasm_types.specs.Memories.{memory_of}
 use Rattle.wasm_module.specs.declared.module.Module.{Module}
-use Rattle.wasm_module.specs.declared.startup.ModuleStartup.{ModuleStartup}
 use Rattle.wasm_module.specs.Record.{record_of}
 use Rattle.form_reader.proofs.Entries.{few_entries}
 use Rattle.replay_spec.specs.Plan.{MemoryPlan, ranges_from}

@@ -1,6 +1,6 @@
 -- What the plan of a translation's tables promises of the module whose lists the translation holds.
-use Rattle.std.proofs.Common.{◌≡◌, ℕ, List, length, map, sym, ap, subst, ◌∙◌}
-use Rattle.wasm_spec.specs.Module.{Module, table_import, imported_of}
+use Rattle.std.proofs.Common.{ℕ, List, map, ap, subst, ◌∙◌}
+use Rattle.wasm_spec.specs.Module.{Module}
 use Rattle.rule_spec.specs.Lists.{Lists, lists_of_module}
 use Rattle.replay_spec.specs.Elements.{ActiveElements, DefinedTable, defined_tables, active_elements}
 use Rattle.replay_spec.specs.Tables.{TablePlan, IsTablePlan}

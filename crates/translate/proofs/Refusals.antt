@@ -1,29 +1,16 @@
--- Why the layers below refuse, as why the whole does.
-use Rattle.std.proofs.Common.{◌≡◌, ◌≤◌, ◌^◌, ℕ, Bool, List, length, refl, sym, subst, inl, inr, arith}
+-- Why the plans of memories and tables fail, as why the whole does.
+use Rattle.std.proofs.Common.{◌≡◌, ◌≤◌, ◌^◌, ℕ, List, length, refl, sym, subst, inl, inr, arith}
 use Rattle.std.specs.Prelude.{sum_by}
 use Rattle.wasm_spec.specs.Module.{Module}
 use Rattle.rule_spec.specs.Rules.{Keeps}
 use Rattle.init_plan.specs.declared.error.PlanError.{PlanError}
 use Rattle.init_plan.specs.declared.error.PlanError.TheVariants as plan
-use Rattle.module_environ.specs.declared.error.EnvironError.{EnvironError}
-use Rattle.module_environ.specs.declared.error.EnvironError.TheVariants as environ
 use Rattle.module_environ.specs.Readable.{IsReadable}
-use Rattle.module_environ.specs.Readable as below
-use Rattle.plan.specs.Errors.{error_of_translation, error_of_plan}
+use Rattle.plan.specs.Errors.{error_of_plan}
 use Rattle.plan.specs.declared.error.TranslateError.TheVariants as refusal
 use Rattle.translate.specs.Options.{InitOptions, Options}
 use Rattle.translate.specs.Planned.{HasMuchData, HasCause}
 use Rattle.translate.specs.Valid.{CanBeInitialised}
-
--- there is no translation
-pub translation_cause : (o : Options) (bytes : List ℕ) (poisoned : Bool) (e : EnvironError) → below.HasCause bytes poisoned e
-    → HasCause o bytes (error_of_translation e)
-translation_cause o bytes poisoned environ.Malformed h = h
-translation_cause o bytes poisoned (environ.Invalid rule) h = h
-translation_cause o bytes poisoned (environ.Unsupported what) h = h
-translation_cause o bytes poisoned environ.TooLarge h = inl h
-translation_cause o bytes poisoned environ.OutOfMemory h = tt
-translation_cause o bytes poisoned environ.Poisoned h = tt
 
 -- the memories have no plan
 pub memories_cause : (i : InitOptions) (o : Options) (bytes : List ℕ) (m : Module) (e : PlanError) → o.init ≡ i → IsReadable bytes m → Keeps m

@@ -1,14 +1,13 @@
 -- Startup, as it is raised from one call to the next, and the builder beside it.
-use Rattle.std.proofs.Common.{◌≡◌, ◌<◌, ◌+◌, ℕ, Bool, true, false, not, List, [], ◌∷◌, length, length-append, Option, Some, None, refl, sym, ap, subst, ◌∙◌, arith}
+use Rattle.std.proofs.Common.{◌≡◌, ◌<◌, ◌+◌, ℕ, Bool, true, false, not, [], ◌∷◌, length, length-append, Option, Some, None, refl, sym, ap, subst, ◌∙◌, arith}
 use Rattle.std.specs.Prelude.{if◌then◌else◌}
 use Rattle.wasm_spec.specs.Module.{Module}
 use Rattle.rule_spec.specs.Lists.{lists_of_module}
 use Rattle.type_spec.specs.Interned.{Built, startup_type, with_startup}
-use Rattle.wasm_index.specs.Index.{index_of}
 use Rattle.wasm_types.specs.declared.index.EngineOrModuleTypeIndex.{EngineOrModuleTypeIndex}
 use Rattle.wasm_module.specs.declared.startup.ModuleStartup.{ModuleStartup}
 use Rattle.replay_spec.specs.Plan.{MemoryPlan}
-use Rattle.replay_spec.specs.Startup.{Startup, Never, Always, IfMemoriesNeedInit, leaves_nothing, keeps_no_table, keeps_no_data, has_no_image, first_startup, raised_by_tables, raised_by_images, raised_by_memories}
+use Rattle.replay_spec.specs.Startup.{Startup, Never, Always, IfMemoriesNeedInit, leaves_nothing, keeps_no_table, keeps_no_data, first_startup, raised_by_tables, raised_by_images, raised_by_memories}
 use Rattle.replay_spec.specs.Tables.{TablePlan}
 use Rattle.module_types.specs.Builder.{Builder, starts}
 use Rattle.init_plan.specs.Startup.{startup_kind, startup_with, raised, types_after}

@@ -1,5 +1,5 @@
 -- What the plans of memories and tables leave of a translation together.
-use Rattle.std.proofs.Common.{◌≡◌, sym, ap, ◌∙◌}
+use Rattle.std.proofs.Common.{sym, ap, ◌∙◌}
 use Rattle.init_plan.specs.declared.translation.ModuleTranslation.{ModuleTranslation}
 use Rattle.init_plan.specs.Views.{OnlyMemoryInitChanges}
 use Rattle.init_plan.specs.Tables.{OnlyTableInitChanges}

@@ -1,6 +1,6 @@
 -- The sizes that follow from a module: those of its objects and of its context.
 use Rattle.std.specs.Prelude.{ℕ, ◌⊎◌, ◌^◌, ◌<◌, ◌≤◌, ◌-◌, not, length, sum_by, count_by, Contains}
-use Rattle.wasm_spec.specs.Module.{Module, function_import, table_import, memory_import, global_import, tag_import, imported_of, imported_memories, defined_memories, functions, tables, globals, tags}
+use Rattle.wasm_spec.specs.Module.{Module, function_import, table_import, global_import, tag_import, imported_of, imported_memories, defined_memories, tables, globals, tags}
 use Rattle.rule_spec.specs.Lists.{lists_of_module}
 use Rattle.wasm_types.specs.declared.sub.WasmSubType.{WasmSubType}
 use Rattle.module_types.specs.Views.{interned_of}

@@ -1,0 +1,140 @@
+use Rattle.std.proofs.Common.{◌≡◌, ap, ◌∙◌, refl, Bor, Err, rules}
+use Rattle.std.proofs.lemmas.Result.{err_from_is_err_and}
+use Rattle.rule_spec.specs.declared.rules.Rule.TheVariants.{L6}
+use Rattle.wasm_index.specs.Index.{index_of}
+use Rattle.wasm_types.specs.declared.tunables.Tunables.{Tunables}
+use Rattle.replay_spec.specs.Plan.{MemoryPlan}
+use Rattle.module_types.specs.Builder.{Builder, Kept}
+use Rattle.init_plan.specs.Views.{memory_plan_of}
+use Rattle.init_plan.specs.Tables.{plan_of_tables}
+use Rattle.init_plan.specs.declared.error.PlanError.TheVariants as plan
+use Rattle.plan.specs.Errors.{error_of_translation}
+use Rattle.translate.specs.Options.{init_options, PlansMemories}
+use Rattle.translate.proofs.AllPlanned.{translated_with, started, room, started_memories, holds_data, all_planned}
+use Rattle.translate.proofs.PlannedMemories.{plans_held}
+use Rattle.translate.proofs.PlannedTables.{holds_still}
+use Rattle.translate.proofs.Refusals.{memories_cause, memories_complete, tables_error}
+use Rattle.translate.proofs.Started.{has_room}
+use Rattle.translate.proofs.initialising.planned_translation.Goals as goal
+
+-- ---- there is no translation
+
+pub returns-in_err-translation-clause-complete : goal.returns-in_err-translation-clause-complete
+returns-in_err-translation-clause-complete c = λ can.
+    let p = err_from_is_err_and c.from_residual-in_err-translation.result c.from_residual-in_err-translation.ensures.1 in
+    let new = ap (λ (b : Builder). b.is_poisoned) c.requires.new in
+    let h = c.in_err-translation.ensures.complete can.meaning can.read can.keeps in
+    rw p.1 (p.2 ∙ ap error_of_translation (h (ap (λ (k : Kept). k.is_poisoned) c.in_ok-environment.ensures.types ∙ new)))
+
+-- ---- the memories are planned
+
+pub finalize_memory_init-requires-clause-room : goal.finalize_memory_init-requires-clause-room
+finalize_memory_init-requires-clause-room c = λ sound.
+    let i = init_options c.args.tunables.now c.args.page_size c.args.max_image in
+    let bytes = c.args.bytes.now in
+    let old = c.in_ok-translation.translation in
+    let back : c.translate.new.self.1.1.0 ≡ c.types-2-1.given.0 = search rules in
+    let told = translated_with _ c.args.tunables.now _ (index_of 0) _ 0 bytes old _ _
+    (ap (λ (r : Bor Tunables). r.now) c.in_ok-environment.ensures.tunables) (c.in_ok-environment.ensures.index ∙ c.from_u32-index.ensures)
+    (ap (λ r. r.now) c.in_ok-environment.ensures.validator ∙ c.requires.number) back c.in_ok-translation.ensures.translated in
+    has_room _ _ _ _ (started i bytes old _ told) (room i bytes old _ told)
+
+pub returns-in_err-finalize_memory_init-clause-cause : goal.returns-in_err-finalize_memory_init-clause-cause
+returns-in_err-finalize_memory_init-clause-cause c =
+    let i = init_options c.args.tunables.now c.args.page_size c.args.max_image in
+    let bytes = c.args.bytes.now in
+    let old = c.in_ok-translation.translation in
+    let told = translated_with _ c.args.tunables.now _ (index_of 0) _ 0 bytes old _ _
+    (ap (λ (r : Bor Tunables). r.now) c.in_ok-environment.ensures.tunables) (c.in_ok-environment.ensures.index ∙ c.from_u32-index.ensures)
+    (ap (λ r. r.now) c.in_ok-environment.ensures.validator ∙ c.requires.number) refl c.in_ok-translation.ensures.translated in
+    let held = c.held_agreement_laws.ensures.memories told.meaning old told.ready.holds_memories in
+    let p = err_from_is_err_and c.from_residual-in_err-finalize_memory_init.result c.from_residual-in_err-finalize_memory_init.ensures.1 in
+    let e = c.in_err-finalize_memory_init in
+    let much = λ (is : e.field-0.0 ≡ plan.TooLarge) (planned : MemoryPlan) (h : PlansMemories i told.meaning planned).
+    c.finalize_memory_init.ensures.too_large (e.was ∙ ap Err is) planned (plans_held i told.meaning old (holds_data i bytes old _ told held) planned h) in
+    rw (p.1, p.2) (λ o same. memories_cause i o bytes told.meaning e.field-0.0 same told.read told.keeps much)
+
+pub returns-in_err-finalize_memory_init-clause-complete : goal.returns-in_err-finalize_memory_init-clause-complete
+returns-in_err-finalize_memory_init-clause-complete c = λ can.
+    let i = init_options c.args.tunables.now c.args.page_size c.args.max_image in
+    let bytes = c.args.bytes.now in
+    let old = c.in_ok-translation.translation in
+    let told = translated_with _ c.args.tunables.now _ (index_of 0) _ 0 bytes old _ _
+    (ap (λ (r : Bor Tunables). r.now) c.in_ok-environment.ensures.tunables) (c.in_ok-environment.ensures.index ∙ c.from_u32-index.ensures)
+    (ap (λ r. r.now) c.in_ok-environment.ensures.validator ∙ c.requires.number) refl c.in_ok-translation.ensures.translated in
+    let held = c.held_agreement_laws.ensures.memories told.meaning old told.ready.holds_memories in
+    let p = err_from_is_err_and c.from_residual-in_err-finalize_memory_init.result c.from_residual-in_err-finalize_memory_init.ensures.1 in
+    let e = c.in_err-finalize_memory_init in
+    let much = λ (is : e.field-0.0 ≡ plan.TooLarge) (planned : MemoryPlan) (h : PlansMemories i told.meaning planned).
+    c.finalize_memory_init.ensures.too_large (e.was ∙ ap Err is) planned (plans_held i told.meaning old (holds_data i bytes old _ told held) planned h) in
+    let one = c.spelling_is_unique.ensures.one_module bytes can.meaning told.meaning can.read.spelled told.read.spelled in
+    rw p.1 (p.2 ∙ memories_complete i bytes told.meaning e.field-0.0 can one much)
+
+-- ---- the tables are planned
+
+pub finalize_table_init-requires-clause-room : goal.finalize_table_init-requires-clause-room
+finalize_table_init-requires-clause-room c = λ sound.
+    let i = init_options c.args.tunables.now c.args.page_size c.args.max_image in
+    let bytes = c.args.bytes.now in
+    let old = c.in_ok-translation.translation in
+    let back : c.translate.new.self.1.1.0 ≡ c.types-2-1.given.0 = search rules in
+    let told = translated_with _ c.args.tunables.now _ (index_of 0) _ 0 bytes old _ _
+    (ap (λ (r : Bor Tunables). r.now) c.in_ok-environment.ensures.tunables) (c.in_ok-environment.ensures.index ∙ c.from_u32-index.ensures)
+    (ap (λ r. r.now) c.in_ok-environment.ensures.validator ∙ c.requires.number) back c.in_ok-translation.ensures.translated in
+    let m = c.in_ok-finalize_memory_init.ensures in
+    has_room _ _ _ _ (started_memories i bytes old _ told c.finalize_memory_init.new.self c.finalize_memory_init.new.types m.startup m.types)
+    (room i bytes old _ told)
+
+pub returns-in_err-finalize_table_init-clause-cause : goal.returns-in_err-finalize_table_init-clause-cause
+returns-in_err-finalize_table_init-clause-cause c =
+    let p = err_from_is_err_and c.from_residual-in_err-finalize_table_init.result c.from_residual-in_err-finalize_table_init.ensures.1 in
+    let never = tables_error c.in_err-finalize_table_init.field-0.0 (λ is. c.finalize_table_init.ensures.never_too_large (c.in_err-finalize_table_init.was ∙ ap Err is)) in
+    rw (p.1, p.2, never) (λ o same. tt)
+
+pub returns-in_err-finalize_table_init-clause-complete : goal.returns-in_err-finalize_table_init-clause-complete
+returns-in_err-finalize_table_init-clause-complete c = λ can.
+    let p = err_from_is_err_and c.from_residual-in_err-finalize_table_init.result c.from_residual-in_err-finalize_table_init.ensures.1 in
+    let never = tables_error c.in_err-finalize_table_init.field-0.0 (λ is. c.finalize_table_init.ensures.never_too_large (c.in_err-finalize_table_init.was ∙ ap Err is)) in
+    rw p.1 (p.2 ∙ never)
+
+-- ---- all is planned
+
+pub returns-clause-initialised : goal.returns-clause-initialised
+returns-clause-initialised c =
+    let i = init_options c.args.tunables.now c.args.page_size c.args.max_image in
+    let bytes = c.args.bytes.now in
+    let old = c.in_ok-translation.translation in
+    let back : c.translate.new.self.1.1.0 ≡ c.types-2-1.given.0 = search rules in
+    let told = translated_with _ c.args.tunables.now _ (index_of 0) _ 0 bytes old _ _
+    (ap (λ (r : Bor Tunables). r.now) c.in_ok-environment.ensures.tunables) (c.in_ok-environment.ensures.index ∙ c.from_u32-index.ensures)
+    (ap (λ r. r.now) c.in_ok-environment.ensures.validator ∙ c.requires.number) back c.in_ok-translation.ensures.translated in
+    let held = c.held_agreement_laws.ensures.memories told.meaning old told.ready.holds_memories in
+    let mid = c.finalize_memory_init.new.self in
+    let new = c.finalize_table_init.new.self in
+    let m = c.in_ok-finalize_memory_init.ensures in
+    let t = c.in_ok-finalize_table_init.ensures in
+    let laws = c.held_agreement_laws.ensures in
+    all_planned i bytes old _ told mid new c.finalize_memory_init.new.types c.finalize_table_init.new.types
+    (record { startup = c.startup_law.ensures.memories_first; agreement = c.agreement_law.ensures told.meaning }) (record {
+      memories = record {
+        planned = m.planned;
+        begins = m.begins;
+        processed = m.processed;
+        tight = m.tight;
+        ranges = m.ranges;
+        whole_ranges = m.whole_ranges;
+        found = m.found;
+        others = m.others;
+        fits = m.fits;
+      };
+      memories_same = m.same;
+      memories_startup = m.startup;
+      memories_types = m.types;
+      tables = t.planned;
+      tables_same = t.same;
+      tables_startup = t.startup;
+      tables_types = t.types;
+      agree_globals = laws.globals told.meaning old told.ready.holds_globals (told.keeps L6).globals;
+      agree_memories = laws.data told.meaning old (memory_plan_of mid) told.ready.holds_memories m.agrees;
+      agree_tables = laws.elements told.meaning mid (plan_of_tables new) (holds_still told.meaning old mid m.same told.ready.holds_tables) t.agrees;
+    }) held
