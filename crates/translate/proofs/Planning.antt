@@ -53,7 +53,7 @@ one-size o t u same =
     (ap (λ (x : Interned). x.composite.inner) same)
 
 not-above : (a b : ℕ) → (a < b → ⊥) → b ≤ a
-not-above a b no = ⊎_elim (λ (above : a < b). absurd (no above)) (λ (below : b ≤ a). below) (cases_lt a b)
+not-above a b never = ⊎_elim (λ (above : a < b). absurd (never above)) (λ (below : b ≤ a). below) (cases_lt a b)
 
 -- what a list of types holds, once it is finished
 module _ (o : Options) (bytes : List ℕ) (t : ModuleTranslation) (b : Kept) (init : Initialises o.init bytes t b) (l : TypeList) (finished : l ≡ b.list) where

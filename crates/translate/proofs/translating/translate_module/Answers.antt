@@ -2,6 +2,7 @@ use Rattle.std.proofs.Common.{◌≡◌, ◌∙◌, ◌<◌, Err, length, refl, 
 use Rattle.std.proofs.lemmas.Result.{err_from_is_err_and}
 use Rattle.module_types.specs.TypeList.{TypeList}
 use Rattle.wasm_module.specs.Record.{record_of}
+use Rattle.vm_offsets.specs.Context.{context_size}
 use Rattle.vm_offsets.specs.Modules.{module_counts}
 use Rattle.translate.specs.Options.{Options, with_options}
 use Rattle.translate.proofs.Counts.{holds_imports, counts_same, few_escape}
@@ -44,11 +45,6 @@ returns-in_err-layouts-clause-complete c = λ valid.
     rw p.1 (p.2 ∙ layout-complete o c.args.bytes.now c.in_ok-translation.translation _ c.in_ok-translation.ensures.initialised c.finish-types.result
     c.finish-types.ensures c.in_err-layouts.field-0.0 c.in_err-layouts.ensures.causes (λ is. c.layouts_for.ensures.overflow (c.in_err-layouts.was ∙ ap Err is)) valid)
 
--- ---- the layout of the context
-
-pub new-requires-3-clause-imports : goal.new-requires-3-clause-imports
-new-requires-3-clause-imports c = ?
-
 -- ---- there is a plan
 
 pub returns-clause-planned : goal.returns-clause-planned
@@ -68,6 +64,6 @@ returns-clause-planned c =
         layouts = c.in_ok-layouts.ensures.layouts;
         offsets = c.in_ok-offsets.ensures.ok ∙ counted;
         sizes = sizes-fit o c.args.bytes.now t _ init c.finish-types.result c.finish-types.ensures _ counted c.in_ok-layouts.ensures.fits
-            c.in_ok-offsets.ensures.overflow.1;
+            (λ (large : 4294967295 < context_size o.pointer (module_counts o.pointer (record_of t.module))). c.in_ok-offsets.ensures.overflow.1 large);
       };
     }
