@@ -53,7 +53,7 @@ one-size o t u same =
     (ap (λ (x : Interned). x.composite.inner) same)
 
 not-above : (a b : ℕ) → (a < b → ⊥) → b ≤ a
-not-above a b no = ⊎_elim (λ (above : a < b). absurd (no above)) (λ (below : b ≤ a). below) (cases_lt a b)
+not-above a b never = ⊎_elim (λ (above : a < b). absurd (never above)) (λ (below : b ≤ a). below) (cases_lt a b)
 
 -- what a list of types holds, once it is finished
 module _ (o : Options) (bytes : List ℕ) (t : ModuleTranslation) (b : Kept) (init : Initialises o.init bytes t b) (l : TypeList) (finished : l ≡ b.list) where
@@ -86,8 +86,7 @@ module _ (o : Options) (bytes : List ℕ) (t : ModuleTranslation) (b : Kept) (in
   interned-there : (u : WasmSubType) → IsInterned o m memories tables u
       → (k : ℕ) × (k < length l.types) × (interned_of (slice_index_or l.types k u) ≡ interned_of u)
   interned-there u is =
-      let inside : is.0 < length l.types = omega (arith, long, is.1) in
-      (
+      let inside : is.0 < length l.types = omega (arith, long, is.1) in (
         is.0,
         inside,
         sym (get_or-map interned_of l.types is.0 u (interned_of u) inside) ∙ ap (λ (ts : List Interned). get_or ts is.0 (interned_of u)) types-held ∙ is.2,
@@ -111,7 +110,7 @@ module _ (o : Options) (bytes : List ℕ) (t : ModuleTranslation) (b : Kept) (in
           k,
           omega (arith, long, large.2),
           ap (λ (ts : List Interned). get_or ts k (interned_of u)) (sym types-held) ∙ get_or-map interned_of l.types k u (interned_of u) large.2
-          ∙ ap interned_of large.3,
+              ∙ ap interned_of large.3,
         );
         large = large.4;
       }

@@ -1,7 +1,8 @@
-use Rattle.std.proofs.Common.{◌≡◌, ◌∙◌, ◌<◌, Err, length, refl, sym, ap, subst, arith}
+use Rattle.std.proofs.Common.{◌≡◌, true, false, ◌∙◌, ◌<◌, Err, length, refl, sym, ap, subst, arith}
 use Rattle.std.proofs.lemmas.Result.{err_from_is_err_and}
 use Rattle.module_types.specs.TypeList.{TypeList}
 use Rattle.wasm_module.specs.Record.{record_of}
+use Rattle.vm_offsets.specs.Context.{context_size}
 use Rattle.vm_offsets.specs.Modules.{module_counts}
 use Rattle.translate.specs.Options.{Options, with_options}
 use Rattle.translate.proofs.Counts.{holds_imports, counts_same, few_escape}
@@ -44,10 +45,32 @@ returns-in_err-layouts-clause-complete c = λ valid.
     rw p.1 (p.2 ∙ layout-complete o c.args.bytes.now c.in_ok-translation.translation _ c.in_ok-translation.ensures.initialised c.finish-types.result
     c.finish-types.ensures c.in_err-layouts.field-0.0 c.in_err-layouts.ensures.causes (λ is. c.layouts_for.ensures.overflow (c.in_err-layouts.was ∙ ap Err is)) valid)
 
--- ---- the layout of the context
+-- ---- the context is too large
 
-pub new-requires-3-clause-imports : goal.new-requires-3-clause-imports
-new-requires-3-clause-imports c = ?
+pub new-requires-clause-imports : goal.new-requires-clause-imports
+new-requires-clause-imports c =
+    let o = with_options c.args.tunables.now c.args.collector c.args.ptr c.args.page_size c.args.max_image in
+    let init = c.in_ok-translation.ensures.initialised in
+    holds_imports o.init c.args.bytes.now init.meaning c.in_ok-translation.translation init.initialised
+
+pub returns-in_err-offsets-clause-cause : goal.returns-in_err-offsets-clause-cause
+returns-in_err-offsets-clause-cause c =
+    let o = with_options c.args.tunables.now c.args.collector c.args.ptr c.args.page_size c.args.max_image in
+    let p = err_from_is_err_and c.from_residual-in_err-offsets.result c.from_residual-in_err-offsets.ensures.1 in
+    let init = c.in_ok-translation.ensures.initialised in
+    let t = c.in_ok-translation.translation in
+    let counted = counts_same o.init c.args.bytes.now init.meaning t init.initialised o refl in
+    rw (p.1, p.2) (context-cause o c.args.bytes.now t _ init c.finish-types.result c.finish-types.ensures (module_counts o.pointer (record_of t.module)) counted
+    (c.in_err-offsets.ensures.overflow.0 refl))
+
+pub returns-in_err-offsets-clause-complete : goal.returns-in_err-offsets-clause-complete
+returns-in_err-offsets-clause-complete c = λ valid.
+    let o = with_options c.args.tunables.now c.args.collector c.args.ptr c.args.page_size c.args.max_image in
+    let init = c.in_ok-translation.ensures.initialised in
+    let t = c.in_ok-translation.translation in
+    let counted = counts_same o.init c.args.bytes.now init.meaning t init.initialised o refl in
+    absurd (context-fits o c.args.bytes.now t _ init c.finish-types.result c.finish-types.ensures (module_counts o.pointer (record_of t.module)) counted
+    (c.in_err-offsets.ensures.overflow.0 refl) valid)
 
 -- ---- there is a plan
 
@@ -68,6 +91,6 @@ returns-clause-planned c =
         layouts = c.in_ok-layouts.ensures.layouts;
         offsets = c.in_ok-offsets.ensures.ok ∙ counted;
         sizes = sizes-fit o c.args.bytes.now t _ init c.finish-types.result c.finish-types.ensures _ counted c.in_ok-layouts.ensures.fits
-            c.in_ok-offsets.ensures.overflow.1;
+            (λ (large : 4294967295 < context_size o.pointer (module_counts o.pointer (record_of t.module))). let e : false ≡ true = c.in_ok-offsets.ensures.overflow.1 large in cc);
       };
     }
