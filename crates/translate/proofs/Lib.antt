@@ -11,3 +11,5 @@ mod ObjectSizes
 mod OnePlan
 mod PlansFit
 mod Planning
+mod Printable
+mod WholeInput

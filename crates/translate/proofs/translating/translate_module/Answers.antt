@@ -94,3 +94,10 @@ returns-clause-planned c =
             (λ (large : 4294967295 < context_size o.pointer (module_counts o.pointer (record_of t.module))). let e : false ≡ true = c.in_ok-offsets.ensures.overflow.1 large in cc);
       };
     }
+
+pub new-requires-clause-escapes : goal.new-requires-clause-escapes
+new-requires-clause-escapes c =
+    let o = with_options c.args.tunables.now c.args.collector c.args.ptr c.args.page_size c.args.max_image in
+    let init = c.in_ok-translation.ensures.initialised in
+    few_escape o.init c.args.bytes.now init.meaning c.in_ok-translation.translation init.initialised init.read
+    init.initialised.rest.translation.sections.escapes.below

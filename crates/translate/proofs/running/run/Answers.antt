@@ -1,0 +1,76 @@
+use Rattle.std.proofs.Common.{◌≡◌, ◌≢◌, ◌⊎◌, ℕ, List, Some, None, IsNone, IsSome, sym, subst, ap, ◌∙◌, inl, inr, arith}
+use Rattle.command_words.specs.declared.command.Command.{Command}
+use Rattle.devices.specs.Device.{TellsFront}
+use Rattle.translate.specs.Options.{options_of}
+use Rattle.translate.specs.Valid.{IsValid}
+use Rattle.translate.specs.Runs.{IsInput, IsAnswer}
+use Rattle.translate.proofs.WholeInput.{whole_input}
+use Rattle.translate.proofs.running.run.Goals as goal
+
+-- no answer tells of wrong words
+no_usage : (status : ℕ) → IsAnswer status → status ≡ 2 → ⊥
+no_usage status answer wrong = grind arith
+
+-- a command that is named is the one that was read
+same : (read command : Command) → Some read ≡ Some command → command ≡ read
+same read command e = cc
+
+-- an answer that is no refusal and no failed write
+ends_well : (status : ℕ) → IsAnswer status → status ≢ 1 → status ≢ 4 → (status ≡ 0) ⊎ (status ≡ 5)
+ends_well status answer no_refusal written = grind arith
+
+pub returns-in_default-clause-usage : goal.returns-in_default-clause-usage
+returns-in_default-clause-usage g c = (
+  λ wrong command names. let e = c.in_default.ensures.complete command names in absurd (cc),
+  λ none. ap (λ r. r.status) c.empty_report.ensures,
+)
+
+pub returns-in_default-clause-complete : goal.returns-in_default-clause-complete
+returns-in_default-clause-complete g c = λ command input names is valid read written.
+    let e = c.in_default.ensures.complete command names in absurd (cc)
+
+pub returns-in-Ok-clause-usage : goal.returns-in-Ok-clause-usage
+returns-in-Ok-clause-usage g c = (
+  λ wrong command names. no_usage c.answer.result.status c.answer.ensures.statuses wrong,
+  λ none. absurd (none c.in-Some.command c.in-Some.ensures.named),
+)
+
+pub returns-in-Ok-clause-bytes : goal.returns-in-Ok-clause-bytes
+returns-in-Ok-clause-bytes g c = λ command names none.
+    let read = same c.in-Some.command command (c.in-Some.ensures.complete command names) in
+    subst (λ bytes. TellsFront (g.S.Source.left c.args.source.now) bytes (g.S.Source.left c.fill_store-outcome.new.source))
+    (sym (c.answer.ensures.bytes ∙ c.as_slice-bytes.ensures.value))
+    (c.fill_store-outcome.ensures.bytes (subst (λ (d : Command). IsNone d.generate) read none))
+
+pub returns-in-Ok-clause-made : goal.returns-in-Ok-clause-made
+returns-in-Ok-clause-made g c = λ command names some.
+    let read = same c.in-Some.command command (c.in-Some.ensures.complete command names) in
+    c.fill_store-outcome.ensures.made (subst (λ (d : Command). IsSome d.generate) read some)
+
+pub returns-in-Ok-clause-complete : goal.returns-in-Ok-clause-complete
+returns-in-Ok-clause-complete g c = λ command input names is valid no_read_failed no_write_failed.
+    let read = same c.in-Some.command command (c.in-Some.ensures.complete command names) in
+    let whole = whole_input c.in-Some.command.generate (g.S.Source.left c.args.source.now) (g.S.Source.left c.fill_store-outcome.new.source)
+    c.fill_store-outcome.new.store.items input c.in-Ok.ensures.enough c.fill_store-outcome.ensures.bytes (subst (λ (d : Command). IsInput d.generate (g.S.Source.left c.args.source.now) input) read is) valid.read.short in
+    let taken = whole ∙ sym c.as_slice-bytes.ensures.value in
+    let is_valid : IsValid (options_of c.in-Some.command) c.as_slice-bytes.result.now =
+    subst (λ bytes. IsValid (options_of c.in-Some.command) bytes) taken (subst (λ (d : Command). IsValid (options_of d) input) read valid) in
+    ends_well c.answer.result.status c.answer.ensures.statuses (c.answer.ensures.complete is_valid)
+    (λ failed. no_write_failed (c.answer.ensures.write_failed failed))
+
+pub returns-in-Err-Failed-clause-made : goal.returns-in-Err-Failed-clause-made
+returns-in-Err-Failed-clause-made g c = λ command names some.
+    let read = same c.in-Some.command command (c.in-Some.ensures.complete command names) in
+    c.fill_store-outcome.ensures.made (subst (λ (d : Command). IsSome d.generate) read some)
+
+pub returns-in-Err-OutOfMemory-clause-bytes : goal.returns-in-Err-OutOfMemory-clause-bytes
+returns-in-Err-OutOfMemory-clause-bytes g c = λ command names none.
+    let read = same c.in-Some.command command (c.in-Some.ensures.complete command names) in
+    subst (λ bytes. TellsFront (g.S.Source.left c.args.source.now) bytes (g.S.Source.left c.fill_store-outcome.new.source))
+    (sym (ap (λ r. r.bytes.now) c.empty_report-in-Err-OutOfMemory.ensures ∙ c.as_slice-bytes.ensures.value))
+    (c.fill_store-outcome.ensures.bytes (subst (λ (d : Command). IsNone d.generate) read none))
+
+pub returns-in-Err-OutOfMemory-clause-made : goal.returns-in-Err-OutOfMemory-clause-made
+returns-in-Err-OutOfMemory-clause-made g c = λ command names some.
+    let read = same c.in-Some.command command (c.in-Some.ensures.complete command names) in
+    c.fill_store-outcome.ensures.made (subst (λ (d : Command). IsSome d.generate) read some)
