@@ -1,6 +1,6 @@
 -- The text of a planned translation can be made.
 use Rattle.std.proofs.Common.{ℕ, List, All, IfSome, Option, Some, None, sym, subst, ◌≡◌}
-use Rattle.std.proofs.lemmas.List.{All-weaker}
+use Rattle.std.proofs.lemmas.List.Elements.{All-weaker}
 use Rattle.entity_map.specs.declared.pool.Atom.{Atom}
 use Rattle.wasm_types.specs.declared.entity.EntityIndex.{EntityIndex}
 use Rattle.wasm_module.specs.declared.initializer.Initializer.{Initializer}

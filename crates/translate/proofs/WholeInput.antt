@@ -1,5 +1,5 @@
 -- What a run has read of valid input is all of it.
-use Rattle.std.proofs.Common.{◌≡◌, ◌⊎◌, ◌^◌, ◌<◌, ◌≤◌, ◌++◌, ℕ, List, length, Option, Some, None, IsNone, inl, inr, sym, ap, arith, ◌∙◌}
+use Rattle.std.proofs.Common.{◌≡◌, ◌⊎◌, ◌^◌, ◌<◌, ◌≤◌, ◌++◌, ℕ, List, length, Option, Some, None, IsNone, inl, inr, refl, sym, ap, arith, ◌∙◌}
 use Rattle.std.proofs.lemmas.List.{append-nil, length-append}
 use Rattle.devices.specs.Device.{TellsFront, NothingLeft}
 use Rattle.translate.specs.Runs.{IsInput, HasEnoughInput}
@@ -19,5 +19,5 @@ told_long None left bytes input tells is = absurd (cc)
 pub whole_input : (generate : Option ℕ) (told left : Option (List ℕ)) (bytes input : List ℕ) → HasEnoughInput generate bytes left
     → (IsNone generate → TellsFront told bytes left) → IsInput generate told input → length input < 2 ^ 30 → input ≡ bytes
 whole_input (Some n) told left bytes input enough tells is short = is ∙ sym enough
-whole_input None told left bytes input (inl none) tells is short = told_whole told left bytes input none (tells tt) is
-whole_input None told left bytes input (inr long) tells is short = absurd (omega (arith, told_long told left bytes input (tells tt) is, long, short))
+whole_input None told left bytes input (inl none) tells is short = told_whole told left bytes input none (tells refl) is
+whole_input None told left bytes input (inr long) tells is short = absurd (omega (arith, told_long told left bytes input (tells refl) is, long, short))

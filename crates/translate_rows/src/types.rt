@@ -1,4 +1,4 @@
-//! Plans of types, and hints of branches.
+//! Plans of types.
 
 use crate::rows::{Row, check_rows};
 use std::test::Fail;
@@ -100,62 +100,6 @@ fn equal_types_have_one_index(rt: HostRuntime) -> Result<(), Fail> {
                     declared 4 3\n\
                     declared 5 4\n\
                     functions 0 0\n\
-                    tables 0 0\n\
-                    memories 0 0\n\
-                    globals 0 0\n\
-                    tags 0 0\n\
-                    gc-heap no\n\
-                    memory-init segmented\n\
-                    startup none\n",
-            regions: [0, 0, 0, 0, 0, 0, 0, 0, 0, 0, 0, 0, 0, 0, 48],
-            context: 48,
-        },
-    ];
-    check_rows(&rt, rt.alloc(), &rows)
-}
-
-#[test]
-fn hints_are_read_with_their_option(rt: HostRuntime) -> Result<(), Fail> {
-    let rows = [
-        // A hint of a branch ..
-        Row {
-            words: &["plan", "--branch-hints"],
-            sections: &[
-                0x01, 0x04, 0x01, 0x60, 0x00, 0x00, 0x03, 0x02, 0x01, 0x00, 0x0A, 0x04, 0x01, 0x02,
-                0x00, 0x0B, 0x00, 0x20, 0x19, 0x6D, 0x65, 0x74, 0x61, 0x64, 0x61, 0x74, 0x61, 0x2E,
-                0x63, 0x6F, 0x64, 0x65, 0x2E, 0x62, 0x72, 0x61, 0x6E, 0x63, 0x68, 0x5F, 0x68, 0x69,
-                0x6E, 0x74, 0x01, 0x00, 0x01, 0x05, 0x01, 0x01,
-            ],
-            lines: "types 1\n\
-                    type 0 (func) trampoline 0\n\
-                    group 0 0 1\n\
-                    declared 0 0\n\
-                    functions 0 1\n\
-                    tables 0 0\n\
-                    memories 0 0\n\
-                    globals 0 0\n\
-                    tags 0 0\n\
-                    gc-heap no\n\
-                    hints 0 1\n\
-                    memory-init segmented\n\
-                    startup none\n",
-            regions: [0, 0, 0, 0, 0, 0, 0, 0, 0, 0, 0, 0, 0, 0, 48],
-            context: 48,
-        },
-        // .. which is not read without its option.
-        Row {
-            words: &["plan"],
-            sections: &[
-                0x01, 0x04, 0x01, 0x60, 0x00, 0x00, 0x03, 0x02, 0x01, 0x00, 0x0A, 0x04, 0x01, 0x02,
-                0x00, 0x0B, 0x00, 0x20, 0x19, 0x6D, 0x65, 0x74, 0x61, 0x64, 0x61, 0x74, 0x61, 0x2E,
-                0x63, 0x6F, 0x64, 0x65, 0x2E, 0x62, 0x72, 0x61, 0x6E, 0x63, 0x68, 0x5F, 0x68, 0x69,
-                0x6E, 0x74, 0x01, 0x00, 0x01, 0x05, 0x01, 0x01,
-            ],
-            lines: "types 1\n\
-                    type 0 (func) trampoline 0\n\
-                    group 0 0 1\n\
-                    declared 0 0\n\
-                    functions 0 1\n\
                     tables 0 0\n\
                     memories 0 0\n\
                     globals 0 0\n\
