@@ -1,16 +1,15 @@
 -- There is one plan of memories and one of tables, but for where passive segments are found and for cells of images.
-use Rattle.std.proofs.Common.{◌≡◌, ◌∙◌, ℕ, Bool, List, [], ◌∷◌, ◌++◌, map, length, refl, sym, ap, inl, inr}
-use Rattle.std.specs.Prelude.{◌⊎◌, ◌&&◌, Option, None, Some, is_none, if◌then◌else◌}
+use Rattle.std.proofs.Common.{◌≡◌, ◌∙◌, ℕ, Bool, List, [], ◌∷◌, ◌++◌, map, refl, sym, ap, inl, inr}
+use Rattle.std.specs.Prelude.{◌⊎◌, ◌&&◌, Option, None, is_none, if◌then◌else◌}
 use Rattle.std.specs.List.{cons_option, filter_map, list_all}
 use Rattle.std.proofs.lemmas.List.{append_cancel_left}
-use Rattle.wasm_spec.specs.Module.{Expression}
 use Rattle.rule_spec.specs.Lists.{Lists}
 use Rattle.replay_spec.specs.Data.{ActiveSegment}
 use Rattle.replay_spec.specs.Elements.{DefinedTable, ActiveElements}
-use Rattle.replay_spec.specs.Plan.{MemoryPlan, PlannedSegment, left_to_write, kept_segments}
-use Rattle.replay_spec.specs.Images.{ImageOptions, ImageMemory, MemoryImage, IsMemoryPlan, PlansImages, PlansSegments, image_map, image_bytes, entries_of}
-use Rattle.replay_spec.specs.Tables.{TablePlan, IsTablePlan, kept_initial}
-use Rattle.replay_spec.specs.Startup.{Never, Always, IfMemoriesNeedInit, is_empty, leaves_nothing, kept_initials, keeps_no_table, keeps_no_data, has_no_image, startup_of}
+use Rattle.replay_spec.specs.Plan.{MemoryPlan, PlannedSegment, kept_segments}
+use Rattle.replay_spec.specs.Images.{ImageOptions, ImageMemory, IsMemoryPlan, PlansImages, PlansSegments, image_map, image_bytes, entries_of}
+use Rattle.replay_spec.specs.Tables.{TablePlan, IsTablePlan}
+use Rattle.replay_spec.specs.Startup.{Never, Always, IfMemoriesNeedInit, is_empty, leaves_nothing, kept_initials, startup_of}
 use Rattle.replay_spec.proofs.One.{one-list}
 use Rattle.replay_spec.proofs.Taken.{one-prefix}
 

@@ -1,6 +1,6 @@
 -- An initialised translation, its types, their layouts and the layout of the context are the plan of the module.
-use Rattle.std.proofs.Common.{◌≡◌, ◌∙◌, ◌<◌, ◌≤◌, ℕ, List, length, map, get_or, slice_index_or, All, Any, inl, inr, refl, sym, ap, subst, arith}
-use Rattle.std.specs.Prelude.{◌⊎◌, ◌↔◌, Contains}
+use Rattle.std.proofs.Common.{◌≡◌, ◌∙◌, ◌<◌, ◌≤◌, ℕ, List, length, map, get_or, slice_index_or, All, Any, inl, inr, sym, ap, subst, arith}
+use Rattle.std.specs.Prelude.{◌⊎◌, ◌↔◌}
 use Rattle.std.proofs.Math.Logic.{⊎_elim}
 use Rattle.std.proofs.lemmas.Bool.{cases_lt}
 use Rattle.std.proofs.lemmas.List.{length-map, get_or-map}
@@ -16,7 +16,7 @@ use Rattle.form_types.specs.Placed.{placed_groups}
 use Rattle.wasm_types.specs.declared.sub.WasmSubType.{WasmSubType}
 use Rattle.module_types.specs.Views.{interned_number, interned_of}
 use Rattle.module_types.specs.TypeList.{TypeList}
-use Rattle.module_types.specs.Builder.{Kept, shown}
+use Rattle.module_types.specs.Builder.{Kept}
 use Rattle.module_types.specs.Held.{built_of}
 use Rattle.module_types.proofs.EqualLists.{declared}
 use Rattle.module_types.proofs.NamingEarlier.{keeps-earlier}
@@ -32,7 +32,7 @@ use Rattle.vm_offsets.specs.declared.fields.VMOffsetsFields.{VMOffsetsFields}
 use Rattle.vm_offsets.specs.Context.{context_size}
 use Rattle.translate.specs.Options.{Options, header_size, startup_by, runs}
 use Rattle.translate.specs.Contexts.{context_of, object_size, IsInterned, HasLargeObject, HasSizes, size_of_context, Overflows}
-use Rattle.translate.specs.Initialised.{IsInitialised, Initialises}
+use Rattle.translate.specs.Initialised.{Initialises}
 use Rattle.translate.specs.Planned.{HasCause, KeepsAnd, nothing_met}
 use Rattle.translate.specs.Valid.{IsValid}
 use Rattle.translate.proofs.ObjectSizes.{same-size}

@@ -1,12 +1,10 @@
 -- The plans of one module have one context and one list of interned types, so input whose sizes fit does not overflow.
-use Rattle.std.proofs.Common.{◌≡◌, ℕ, ◌<◌, ◌≤◌, List, length, inl, inr, sym, ap, subst, arith}
+use Rattle.std.proofs.Common.{◌≡◌, ℕ, ◌<◌, List, length, inl, inr, ap, subst, arith}
 use Rattle.std.specs.Prelude.{◌⊎◌, Contains}
 use Rattle.wasm_spec.specs.Module.{Module}
 use Rattle.rule_spec.specs.Lists.{lists_of_module}
 use Rattle.replay_spec.specs.Plan.{MemoryPlan}
-use Rattle.replay_spec.specs.Startup.{Startup}
 use Rattle.replay_spec.specs.Tables.{TablePlan}
-use Rattle.vm_offsets.specs.declared.fields.VMOffsetsFields.{VMOffsetsFields}
 use Rattle.vm_offsets.specs.Context.{context_size}
 use Rattle.wasm_types.specs.declared.sub.WasmSubType.{WasmSubType}
 use Rattle.module_types.specs.Views.{interned_of}

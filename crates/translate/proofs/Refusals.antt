@@ -1,5 +1,5 @@
 -- Why the plans of memories and tables fail, as why the whole does.
-use Rattle.std.proofs.Common.{◌≡◌, ◌≤◌, ◌^◌, ℕ, List, length, refl, sym, subst, inl, inr, arith}
+use Rattle.std.proofs.Common.{◌≡◌, ◌≤◌, ◌^◌, ℕ, List, length, refl, sym, subst, inr, arith}
 use Rattle.std.specs.Prelude.{sum_by}
 use Rattle.wasm_spec.specs.Module.{Module}
 use Rattle.rule_spec.specs.Rules.{Keeps}

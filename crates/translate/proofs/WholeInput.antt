@@ -1,5 +1,5 @@
 -- What a run has read of valid input is all of it.
-use Rattle.std.proofs.Common.{◌≡◌, ◌⊎◌, ◌^◌, ◌<◌, ◌≤◌, ◌++◌, ℕ, List, length, Option, Some, None, IsNone, inl, inr, refl, sym, ap, arith, ◌∙◌}
+use Rattle.std.proofs.Common.{◌≡◌, ◌^◌, ◌<◌, ◌≤◌, ◌++◌, ℕ, List, length, Option, Some, None, IsNone, inl, inr, refl, sym, ap, arith, ◌∙◌}
 use Rattle.std.proofs.lemmas.List.{append-nil, length-append}
 use Rattle.devices.specs.Device.{TellsFront, NothingLeft}
 use Rattle.translate.specs.Runs.{IsInput, HasEnoughInput}

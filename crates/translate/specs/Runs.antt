@@ -1,5 +1,5 @@
 -- What a run leaves, by its status.
-use Rattle.std.specs.Prelude.{◌≡◌, ◌≢◌, ◌⊎◌, ℕ, ◌^◌, List, length, map, string_bytes, Option, None, Some, IsSomeAnd}
+use Rattle.std.specs.Prelude.{◌≡◌, ◌≢◌, ◌⊎◌, ℕ, ◌^◌, List, length, Option, None, Some, IsSomeAnd}
 use Rattle.devices.specs.Device.{NothingLeft, AppendsFront, AppendsPart}
 use Rattle.module_generator.specs.Generated.{generated_module}
 use Rattle.command_words.specs.declared.command.Command.{Command}

@@ -1,4 +1,4 @@
-use Rattle.std.proofs.Common.{◌≡◌, ◌∙◌, Ok, Err, ap, sym, subst, arith}
+use Rattle.std.proofs.Common.{◌≡◌, ◌∙◌, Err, ap, sym, subst, arith}
 use Rattle.std.proofs.lemmas.Result.{err_from_is_err_and}
 use Rattle.translate.proofs.LayoutsInTurn.{AreLaidOut, laid-none, laid-more, laid-fewer, laid-large, laid-all, laid-small, overflow-only}
 use Rattle.translate.proofs.layouts.layouts_of.Goals as goal

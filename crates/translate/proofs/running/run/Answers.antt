@@ -1,4 +1,4 @@
-use Rattle.std.proofs.Common.{◌≡◌, ◌≢◌, ◌⊎◌, ℕ, List, Some, None, IsNone, IsSome, sym, subst, ap, ◌∙◌, inl, inr, arith}
+use Rattle.std.proofs.Common.{◌≡◌, ◌≢◌, ◌⊎◌, ℕ, Some, IsNone, IsSome, sym, subst, ap, ◌∙◌, arith}
 use Rattle.command_words.specs.declared.command.Command.{Command}
 use Rattle.devices.specs.Device.{TellsFront}
 use Rattle.translate.specs.Options.{options_of}

@@ -1,10 +1,10 @@
-use Rattle.std.proofs.Common.{◌≡◌, true, false, ◌∙◌, ◌<◌, Err, length, refl, sym, ap, subst, arith}
+use Rattle.std.proofs.Common.{◌≡◌, true, false, ◌∙◌, ◌<◌, Err, length, refl, ap, arith}
 use Rattle.std.proofs.lemmas.Result.{err_from_is_err_and}
 use Rattle.module_types.specs.TypeList.{TypeList}
 use Rattle.wasm_module.specs.Record.{record_of}
 use Rattle.vm_offsets.specs.Context.{context_size}
 use Rattle.vm_offsets.specs.Modules.{module_counts}
-use Rattle.translate.specs.Options.{Options, with_options}
+use Rattle.translate.specs.Options.{with_options}
 use Rattle.translate.proofs.Counts.{holds_imports, counts_same, few_escape}
 use Rattle.translate.proofs.PlansFit.{valid-begins}
 use Rattle.translate.proofs.Planning.{told-apart, same-lists, layout-cause, layout-complete, context-cause, context-fits, sizes-fit}
