@@ -1,0 +1,57 @@
+//! A translation that is filled by hand, by calls that a translated module makes.
+
+use entity_map::EntityRef;
+use form_types::Validator;
+use init_plan::{BranchHint, ModuleTranslation};
+use module_types::ModuleTypesBuilder;
+use std::alloc::Global;
+use std::collections::BTreeMap;
+use std::test::Fail;
+use wasm_index::{DataIndex, FuncIndex, StaticModuleIndex};
+
+/// What of a translation is looked at.
+#[derive(Debug, PartialEq, Eq, Clone, Copy)]
+struct Told {
+    hints: Option<usize>,
+    hints_of_another: Option<usize>,
+    is_started_before: bool,
+    is_started: bool,
+}
+
+fn filled_by_hand(alloc: Global) -> Result<Told, Fail> {
+    let mut translation = ModuleTranslation::new(alloc, StaticModuleIndex::from_u32(0))?;
+    translation.push_passive_data(DataIndex::from_u32(1), &[7, 8, 9])?;
+    let mut hints = BTreeMap::new(alloc);
+    let hint = BranchHint {
+        func_offset: 5,
+        taken: true,
+    };
+    hints.insert(FuncIndex::from_u32(3), vec![in alloc; hint]?)?;
+    translation.set_branch_hints(hints);
+    let is_started_before = !translation.module.startup.is_none();
+    let mut types = ModuleTypesBuilder::new(alloc, &Validator::new(0));
+    translation.require_startup_func(&mut types)?;
+    Ok(Told {
+        hints: translation
+            .branch_hints(FuncIndex::from_u32(3))
+            .map(|hints| hints.len()),
+        hints_of_another: translation
+            .branch_hints(FuncIndex::from_u32(0))
+            .map(|hints| hints.len()),
+        is_started_before,
+        is_started: !translation.module.startup.is_none(),
+    })
+}
+
+#[test]
+fn hints_are_found_and_startup_is_required(rt: HostRuntime) -> Result<(), Fail> {
+    let told = filled_by_hand(rt.alloc())?;
+    let want = Told {
+        hints: Some(1),
+        hints_of_another: None,
+        is_started_before: false,
+        is_started: true,
+    };
+    assert_eq!(rt; told, want);
+    Ok(())
+}
