@@ -4,7 +4,7 @@ use entity_map::EntityRef;
 use form_types::Validator;
 use init_plan::{BranchHint, ModuleTranslation};
 use module_types::ModuleTypesBuilder;
-use std::alloc::Global;
+use std::alloc::{AllocError, Global};
 use std::collections::BTreeMap;
 use std::test::Fail;
 use wasm_index::{DataIndex, FuncIndex, StaticModuleIndex};
@@ -18,26 +18,42 @@ struct Told {
     is_started: bool,
 }
 
-fn filled_by_hand(alloc: Global) -> Result<Told, Fail> {
-    let mut translation = ModuleTranslation::new(alloc, StaticModuleIndex::from_u32(0))?;
-    translation.push_passive_data(DataIndex::from_u32(1), &[7, 8, 9])?;
-    let mut hints = BTreeMap::new(alloc);
+/// The empty translation. It is boxed, so that a function which holds it drops it by one call.
+fn empty<'a>(alloc: Global) -> Result<Box<ModuleTranslation<'a>>, Fail> {
+    let translation = ModuleTranslation::new(alloc, StaticModuleIndex::from_u32(0))?;
+    Ok(boxed(alloc, translation)?)
+}
+
+fn boxed<T: Drop>(alloc: Global, value: T) -> Result<Box<T>, AllocError> {
+    Ok(Box::new(alloc, value)?)
+}
+
+fn set_hints(alloc: Global, translation: &mut ModuleTranslation<'_>) -> Result<(), Fail> {
     let hint = BranchHint {
         func_offset: 5,
         taken: true,
     };
+    let mut hints = BTreeMap::new(alloc);
     hints.insert(FuncIndex::from_u32(3), vec![in alloc; hint]?)?;
     translation.set_branch_hints(hints);
+    Ok(())
+}
+
+/// How many hints a function has, where it has an entry.
+fn count_hints(translation: &ModuleTranslation<'_>, function: FuncIndex) -> Option<usize> {
+    translation.branch_hints(function).map(|hints| hints.len())
+}
+
+fn filled_by_hand(alloc: Global) -> Result<Told, Fail> {
+    let mut translation = empty(alloc)?;
+    translation.push_passive_data(DataIndex::from_u32(1), &[7, 8, 9])?;
+    set_hints(alloc, &mut translation)?;
     let is_started_before = !translation.module.startup.is_none();
     let mut types = ModuleTypesBuilder::new(alloc, &Validator::new(0));
     translation.require_startup_func(&mut types)?;
     Ok(Told {
-        hints: translation
-            .branch_hints(FuncIndex::from_u32(3))
-            .map(|hints| hints.len()),
-        hints_of_another: translation
-            .branch_hints(FuncIndex::from_u32(0))
-            .map(|hints| hints.len()),
+        hints: count_hints(&translation, FuncIndex::from_u32(3)),
+        hints_of_another: count_hints(&translation, FuncIndex::from_u32(0)),
         is_started_before,
         is_started: !translation.module.startup.is_none(),
     })
