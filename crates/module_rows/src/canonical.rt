@@ -1,5 +1,7 @@
 //! Canonical forms of types of two modules.
 
+ghost use Rattle.std.specs.Prelude.{◌<◌};
+
 use entity_map::EntityRef;
 use std::test::Fail;
 use wasm_index::{ModuleInternedTypeIndex, VMSharedTypeIndex};
