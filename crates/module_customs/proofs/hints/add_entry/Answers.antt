@@ -7,9 +7,9 @@ use Rattle.module_customs.proofs.ByNumber.{got, written}
 use Rattle.module_customs.proofs.FirstHints.{first-kept, first-again, first-nowhere}
 use Rattle.module_customs.proofs.hints.add_entry.Goals as goal
 
-pub returns-then-function : goal.returns-then-function
-returns-then-function c = λ before had.
-    first-nowhere before c.args.function c.args.hints.now (at_number number_of c.args.kept.now) had c.if-function.true
+pub returns-then-function-eq4294967295 : goal.returns-then-function-eq4294967295
+returns-then-function-eq4294967295 c = λ before had.
+    first-nowhere before c.args.function c.args.hints.now (at_number number_of c.args.kept.now) had c.if-function-eq4294967295.true
 
 pub returns-then-contains_key : goal.returns-then-contains_key
 returns-then-contains_key c = λ before had.
@@ -31,5 +31,5 @@ returns c = λ before had.
     let writes = written number_of index_of (λ n. refl) _ c.args.kept.now c.insert.new.self c.from_u32-function.result _
     c.in_ok-insert.ensures.updates.0 (λ a b. refl) in
     subst (λ (n : ℕ). HasFirst (before ++ (n, c.args.hints.now) ∷ []) new) is
-    (first-kept before f c.args.hints.now old had new c.in_ok-branch_hints.field-0 c.in_ok-branch_hints.ensures (λ e. c.if-function.false (sym is ∙ e))
+    (first-kept before f c.args.hints.now old had new c.in_ok-branch_hints.field-0 c.in_ok-branch_hints.ensures (λ e. c.if-function-eq4294967295.false (sym is ∙ e))
     absent writes)
