@@ -1,0 +1,6 @@
+mod Functions
+mod ByNumber
+mod LocalNames
+mod NamesInTurn
+mod HintsInTurn
+mod FirstHints

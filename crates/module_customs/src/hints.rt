@@ -1,0 +1,104 @@
+//! The hints at branches that a module's sections of hints give.
+
+ghost use Rattle.std.specs.Prelude.{◌≡◌, ◌++◌, ◌∷◌, [], map, IfOk, OnOk};
+ghost use Rattle.std.specs.Option.{option_map};
+ghost use Rattle.form_data.specs.Views.{module_of, payload_of};
+ghost use Rattle.wasm_index.specs.Index.{number_of};
+ghost use Rattle.custom_sections.specs.Views.{hint_entry_of};
+ghost use Rattle.module_customs.specs.Hints.{HintLists, HasFirst, hint_lists, module_hints, branch_hint_of};
+ghost use Rattle.module_customs.specs.Names.{at_number};
+
+use crate::names::contents_named;
+use custom_sections::{Hint, read_hints};
+use entity_map::{EntityRef, OutOfMemory};
+use form_data::{Form, Payload};
+use init_plan::BranchHint;
+use std::alloc::Global;
+use std::collections::BTreeMap;
+use wasm_index::FuncIndex;
+
+/// The hints of the last section of hints that has no fault, by their functions (branch hinting, binary format): of several entries of a
+/// function the first one counts.
+pub fn kept_hints(
+    alloc: Global,
+    form: &Form<'_>,
+) -> Result<BTreeMap<FuncIndex, Vec<BranchHint>>, OutOfMemory>
+    ensures { IfOk result (λ kept. HasFirst (module_hints (module_of form.now)) (at_number number_of kept)) }
+{
+    by_function(alloc, &last_hints(alloc, form)?)
+}
+
+/// The entries of the last section of hints that has no fault, and none without one.
+fn last_hints(alloc: Global, form: &Form<'_>) -> Result<Vec<(u32, Vec<Hint>)>, OutOfMemory>
+    ensures { IfOk result (λ last. map hint_entry_of last.items ≡ module_hints (module_of form.now)) }
+{
+    let mut last = Vec::new(alloc);
+    for payload in &form.payloads {
+        if let Some(entries) = hints_in(alloc, payload)? {
+            last = entries;
+        }
+    }
+    Ok(last)
+}
+
+/// The entries of a section of hints that has no fault.
+fn hints_in(
+    alloc: Global,
+    payload: &Payload<'_>,
+) -> Result<Option<Vec<(u32, Vec<Hint>)>>, OutOfMemory>
+    ensures { IfOk result (λ o. option_map (λ all. map hint_entry_of all.items) o ≡ hint_lists (payload_of payload.now)) }
+{
+    match contents_named(payload, "metadata.code.branch_hint") {
+        Some(contents) => Ok(read_hints(alloc, contents)?),
+        None => Ok(None),
+    }
+}
+
+/// Hints by their functions, of which the first entry counts.
+fn by_function(
+    alloc: Global,
+    entries: &[(u32, Vec<Hint>)],
+) -> Result<BTreeMap<FuncIndex, Vec<BranchHint>>, OutOfMemory>
+    ensures { IfOk result (λ kept. HasFirst (map hint_entry_of entries.now) (at_number number_of kept)) }
+{
+    let mut kept = BTreeMap::new(alloc);
+    for (function, hints) in entries {
+        add_entry(alloc, &mut kept, *function, hints)?;
+    }
+    Ok(kept)
+}
+
+/// Adds the hints of a function that has none yet; the largest number is no function's index.
+fn add_entry(
+    alloc: Global,
+    kept: &mut BTreeMap<FuncIndex, Vec<BranchHint>>,
+    function: u32,
+    hints: &[Hint],
+) -> Result<(), OutOfMemory>
+    ensures { OnOk result ((before : HintLists) → HasFirst before (at_number number_of kept.old)
+        → HasFirst (before ++ (function, hints.now) ∷ []) (at_number number_of kept.new)) }
+{
+    if function == u32::MAX {
+        return Ok(());
+    }
+    let function = FuncIndex::from_u32(function);
+    if kept.contains_key(&function) {
+        return Ok(());
+    }
+    kept.insert(function, branch_hints(alloc, hints)?)?;
+    Ok(())
+}
+
+/// Hints as a translation has them.
+fn branch_hints(alloc: Global, hints: &[Hint]) -> Result<Vec<BranchHint>, OutOfMemory>
+    ensures { IfOk result (λ all. all.items ≡ map branch_hint_of hints.now) }
+{
+    let mut all = Vec::with_capacity(alloc, hints.len())?;
+    for hint in hints {
+        all.push(BranchHint {
+            func_offset: hint.func_offset,
+            taken: hint.taken,
+        })?;
+    }
+    Ok(all)
+}

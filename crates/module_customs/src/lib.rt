@@ -1,0 +1,12 @@
+//! What the custom sections of a module give: names, hints at branches, and whether there is debug information.
+#![tactic(auto)]
+
+mod debug;
+mod hints;
+mod names;
+#[cfg(test)]
+mod tests;
+
+pub use debug::has_debug_section;
+pub use hints::kept_hints;
+pub use names::kept_names;

@@ -1,0 +1,196 @@
+//! The names that the name sections of a module give.
+
+ghost use Rattle.std.specs.Prelude.{◌≡◌, ◌+◌, ◌<◌, ◌++◌, ◌∷◌, ℕ, List, [], length, map, codes, Bool, IfOk, OnOk};
+ghost use Rattle.std.specs.Option.{option_map, option_or};
+ghost use Rattle.wasm_spec.specs.Module.{imports_of_section, function_types_of_section, function_import};
+ghost use Rattle.wasm_spec.specs.Sizes.{HasFewEntries};
+ghost use Rattle.form_data.specs.Views.{import_of, module_of, payload_of};
+ghost use Rattle.wasm_index.specs.Index.{number_of};
+ghost use Rattle.custom_sections.specs.NameReading.{NameLists, joined};
+ghost use Rattle.custom_sections.specs.Views.{text_of, locals_of, names_of};
+ghost use Rattle.module_customs.specs.Names.{functions_among, one_if, contents_of, names_in, names_below, below, module_names, at_number, HasLast, HasLocals, KeepsNames};
+
+use custom_sections::{Names, read_names};
+use entity_map::{EntityRef, OutOfMemory};
+use form_data::{Form, Import, Payload};
+use form_lists::imports_of;
+use init_plan::NameSection;
+use std::alloc::Global;
+use std::collections::BTreeMap;
+use wasm_index::FuncIndex;
+use wasm_spec::TypeRef;
+
+/// The names of the module, its functions and their locals, as the name sections give them (core specification, appendix, name section): those
+/// of locals are read where they are asked for, and the name of a function is kept where the function is declared before its section.
+pub fn kept_names<'d>(
+    alloc: Global,
+    form: &Form<'d>,
+    locals: bool,
+) -> Result<NameSection<'d>, OutOfMemory>
+    requires { HasFewEntries (module_of form.now) }
+    ensures { IfOk result (KeepsNames (module_names locals (module_of form.now))) }
+{
+    let mut kept = NameSection {
+        module_name: None,
+        func_names: BTreeMap::new(alloc),
+        locals_names: BTreeMap::new(alloc),
+    };
+    let mut declared = 0;
+    for payload in &form.payloads {
+        add_section(alloc, &mut kept, payload, declared, locals)?;
+        declared += declared_functions(payload);
+    }
+    Ok(kept)
+}
+
+/// Adds the names of a section before which so many functions are declared.
+fn add_section<'d>(
+    alloc: Global,
+    kept: &mut NameSection<'d>,
+    payload: &Payload<'d>,
+    declared: usize,
+    locals: bool,
+) -> Result<(), OutOfMemory>
+    requires { declared < u32.MAX }
+    ensures { OnOk result ((before : NameLists) → KeepsNames before kept.old
+        → KeepsNames (joined before (names_below declared (names_in locals (contents_of (codes "name") (payload_of payload.now))))) kept.new) }
+{
+    if let Some(contents) = contents_named(payload, "name") {
+        let names = read_names(alloc, contents, locals)?;
+        add_names(alloc, kept, &names, declared)?;
+    }
+    Ok(())
+}
+
+/// The contents of a custom section of this name.
+pub(crate) fn contents_named<'d>(payload: &Payload<'d>, title: &str) -> Option<&'d [u8]>
+    ensures { option_map (λ bytes. bytes.now) result ≡ contents_of title.now (payload_of payload.now) }
+{
+    match payload {
+        Payload::Custom(custom) if custom.name == title => Some(custom.bytes),
+        _ => None,
+    }
+}
+
+/// How many functions a section imports or declares.
+fn declared_functions(payload: &Payload<'_>) -> usize
+    ensures { let p = payload_of payload.now in
+        result ≡ functions_among (imports_of_section p) + length (function_types_of_section p) }
+{
+    match payload {
+        Payload::Functions(types) => types.len(),
+        _ => imported_functions(imports_of(payload)),
+    }
+}
+
+/// How many of some imports are functions.
+fn imported_functions(imports: &[Import<'_>]) -> usize
+    ensures { result ≡ functions_among (map import_of imports.now) }
+{
+    let mut count = 0;
+    for import in imports {
+        count += imported_function(import);
+    }
+    count
+}
+
+/// 1 where a function is imported, and 0 otherwise.
+fn imported_function(import: &Import<'_>) -> usize
+    ensures { result ≡ one_if (function_import (import_of import.now).type) }
+{
+    match import.ty {
+        TypeRef::Func(_) => 1,
+        _ => 0,
+    }
+}
+
+/// Adds names to those of the sections before, where so many functions are declared.
+fn add_names<'d>(
+    alloc: Global,
+    kept: &mut NameSection<'d>,
+    names: &Names<'d>,
+    declared: usize,
+) -> Result<(), OutOfMemory>
+    requires { declared < u32.MAX }
+    ensures { OnOk result ((before : NameLists) → KeepsNames before kept.old
+        → KeepsNames (joined before (names_below declared (names_of names.now))) kept.new) }
+{
+    if let Some(name) = names.module_name {
+        kept.module_name = Some(name);
+    }
+    add_function_names(&mut kept.func_names, &names.functions, declared)?;
+    add_locals(alloc, &mut kept.locals_names, &names.locals, declared)
+}
+
+/// Adds the names of functions that are declared; a later name replaces an earlier one.
+fn add_function_names<'d>(
+    kept: &mut BTreeMap<FuncIndex, &'d str>,
+    names: &[(u32, &'d str)],
+    declared: usize,
+) -> Result<(), OutOfMemory>
+    requires { declared < u32.MAX }
+    ensures { OnOk result ((before : List (ℕ × List ℕ)) → HasLast before (at_number number_of kept.old)
+        → HasLast (before ++ below declared (map text_of names.now)) (at_number number_of kept.new)) }
+{
+    for (function, name) in names {
+        if (*function as usize) < declared {
+            kept.insert(FuncIndex::from_u32(*function), *name)?;
+        }
+    }
+    Ok(())
+}
+
+/// Adds the names of the locals of functions that are declared; a later name replaces an earlier one.
+fn add_locals<'d>(
+    alloc: Global,
+    kept: &mut BTreeMap<FuncIndex, BTreeMap<u32, &'d str>>,
+    locals: &[(u32, Vec<(u32, &'d str)>)],
+    declared: usize,
+) -> Result<(), OutOfMemory>
+    requires { declared < u32.MAX }
+    ensures { OnOk result ((before : List (ℕ × List (ℕ × List ℕ))) → HasLocals before kept.old
+        → HasLocals (before ++ below declared (map locals_of locals.now)) kept.new) }
+{
+    for (function, names) in locals {
+        if (*function as usize) < declared {
+            add_local_names(alloc, kept, FuncIndex::from_u32(*function), names)?;
+        }
+    }
+    Ok(())
+}
+
+/// Adds the names of a function's locals. A function has an entry once a local of it has a name.
+fn add_local_names<'d>(
+    alloc: Global,
+    kept: &mut BTreeMap<FuncIndex, BTreeMap<u32, &'d str>>,
+    function: FuncIndex,
+    names: &[(u32, &'d str)],
+) -> Result<(), OutOfMemory>
+    ensures { OnOk result ((before : List (ℕ × List (ℕ × List ℕ))) → HasLocals before kept.old
+        → HasLocals (before ++ (number_of function, map text_of names.now) ∷ []) kept.new) }
+{
+    if names.is_empty() {
+        return Ok(());
+    }
+    let mut of_function = match kept.remove(&function) {
+        Some(of_function) => of_function,
+        None => BTreeMap::new(alloc),
+    };
+    add_texts(&mut of_function, names)?;
+    kept.insert(function, of_function)?;
+    Ok(())
+}
+
+/// Adds names; a later name of an index replaces an earlier one.
+fn add_texts<'d>(
+    kept: &mut BTreeMap<u32, &'d str>,
+    names: &[(u32, &'d str)],
+) -> Result<(), OutOfMemory>
+    ensures { OnOk result ((before : List (ℕ × List ℕ)) → HasLast before (at_number (λ n. n) kept.old)
+        → HasLast (before ++ map text_of names.now) (at_number (λ n. n) kept.new)) }
+{
+    for (index, name) in names {
+        kept.insert(*index, *name)?;
+    }
+    Ok(())
+}
