@@ -114,3 +114,15 @@ pub record LeavesRest (old new : ModuleTranslation) : Type 0 where
   pub index : new.module.module_index ≡ old.module.module_index
   pub startup : new.module.startup ≡ old.module.startup
   pub offset : new.wasm_module_offset ≡ old.wasm_module_offset
+
+-- of a translation only names, hints, and what is told of its functions and of debug information, may be others
+abbrev pub OnlyCustomsChange : ModuleTranslation → ModuleTranslation → Type 0
+OnlyCustomsChange old new = new ≡ record old {
+  «module» = record old.module { strings = new.module.strings; name = new.module.name };
+  debuginfo = record old.debuginfo {
+    name_section = new.debuginfo.name_section;
+    wasm_file = record old.debuginfo.wasm_file { funcs = new.debuginfo.wasm_file.funcs };
+  };
+  has_unparsed_debuginfo = new.has_unparsed_debuginfo;
+  hidden = record old.hidden { branch_hints = new.hidden.branch_hints };
+}

@@ -23,3 +23,5 @@ pub mod Worked
 pub mod Pooled
 pub mod Imported
 pub mod Exported
+pub mod Metadata
+pub mod Customs

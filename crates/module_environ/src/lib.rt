@@ -2,6 +2,7 @@
 #![tactic(auto)]
 
 mod code;
+mod customs;
 mod data;
 mod declared;
 mod element_items;
@@ -17,6 +18,7 @@ mod globals;
 mod import_laws;
 mod imports;
 mod laws;
+mod metadata;
 mod offsets;
 mod sections;
 mod spaces;

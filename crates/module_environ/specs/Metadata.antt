@@ -1,0 +1,47 @@
+-- What is told of the functions that a module defines: their parameters, and their locals in runs of one type (core specification, 2.5, functions).
+use Rattle.std.specs.Prelude.{ℕ, ◌+◌, Bool, List, [], map, Option, unwrap_or, if◌then◌else◌}
+use Rattle.std.specs.List.{enumerate_from}
+use Rattle.std.specs.Option.{option_map}
+use Rattle.wasm_spec.specs.declared.types.UnpackedIndex.{UnpackedIndex}
+use Rattle.wasm_spec.specs.TypeData.{Value, Composite, Func, value_of, map_value}
+use Rattle.wasm_spec.specs.Module.{Body}
+use Rattle.rule_spec.specs.Lists.{Lists}
+use Rattle.rule_spec.specs.Indices.{kind_of_function}
+use Rattle.wasm_types.specs.ValueViews.{Name, value_of as value_seen}
+use Rattle.wasm_convert.specs.Conversion.{LookUp}
+use Rattle.init_plan.specs.declared.debug_info.FunctionMetadata.{FunctionMetadata}
+
+pub record FunctionData : Type 0 where
+  pub params : List (Value Name)
+  -- how many locals stand in a row, and their type
+  pub locals : List (ℕ × Value Name)
+
+-- the parameters of a function type
+abbrev pub params_of : Composite UnpackedIndex UnpackedIndex → List (Value UnpackedIndex)
+params_of (Func type) = type.params
+params_of _ = []
+
+-- those of a function of the index space
+abbrev pub params_at : Lists → ℕ → List (Value UnpackedIndex)
+params_at l function = unwrap_or (option_map params_of (kind_of_function l function)) []
+
+-- over the lists of a module, and what its types are looked up to
+module _ (look : LookUp) (l : Lists) where
+  -- of a defined function, by its number among those, and its body
+  abbrev pub function_data : ℕ × Body → FunctionData
+  function_data f = record {
+    params = map (map_value look) (params_at l (l.imported_functions + f.0));
+    locals = map (λ run. (run.0, map_value look (value_of run.1))) f.1.locals;
+  }
+
+  -- of all, in order
+  abbrev pub functions_data : List FunctionData
+  functions_data = map function_data (enumerate_from 0 l.bodies)
+
+  -- of all where they are asked for, and of none otherwise
+  abbrev pub functions_asked : Bool → List FunctionData
+  functions_asked asked = if asked then functions_data else []
+
+-- as a translation has it
+abbrev pub function_seen : FunctionMetadata → FunctionData
+function_seen f = record { params = map value_seen f.params.items; locals = map (λ run. (run.0, value_seen run.1)) f.locals.items }

@@ -1,0 +1,84 @@
+//! What the custom sections of a module give its translation, and what is told of its functions.
+
+ghost use Rattle.std.specs.Prelude.{◌≡◌, ◌+◌, ◌<◌, ◌^◌, length, IfOk, IfSome, OnOk};
+ghost use Rattle.std.specs.Option.{option_map};
+ghost use Rattle.form_data.specs.Views.{module_of};
+ghost use Rattle.wasm_index.specs.Index.{number_of};
+ghost use Rattle.module_customs.specs.Hints.{HasFirst};
+ghost use Rattle.module_customs.specs.Names.{at_number};
+ghost use Rattle.module_environ.specs.Customs.{HasCustoms, hints_asked};
+ghost use Rattle.module_environ.specs.Entities.{text_at};
+ghost use Rattle.module_environ.specs.Filling.{module_in, IsGathered, LooksUpTypes, OnlyCustomsChange};
+ghost use Rattle.module_environ.specs.Pooled.{GrowsBy, HasText};
+
+use crate::metadata::function_metadata;
+use entity_map::{Atom, OutOfMemory, StringPool};
+use form_data::Form;
+use form_lists::Lists;
+use init_plan::{BranchHint, ModuleTranslation};
+use module_customs::{has_debug_section, kept_hints, kept_names};
+use std::alloc::Global;
+use std::collections::BTreeMap;
+use std::mem;
+use wasm_convert::TypeConvert;
+use wasm_index::FuncIndex;
+use wasm_types::Tunables;
+
+/// Fills in names, hints of branches and what is told of functions, as far as they are asked for, and whether there is debug information.
+pub(crate) fn fill_customs<'d>(
+    alloc: Global,
+    tunables: &Tunables,
+    env: &dyn TypeConvert,
+    lists: &Lists<'_, 'd>,
+    translation: &mut ModuleTranslation<'d>,
+) -> Result<(), OutOfMemory>
+    requires gathered { IsGathered lists.now }
+    requires looks { LooksUpTypes (module_in lists.now) (knows env.now) (look_up env.now) }
+    requires few_texts { length translation.old.module.strings < 2 ^ 31 + 2 ^ 30 }
+    ensures customs { OnOk result (HasCustoms tunables.now (module_in lists.now) translation.new) }
+    ensures texts { OnOk result (GrowsBy 1 translation.old.module.strings translation.new.module.strings) }
+    ensures pooled { OnOk result (IfSome translation.new.module.name (HasText translation.new.module.strings)) }
+    ensures same { OnOk result (OnlyCustomsChange translation.old translation.new) }
+{
+    let native = tunables.debug_native;
+    let mut names = kept_names(alloc, lists.form, native)?;
+    translation.module.name = pool_name(&mut translation.module.strings, names.module_name)?;
+    if !native {
+        names.module_name = None;
+    }
+    // The names and functions of before, of which there are none, are let go as values of their own.
+    let _none = mem::replace(&mut translation.debuginfo.name_section, names);
+    let functions = function_metadata(alloc, env, lists, native)?;
+    let _none = mem::replace(&mut translation.debuginfo.wasm_file.funcs, functions);
+    translation.set_branch_hints(asked_hints(alloc, lists.form, tunables.branch_hinting)?);
+    translation.has_unparsed_debuginfo = has_debug_section(lists.form);
+    Ok(())
+}
+
+/// The atom of a name, where there is one; the name goes into the pool.
+fn pool_name(strings: &mut StringPool, name: Option<&str>) -> Result<Option<Atom>, OutOfMemory>
+    requires { length strings.old < u32.MAX - 1 }
+    ensures pool { OnOk result (GrowsBy 1 strings.old strings.new) }
+    ensures pooled { IfOk result (λ atom. IfSome atom (HasText strings.new)) }
+    ensures text { IfOk result (λ atom. option_map (text_at strings.new) atom ≡ option_map (λ text. text.now) name.entry) }
+{
+    match name {
+        Some(name) => Ok(Some(strings.insert(name)?)),
+        None => Ok(None),
+    }
+}
+
+/// The hints of branches by their functions, where they are asked for.
+fn asked_hints(
+    alloc: Global,
+    form: &Form<'_>,
+    asked: bool,
+) -> Result<BTreeMap<FuncIndex, Vec<BranchHint>>, OutOfMemory>
+    ensures { IfOk result (λ kept. HasFirst (hints_asked asked (module_of form.now)) (at_number number_of kept)) }
+{
+    if asked {
+        kept_hints(alloc, form)
+    } else {
+        Ok(BTreeMap::new(alloc))
+    }
+}
