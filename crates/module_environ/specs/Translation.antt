@@ -24,6 +24,7 @@ use Rattle.replay_spec.specs.Startup.{leaves_nothing}
 use Rattle.init_plan.specs.declared.translation.ModuleTranslation.{ModuleTranslation}
 use Rattle.init_plan.specs.Views.{initializers_of, passive_data_of, types_of, IsUnprocessed, IsSegmented, ranges_of}
 use Rattle.module_environ.specs.Types.{declared, interned_at, interned_list, type_index, look_up_in}
+use Rattle.module_environ.specs.Customs.{HasCustoms}
 use Rattle.module_environ.specs.Entities.{count_of, imported_entities, exported_entities, resolved_import, resolved_export, function_types, tables_data, globals_data, tags_of}
 use Rattle.module_environ.specs.Escapes.{escaping, AreSignatures}
 use Rattle.module_environ.specs.Pooled.{HasText, HasTexts}
@@ -104,7 +105,7 @@ pub record HasData (m : plain.Module) (t : ModuleTranslation) : Type 0 where
   pub nothing_found : t.runtime_data_map ≡ record { default = None; items = [] }
   pub no_alignment : t.data_align ≡ None
 
--- what each section but those of types, tags and code becomes
+-- what each section but those of types, tags and code, and custom ones, becomes
 pub record HasSections (debugged : Bool) (m : plain.Module) (t : ModuleTranslation) : Type 0 where
   pub entities : HasEntities m t
   pub counts : CountsImports m t
@@ -134,6 +135,7 @@ pub record IsTranslation (tunables : Tunables) (module_index : Index StaticModul
     (t : ModuleTranslation) : Type 0 where
   pub types : HasTypes m validator t
   pub sections : HasSections tunables.debug_guest m t
+  pub customs : HasCustoms tunables m t
   pub code : HasCode m t
   pub startup : t.module.startup ≡ startup_when m (not (leaves_nothing (lists_of_module m)))
   pub index : t.module.module_index ≡ module_index

@@ -7,10 +7,13 @@ ghost use Rattle.module_environ.specs.Metadata.{function_seen, functions_asked};
 ghost use Rattle.module_environ.specs.Types.{look_up_in};
 
 use entity_map::OutOfMemory;
-use form_lists::Lists;
+use form_data::{CompositeInnerType, FunctionBody};
+use form_lists::{Lists, bodies_of};
 use init_plan::FunctionMetadata;
 use std::alloc::Global;
 use wasm_convert::TypeConvert;
+use wasm_spec::ValType;
+use wasm_types::WasmValType;
 
 /// The parameters and the locals of each defined function, in order, where they are asked for.
 pub(crate) fn function_metadata(
@@ -28,5 +31,64 @@ pub(crate) fn function_metadata(
     if !asked {
         return Ok(all);
     }
+    for payload in &lists.form.payloads {
+        add_functions(alloc, env, lists, bodies_of(payload), &mut all)?;
+    }
     Ok(all)
+}
+
+/// Adds what is told of the functions of these bodies, which follow on those before.
+fn add_functions(
+    alloc: Global,
+    env: &dyn TypeConvert,
+    lists: &Lists<'_, '_>,
+    bodies: &[FunctionBody<'_>],
+    all: &mut Vec<FunctionMetadata>,
+) -> Result<(), OutOfMemory> {
+    for body in bodies {
+        let ty = lists.spaces.functions[lists.imported_functions + all.len()];
+        all.push(FunctionMetadata {
+            params: convert_params(alloc, env, lists.kind_at(ty))?,
+            locals: convert_locals(alloc, env, &body.locals)?,
+        })?;
+    }
+    Ok(())
+}
+
+/// The parameters of a function type.
+fn convert_params(
+    alloc: Global,
+    env: &dyn TypeConvert,
+    kind: Option<&CompositeInnerType>,
+) -> Result<Vec<WasmValType>, OutOfMemory> {
+    match kind {
+        Some(CompositeInnerType::Func(ty)) => convert_types(alloc, env, &ty.params),
+        _ => Ok(Vec::new(alloc)),
+    }
+}
+
+/// Value types.
+fn convert_types(
+    alloc: Global,
+    env: &dyn TypeConvert,
+    types: &[ValType],
+) -> Result<Vec<WasmValType>, OutOfMemory> {
+    let mut converted = Vec::with_capacity(alloc, types.len())?;
+    for ty in types {
+        converted.push(env.convert_valtype(*ty))?;
+    }
+    Ok(converted)
+}
+
+/// Runs of locals of one type.
+fn convert_locals(
+    alloc: Global,
+    env: &dyn TypeConvert,
+    locals: &[(u32, ValType)],
+) -> Result<Vec<(u32, WasmValType)>, OutOfMemory> {
+    let mut converted = Vec::with_capacity(alloc, locals.len())?;
+    for (count, ty) in locals {
+        converted.push((*count, env.convert_valtype(*ty)))?;
+    }
+    Ok(converted)
 }

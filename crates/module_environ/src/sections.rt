@@ -1,11 +1,8 @@
-//! The sections of a module as a translation holds them: all but types, tags and code.
+//! The sections of a module as a translation holds them: all but types, tags, code and custom sections.
 
-ghost use Rattle.std.specs.Prelude.{◌≡◌, ◌<◌, ◌^◌, [], length, map, OnOk};
+ghost use Rattle.std.specs.Prelude.{◌≡◌, ◌+◌, ◌<◌, ◌^◌, ℕ, [], length, map, OnOk};
 ghost use Rattle.wasm_spec.specs.Module.{imports, function_import};
 ghost use Rattle.form_types.specs.Types.{TypesData};
-ghost use Rattle.module_types.specs.Builder.{shown};
-ghost use Rattle.type_spec.specs.Interned.{taken};
-ghost use Rattle.form_types.specs.Placed.{placed_groups};
 ghost use Rattle.init_plan.specs.Views.{IsNewTranslation, passive_data_of};
 ghost use Rattle.module_environ.specs.Entities.{count_of};
 ghost use Rattle.module_environ.specs.Environment.{AreHeld};
@@ -14,7 +11,6 @@ ghost use Rattle.module_environ.specs.Translation.{HasSections};
 ghost use Rattle.module_environ.specs.Filling.{module_in, IsGathered, LooksUpTypes, FillsEntities, FillsInitialisers, LeavesRest};
 
 use crate::data::add_segments;
-use crate::declared::declared_types;
 use crate::elements::{ElementSegments, convert_elements};
 use crate::escapes::Escaping;
 use crate::exports::convert_exports;
@@ -27,7 +23,6 @@ use crate::start::start_function;
 use entity_map::{OutOfMemory, PrimaryMap, StringPool};
 use form_lists::Lists;
 use init_plan::{ModuleTranslation, held_expression_laws};
-use module_types::ModuleTypesBuilder;
 use std::alloc::Global;
 use wasm_convert::TypeConvert;
 use wasm_index::TypeIndex;
@@ -38,28 +33,28 @@ use wasm_types::EngineOrModuleTypeIndex;
 pub(crate) fn fill_sections<'d>(
     alloc: Global,
     debugged: bool,
+    env: &dyn TypeConvert,
     lists: &Lists<'_, 'd>,
     indices: &PrimaryMap<TypeIndex, EngineOrModuleTypeIndex>,
-    types: &ModuleTypesBuilder,
     translation: &mut ModuleTranslation<'d>,
 ) -> Result<(), OutOfMemory>
     requires gathered { IsGathered lists.now }
+    requires looks { LooksUpTypes (module_in lists.now) (knows env.now) (look_up env.now) }
     requires of_module { (t : TypesData) × AreTypesOf (module_in lists.now) t }
     requires listed { indices.now ≡ map type_index (declared (module_in lists.now)) }
-    requires held { AreHeld indices.now (length types.now.list.types) }
-    requires built { (shown types.now).built ≡ (taken (placed_groups (module_in lists.now))).built }
+    requires held { (count : ℕ) × AreHeld indices.now count }
     requires new { IsNewTranslation translation.old.module.module_index translation.old }
     ensures sections { OnOk result (HasSections debugged (module_in lists.now) translation.new) }
     ensures imports { OnOk result
         (translation.new.debuginfo.wasm_file.imported_func_count ≡ count_of function_import (imports (module_in lists.now))) }
+    ensures few_texts { OnOk result (length translation.new.module.strings < 2 ^ 31 + 2 ^ 30) }
     ensures rest { OnOk result (LeavesRest translation.old translation.new) }
 {
-    let env = declared_types(alloc, types, indices)?;
-    fill_entities(alloc, &env, lists, &mut translation.module)?;
+    fill_entities(alloc, env, lists, &mut translation.module)?;
     let mut escaping = Escaping::new(alloc, lists.spaces.functions.len())?;
     let imported = lists.imported_functions as u32;
     escaping.flag_range(0, imported)?;
-    fill_initialisers(alloc, &env, lists, &mut escaping, translation)?;
+    fill_initialisers(alloc, env, lists, &mut escaping, translation)?;
     if debugged {
         escaping.flag_range(imported, lists.spaces.functions.len() as u32 - imported)?;
     }

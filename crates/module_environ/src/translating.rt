@@ -13,6 +13,8 @@ ghost use Rattle.module_environ.specs.Translated.{IsTranslated};
 ghost use Rattle.module_environ.specs.Forming.{IsFormed, FormCause};
 
 use crate::code::take_bodies;
+use crate::customs::fill_customs;
+use crate::declared::declared_types;
 use crate::environment::ModuleEnvironment;
 use crate::error::EnvironError;
 use crate::sections::fill_sections;
@@ -105,7 +107,7 @@ fn translate_form<'d>(
     requires new { IsNewTranslation translation.old.module.module_index translation.old }
     requires types { types.old.is_poisoned ≡ false → shown types.old ≡ new_builder validator.now }
     ensures formed { OnOk result
-        (IsFormed tunables.now.debug_guest validator.now (module_of form.now) translation.old translation.new types.new) }
+        (IsFormed tunables.now validator.now (module_of form.now) translation.old translation.new types.new) }
     ensures cause { IfErr result (FormCause (module_of form.now) types.old.is_poisoned) }
     ensures complete { Keeps (module_of form.now) → types.old.is_poisoned ≡ false → SucceedsOrNoMemory result }
 {
@@ -115,14 +117,16 @@ fn translate_form<'d>(
     }
     let ids = Types::build(alloc, validator, form)?;
     let indices = intern_types(alloc, &ids, types)?;
+    let env = declared_types(alloc, types, &indices)?;
     fill_sections(
         alloc,
         tunables.debug_guest,
+        &env,
         &lists,
         &indices,
-        types,
         translation,
     )?;
+    fill_customs(alloc, tunables, &env, &lists, translation)?;
     translation.module.tags = convert_tags(alloc, lists.spaces.tags.as_slice(), &indices, types)?;
     translation.module.types = indices;
     translation.set_types(ids);
