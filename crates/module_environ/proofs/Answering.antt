@@ -1,5 +1,5 @@
 -- Why bytes have no translation, by what each step tells, and the translation of what was read.
-use Rattle.std.proofs.Common.{◌≡◌, ◌∙◌, ◌≤◌, ◌<◌, ◌^◌, ℕ, Bool, List, length, map, Result, Ok, Err, sym, ap, subst, arith}
+use Rattle.std.proofs.Common.{◌≡◌, ◌∙◌, ◌≤◌, ◌<◌, ◌^◌, ℕ, Bool, List, length, map, Result, Ok, Err, refl, sym, ap, subst, arith}
 use Rattle.std.specs.Prelude.{◌↔◌, ◌-◌}
 use Rattle.std.specs.List.{flat_map}
 use Rattle.std.proofs.lemmas.List.{length-map, length-append}
@@ -30,6 +30,7 @@ use Rattle.module_environ.specs.Readable.{IsReadable, HasCause}
 use Rattle.module_environ.specs.Translation.{HasEntities, CountsImports, Escapes, HasGlobals, HasElements, HasData, HasSections, HasTypes, code_places, first_or_zero}
 use Rattle.module_environ.specs.Translated.{IsReady, IsTranslated}
 use Rattle.module_environ.specs.Forming.{IsFormed, FormCause}
+use Rattle.module_environ.proofs.Carried.{customs-carry}
 use Rattle.module_environ.proofs.HoldsLists.{holds_memories, holds_tables, holds_globals}
 use Rattle.module_environ.proofs.MemoriesReady.{memories-ready}
 use Rattle.module_environ.proofs.TablesReady.{tables-ready}
@@ -192,7 +193,7 @@ is_ready debugged m t has keeps few = record {
 -- with the bytes and the code, what the form became is the translation
 pub is_translated : (tunables : Tunables) (module_index : Index StaticModuleSpace) (validator : ℕ) (bytes : List ℕ) (m : Module)
     (empty formed other : ModuleTranslation) (b : KeptTypes) → IsReadable bytes m → HasFewEntries m → IsNewTranslation module_index empty
-    → IsFormed tunables.debug_guest validator m empty formed b → other.wasm.now ≡ bytes
+    → IsFormed tunables validator m empty formed b → other.wasm.now ≡ bytes
     → map (λ input. body_of input.body) other.function_body_inputs ≡ flat_map bodies_of_section m
     → other.debuginfo.wasm_file.code_section_offset ≡ first_or_zero (flat_map code_places m)
     → IsTranslated tunables module_index validator bytes (with_code formed other) b
@@ -205,6 +206,7 @@ is_translated tunables module_index validator bytes m empty formed other b reada
       translation = record {
         types = types_same tunables.debug_guest m formed other validator is.types;
         sections = sections;
+        customs = customs-carry tunables m formed (with_code formed other) refl is.customs;
         code = record { bodies = bodies; place = place; imports = is.imports };
         startup = is.startup;
         index = is.index ∙ ap (λ r. r.module_index) is_new.record_of_module;

@@ -1,7 +1,9 @@
--- What a translation holds of the sections does not depend on its types, tags, code and startup.
+-- What a translation holds of the sections does not depend on its types, tags, code and startup, and neither do names and hints.
 use Rattle.std.proofs.Common.{◌≡◌, Bool, sym, subst}
 use Rattle.wasm_spec.specs.Module as plain
+use Rattle.wasm_types.specs.declared.tunables.Tunables.{Tunables}
 use Rattle.init_plan.specs.declared.translation.ModuleTranslation.{ModuleTranslation}
+use Rattle.module_environ.specs.Customs.{HasNames, HasCustoms}
 use Rattle.module_environ.specs.Translation.{HasEntities, CountsImports, Escapes, HasGlobals, HasElements, HasData, HasSections}
 
 -- of a translation these fields may be others
@@ -54,4 +56,27 @@ sections-carry debugged m t u same s =
         nothing_found = d.nothing_found;
         no_alignment = d.no_alignment;
       };
+    })
+
+-- the same, and of what is told of its source only the place of the code
+abbrev pub CarriesCustoms : ModuleTranslation → ModuleTranslation → Type 0
+CarriesCustoms t u = u ≡ record t {
+  «module» = record t.module { types = u.module.types; tags = u.module.tags; startup = u.module.startup };
+  wasm = u.wasm;
+  function_body_inputs = u.function_body_inputs;
+  debuginfo = record t.debuginfo {
+    wasm_file = record t.debuginfo.wasm_file { code_section_offset = u.debuginfo.wasm_file.code_section_offset };
+  };
+  hidden = record t.hidden { types = u.hidden.types };
+}
+
+pub customs-carry : (tunables : Tunables) (m : plain.Module) (t u : ModuleTranslation) → CarriesCustoms t u → HasCustoms tunables m t
+    → HasCustoms tunables m u
+customs-carry tunables m t u same has =
+    let n : HasNames tunables.debug_native m t = has.names in
+    subst (HasCustoms tunables m) (sym same) (record {
+      names = record { of_module = n.of_module; section = n.section };
+      hints = has.hints;
+      functions = has.functions;
+      debug = has.debug;
     })

@@ -9,6 +9,8 @@ mod FilledSections
 mod Started
 mod Formed
 mod Carried
+mod Named
+mod Customs
 mod Together
 mod Answering
 pub mod Numbering

@@ -12,6 +12,7 @@ use Rattle.form_types.specs.Numbered.{AreNumbered}
 use Rattle.form_types.specs.Types.{TypesData}
 use Rattle.wasm_types.specs.declared.index.EngineOrModuleTypeIndex.{EngineOrModuleTypeIndex}
 use Rattle.wasm_types.specs.declared.tag.Tag.{Tag}
+use Rattle.wasm_types.specs.declared.tunables.Tunables.{Tunables}
 use Rattle.wasm_module.specs.declared.startup.ModuleStartup.{ModuleStartup}
 use Rattle.wasm_module.specs.declared.startup.ModuleStartup.TheVariants as startup
 use Rattle.wasm_module.specs.Record.{ModuleRecord}
@@ -24,6 +25,7 @@ use Rattle.init_plan.specs.Startup.{raised, types_after, with_startup}
 use Rattle.init_plan.specs.Views.{types_of, IsNewTranslation}
 use Rattle.module_environ.specs.declared.error.EnvironError.TheVariants as refusal
 use Rattle.module_environ.specs.Errors.{error_of_check, error_of_build}
+use Rattle.module_environ.specs.Customs.{HasCustoms}
 use Rattle.module_environ.specs.Entities.{count_of, tags_of}
 use Rattle.module_environ.specs.Types.{declared, type_index, interned_list, HoldsGroupsAlone}
 use Rattle.module_environ.specs.Tagged.{GainsExceptions}
@@ -33,7 +35,7 @@ use Rattle.module_environ.specs.Filling.{LeavesRest}
 use Rattle.module_environ.specs.Forming.{IsFormed, FormCause}
 use Rattle.module_environ.proofs.Started.{starts-is}
 use Rattle.module_environ.proofs.Formed.{usable, never-holds, always-holds, always-raised}
-use Rattle.module_environ.proofs.Carried.{Carries, sections-carry}
+use Rattle.module_environ.proofs.Carried.{Carries, sections-carry, CarriesCustoms, customs-carry}
 
 -- ---- causes
 
@@ -52,14 +54,18 @@ build-cause m poisoned build.Poisoned sound = absurd (sound refl)
 pub new-startup : {index : _} (t : ModuleTranslation) → IsNewTranslation index t → t.module.startup ≡ startup.None
 new-startup t new = ap (λ (r : ModuleRecord). r.startup) new.record_of_module
 
-module _ (debugged : Bool) (validator : ℕ) (m : plain.Module) (old filled set : ModuleTranslation) (keeps : Keeps m) (sections : HasSections debugged m filled)
+module _ (tunables : Tunables) (validator : ℕ) (m : plain.Module) (old filled set : ModuleTranslation) (keeps : Keeps m)
+    (sections : HasSections tunables.debug_guest m filled) (customs : HasCustoms tunables m filled)
     (imports : filled.debuginfo.wasm_file.imported_func_count ≡ count_of function_import (plain.imports m)) (rest : LeavesRest old filled)
     (none : old.module.startup ≡ startup.None) (indices : List EngineOrModuleTypeIndex) (tags : List Tag) (ids : TypesData)
     (same : set ≡ record filled { «module» = record filled.module { types = indices; tags = tags }; hidden = record filled.hidden { types = set.hidden.types } })
     (is-set : types_of set ≡ Some ids) (numbered : AreNumbered m ids) (made : ids.validator ≡ validator)
     (listed : indices ≡ map type_index (declared m)) (tagged-so : tags ≡ tags_of m) where
-  set-sections : HasSections debugged m set
-  set-sections = sections-carry debugged m filled set (subst (Carries filled) (sym same) refl) sections
+  set-sections : HasSections tunables.debug_guest m set
+  set-sections = sections-carry tunables.debug_guest m filled set (subst (Carries filled) (sym same) refl) sections
+
+  set-customs : HasCustoms tunables m set
+  set-customs = customs-carry tunables m filled set (subst (CarriesCustoms filled) (sym same) refl) customs
 
   set-types : HasTypes m validator set
   set-types = record {
@@ -80,13 +86,14 @@ module _ (debugged : Bool) (validator : ℕ) (m : plain.Module) (old filled set 
   module _ (groups tagged : Builder) (alone : HoldsGroupsAlone validator groups) (gains : GainsExceptions groups tagged)
       (built : tagged.built ≡ interned_list m false) (few : length tagged.built.types < 2 ^ 31 + 2 ^ 30) where
     -- nothing is to be run
-    pub formed-never : true ≡ nothing → (b : KeptTypes) → shown b ≡ tagged → IsFormed debugged validator m old set b
+    pub formed-never : true ≡ nothing → (b : KeptTypes) → shown b ≡ tagged → IsFormed tunables validator m old set b
     formed-never is b shows =
-        let never : false ≡ starts_always m = ap not is ∙ starts-is debugged m set set-sections in
+        let never : false ≡ starts_always m = ap not is ∙ starts-is tunables.debug_guest m set set-sections in
         record {
           keeps = keeps;
           types = set-types;
           sections = set-sections;
+          customs = set-customs;
           imports = ap (λ (t : ModuleTranslation). t.debuginfo.wasm_file.imported_func_count) same ∙ imports;
           startup = set-startup ∙ ap (startup_when m) never;
           builder = subst (HoldsTypes m) (sym shows) (never-holds m validator groups tagged alone gains built few never);
@@ -97,9 +104,9 @@ module _ (debugged : Bool) (validator : ℕ) (m : plain.Module) (old filled set 
     -- startup is known to run
     pub formed-always : false ≡ nothing → (u : ModuleTranslation) (b : KeptTypes)
         → u ≡ with_startup set (raised Always set.module.startup tagged) → shown b ≡ types_after Always set.module.startup tagged
-        → IsFormed debugged validator m old u b
+        → IsFormed tunables validator m old u b
     formed-always is u b raises gained =
-        let always : true ≡ starts_always m = ap not is ∙ starts-is debugged m set set-sections in
+        let always : true ≡ starts_always m = ap not is ∙ starts-is tunables.debug_guest m set set-sections in
         let after : shown b ≡ types_after Always startup.None tagged = gained ∙ ap (λ s. types_after Always s tagged) set-startup in
         let t : HasTypes m validator set = set-types in
         record {
@@ -112,7 +119,8 @@ module _ (debugged : Bool) (validator : ℕ) (m : plain.Module) (old filled set 
             numbered = numbered;
             made = made;
           };
-          sections = sections-carry debugged m set u (subst (Carries set) (sym raises) refl) set-sections;
+          sections = sections-carry tunables.debug_guest m set u (subst (Carries set) (sym raises) refl) set-sections;
+          customs = customs-carry tunables m set u (subst (CarriesCustoms set) (sym raises) refl) set-customs;
           imports = ap (λ (t : ModuleTranslation). t.debuginfo.wasm_file.imported_func_count) (raises ∙ ap (λ (t : ModuleTranslation).
               with_startup t (raised Always set.module.startup tagged)) same) ∙ imports;
           startup = ap (λ (t : ModuleTranslation). t.module.startup) raises ∙ ap (λ s. raised Always s tagged) set-startup

@@ -2,11 +2,12 @@
 
 ghost use Rattle.std.specs.Prelude.{◌≡◌, ◌+◌, ◌<◌, ◌^◌, length, IfOk, IfSome, OnOk};
 ghost use Rattle.std.specs.Option.{option_map};
+ghost use Rattle.wasm_spec.specs.Module.{Module};
 ghost use Rattle.form_data.specs.Views.{module_of};
 ghost use Rattle.wasm_index.specs.Index.{number_of};
 ghost use Rattle.module_customs.specs.Hints.{HasFirst};
-ghost use Rattle.module_customs.specs.Names.{at_number};
-ghost use Rattle.module_environ.specs.Customs.{HasCustoms, hints_asked};
+ghost use Rattle.module_customs.specs.Names.{at_number, module_names, KeepsNames};
+ghost use Rattle.module_environ.specs.Customs.{HasCustoms, hints_asked, names_asked};
 ghost use Rattle.module_environ.specs.Entities.{text_at};
 ghost use Rattle.module_environ.specs.Filling.{module_in, IsGathered, LooksUpTypes, OnlyCustomsChange};
 ghost use Rattle.module_environ.specs.Pooled.{GrowsBy, HasText};
@@ -15,7 +16,7 @@ use crate::metadata::function_metadata;
 use entity_map::{Atom, OutOfMemory, StringPool};
 use form_data::Form;
 use form_lists::Lists;
-use init_plan::{BranchHint, ModuleTranslation};
+use init_plan::{BranchHint, ModuleTranslation, NameSection};
 use module_customs::{has_debug_section, kept_hints, kept_names};
 use std::alloc::Global;
 use std::collections::BTreeMap;
@@ -41,15 +42,15 @@ pub(crate) fn fill_customs<'d>(
     ensures same { OnOk result (OnlyCustomsChange translation.old translation.new) }
 {
     let native = tunables.debug_native;
-    let mut names = kept_names(alloc, lists.form, native)?;
+    let names = kept_names(alloc, lists.form, native)?;
     translation.module.name = pool_name(&mut translation.module.strings, names.module_name)?;
-    if !native {
-        names.module_name = None;
-    }
     // The names and functions of before, of which there are none, are let go as values of their own.
-    let _none = mem::replace(&mut translation.debuginfo.name_section, names);
+    let _no_names = mem::replace(
+        &mut translation.debuginfo.name_section,
+        asked_names(names, native),
+    );
     let functions = function_metadata(alloc, env, lists, native)?;
-    let _none = mem::replace(&mut translation.debuginfo.wasm_file.funcs, functions);
+    let _no_functions = mem::replace(&mut translation.debuginfo.wasm_file.funcs, functions);
     translation.set_branch_hints(asked_hints(alloc, lists.form, tunables.branch_hinting)?);
     translation.has_unparsed_debuginfo = has_debug_section(lists.form);
     Ok(())
@@ -65,6 +66,20 @@ fn pool_name(strings: &mut StringPool, name: Option<&str>) -> Result<Option<Atom
     match name {
         Some(name) => Ok(Some(strings.insert(name)?)),
         None => Ok(None),
+    }
+}
+
+/// The names as a debugger has them; without one the name of the module is not among them.
+fn asked_names(names: NameSection<'_>, native: bool) -> NameSection<'_>
+    ensures { (m : Module) → KeepsNames (module_names native m) names.entry → KeepsNames (names_asked native m) result }
+{
+    if native {
+        return names;
+    }
+    NameSection {
+        module_name: None,
+        func_names: names.func_names,
+        locals_names: names.locals_names,
     }
 }
 

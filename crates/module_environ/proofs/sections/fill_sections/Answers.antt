@@ -1,4 +1,4 @@
-use Rattle.std.proofs.Common.{◌≡◌, ◌∙◌, length, map, sym, ap, subst, arith}
+use Rattle.std.proofs.Common.{◌≡◌, ◌∙◌, ◌^◌, length, map, sym, ap, subst, arith}
 use Rattle.std.specs.List.{enumerate_from, range_with_len}
 use Rattle.std.proofs.lemmas.List.{length-map}
 use Rattle.std.proofs.lemmas.List.FromFn.{length-enumerate_from}
@@ -7,43 +7,31 @@ use Rattle.rule_spec.specs.Lists.{lists_of_module}
 use Rattle.wasm_index.specs.Index.{number_of}
 use Rattle.module_environ.specs.Entities.{function_types}
 use Rattle.module_environ.specs.Escapes.{escaping, references, AreSignatures}
-use Rattle.module_environ.proofs.sections.fill_sections.OwnLists.{same-1-1}
 use Rattle.module_environ.specs.Filling.{module_in}
 use Rattle.module_environ.specs.Flags.{Flags, flagged}
 use Rattle.module_environ.specs.Types.{interned_at}
-use Rattle.module_environ.proofs.FilledSections.{looks-declared, carried-looks, functions-named, starts-below, functions-are, imported-are}
+use Rattle.module_environ.proofs.FilledSections.{functions-named, starts-below, functions-are, imported-are}
 use Rattle.module_environ.proofs.FilledSections.{behind, all-noted, noted-where, noted-not}
 use Rattle.module_environ.proofs.FilledSections.{entities-filled, counts-filled, heap-filled, data-filled}
+use Rattle.module_environ.proofs.GrownPool.{length-grown}
 use Rattle.module_environ.proofs.sections.fill_sections.Goals as goal
 use Rattle.module_environ.proofs.sections.fill_sections.Goals.{then-debugged+in_ok-flag_range-2, else-debugged}
 
-pub fill_entities-requires-clause-looks : goal.fill_entities-requires-clause-looks
-fill_entities-requires-clause-looks c =
-    carried-looks (module_in c.args.lists.now) _ _ same-1-1 (record { ref_ptr = _; now = c.in_ok-env.env })
-    (looks-declared (module_in c.args.lists.now) c.requires.of_module c.args.indices.now c.requires.listed c.args.types.now c.requires.built _ _
-    c.in_ok-env.ensures.knows c.in_ok-env.ensures.looks)
-
-pub fill_initialisers-requires-clause-looks : goal.fill_initialisers-requires-clause-looks
-fill_initialisers-requires-clause-looks c =
-    carried-looks (module_in c.args.lists.now) _ _ same-1-1 (record { ref_ptr = _; now = c.in_ok-env.env })
-    (looks-declared (module_in c.args.lists.now) c.requires.of_module c.args.indices.now c.requires.listed c.args.types.now c.requires.built _ _
-    c.in_ok-env.ensures.knows c.in_ok-env.ensures.looks)
-
 pub function_types-requires-clause-types : goal.function_types-requires-clause-types
-function_types-requires-clause-types c =
+function_types-requires-clause-types g c =
     functions-named c.args.lists.now c.requires.gathered c.requires.of_module c.args.indices.now c.requires.listed c.as_slice-functions.result.now
     c.as_slice-functions.ensures.value
 
 pub exported_signatures-requires-clause-types : goal.exported_signatures-requires-clause-types
-exported_signatures-requires-clause-types c =
+exported_signatures-requires-clause-types g c =
     functions-named c.args.lists.now c.requires.gathered c.requires.of_module c.args.indices.now c.requires.listed c.as_slice-functions.result.now
     c.as_slice-functions.ensures.value
 
 pub start_function-translation-requires : goal.start_function-translation-requires
-start_function-translation-requires c = starts-below c.args.lists.now c.requires.gathered
+start_function-translation-requires g c = starts-below c.args.lists.now c.requires.gathered
 
 pub returns-clause-sections : goal.returns-clause-sections
-returns-clause-sections c =
+returns-clause-sections g c =
     let l = c.args.lists.now in
     let m = module_in l in
     let gathered = c.requires.gathered in
@@ -131,3 +119,10 @@ returns-clause-sections c =
         no_alignment = segments.no_alignment;
       };
     }
+
+pub returns-clause-few_texts : goal.returns-clause-few_texts
+returns-clause-few_texts g c =
+    let first = c.in_ok-fill_entities.ensures in
+    let second = c.in_ok-fill_initialisers.ensures in
+    let grown = length-grown (2 ^ 30) _ _ second.texts in
+    omega (arith, first.few_texts, grown)

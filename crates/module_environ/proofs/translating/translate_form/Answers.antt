@@ -15,8 +15,13 @@ use Rattle.module_environ.specs.Entities.{count_of}
 use Rattle.module_types.specs.Views.{interned_of}
 use Rattle.module_environ.specs.Types.{AreTypesOf, HoldsGroupsAlone, declared, type_index}
 use Rattle.module_environ.specs.Tagged.{CanTag}
+use Rattle.module_environ.specs.Customs.{HasCustoms}
+use Rattle.module_environ.specs.Filling.{LooksUpTypes}
 use Rattle.module_environ.specs.Forming.{IsFormed}
 use Rattle.module_environ.specs.Translation.{HasSections}
+use Rattle.module_environ.proofs.FilledSections.{looks-declared, carried-looks}
+use Rattle.module_environ.proofs.Named.{sections-named, imports-named, rest-named}
+use Rattle.module_environ.proofs.translating.translate_form.OwnLists.{same-1-1}
 use Rattle.module_environ.proofs.Together.{check-cause, build-cause, new-startup, formed-never, formed-always}
 use Rattle.module_environ.proofs.translating.translate_form.Goals.{then-not-leaves_nothing+in_ok-require_startup_func, else-not-leaves_nothing}
 use Rattle.module_environ.proofs.translating.translate_form.Goals as goal
@@ -58,14 +63,25 @@ fill_sections-requires-clause-listed c =
       few = c.requires.few.types;
     }) ∙ ap (λ (f : Bor Form). map type_index (declared (module_of f.now))) (sym c.in_ok-lists.ensures.of_form)
 
-pub fill_sections-requires-clause-built : goal.fill_sections-requires-clause-built
-fill_sections-requires-clause-built c =
+pub fill_sections-requires-clause-held : goal.fill_sections-requires-clause-held
+fill_sections-requires-clause-held c = (_, c.in_ok-indices.ensures.held)
+
+pub fill_sections-requires-clause-looks : goal.fill_sections-requires-clause-looks
+fill_sections-requires-clause-looks c =
     let m = module_of c.args.form.now in
-    c.in_ok-indices.ensures.built m (record {
+    let of : AreTypesOf m c.in_ok-ids.ids = record {
       numbered = c.in_ok-ids.ensures.numbered;
       earlier = keeps-earlier m c.in_ok-lists.ensures.kept;
       few = c.requires.few.types;
-    }) ∙ ap (λ (f : Bor Form). (taken (placed_groups (module_of f.now))).built) (sym c.in_ok-lists.ensures.of_form)
+    } in
+    let same : m ≡ module_of c.in_ok-lists.lists.form.now = ap (λ (f : Bor Form). module_of f.now) (sym c.in_ok-lists.ensures.of_form) in
+    carried-looks _ _ _ same-1-1 (record { ref_ptr = _; now = c.in_ok-env.env })
+    (subst (λ (x : plain.Module). LooksUpTypes x _ _) same
+    (looks-declared m (c.in_ok-ids.ids, of) c.in_ok-indices.indices (c.in_ok-indices.ensures.indices m of) c.intern_types.new.builder
+    (c.in_ok-indices.ensures.built m of) _ _ c.in_ok-env.ensures.knows c.in_ok-env.ensures.looks))
+
+pub fill_customs-requires-clause-looks : goal.fill_customs-requires-clause-looks
+fill_customs-requires-clause-looks c = fill_sections-requires-clause-looks c
 
 pub convert_tags-requires-clause-of_module : goal.convert_tags-requires-clause-of_module
 convert_tags-requires-clause-of_module c =
@@ -121,22 +137,28 @@ returns-clause-formed c =
       named = c.as_slice.ensures.value ∙ ap (λ (l : rule.Lists). l.tags) c.in_ok-lists.ensures.lists;
       functions = (c.in_ok-lists.ensures.kept L2).tags;
     } in
-    let filled = c.fill_sections.new.translation in
+    let filled = c.fill_customs.new.translation in
+    let customs = c.in_ok-fill_customs.ensures in
     let set = c.set_types.new.self in
-    let sections = subst (λ (x : plain.Module). HasSections c.args.tunables.now.debug_guest x filled) same-module f.sections in
-    let imports = f.imports ∙ ap (λ (x : plain.Module). count_of function_import (plain.imports x)) same-module in
+    let sections = subst (λ (x : plain.Module). HasSections c.args.tunables.now.debug_guest x filled) same-module
+    (sections-named c.fill_sections.new.translation filled customs.same c.args.tunables.now.debug_guest (module_of c.in_ok-lists.lists.form.now)
+    customs.texts customs.pooled f.sections) in
+    let named = subst (λ (x : plain.Module). HasCustoms c.args.tunables.now x filled) same-module customs.customs in
+    let imports = imports-named c.fill_sections.new.translation filled customs.same _ f.imports
+    ∙ ap (λ (x : plain.Module). count_of function_import (plain.imports x)) same-module in
+    let rest = rest-named c.fill_sections.new.translation filled customs.same c.args.translation.now f.rest in
     let alone = subst (λ n. HoldsGroupsAlone n groups) c.in_ok-ids.ensures.made c.in_ok-indices.ensures.alone in
     let few : length tagged.built.types < 2 ^ 31 + 2 ^ 30 = omega (arith, length-map c.convert_tags.new.types.list.types interned_of, t.few) in
     elim c.if-not-leaves_nothing.branch [
       | then-not-leaves_nothing+in_ok-require_startup_func w ↦
-          formed-always c.args.tunables.now.debug_guest c.args.validator.now m c.args.translation.now filled set c.in_ok-lists.ensures.kept sections imports f.rest
+          formed-always c.args.tunables.now c.args.validator.now m c.args.translation.now filled set c.in_ok-lists.ensures.kept sections named imports rest
           (new-startup c.args.translation.now c.requires.new) c.in_ok-indices.indices c.in_ok-translation.field-0 c.in_ok-ids.ids c.set_types.ensures.same
           c.set_types.ensures.set of.numbered c.in_ok-ids.ensures.made can.listed (t.tags m can) groups tagged alone t.gains (t.built m can) few
           (sym w.if-not-leaves_nothing.true ∙ c.leaves_nothing.ensures) c.if-not-leaves_nothing.translation c.if-not-leaves_nothing.types
           (w.translation-is ∙ w.in_ok-require_startup_func.ensures.ok) (ap shown w.types-is ∙ w.in_ok-require_startup_func.ensures.types)
       | else-not-leaves_nothing w ↦
-          subst (λ u. IsFormed c.args.tunables.now.debug_guest c.args.validator.now m c.args.translation.now u c.if-not-leaves_nothing.types) (sym w.translation-is)
-          (formed-never c.args.tunables.now.debug_guest c.args.validator.now m c.args.translation.now filled set c.in_ok-lists.ensures.kept sections imports f.rest
+          subst (λ u. IsFormed c.args.tunables.now c.args.validator.now m c.args.translation.now u c.if-not-leaves_nothing.types) (sym w.translation-is)
+          (formed-never c.args.tunables.now c.args.validator.now m c.args.translation.now filled set c.in_ok-lists.ensures.kept sections named imports rest
           (new-startup c.args.translation.now c.requires.new) c.in_ok-indices.indices c.in_ok-translation.field-0 c.in_ok-ids.ids c.set_types.ensures.same
           c.set_types.ensures.set of.numbered c.in_ok-ids.ensures.made can.listed (t.tags m can) groups tagged alone t.gains (t.built m can) few
           (sym w.if-not-leaves_nothing.false ∙ c.leaves_nothing.ensures) c.if-not-leaves_nothing.types (ap shown w.types-is))
