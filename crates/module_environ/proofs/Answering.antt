@@ -27,10 +27,10 @@ use Rattle.module_environ.specs.declared.error.EnvironError.{EnvironError}
 use Rattle.module_environ.specs.declared.error.EnvironError.TheVariants as refusal
 use Rattle.module_environ.specs.Errors.{error_of_read}
 use Rattle.module_environ.specs.Readable.{IsReadable, HasCause}
-use Rattle.module_environ.specs.Translation.{HasEntities, CountsImports, Escapes, HasGlobals, HasElements, HasData, HasSections, HasTypes, code_places, first_or_zero}
+use Rattle.module_environ.specs.Translation.{HasEntities, CountsImports, HasSections, code_places, first_or_zero}
 use Rattle.module_environ.specs.Translated.{IsReady, IsTranslated}
 use Rattle.module_environ.specs.Forming.{IsFormed, FormCause}
-use Rattle.module_environ.proofs.Carried.{customs-carry}
+use Rattle.module_environ.proofs.Carried.{sections-keep, customs-keep, types-keep}
 use Rattle.module_environ.proofs.HoldsLists.{holds_memories, holds_tables, holds_globals}
 use Rattle.module_environ.proofs.MemoriesReady.{memories-ready}
 use Rattle.module_environ.proofs.TablesReady.{tables-ready}
@@ -98,79 +98,6 @@ with_code t other = record t {
   };
 }
 
-module _ (debugged : Bool) (m : Module) (t other : ModuleTranslation) where
-  abbrev done : ModuleTranslation
-  done = with_code t other
-
-  entities_same : HasEntities m t → HasEntities m done
-  entities_same has = record {
-    imports = has.imports;
-    exports = has.exports;
-    tables = has.tables;
-    memories = has.memories;
-    globals = has.globals;
-    start = has.start;
-    pooled = record { imports = has.pooled.imports; exports = has.pooled.exports; name = has.pooled.name };
-  }
-
-  counts_same : CountsImports m t → CountsImports m done
-  counts_same has = record {
-    functions = has.functions;
-    tables = has.tables;
-    memories = has.memories;
-    globals = has.globals;
-    tags = has.tags;
-  }
-
-  escapes_same : Escapes debugged m t → Escapes debugged m done
-  escapes_same has = record { functions = has.functions; count = has.count; below = has.below; signatures = has.signatures }
-
-  globals_same : HasGlobals m t → HasGlobals m done
-  globals_same has = record { known = has.known; left = has.left }
-
-  elements_same : HasElements m t → HasElements m done
-  elements_same has = record {
-    first = has.first;
-    active = has.active;
-    no_images = has.no_images;
-    passive = has.passive;
-    kinds = has.kinds;
-    numbers = has.numbers;
-  }
-
-  data_same : HasData m t → HasData m done
-  data_same has = record {
-    unprocessed = has.unprocessed;
-    active = has.active;
-    passive = has.passive;
-    segmented = has.segmented;
-    no_ranges = has.no_ranges;
-    no_runtime = has.no_runtime;
-    nothing_found = has.nothing_found;
-    no_alignment = has.no_alignment;
-  }
-
-  pub sections_same : HasSections debugged m t → HasSections debugged m done
-  sections_same has = record {
-    entities = entities_same has.entities;
-    counts = counts_same has.counts;
-    escapes = escapes_same has.escapes;
-    heap = has.heap;
-    globals = globals_same has.globals;
-    elements = elements_same has.elements;
-    data_segments = data_same has.data_segments;
-  }
-
-  pub types_same : (validator : ℕ) → HasTypes m validator t → HasTypes m validator done
-  types_same validator has = record {
-    declared = has.declared;
-    tags = has.tags;
-    types = has.types;
-    set = has.set;
-    numbered = has.numbered;
-    made = has.made;
-  }
-
 -- the defined globals are those after the imported ones
 globals_counted : (m : Module) (t : ModuleTranslation) → HasEntities m t → CountsImports m t
     → length t.module.globals - t.module.num_imported_globals ≡ length (lists_of_module m).globals
@@ -198,15 +125,16 @@ pub is_translated : (tunables : Tunables) (module_index : Index StaticModuleSpac
     → other.debuginfo.wasm_file.code_section_offset ≡ first_or_zero (flat_map code_places m)
     → IsTranslated tunables module_index validator bytes (with_code formed other) b
 is_translated tunables module_index validator bytes m empty formed other b readable few is_new is wasm bodies place =
-    let sections : HasSections tunables.debug_guest m (with_code formed other) = sections_same tunables.debug_guest m formed other is.sections in
+    let sections : HasSections tunables.debug_guest m (with_code formed other) =
+    sections-keep m formed (with_code formed other) refl tunables.debug_guest is.sections in
     record {
       meaning = m;
       read = readable;
       keeps = is.keeps;
       translation = record {
-        types = types_same tunables.debug_guest m formed other validator is.types;
+        types = types-keep m formed (with_code formed other) validator refl refl refl is.types;
         sections = sections;
-        customs = customs-carry tunables m formed (with_code formed other) refl is.customs;
+        customs = customs-keep m formed (with_code formed other) refl tunables is.customs;
         code = record { bodies = bodies; place = place; imports = is.imports };
         startup = is.startup;
         index = is.index ∙ ap (λ r. r.module_index) is_new.record_of_module;

@@ -1,15 +1,15 @@
 -- A translation of all sections still is one when its module has a name and its custom sections are filled in.
-use Rattle.std.proofs.Common.{◌≡◌, ◌∙◌, Bool, List, map, sym, ap, subst}
+use Rattle.std.proofs.Common.{◌≡◌, ◌∙◌, Bool, List, refl, sym, ap, subst}
 use Rattle.std.specs.Prelude.{All, IfSome, ℕ}
 use Rattle.std.proofs.lemmas.List.Elements.{All-weaker}
 use Rattle.entity_map.specs.declared.pool.Atom.{Atom}
-use Rattle.wasm_spec.specs.Module.{function_import}
 use Rattle.wasm_spec.specs.Module as plain
 use Rattle.wasm_types.specs.declared.entity.EntityIndex.{EntityIndex}
 use Rattle.init_plan.specs.declared.translation.ModuleTranslation.{ModuleTranslation}
 use Rattle.module_environ.specs.Filling.{LeavesRest, OnlyCustomsChange}
 use Rattle.module_environ.specs.Pooled.{GrowsBy, HasText, HasTexts}
-use Rattle.module_environ.specs.Translation.{HasEntities, CountsImports, Escapes, HasGlobals, HasElements, HasData, HasSections}
+use Rattle.module_environ.specs.Translation.{HasEntities, HasSections}
+use Rattle.module_environ.proofs.Carried.{Carries, sections-carry}
 use Rattle.module_environ.proofs.GrownPool.{imports-grown, exports-grown, names-grown, pooled-grown}
 
 module _ (t u : ModuleTranslation) (same : OnlyCustomsChange t u) where
@@ -27,50 +27,21 @@ module _ (t u : ModuleTranslation) (same : OnlyCustomsChange t u) where
       → IfSome u.module.name (HasText u.module.strings) → HasSections debugged m t → HasSections debugged m u
   sections-named debugged m grows pooled s =
       let e : HasEntities m t = s.entities in
-      let c : CountsImports m t = s.counts in
-      let x : Escapes debugged m t = s.escapes in
-      let g : HasGlobals m t = s.globals in
-      let l : HasElements m t = s.elements in
-      let d : HasData m t = s.data_segments in
       let old : List (List ℕ) = t.module.strings in
       let new : List (List ℕ) = u.module.strings in
       let initializers = t.module.initializers.items in
       let exports = t.module.exports.entries in
       let Exported : List (List ℕ) → Atom × EntityIndex → Type 0 = λ texts e. HasText texts e.0 in
-      subst (HasSections debugged m) (sym same) (record {
-        entities = record {
-          imports = imports-grown 1 old new grows initializers e.pooled.imports ∙ e.imports;
-          exports = exports-grown 1 old new grows exports e.pooled.exports ∙ e.exports;
-          tables = e.tables;
-          memories = e.memories;
-          globals = e.globals;
-          start = e.start;
-          pooled = record {
-            imports = All-weaker (HasTexts old) (HasTexts new) (names-grown 1 old new grows) initializers e.pooled.imports;
-            exports = All-weaker (Exported old) (Exported new) (λ e. pooled-grown 1 old new grows e.0) exports e.pooled.exports;
-            name = pooled;
-          };
+      sections-carry debugged m t u (subst (Carries t) (sym same) refl) (subst (HasEntities m) (sym same) (record {
+        imports = imports-grown 1 old new grows initializers e.pooled.imports ∙ e.imports;
+        exports = exports-grown 1 old new grows exports e.pooled.exports ∙ e.exports;
+        tables = e.tables;
+        memories = e.memories;
+        globals = e.globals;
+        start = e.start;
+        pooled = record {
+          imports = All-weaker (HasTexts old) (HasTexts new) (names-grown 1 old new grows) initializers e.pooled.imports;
+          exports = All-weaker (Exported old) (Exported new) (λ e. pooled-grown 1 old new grows e.0) exports e.pooled.exports;
+          name = pooled;
         };
-        counts = record { functions = c.functions; tables = c.tables; memories = c.memories; globals = c.globals; tags = c.tags };
-        escapes = record { functions = x.functions; count = x.count; below = x.below; signatures = x.signatures };
-        heap = s.heap;
-        globals = record { known = g.known; left = g.left };
-        elements = record {
-          first = l.first;
-          active = l.active;
-          no_images = l.no_images;
-          passive = l.passive;
-          kinds = l.kinds;
-          numbers = l.numbers;
-        };
-        data_segments = record {
-          unprocessed = d.unprocessed;
-          active = d.active;
-          passive = d.passive;
-          segmented = d.segmented;
-          no_ranges = d.no_ranges;
-          no_runtime = d.no_runtime;
-          nothing_found = d.nothing_found;
-          no_alignment = d.no_alignment;
-        };
-      })
+      })) s

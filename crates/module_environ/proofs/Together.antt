@@ -35,7 +35,7 @@ use Rattle.module_environ.specs.Filling.{LeavesRest}
 use Rattle.module_environ.specs.Forming.{IsFormed, FormCause}
 use Rattle.module_environ.proofs.Started.{starts-is}
 use Rattle.module_environ.proofs.Formed.{usable, never-holds, always-holds, always-raised}
-use Rattle.module_environ.proofs.Carried.{Carries, sections-carry, CarriesCustoms, customs-carry}
+use Rattle.module_environ.proofs.Carried.{CarriesNames, sections-keep, customs-keep, types-keep}
 
 -- ---- causes
 
@@ -62,10 +62,10 @@ module _ (tunables : Tunables) (validator : ℕ) (m : plain.Module) (old filled 
     (is-set : types_of set ≡ Some ids) (numbered : AreNumbered m ids) (made : ids.validator ≡ validator)
     (listed : indices ≡ map type_index (declared m)) (tagged-so : tags ≡ tags_of m) where
   set-sections : HasSections tunables.debug_guest m set
-  set-sections = sections-carry tunables.debug_guest m filled set (subst (Carries filled) (sym same) refl) sections
+  set-sections = sections-keep m filled set (subst (CarriesNames filled) (sym same) refl) tunables.debug_guest sections
 
   set-customs : HasCustoms tunables m set
-  set-customs = customs-carry tunables m filled set (subst (CarriesCustoms filled) (sym same) refl) customs
+  set-customs = customs-keep m filled set (subst (CarriesNames filled) (sym same) refl) tunables customs
 
   set-types : HasTypes m validator set
   set-types = record {
@@ -108,19 +108,12 @@ module _ (tunables : Tunables) (validator : ℕ) (m : plain.Module) (old filled 
     formed-always is u b raises gained =
         let always : true ≡ starts_always m = ap not is ∙ starts-is tunables.debug_guest m set set-sections in
         let after : shown b ≡ types_after Always startup.None tagged = gained ∙ ap (λ s. types_after Always s tagged) set-startup in
-        let t : HasTypes m validator set = set-types in
         record {
           keeps = keeps;
-          types = record {
-            declared = ap (λ (t : ModuleTranslation). t.module.types) raises ∙ t.declared;
-            tags = ap (λ (t : ModuleTranslation). t.module.tags) raises ∙ t.tags;
-            types = ids;
-            set = ap types_of raises ∙ is-set;
-            numbered = numbered;
-            made = made;
-          };
-          sections = sections-carry tunables.debug_guest m set u (subst (Carries set) (sym raises) refl) set-sections;
-          customs = customs-carry tunables m set u (subst (CarriesCustoms set) (sym raises) refl) set-customs;
+          types = types-keep m set u validator (ap (λ (t : ModuleTranslation). t.module.types) raises)
+              (ap (λ (t : ModuleTranslation). t.module.tags) raises) (ap types_of raises) set-types;
+          sections = sections-keep m set u (subst (CarriesNames set) (sym raises) refl) tunables.debug_guest set-sections;
+          customs = customs-keep m set u (subst (CarriesNames set) (sym raises) refl) tunables set-customs;
           imports = ap (λ (t : ModuleTranslation). t.debuginfo.wasm_file.imported_func_count) (raises ∙ ap (λ (t : ModuleTranslation).
               with_startup t (raised Always set.module.startup tagged)) same) ∙ imports;
           startup = ap (λ (t : ModuleTranslation). t.module.startup) raises ∙ ap (λ s. raised Always s tagged) set-startup
