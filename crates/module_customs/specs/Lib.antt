@@ -1,3 +1,4 @@
 pub mod Names
 pub mod Hints
 pub mod Debugged
+pub mod Worked

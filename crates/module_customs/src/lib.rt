@@ -6,7 +6,9 @@ mod hints;
 mod names;
 #[cfg(test)]
 mod tests;
+mod worked;
 
 pub use debug::has_debug_section;
 pub use hints::kept_hints;
 pub use names::kept_names;
+pub use worked::{worked_hints, worked_names};

@@ -1,4 +1,4 @@
--- A small module, for the worked examples.
+-- Small modules, for the worked examples.
 use Rattle.std.specs.Prelude.{ℕ, false, true, List, [], ◌∷◌, None, Some}
 use Rattle.wasm_spec.specs.declared.operators.Operator.TheVariants.{RefFunc}
 use Rattle.wasm_spec.specs.declared.types.AbstractHeapType.TheVariants as heap
@@ -8,7 +8,8 @@ use Rattle.wasm_spec.specs.declared.types.ValType.TheVariants as value
 use Rattle.wasm_spec.specs.declared.entities.TypeRef.TheVariants as imported
 use Rattle.wasm_spec.specs.declared.entities.ExternalKind.TheVariants as kind
 use Rattle.wasm_spec.specs.TypeData.{Func}
-use Rattle.wasm_spec.specs.Module.{Module, Types, Imports, FunctionTypes, Tables, Globals, Exports, Elements, GlobalDef, Element, Functions, DeclaredElement}
+use Rattle.wasm_spec.specs.TypeData as types
+use Rattle.wasm_spec.specs.Module.{Module, Types, Imports, FunctionTypes, Tables, Globals, Exports, Elements, Code, GlobalDef, Element, Functions, DeclaredElement}
 
 abbrev pub function_reference : RefType
 function_reference = record { nullable = true; heap = Abstract heap.Func }
@@ -31,4 +32,17 @@ escaping_module =
     ∷ Globals (global_of_functions 2 ∷ [])
     ∷ Exports (record { name = 97 ∷ []; kind = kind.Func; index = 4 } ∷ record { name = 98 ∷ []; kind = kind.Table; index = 0 } ∷ [])
     ∷ Elements (declared_functions (1 ∷ 4 ∷ []) ∷ [])
+    ∷ []
+
+-- a function of two numbers that is defined, with three locals of a kind, behind one that is imported
+abbrev pub defining_module : Module
+defining_module =
+    Types ((record {
+      is_final = true;
+      supertype = None;
+      composite = record { inner = Func (record { params = types.I32 ∷ types.I64 ∷ []; results = [] }); shared = false };
+    } ∷ []) ∷ [])
+    ∷ Imports (record { space = 109 ∷ []; name = 102 ∷ []; type = imported.Func 0 } ∷ [])
+    ∷ FunctionTypes (0 ∷ [])
+    ∷ Code 24 (record { locals = (3, value.F32) ∷ []; rest = 0x0B ∷ [] } ∷ [])
     ∷ []

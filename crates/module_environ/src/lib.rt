@@ -38,4 +38,4 @@ pub use error::EnvironError;
 pub use import_laws::import_position_law;
 pub use laws::{escaping_functions_law, escaping_numbers_law};
 pub use type_laws::declared_kind_law;
-pub use worked::{worked_entities, worked_escapes};
+pub use worked::{worked_entities, worked_escapes, worked_functions};

@@ -1,13 +1,16 @@
 //! Worked examples of the definitions: each clause computes.
 
 ghost use Rattle.std.specs.Prelude.{◌≡◌, [], ◌∷◌, false, true, map};
+ghost use Rattle.wasm_spec.specs.TypeData as types;
 ghost use Rattle.rule_spec.specs.Lists.{lists_of_module};
 ghost use Rattle.wasm_index.specs.Index.{index_of, number_of};
 ghost use Rattle.wasm_types.specs.declared.entity.EntityIndex.TheVariants as entity;
 ghost use Rattle.module_environ.specs.Firsts.{firsts};
 ghost use Rattle.module_environ.specs.Escapes.{escaping};
 ghost use Rattle.module_environ.specs.Entities.{exported_entities, imported_entities, function_types};
-ghost use Rattle.module_environ.specs.Worked.{escaping_module};
+ghost use Rattle.module_environ.specs.Metadata.{functions_asked};
+ghost use Rattle.module_environ.specs.Types.{look_up_in};
+ghost use Rattle.module_environ.specs.Worked.{defining_module, escaping_module};
 
 /// The functions that escape, in the order of the first cause: imports, tables, globals, exports and segments, and then those of a debugger.
 pub fn worked_escapes()
@@ -22,4 +25,11 @@ pub fn worked_entities()
     ensures imports { imported_entities escaping_module ≡ (109 ∷ [], 102 ∷ [], entity.Function (index_of 0)) ∷ [] }
     ensures exports { exported_entities (lists_of_module escaping_module).exports
         ≡ (97 ∷ [], entity.Function (index_of 4)) ∷ (98 ∷ [], entity.Table (index_of 0)) ∷ [] }
+{}
+
+/// A defined function by its parameters and locals, where they are asked for.
+pub fn worked_functions()
+    ensures asked { functions_asked (look_up_in defining_module) (lists_of_module defining_module) true
+        ≡ record { params = types.I32 ∷ types.I64 ∷ []; locals = (3, types.F32) ∷ [] } ∷ [] }
+    ensures otherwise { functions_asked (look_up_in defining_module) (lists_of_module defining_module) false ≡ [] }
 {}
