@@ -43,3 +43,4 @@ mod Places
 mod Excepting
 pub mod Tagging
 pub mod Agreeing
+pub mod AlikeFunctions
