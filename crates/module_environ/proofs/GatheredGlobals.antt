@@ -23,7 +23,7 @@ use Rattle.module_environ.proofs.LookedUp.{converted}
 
 -- ---- lists with numbers
 
-enumerate_from-append : {X : Type 0} (n : ℕ) (xs ys : List X) → enumerate_from n (xs ++ ys) ≡ enumerate_from n xs ++ enumerate_from (n + length xs) ys
+pub enumerate_from-append : {X : Type 0} (n : ℕ) (xs ys : List X) → enumerate_from n (xs ++ ys) ≡ enumerate_from n xs ++ enumerate_from (n + length xs) ys
 enumerate_from-append n [] ys = ap (λ (k : ℕ). enumerate_from k ys) (sym (add-zero n))
 enumerate_from-append {X = X} n (x ∷ xs) ys =
     ap (λ (ps : List (ℕ × X)). (n, x) ∷ ps) (enumerate_from-append (n + 1) xs ys

@@ -45,3 +45,4 @@ mod Places
 mod Excepting
 pub mod Tagging
 pub mod Agreeing
+pub mod AlikeFunctions

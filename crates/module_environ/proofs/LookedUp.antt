@@ -25,7 +25,7 @@ use Rattle.module_environ.specs.Initialisers.{left_initialisers, first_values, E
 use Rattle.module_environ.proofs.Agreeing.{heap-alike}
 
 -- what a map gives of all that have a property
-map_alike : {X Y : Type 0} (P : X → Type 0) (f g : X → Y) → ((x : X) → P x → f x ≡ g x) → (xs : List X) → All P xs → map f xs ≡ map g xs
+pub map_alike : {X Y : Type 0} (P : X → Type 0) (f g : X → Y) → ((x : X) → P x → f x ≡ g x) → (xs : List X) → All P xs → map f xs ≡ map g xs
 map_alike P f g same [] all = refl
 map_alike {Y = Y} P f g same (x ∷ xs) all =
     ap (λ (y : Y). y ∷ map f xs) (same x (All-head P x xs all)) ∙ ap (λ (ys : List Y). g x ∷ ys) (map_alike P f g same xs (All-tail P x xs all))

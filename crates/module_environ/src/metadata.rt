@@ -1,9 +1,16 @@
 //! What is told of the functions that a module defines.
 
-ghost use Rattle.std.specs.Prelude.{◌≡◌, map, IfOk};
+ghost use Rattle.std.specs.Prelude.{◌≡◌, ℕ, ◌+◌, ◌<◌, ◌≤◌, ◌++◌, length, map, All, IfOk, OnOk};
+ghost use Rattle.std.specs.List.{enumerate_from};
+ghost use Rattle.wasm_spec.specs.TypeData.{Value, value_edges, map_value, value_of};
 ghost use Rattle.rule_spec.specs.Lists.{lists_of_module};
+ghost use Rattle.rule_spec.specs.References.{BodyRefersIn};
+ghost use Rattle.form_data.specs.Views.{body_of, composite_of};
+ghost use Rattle.form_lists.specs.Views.{lists_of};
+ghost use Rattle.wasm_types.specs.ValueViews.{Name, value_of as value_seen};
+ghost use Rattle.wasm_convert.specs.Known.{Known};
 ghost use Rattle.module_environ.specs.Filling.{module_in, IsGathered, LooksUpTypes};
-ghost use Rattle.module_environ.specs.Metadata.{function_seen, functions_asked};
+ghost use Rattle.module_environ.specs.Metadata.{params_of, params_at, function_data, function_seen, functions_asked};
 ghost use Rattle.module_environ.specs.Types.{look_up_in};
 
 use entity_map::OutOfMemory;
@@ -44,26 +51,43 @@ fn add_functions(
     lists: &Lists<'_, '_>,
     bodies: &[FunctionBody<'_>],
     all: &mut Vec<FunctionMetadata>,
-) -> Result<(), OutOfMemory> {
+) -> Result<(), OutOfMemory>
+    requires gathered { IsGathered lists.now }
+    requires looks { LooksUpTypes (module_in lists.now) (knows env.now) (look_up env.now) }
+    requires refer { All (BodyRefersIn (length (lists_of_module (module_in lists.now)).types)) (map body_of bodies.now) }
+    requires counted { lists.now.imported_functions + length all.old.items + length bodies.now ≤ length lists.now.spaces.functions.items }
+    ensures { OnOk result (map function_seen all.new.items ≡ map function_seen all.old.items
+        ++ map (function_data (look_up_in (module_in lists.now)) (lists_of_module (module_in lists.now)))
+        (enumerate_from (length all.old.items) (map body_of bodies.now))) }
+{
     for body in bodies {
-        let ty = lists.spaces.functions[lists.imported_functions + all.len()];
+        let params = function_params(lists, lists.imported_functions + all.len());
         all.push(FunctionMetadata {
-            params: convert_params(alloc, env, lists.kind_at(ty))?,
+            params: convert_types(alloc, env, params)?,
             locals: convert_locals(alloc, env, &body.locals)?,
         })?;
     }
     Ok(())
 }
 
-/// The parameters of a function type.
-fn convert_params(
-    alloc: Global,
-    env: &dyn TypeConvert,
-    kind: Option<&CompositeInnerType>,
-) -> Result<Vec<WasmValType>, OutOfMemory> {
+/// The parameters of a function of the index space.
+fn function_params<'l>(lists: &'l Lists<'_, '_>, function: usize) -> &'l [ValType]
+    requires { function < length lists.now.spaces.functions.items }
+    ensures { map value_of result.now ≡ params_at (lists_of lists.now) function }
+{
+    match lists.kind_at(lists.spaces.functions[function]) {
+        Some(kind) => kind_params(kind),
+        None => &[],
+    }
+}
+
+/// The parameters of a function type; no other type has any.
+fn kind_params(kind: &CompositeInnerType) -> &[ValType]
+    ensures { map value_of result.now ≡ params_of (composite_of kind.now) }
+{
     match kind {
-        Some(CompositeInnerType::Func(ty)) => convert_types(alloc, env, &ty.params),
-        _ => Ok(Vec::new(alloc)),
+        CompositeInnerType::Func(ty) => ty.params.as_slice(),
+        _ => &[],
     }
 }
 
@@ -72,7 +96,10 @@ fn convert_types(
     alloc: Global,
     env: &dyn TypeConvert,
     types: &[ValType],
-) -> Result<Vec<WasmValType>, OutOfMemory> {
+) -> Result<Vec<WasmValType>, OutOfMemory>
+    requires { All (λ ty. Known (knows env.now) (value_edges (λ i. i) (value_of ty))) types.now }
+    ensures { IfOk result (λ converted. map value_seen converted.items ≡ map (λ ty. map_value (look_up env.now) (value_of ty)) types.now) }
+{
     let mut converted = Vec::with_capacity(alloc, types.len())?;
     for ty in types {
         converted.push(env.convert_valtype(*ty))?;
@@ -85,7 +112,11 @@ fn convert_locals(
     alloc: Global,
     env: &dyn TypeConvert,
     locals: &[(u32, ValType)],
-) -> Result<Vec<(u32, WasmValType)>, OutOfMemory> {
+) -> Result<Vec<(u32, WasmValType)>, OutOfMemory>
+    requires { All (λ run. Known (knows env.now) (value_edges (λ i. i) (value_of run.1))) locals.now }
+    ensures { IfOk result (λ converted. map {B = ℕ × Value Name} (λ run. (run.0, value_seen run.1)) converted.items
+        ≡ map (λ run. (run.0, map_value (look_up env.now) (value_of run.1))) locals.now) }
+{
     let mut converted = Vec::with_capacity(alloc, locals.len())?;
     for (count, ty) in locals {
         converted.push((*count, env.convert_valtype(*ty)))?;

@@ -1,0 +1,251 @@
+-- What is told of the functions of a module, by look-ups that agree on its declared types.
+use Rattle.std.proofs.Common.{◌≡◌, ◌∙◌, ℕ, ◌+◌, ◌<◌, ◌≤◌, ◌⊎◌, List, [], ◌∷◌, ◌++◌, Option, Some, None, length, map, take, get_or, refl, sym, ap, subst, arith, inl, inr, append_assoc, length-append}
+use Rattle.std.specs.Prelude.{All, slice_get, unwrap_or}
+use Rattle.std.specs.List.{flat_map, enumerate_from}
+use Rattle.std.specs.Option.{option_map}
+use Rattle.std.proofs.lemmas.List.{length-map, length-take-le, map-append, map_push}
+use Rattle.std.proofs.lemmas.List.Elements.{All-nil, All-cons, All-append, All-weaker}
+use Rattle.std.proofs.lemmas.List.FromFn.{length-enumerate_from}
+use Rattle.std.proofs.lemmas.Option.{slice_get_cases, slice_get-get_or}
+use Rattle.std.proofs.lemmas.Simd.{map-map}
+use Rattle.wasm_spec.specs.declared.types.UnpackedIndex.{UnpackedIndex}
+use Rattle.wasm_spec.specs.declared.types.UnpackedIndex.TheVariants.{Module, RecGroup, Id}
+use Rattle.wasm_spec.specs.declared.types.ValType.{ValType}
+use Rattle.wasm_spec.specs.TypeData.{Value, Composite, Func, Group, SubType, value_edges, map_value, value_of}
+use Rattle.wasm_spec.specs.Module.{Body, bodies_of_section}
+use Rattle.wasm_spec.specs.Module as plain
+use Rattle.rule_spec.specs.declared.rules.Rule.TheVariants.{L1, L3, L10}
+use Rattle.rule_spec.specs.Lists.{Declared, declared_from, declared_groups, lists_of_module, kind_at}
+use Rattle.rule_spec.specs.Lists as rule
+use Rattle.rule_spec.specs.References.{ValueRefersIn, BodyRefersIn}
+use Rattle.rule_spec.specs.TypeRules.{IsBelow, KindIsBelow, ValueIsBelow, IsDeclaredWell}
+use Rattle.form_data.specs.declared.form.FunctionBody.{FunctionBody}
+use Rattle.form_data.specs.declared.form.Payload.{Payload}
+use Rattle.form_data.specs.Views.{body_of, payload_of}
+use Rattle.form_lists.specs.declared.lists.Lists.{Lists}
+use Rattle.form_lists.specs.Views.{lists_of}
+use Rattle.form_lists.proofs.AllSections.{All-joined, All-parts, All-from_map, length_more_le}
+use Rattle.form_lists.proofs.DeclaredLists.{length-declared_from}
+use Rattle.wasm_types.specs.ValueViews.{Name, value_of as value_seen}
+use Rattle.wasm_convert.specs.Conversion.{LookUp}
+use Rattle.wasm_convert.specs.Known.{Known}
+use Rattle.init_plan.specs.declared.debug_info.FunctionMetadata.{FunctionMetadata}
+use Rattle.module_environ.specs.Filling.{module_in, IsGathered, LooksUpTypes}
+use Rattle.module_environ.specs.Metadata.{FunctionData, params_of, params_at, function_data, function_seen}
+use Rattle.module_environ.specs.Types.{look_up_in}
+use Rattle.module_environ.proofs.Agreeing.{known-edges, value-alike}
+use Rattle.module_environ.proofs.BySection.{section-all}
+use Rattle.module_environ.proofs.Filling.{entry_more, section_more}
+use Rattle.module_environ.proofs.GatheredGlobals.{enumerate_from-append}
+use Rattle.module_environ.proofs.LookedUp.{map_alike}
+
+-- ---- no group ends past the last type
+
+abbrev EndsBy : ℕ → Declared → Type 0
+EndsBy bound d = d.group_end ≤ bound
+
+from-end : (bound end index : ℕ) (ts : List (SubType UnpackedIndex UnpackedIndex)) → end ≤ bound → All (EndsBy bound) (declared_from end index ts)
+from-end bound end index [] le = All-nil (EndsBy bound)
+from-end bound end index (t ∷ ts) le = All-cons (EndsBy bound) _ (declared_from end (index + 1) ts) le (from-end bound end (index + 1) ts le)
+
+groups-end : (bound index : ℕ) (gs : List (Group UnpackedIndex UnpackedIndex)) → index + length (declared_groups index gs) ≤ bound
+    → All (EndsBy bound) (declared_groups index gs)
+groups-end bound index [] le = All-nil (EndsBy bound)
+groups-end bound index (g ∷ gs) le =
+    let end = index + length g in
+    let members = declared_from end index g in
+    let rest = declared_groups end gs in
+    let long : length (members ++ rest) ≡ length g + length rest =
+    length-append members rest ∙ ap (λ (n : ℕ). n + length rest) (length-declared_from end index g) in
+    All-append (EndsBy bound) members rest
+    (from-end bound end index g (omega (arith, le, long)))
+    (groups-end bound end gs (omega (arith, le, long)))
+
+-- ---- the parameters of a function name declared types
+
+-- a kind whose indices are below a bound
+module _ (count : ℕ) where
+  below-more : (bound : ℕ) → bound ≤ count → (i : UnpackedIndex) → IsBelow bound i → IsBelow count i
+  below-more bound le (Module i) below = omega (arith, below, le)
+  below-more bound le (RecGroup i) below = absurd below
+  below-more bound le (Id i) below = absurd below
+
+  params-below : (bound : ℕ) (kind : Composite UnpackedIndex UnpackedIndex) → bound ≤ count → KindIsBelow bound kind
+      → All (ValueIsBelow count) (params_of kind)
+  unfolding KindIsBelow ValueIsBelow
+  params-below bound (Func type) le below =
+      let edges : Value UnpackedIndex → List UnpackedIndex = value_edges (λ i. i) in
+      let front = ((All-joined (IsBelow bound) (flat_map edges type.params) (flat_map edges type.results)).0 below).0 in
+      (All-parts (IsBelow count) edges type.params).0
+      (All-weaker (IsBelow bound) (IsBelow count) (below-more bound le) (flat_map edges type.params) front)
+  params-below bound _ le below = All-nil (ValueIsBelow count)
+
+module _ (m : plain.Module) (well : All (IsDeclaredWell (lists_of_module m)) (lists_of_module m).types) where
+  abbrev l : rule.Lists
+  l = lists_of_module m
+
+  abbrev HasParams : Option (Composite UnpackedIndex UnpackedIndex) → Type 0
+  HasParams kind = All (ValueIsBelow (length l.types)) (unwrap_or (option_map params_of kind) [])
+
+  kind-params : (i : ℕ) → HasParams (kind_at l i)
+  kind-params i = by (slice_get_cases l.types i).1 where
+    by : ((d : Declared) × (i < length l.types) × (slice_get l.types i ≡ Some d) × (get_or l.types i d ≡ d))
+        ⊎ ((length l.types ≤ i) × (slice_get l.types i ≡ None)) → HasParams (kind_at l i)
+    by (inl found) =
+        let d = found.0 in
+        let ends = subst (EndsBy (length l.types)) found.3 (groups-end (length l.types) 0 (plain.groups m) (omega arith) i d found.1) in
+        let is = subst (IsDeclaredWell l) found.3 (well i d found.1) in
+        subst (λ o. HasParams (option_map (λ (x : Declared). x.type.composite.inner) o)) (sym found.2)
+        (params-below (length l.types) d.group_end d.type.composite.inner ends is.indices)
+    by (inr past) =
+        subst (λ o. HasParams (option_map (λ (x : Declared). x.type.composite.inner) o)) (sym past.1) (All-nil (ValueIsBelow (length l.types)))
+
+  params-declared : (f : ℕ) → All (ValueIsBelow (length l.types)) (params_at l f)
+  params-declared f = by (slice_get l.functions f) refl where
+    by : (o : Option ℕ) → slice_get l.functions f ≡ o → All (ValueIsBelow (length l.types)) (params_at l f)
+    by None e = rw e (All-nil (ValueIsBelow (length l.types)))
+    by (Some i) e = rw e (kind-params i)
+
+-- the parameters of a function are those of the kind of its type
+pub params-found : (l : rule.Lists) (f d : ℕ) → f < length l.functions
+    → unwrap_or (option_map params_of (kind_at l (get_or l.functions f d))) [] ≡ params_at l f
+params-found l f d lt = rw (slice_get-get_or l.functions f d lt) refl
+
+-- ---- what was gathered
+
+module _ (lists : Lists) (gathered : IsGathered lists) where
+  abbrev m : plain.Module
+  m = module_in lists
+
+  abbrev all : rule.Lists
+  all = lists_of_module m
+
+  abbrev count : ℕ
+  count = length all.types
+
+  -- there are as many bodies as functions that are not imported
+  pub bodies-counted : length lists.spaces.functions.items ≡ lists.imported_functions + length all.bodies
+  bodies-counted =
+      ap (λ (r : rule.Lists). length r.functions) gathered.lists
+      ∙ (gathered.keeps L3).bodies
+      ∙ ap (λ (r : rule.Lists). r.imported_functions + length all.bodies) (sym gathered.lists)
+
+  -- the bodies of a section name declared types
+  pub section-refers : (ps : List Payload) → ps ≡ lists.form.now.payloads.items → (k : ℕ) (p : Payload) → k < length ps → p ≡ get_or ps k p
+      → (ys : List Body) → ys ≡ bodies_of_section (payload_of p) → All (BodyRefersIn count) ys
+  section-refers ps read k p lt at ys same =
+      let P : Body → Type 0 = BodyRefersIn count in
+      subst (All P) (sym same)
+      (section-all bodies_of_section payload_of ps k p lt at P
+      (subst (λ qs. All P (flat_map bodies_of_section (map payload_of qs))) (sym read) (gathered.keeps L10).bodies))
+
+  -- the parameters of a function, as they stand in what was read
+  params-read : (f : ℕ) (params : List ValType) → map value_of params ≡ params_at (lists_of lists) f → map value_of params ≡ params_at all f
+  params-read f params are = are ∙ ap (λ (r : rule.Lists). params_at r f) gathered.lists
+
+  module _ (known : UnpackedIndex → Type 0) (look : LookUp) (looks : LooksUpTypes m known look) where
+    abbrev KnowsValue : Value UnpackedIndex → Type 0
+    KnowsValue v = Known known (value_edges (λ i. i) v)
+
+    known-value : (v : Value UnpackedIndex) → ValueIsBelow count v → KnowsValue v
+    unfolding ValueIsBelow
+    known-value v below = known-edges known count looks.knows (value_edges (λ i. i) v) below
+
+    -- ---- parameters and locals can be converted
+
+    pub params-known : (f : ℕ) (params : List ValType) → map value_of params ≡ params_at (lists_of lists) f
+        → All (λ (ty : ValType). KnowsValue (value_of ty)) params
+    params-known f params are =
+        All-from_map KnowsValue value_of params
+        (subst (All KnowsValue) (sym (params-read f params are))
+        (All-weaker (ValueIsBelow count) KnowsValue known-value (params_at all f) (params-declared m (gathered.keeps L1) f)))
+
+    pub locals-known : (body : Body) → BodyRefersIn count body → (runs : List (ℕ × ValType)) → runs ≡ body.locals
+        → All (λ (run : ℕ × ValType). KnowsValue (value_of run.1)) runs
+    locals-known body refers runs are =
+        All-weaker (λ (run : ℕ × ValType). ValueRefersIn count run.1) (λ run. KnowsValue (value_of run.1))
+        (λ run below. known-value (value_of run.1) below) runs
+        (subst (All (λ (run : ℕ × ValType). ValueRefersIn count run.1)) (sym are) refers)
+
+    -- ---- what they are converted to
+
+    params-alike : (f : ℕ) (params : List ValType) → map value_of params ≡ params_at (lists_of lists) f
+        → map (λ (ty : ValType). map_value look (value_of ty)) params ≡ map (map_value (look_up_in m)) (params_at all f)
+    params-alike f params are =
+        sym (map-map (map_value look) value_of params)
+        ∙ ap (map (map_value look)) (params-read f params are)
+        ∙ map_alike (ValueIsBelow count) (map_value look) (map_value (look_up_in m)) (value-alike look (look_up_in m) count looks.same)
+        (params_at all f) (params-declared m (gathered.keeps L1) f)
+
+    abbrev run_of : LookUp → ℕ × ValType → ℕ × Value Name
+    run_of to run = (run.0, map_value to (value_of run.1))
+
+    locals-alike : (body : Body) → BodyRefersIn count body → map (run_of look) body.locals ≡ map (run_of (look_up_in m)) body.locals
+    locals-alike body refers =
+        map_alike (λ (run : ℕ × ValType). ValueRefersIn count run.1) (run_of look) (run_of (look_up_in m))
+        (λ run below i. (run.0, value-alike look (look_up_in m) count looks.same (value_of run.1) below i)) body.locals refers
+
+    -- so what is told of a function is as the definition has it
+    pub told : (n f : ℕ) (body : Body) (params : List ValType) (runs : List (ℕ × ValType)) (z : FunctionMetadata) → BodyRefersIn count body
+        → f ≡ lists.imported_functions + n → map value_of params ≡ params_at (lists_of lists) f → runs ≡ body.locals
+        → map value_seen z.params.items ≡ map (λ (ty : ValType). map_value look (value_of ty)) params
+        → map {B = ℕ × Value Name} (λ run. (run.0, value_seen run.1)) z.locals.items ≡ map (run_of look) runs
+        → function_seen z ≡ function_data (look_up_in m) all (n, body)
+    told n f body params runs z refers at are listed first second =
+        let place : f ≡ all.imported_functions + n = at ∙ ap (λ (r : rule.Lists). r.imported_functions + n) gathered.lists in
+        let ps = first ∙ params-alike f params are ∙ ap (λ (k : ℕ). map (map_value (look_up_in m)) (params_at all k)) place in
+        let ls = second ∙ ap (map (run_of look)) listed ∙ locals-alike body refers in
+        λ i. record { params = ps i; locals = ls i }
+
+-- ---- one body more
+
+module _ {Z : Type 0} (seen : Z → FunctionData) (made : ℕ × Body → FunctionData) where
+  -- what is told of bodies, and of those that follow
+  told-append : (n : ℕ) (before more : List Body) → map made (enumerate_from n before) ++ map made (enumerate_from (n + length before) more)
+      ≡ map made (enumerate_from n (before ++ more))
+  told-append n before more =
+      sym (map-append made (enumerate_from n before) (enumerate_from (n + length before) more))
+      ∙ ap (map made) (sym (enumerate_from-append n before more))
+
+  pub told_more : (start now after : List Z) (z : Z) (bodies : List FunctionBody) (k : ℕ) (b : FunctionBody)
+      → k < length bodies → b ≡ get_or bodies k b → seen z ≡ made (length start + k, body_of b) → after ≡ now ++ z ∷ []
+      → map seen now ≡ map seen start ++ map made (enumerate_from (length start) (map body_of (take k bodies)))
+      → map seen after ≡ map seen start ++ map made (enumerate_from (length start) (map body_of (take (k + 1) bodies)))
+  told_more start now after z bodies k b lt at is pushed before =
+      let entries = map body_of (take k bodies) in
+      let long : length entries ≡ k = length-map (take k bodies) body_of ∙ length-take-le k bodies (omega (arith, lt)) in
+      let one : seen z ≡ made (length start + length entries, body_of b) = is ∙ ap (λ (j : ℕ). made (length start + j, body_of b)) (sym long) in
+      ap (map seen) pushed ∙ map_push seen now z
+      ∙ (λ i. before i ++ one i ∷ [])
+      ∙ append_assoc (map seen start) (map made (enumerate_from (length start) entries)) _
+      ∙ ap (λ (ws : List FunctionData). map seen start ++ ws)
+      (told-append (length start) entries (body_of b ∷ [])
+      ∙ ap (λ (bs : List Body). map made (enumerate_from (length start) bs)) (sym (entry_more body_of bodies k b lt at)))
+
+  -- ---- one section more
+
+  module _ (ps : List Payload) (k : ℕ) (p : Payload) (lt : k < length ps) (at : p ≡ get_or ps k p) (ys : List Body)
+      (same : ys ≡ bodies_of_section (payload_of p)) where
+    abbrev so_far : ℕ → List Body
+    so_far n = flat_map bodies_of_section (map payload_of (take n ps))
+
+    told-long : (now : List Z) → map seen now ≡ map made (enumerate_from 0 (so_far k)) → length now ≡ length (so_far k)
+    told-long now before =
+        sym (length-map now seen) ∙ ap length before
+        ∙ length-map (enumerate_from 0 (so_far k)) made
+        ∙ length-enumerate_from 0 (so_far k)
+
+    pub told_section : (now after : List Z) → map seen after ≡ map seen now ++ map made (enumerate_from (length now) ys)
+        → map seen now ≡ map made (enumerate_from 0 (so_far k)) → map seen after ≡ map made (enumerate_from 0 (so_far (k + 1)))
+    told_section now after more before =
+        let long : length now ≡ 0 + length (so_far k) = omega (arith, told-long now before) in
+        more
+        ∙ (λ i. before i ++ map made (enumerate_from (long i) ys))
+        ∙ told-append 0 (so_far k) ys
+        ∙ ap (λ (bs : List Body). map made (enumerate_from 0 bs)) (sym (section_more bodies_of_section ps k p lt at ys same))
+
+    -- and there is room for its bodies among all
+    pub told-within : (now : List Z) → map seen now ≡ map made (enumerate_from 0 (so_far k))
+        → length now + length ys ≤ length (flat_map bodies_of_section (map payload_of ps))
+    told-within now before =
+        omega (arith, told-long now before, ap length same, length_more_le bodies_of_section ps k p lt at)
