@@ -99,6 +99,14 @@ module _ (m : plain.Module) (of : (t : TypesData) × AreTypesOf m t) (types : Li
       let Q : Option Declared → Type 0 = λ o. IsSomeAnd (option_map (λ (d : Declared). d.type.composite.inner) o) IsFunction in
       omega (arith, listed-all, below-by Q (lists_of_module m).types i (λ q. q) named)
 
+-- and so are they of the same module, as lists hold it
+pub looks-held : (m n : plain.Module) → m ≡ n → (of : (t : TypesData) × AreTypesOf m t) (types : List EngineOrModuleTypeIndex)
+    → types ≡ map type_index (declared m) → (b : Kept) → (shown b).built ≡ (taken (placed_groups m)).built
+    → (known : UnpackedIndex → Type 0) (look : LookUp) → ((i : ℕ) → i < length types → known (index.Module i))
+    → AgreeBelow look (look_type types b) (length types) → LooksUpTypes n known look
+looks-held m n same of types listed b built known look knows looks =
+    subst (λ (x : plain.Module). LooksUpTypes x known look) same (looks-declared m of types listed b built known look knows looks)
+
 -- what is lent as a trait object looks up what it did
 pub carried-looks : (m : plain.Module) (e f : Entry Ghosts Dict) (same : e ≡ f) (x : Bor e.0.Denot)
     → LooksUpTypes m (e.1.knows x.now) (e.1.look_up x.now)

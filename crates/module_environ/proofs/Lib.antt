@@ -10,7 +10,7 @@ mod Started
 mod Formed
 mod Carried
 mod Named
-mod Customs
+mod AskedHints
 mod Together
 mod Answering
 pub mod Numbering

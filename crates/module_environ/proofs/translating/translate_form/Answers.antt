@@ -16,10 +16,9 @@ use Rattle.module_types.specs.Views.{interned_of}
 use Rattle.module_environ.specs.Types.{AreTypesOf, HoldsGroupsAlone, declared, type_index}
 use Rattle.module_environ.specs.Tagged.{CanTag}
 use Rattle.module_environ.specs.Customs.{HasCustoms}
-use Rattle.module_environ.specs.Filling.{LooksUpTypes}
 use Rattle.module_environ.specs.Forming.{IsFormed}
 use Rattle.module_environ.specs.Translation.{HasSections}
-use Rattle.module_environ.proofs.FilledSections.{looks-declared, carried-looks}
+use Rattle.module_environ.proofs.FilledSections.{looks-held, carried-looks}
 use Rattle.module_environ.proofs.Named.{sections-named, imports-named, rest-named}
 use Rattle.module_environ.proofs.translating.translate_form.OwnLists.{same-1-1}
 use Rattle.module_environ.proofs.Together.{check-cause, build-cause, new-startup, formed-never, formed-always}
@@ -74,14 +73,23 @@ fill_sections-requires-clause-looks c =
       earlier = keeps-earlier m c.in_ok-lists.ensures.kept;
       few = c.requires.few.types;
     } in
-    let same : m ≡ module_of c.in_ok-lists.lists.form.now = ap (λ (f : Bor Form). module_of f.now) (sym c.in_ok-lists.ensures.of_form) in
     carried-looks _ _ _ same-1-1 (record { ref_ptr = _; now = c.in_ok-env.env })
-    (subst (λ (x : plain.Module). LooksUpTypes x _ _) same
-    (looks-declared m (c.in_ok-ids.ids, of) c.in_ok-indices.indices (c.in_ok-indices.ensures.indices m of) c.intern_types.new.builder
-    (c.in_ok-indices.ensures.built m of) _ _ c.in_ok-env.ensures.knows c.in_ok-env.ensures.looks))
+    (looks-held m _ (ap (λ (f : Bor Form). module_of f.now) (sym c.in_ok-lists.ensures.of_form)) (c.in_ok-ids.ids, of) c.in_ok-indices.indices
+    (c.in_ok-indices.ensures.indices m of) c.intern_types.new.builder (c.in_ok-indices.ensures.built m of) _ _
+    c.in_ok-env.ensures.knows c.in_ok-env.ensures.looks)
 
 pub fill_customs-requires-clause-looks : goal.fill_customs-requires-clause-looks
-fill_customs-requires-clause-looks c = fill_sections-requires-clause-looks c
+fill_customs-requires-clause-looks c =
+    let m = module_of c.args.form.now in
+    let of : AreTypesOf m c.in_ok-ids.ids = record {
+      numbered = c.in_ok-ids.ensures.numbered;
+      earlier = keeps-earlier m c.in_ok-lists.ensures.kept;
+      few = c.requires.few.types;
+    } in
+    carried-looks _ _ _ same-1-1 (record { ref_ptr = _; now = c.in_ok-env.env })
+    (looks-held m _ (ap (λ (f : Bor Form). module_of f.now) (sym c.in_ok-lists.ensures.of_form)) (c.in_ok-ids.ids, of) c.in_ok-indices.indices
+    (c.in_ok-indices.ensures.indices m of) c.intern_types.new.builder (c.in_ok-indices.ensures.built m of) _ _
+    c.in_ok-env.ensures.knows c.in_ok-env.ensures.looks)
 
 pub convert_tags-requires-clause-of_module : goal.convert_tags-requires-clause-of_module
 convert_tags-requires-clause-of_module c =

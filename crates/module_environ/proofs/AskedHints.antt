@@ -1,4 +1,4 @@
--- Names and hints of a translation, as they are asked for.
+-- Hints of branches, as they are asked for.
 use Rattle.std.proofs.Common.{◌≡◌, ◌∙◌, ℕ, Bool, true, false, List, [], ◌∷◌, map, cond, Option, Some, None, refl, sym, ap, subst}
 use Rattle.std.specs.Prelude.{nat_eq, ◌==◌}
 use Rattle.std.specs.Global.{Vec}
@@ -12,14 +12,11 @@ use Rattle.wasm_index.specs.Index.{number_of}
 use Rattle.custom_sections.specs.Kept.{kept_hint, no_function}
 use Rattle.custom_sections.specs.declared.hints.Hint.{Hint}
 use Rattle.module_customs.specs.Hints.{HintLists, HasFirst, branch_hint_of}
-use Rattle.module_customs.specs.Names.{at_number, module_names, KeepsNames}
+use Rattle.module_customs.specs.Names.{at_number}
 use Rattle.init_plan.specs.declared.debug_info.BranchHint.{BranchHint}
-use Rattle.init_plan.specs.declared.debug_info.NameSection.{NameSection}
 use Rattle.init_plan.specs.declared.translation.ModuleTranslation.{ModuleTranslation}
 use Rattle.init_plan.specs.Views.{hints_of, hint_entries_of}
-use Rattle.module_environ.specs.Customs.{names_asked, hints_asked, HasHints}
-
--- ---- hints
+use Rattle.module_environ.specs.Customs.{hints_asked, HasHints}
 
 abbrev pub Entries : Type 0
 Entries = List (Index FuncSpace × Vec BranchHint)
@@ -31,11 +28,12 @@ seen e = (number_of e.0, e.1.items)
 seen-at : (f : ℕ) (es : Entries) → option_map (λ (hints : Vec BranchHint). hints.items) (lookup (λ index. nat_eq f (number_of index)) es)
     ≡ lookup (nat_eq f) (map seen es)
 seen-at f [] = refl
-seen-at f (e ∷ es) = by (nat_eq f (number_of e.0)) where
-  by : (b : Bool) → option_map (λ (hints : Vec BranchHint). hints.items) (cond b (Some e.1) (lookup (λ index. nat_eq f (number_of index)) es))
+seen-at f (e ∷ es) = by (nat_eq f (number_of e.0)) (seen-at f es) where
+  by : (b : Bool) → option_map (λ (hints : Vec BranchHint). hints.items) (lookup (λ index. nat_eq f (number_of index)) es) ≡ lookup (nat_eq f) (map seen es)
+      → option_map (λ (hints : Vec BranchHint). hints.items) (cond b (Some e.1) (lookup (λ index. nat_eq f (number_of index)) es))
       ≡ cond b (Some e.1.items) (lookup (nat_eq f) (map seen es))
-  by true = refl
-  by false = seen-at f es
+  by true rest = refl
+  by false rest = rest
 
 pub hints-set : (asked : Bool) (m : plain.Module) (t : ModuleTranslation) (kept : BTreeMap (Index FuncSpace) (Vec BranchHint))
     → hint_entries_of t ≡ map seen kept.entries → HasFirst (hints_asked asked m) (at_number number_of kept) → HasHints asked m t
@@ -50,20 +48,9 @@ none-kept f = by (f == no_function) where
   by true = refl
   by false = refl
 
-pub no-hints : (kept : BTreeMap (Index FuncSpace) (Vec BranchHint)) → kept.entries ≡ [] → HasFirst [] (at_number number_of kept)
-no-hints kept empty f =
+pub no-hints : (asked : Bool) → asked ≡ false → (m : plain.Module) (kept : BTreeMap (Index FuncSpace) (Vec BranchHint)) → kept.entries ≡ []
+    → HasFirst (hints_asked asked m) (at_number number_of kept)
+no-hints false is m kept empty f =
     ap (λ (es : Entries). option_map (λ (hints : Vec BranchHint). hints.items) (lookup (λ index. nat_eq f (number_of index)) es)) empty
     ∙ sym (ap (option_map (map branch_hint_of)) (none-kept f))
-
--- ---- names
-
--- for a debugger they are all that are kept
-pub names-native : (native : Bool) → native ≡ true → (m : plain.Module) (kept : NameSection) → KeepsNames (module_names native m) kept
-    → KeepsNames (names_asked native m) kept
-names-native true is m kept keeps = keeps
-names-native false is m kept keeps = absurd (let no : false ≡ true = is in cc)
-
-pub names-other : (native : Bool) → native ≡ false → (m : plain.Module) (kept : NameSection) → KeepsNames (module_names native m) kept
-    → KeepsNames (names_asked native m) (record kept { module_name = None })
-names-other false is m kept keeps = record { module_name = refl; functions = keeps.functions; locals = keeps.locals }
-names-other true is m kept keeps = absurd (let no : true ≡ false = is in cc)
+no-hints true is m kept empty f = absurd (let no : true ≡ false = is in cc)

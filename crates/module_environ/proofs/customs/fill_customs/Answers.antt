@@ -1,0 +1,28 @@
+use Rattle.std.proofs.Common.{◌∙◌, map, sym, ap, subst}
+use Rattle.std.specs.Global.{Vec}
+use Rattle.module_customs.specs.Names.{KeepsNames}
+use Rattle.init_plan.specs.declared.debug_info.FunctionMetadata.{FunctionMetadata}
+use Rattle.init_plan.specs.declared.translation.ModuleTranslation.{ModuleTranslation}
+use Rattle.module_environ.specs.Customs.{HasCustoms, names_asked}
+use Rattle.module_environ.specs.Filling.{module_in}
+use Rattle.module_environ.specs.Metadata.{function_seen}
+use Rattle.module_environ.proofs.AskedHints.{hints-set}
+use Rattle.module_environ.proofs.customs.fill_customs.Goals as goal
+
+pub returns-clause-customs : goal.returns-clause-customs
+returns-clause-customs g c =
+    let m = module_in c.args.lists.now in
+    let tunables = c.args.tunables.now in
+    let names = c.asked_names.ensures m c.in_ok-names.ensures in
+    subst (λ (x : ModuleTranslation). HasCustoms tunables m (record x { has_unparsed_debuginfo = c.has_debug_section-translation.result }))
+    (sym c.set_branch_hints.ensures.same)
+    (record {
+      names = record {
+        of_module = c.in_ok-translation.ensures.text ∙ c.in_ok-names.ensures.module_name;
+        section = subst (KeepsNames (names_asked tunables.debug_native m)) (sym c.replace-no_names.ensures.after) names;
+      };
+      hints = hints-set tunables.branch_hinting m c.set_branch_hints.new.self c.in_ok-asked_hints.field-0 c.set_branch_hints.ensures.set
+          c.in_ok-asked_hints.ensures;
+      functions = ap (λ (fs : Vec FunctionMetadata). map function_seen fs.items) c.replace-no_functions.ensures.after ∙ c.in_ok-functions.ensures;
+      debug = c.has_debug_section-translation.ensures;
+    })
