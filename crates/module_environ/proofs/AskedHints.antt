@@ -1,5 +1,5 @@
 -- Hints of branches, as they are asked for.
-use Rattle.std.proofs.Common.{◌≡◌, ◌∙◌, ℕ, Bool, true, false, List, [], ◌∷◌, map, cond, Option, Some, None, refl, sym, ap, subst}
+use Rattle.std.proofs.Common.{◌≡◌, ◌∙◌, ℕ, Bool, true, false, List, [], ◌∷◌, map, cond, Option, Some, None, refl, sym, ap}
 use Rattle.std.specs.Prelude.{nat_eq, ◌==◌}
 use Rattle.std.specs.Global.{Vec}
 use Rattle.std.specs.BTreeMap.{BTreeMap}
@@ -11,11 +11,11 @@ use Rattle.wasm_index.specs.declared.spaces.FuncSpace.{FuncSpace}
 use Rattle.wasm_index.specs.Index.{number_of}
 use Rattle.custom_sections.specs.Kept.{kept_hint, no_function}
 use Rattle.custom_sections.specs.declared.hints.Hint.{Hint}
-use Rattle.module_customs.specs.Hints.{HintLists, HasFirst, branch_hint_of}
+use Rattle.module_customs.specs.Hints.{HasFirst, branch_hint_of}
 use Rattle.module_customs.specs.Names.{at_number}
 use Rattle.init_plan.specs.declared.debug_info.BranchHint.{BranchHint}
 use Rattle.init_plan.specs.declared.translation.ModuleTranslation.{ModuleTranslation}
-use Rattle.init_plan.specs.Views.{hints_of, hint_entries_of}
+use Rattle.init_plan.specs.Views.{hint_entries_of}
 use Rattle.module_environ.specs.Customs.{hints_asked, HasHints}
 
 abbrev pub Entries : Type 0

@@ -1,12 +1,11 @@
 -- What the builder and startup come to, once tags are converted.
-use Rattle.std.proofs.Common.{◌≡◌, ℕ, ◌+◌, ◌<◌, ◌^◌, Bool, true, false, List, [], ◌∷◌, ◌++◌, length, Option, Some, None, refl, sym, ap, subst, ◌∙◌, arith, length-append}
+use Rattle.std.proofs.Common.{◌≡◌, ℕ, ◌+◌, ◌<◌, ◌^◌, true, false, [], ◌∷◌, length, Some, None, ap, ◌∙◌, arith, length-append}
 use Rattle.wasm_spec.specs.Module as plain
 use Rattle.type_spec.specs.Interned.{Built, with_startup, startup_type}
 use Rattle.wasm_index.specs.Index.{index_of}
 use Rattle.wasm_types.specs.declared.index.EngineOrModuleTypeIndex.TheVariants.{Module}
-use Rattle.wasm_module.specs.declared.startup.ModuleStartup.{ModuleStartup}
 use Rattle.wasm_module.specs.declared.startup.ModuleStartup.TheVariants as startup
-use Rattle.module_types.specs.Builder.{Builder, starts, starts_by, startup_index, or_next}
+use Rattle.module_types.specs.Builder.{Builder, starts, starts_by, or_next}
 use Rattle.replay_spec.specs.Startup.{Always}
 use Rattle.init_plan.specs.Startup.{raised, types_after}
 use Rattle.module_environ.specs.Types.{interned_list, HoldsGroupsAlone}

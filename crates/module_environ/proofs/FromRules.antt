@@ -1,15 +1,14 @@
 -- What the rules say of constant expressions: each can be converted where the declared types are known.
-use Rattle.std.proofs.Common.{◌≡◌, ℕ, ◌+◌, ◌<◌, ◌≤◌, ◌^◌, ◌⊎◌, Bool, true, false, List, [], ◌∷◌, length, take, Option, Some, None, refl, sym, ap, subst, ◌∙◌, arith, inl, inr, get_or}
-use Rattle.std.specs.Prelude.{All, IfSome, slice_get, unwrap_or, nat_lt}
+use Rattle.std.proofs.Common.{◌≡◌, ℕ, ◌<◌, ◌≤◌, ◌^◌, ◌⊎◌, Bool, true, false, List, [], ◌∷◌, length, Option, Some, None, refl, ap, subst, arith, inl, inr, get_or}
+use Rattle.std.specs.Prelude.{All, slice_get, nat_lt}
 use Rattle.std.specs.Option.{option_map, option_and_then}
-use Rattle.std.specs.List.{list_all, cons_option}
+use Rattle.std.specs.List.{cons_option}
 use Rattle.std.proofs.lemmas.Bool.{ltb-true}
 use Rattle.std.proofs.lemmas.List.Elements.{All-nil, All-cons, All-head, All-tail}
 use Rattle.std.proofs.lemmas.Option.{slice_get_cases, none-some}
 use Rattle.wasm_spec.specs.declared.entities.GlobalType.{GlobalType}
 use Rattle.wasm_spec.specs.declared.operators.Operator.{Operator}
 use Rattle.wasm_spec.specs.declared.operators.Operator.TheVariants as op
-use Rattle.wasm_spec.specs.declared.types.HeapType.{HeapType}
 use Rattle.wasm_spec.specs.declared.types.UnpackedIndex.{UnpackedIndex}
 use Rattle.wasm_spec.specs.declared.types.UnpackedIndex.TheVariants as index
 use Rattle.wasm_spec.specs.TypeData.{Heap, Composite, heap_of, heap_edges}
@@ -18,7 +17,7 @@ use Rattle.rule_spec.specs.declared.classes.Class.{Class}
 use Rattle.rule_spec.specs.Lists.{Lists, Declared, kind_at}
 use Rattle.rule_spec.specs.TypeRules.{HeapIsBelow}
 use Rattle.rule_spec.specs.References.{OperatorRefersIn, ExpressionRefersIn}
-use Rattle.rule_spec.specs.Typing.{Signature, struct_fields, array_field, struct_at, array_at, global_signature, refers_to, field_class, has_default, where_true, signature, Step, Leads, HasClass}
+use Rattle.rule_spec.specs.Typing.{Signature, struct_fields, array_field, global_signature, refers_to, where_true, signature, Leads, HasClass}
 use Rattle.wasm_convert.specs.Known.{Known}
 use Rattle.wasm_convert.specs.Operators.{KnowsOperator}
 use Rattle.module_environ.specs.Escapes.{referred_by, referred}

@@ -1,6 +1,6 @@
 -- A translation of all sections still is one when its module has a name and its custom sections are filled in.
 use Rattle.std.proofs.Common.{◌≡◌, ◌∙◌, Bool, List, refl, sym, ap, subst}
-use Rattle.std.specs.Prelude.{All, IfSome, ℕ}
+use Rattle.std.specs.Prelude.{IfSome, ℕ}
 use Rattle.std.proofs.lemmas.List.Elements.{All-weaker}
 use Rattle.entity_map.specs.declared.pool.Atom.{Atom}
 use Rattle.wasm_spec.specs.Module as plain

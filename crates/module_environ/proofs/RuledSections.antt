@@ -1,16 +1,12 @@
 -- What the rules say of each section: its types are known, its expressions can be converted, and its indices are in range.
-use Rattle.std.proofs.Common.{◌≡◌, ℕ, ◌+◌, ◌<◌, ◌≤◌, ◌^◌, ◌⊎◌, List, [], ◌∷◌, ◌++◌, length, map, take, Option, Some, None, refl, sym, ap, subst, ◌∙◌, arith, inl, inr, get_or, length-take, ◌≢◌, Bool, true, false}
+use Rattle.std.proofs.Common.{◌≡◌, ℕ, ◌+◌, ◌<◌, ◌≤◌, ◌^◌, ◌⊎◌, List, [], ◌∷◌, length, take, Option, Some, None, subst, arith, inl, inr, get_or, length-take, ◌≢◌, Bool, true, false}
 use Rattle.std.specs.Prelude.{All, IfSome, IsSomeAnd, slice_get, unwrap_or}
 use Rattle.std.specs.Option.{option_map, option_and_then}
-use Rattle.std.specs.List.{filter_map, cons_option}
-use Rattle.std.proofs.lemmas.List.{length-map, length-append}
-use Rattle.std.proofs.lemmas.List.Elements.{All-nil, All-cons, All-head, All-tail, All-map, All-append, All-weaker}
-use Rattle.std.proofs.lemmas.Option.{slice_get_cases, none-some, same_Some}
+use Rattle.std.proofs.lemmas.List.Elements.{All-nil, All-cons, All-head, All-tail, All-weaker}
+use Rattle.std.proofs.lemmas.Option.{slice_get_cases}
 use Rattle.wasm_spec.specs.declared.entities.GlobalType.{GlobalType}
 use Rattle.wasm_spec.specs.declared.entities.TableType.{TableType}
 use Rattle.wasm_spec.specs.declared.entities.MemoryType.{MemoryType}
-use Rattle.wasm_spec.specs.declared.entities.TypeRef.{TypeRef}
-use Rattle.wasm_spec.specs.declared.entities.TypeRef.TheVariants as imported
 use Rattle.wasm_spec.specs.declared.entities.ExternalKind.{ExternalKind}
 use Rattle.wasm_spec.specs.declared.entities.ExternalKind.TheVariants as kind
 use Rattle.wasm_spec.specs.declared.types.UnpackedIndex.{UnpackedIndex}
@@ -26,12 +22,12 @@ use Rattle.rule_spec.specs.Lists.{Lists, Declared, lists_of_module, kind_at}
 use Rattle.rule_spec.specs.Rules.{Keeps, AreDistinct}
 use Rattle.rule_spec.specs.TypeRules.{IsFunction, NamesFunctionType}
 use Rattle.rule_spec.specs.Indices.{space_size, TakesAndGivesNothing, CanStart, NamesTable, NamesMemory, NamesFunctions}
-use Rattle.rule_spec.specs.References.{RefersIn, ValueRefersIn, AllReferIn, ExpressionRefersIn, ElementKindRefersIn, ImportRefersIn, TableRefersIn, GlobalRefersIn, ElementRefersIn, ItemsReferIn, DataKindRefersIn}
-use Rattle.rule_spec.specs.Expressions.{AreExpressionsTyped, address_class, HasTypedInitialiser, AreGlobalsTyped, HasTableOffset, HasTypedItems, IsElementTyped, HasMemoryOffset}
+use Rattle.rule_spec.specs.References.{RefersIn, ValueRefersIn, AllReferIn, ExpressionRefersIn, ElementKindRefersIn, TableRefersIn, GlobalRefersIn, ItemsReferIn, DataKindRefersIn}
+use Rattle.rule_spec.specs.Expressions.{AreExpressionsTyped, address_class, HasTypedInitialiser, AreGlobalsTyped, HasTableOffset, HasTypedItems, HasMemoryOffset}
 use Rattle.rule_spec.specs.Typing.{HasClass}
 use Rattle.wasm_types.specs.EntityData.{global_edges, table_edges}
 use Rattle.wasm_convert.specs.Conversion.{global_type_of, table_type_of}
-use Rattle.wasm_convert.specs.Known.{CanLookUp, Known}
+use Rattle.wasm_convert.specs.Known.{Known}
 use Rattle.init_plan.specs.Held.{held}
 use Rattle.module_environ.specs.Convertible.{IsConvertible}
 use Rattle.module_environ.specs.Escapes.{exported_function}

@@ -1,5 +1,5 @@
 -- When startup is known to run, of a module and of its translation.
-use Rattle.std.proofs.Common.{◌≡◌, ℕ, suc, ◌+◌, Bool, true, false, List, [], ◌∷◌, map, Option, Some, None, refl, sym, ap, ◌∙◌}
+use Rattle.std.proofs.Common.{◌≡◌, ℕ, ◌+◌, Bool, true, false, List, [], ◌∷◌, map, Option, Some, None, refl, sym, ap, ◌∙◌}
 use Rattle.std.specs.Prelude.{is_none, slice_get, not, ◌&&◌, if◌then◌else◌}
 use Rattle.std.specs.List.{filter, filter_map, enumerate_from, cons_option}
 use Rattle.std.specs.Option.{option_map}
@@ -11,7 +11,6 @@ use Rattle.replay_spec.specs.Globals.{kept_of}
 use Rattle.replay_spec.specs.Values.{const_value}
 use Rattle.replay_spec.specs.Startup.{is_empty, kept_globals, passive_elements}
 use Rattle.init_plan.specs.declared.translation.ModuleTranslation.{ModuleTranslation}
-use Rattle.module_environ.specs.Types.{look_up_in}
 use Rattle.module_environ.specs.Initialisers.{initialisers, initialiser_seen, items_seen}
 use Rattle.module_environ.specs.Translation.{HasSections}
 use Rattle.module_environ.specs.Translated.{starts_always}

@@ -1,5 +1,5 @@
 -- The parts of a translation together: all but its bytes and its code.
-use Rattle.std.proofs.Common.{◌≡◌, ℕ, ◌+◌, ◌<◌, ◌^◌, Bool, true, false, List, length, map, Option, Some, None, Result, Err, refl, sym, ap, subst, ◌∙◌}
+use Rattle.std.proofs.Common.{◌≡◌, ℕ, ◌+◌, ◌<◌, ◌^◌, Bool, true, false, List, length, map, Some, Result, Err, refl, sym, ap, subst, ◌∙◌}
 use Rattle.std.specs.Prelude.{not, ◌&&◌, is_none}
 use Rattle.wasm_spec.specs.Module.{function_import}
 use Rattle.wasm_spec.specs.Module as plain
@@ -13,7 +13,6 @@ use Rattle.form_types.specs.Types.{TypesData}
 use Rattle.wasm_types.specs.declared.index.EngineOrModuleTypeIndex.{EngineOrModuleTypeIndex}
 use Rattle.wasm_types.specs.declared.tag.Tag.{Tag}
 use Rattle.wasm_types.specs.declared.tunables.Tunables.{Tunables}
-use Rattle.wasm_module.specs.declared.startup.ModuleStartup.{ModuleStartup}
 use Rattle.wasm_module.specs.declared.startup.ModuleStartup.TheVariants as startup
 use Rattle.wasm_module.specs.Record.{ModuleRecord}
 use Rattle.module_types.specs.declared.error.BuildError.{BuildError}
@@ -23,7 +22,6 @@ use Rattle.replay_spec.specs.Startup.{Always, is_empty}
 use Rattle.init_plan.specs.declared.translation.ModuleTranslation.{ModuleTranslation}
 use Rattle.init_plan.specs.Startup.{raised, types_after, with_startup}
 use Rattle.init_plan.specs.Views.{types_of, IsNewTranslation}
-use Rattle.module_environ.specs.declared.error.EnvironError.TheVariants as refusal
 use Rattle.module_environ.specs.Errors.{error_of_check, error_of_build}
 use Rattle.module_environ.specs.Customs.{HasCustoms}
 use Rattle.module_environ.specs.Entities.{count_of, tags_of}
@@ -34,7 +32,7 @@ use Rattle.module_environ.specs.Translated.{starts_always, HoldsTypes}
 use Rattle.module_environ.specs.Filling.{LeavesRest}
 use Rattle.module_environ.specs.Forming.{IsFormed, FormCause}
 use Rattle.module_environ.proofs.Started.{starts-is}
-use Rattle.module_environ.proofs.Formed.{usable, never-holds, always-holds, always-raised}
+use Rattle.module_environ.proofs.Formed.{never-holds, always-holds, always-raised}
 use Rattle.module_environ.proofs.Carried.{CarriesNames, sections-keep, customs-keep, types-keep}
 
 -- ---- causes

@@ -1,5 +1,5 @@
 -- What is told of the functions that a module defines: their parameters, and their locals in runs of one type (core specification, 2.5, functions).
-use Rattle.std.specs.Prelude.{ℕ, ◌+◌, Bool, List, [], map, Option, unwrap_or, if◌then◌else◌}
+use Rattle.std.specs.Prelude.{ℕ, ◌+◌, Bool, List, [], map, unwrap_or, if◌then◌else◌}
 use Rattle.std.specs.List.{enumerate_from}
 use Rattle.std.specs.Option.{option_map}
 use Rattle.wasm_spec.specs.declared.types.UnpackedIndex.{UnpackedIndex}

@@ -6,7 +6,7 @@ use Rattle.wasm_spec.specs.Grammar.{Spells, Stops}
 use Rattle.wasm_spec.specs.Interfaces.{HasNoInterfaceTypes}
 use Rattle.rule_spec.specs.declared.rules.Rule.{Rule}
 use Rattle.rule_spec.specs.Lists.{lists_of_module}
-use Rattle.rule_spec.specs.Rules.{Kept, Keeps, KeepsBefore}
+use Rattle.rule_spec.specs.Rules.{Kept, KeepsBefore}
 use Rattle.module_environ.specs.declared.error.EnvironError.{EnvironError}
 use Rattle.module_environ.specs.declared.error.EnvironError.TheVariants as refusal
 

@@ -2,12 +2,10 @@ use Rattle.std.proofs.Common.{◌≡◌, ◌+◌, ◌<◌, ◌^◌, length, Err,
 use Rattle.std.proofs.lemmas.List.{length-map}
 use Rattle.std.proofs.lemmas.Result.{err_from_is_err_and}
 use Rattle.wasm_spec.specs.Module as plain
-use Rattle.type_spec.specs.Interned.{taken}
 use Rattle.rule_spec.specs.declared.rules.Rule.TheVariants.{L2}
 use Rattle.rule_spec.specs.Lists as rule
 use Rattle.form_data.specs.declared.form.Form.{Form}
 use Rattle.form_data.specs.Views.{module_of}
-use Rattle.form_types.specs.Placed.{placed_groups}
 use Rattle.module_types.proofs.NamingEarlier.{keeps-earlier}
 use Rattle.wasm_spec.specs.Module.{function_import}
 use Rattle.module_types.specs.Builder.{Builder, shown}
