@@ -1,7 +1,9 @@
 //! The types of small modules, interned.
 
-ghost use Rattle.std.specs.Prelude.{◌≡◌, ◌^◌, ◌<◌, length, OnOk};
-ghost use Rattle.module_types.specs.Builder.{shown, new_builder};
+ghost use Rattle.std.specs.Prelude.{◌≡◌, ◌^◌, ◌<◌, ◌≤◌, length, IfOk, IsTrue, OnOk};
+ghost use Rattle.type_spec.specs.Interned.{composite_at};
+ghost use Rattle.wasm_index.specs.Index.{number_of};
+ghost use Rattle.module_types.specs.Builder.{shown, new_builder, excepts, starts, is_function};
 ghost use Rattle.module_environ.specs.Types.{HoldsGroupsAlone};
 
 use crate::types::intern_types;
@@ -12,7 +14,8 @@ use form_types::{Types, Validator};
 use module_types::{ModuleTypes, ModuleTypesBuilder};
 use std::alloc::{AllocError, Global};
 use std::test::Fail;
-use wasm_types::EngineOrModuleTypeIndex;
+use wasm_index::ModuleInternedTypeIndex;
+use wasm_types::{EngineOrModuleTypeIndex, WasmCompositeInnerType};
 
 const HEADER: [u8; 8] = [0x00, 0x61, 0x73, 0x6D, 0x01, 0x00, 0x00, 0x00];
 
@@ -39,6 +42,11 @@ const REPEATED: [u8; 13] = [
 ];
 
 const TURNED: [u8; 10] = [0x01, 0x08, 0x02, 0x60, 0x01, 0x7F, 0x00, 0x60, 0x00, 0x00];
+
+/// A type of an i32 and a v128, and a tag of it.
+const TAGGED: [u8; 13] = [
+    0x01, 0x06, 0x01, 0x60, 0x02, 0x7F, 0x7B, 0x00, 0x0D, 0x03, 0x01, 0x00, 0x00,
+];
 
 /// The module of these sections.
 fn module(alloc: Global, sections: &[u8]) -> Result<Vec<u8>, AllocError> {
@@ -159,5 +167,45 @@ fn startup_type_comes_behind_the_groups(rt: HostRuntime) -> Result<(), Fail> {
     assert_eq!(rt; first.as_u32(), 2);
     let again = builder.startup_func_type()?;
     assert_eq!(rt; again.as_u32(), 2);
+    Ok(())
+}
+
+/// Whether few types are held, so that there is room for one more.
+pub(crate) fn check_few(types: &ModuleTypesBuilder) -> Result<(), Fail>
+    ensures few { OnOk result (length types.now.list.types ≤ 1000) }
+    ensures room { OnOk result (length (starts (shown types.now)).built.types < u32.MAX) }
+{
+    match types.wasm_types().nth(1000) {
+        Some(_) => Err(Fail::from("too many types")),
+        None => Ok(()),
+    }
+}
+
+/// The first type, which is a function type. Few types are held, so that there is room for one more.
+fn first_function(builder: &ModuleTypesBuilder) -> Result<ModuleInternedTypeIndex, Fail>
+    ensures in_range { IfOk result (λ k. number_of k < length builder.now.list.types) }
+    ensures function { IfOk result (λ k. IsTrue (is_function (composite_at (shown builder.now).built.types (number_of k)))) }
+    ensures room { IfOk result (λ k. length (excepts (shown builder.now) (number_of k)).built.types < u32.MAX) }
+{
+    check_few(builder)?;
+    let Some((function, ty)) = builder.wasm_types().nth(0) else {
+        return Err(Fail::from("no type"));
+    };
+    match &ty.composite_type.inner {
+        WasmCompositeInnerType::Func(_) => Ok(function),
+        _ => Err(Fail::from("no function type")),
+    }
+}
+
+#[test]
+fn exception_type_comes_behind_the_groups(rt: HostRuntime) -> Result<(), Fail> {
+    let mut builder = ModuleTypesBuilder::new(rt.alloc(), &Validator::new(7));
+    interned(rt.alloc(), &TAGGED, &mut builder)?;
+    let function = first_function(&builder)?;
+    let first = builder.define_exception_type_for_tag(function)?;
+    assert_eq!(rt; first.as_u32(), 1);
+    let function = first_function(&builder)?;
+    let again = builder.define_exception_type_for_tag(function)?;
+    assert_eq!(rt; again.as_u32(), 1);
     Ok(())
 }

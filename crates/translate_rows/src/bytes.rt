@@ -107,6 +107,8 @@ pub const LINKED_TEXT: &str = "types 3\n\
     signature 1\n\
     export \"memory\" memory 0\n\
     export \"_start\" function 0\n\
+    func-name 0 \"_start\"\n\
+    func-name 1 \"add\"\n\
     global 0 i32.const 1048576\n\
     table-image 0 2 null 1\n\
     memory-init static\n\

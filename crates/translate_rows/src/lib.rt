@@ -10,6 +10,8 @@ mod images;
 #[cfg(test)]
 mod memories;
 #[cfg(test)]
+mod names;
+#[cfg(test)]
 mod prefixes;
 #[cfg(test)]
 mod refusals;
