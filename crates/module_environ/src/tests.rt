@@ -43,6 +43,15 @@ const REPEATED: [u8; 13] = [
 
 const TURNED: [u8; 10] = [0x01, 0x08, 0x02, 0x60, 0x01, 0x7F, 0x00, 0x60, 0x00, 0x00];
 
+/// A type, and one that is not final; and the two in the other order.
+const FINAL_FIRST: [u8; 11] = [
+    0x01, 0x09, 0x02, 0x60, 0x00, 0x00, 0x50, 0x00, 0x60, 0x00, 0x00,
+];
+
+const FINAL_LAST: [u8; 11] = [
+    0x01, 0x09, 0x02, 0x50, 0x00, 0x60, 0x00, 0x00, 0x60, 0x00, 0x00,
+];
+
 /// A type of an i32 and a v128, and a tag of it.
 const TAGGED: [u8; 13] = [
     0x01, 0x06, 0x01, 0x60, 0x02, 0x7F, 0x7B, 0x00, 0x0D, 0x03, 0x01, 0x00, 0x00,
@@ -156,6 +165,8 @@ fn are_listed_alike(alloc: Global, one: &[u8], other: &[u8]) -> Result<bool, Fai
 fn lists_are_equal_in_one_order(rt: HostRuntime) -> Result<(), Fail> {
     assert!(rt; are_listed_alike(rt.alloc(), &IN_ORDER, &REPEATED)?);
     assert!(rt; !are_listed_alike(rt.alloc(), &IN_ORDER, &TURNED)?);
+    assert!(rt; are_listed_alike(rt.alloc(), &FINAL_OR_NOT, &FINAL_FIRST)?);
+    assert!(rt; !are_listed_alike(rt.alloc(), &FINAL_OR_NOT, &FINAL_LAST)?);
     Ok(())
 }
 

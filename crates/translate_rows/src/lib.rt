@@ -8,6 +8,8 @@ mod failures;
 #[cfg(test)]
 mod images;
 #[cfg(test)]
+mod kinds;
+#[cfg(test)]
 mod memories;
 #[cfg(test)]
 mod names;
