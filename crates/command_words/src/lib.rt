@@ -4,8 +4,6 @@
 mod command;
 mod numbers;
 mod settings;
-#[cfg(test)]
-mod tests;
 mod words;
 mod worked;
 

@@ -7,8 +7,6 @@ mod kept;
 mod laws;
 mod names;
 mod parts;
-#[cfg(test)]
-mod tests;
 mod worked;
 
 pub use debug::is_debug_name;

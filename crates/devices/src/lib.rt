@@ -8,8 +8,6 @@ mod list_sink;
 mod list_source;
 mod reading;
 mod slice_source;
-#[cfg(test)]
-mod tests;
 pub mod worked;
 mod writing;
 

@@ -13,8 +13,6 @@ mod layout;
 pub mod null;
 mod object;
 mod sizes;
-#[cfg(test)]
-mod tests;
 mod worked;
 
 pub use array::GcArrayLayout;

@@ -23,6 +23,3 @@ pub use laws::written_ranges_law;
 pub use plan::plan_images;
 pub use segment::{Active, Constant, ImageSettings, Memory};
 pub use written::{Written, written_ranges};
-
-#[cfg(test)]
-mod tests;

@@ -4,8 +4,6 @@
 mod debug;
 mod hints;
 mod names;
-#[cfg(test)]
-mod tests;
 mod worked;
 
 pub use debug::has_debug_section;

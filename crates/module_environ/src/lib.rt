@@ -24,10 +24,6 @@ mod sections;
 mod spaces;
 mod start;
 mod tags;
-#[cfg(test)]
-mod tests;
-#[cfg(test)]
-mod translated;
 mod translating;
 mod type_laws;
 mod types;
@@ -38,4 +34,5 @@ pub use error::EnvironError;
 pub use import_laws::import_position_law;
 pub use laws::{escaping_functions_law, escaping_numbers_law};
 pub use type_laws::declared_kind_law;
+pub use types::intern_types;
 pub use worked::{worked_entities, worked_escapes, worked_functions};

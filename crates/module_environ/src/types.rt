@@ -17,7 +17,7 @@ use wasm_index::TypeIndex;
 use wasm_types::EngineOrModuleTypeIndex;
 
 /// Interns the groups of a module's declared types in order, with a new builder, and gives the interned index of each declared type.
-pub(crate) fn intern_types(
+pub fn intern_types(
     alloc: Global,
     types: &Types,
     builder: &mut ModuleTypesBuilder,

@@ -4,8 +4,6 @@
 mod bytes;
 mod generator;
 mod sections;
-#[cfg(test)]
-mod tests;
 mod worked;
 
 pub use generator::generate;

@@ -2,8 +2,22 @@
 #![tactic(auto)]
 
 #[cfg(test)]
+mod builders;
+#[cfg(test)]
 mod canonical;
 #[cfg(test)]
+mod customs;
+#[cfg(test)]
 mod generated;
+#[cfg(test)]
+mod interned;
+#[cfg(test)]
+mod records;
+#[cfg(test)]
+mod sections;
+#[cfg(test)]
+mod small_generated;
+#[cfg(test)]
+mod translated;
 #[cfg(test)]
 mod translations;

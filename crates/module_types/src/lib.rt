@@ -10,8 +10,6 @@ mod interning;
 mod iterators;
 mod laws;
 mod list;
-#[cfg(test)]
-mod tests;
 mod trace;
 mod unwrap;
 

@@ -13,8 +13,6 @@ mod numbers;
 mod quoted;
 mod segment_lines;
 mod table_lines;
-#[cfg(test)]
-mod tests;
 mod text;
 mod type_lines;
 mod type_list_lines;

@@ -4,11 +4,17 @@
 #[cfg(test)]
 mod by_hand;
 #[cfg(test)]
+mod images;
+#[cfg(test)]
+mod lines;
+#[cfg(test)]
 mod made;
 #[cfg(test)]
 mod memories;
 #[cfg(test)]
 mod memory_rows;
+#[cfg(test)]
+mod prefixes;
 #[cfg(test)]
 mod rule_rows;
 #[cfg(test)]

@@ -4,8 +4,6 @@
 mod lines;
 mod refusal;
 mod summary;
-#[cfg(test)]
-mod tests;
 mod worked;
 
 pub use lines::plan_text;

@@ -6,7 +6,5 @@ mod first;
 mod lay;
 mod plan;
 mod spot;
-#[cfg(test)]
-mod tests;
 
 pub use plan::plan_tables;

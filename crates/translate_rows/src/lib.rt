@@ -4,6 +4,8 @@
 #[cfg(test)]
 mod bytes;
 #[cfg(test)]
+mod devices_in_memory;
+#[cfg(test)]
 mod failures;
 #[cfg(test)]
 mod images;
@@ -16,6 +18,8 @@ mod names;
 #[cfg(test)]
 mod prefixes;
 #[cfg(test)]
+mod refusal_lines;
+#[cfg(test)]
 mod refusals;
 #[cfg(test)]
 mod rows;
@@ -27,3 +31,5 @@ mod tables;
 mod texts;
 #[cfg(test)]
 mod types;
+#[cfg(test)]
+mod words;

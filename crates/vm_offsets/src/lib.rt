@@ -14,8 +14,6 @@ mod pointer;
 mod regions;
 mod row;
 mod table;
-#[cfg(test)]
-mod tests;
 mod worked;
 
 pub use arrays::{ArrayOffsets, VmctxArrayIndex};

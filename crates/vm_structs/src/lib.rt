@@ -4,8 +4,6 @@
 mod constants;
 pub mod offsets;
 mod pointer;
-#[cfg(test)]
-mod tests;
 mod worked;
 
 pub use constants::{

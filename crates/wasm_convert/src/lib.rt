@@ -6,8 +6,6 @@ mod convert;
 mod evaluation;
 mod laws;
 mod operators;
-#[cfg(test)]
-mod tests;
 mod values;
 mod worked;
 

@@ -4,8 +4,6 @@
 mod index;
 mod shared;
 mod spaces;
-#[cfg(test)]
-mod tests;
 
 pub use index::Index;
 pub use spaces::{

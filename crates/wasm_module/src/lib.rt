@@ -12,8 +12,6 @@ mod memory_initialization;
 mod module;
 mod startup;
 mod table_initialization;
-#[cfg(test)]
-mod tests;
 mod trace;
 mod worked;
 

@@ -10,8 +10,6 @@ mod func;
 mod index;
 mod laws;
 mod lists;
-#[cfg(test)]
-mod tests;
 mod trace;
 mod value;
 mod worked;

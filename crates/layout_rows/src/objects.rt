@@ -1,0 +1,230 @@
+//! Each call once, with ample memory.
+
+use entity_map::EntityRef;
+use gc_layout::*;
+use std::alloc::{AllocError, Global};
+use std::process::Abort;
+use std::rc::Rc;
+use std::test::Fail;
+use wasm_index::ModuleInternedTypeIndex;
+use wasm_types::{
+    EngineOrModuleTypeIndex, WasmArrayType, WasmCompositeInnerType, WasmCompositeType,
+    WasmContType, WasmExnType, WasmFieldType, WasmFuncType, WasmHeapType, WasmRefType,
+    WasmStorageType, WasmStructType, WasmValType,
+};
+
+const I32: WasmStorageType = WasmStorageType::Val(WasmValType::I32);
+
+const I64: WasmStorageType = WasmStorageType::Val(WasmValType::I64);
+
+const V128: WasmStorageType = WasmStorageType::Val(WasmValType::V128);
+
+const ANYREF: WasmValType = WasmValType::Ref(WasmRefType {
+    nullable: true,
+    heap_type: WasmHeapType::Any,
+});
+
+fn fields(alloc: Global, types: &[WasmStorageType]) -> Result<Vec<WasmFieldType>, AllocError> {
+    let mut fields = Vec::new(alloc);
+    for ty in types {
+        fields.push(WasmFieldType {
+            element_type: *ty,
+            mutable: false,
+        })?;
+    }
+    Ok(fields)
+}
+
+fn exception(alloc: Global) -> Result<WasmExnType, AllocError> {
+    Ok(WasmExnType {
+        func_ty: ModuleInternedTypeIndex::from_u32(0).into(),
+        fields: fields(alloc, &[I32, V128])?,
+    })
+}
+
+fn array_of(element_type: WasmStorageType) -> WasmArrayType {
+    WasmArrayType(WasmFieldType {
+        element_type,
+        mutable: true,
+    })
+}
+
+fn lays_out(rt: &impl Abort, layout: &GcStructLayout, size: u32, align: u32, offsets: &[u32]) {
+    assert_eq!(rt; layout.size, size);
+    assert_eq!(rt; layout.align, align);
+    assert_eq!(rt; layout.fields.len(), offsets.len());
+    for (field, offset) in layout.fields.iter().zip(offsets) {
+        assert_eq!(rt; field.offset, *offset);
+        assert!(rt; !field.is_gc_ref);
+    }
+}
+
+#[test]
+fn fields_stand_at_multiples_of_their_size(rt: HostRuntime) -> Result<(), Fail> {
+    let ty = WasmStructType {
+        fields: fields(
+            rt.alloc(),
+            &[WasmStorageType::I8, I32, WasmStorageType::I16, I64],
+        )?,
+    };
+    let layout = NullTypeLayouts.struct_layout(rt.alloc(), &ty)?;
+    lays_out(&rt, &layout, 32, 8, &[8, 12, 16, 24]);
+    assert!(rt; !layout.is_exception);
+    let copy = layout.try_clone(rt.alloc())?;
+    lays_out(&rt, &copy, 32, 8, &[8, 12, 16, 24]);
+    assert!(rt; !copy.is_exception);
+    Ok(())
+}
+
+#[test]
+fn exceptions_begin_with_their_tag(rt: HostRuntime) -> Result<(), Fail> {
+    let ty = exception(rt.alloc())?;
+    let null = NullTypeLayouts.exn_layout(rt.alloc(), &ty)?;
+    lays_out(&rt, &null, 48, 16, &[16, 32]);
+    let counting = DrcTypeLayouts.exn_layout(rt.alloc(), &ty)?;
+    lays_out(&rt, &counting, 64, 16, &[32, 48]);
+    assert!(rt; counting.is_exception);
+    let ty = WasmCompositeType {
+        inner: WasmCompositeInnerType::Exn(ty),
+        shared: false,
+    };
+    let Some(layout) = DrcTypeLayouts.gc_layout(rt.alloc(), &ty)? else {
+        return Err(Fail::new("an exception has a layout"));
+    };
+    assert!(rt; matches!(layout, GcLayout::Struct(_)));
+    lays_out(&rt, layout.unwrap_struct(), 64, 16, &[32, 48]);
+    let copy = layout.try_clone()?;
+    assert!(rt; matches!(copy, GcLayout::Struct(_)));
+    lays_out(&rt, copy.unwrap_struct(), 64, 16, &[32, 48]);
+    Ok(())
+}
+
+#[test]
+fn functions_and_continuations_have_no_layout(rt: HostRuntime) -> Result<(), Fail> {
+    let func = WasmCompositeType {
+        inner: WasmCompositeInnerType::Func(WasmFuncType::new(
+            rt.alloc(),
+            &[WasmValType::I32],
+            &[],
+        )?),
+        shared: false,
+    };
+    let cont = WasmCompositeType {
+        inner: WasmCompositeInnerType::Cont(WasmContType::new(ModuleInternedTypeIndex::from_u32(
+            0,
+        ).into())),
+        shared: false,
+    };
+    assert!(rt; DrcTypeLayouts.gc_layout(rt.alloc(), &func)?.is_none());
+    assert!(rt; NullTypeLayouts.gc_layout(rt.alloc(), &cont)?.is_none());
+    Ok(())
+}
+
+#[test]
+fn elements_begin_behind_the_length(rt: HostRuntime) -> Result<(), Fail> {
+    let bytes = DrcTypeLayouts.array_layout(&array_of(WasmStorageType::I8));
+    assert_eq!(rt; (bytes.base_size, bytes.align, bytes.elem_size), (28, 8, 1));
+    assert!(rt; !bytes.elems_are_gc_refs);
+    let vectors = NullTypeLayouts.array_layout(&array_of(V128));
+    assert_eq!(rt;
+        (vectors.base_size, vectors.align, vectors.elem_size),
+        (16, 16, 16)
+    );
+    let objects = NullTypeLayouts.array_layout(&array_of(WasmStorageType::Val(ANYREF)));
+    assert!(rt; objects.elems_are_gc_refs);
+    let ty = WasmCompositeType {
+        inner: WasmCompositeInnerType::Array(array_of(V128)),
+        shared: false,
+    };
+    let Some(layout) = NullTypeLayouts.gc_layout(rt.alloc(), &ty)? else {
+        return Err(Fail::new("an array has a layout"));
+    };
+    assert!(rt; matches!(layout, GcLayout::Array(_)));
+    assert_eq!(rt; layout.unwrap_array().base_size, 16);
+    Ok(())
+}
+
+#[test]
+fn sizes_of_arrays_end_at_four_gibibytes(rt: HostRuntime) -> Result<(), Fail> {
+    let layout = NullTypeLayouts.array_layout(&array_of(I64));
+    assert_eq!(rt; layout.elem_offset(3), Some(40));
+    for (len, size) in [
+        (0, Some(16)),
+        (536870909, Some(4294967288)),
+        (536870910, None),
+        (u32::MAX, None),
+    ] {
+        assert_eq!(rt; layout.size_for_len(len), size, "{len}");
+        assert_eq!(rt; layout.elem_offset(len), size, "{len}");
+        let whole = size.map(|size| Layout {
+            size: size as usize,
+            align: 8,
+        });
+        assert_eq!(rt; layout.layout(len), whole, "{len}");
+    }
+    let uneven = GcArrayLayout {
+        align: 12,
+        ..layout
+    };
+    assert_eq!(rt; uneven.layout(0), None);
+    let bytes = DrcTypeLayouts.array_layout(&array_of(WasmStorageType::I8));
+    assert_eq!(rt; bytes.size_for_len(4294967267), Some(4294967295));
+    assert_eq!(rt; bytes.size_for_len(4294967268), None);
+    Ok(())
+}
+
+#[test]
+fn shared_layouts_tell_size_and_alignment(rt: HostRuntime) -> Result<(), Fail> {
+    let fields = GcStructLayout {
+        size: 48,
+        align: 16,
+        fields: Vec::new(rt.alloc()),
+        is_exception: true,
+    };
+    assert_eq!(rt;
+        fields.layout(),
+        Layout {
+            size: 48,
+            align: 16
+        }
+    );
+    let layout = GcLayout::from(Rc::new(rt.alloc(), fields)?);
+    assert_eq!(rt; layout.unwrap_struct().size, 48);
+    Ok(())
+}
+
+#[test]
+fn kinds_match_by_their_bits(rt: HostRuntime) {
+    use VMGcKind::{AnyRef, ArrayRef, EqRef, ExnRef, ExternRef, StructRef};
+    for (kind, other, matches) in [
+        (EqRef, AnyRef, true),
+        (ArrayRef, AnyRef, true),
+        (StructRef, AnyRef, true),
+        (ExternRef, AnyRef, false),
+        (ExnRef, AnyRef, false),
+        (ArrayRef, EqRef, true),
+        (StructRef, EqRef, true),
+        (AnyRef, EqRef, false),
+    ] {
+        assert_eq!(rt; kind.matches(other), matches);
+    }
+    assert_eq!(rt; VMGcKind::from_high_bits_of_u32(0x0F0F_0F0F), None);
+    assert_eq!(rt;
+        VMGcKind::from_high_bits_of_u32(0xB000_0003),
+        Some(StructRef)
+    );
+    assert_eq!(rt; VMGcKind::try_from_u32(0xB000_0003), None);
+    assert_eq!(rt; VMGcKind::try_from_u32(ExnRef.as_u32()), Some(ExnRef));
+    assert!(rt; VMGcKind::value_fits_in_unused_bits(67108863));
+    assert!(rt; !VMGcKind::value_fits_in_unused_bits(67108864));
+}
+
+#[test]
+fn offsets_in_headers_are_those_of_the_collector(rt: HostRuntime) {
+    assert_eq!(rt; DrcTypeLayouts.array_length_field_offset(), 24);
+    assert_eq!(rt; DrcTypeLayouts.exception_tag_instance_offset(), 24);
+    assert_eq!(rt; DrcTypeLayouts.exception_tag_defined_offset(), 28);
+    assert_eq!(rt; NullTypeLayouts::default().array_length_field_offset(), 8);
+    assert_eq!(rt; NullTypeLayouts.exception_tag_instance_offset(), 8);
+    assert_eq!(rt; NullTypeLayouts.exception_tag_defined_offset(), 12);
+}

@@ -1,0 +1,469 @@
+//! Small records, each call once.
+
+ghost use Rattle.std.specs.Prelude.{◌≡◌, ◌<◌, ◌+◌, [], length, IsSome, IfOk, OnOk, slice_get};
+ghost use Rattle.entity_map.specs.Pool.{atom_number};
+
+use entity_map::{Atom, EntityRef, OutOfMemory, ReservedValue, StringPool};
+use std::alloc::Global as Heap;
+use std::process::Abort;
+use std::test::Fail;
+use wasm_convert::{ConstExpr, ConstOp};
+use wasm_index::{
+    DefinedFuncIndex, DefinedGlobalIndex, DefinedMemoryIndex, DefinedTableIndex, DefinedTagIndex,
+    FuncIndex, GlobalIndex, MemoryIndex, ModuleInternedTypeIndex, StaticModuleIndex, TableIndex,
+    TagIndex, VMSharedTypeIndex,
+};
+use wasm_module::{
+    FuncRefIndex, FunctionType, Initializer, MemoryInitialization, Module, ModuleStartup,
+    TableSegmentElements,
+};
+use wasm_trace::TypeTrace;
+use wasm_types::{
+    EngineOrModuleTypeIndex, EntityIndex, EntityType, Global, IndexType, Limits, Memory, Table,
+    WasmHeapType, WasmRefType, WasmValType,
+};
+
+fn new_module(alloc: Heap) -> Result<Module, OutOfMemory>
+    ensures strings { IfOk result (λ m. m.strings ≡ []) }
+    ensures initializers { IfOk result (λ m. m.initializers.items ≡ []) }
+    ensures functions { IfOk result (λ m. m.functions ≡ []) }
+    ensures tables { IfOk result (λ m. m.tables ≡ []) }
+    ensures memories { IfOk result (λ m. m.memories ≡ []) }
+    ensures globals { IfOk result (λ m. m.globals ≡ []) }
+    ensures tags { IfOk result (λ m. m.tags ≡ []) }
+    ensures no_imports { IfOk result (λ m. (m.num_imported_funcs ≡ 0) × (m.num_imported_tags ≡ 0)) }
+{
+    let module = Module::new(alloc, StaticModuleIndex::from_u32(7))?;
+    Ok(module)
+}
+
+fn module_type(number: u32) -> EngineOrModuleTypeIndex
+    requires { number < u32.MAX }
+{
+    EngineOrModuleTypeIndex::Module(ModuleInternedTypeIndex::from_u32(number))
+}
+
+fn reference_type(number: u32) -> WasmRefType
+    requires { number < u32.MAX }
+{
+    WasmRefType {
+        nullable: true,
+        heap_type: WasmHeapType::ConcreteFunc(module_type(number)),
+    }
+}
+
+const UNSHARED: Memory = Memory {
+    idx_type: IndexType::I32,
+    limits: Limits { min: 1, max: None },
+    shared: false,
+    page_size_log2: 16,
+};
+
+const SHARED: Memory = Memory {
+    idx_type: IndexType::I32,
+    limits: Limits {
+        min: 1,
+        max: Some(2),
+    },
+    shared: true,
+    page_size_log2: 16,
+};
+
+// A record is dropped once in each of the two tests, at the end: what looks at it borrows it.
+
+#[test]
+fn new_record_is_empty_and_grows(rt: HostRuntime) -> Result<(), Fail> {
+    let mut module = new_module(rt.alloc())?;
+    new_record_is_empty(&rt, &module);
+    import_has_names_and_a_type(&rt, &mut module)
+}
+
+#[test]
+fn small_record_is_as_made(rt: HostRuntime) -> Result<(), Fail> {
+    let mut module = new_module(rt.alloc())?;
+    fill_and_look(&rt, rt.alloc(), &mut module)
+}
+
+fn new_record_is_empty(rt: &impl Abort, module: &Module)
+    requires initializers { module.now.initializers.items ≡ [] }
+    requires functions { module.now.functions ≡ [] }
+    requires no_imports { module.now.num_imported_funcs ≡ 0 }
+{
+    assert_eq!(rt; module.module_index.index(), 7);
+    assert_eq!(rt; module.strings.len(), 0);
+    assert!(rt; module.exports.is_empty());
+    assert!(rt; module.startup.is_none());
+    assert!(rt; module.memory_initialization.is_segmented());
+    assert!(rt; module.types.is_empty());
+    assert!(rt; module.memories.is_empty());
+    assert_eq!(rt; module.imports().count(), 0);
+    assert_eq!(rt; module.defined_func_indices().count(), 0);
+}
+
+// A function that is imported, and a tag.
+fn import_has_names_and_a_type(rt: &impl Abort, module: &mut Module) -> Result<(), Fail>
+    requires strings { module.old.strings ≡ [] }
+    requires initializers { module.old.initializers.items ≡ [] }
+    requires functions { module.old.functions ≡ [] }
+    requires tags { module.old.tags ≡ [] }
+    requires no_imports { (module.old.num_imported_funcs ≡ 0) × (module.old.num_imported_tags ≡ 0) }
+{
+    let index = module.push_function(module_type(4))?;
+    assert_eq!(rt; index, FuncIndex::new(0));
+    let tag = module.push_tag(module_type(0), module_type(1))?;
+    assert_eq!(rt; tag, TagIndex::new(0));
+    assert_eq!(rt; module.num_defined_funcs(), 1);
+    assert_eq!(rt; module.num_defined_tags(), 1);
+    let (name, field) = insert_texts(&mut module.strings, "env", "run")?;
+    let index = index.into();
+    module
+        .initializers
+        .push(Initializer::Import { name, field, index })?;
+    assert!(rt; module.is_valid(index));
+    let (from, own, ty) = module.import(0).ok_or("no import")?;
+    assert_eq!(rt; from, "env");
+    assert_eq!(rt; own, "run");
+    assert!(rt; matches!(ty, EntityType::Function(signature) if signature == module_type(4)));
+    assert_eq!(rt; module.imports().count(), 1);
+    assert!(rt; module.import(1).is_none());
+    Ok(())
+}
+
+#[test]
+fn only_a_numbered_function_escapes(rt: HostRuntime) {
+    for (func_ref, escapes) in [
+        (FuncRefIndex::reserved_value(), false),
+        (FuncRefIndex::new(0), true),
+    ] {
+        let function = FunctionType {
+            signature: module_type(0),
+            func_ref,
+        };
+        assert_eq!(rt; function.is_escaping(), escapes);
+    }
+    assert!(rt; MemoryInitialization::default().is_segmented());
+    assert!(rt; !ModuleStartup::Always(module_type(0)).is_none());
+}
+
+#[test]
+fn elements_have_a_type_and_a_length(rt: HostRuntime) -> Result<(), Fail> {
+    let alloc = rt.alloc();
+    let functions = vec![in alloc; FuncIndex::new(0), FuncIndex::reserved_value()]?;
+    let functions = TableSegmentElements::Functions(functions);
+    assert_eq!(rt; functions.ty(), WasmRefType::FUNCREF);
+    assert_eq!(rt; functions.len(), 2);
+    let null = ConstExpr::new(alloc, &[ConstOp::RefNull(WasmHeapType::Extern)])?;
+    let expressions = TableSegmentElements::Expressions {
+        ty: WasmRefType::EXTERNREF,
+        exprs: vec![in alloc; null]?,
+    };
+    assert_eq!(rt; expressions.ty(), WasmRefType::EXTERNREF);
+    assert_eq!(rt; expressions.len(), 1);
+    Ok(())
+}
+
+// Appends a function, a table, a memory, a global and a tag, which name types from a number on.
+fn push_each(small: &mut Module, first: u32, memory: Memory) -> Result<(), OutOfMemory>
+    requires types { first < 100 }
+    requires functions { length small.old.functions < 100 }
+    requires tables { length small.old.tables < 100 }
+    requires memories { length small.old.memories < 100 }
+    requires globals { length small.old.globals < 100 }
+    requires tags { length small.old.tags < 100 }
+    ensures functions { OnOk result (length small.new.functions ≡ length small.old.functions + 1) }
+    ensures tables { OnOk result (length small.new.tables ≡ length small.old.tables + 1) }
+    ensures memories { OnOk result (length small.new.memories ≡ length small.old.memories + 1) }
+    ensures globals { OnOk result (length small.new.globals ≡ length small.old.globals + 1) }
+    ensures tags { OnOk result (length small.new.tags ≡ length small.old.tags + 1) }
+{
+    small.push_function(module_type(first))?;
+    small.tables.push(Table {
+        idx_type: IndexType::I32,
+        limits: Limits { min: 0, max: None },
+        ref_type: reference_type(first + 1),
+    })?;
+    small.memories.push(memory)?;
+    small.globals.push(Global {
+        wasm_ty: WasmValType::Ref(reference_type(first + 2)),
+        mutability: false,
+    })?;
+    small.push_tag(module_type(first + 3), module_type(first + 4))?;
+    Ok(())
+}
+
+// Puts two texts in.
+fn insert_texts(
+    strings: &mut StringPool,
+    first: &str,
+    second: &str,
+) -> Result<(Atom, Atom), OutOfMemory>
+    requires { length strings.old < 100 }
+    ensures first { IfOk result (λ atoms. IsSome (slice_get strings.new (atom_number atoms.0))) }
+    ensures second { IfOk result (λ atoms. IsSome (slice_get strings.new (atom_number atoms.1))) }
+{
+    let first = strings.insert(first)?;
+    let second = strings.insert(second)?;
+    Ok((first, second))
+}
+
+// One import and two definitions of each kind. The imports are a function, a table, a memory, a global, a tag
+// and the function again; the last table, the first memory and the last global are exported.
+fn fill(module: &mut Module) -> Result<(), OutOfMemory>
+    requires strings { module.old.strings ≡ [] }
+    requires initializers { module.old.initializers.items ≡ [] }
+    requires functions { module.old.functions ≡ [] }
+    requires tables { module.old.tables ≡ [] }
+    requires memories { module.old.memories ≡ [] }
+    requires globals { module.old.globals ≡ [] }
+    requires tags { module.old.tags ≡ [] }
+{
+    let third = module.strings.insert("third")?;
+    let (name, field) = insert_texts(&mut module.strings, "env", "run")?;
+    push_each(module, 0, UNSHARED)?;
+    push_each(module, 10, SHARED)?;
+    push_each(module, 20, UNSHARED)?;
+    for index in first_of_each_kind() {
+        module
+            .initializers
+            .push(Initializer::Import { name, field, index })?;
+    }
+    module.initializers.push(Initializer::Import {
+        name,
+        field,
+        index: FuncIndex::new(0).into(),
+    })?;
+    module.exports.insert(name, TableIndex::new(2).into())?;
+    module.exports.insert(field, MemoryIndex::new(0).into())?;
+    module.exports.insert(third, GlobalIndex::new(2).into())?;
+    module.num_imported_funcs = 1;
+    module.num_imported_tables = 1;
+    module.num_imported_memories = 1;
+    module.num_imported_globals = 1;
+    module.num_imported_tags = 1;
+    Ok(())
+}
+
+fn fill_and_look(rt: &impl Abort, alloc: Heap, module: &mut Module) -> Result<(), Fail>
+    requires strings { module.old.strings ≡ [] }
+    requires initializers { module.old.initializers.items ≡ [] }
+    requires functions { module.old.functions ≡ [] }
+    requires tables { module.old.tables ≡ [] }
+    requires memories { module.old.memories ≡ [] }
+    requires globals { module.old.globals ≡ [] }
+    requires tags { module.old.tags ≡ [] }
+{
+    fill(module)?;
+    defined_entities_follow_the_imported(rt, module);
+    entities_are_counted(rt, module);
+    first_entities_are_imported(rt, module);
+    entities_are_exported(rt, module);
+    entities_have_types(rt, module);
+    edges_are_visited_in_order(rt, alloc, module)?;
+    edges_become_the_engines(rt, module);
+    Ok(())
+}
+
+fn first_of_each_kind() -> [EntityIndex; 5] {
+    [
+        FuncIndex::new(0).into(),
+        TableIndex::new(0).into(),
+        MemoryIndex::new(0).into(),
+        GlobalIndex::new(0).into(),
+        TagIndex::new(0).into(),
+    ]
+}
+
+fn last_of_each_kind() -> [EntityIndex; 5] {
+    [
+        FuncIndex::new(2).into(),
+        TableIndex::new(2).into(),
+        MemoryIndex::new(2).into(),
+        GlobalIndex::new(2).into(),
+        TagIndex::new(2).into(),
+    ]
+}
+
+fn defined_entities_follow_the_imported(rt: &impl Abort, module: &Module) {
+    assert_eq!(rt; module.num_imported_funcs, 1);
+    assert_eq!(rt; module.num_imported_tables, 1);
+    assert_eq!(rt; module.num_imported_memories, 1);
+    assert_eq!(rt; module.num_imported_globals, 1);
+    assert_eq!(rt; module.num_imported_tags, 1);
+    for (kind, index, import, first_defined) in [
+        (
+            "functions",
+            module.func_index(DefinedFuncIndex::new(1)).index(),
+            module
+                .defined_func_index(FuncIndex::new(0))
+                .map(|i| i.index()),
+            module
+                .defined_func_index(FuncIndex::new(1))
+                .map(|i| i.index()),
+        ),
+        (
+            "tables",
+            module.table_index(DefinedTableIndex::new(1)).index(),
+            module
+                .defined_table_index(TableIndex::new(0))
+                .map(|i| i.index()),
+            module
+                .defined_table_index(TableIndex::new(1))
+                .map(|i| i.index()),
+        ),
+        (
+            "memories",
+            module.memory_index(DefinedMemoryIndex::new(1)).index(),
+            module
+                .defined_memory_index(MemoryIndex::new(0))
+                .map(|i| i.index()),
+            module
+                .defined_memory_index(MemoryIndex::new(1))
+                .map(|i| i.index()),
+        ),
+        (
+            "globals",
+            module.global_index(DefinedGlobalIndex::new(1)).index(),
+            module
+                .defined_global_index(GlobalIndex::new(0))
+                .map(|i| i.index()),
+            module
+                .defined_global_index(GlobalIndex::new(1))
+                .map(|i| i.index()),
+        ),
+        (
+            "tags",
+            module.tag_index(DefinedTagIndex::new(1)).index(),
+            module
+                .defined_tag_index(TagIndex::new(0))
+                .map(|i| i.index()),
+            module
+                .defined_tag_index(TagIndex::new(1))
+                .map(|i| i.index()),
+        ),
+    ] {
+        assert_eq!(rt; index, 2, "{kind}");
+        assert_eq!(rt; import, None, "{kind}");
+        assert_eq!(rt; first_defined, Some(0), "{kind}");
+    }
+}
+
+fn entities_are_counted(rt: &impl Abort, module: &Module) {
+    assert!(rt; module.num_imported_funcs <= module.functions.len());
+    assert!(rt; module.num_imported_tables <= module.tables.len());
+    assert!(rt; module.num_imported_memories <= module.memories.len());
+    assert!(rt; module.memories.len() - module.num_imported_memories > 1);
+    assert!(rt; module.num_imported_globals <= module.globals.len());
+    assert!(rt; module.num_imported_tags <= module.tags.len());
+    for count in [
+        module.num_defined_funcs(),
+        module.num_defined_tables(),
+        module.num_defined_memories(),
+        module.num_defined_globals(),
+        module.num_defined_tags(),
+    ] {
+        assert_eq!(rt; count, 2);
+    }
+    let last = module.defined_func_indices().last();
+    assert_eq!(rt; last, Some(DefinedFuncIndex::new(1)));
+    // The memory before it is shared.
+    assert_eq!(rt;
+        module
+            .owned_memory_index(DefinedMemoryIndex::new(1))
+            .index(),
+        0
+    );
+}
+
+fn first_entities_are_imported(rt: &impl Abort, module: &Module) {
+    for (place, entity) in first_of_each_kind().iter().enumerate() {
+        assert!(rt; module.is_imported(*entity));
+        assert!(rt; module.is_valid(*entity));
+        assert_eq!(rt; module.import_index(place), Some(*entity));
+        assert_eq!(rt; module.import_position(*entity), Some(place));
+    }
+    for entity in last_of_each_kind() {
+        assert!(rt; !module.is_imported(entity));
+        assert!(rt; module.is_valid(entity));
+        assert_eq!(rt; module.import_position(entity), None);
+    }
+    assert!(rt; !module.is_valid(FuncIndex::new(3).into()));
+    assert!(rt; !module.is_imported_function(FuncIndex::new(1)));
+    assert!(rt; !module.is_imported_table(TableIndex::new(1)));
+    assert!(rt; !module.is_imported_memory(MemoryIndex::new(1)));
+    assert!(rt; !module.is_imported_global(GlobalIndex::new(1)));
+    assert!(rt; !module.is_imported_tag(TagIndex::new(1)));
+    assert_eq!(rt; module.import_index(6), None);
+}
+
+fn entities_are_exported(rt: &impl Abort, module: &Module) {
+    for (place, table, memory, global) in [(0, false, true, false), (2, true, false, true)] {
+        assert_eq!(rt;
+            module.is_exported_table(TableIndex::from_u32(place)),
+            table
+        );
+        assert_eq!(rt;
+            module.is_exported_memory(MemoryIndex::from_u32(place)),
+            memory
+        );
+        assert_eq!(rt;
+            module.is_exported_global(GlobalIndex::from_u32(place)),
+            global
+        );
+    }
+}
+
+fn entities_have_types(rt: &impl Abort, module: &Module) {
+    for entity in last_of_each_kind() {
+        assert!(rt; module.is_valid(entity));
+        let as_made = match module.type_of(entity) {
+            EntityType::Function(signature) => signature == module_type(20),
+            EntityType::Table(table) => table.ref_type == reference_type(21),
+            EntityType::Memory(memory) => memory == UNSHARED,
+            EntityType::Global(global) => global.wasm_ty == WasmValType::Ref(reference_type(22)),
+            EntityType::Tag(tag) => tag.exception == module_type(24),
+        };
+        assert!(rt; as_made);
+    }
+}
+
+// The numbers of the module indices that are visited, in order.
+fn visited(alloc: Heap, module: &Module) -> Result<Vec<Option<u32>>, OutOfMemory> {
+    let mut numbers = Vec::new(alloc);
+    module.trace(&mut |edge: EngineOrModuleTypeIndex| -> Result<(), OutOfMemory> {
+        numbers.push(edge.as_module_type_index().map(|index| index.as_u32()))?;
+        Ok(())
+    })?;
+    Ok(numbers)
+}
+
+fn edges_are_visited_in_order(
+    rt: &impl Abort,
+    alloc: Heap,
+    module: &mut Module,
+) -> Result<(), Fail> {
+    assert!(rt; module.types.len() < 100);
+    module.types.push(module_type(50))?;
+    assert!(rt; module.passive_elements.len() < 100);
+    module.passive_elements.push((reference_type(70), 1))?;
+    module.startup = ModuleStartup::IfMemoriesNeedInit(module_type(60));
+    let numbers = visited(alloc, module)?;
+    let wanted = [
+        50, 0, 10, 20, 1, 11, 21, 2, 12, 22, 3, 4, 13, 14, 23, 24, 60,
+    ];
+    assert_eq!(rt; numbers.len(), wanted.len());
+    for (number, wanted) in numbers.iter().zip(wanted) {
+        assert_eq!(rt; *number, Some(wanted));
+    }
+    Ok(())
+}
+
+fn edges_become_the_engines(rt: &impl Abort, module: &mut Module) {
+    module.startup = ModuleStartup::Always(module_type(60));
+    assert!(rt; !module.is_canonicalized_for_runtime_usage());
+    let answer = module.trace_mut(&mut |edge: &mut EngineOrModuleTypeIndex| -> Result<(), ()> {
+        *edge = EngineOrModuleTypeIndex::Engine(VMSharedTypeIndex::new(9));
+        Ok(())
+    });
+    assert!(rt; answer.is_ok());
+    assert!(rt; module.is_canonicalized_for_runtime_usage());
+}

@@ -1,0 +1,231 @@
+//! Visits of a few types, each call once.
+
+ghost use Rattle.std.specs.Prelude.{◌≡◌, ◌<◌};
+ghost use Rattle.wasm_index.specs.Index.{index_of};
+ghost use Rattle.wasm_types.specs.declared.index.EngineOrModuleTypeIndex.TheVariants.{Module};
+
+use entity_map::EntityRef;
+use std::alloc::{AllocError, Global as Heap};
+use std::process::Abort;
+use std::test::Fail;
+use wasm_index::{ModuleInternedTypeIndex, RecGroupRelativeTypeIndex, VMSharedTypeIndex};
+use wasm_trace::TypeTrace;
+use wasm_types::{
+    EngineOrModuleTypeIndex, EntityType, Global, IndexType, Limits, Table, Tag, WasmArrayType,
+    WasmCompositeInnerType, WasmCompositeType, WasmContType, WasmExnType, WasmFieldType,
+    WasmFuncType, WasmHeapType, WasmRecGroup, WasmRefType, WasmStorageType, WasmStructType,
+    WasmSubType, WasmValType,
+};
+
+fn module_type(number: u32) -> EngineOrModuleTypeIndex
+    requires { number < u32.MAX }
+    ensures { result ≡ Module (index_of number) }
+{
+    EngineOrModuleTypeIndex::Module(ModuleInternedTypeIndex::from_u32(number))
+}
+
+fn reference_type(number: u32) -> WasmRefType
+    requires { number < u32.MAX }
+{
+    WasmRefType {
+        nullable: true,
+        heap_type: WasmHeapType::ConcreteStruct(module_type(number)),
+    }
+}
+
+fn reference(number: u32) -> WasmValType
+    requires { number < u32.MAX }
+{
+    WasmValType::Ref(reference_type(number))
+}
+
+// The edges of a value, in the order in which they are visited.
+fn visited<T: TypeTrace>(
+    alloc: Heap,
+    value: &T,
+) -> Result<Vec<EngineOrModuleTypeIndex>, AllocError> {
+    let mut edges = Vec::new(alloc);
+    value.trace(&mut |edge: EngineOrModuleTypeIndex| -> Result<(), AllocError> {
+        edges.push(edge)?;
+        Ok(())
+    })?;
+    Ok(edges)
+}
+
+#[test]
+fn visit_stops_at_the_second_edge(rt: HostRuntime) -> Result<(), Fail> {
+    let func = WasmFuncType::new(rt.alloc(), &[reference(1)], &[reference(2), reference(3)])?;
+    let mut visits = 0u32;
+    let answer = func.trace(&mut |edge| {
+        visits = visits.saturating_add(1);
+        if edge == module_type(2) {
+            Err("stopped")
+        } else {
+            Ok(())
+        }
+    });
+    assert_eq!(rt; answer, Err("stopped"));
+    assert_eq!(rt; visits, 2);
+    Ok(())
+}
+
+#[test]
+fn stop_leaves_the_first_rewritten(rt: HostRuntime) -> Result<(), Fail> {
+    let mut func = WasmFuncType::new(rt.alloc(), &[reference(1)], &[reference(2)])?;
+    let answer = func.trace_mut(&mut |edge: &mut EngineOrModuleTypeIndex| {
+        if *edge == module_type(2) {
+            return Err(());
+        }
+        *edge = module_type(7);
+        Ok(())
+    });
+    assert!(rt; answer.is_err());
+    assert_eq!(rt; func.params(), [reference(7)].as_slice());
+    assert_eq!(rt; func.results(), [reference(2)].as_slice());
+    Ok(())
+}
+
+// An exception type of the function type 2 with a field of the struct type 3, under the type 1.
+fn exception(alloc: Heap) -> Result<WasmSubType, AllocError> {
+    let mut fields = Vec::new(alloc);
+    fields.push(WasmFieldType {
+        element_type: WasmStorageType::Val(reference(3)),
+        mutable: true,
+    })?;
+    Ok(WasmSubType {
+        is_final: false,
+        supertype: Some(module_type(1)),
+        composite_type: WasmCompositeType {
+            inner: WasmCompositeInnerType::Exn(WasmExnType {
+                func_ty: module_type(2),
+                fields,
+            }),
+            shared: false,
+        },
+    })
+}
+
+fn visits_in_order<T: TypeTrace>(
+    rt: &impl Abort,
+    alloc: Heap,
+    value: &T,
+    numbers: &[u32],
+) -> Result<(), AllocError> {
+    let edges = visited(alloc, value)?;
+    assert_eq!(rt; edges.len(), numbers.len());
+    for (edge, number) in edges.iter().zip(numbers) {
+        assert_eq!(rt;
+            edge.as_module_type_index().map(|index| index.as_u32()),
+            Some(*number)
+        );
+    }
+    Ok(())
+}
+
+#[test]
+fn edges_are_visited_in_order(rt: HostRuntime) -> Result<(), Fail> {
+    let alloc = rt.alloc();
+    let value = reference(4);
+    let field = WasmFieldType {
+        element_type: WasmStorageType::Val(value),
+        mutable: false,
+    };
+    visits_in_order(
+        &rt,
+        alloc,
+        &WasmHeapType::ConcreteCont(module_type(4)),
+        &[4],
+    )?;
+    visits_in_order(&rt, alloc, &reference_type(4), &[4])?;
+    visits_in_order(&rt, alloc, &value, &[4])?;
+    visits_in_order(&rt, alloc, &WasmArrayType(field), &[4])?;
+    visits_in_order(&rt, alloc, &WasmContType::new(module_type(5)), &[5])?;
+    let func = WasmFuncType::new(alloc, &[reference(6), reference(7)], &[reference(8)])?;
+    visits_in_order(&rt, alloc, &func, &[6, 7, 8])?;
+    visits_in_order(&rt, alloc, &exception(alloc)?, &[1, 2, 3])?;
+    let mut types = Vec::new(alloc);
+    types.push(exception(alloc)?)?;
+    types.push(exception(alloc)?)?;
+    visits_in_order(&rt, alloc, &WasmRecGroup { types }, &[1, 2, 3, 1, 2, 3])?;
+    let mut fields = Vec::new(alloc);
+    fields.push(field)?;
+    visits_in_order(&rt, alloc, &WasmStructType { fields }, &[4])?;
+    Ok(())
+}
+
+#[test]
+fn edges_of_entities_are_visited(rt: HostRuntime) -> Result<(), Fail> {
+    let alloc = rt.alloc();
+    let value = reference(4);
+    let global = Global {
+        wasm_ty: value,
+        mutability: true,
+    };
+    let table = Table {
+        idx_type: IndexType::I32,
+        limits: Limits { min: 0, max: None },
+        ref_type: reference_type(4),
+    };
+    let tag = Tag {
+        signature: module_type(8),
+        exception: module_type(9),
+    };
+    visits_in_order(&rt, alloc, &EntityType::Global(global), &[4])?;
+    visits_in_order(&rt, alloc, &EntityType::Table(table), &[4])?;
+    visits_in_order(&rt, alloc, &EntityType::Tag(tag), &[8, 9])?;
+    visits_in_order(&rt, alloc, &EntityType::Function(module_type(3)), &[3])?;
+    Ok(())
+}
+
+// The engine's index of each of a module's types: a hundred more.
+fn engine_type(index: ModuleInternedTypeIndex) -> VMSharedTypeIndex {
+    VMSharedTypeIndex::new(index.as_u32().min(99) + 100)
+}
+
+#[test]
+fn group_of_a_range_becomes_relative(rt: HostRuntime) -> Result<(), Fail> {
+    let mut tag = Tag {
+        signature: module_type(4),
+        exception: module_type(5),
+    };
+    let range = ModuleInternedTypeIndex::from_u32(5)..ModuleInternedTypeIndex::from_u32(7);
+    tag.canonicalize_for_hash_consing(range, &engine_type);
+    assert_eq!(rt;
+        tag.signature,
+        EngineOrModuleTypeIndex::Engine(VMSharedTypeIndex::new(104))
+    );
+    assert_eq!(rt;
+        tag.exception,
+        EngineOrModuleTypeIndex::RecGroup(RecGroupRelativeTypeIndex::from_u32(0))
+    );
+    assert!(rt; tag.is_canonicalized_for_hash_consing());
+    assert!(rt; !tag.is_canonicalized_for_runtime_usage());
+    Ok(())
+}
+
+#[test]
+fn engine_edges_stay(rt: HostRuntime) -> Result<(), Fail> {
+    let mut tag = Tag {
+        signature: EngineOrModuleTypeIndex::Engine(VMSharedTypeIndex::new(3)),
+        exception: module_type(5),
+    };
+    assert!(rt; !tag.is_canonicalized_for_runtime_usage());
+    let mut engine_visits = 0u32;
+    let answer = tag.trace_engine_indices(&mut |index: VMSharedTypeIndex| -> Result<(), ()> {
+        engine_visits = engine_visits.saturating_add(index.bits());
+        Ok(())
+    });
+    assert!(rt; answer.is_ok());
+    assert_eq!(rt; engine_visits, 3);
+    tag.canonicalize_for_runtime_usage(&engine_type);
+    assert_eq!(rt;
+        tag.signature,
+        EngineOrModuleTypeIndex::Engine(VMSharedTypeIndex::new(3))
+    );
+    assert_eq!(rt;
+        tag.exception,
+        EngineOrModuleTypeIndex::Engine(VMSharedTypeIndex::new(105))
+    );
+    assert!(rt; tag.is_canonicalized_for_runtime_usage());
+    Ok(())
+}
