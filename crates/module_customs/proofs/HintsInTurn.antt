@@ -5,7 +5,7 @@ use Rattle.std.specs.List.{filter_map, cons_option}
 use Rattle.std.proofs.lemmas.Bool.{ne_eqb}
 use Rattle.std.proofs.lemmas.List.{append-nil, map_more}
 use Rattle.std.proofs.lemmas.List.Elements.{filter_map-append}
-use Rattle.std.specs.Prelude.{IfSome, MatchOption, ◌==◌, if◌then◌else◌}
+use Rattle.std.specs.Prelude.{IfSome, MatchOption, unwrap_or, ◌==◌, if◌then◌else◌}
 use Rattle.form_reader.specs.Reading.{Fault, Bad, and_then, whole}
 use Rattle.form_reader.specs.ReadingNumbers.{vector_at}
 use Rattle.custom_sections.specs.HintGrammar.{hint_section}
@@ -28,21 +28,23 @@ module _ (ps : List Payload) (k : ℕ) (p : Payload) (lt : k < length ps) (at : 
   more = ap (filter_map hint_lists) (map_more payload_of ps k p lt ∙ ap (λ (x : Payload). map payload_of (take k ps) ++ payload_of x ∷ []) (sym at))
       ∙ filter_map-append hint_lists (map payload_of (take k ps)) (payload_of p ∷ [])
 
-  pub next-hints : (o : Option HintLists) → o ≡ hint_lists (payload_of p) → (es : HintLists) → o ≡ Some es
+  next-hints : (o : Option HintLists) → o ≡ hint_lists (payload_of p) → (es : HintLists) → o ≡ Some es
       → es ≡ module_hints (map payload_of (take (k + 1) ps))
   next-hints o says es is = sym (ap (last_or []) (more
       ∙ ap (λ x. filter_map hint_lists (map payload_of (take k ps)) ++ cons_option x []) (sym says ∙ is))
       ∙ last-or [] (filter_map hint_lists (map payload_of (take k ps))) es)
 
-  pub same-hints : (o : Option HintLists) → o ≡ hint_lists (payload_of p) → o ≡ None
+  same-hints : (o : Option HintLists) → o ≡ hint_lists (payload_of p) → o ≡ None
       → module_hints (map payload_of (take k ps)) ≡ module_hints (map payload_of (take (k + 1) ps))
   same-hints o says is = sym (ap (last_or []) (more
       ∙ ap (λ x. filter_map hint_lists (map payload_of (take k ps)) ++ cons_option x []) (sym says ∙ is)
       ∙ append-nil (filter_map hint_lists (map payload_of (take k ps)))))
 
-pub none-seen : {A B : Type 0} (view : A → B) (o : Option A) → ((x : A) → o ≡ Some x → ⊥) → option_map view o ≡ None
-none-seen view None none = refl
-none-seen view (Some x) none = absurd (none x refl)
+  pub hints-after : {A : Type 0} (view : A → HintLists) (before : A) (o : Option A) → option_map view o ≡ hint_lists (payload_of p)
+      → view before ≡ module_hints (map payload_of (take k ps))
+      → view (unwrap_or o before) ≡ module_hints (map payload_of (take (k + 1) ps))
+  hints-after view before None says was = was ∙ same-hints None says refl
+  hints-after view before (Some x) says was = next-hints (Some (view x)) says (view x) refl
 
 -- ---- a section that is read whole or not at all
 

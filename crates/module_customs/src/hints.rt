@@ -1,6 +1,6 @@
 //! The hints at branches that a module's sections of hints give.
 
-ghost use Rattle.std.specs.Prelude.{◌≡◌, ◌++◌, ◌∷◌, [], map, IfOk, OnOk};
+ghost use Rattle.std.specs.Prelude.{◌≡◌, ◌++◌, ◌∷◌, [], map, unwrap_or, IfOk, OnOk};
 ghost use Rattle.std.specs.Option.{option_map};
 ghost use Rattle.form_data.specs.Views.{module_of, payload_of};
 ghost use Rattle.wasm_index.specs.Index.{number_of};
@@ -34,11 +34,23 @@ fn last_hints(alloc: Global, form: &Form<'_>) -> Result<Vec<(u32, Vec<Hint>)>, O
 {
     let mut last = Vec::new(alloc);
     for payload in &form.payloads {
-        if let Some(entries) = hints_in(alloc, payload)? {
-            last = entries;
-        }
+        let section = hints_in(alloc, payload)?;
+        last = entries_after(last, section);
     }
     Ok(last)
+}
+
+/// The entries that count after a section: its own, and where it has none or a fault those that counted before.
+fn entries_after(
+    before: Vec<(u32, Vec<Hint>)>,
+    section: Option<Vec<(u32, Vec<Hint>)>>,
+) -> Vec<(u32, Vec<Hint>)>
+    ensures { result ≡ unwrap_or section before }
+{
+    match section {
+        Some(entries) => entries,
+        None => before,
+    }
 }
 
 /// The entries of a section of hints that has no fault.

@@ -178,15 +178,29 @@ impl Interner {
 
     // Puts a group behind the others, with no trampolines.
     fn open_group(&mut self, members: Vec<WasmSubType>) -> Result<(), OutOfMemory>
-        requires types { length self.old.list.types + length members.items < u32.MAX }
-        requires groups { length self.old.list.groups < u32.MAX - 1 }
-        ensures { OnOk result (built self.new ≡ opened (built self.old) (map interned_of members.items)) }
+        requires filled { 0 < length members.items }
+        requires orderly { IsOrderly (built self.old) }
+        requires room { length (with_group (built self.old) (map interned_of members.items)).types < u32.MAX }
+        ensures opened { OnOk result (built self.new ≡ opened (built self.old) (map interned_of members.items)) }
+        ensures orderly { OnOk result (IsOrderly (built self.new)) }
     {
         let start = self.list.next_ty();
         self.list.push_all(members)?;
         let end = self.list.next_ty();
         self.list.push_rec_group(start..end)?;
         Ok(())
+    }
+
+    // Puts a group behind the others, and then the trampolines that are missing.
+    fn add_group(&mut self, alloc: Global, members: Vec<WasmSubType>) -> Result<(), OutOfMemory>
+        requires filled { 0 < length members.items }
+        requires orderly { IsOrderly (built self.old) }
+        requires room { length (with_group (built self.old) (map interned_of members.items)).types < u32.MAX }
+        ensures { OnOk result (built self.new ≡ with_group (built self.old) (map interned_of members.items)) }
+    {
+        let first = self.list.len_types();
+        self.open_group(members)?;
+        self.meet_all(alloc, first)
     }
 
     /// Puts a group behind the others, and then the trampolines that are missing. Where it is the first, mapped types are hashed from the seed.
@@ -202,9 +216,7 @@ impl Interner {
         ensures { OnOk result (built self.new ≡ with_group (built self.old) (map interned_of members.items)) }
     {
         self.seed_from(alloc, seed);
-        let first = self.list.len_types();
-        self.open_group(members)?;
-        self.meet_all(alloc, first)
+        self.add_group(alloc, members)
     }
 
     /// Puts the exception type of a function type behind the others.
