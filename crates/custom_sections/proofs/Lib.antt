@@ -5,7 +5,6 @@ pub mod Elements
 pub mod Before
 pub mod Joining
 pub mod Subsections
-pub mod Keeping
 pub mod Debugging
 pub mod WorkedHints
 pub mod WorkedNames

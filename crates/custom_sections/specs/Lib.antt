@@ -4,5 +4,4 @@ pub mod HintGrammar
 pub mod HintReading
 pub mod NameGrammar
 pub mod NameReading
-pub mod Kept
 pub mod DebugNames

@@ -3,7 +3,6 @@
 
 mod debug;
 mod hints;
-mod kept;
 mod laws;
 mod names;
 mod parts;
@@ -11,7 +10,6 @@ mod worked;
 
 pub use debug::is_debug_name;
 pub use hints::{Hint, read_hints};
-pub use kept::{kept_hints, kept_names};
 pub use laws::spelled_names_are_read;
 pub use names::{Names, read_names};
-pub use worked::{worked_debug_names, worked_hints, worked_kept, worked_names};
+pub use worked::{worked_debug_names, worked_hints, worked_names};

@@ -4,7 +4,6 @@ ghost use Rattle.std.specs.Prelude.{◌≡◌, ℕ, ◌<◌, List, [], ◌∷◌
 ghost use Rattle.custom_sections.specs.declared.hints.Hint.{Hint};
 ghost use Rattle.custom_sections.specs.HintGrammar.{hint_section};
 ghost use Rattle.custom_sections.specs.NameReading.{no_names, names_of_section};
-ghost use Rattle.custom_sections.specs.Kept.{kept_name, kept_hint};
 ghost use Rattle.custom_sections.specs.DebugNames.{is_debug};
 
 /// Names of custom sections.
@@ -26,15 +25,6 @@ pub fn worked_hints()
         → ¬ hint_section.spells (0x01 ∷ 0x02 ∷ 0x01 ∷ 0x05 ∷ 0x01 ∷ 0x02 ∷ []) entries }
     ensures longer { (entries : List (ℕ × List Hint))
         → ¬ hint_section.spells (0x01 ∷ 0x02 ∷ 0x01 ∷ 0x05 ∷ 0x01 ∷ 0x01 ∷ 0x00 ∷ []) entries }
-{}
-
-/// Two entries of one index.
-#[tactic(auto, unfolding(crate::specs::Kept::kept_name, crate::specs::Kept::kept_hint))]
-pub fn worked_kept(first: u32, second: u32)
-    ensures later_name { kept_name 4 ((3, codes "a") ∷ (3, codes "b") ∷ []) 3 ≡ Some (codes "b") }
-    ensures past_the_bound { kept_name 3 ((3, codes "a") ∷ []) 3 ≡ None }
-    ensures first_hints { kept_hint ((3, first) ∷ (3, second) ∷ []) 3 ≡ Some first }
-    ensures no_function { kept_hint ((4294967295, first) ∷ []) 4294967295 ≡ None }
 {}
 
 /// Sections with one fault, or none.

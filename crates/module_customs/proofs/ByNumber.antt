@@ -10,7 +10,7 @@ use Rattle.std.specs.declared.cmp.Ordering.{Ordering}
 use Rattle.std.proofs.lemmas.Bool.{cases_eq, cases_order, eq-eqb, ne_eqb, le-leb, lt-leb, lt-ltb, le-ltb}
 use Rattle.std.proofs.lemmas.List.{append-nil, map_more, reverse-append}
 use Rattle.std.proofs.lemmas.List.Elements.{filter-append}
-use Rattle.custom_sections.specs.Kept.{last_at}
+use Rattle.module_customs.specs.Kept.{last_at}
 use Rattle.module_customs.specs.Names.{Text, at_number, HasLast, AreLocals, below}
 
 eq_at : (k q : ℕ) → is_eq (nat_cmp k q) ≡ eqb k q

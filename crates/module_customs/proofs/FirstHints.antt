@@ -6,8 +6,8 @@ use Rattle.std.specs.Map.{lookup}
 use Rattle.std.specs.Option.{option_map, is_some}
 use Rattle.std.proofs.lemmas.Bool.{cases_eq, eq-eqb, ne_eqb}
 use Rattle.custom_sections.specs.declared.hints.Hint.{Hint}
-use Rattle.custom_sections.specs.Kept.{kept_hint, no_function}
-use Rattle.custom_sections.proofs.Keeping.{hint_here, hint_elsewhere, hint_again, hint_nowhere, no_hint_yet}
+use Rattle.module_customs.specs.Kept.{kept_hint, no_function}
+use Rattle.module_customs.proofs.Keeping.{hint_here, hint_elsewhere, hint_again, hint_nowhere, no_hint_yet}
 use Rattle.init_plan.specs.declared.debug_info.BranchHint.{BranchHint}
 use Rattle.module_customs.specs.Names.{at_number}
 use Rattle.module_customs.specs.Hints.{HintLists, HasFirst, branch_hint_of}

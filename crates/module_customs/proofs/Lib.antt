@@ -1,3 +1,4 @@
+mod Keeping
 mod Functions
 mod ByNumber
 mod LocalNames

@@ -8,7 +8,7 @@ use Rattle.form_reader.specs.Reading.{whole}
 use Rattle.form_reader.specs.ReadingNumbers.{vector_at}
 use Rattle.custom_sections.specs.declared.hints.Hint.{Hint}
 use Rattle.custom_sections.specs.HintReading.{hint_entry_at}
-use Rattle.custom_sections.specs.Kept.{kept_hint}
+use Rattle.module_customs.specs.Kept.{kept_hint}
 use Rattle.custom_sections.specs.Reading.{taken}
 use Rattle.init_plan.specs.declared.debug_info.BranchHint.{BranchHint}
 use Rattle.module_customs.specs.Names.{contents_of}

@@ -10,7 +10,7 @@ use Rattle.wasm_spec.specs.Module as plain
 use Rattle.wasm_index.specs.declared.index.Index.{Index}
 use Rattle.wasm_index.specs.declared.spaces.FuncSpace.{FuncSpace}
 use Rattle.wasm_index.specs.Index.{number_of}
-use Rattle.custom_sections.specs.Kept.{last_at}
+use Rattle.module_customs.specs.Kept.{last_at}
 use Rattle.custom_sections.specs.NameReading.{NameLists, no_names, joined, names_of_section}
 use Rattle.init_plan.specs.declared.debug_info.NameSection.{NameSection}
 

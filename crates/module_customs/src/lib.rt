@@ -9,4 +9,4 @@ mod worked;
 pub use debug::has_debug_section;
 pub use hints::kept_hints;
 pub use names::kept_names;
-pub use worked::{worked_hints, worked_names};
+pub use worked::{worked_hints, worked_kept, worked_names};

@@ -9,7 +9,7 @@ use Rattle.wasm_spec.specs.Module as plain
 use Rattle.wasm_index.specs.declared.index.Index.{Index}
 use Rattle.wasm_index.specs.declared.spaces.FuncSpace.{FuncSpace}
 use Rattle.wasm_index.specs.Index.{number_of}
-use Rattle.custom_sections.specs.Kept.{kept_hint, no_function}
+use Rattle.module_customs.specs.Kept.{kept_hint, no_function}
 use Rattle.custom_sections.specs.declared.hints.Hint.{Hint}
 use Rattle.module_customs.specs.Hints.{HasFirst, branch_hint_of}
 use Rattle.module_customs.specs.Names.{at_number}

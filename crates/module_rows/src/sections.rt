@@ -1,6 +1,6 @@
 //! Each public call on a section that is read.
 
-use custom_sections::{Hint, is_debug_name, kept_hints, kept_names, read_hints, read_names};
+use custom_sections::{is_debug_name, read_hints, read_names};
 use std::test::Fail;
 
 #[test]
@@ -25,33 +25,29 @@ fn names_of_locals_stand_behind_their_function(rt: HostRuntime) -> Result<(), Fa
 }
 
 #[test]
-fn later_name_replaces_an_earlier_one(rt: HostRuntime) -> Result<(), Fail> {
+fn names_of_functions_stand_in_order(rt: HostRuntime) -> Result<(), Fail> {
     let contents = [
         0x01, 0x0A, 0x03, 0x00, 0x01, 0x61, 0x00, 0x01, 0x62, 0x07, 0x01, 0x63,
     ];
     let names = read_names(rt.alloc(), &contents, false)?;
-    let kept = kept_names(rt.alloc(), &names.functions, 2)?;
-    assert_eq!(rt; kept.get(&0).copied(), Some("b"));
-    assert_eq!(rt; kept.len(), 1);
+    assert_eq!(rt;
+        names.functions.as_slice(),
+        [(0, "a"), (0, "b"), (7, "c")].as_slice()
+    );
     Ok(())
 }
 
 #[test]
-fn first_hints_of_a_function_count(rt: HostRuntime) -> Result<(), Fail> {
+fn hints_stand_behind_their_function(rt: HostRuntime) -> Result<(), Fail> {
     let contents = [
         0x02, 0x02, 0x01, 0x05, 0x01, 0x01, 0x02, 0x01, 0x06, 0x01, 0x00,
     ];
     let entries = read_hints(rt.alloc(), &contents)?.expect(&rt, "the section has no fault");
-    let kept = kept_hints(rt.alloc(), entries)?;
-    let want = [Hint {
-        func_offset: 5,
-        taken: true,
-    }];
-    assert_eq!(rt;
-        kept.get(&2).map(|hints| hints.as_slice()),
-        Some(want.as_slice())
-    );
-    assert_eq!(rt; kept.len(), 1);
+    assert_eq!(rt; entries.len(), 2);
+    for (function, hints) in &entries {
+        assert_eq!(rt; *function, 2);
+        assert_eq!(rt; hints.len(), 1);
+    }
     Ok(())
 }
 
