@@ -3,13 +3,16 @@
 ghost use Rattle.std.specs.Prelude.{◌≡◌};
 
 use entity_map::OutOfMemory;
+use thiserror::Error;
 
 /// Why a growing call of a builder answers an error.
-#[derive(Clone, Copy, Debug, Drop, PartialEq, Eq)]
+#[derive(Clone, Copy, Debug, Drop, PartialEq, Eq, Error)]
 pub enum BuildError {
     /// A list or a map found no memory.
+    #[error("out of memory")]
     OutOfMemory,
     /// An earlier growing call answered an error.
+    #[error("an earlier call of the builder failed")]
     Poisoned,
 }
 

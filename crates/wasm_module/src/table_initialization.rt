@@ -38,7 +38,7 @@ pub struct TableSegment {
 /// The elements of a segment.
 #[derive(Drop)]
 pub enum TableSegmentElements {
-    /// References to functions; the reserved index stands for the null reference.
+    /// References to functions, by their indices.
     Functions(Vec<FuncIndex>),
     /// The values of expressions.
     Expressions {
