@@ -8,7 +8,6 @@ use form_data::{
     DataSegment, Element, Export, FunctionBody, GlobalDef, Import, Payload, RecGroup, TableDef,
 };
 
-/// The groups of types that a section declares, and none of another section.
 pub fn groups_of<'a>(payload: &'a Payload<'_>) -> &'a [RecGroup]
     ensures { map group_of result.now ≡ groups_of_section (payload_of payload.now) }
 {
@@ -18,7 +17,6 @@ pub fn groups_of<'a>(payload: &'a Payload<'_>) -> &'a [RecGroup]
     }
 }
 
-/// The imports of a section, and none of another section.
 pub fn imports_of<'a, 'd>(payload: &'a Payload<'d>) -> &'a [Import<'d>]
     ensures { map import_of result.now ≡ imports_of_section (payload_of payload.now) }
 {
@@ -28,7 +26,6 @@ pub fn imports_of<'a, 'd>(payload: &'a Payload<'d>) -> &'a [Import<'d>]
     }
 }
 
-/// The tables that a section defines, and none of another section.
 pub fn tables_of<'a>(payload: &'a Payload<'_>) -> &'a [TableDef]
     ensures { map table_of result.now ≡ tables_of_section (payload_of payload.now) }
 {
@@ -38,7 +35,6 @@ pub fn tables_of<'a>(payload: &'a Payload<'_>) -> &'a [TableDef]
     }
 }
 
-/// The globals that a section defines, and none of another section.
 pub fn globals_of<'a>(payload: &'a Payload<'_>) -> &'a [GlobalDef]
     ensures { map global_of result.now ≡ globals_of_section (payload_of payload.now) }
 {
@@ -48,7 +44,6 @@ pub fn globals_of<'a>(payload: &'a Payload<'_>) -> &'a [GlobalDef]
     }
 }
 
-/// The exports of a section, and none of another section.
 pub fn exports_of<'a, 'd>(payload: &'a Payload<'d>) -> &'a [Export<'d>]
     ensures { map export_of result.now ≡ exports_of_section (payload_of payload.now) }
 {
@@ -58,7 +53,6 @@ pub fn exports_of<'a, 'd>(payload: &'a Payload<'d>) -> &'a [Export<'d>]
     }
 }
 
-/// The element segments of a section, and none of another section.
 pub fn elements_of<'a>(payload: &'a Payload<'_>) -> &'a [Element]
     ensures { map element_of result.now ≡ elements_of_section (payload_of payload.now) }
 {
@@ -68,7 +62,6 @@ pub fn elements_of<'a>(payload: &'a Payload<'_>) -> &'a [Element]
     }
 }
 
-/// The bodies of functions in a section, and none of another section.
 pub fn bodies_of<'a, 'd>(payload: &'a Payload<'d>) -> &'a [FunctionBody<'d>]
     ensures { map body_of result.now ≡ bodies_of_section (payload_of payload.now) }
 {
@@ -78,7 +71,6 @@ pub fn bodies_of<'a, 'd>(payload: &'a Payload<'d>) -> &'a [FunctionBody<'d>]
     }
 }
 
-/// The data segments of a section, and none of another section.
 pub fn segments_of<'a, 'd>(payload: &'a Payload<'d>) -> &'a [DataSegment<'d>]
     ensures { map segment_of result.now ≡ segments_of_section (payload_of payload.now) }
 {
