@@ -1,4 +1,4 @@
-use Rattle.std.proofs.Common.{◌∙◌, length, map, sym, ap, arith}
+use Rattle.std.proofs.Common.{◌∙◌, ◌<◌, length, map, sym, ap, arith}
 use Rattle.std.proofs.lemmas.List.{length-map}
 use Rattle.std.specs.HashMap.{get}
 use Rattle.wasm_index.specs.Index.{index_of}
@@ -47,5 +47,5 @@ returns-clause-opened c =
 pub returns-clause-orderly : goal.returns-clause-orderly
 returns-clause-orderly c =
     let back = sym (returns-clause-opened c) in
-    let filled = omega (arith, c.requires.filled, length-map c.args.members.items interned_of) in
+    let filled : 0 < length (map interned_of c.args.members.items) = omega (arith, c.requires.filled, length-map c.args.members.items interned_of) in
     coe 0 1 (j. IsOrderly (back j)) (orderly-opened (built c.args.self.now) (map interned_of c.args.members.items) filled c.requires.orderly)
