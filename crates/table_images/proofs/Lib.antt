@@ -3,3 +3,4 @@ pub mod CellsStand
 pub mod Laying
 pub mod Steps
 pub mod Planned
+pub mod Standing

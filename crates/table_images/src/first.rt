@@ -1,10 +1,13 @@
 //! Tables before any segment is laid.
 
 ghost use Rattle.std.specs.Prelude.{◌≡◌, ◌<◌, ◌≤◌, ◌-◌, length, map, true, IfOk};
+ghost use Rattle.wasm_convert.specs.declared.constants.ConstExpr.{ConstExpr};
+ghost use Rattle.wasm_module.specs.declared.table_initialization.TableInitialValue.TheVariants.{Expr};
 ghost use Rattle.replay_spec.specs.Tables.{kept_initial};
 ghost use Rattle.table_images.specs.Steps.{TablesHoldFunctions, IsCell, images_of, first_image as the_first};
 ghost use Rattle.replay_spec.specs.Tables.{initial_function};
 ghost use Rattle.table_images.specs.Views.{image_of, defined_table_of, defined_tables_of, initial_of};
+ghost use Rattle.table_images.specs.Left.{StandStill};
 
 use crate::spot::start_function;
 use entity_map::{OutOfMemory, PrimaryMap};
@@ -53,7 +56,8 @@ pub(crate) fn first_images(
 
 // A table that is imaged from the start keeps no initialiser.
 fn drop_if_imaged(table: &Table, value: &mut TableInitialValue)
-    ensures { initial_of value.new ≡ kept_initial true (defined_table_of table.now value.old) }
+    ensures kept { initial_of value.new ≡ kept_initial true (defined_table_of table.now value.old) }
+    ensures still { (e : ConstExpr) → value.new ≡ Expr e → value.old ≡ Expr e }
 {
     if start_function(table, value).is_some() {
         *value = TableInitialValue::Null;
@@ -65,6 +69,7 @@ pub(crate) fn drop_imaged(tables: &[Table], values: &mut [TableInitialValue])
     requires { length tables.now ≡ length values.old }
     ensures kept { map initial_of values.new ≡ map (kept_initial true) (defined_tables_of tables.now values.old) }
     ensures count { length values.new ≡ length values.old }
+    ensures still { StandStill values.old values.new }
 {
     'tables: for i in 0..values.len() {
         drop_if_imaged(&tables[i], &mut values[i]);

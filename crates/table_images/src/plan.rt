@@ -4,6 +4,7 @@ ghost use Rattle.std.specs.Prelude.{◌≡◌, ◌≤◌, ◌<◌, ◌-◌, ◌�
 ghost use Rattle.replay_spec.specs.Elements.{ActiveElements};
 ghost use Rattle.replay_spec.specs.Tables.{IsTablePlan, MayBeTaken};
 ghost use Rattle.table_images.specs.Steps.{AreTableImages, SegmentsHoldFunctions, TablesHoldFunctions, first_image, images_of};
+ghost use Rattle.table_images.specs.Left.{IsLeft};
 ghost use Rattle.table_images.specs.Views.{active_elements_of, defined_tables_of, table_plan_of};
 
 use crate::first::{drop_imaged, first_images};
@@ -53,6 +54,7 @@ fn plan_images(
     requires functions { SegmentsHoldFunctions (map active_elements_of initialization.old.segments.items) }
     requires first { images_of images.old ≡ map (first_image true) (defined_tables_of tables.now initialization.old.initial_values) }
     ensures count { OnOk result (length initialization.new.initial_values ≡ length initialization.old.initial_values) }
+    ensures left { OnOk result (IsLeft initialization.old initialization.new) }
     ensures planned { OnOk result (IsTablePlan true imported (defined_tables_of tables.now initialization.old.initial_values)
         (map active_elements_of initialization.old.segments.items)
         (table_plan_of tables.now initialization.new.initial_values initialization.new.segments.items (images_of images.new))) }
@@ -89,6 +91,7 @@ pub fn plan_tables(
     requires functions { SegmentsHoldFunctions (map active_elements_of initialization.old.segments.items) }
     ensures images { IfOk result (λ images. length images ≡ length initialization.old.initial_values) }
     ensures values { OnOk result (length initialization.new.initial_values ≡ length initialization.old.initial_values) }
+    ensures left { OnOk result (IsLeft initialization.old initialization.new) }
     ensures planned { IfOk result (λ images. IsTablePlan lazy imported (defined_tables_of (drop imported tables.now) initialization.old.initial_values)
         (map active_elements_of initialization.old.segments.items)
         (table_plan_of (drop imported tables.now) initialization.new.initial_values initialization.new.segments.items (images_of images))) }

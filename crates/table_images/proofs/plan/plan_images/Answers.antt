@@ -5,6 +5,7 @@ use Rattle.entity_map.proofs.LentLemmas.{refill-same_length}
 use Rattle.wasm_index.specs.declared.index.Index.{Index}
 use Rattle.wasm_index.specs.declared.spaces.FuncSpace.{FuncSpace}
 use Rattle.table_images.specs.Steps.{first_image, images_of}
+use Rattle.table_images.specs.Left.{StandStill}
 use Rattle.table_images.specs.Views.{active_elements_of, defined_tables_of, table_plan_of, image_of}
 use Rattle.replay_spec.specs.Tables.{IsTablePlan}
 use Rattle.table_images.proofs.Tables.{length-defined}
@@ -26,6 +27,17 @@ returns-clause-count c =
     let was = c.as_mut_slice.ensures.values in
     let count = rw was at c.drop_imaged.ensures.count in
     ap length (refill-same_length vs c.drop_imaged.new.values count) ∙ count
+
+pub returns-clause-left : goal.returns-clause-left
+returns-clause-left c =
+    let vs = c.args.initialization.now.initial_values in
+    let was = c.as_mut_slice.ensures.values in
+    let count = rw was at c.drop_imaged.ensures.count in
+    record {
+      taken = c.in_ok-taken.taken;
+      segments = c.in_ok-initialization.ensures.tail;
+      initialisers = subst (StandStill vs) (sym (refill-same_length vs c.drop_imaged.new.values count)) (rw was at c.drop_imaged.ensures.still);
+    }
 
 pub returns-clause-planned : goal.returns-clause-planned
 returns-clause-planned c =

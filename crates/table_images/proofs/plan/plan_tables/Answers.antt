@@ -1,4 +1,4 @@
-use Rattle.std.proofs.Common.{◌∙◌, ◌≡◌, ◌-◌, ◌++◌, true, take, drop, sym, ap, subst, length, map, arith, length-drop}
+use Rattle.std.proofs.Common.{◌∙◌, ◌≡◌, refl, ◌-◌, ◌++◌, true, take, drop, sym, ap, subst, length, map, arith, length-drop}
 use Rattle.std.proofs.lemmas.List.{take_all}
 use Rattle.entity_map.proofs.LentLemmas.{refill-same_length}
 use Rattle.replay_spec.specs.Tables.{IsTablePlan}
@@ -22,6 +22,9 @@ returns-then-not-lazy-clause-planned c =
     let first = rw (c.as_slice.ensures, all) at c.in_ok-images.ensures in
     planned-none c.args.lazy c.args.imported (drop c.args.imported tables) c.args.initialization.now.initial_values c.args.initialization.now.segments.items
     (images_of c.in_ok-images.images) c.if-not-lazy.true c.requires.each first
+
+pub returns-then-not-lazy-clause-left : goal.returns-then-not-lazy-clause-left
+returns-then-not-lazy-clause-left c = record { taken = 0; segments = refl; initialisers = λ i e is. is }
 
 pub returns-clause-images : goal.returns-clause-images
 returns-clause-images c =
