@@ -1,11 +1,12 @@
 //! Element segments become images of tables.
 
-ghost use Rattle.std.specs.Prelude.{◌≡◌, ◌≢◌, ◌↔◌, ◌<◌, ◌&&◌, All, length, true, false, Err, OnOk, OnErr, IsTrue};
+ghost use Rattle.std.specs.Prelude.{◌≡◌, ◌≢◌, ◌↔◌, ◌⊎◌, ◌<◌, ◌&&◌, All, length, true, false, Err, OnOk, OnErr, IsTrue};
 ghost use Rattle.std.specs.List.{filter_map};
 ghost use Rattle.module_types.specs.Builder.{shown, starts};
 ghost use Rattle.replay_spec.specs.Startup.{is_empty};
 ghost use Rattle.replay_spec.specs.Tables.{IsTablePlan, AgreesOnTables};
 ghost use Rattle.table_images.specs.Views.{initial_of};
+ghost use Rattle.table_images.specs.Left.{IsLeft};
 ghost use Rattle.init_plan.specs.Startup.{raised, types_after, with_startup};
 ghost use Rattle.init_plan.specs.Ready.{MemoryHalfIsReady};
 ghost use Rattle.init_plan.specs.Tables.{TableHalfIsReady, AreCounted, OnlyTableInitChanges, own_tables, tables_of, elements_of, plan_of_tables, startup_with_tables};
@@ -38,6 +39,10 @@ impl ModuleTranslation<'_> {
             (tables_of self.old) (elements_of self.old) (plan_of_tables self.new)) }
         ensures agrees { OnOk result (AgreesOnTables self.old.module.num_imported_tables (tables_of self.old) (elements_of self.old) (plan_of_tables self.new)) }
 
+        // What is kept is the very value that stood there, and each defined table has one initial value and one image.
+        ensures left { OnOk result (IsLeft self.old.table_initialization self.new.table_initialization) }
+        ensures counts { OnOk result (AreCounted self.new) }
+
         // Startup is raised by what is kept, and the builder gains its type where it is raised from none.
         ensures startup { let kind = startup_with_tables self.old (plan_of_tables self.new) in
             OnOk result (self.new.module.startup ≡ raised kind self.old.module.startup (shown types.old)) }
@@ -47,6 +52,8 @@ impl ModuleTranslation<'_> {
         ensures same { OnOk result (OnlyTableInitChanges self.old self.new) }
         ensures memories_ready { MemoryHalfIsReady self.old → OnOk result (MemoryHalfIsReady self.new) }
         ensures poisoned { (result ≡ Err PlanError.Poisoned) ↔ (types.old.is_poisoned ≡ true) }
+        // After an error the builder is as it was, or poisoned.
+        ensures refused { OnErr result ((types.new ≡ types.old) ⊎ (types.new.is_poisoned ≡ true)) }
         ensures never_too_large { result ≢ Err PlanError.TooLarge }
     {
         if types.is_poisoned() {
@@ -62,6 +69,7 @@ impl ModuleTranslation<'_> {
         requires { TableHalfIsReady self.old }
         ensures planned { OnOk result (IsTablePlan lazy self.old.module.num_imported_tables
             (tables_of self.old) (elements_of self.old) (plan_of_tables self.new)) }
+        ensures left { OnOk result (IsLeft self.old.table_initialization self.new.table_initialization) }
         ensures same { OnOk result (OnlyTableInitChanges self.old self.new) }
         ensures startup { OnOk result (self.new.module.startup ≡ self.old.module.startup) }
         ensures counts { OnOk result (AreCounted self.new) }
@@ -87,6 +95,7 @@ impl ModuleTranslation<'_> {
         ensures types { let kind = startup_with_tables self.old (plan_of_tables self.old) in
             OnOk result (shown types.new ≡ types_after kind self.old.module.startup (shown types.old)) }
         ensures err { result ≢ Err BuildError.Poisoned }
+        ensures refused { OnErr result (types.new.is_poisoned ≡ true) }
     {
         if keeps_none(&self.table_initialization) {
             return Ok(());

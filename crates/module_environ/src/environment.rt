@@ -1,6 +1,6 @@
 //! What a module is translated with.
 
-ghost use Rattle.std.specs.Prelude.{◌≡◌, false, IfOk, IsOk};
+ghost use Rattle.std.specs.Prelude.{◌≡◌, [], false, IfOk, IsOk};
 ghost use Rattle.module_environ.specs.Named.{IsNamed, name_in};
 ghost use Rattle.module_types.specs.Builder.{shown, new_builder};
 
@@ -39,6 +39,7 @@ impl<'a, 'd> ModuleEnvironment<'a, 'd> {
         ensures index { IfOk result (λ e. e.module_index ≡ module_index) }
         ensures tunables { IfOk result (λ e. e.tunables ≡ tunables.entry) }
         ensures validator { IfOk result (λ e. e.validator ≡ validator.entry) }
+        ensures declared { IfOk result (λ e. e.declared.now ≡ []) }
         ensures types { IfOk result (λ e. e.types.now ≡ types.old) }
         ensures same_types { IfOk result (λ e. e.types.ghost_name ≡ types.entry.ghost_name) }
     {

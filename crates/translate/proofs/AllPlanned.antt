@@ -20,7 +20,8 @@ use Rattle.init_plan.specs.Agreement.{AgreesOnElements, AgreesInAll}
 use Rattle.init_plan.specs.Held.{initialisers, plan_of_globals}
 use Rattle.init_plan.specs.Images.{image_memories}
 use Rattle.init_plan.specs.Startup.{startup_kind, raised, types_after}
-use Rattle.init_plan.specs.Tables.{tables_of, elements_of, plan_of_tables, startup_with_tables, OnlyTableInitChanges}
+use Rattle.table_images.specs.Left.{IsLeft}
+use Rattle.init_plan.specs.Tables.{tables_of, elements_of, plan_of_tables, startup_with_tables, AreCounted, OnlyTableInitChanges}
 use Rattle.init_plan.specs.Views.{memory_plan_of, OnlyMemoryInitChanges}
 use Rattle.module_environ.specs.Translated.{IsTranslated}
 use Rattle.module_environ.specs.Types.{interned_list}
@@ -55,6 +56,8 @@ pub record Plans (i : InitOptions) (m : Module) (old mid new : ModuleTranslation
   pub memories_types : shown mid_types ≡ types_after (raised_by_memories (memory_plan_of mid) (startup_kind old.module.startup)) old.module.startup (shown b)
   pub tables : IsTablePlan i.tunables.table_lazy_init mid.module.num_imported_tables (tables_of mid) (elements_of mid) (plan_of_tables new)
   pub tables_same : OnlyTableInitChanges mid new
+  pub tables_left : IsLeft mid.table_initialization new.table_initialization
+  pub tables_counted : AreCounted new
   pub tables_startup : new.module.startup ≡ raised (startup_with_tables mid (plan_of_tables new)) mid.module.startup (shown mid_types)
   pub tables_types : shown new_types ≡ types_after (startup_with_tables mid (plan_of_tables new)) mid.module.startup (shown mid_types)
   pub agree_globals : AgreesOnGlobals (lists_of_module m).imported_globals (initialisers (lists_of_module m)) (plan_of_globals old)
@@ -118,7 +121,13 @@ module _ (i : InitOptions) (bytes : List ℕ) (old : ModuleTranslation) (b : Kep
       read = told.read;
       keeps = told.keeps;
       initialised = record {
-        rest = record { before = old; translation = told.translation; same = changes_both old mid new plans.memories_same plans.tables_same };
+        rest = record {
+          before = old;
+          translation = told.translation;
+          same = changes_both old mid new plans.memories_same plans.tables_same;
+          left = subst (λ (t : ModuleTranslation). IsLeft t.table_initialization new.table_initialization) plans.memories_same plans.tables_left;
+          counts = plans.tables_counted;
+        };
         agrees = agreed;
         memories = initialises_memories i told.meaning old (holds_data memories) mid new plans.memories plans.tables_same;
         tables = plans_tables i told.meaning mid (plan_of_tables new)

@@ -10,7 +10,8 @@ use Rattle.module_types.specs.Builder.{Kept, shown}
 use Rattle.init_plan.specs.declared.translation.ModuleTranslation.{ModuleTranslation}
 use Rattle.init_plan.specs.Views.{memory_plan_of, ranges_of, IsSegmented, IsProcessed}
 use Rattle.init_plan.specs.Images.{HasTightImages, HasWholeRanges}
-use Rattle.init_plan.specs.Tables.{plan_of_tables}
+use Rattle.table_images.specs.Left.{IsLeft}
+use Rattle.init_plan.specs.Tables.{plan_of_tables, AreCounted}
 use Rattle.init_plan.specs.Held.{plan_of_globals}
 use Rattle.init_plan.specs.Agreement.{AgreesInAll}
 use Rattle.init_plan.specs.Startup.{startup_with}
@@ -40,11 +41,14 @@ OnlyInitChanges old new = new ≡ record old {
   data_align = new.data_align;
 }
 
--- in all else it is the translation of the module
+-- in all else it is the translation of the module; what is kept of how its tables begin is the very value that the translation has
 pub record TranslatesRest (i : InitOptions) (bytes : List ℕ) (m : Module) (t : ModuleTranslation) : Type 0 where
   pub before : ModuleTranslation
   pub translation : IsTranslation i.tunables (index_of 0) 0 bytes m before
   pub same : OnlyInitChanges before t
+  pub left : IsLeft before.table_initialization t.table_initialization
+  -- each defined table has one initial value and one image
+  pub counts : AreCounted t
 
 -- its memories, and what is left to be written to them
 pub record InitialisesMemories (i : InitOptions) (m : Module) (t : ModuleTranslation) : Type 0 where

@@ -1,6 +1,6 @@
 //! The run: words, source and sink.
 
-ghost use Rattle.std.specs.Prelude.{◌≡◌, ◌≢◌, ◌≤◌, ◌⊎◌, ◌↔◌, [], List, ℕ, None, Err, map, string_bytes, IsNone, IsSome, IfSome, OnOk};
+ghost use Rattle.std.specs.Prelude.{◌≡◌, ◌≢◌, ◌≤◌, ◌^◌, ◌⊎◌, ◌↔◌, [], List, ℕ, None, Err, length, map, string_bytes, IsNone, IsSome, IfSome, OnOk};
 ghost use Rattle.devices.specs.Counter.{Rose};
 ghost use Rattle.devices.specs.Device.{TellsFront};
 ghost use Rattle.translate.specs.Options.{options_of};
@@ -57,6 +57,8 @@ pub fn run<'d, S: Source, K: Sink>(
     ensures bytes { (command : Command) → Names (map string_bytes words.now) command → IsNone command.generate
         → TellsFront (S.left source.old) result.bytes.now (S.left source.new) }
     ensures made { (command : Command) → Names (map string_bytes words.now) command → IsSome command.generate → source.new ≡ source.old }
+    // Reading ends at 2^30 bytes.
+    ensures within { (command : Command) → Names (map string_bytes words.now) command → IsNone command.generate → length result.bytes.now ≤ 2 ^ 30 }
 
     // The words name no command, exactly; then nothing was touched.
     ensures usage { (result.status ≡ 2) ↔ ((command : Command) → ¬ Names (map string_bytes words.now) command) }
@@ -107,6 +109,7 @@ fn fill_store<S: Source>(
     requires made { IfSome command.now.generate IsMade }
     ensures enough { OnOk result (HasEnoughInput command.now.generate store.new.items (S.left source.new)) }
     ensures bytes { IsNone command.now.generate → TellsFront (S.left source.old) store.new.items (S.left source.new) }
+    ensures within { IsNone command.now.generate → length store.new.items ≤ 2 ^ 30 }
     ensures made { IsSome command.now.generate → source.new ≡ source.old }
     ensures cause { result ≡ Err ReadStop.Failed → Rose (S.faults source.old) (S.faults source.new) × (command.now.generate ≡ None) }
     ensures no_fault { result ≢ Err ReadStop.Failed → S.faults source.new ≡ S.faults source.old }

@@ -1,4 +1,5 @@
-use Rattle.std.proofs.Common.{◌≡◌, ◌≢◌, ◌⊎◌, ℕ, Some, IsNone, IsSome, sym, subst, ap, ◌∙◌, arith}
+use Rattle.std.proofs.Common.{◌≡◌, ◌≢◌, ◌⊎◌, ◌≤◌, ℕ, List, length, Some, IsNone, IsSome, sym, subst, ap, ◌∙◌, arith}
+use Rattle.std.specs.Prelude.{◌^◌}
 use Rattle.command_words.specs.declared.command.Command.{Command}
 use Rattle.devices.specs.Device.{TellsFront}
 use Rattle.translate.specs.Options.{options_of}
@@ -42,6 +43,12 @@ returns-in-Ok-clause-bytes g c = λ command names none.
     (sym (c.answer.ensures.bytes ∙ c.as_slice-bytes.ensures.value))
     (c.fill_store-outcome.ensures.bytes (subst (λ (d : Command). IsNone d.generate) read none))
 
+pub returns-in-Ok-clause-within : goal.returns-in-Ok-clause-within
+returns-in-Ok-clause-within g c = λ command names none.
+    let read = same c.in-Some.command command (c.in-Some.ensures.complete command names) in
+    subst (λ (bytes : List ℕ). length bytes ≤ 2 ^ 30) (sym (c.answer.ensures.bytes ∙ c.as_slice-bytes.ensures.value))
+    (c.fill_store-outcome.ensures.within (subst (λ (d : Command). IsNone d.generate) read none))
+
 pub returns-in-Ok-clause-made : goal.returns-in-Ok-clause-made
 returns-in-Ok-clause-made g c = λ command names some.
     let read = same c.in-Some.command command (c.in-Some.ensures.complete command names) in
@@ -69,6 +76,12 @@ returns-in-Err-OutOfMemory-clause-bytes g c = λ command names none.
     subst (λ bytes. TellsFront (g.S.Source.left c.args.source.now) bytes (g.S.Source.left c.fill_store-outcome.new.source))
     (sym (ap (λ r. r.bytes.now) c.empty_report-in-Err-OutOfMemory.ensures ∙ c.as_slice-bytes.ensures.value))
     (c.fill_store-outcome.ensures.bytes (subst (λ (d : Command). IsNone d.generate) read none))
+
+pub returns-in-Err-OutOfMemory-clause-within : goal.returns-in-Err-OutOfMemory-clause-within
+returns-in-Err-OutOfMemory-clause-within g c = λ command names none.
+    let read = same c.in-Some.command command (c.in-Some.ensures.complete command names) in
+    subst (λ (bytes : List ℕ). length bytes ≤ 2 ^ 30) (sym (ap (λ r. r.bytes.now) c.empty_report-in-Err-OutOfMemory.ensures ∙ c.as_slice-bytes.ensures.value))
+    (c.fill_store-outcome.ensures.within (subst (λ (d : Command). IsNone d.generate) read none))
 
 pub returns-in-Err-OutOfMemory-clause-made : goal.returns-in-Err-OutOfMemory-clause-made
 returns-in-Err-OutOfMemory-clause-made g c = λ command names some.
