@@ -11,7 +11,7 @@ use Rattle.entity_map.specs.Secondary.{Defaulted, value_at, written, with_value}
 use Rattle.wasm_index.specs.declared.index.Index.{Index}
 use Rattle.wasm_index.specs.declared.spaces.RuntimeDataSpace.{RuntimeDataSpace}
 use Rattle.wasm_index.specs.Index.{number_of, index_of}
-use Rattle.init_plan.specs.Views.{FindsRuntime}
+use Rattle.init_plan.specs.Views.{FindsRuntime, FindsFrom}
 
 -- what holds of a list's values holds of the value of each element
 pub All-read_map : {X Y : Type 0} (f : X → Y) (P : Y → Type 0) (xs : List X) (i : ℕ) (d : X) → i < length xs → All P (map f xs)
@@ -102,3 +102,16 @@ pub entered-found : (before : List (List ℕ)) (n : ℕ) (m : RuntimeDataMap) (p
     → All (IsFoundIn (before ++ map (λ p. p.1) ps) (entered n m (map (λ p. p.0) ps))) ps
 entered-found before n m ps at distinct = All-from_recursion (IsFoundIn (before ++ map (λ p. p.1) ps) (entered n m (map (λ p. p.0) ps))) ps
     (each-found before n m ps at distinct)
+
+-- ---- segments at the numbers from n on
+
+-- the segments are found at these numbers, in order
+pub entered-in_order : (n : ℕ) (m : RuntimeDataMap) (ps : List (ℕ × List ℕ)) → IsDistinct nat_eq (map (λ p. p.0) ps)
+    → FindsFrom (λ k. option_map number_of (value_at (entered n m (map (λ p. p.0) ps)) k)) n ps
+entered-in_order n m [] distinct = tt
+entered-in_order n m (p ∷ ps) distinct =
+    let ks : List ℕ = map (λ p. p.0) ps in
+    let m' : RuntimeDataMap = with_value m p.0 (Some (index_of n)) in
+    let entry : value_at (entered (n + 1) m' ks) p.0 ≡ Some (index_of n) = entered-apart (n + 1) m' ks p.0 (IsDistinct-head nat_eq p.0 ks distinct)
+    ∙ value_at-with_value m p.0 (Some (index_of n)) in
+    (ap (option_map number_of) entry, entered-in_order (n + 1) m' ps (IsDistinct-tail nat_eq p.0 ks distinct))

@@ -5,7 +5,7 @@ ghost use Rattle.std.specs.Int.{IsPowerOfTwo};
 ghost use Rattle.replay_spec.specs.Plan.{MemoryPlan, AgreesOver, ranges_from};
 ghost use Rattle.replay_spec.specs.Images.{IsMemoryPlan};
 ghost use Rattle.memory_images.specs.Images.{images_of as images_seen};
-ghost use Rattle.init_plan.specs.Views.{memory_plan_of, initializers_of, passive_data_of, defined_sizes, ranges_of, total_bytes, passive_bytes, FindsData, OnlyMemoriesChange, IsUnprocessed, IsProcessed, active_segment_of, SameButSegments};
+ghost use Rattle.init_plan.specs.Views.{memory_plan_of, initializers_of, passive_data_of, defined_sizes, ranges_of, total_bytes, passive_bytes, FindsData, FindsInOrder, OnlyMemoriesChange, IsUnprocessed, IsProcessed, active_segment_of, SameButSegments};
 ghost use Rattle.init_plan.specs.Images.{image_options, image_memories, BeginsByRule, BeginsAsImages, KeepsSegments, Begins};
 ghost use Rattle.init_plan.specs.Ready.{MemoryHalfIsReady};
 
@@ -48,8 +48,9 @@ impl<'d> ModuleTranslation<'d> {
         // Runtime data stand end to end from 0.
         ensures ranges { OnOk result (ranges_of self.new.module ≡ ranges_from 0 (map length (memory_plan_of self.new).runtime)) }
 
-        // Each passive segment is found with its bytes, and no other.
+        // Each passive segment is found with its bytes, in order behind the other runtime data, and no other is found.
         ensures found { OnOk result (All (FindsData (memory_plan_of self.new)) (passive_data_of self.old)) }
+        ensures in_order { OnOk result (FindsInOrder (memory_plan_of self.new) (passive_data_of self.old)) }
         ensures others { OnOk result ((index : ℕ) → ¬ Contains (map (λ p. p.0) (passive_data_of self.old)) index →
             (memory_plan_of self.new).passive index ≡ None) }
 

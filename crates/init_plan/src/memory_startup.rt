@@ -1,6 +1,6 @@
 //! Startup, where the memories are planned.
 
-ghost use Rattle.std.specs.Prelude.{◌≡◌, ◌⊎◌, ◌↔◌, ◌<◌, ◌≤◌, ◌^◌, ℕ, length, map, sum_by, false, true, is_none, IsTrue, All, Contains, Err, None, OnOk};
+ghost use Rattle.std.specs.Prelude.{◌≡◌, ◌⊎◌, ◌↔◌, ◌<◌, ◌≤◌, ◌^◌, ℕ, length, map, sum_by, false, true, is_none, IsTrue, All, Contains, Err, None, OnOk, OnErr};
 ghost use Rattle.std.specs.List.{list_all, filter_map};
 ghost use Rattle.module_types.specs.Builder.{shown, starts};
 ghost use Rattle.replay_spec.specs.Startup.{is_empty, raised_by_memories};
@@ -11,7 +11,7 @@ ghost use Rattle.replay_spec.specs.Images.{IsMemoryPlan};
 ghost use Rattle.init_plan.specs.Images.{image_options, image_memories, BeginsByRule, HasTightImages, HasWholeRanges};
 ghost use Rattle.init_plan.specs.Tables.{TableHalfIsReady};
 ghost use Rattle.init_plan.specs.Ready.{MemoryHalfIsReady};
-ghost use Rattle.init_plan.specs.Views.{memory_plan_of, images_of, processed_of, IsPlace, initializers_of, passive_data_of, passive_bytes, defined_sizes, ranges_of, FindsData, IsProcessed, OnlyMemoryInitChanges};
+ghost use Rattle.init_plan.specs.Views.{memory_plan_of, images_of, processed_of, IsPlace, initializers_of, passive_data_of, passive_bytes, defined_sizes, ranges_of, FindsData, FindsInOrder, IsProcessed, OnlyMemoryInitChanges};
 
 use crate::error::PlanError;
 use crate::translation::{MemoryInit, MemorySegmentOffset, ModuleTranslation};
@@ -58,8 +58,9 @@ impl ModuleTranslation<'_> {
         ensures ranges { OnOk result (ranges_of self.new.module ≡ ranges_from 0 (map length (memory_plan_of self.new).runtime)) }
         ensures whole_ranges { OnOk result (HasWholeRanges page_size (memory_plan_of self.new).images (ranges_of self.new.module)) }
 
-        // Each passive segment is found with its bytes, and no other.
+        // Each passive segment is found with its bytes, in order behind the other runtime data, and no other is found.
         ensures found { OnOk result (All (FindsData (memory_plan_of self.new)) (passive_data_of self.old)) }
+        ensures in_order { OnOk result (FindsInOrder (memory_plan_of self.new) (passive_data_of self.old)) }
         ensures others { OnOk result ((index : ℕ) → ¬ Contains (map (λ p. p.0) (passive_data_of self.old)) index →
             (memory_plan_of self.new).passive index ≡ None) }
 
@@ -84,6 +85,9 @@ impl ModuleTranslation<'_> {
         // Poisoned where the builder was, unless another refusal came before.
         ensures usable { OnOk result (types.old.is_poisoned ≡ false) }
         ensures poisoned { result ≡ Err PlanError.Poisoned → types.old.is_poisoned ≡ true }
+
+        // After an error the builder is as it was, or poisoned.
+        ensures refused { OnErr result ((types.new ≡ types.old) ⊎ (types.new.is_poisoned ≡ true)) }
     {
         // The plan asks nothing of the builder.
         match self.plan_memories(alloc, tunables, page_size, max_image) {
@@ -108,6 +112,7 @@ impl ModuleTranslation<'_> {
             OnOk result (shown types.new ≡ types_after kind self.old.module.startup (shown types.old)) }
         ensures usable { OnOk result (types.old.is_poisoned ≡ false) }
         ensures poisoned { result ≡ Err BuildError.Poisoned → types.old.is_poisoned ≡ true }
+        ensures err { OnErr result (types.new.is_poisoned ≡ true) }
     {
         if !keeps_none(&self.memory_init) {
             return self.require_startup_func(types);

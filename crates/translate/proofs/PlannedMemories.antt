@@ -6,7 +6,7 @@ use Rattle.replay_spec.specs.Data.{ActiveSegment, active_segments}
 use Rattle.replay_spec.specs.Images.{ImageMemory, image_memory_of, IsStatic, IsMemoryPlan}
 use Rattle.replay_spec.specs.Plan.{MemoryPlan, ranges_from}
 use Rattle.init_plan.specs.declared.translation.ModuleTranslation.{ModuleTranslation}
-use Rattle.init_plan.specs.Views.{initializers_of, passive_data_of, memory_plan_of, ranges_of, FindsData, IsProcessed}
+use Rattle.init_plan.specs.Views.{initializers_of, passive_data_of, memory_plan_of, ranges_of, FindsData, FindsInOrder, IsProcessed}
 use Rattle.init_plan.specs.Views as held
 use Rattle.init_plan.specs.Images.{image_memories, BeginsByRule, HasTightImages, HasWholeRanges}
 use Rattle.init_plan.specs.Held.{HoldsMemories}
@@ -39,6 +39,7 @@ pub record MemoriesTell (i : InitOptions) (old mid : ModuleTranslation) : Type 0
   pub ranges : ranges_of mid.module ≡ ranges_from 0 (map length (memory_plan_of mid).runtime)
   pub whole_ranges : HasWholeRanges i.page_size (memory_plan_of mid).images (ranges_of mid.module)
   pub found : All (FindsData (memory_plan_of mid)) (passive_data_of old)
+  pub in_order : FindsInOrder (memory_plan_of mid) (passive_data_of old)
   pub others : (index : ℕ) → ¬ Contains (map (λ p. p.0) (passive_data_of old)) index → (memory_plan_of mid).passive index ≡ None
   pub fits : sum_by length (memory_plan_of mid).runtime < 2 ^ 32
 
@@ -81,6 +82,7 @@ module _ (i : InitOptions) (m : Module) (old : ModuleTranslation) (has : HoldsDa
       passive = λ index. finds (memory_plan_of mid) (segments m) (subst (All (FindsData (memory_plan_of mid))) has.passive tell.found)
           (λ k none. tell.others k (subst (λ (ps : List (ℕ × List ℕ)). ¬ Contains (map (λ p. p.0) ps) k) (sym has.passive) none))
           index (slice_get (segments m) index) refl;
+      in_order = subst (FindsInOrder (memory_plan_of mid)) has.passive tell.in_order;
     }
 
     -- the plan of the tables keeps it

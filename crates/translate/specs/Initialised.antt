@@ -8,13 +8,14 @@ use Rattle.replay_spec.specs.Images.{image_memory_of}
 use Rattle.replay_spec.specs.Plan.{MemoryPlan, ranges_from, FindsPassive}
 use Rattle.module_types.specs.Builder.{Kept, shown}
 use Rattle.init_plan.specs.declared.translation.ModuleTranslation.{ModuleTranslation}
-use Rattle.init_plan.specs.Views.{memory_plan_of, ranges_of, IsSegmented, IsProcessed}
+use Rattle.init_plan.specs.Views.{memory_plan_of, ranges_of, IsSegmented, IsProcessed, FindsInOrder}
 use Rattle.init_plan.specs.Images.{HasTightImages, HasWholeRanges}
 use Rattle.table_images.specs.Left.{IsLeft}
 use Rattle.init_plan.specs.Tables.{plan_of_tables, AreCounted}
 use Rattle.init_plan.specs.Held.{plan_of_globals}
 use Rattle.init_plan.specs.Agreement.{AgreesInAll}
 use Rattle.init_plan.specs.Startup.{startup_with}
+use Rattle.module_environ.specs.Initialisers.{passive_data_from}
 use Rattle.module_environ.specs.Readable.{IsReadable}
 use Rattle.module_environ.specs.Translation.{IsTranslation}
 use Rattle.module_environ.specs.Types.{interned_list, type_index}
@@ -65,6 +66,8 @@ pub record InitialisesMemories (i : InitOptions) (m : Module) (t : ModuleTransla
   pub whole_ranges : HasWholeRanges i.page_size (memory_plan_of t).images (ranges_of t.module)
   pub fits : sum_by length (memory_plan_of t).runtime < 2 ^ 32
   pub passive : (index : ℕ) → Finds (memory_plan_of t) ((memory_plan_of t).passive index) (slice_get (segments m) index)
+  -- the passive segments are found behind the other runtime data, in order
+  pub in_order : FindsInOrder (memory_plan_of t) (passive_data_from 0 (segments m))
 
 -- the translation of the module, planned
 pub record IsInitialised (i : InitOptions) (bytes : List ℕ) (m : Module) (t : ModuleTranslation) : Type 0 where

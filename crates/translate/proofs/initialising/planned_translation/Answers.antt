@@ -124,6 +124,7 @@ returns-clause-initialised c =
         ranges = m.ranges;
         whole_ranges = m.whole_ranges;
         found = m.found;
+        in_order = m.in_order;
         others = m.others;
         fits = m.fits;
       };

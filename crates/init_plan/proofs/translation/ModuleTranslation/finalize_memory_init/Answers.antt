@@ -2,7 +2,7 @@ use Rattle.std.proofs.Common.{sym, subst}
 use Rattle.replay_spec.specs.Plan.{AgreesOver}
 use Rattle.init_plan.specs.declared.translation.ModuleTranslation.{ModuleTranslation}
 use Rattle.init_plan.specs.Images.{image_options, image_memories, BeginsByRule, HasWholeRanges}
-use Rattle.init_plan.specs.Views.{memory_plan_of, ranges_of, initializers_of, passive_bytes, defined_sizes}
+use Rattle.init_plan.specs.Views.{memory_plan_of, ranges_of, initializers_of, passive_bytes, defined_sizes, FindsInOrder, passive_data_of}
 use Rattle.init_plan.proofs.MemoriesKept.{are-tight, memories-frame}
 use Rattle.init_plan.proofs.WholeRanges.{fits_both, whole_ranges}
 use Rattle.init_plan.proofs.OtherHalf.{TableHalfIsReady-same}
@@ -44,3 +44,7 @@ returns-in_err-raise_startup_by_memories-clause-large c = λ plan is large.
     let old = c.args.self.now in
     absurd (fits_both (image_options c.args.tunables.now c.args.page_size c.args.max_image) old.module.num_imported_memories (image_memories old.module)
     (initializers_of old) (passive_bytes old) _ plan (rw c.in-Ok.is at c.plan_memories.ensures.planned) is (rw c.in-Ok.is at c.plan_memories.ensures.fits) large)
+
+pub returns-clause-in_order : goal.returns-clause-in_order
+returns-clause-in_order c =
+    subst (λ t. FindsInOrder (memory_plan_of t) (passive_data_of c.args.self.now)) (sym c.in_ok-raise_startup_by_memories.ensures.ok) c.in-Ok.ensures.in_order

@@ -1,4 +1,4 @@
-use Rattle.std.proofs.Common.{◌≡◌, ◌≤◌, ◌+◌, ◌++◌, ℕ, List, [], length, map, Option, sym, ◌∙◌, ap, subst, arith, length-append}
+use Rattle.std.proofs.Common.{◌≡◌, ◌≤◌, ◌+◌, ◌-◌, ◌++◌, ℕ, List, [], length, map, Option, sym, ◌∙◌, ap, subst, arith, length-append}
 use Rattle.std.proofs.lemmas.List.{length-map}
 use Rattle.std.specs.Option.{option_map}
 use Rattle.entity_map.specs.Secondary.{value_at}
@@ -8,7 +8,7 @@ use Rattle.replay_spec.specs.Data.{ActiveSegment}
 use Rattle.replay_spec.specs.Plan.{MemoryPlan}
 use Rattle.replay_spec.specs.Images.{ImageOptions, IsMemoryPlan}
 use Rattle.init_plan.specs.declared.translation.ModuleTranslation.{ModuleTranslation}
-use Rattle.init_plan.specs.Views.{initializers_of, active_segment_of, passive_segment_of, passive_data_of, passive_bytes, bytes_of, defined_sizes, images_of, processed_of, IsSegmented}
+use Rattle.init_plan.specs.Views.{initializers_of, active_segment_of, passive_segment_of, passive_data_of, passive_bytes, bytes_of, defined_sizes, images_of, processed_of, IsSegmented, FindsFrom}
 use Rattle.init_plan.specs.Images.{image_options, image_memories}
 use Rattle.init_plan.proofs.Planning.{planned, same_passive, agrees_sized}
 use Rattle.init_plan.proofs.translation.ModuleTranslation.plan_memories.Goals as goal
@@ -67,3 +67,23 @@ ranges_end_to_end-requires-clause-few c =
     let few : length kept ≡ length mid.runtime_data = length-map mid.runtime_data bytes_of in
     let few_passive : length (passive_bytes old) ≡ length (passive_data_of old) = length-map (passive_data_of old) (λ p. p.1) in
     omega (arith, long, few, few_passive, c.in_ok-begin_memories.ensures.few, c.requires.ready.few_passive)
+
+-- so many runtime data stand before those of the passive segments as the memories have
+pub returns-clause-in_order : goal.returns-clause-in_order
+returns-clause-in_order c =
+    let old : ModuleTranslation = c.args.self.now in
+    let mid : ModuleTranslation = c.begin_memories.new.self in
+    let stands = same_passive c.args.page_size c.in_ok-images.images (map active_segment_of c.take_segments-segments.result.items) c.take_segments-segments.new.self mid
+    c.in_ok-begin_memories.ensures.begins ∙ ap (λ (t : ModuleTranslation). t.hidden.passive_data) c.take_segments-segments.ensures.rest in
+    let segments = c.deref-3.ensures.value ∙ ap (λ v. v.items) stands in
+    let kept : List (List ℕ) = map bytes_of mid.runtime_data in
+    let runtime : List (List ℕ) = map bytes_of c.keep_passive.new.runtime_data in
+    let is_runtime : runtime ≡ kept ++ passive_bytes old = c.in_ok-keep_passive.ensures.runtime
+    ∙ ap (λ ps. kept ++ map (λ p. p.1) (map passive_segment_of ps)) segments in
+    let long : length runtime ≡ length kept + length (passive_bytes old) = ap length is_runtime ∙ length-append kept (passive_bytes old) in
+    let few : length kept ≡ length mid.runtime_data = length-map mid.runtime_data bytes_of in
+    let few_passive : length (passive_bytes old) ≡ length (passive_data_of old) = length-map (passive_data_of old) (λ p. p.1) in
+    let start : length mid.runtime_data ≡ length runtime - length (passive_data_of old) = omega (arith, long, few, few_passive) in
+    let found : ℕ → Option ℕ = λ index. option_map number_of (value_at c.keep_passive.new.found index) in
+    subst (λ (n : ℕ). FindsFrom found n (passive_data_of old)) start
+    (subst (λ ps. FindsFrom found (length mid.runtime_data) (map passive_segment_of ps)) segments c.in_ok-keep_passive.ensures.in_order)
