@@ -208,6 +208,16 @@ fn kinds_match_by_their_bits(rt: HostRuntime) {
     ] {
         assert_eq!(rt; kind.matches(other), matches);
     }
+    for (kind, number) in [
+        (ExternRef, 0x4000_0000),
+        (AnyRef, 0x8000_0000),
+        (EqRef, 0xA000_0000),
+        (ArrayRef, 0xA800_0000),
+        (StructRef, 0xB000_0000),
+        (ExnRef, 0x0400_0000u32),
+    ] {
+        assert_eq!(rt; kind.as_u32(), number);
+    }
     assert_eq!(rt; VMGcKind::from_high_bits_of_u32(0x0F0F_0F0F), None);
     assert_eq!(rt;
         VMGcKind::from_high_bits_of_u32(0xB000_0003),

@@ -37,10 +37,12 @@ fn function_is_called_by_itself(rt: HostRuntime) -> Result<(), Fail> {
 #[test]
 fn startup_type_is_made_once(rt: HostRuntime) -> Result<(), Fail> {
     let mut builder = ModuleTypesBuilder::new(rt.alloc(), &Validator::new(7));
+    builder.reserve_wasm_signatures(3)?;
     let first = builder.startup_func_type()?;
     assert_eq!(rt; first.as_u32(), 0);
     let again = builder.startup_func_type()?;
     assert_eq!(rt; again.as_u32(), 0);
+    assert_eq!(rt; builder.find_resource_drop_signature(), None);
     Ok(())
 }
 

@@ -25,7 +25,7 @@ const FINAL_OR_NOT: [u8; 14] = [
 ];
 
 /// A function of itself.
-const OF_ITSELF: [u8; 8] = [0x01, 0x06, 0x01, 0x60, 0x01, 0x64, 0x00, 0x00];
+pub(crate) const OF_ITSELF: [u8; 8] = [0x01, 0x06, 0x01, 0x60, 0x01, 0x64, 0x00, 0x00];
 
 /// Two groups whose members name each other, and one whose members name themselves.
 const RINGS: [u8; 39] = [
@@ -91,7 +91,7 @@ fn interned(
 }
 
 /// The interned types of the module of these sections.
-fn list(alloc: Global, sections: &[u8]) -> Result<(Vec<u32>, ModuleTypes), Fail> {
+pub(crate) fn list(alloc: Global, sections: &[u8]) -> Result<(Vec<u32>, ModuleTypes), Fail> {
     let mut builder = ModuleTypesBuilder::new(alloc, &Validator::new(7));
     let indices = interned(alloc, sections, &mut builder)?;
     Ok((indices, builder.finish()))
@@ -149,7 +149,7 @@ fn rings_share_a_trampoline(rt: HostRuntime) -> Result<(), Fail> {
     Ok(())
 }
 
-/// Whether two modules have equal lists of types.
+/// Whether two modules have equal lists of types, in equal groups and with equal trampolines.
 fn are_listed_alike(alloc: Global, one: &[u8], other: &[u8]) -> Result<bool, Fail> {
     let (_, one) = list(alloc, one)?;
     let (_, other) = list(alloc, other)?;
@@ -158,7 +158,11 @@ fn are_listed_alike(alloc: Global, one: &[u8], other: &[u8]) -> Result<bool, Fai
             return Ok(false);
         }
     }
-    Ok(one.len_types() == other.len_types() && groups(alloc, &one)? == groups(alloc, &other)?)
+    Ok(
+        one.len_types() == other.len_types()
+            && groups(alloc, &one)? == groups(alloc, &other)?
+            && trampolines(alloc, &one)? == trampolines(alloc, &other)?,
+    )
 }
 
 #[test]

@@ -82,7 +82,7 @@ fn each_kind_has_its_line(rt: HostRuntime) -> Result<(), Fail> {
 #[test]
 fn one_line_more(rt: HostRuntime) -> Result<(), Fail> {
     let rows = [
-        // The layout of an array.
+        // The layout of an array of numbers.
         Row {
             words: &["plan"],
             sections: &[0x01, 0x04, 0x01, 0x5E, 0x7F, 0x01],
@@ -99,6 +99,26 @@ fn one_line_more(rt: HostRuntime) -> Result<(), Fail> {
                     memory-init segmented\n\
                     startup none\n\
                     layout 0 array base 28 align 8 element 4 refs no\n",
+            regions: [0, 0, 0, 0, 0, 0, 0, 0, 0, 0, 0, 0, 0, 0, 48],
+            context: 48,
+        },
+        // The layout of an array of references.
+        Row {
+            words: &["plan"],
+            sections: &[0x01, 0x04, 0x01, 0x5E, 0x6E, 0x00],
+            lines: "types 1\n\
+                    type 0 (array (ref null any))\n\
+                    group 0 0 1\n\
+                    declared 0 0\n\
+                    functions 0 0\n\
+                    tables 0 0\n\
+                    memories 0 0\n\
+                    globals 0 0\n\
+                    tags 0 0\n\
+                    gc-heap no\n\
+                    memory-init segmented\n\
+                    startup none\n\
+                    layout 0 array base 28 align 8 element 4 refs yes\n",
             regions: [0, 0, 0, 0, 0, 0, 0, 0, 0, 0, 0, 0, 0, 0, 48],
             context: 48,
         },
@@ -125,6 +145,28 @@ fn one_line_more(rt: HostRuntime) -> Result<(), Fail> {
                     layout 1 exn size 48 align 16 fields 16 32\n",
             regions: [0, 0, 0, 0, 8, 0, 0, 0, 0, 0, 0, 0, 0, 0, 48],
             context: 56,
+        },
+        // A function that nothing names does not escape.
+        Row {
+            words: &["plan"],
+            sections: &[
+                0x01, 0x04, 0x01, 0x60, 0x00, 0x00, 0x03, 0x02, 0x01, 0x00, 0x0A, 0x04, 0x01, 0x02,
+                0x00, 0x0B,
+            ],
+            lines: "types 1\n\
+                    type 0 (func) trampoline 0\n\
+                    group 0 0 1\n\
+                    declared 0 0\n\
+                    functions 0 1\n\
+                    tables 0 0\n\
+                    memories 0 0\n\
+                    globals 0 0\n\
+                    tags 0 0\n\
+                    gc-heap no\n\
+                    memory-init segmented\n\
+                    startup none\n",
+            regions: [0, 0, 0, 0, 0, 0, 0, 0, 0, 0, 0, 0, 0, 0, 48],
+            context: 48,
         },
         // For a debugger of the program each function escapes.
         Row {

@@ -12,6 +12,8 @@ mod images;
 #[cfg(test)]
 mod kinds;
 #[cfg(test)]
+mod many_types;
+#[cfg(test)]
 mod memories;
 #[cfg(test)]
 mod names;

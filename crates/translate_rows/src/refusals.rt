@@ -133,7 +133,7 @@ fn refused_modules(rt: HostRuntime) -> Result<(), Fail> {
             ],
             "refused unsupported operator\n",
         ),
-        // A maximum of 33 bits.
+        // A count in six bytes.
         (
             &[0x05, 0x08, 0x81, 0x80, 0x80, 0x80, 0x80, 0x00, 0x00, 0x01],
             "refused malformed\n",
@@ -152,7 +152,7 @@ fn malformed_modules(rt: HostRuntime) -> Result<(), Fail> {
     let cases: [&[u8]; 8] = [
         // A vector that claims more types than there are bytes.
         &[0x01, 0x05, 0xFF, 0xFF, 0xFF, 0xFF, 0x0F],
-        // A section that claims 2 ^ 32 bytes.
+        // A count of 2 ^ 32 in a section of five bytes.
         &[0x05, 0x05, 0x80, 0x80, 0x80, 0x80, 0x10],
         // An offset of 33 bits.
         &[
@@ -169,7 +169,7 @@ fn malformed_modules(rt: HostRuntime) -> Result<(), Fail> {
         &[0x0B, 0x01, 0x00, 0x05, 0x03, 0x01, 0x00, 0x01],
         // A section that comes twice.
         &[0x05, 0x03, 0x01, 0x00, 0x01, 0x05, 0x03, 0x01, 0x00, 0x01],
-        // A custom section whose name ends outside it.
+        // A custom section whose name is no text.
         &[0x00, 0x02, 0x01, 0xFF],
     ];
     for sections in cases {

@@ -50,6 +50,65 @@ fn globals_have_values_or_expressions(rt: HostRuntime) -> Result<(), Fail> {
             regions: [0, 0, 0, 0, 0, 16, 0, 0, 0, 0, 0, 0, 0, 0, 48],
             context: 64,
         },
+        // A float of 32 bits, by its bits.
+        Row {
+            words: &["plan"],
+            sections: &[
+                0x06, 0x09, 0x01, 0x7D, 0x00, 0x43, 0x00, 0x00, 0xC0, 0x3F, 0x0B,
+            ],
+            lines: "types 0\n\
+                    functions 0 0\n\
+                    tables 0 0\n\
+                    memories 0 0\n\
+                    globals 0 1\n\
+                    tags 0 0\n\
+                    gc-heap no\n\
+                    global 0 f32.const 0x3fc00000\n\
+                    memory-init segmented\n\
+                    startup none\n",
+            regions: [0, 0, 0, 0, 0, 16, 0, 0, 0, 0, 0, 0, 0, 0, 48],
+            context: 64,
+        },
+        // A float of 64 bits.
+        Row {
+            words: &["plan"],
+            sections: &[
+                0x06, 0x0D, 0x01, 0x7C, 0x00, 0x44, 0x00, 0x00, 0x00, 0x00, 0x00, 0x00, 0xF8, 0x3F,
+                0x0B,
+            ],
+            lines: "types 0\n\
+                    functions 0 0\n\
+                    tables 0 0\n\
+                    memories 0 0\n\
+                    globals 0 1\n\
+                    tags 0 0\n\
+                    gc-heap no\n\
+                    global 0 f64.const 0x3ff8000000000000\n\
+                    memory-init segmented\n\
+                    startup none\n",
+            regions: [0, 0, 0, 0, 0, 16, 0, 0, 0, 0, 0, 0, 0, 0, 48],
+            context: 64,
+        },
+        // A vector, whose first byte is its lowest.
+        Row {
+            words: &["plan"],
+            sections: &[
+                0x06, 0x16, 0x01, 0x7B, 0x00, 0xFD, 0x0C, 0x00, 0x01, 0x02, 0x03, 0x04, 0x05, 0x06,
+                0x07, 0x08, 0x09, 0x0A, 0x0B, 0x0C, 0x0D, 0x0E, 0x0F, 0x0B,
+            ],
+            lines: "types 0\n\
+                    functions 0 0\n\
+                    tables 0 0\n\
+                    memories 0 0\n\
+                    globals 0 1\n\
+                    tags 0 0\n\
+                    gc-heap no\n\
+                    global 0 v128.const 0x0f0e0d0c0b0a09080706050403020100\n\
+                    memory-init segmented\n\
+                    startup none\n",
+            regions: [0, 0, 0, 0, 0, 16, 0, 0, 0, 0, 0, 0, 0, 0, 48],
+            context: 64,
+        },
         // Sixteen values on the stack ..
         Row {
             words: &["plan"],

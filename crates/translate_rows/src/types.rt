@@ -52,6 +52,32 @@ fn equal_types_have_one_index(rt: HostRuntime) -> Result<(), Fail> {
             regions: [0, 0, 0, 0, 0, 0, 0, 0, 0, 0, 0, 0, 0, 0, 48],
             context: 48,
         },
+        // A declared type that equals this trampoline has an index of its own, behind it.
+        Row {
+            words: &["plan"],
+            sections: &[
+                0x01, 0x0A, 0x02, 0x60, 0x01, 0x64, 0x00, 0x00, 0x60, 0x01, 0x70, 0x00,
+            ],
+            lines: "types 3\n\
+                    type 0 (func (param (ref func (module 0)))) trampoline 1\n\
+                    type 1 (func (param funcref)) trampoline 1\n\
+                    type 2 (func (param funcref)) trampoline 1\n\
+                    group 0 0 1\n\
+                    group 1 1 2\n\
+                    group 2 2 3\n\
+                    declared 0 0\n\
+                    declared 1 2\n\
+                    functions 0 0\n\
+                    tables 0 0\n\
+                    memories 0 0\n\
+                    globals 0 0\n\
+                    tags 0 0\n\
+                    gc-heap no\n\
+                    memory-init segmented\n\
+                    startup none\n",
+            regions: [0, 0, 0, 0, 0, 0, 0, 0, 0, 0, 0, 0, 0, 0, 48],
+            context: 48,
+        },
         // The exception of a tag, and its layout.
         Row {
             words: &["plan"],

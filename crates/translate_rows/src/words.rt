@@ -82,6 +82,14 @@ fn values_of_options(rt: HostRuntime) -> Result<(), Fail> {
         ..PLAIN
     };
     assert_eq!(rt; longest, Some(want));
+    let defaults = command_of(rt.alloc(), "plan --ptr=8 --gc=drc")?;
+    assert_eq!(rt; defaults, Some(PLAIN));
+    let any_image = command_of(rt.alloc(), "plan --max-image=18446744073709551615")?;
+    let want = Command {
+        max_image: 18_446_744_073_709_551_615,
+        ..PLAIN
+    };
+    assert_eq!(rt; any_image, Some(want));
     Ok(())
 }
 

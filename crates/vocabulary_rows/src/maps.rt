@@ -17,6 +17,8 @@ fn list_with_room_takes_two_values(rt: HostRuntime) -> Result<(), Fail> {
     assert!(rt; !sizes.is_empty());
     assert!(rt; sizes.is_valid(MemoryIndex::from_u32(1)));
     assert!(rt; !sizes.is_valid(MemoryIndex::from_u32(2)));
+    let values: Vec<u32> = sizes.values().copied().collect(rt.alloc())?;
+    assert_eq!(rt; values.as_slice(), [7, 8].as_slice());
     Ok(())
 }
 

@@ -100,6 +100,7 @@ fn copies_equal_their_sources(rt: HostRuntime) -> Result<(), Fail> {
         },
     };
     let copy = wrapped.try_clone(rt.alloc())?;
+    assert!(rt; copy == wrapped);
     shows(
         &rt,
         rt.alloc(),
@@ -110,10 +111,14 @@ fn copies_equal_their_sources(rt: HostRuntime) -> Result<(), Fail> {
         func_ty: module_type(3),
         fields: Vec::from_slice(rt.alloc(), &[CONST_I64])?,
     };
-    let copy = WasmCompositeInnerType::Exn(exn).try_clone(rt.alloc())?;
+    let exn = WasmCompositeInnerType::Exn(exn);
+    let copy = exn.try_clone(rt.alloc())?;
+    assert!(rt; copy == exn);
     shows(&rt, rt.alloc(), &copy, "(exn ((module 3)) i64)")?;
     let fields = Vec::from_slice(rt.alloc(), &[MUTABLE_I8, CONST_I64])?;
-    let copy = WasmStructType { fields }.try_clone(rt.alloc())?;
+    let pair = WasmStructType { fields };
+    let copy = pair.try_clone(rt.alloc())?;
+    assert!(rt; copy == pair);
     assert_eq!(rt; copy.fields.as_slice(), [MUTABLE_I8, CONST_I64].as_slice());
     Ok(())
 }

@@ -39,6 +39,20 @@ fn reference(number: u32) -> WasmValType
     WasmValType::Ref(reference_type(number))
 }
 
+// Two references to functions, of the types 0 and 1, which must not be null.
+fn two_functions() -> [WasmValType; 2] {
+    [function_reference(0), function_reference(1)]
+}
+
+fn function_reference(number: u32) -> WasmValType
+    requires { number < u32.MAX }
+{
+    WasmValType::Ref(WasmRefType {
+        nullable: false,
+        heap_type: WasmHeapType::ConcreteFunc(module_type(number)),
+    })
+}
+
 // The edges of a value, in the order in which they are visited.
 fn visited<T: TypeTrace>(
     alloc: Heap,
@@ -54,11 +68,11 @@ fn visited<T: TypeTrace>(
 
 #[test]
 fn visit_stops_at_the_second_edge(rt: HostRuntime) -> Result<(), Fail> {
-    let func = WasmFuncType::new(rt.alloc(), &[reference(1)], &[reference(2), reference(3)])?;
+    let func = WasmFuncType::new(rt.alloc(), &two_functions(), &[])?;
     let mut visits = 0u32;
     let answer = func.trace(&mut |edge| {
         visits = visits.saturating_add(1);
-        if edge == module_type(2) {
+        if edge == module_type(1) {
             Err("stopped")
         } else {
             Ok(())
@@ -71,17 +85,18 @@ fn visit_stops_at_the_second_edge(rt: HostRuntime) -> Result<(), Fail> {
 
 #[test]
 fn stop_leaves_the_first_rewritten(rt: HostRuntime) -> Result<(), Fail> {
-    let mut func = WasmFuncType::new(rt.alloc(), &[reference(1)], &[reference(2)])?;
+    let mut func = WasmFuncType::new(rt.alloc(), &two_functions(), &[])?;
     let answer = func.trace_mut(&mut |edge: &mut EngineOrModuleTypeIndex| {
-        if *edge == module_type(2) {
+        if *edge == module_type(1) {
             return Err(());
         }
-        *edge = module_type(7);
+        *edge = module_type(9);
         Ok(())
     });
     assert!(rt; answer.is_err());
-    assert_eq!(rt; func.params(), [reference(7)].as_slice());
-    assert_eq!(rt; func.results(), [reference(2)].as_slice());
+    let left = [function_reference(9), function_reference(1)];
+    assert_eq!(rt; func.params(), left.as_slice());
+    assert_eq!(rt; func.results().len(), 0);
     Ok(())
 }
 

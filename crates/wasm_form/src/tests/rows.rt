@@ -24,7 +24,7 @@ fn reads_or_refuses_each_row(rt: HostRuntime) -> Result<(), Fail> {
     let supertypes = Some(ReadError::Unsupported(What::Supertypes));
     let operator = Some(ReadError::Unsupported(What::Operator));
     let exact = Some(ReadError::Unsupported(What::ExactImport));
-    let cases: [(&str, u8, &[u8], Option<ReadError>); 58] = [
+    let cases: [(&str, u8, &[u8], Option<ReadError>); 60] = [
         ("a function type", 1, &[1, 0x60, 1, 0x7F, 1, 0x7E], None),
         (
             "each number and vector type",
@@ -141,6 +141,7 @@ fn reads_or_refuses_each_row(rt: HostRuntime) -> Result<(), Fail> {
             bad,
         ),
         ("a shared table", 4, &[1, 0x70, 3, 1, 2], bad),
+        ("a table of shared references", 4, &[1, 0x65, 0, 1], bad),
         ("table flags past 7", 4, &[1, 0x70, 8, 1], bad),
         ("tags", 13, &[2, 0, 0, 0, 1], None),
         ("no such tag", 13, &[1, 1, 0], bad),
@@ -181,6 +182,7 @@ fn reads_or_refuses_each_row(rt: HostRuntime) -> Result<(), Fail> {
         ("a start function and a byte", 8, &[0, 0], bad),
         ("an element segment of another kind", 9, &[1, 1, 1, 0], bad),
         ("an element segment of flag 8", 9, &[1, 8, 0x70, 0], bad),
+        ("elements that are shared", 9, &[1, 5, 0x65, 0], bad),
         ("a count of data segments", 12, &[3], None),
         ("bodies", 10, &[2, 4, 1, 2, 0x7F, 0x0B, 2, 0, 0x0B], None),
         ("a body that is no code", 10, &[1, 3, 0, 0xFF, 0xFF], None),

@@ -1,0 +1,105 @@
+//! A plan of a hundred thousand types.
+
+use crate::bytes::HEADER;
+use command_words::Collector;
+use entity_map::EntityRef;
+use std::alloc::{AllocError, Global};
+use std::test::Fail;
+use translate::translate_module;
+use wasm_types::Tunables;
+
+const COUNT: u32 = 100_000;
+
+/// The head of the section of the types, and their number.
+const HEAD: [u8; 8] = [0x01, 0xE3, 0xF7, 0x98, 0x03, 0xA0, 0x8D, 0x06];
+
+/// No switch is on.
+const PLAIN: Tunables = Tunables {
+    debug_native: false,
+    debug_guest: false,
+    parse_wasm_debuginfo: false,
+    branch_hinting: false,
+    memory_init_cow: false,
+    table_lazy_init: false,
+    signals_based_traps: false,
+};
+
+/// A function type of 64 parameters, the last 17 of which tell its number: an i64 for each binary digit 1, the lowest first, and else an i32.
+fn push_type(bytes: &mut Vec<u8>, number: u32) -> Result<(), AllocError> {
+    bytes.extend_from_slice(&[0x60, 0x40])?;
+    for _ in 0..47 {
+        bytes.push(0x7F)?;
+    }
+    let mut rest = number;
+    for _ in 0..17 {
+        bytes.push(if rest % 2 == 1 { 0x7E } else { 0x7F })?;
+        rest /= 2;
+    }
+    bytes.push(0x00)?;
+    Ok(())
+}
+
+/// The module of so many types, no two of which are equal.
+fn many_types(alloc: Global) -> Result<Vec<u8>, AllocError> {
+    let mut bytes = Vec::with_capacity(alloc, 6_700_016)?;
+    bytes.extend_from_slice(&HEADER)?;
+    bytes.extend_from_slice(&HEAD)?;
+    for number in 0..COUNT {
+        push_type(&mut bytes, number)?;
+    }
+    Ok(bytes)
+}
+
+/// What of the plan is looked at.
+#[derive(Debug, PartialEq, Eq, Clone, Copy)]
+struct Told {
+    bytes: usize,
+    types: usize,
+    /// The interned type of the last type, and the trampoline of that.
+    last: Option<u32>,
+    trampoline: Option<u32>,
+}
+
+fn told(alloc: Global) -> Result<Told, Fail> {
+    let bytes = many_types(alloc)?;
+    let page_size = 4096u64.next_power_of_two();
+    let plan = translate_module(
+        alloc,
+        &PLAIN,
+        Collector::Drc,
+        8,
+        page_size,
+        1_048_576,
+        &bytes,
+    )?;
+    let mut last = None;
+    for (place, index) in plan.translation.module.types.values().enumerate() {
+        if place == 99_999 {
+            last = index.as_module_type_index().map(|index| index.as_u32());
+        }
+    }
+    let mut trampoline = None;
+    for (function, called) in plan.types.trampoline_types() {
+        if function.as_u32() == 99_999 {
+            trampoline = Some(called.as_u32());
+        }
+    }
+    Ok(Told {
+        bytes: bytes.len(),
+        types: plan.types.len_types(),
+        last,
+        trampoline,
+    })
+}
+
+#[test]
+fn types_are_found_without_a_walk_through_all(rt: HostRuntime) -> Result<(), Fail> {
+    let want = Told {
+        bytes: 6_700_016,
+        types: 100_000,
+        last: Some(99_999),
+        trampoline: Some(99_999),
+    };
+    assert_eq!(rt; told(rt.alloc())?, want);
+    Ok(())
+}
