@@ -30,6 +30,9 @@ pub returns-in_default-clause-complete : goal.returns-in_default-clause-complete
 returns-in_default-clause-complete g c = λ command input names is valid read written.
     let e = c.in_default.ensures.complete command names in absurd (cc)
 
+pub returns-in_default-clause-within : goal.returns-in_default-clause-within
+returns-in_default-clause-within g c = λ command names none. let e = c.in_default.ensures.complete command names in absurd (cc)
+
 pub returns-in-Ok-clause-usage : goal.returns-in-Ok-clause-usage
 returns-in-Ok-clause-usage g c = (
   λ wrong command names. no_usage c.answer.result.status c.answer.ensures.statuses wrong,
@@ -64,6 +67,12 @@ returns-in-Ok-clause-complete g c = λ command input names is valid no_read_fail
     subst (λ bytes. IsValid (options_of c.in-Some.command) bytes) taken (subst (λ (d : Command). IsValid (options_of d) input) read valid) in
     ends_well c.answer.result.status c.answer.ensures.statuses (c.answer.ensures.complete is_valid)
     (λ failed. no_write_failed (c.answer.ensures.write_failed failed))
+
+pub returns-in-Err-Failed-clause-within : goal.returns-in-Err-Failed-clause-within
+returns-in-Err-Failed-clause-within g c = λ command names none.
+    let read = same c.in-Some.command command (c.in-Some.ensures.complete command names) in
+    subst (λ (bytes : List ℕ). length bytes ≤ 2 ^ 30) (sym (ap (λ r. r.bytes.now) c.empty_report-in-Err-Failed.ensures ∙ c.as_slice-bytes.ensures.value))
+    (c.fill_store-outcome.ensures.within (subst (λ (d : Command). IsNone d.generate) read none))
 
 pub returns-in-Err-Failed-clause-made : goal.returns-in-Err-Failed-clause-made
 returns-in-Err-Failed-clause-made g c = λ command names some.
