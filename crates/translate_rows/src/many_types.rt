@@ -60,7 +60,7 @@ struct Told {
     trampoline: Option<u32>,
 }
 
-fn told(alloc: Global) -> Result<Told, Fail> {
+fn look_at_plan(alloc: Global) -> Result<Told, Fail> {
     let bytes = many_types(alloc)?;
     let page_size = 4096u64.next_power_of_two();
     let plan = translate_module(
@@ -100,6 +100,6 @@ fn types_are_found_without_a_walk_through_all(rt: HostRuntime) -> Result<(), Fai
         last: Some(99_999),
         trampoline: Some(99_999),
     };
-    assert_eq!(rt; told(rt.alloc())?, want);
+    assert_eq!(rt; look_at_plan(rt.alloc())?, want);
     Ok(())
 }
