@@ -1,7 +1,6 @@
 -- Maps whose keys are numbers, and the names that they keep.
-use Rattle.std.proofs.Common.{◌≡◌, ℕ, zero, suc, ◌+◌, ◌<◌, ◌≤◌, List, [], ◌∷◌, ◌++◌, map, take, get_or, length, Bool, true, false, cond, eqb, Option, Some, None, nat_eq, refl, sym, ap, ◌∙◌, arith, inl, inr, append_assoc}
+use Rattle.std.proofs.Common.{◌≡◌, ℕ, zero, suc, ◌+◌, ◌<◌, ◌≤◌, List, [], ◌∷◌, ◌++◌, map, take, get_or, length, Bool, cond, eqb, Option, Some, nat_eq, refl, sym, ap, ◌∙◌, arith, inl, inr, append_assoc}
 use Rattle.std.specs.Prelude.{nat_lt}
-use Rattle.std.specs.Borrow.{Bor}
 use Rattle.std.specs.BTreeMap.{BTreeMap, get, is_at}
 use Rattle.std.specs.Map.{lookup}
 use Rattle.std.specs.Option.{option_map}
@@ -11,7 +10,7 @@ use Rattle.std.proofs.lemmas.Bool.{cases_eq, cases_order, eq-eqb, ne_eqb, le-leb
 use Rattle.std.proofs.lemmas.List.{append-nil, map_more, reverse-append}
 use Rattle.std.proofs.lemmas.List.Elements.{filter-append}
 use Rattle.module_customs.specs.Kept.{last_at}
-use Rattle.module_customs.specs.Names.{Text, at_number, HasLast, AreLocals, below}
+use Rattle.module_customs.specs.Names.{Text, at_number, HasLast, below}
 
 eq_at : (k q : ℕ) → is_eq (nat_cmp k q) ≡ eqb k q
 eq_at k q = elim (cases_order k q) [

@@ -13,7 +13,6 @@ use Rattle.custom_sections.specs.HintReading.{hint_entry_at}
 use Rattle.custom_sections.specs.Reading.{taken}
 use Rattle.custom_sections.proofs.Takes.{read_from_taken}
 use Rattle.custom_sections.proofs.HintLaws.{section_read, section_spelled}
-use Rattle.wasm_spec.specs.Module as plain
 use Rattle.form_data.specs.declared.form.Payload.{Payload}
 use Rattle.form_data.specs.Views.{payload_of}
 use Rattle.module_customs.specs.Hints.{HintLists, hint_lists, last_or, module_hints}

@@ -8,6 +8,6 @@ use Rattle.module_customs.proofs.hints.last_hints.Goals as goal
 pub loop-payload-preserved : goal.loop-payload-preserved
 loop-payload-preserved c =
     let entries : Vec (ℕ × Vec Hint) → _ = λ all. map hint_entry_of all.items in
-    ap entries c.entries_after.ensures
+    ap entries c.entries_after-last.ensures
     ∙ hints-after c.deref-payload-items.result.now c.loop-payload.payload-index c.payload-item.result c.loop-payload-test.true c.payload-item.is
     entries c.loop-payload.last c.in_ok-section.section c.in_ok-section.ensures c.loop-payload.invariant

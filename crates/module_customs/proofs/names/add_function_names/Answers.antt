@@ -1,4 +1,4 @@
-use Rattle.std.proofs.Common.{◌≡◌, ◌+◌, ◌∷◌, [], ℕ, List, ◌++◌, map, take, get_or, Some, refl, sym, ap, ◌∙◌, subst}
+use Rattle.std.proofs.Common.{◌∷◌, [], ℕ, List, ◌++◌, map, take, get_or, Some, refl, sym, ap, ◌∙◌, subst}
 use Rattle.wasm_index.specs.Index.{number_of, index_of}
 use Rattle.custom_sections.specs.Views.{text_of}
 use Rattle.module_customs.specs.Names.{at_number, below, HasLast}

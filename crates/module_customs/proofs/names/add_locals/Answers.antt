@@ -1,4 +1,4 @@
-use Rattle.std.proofs.Common.{◌≡◌, ◌+◌, ◌<◌, ◌≤◌, ◌∷◌, [], ℕ, List, ◌++◌, length, map, take, get_or, refl, sym, ap, ◌∙◌, subst, arith}
+use Rattle.std.proofs.Common.{◌≡◌, ◌<◌, ◌≤◌, ◌∷◌, [], ℕ, List, ◌++◌, map, take, get_or, sym, ap, ◌∙◌, subst, arith}
 use Rattle.wasm_index.specs.Index.{number_of}
 use Rattle.custom_sections.specs.Views.{text_of, locals_of}
 use Rattle.module_customs.specs.Names.{below, HasLocals}

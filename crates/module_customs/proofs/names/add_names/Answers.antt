@@ -1,11 +1,10 @@
-use Rattle.std.proofs.Common.{◌≡◌, List, ◌++◌, ℕ, map, Option, Some, None, ap, subst, sym, ◌∙◌}
+use Rattle.std.proofs.Common.{◌≡◌, List, ◌++◌, ℕ, map, ap, subst, sym}
 use Rattle.std.specs.Option.{option_map, option_or}
-use Rattle.custom_sections.specs.NameReading.{NameLists, joined}
-use Rattle.custom_sections.specs.Views.{text_of, locals_of, names_of}
+use Rattle.custom_sections.specs.Views.{text_of, locals_of}
 use Rattle.init_plan.specs.declared.debug_info.NameSection.{NameSection}
 use Rattle.std.specs.Global.{Vec}
 use Rattle.wasm_index.specs.Index.{number_of}
-use Rattle.module_customs.specs.Names.{Text, at_number, below, names_below, HasLast, HasLocals, KeepsNames}
+use Rattle.module_customs.specs.Names.{Text, at_number, below, HasLast, HasLocals}
 use Rattle.module_customs.proofs.NamesInTurn.{on-ok, named-more, named-same}
 use Rattle.module_customs.proofs.names.add_names.Goals as goal
 use Rattle.module_customs.proofs.names.add_names.Goals.{in-Some, in_default}

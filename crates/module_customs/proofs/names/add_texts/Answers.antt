@@ -1,4 +1,4 @@
-use Rattle.std.proofs.Common.{◌+◌, ℕ, List, ◌++◌, map, take, get_or, Some, refl, sym, subst}
+use Rattle.std.proofs.Common.{ℕ, List, ◌++◌, map, take, get_or, Some, refl, sym, subst}
 use Rattle.custom_sections.specs.Views.{text_of}
 use Rattle.module_customs.specs.Names.{at_number, HasLast}
 use Rattle.module_customs.proofs.ByNumber.{written, last-more, texts-more}

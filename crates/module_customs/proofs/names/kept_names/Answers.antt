@@ -1,9 +1,8 @@
-use Rattle.std.proofs.Common.{◌+◌, ◌<◌, ◌^◌, [], ◌++◌, List, length, map, take, ap, subst, sym, arith}
+use Rattle.std.proofs.Common.{◌+◌, ◌<◌, ◌^◌, [], List, length, map, take, subst, sym, arith}
 use Rattle.wasm_spec.specs.Module as plain
 use Rattle.form_data.specs.declared.form.Payload.{Payload}
 use Rattle.form_data.specs.Views.{payload_of}
-use Rattle.custom_sections.specs.NameReading.{NameLists}
-use Rattle.module_customs.specs.Names.{names_after, KeepsNames}
+use Rattle.module_customs.specs.Names.{names_after}
 use Rattle.module_customs.proofs.NamesInTurn.{next-names, declared-more, declared-few}
 use Rattle.module_customs.proofs.names.kept_names.Goals as goal
 
