@@ -6,7 +6,7 @@ use Rattle.std.specs.Option.{option_map}
 use Rattle.wasm_spec.specs.Module as plain
 use Rattle.rule_spec.specs.Lists.{lists_of_module}
 use Rattle.wasm_types.specs.declared.tunables.Tunables.{Tunables}
-use Rattle.custom_sections.specs.Kept.{kept_hint}
+use Rattle.module_customs.specs.Kept.{kept_hint}
 use Rattle.custom_sections.specs.NameReading.{NameLists}
 use Rattle.module_customs.specs.Names.{module_names, KeepsNames}
 use Rattle.module_customs.specs.Hints.{HintLists, module_hints, branch_hint_of}
