@@ -1,5 +1,0 @@
-use Rattle.std.proofs.Common.{refl}
-use Rattle.layout_rows.proofs.objects.shared_layouts_tell_size_and_alignment.Goals as goal
-
-pub layout-requires : goal.layout-requires
-layout-requires g c = (4, refl)
