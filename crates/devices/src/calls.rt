@@ -8,7 +8,7 @@ use crate::device::Failed;
 use std::marker::Model;
 
 /// Counts the calls of a device, and fails those that are listed.
-#[derive(Debug, Drop)]
+#[derive(Drop)]
 pub struct Calls<'a> {
     failing: &'a [u64],
     made: u64,

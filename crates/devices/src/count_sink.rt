@@ -8,7 +8,7 @@ use std::marker::Model;
 
 /// Takes every byte, never fails, and keeps only how many it took. It means that number, which ends at
 /// `u64::MAX`.
-#[derive(Debug, Default, Drop)]
+#[derive(Default, Drop)]
 pub struct CountSink {
     total: u64,
 }

@@ -11,7 +11,7 @@ use std::marker::Model;
 
 /// Holds the bytes that were written, up to its room; takes at most `most` of them a write, and fails at the
 /// listed writes and where it is full.
-#[derive(Debug, Drop)]
+#[derive(Drop)]
 pub struct ListSink<'a> {
     bytes: Vec<u8>,
     room: usize,

@@ -9,7 +9,7 @@ use crate::slice_source::SliceSource;
 use std::marker::Model;
 
 /// Gives the bytes of a slice, at most `piece` of them a read, and fails at the listed reads.
-#[derive(Debug, Drop)]
+#[derive(Drop)]
 pub struct ListSource<'a> {
     source: SliceSource<'a>,
     piece: usize,

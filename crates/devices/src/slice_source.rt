@@ -6,7 +6,7 @@ use crate::device::{Failed, Source};
 use std::marker::Model;
 
 /// Gives the bytes of a slice, as many as the buffer takes, and never fails. It means the bytes left.
-#[derive(Debug, Drop)]
+#[derive(Drop)]
 pub struct SliceSource<'a> {
     rest: &'a [u8],
 }

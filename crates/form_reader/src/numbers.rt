@@ -14,7 +14,7 @@ const MOST_BYTES: usize = 5;
 const MOST_WIDE_BYTES: usize = 10;
 
 /// The low seven bits of each byte of a short number, together.
-#[derive(Clone, Copy, Debug)]
+#[derive(Clone, Copy)]
 pub struct Sevens {
     pub sum: u64,
     /// 128 to the number of bytes.
@@ -23,7 +23,7 @@ pub struct Sevens {
 }
 
 /// The low seven bits of each byte of a number, together.
-#[derive(Clone, Copy, Debug)]
+#[derive(Clone, Copy)]
 pub struct WideSevens {
     pub sum: u128,
     /// 128 to the number of bytes.

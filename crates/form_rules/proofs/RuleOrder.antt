@@ -4,7 +4,7 @@ use Rattle.rule_spec.specs.declared.rules.Rule.{Rule}
 use Rattle.rule_spec.specs.declared.rules.Rule.TheVariants.{L1, L2, L3, L4, L5, L6, L7, L8, L9, L10}
 use Rattle.wasm_spec.specs.Module as plain
 use Rattle.rule_spec.specs.Lists.{Lists, lists_of_module}
-use Rattle.rule_spec.specs.Rules.{Kept, KeepsBefore, number_of}
+use Rattle.rule_spec.specs.Rules.{Satisfies, KeepsBefore, number_of}
 use Rattle.form_rules.specs.declared.error.CheckError.{CheckError}
 use Rattle.form_rules.specs.declared.error.CheckError.TheVariants.{Invalid}
 
@@ -30,8 +30,8 @@ number_at i d lt =
 -- the rules before the one that is broken are kept
 pub first_broken : {A : Type 0} (i : ℕ) (d rule : Rule) (l : Lists) (m : plain.Module) → i < 10
     → (let e : Result A CheckError = Err (Invalid (get_or in_order i d)) in e) ≡ Err (Invalid rule)
-    → ((r : Rule) → number_of r < i + 1 → Kept r l) → l ≡ lists_of_module m → KeepsBefore rule m
+    → ((r : Rule) → number_of r < i + 1 → Satisfies r l) → l ≡ lists_of_module m → KeepsBefore rule m
 first_broken i d rule l m lt is before same = λ lower less.
     let named : get_or in_order i d ≡ rule = cc in
     let number = sym (ap number_of named) ∙ number_at i d lt in
-    subst (Kept lower) same (before lower (omega (arith, number, less)))
+    subst (Satisfies lower) same (before lower (omega (arith, number, less)))

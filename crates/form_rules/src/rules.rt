@@ -4,7 +4,7 @@ ghost use Rattle.std.specs.Prelude.{◌≡◌, ◌↔◌, IsTrue, IfOk, OnOk, Er
 ghost use Rattle.rule_spec.specs.declared.rules.Rule.{Rule};
 ghost use Rattle.form_data.specs.Views.{module_of};
 ghost use Rattle.rule_spec.specs.Lists.{lists_of_module};
-ghost use Rattle.rule_spec.specs.Rules.{Kept, Keeps, KeepsBefore};
+ghost use Rattle.rule_spec.specs.Rules.{Satisfies, Keeps, KeepsBefore};
 ghost use Rattle.form_lists.specs.Views.{lists_of};
 ghost use Rattle.form_rules.specs.Outcomes.{ChecksOrNoMemory, HasGlobals};
 
@@ -43,7 +43,7 @@ const RULES: [Rule; 10] = [
 /// `Invalid` names a rule that the module breaks, the first of those in the order of their numbers.
 pub fn check(alloc: Global, form: &Form<'_>) -> Result<(), CheckError>
     ensures kept { OnOk result (Keeps (module_of form.now)) }
-    ensures broken { (rule : Rule) → result ≡ Err (CheckError.Invalid rule) → ¬ Kept rule (lists_of_module (module_of form.now)) }
+    ensures broken { (rule : Rule) → result ≡ Err (CheckError.Invalid rule) → ¬ Satisfies rule (lists_of_module (module_of form.now)) }
     // Of the rules that are broken it is the first.
     ensures first { (rule : Rule) → result ≡ Err (CheckError.Invalid rule) → KeepsBefore rule (module_of form.now) }
     // What keeps the rules passes, unless memory runs out.
@@ -61,7 +61,7 @@ pub fn checked_lists<'f, 'd>(alloc: Global, form: &'f Form<'d>) -> Result<Lists<
     ensures lists { IfOk result (λ l. lists_of l ≡ lists_of_module (module_of form.now)) }
     ensures of_form { IfOk result (λ l. l.form ≡ form.entry) }
     ensures kept { OnOk result (Keeps (module_of form.now)) }
-    ensures broken { (rule : Rule) → result ≡ Err (CheckError.Invalid rule) → ¬ Kept rule (lists_of_module (module_of form.now)) }
+    ensures broken { (rule : Rule) → result ≡ Err (CheckError.Invalid rule) → ¬ Satisfies rule (lists_of_module (module_of form.now)) }
     ensures first { (rule : Rule) → result ≡ Err (CheckError.Invalid rule) → KeepsBefore rule (module_of form.now) }
     ensures complete { Keeps (module_of form.now) → ChecksOrNoMemory result }
 {
@@ -77,7 +77,7 @@ pub fn checked_lists<'f, 'd>(alloc: Global, form: &'f Form<'d>) -> Result<Lists<
 /// Whether a rule is kept.
 fn keeps(alloc: Global, rule: Rule, lists: &Lists<'_, '_>) -> Result<bool, AllocError>
     requires { HasGlobals (lists_of lists.now) }
-    ensures { IfOk result (λ kept. IsTrue kept ↔ Kept rule (lists_of lists.now)) }
+    ensures { IfOk result (λ kept. IsTrue kept ↔ Satisfies rule (lists_of lists.now)) }
 {
     match rule {
         Rule::L1 => Ok(types_hold(lists)),

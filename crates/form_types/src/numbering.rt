@@ -15,7 +15,7 @@ use wasm_spec::CoreTypeId;
 ///
 /// The distinct groups stand in the order of their first occurrence; an id numbers their members through, from 0 on. Types name each other
 /// by ids.
-#[derive(Debug, Drop)]
+#[derive(Drop)]
 pub struct Types {
     pub(crate) validator: ValidatorId,
     pub(crate) groups: Vec<RecGroup>,

@@ -2,7 +2,7 @@
 
 ghost use Rattle.std.specs.Prelude.{◌≡◌, ◌⊎◌, ◌↔◌, ◌<◌, ◌≤◌, ◌^◌, ℕ, length, map, sum_by, false, true, is_none, IsTrue, All, Contains, Err, None, OnOk, OnErr};
 ghost use Rattle.std.specs.List.{list_all, filter_map};
-ghost use Rattle.module_types.specs.Builder.{shown, starts};
+ghost use Rattle.module_types.specs.Builder.{builder_view, starts};
 ghost use Rattle.replay_spec.specs.Startup.{is_empty, raised_by_memories};
 ghost use Rattle.init_plan.specs.Startup.{raised, types_after, startup_kind, with_startup};
 ghost use Rattle.std.specs.Int.{IsPowerOfTwo};
@@ -38,7 +38,7 @@ impl ModuleTranslation<'_> {
     ) -> Result<(), PlanError>
         requires ready { MemoryHalfIsReady self.old }
         requires page_size { IsPowerOfTwo page_size }
-        requires room { types.old.is_poisoned ≡ false → length (starts (shown types.old)).built.types < u32.MAX }
+        requires room { types.old.is_poisoned ≡ false → length (starts (builder_view types.old)).built.types < u32.MAX }
 
         // The plan is that of the definitions: images alone where the image rule holds, and else every segment, in order.
         ensures planned { OnOk result (IsMemoryPlan (image_options tunables.now page_size max_image) self.old.module.num_imported_memories
@@ -66,9 +66,9 @@ impl ModuleTranslation<'_> {
 
         // Startup is raised by what is kept and by images, and the builder gains its type where it is raised from none.
         ensures startup { let kind = raised_by_memories (memory_plan_of self.new) (startup_kind self.old.module.startup) in
-            OnOk result (self.new.module.startup ≡ raised kind self.old.module.startup (shown types.old)) }
+            OnOk result (self.new.module.startup ≡ raised kind self.old.module.startup (builder_view types.old)) }
         ensures types { let kind = raised_by_memories (memory_plan_of self.new) (startup_kind self.old.module.startup) in
-            OnOk result (shown types.new ≡ types_after kind self.old.module.startup (shown types.old)) }
+            OnOk result (builder_view types.new ≡ types_after kind self.old.module.startup (builder_view types.old)) }
 
         ensures same { OnOk result (OnlyMemoryInitChanges self.old self.new) }
         ensures tables_ready { TableHalfIsReady self.old → OnOk result (TableHalfIsReady self.new) }
@@ -104,12 +104,12 @@ impl ModuleTranslation<'_> {
         &mut self,
         types: &mut ModuleTypesBuilder,
     ) -> Result<(), BuildError>
-        requires room { types.old.is_poisoned ≡ false → length (starts (shown types.old)).built.types < u32.MAX }
+        requires room { types.old.is_poisoned ≡ false → length (starts (builder_view types.old)).built.types < u32.MAX }
         requires processed { IsProcessed self.old.memory_init }
         ensures ok { let kind = raised_by_memories (memory_plan_of self.old) (startup_kind self.old.module.startup) in
-            OnOk result (self.new ≡ with_startup self.old (raised kind self.old.module.startup (shown types.old))) }
+            OnOk result (self.new ≡ with_startup self.old (raised kind self.old.module.startup (builder_view types.old))) }
         ensures types { let kind = raised_by_memories (memory_plan_of self.old) (startup_kind self.old.module.startup) in
-            OnOk result (shown types.new ≡ types_after kind self.old.module.startup (shown types.old)) }
+            OnOk result (builder_view types.new ≡ types_after kind self.old.module.startup (builder_view types.old)) }
         ensures usable { OnOk result (types.old.is_poisoned ≡ false) }
         ensures poisoned { result ≡ Err BuildError.Poisoned → types.old.is_poisoned ≡ true }
         ensures err { OnErr result (types.new.is_poisoned ≡ true) }

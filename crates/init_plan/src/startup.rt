@@ -3,7 +3,7 @@
 ghost use Rattle.std.specs.Prelude.{◌≡◌, ◌↔◌, ◌<◌, length, true, false, Err, IfOk, OnOk, OnErr};
 ghost use Rattle.wasm_index.specs.Index.{index_of};
 ghost use Rattle.wasm_types.specs.declared.index.EngineOrModuleTypeIndex.TheVariants.{Module};
-ghost use Rattle.module_types.specs.Builder.{shown, starts, startup_index};
+ghost use Rattle.module_types.specs.Builder.{builder_view, starts, startup_index};
 ghost use Rattle.replay_spec.specs.Startup.{Always};
 ghost use Rattle.init_plan.specs.Startup.{raised, types_after, standing_or, startup_kind, with_images, with_startup};
 
@@ -18,9 +18,9 @@ impl ModuleTranslation<'_> {
     /// # Errors
     /// `Poisoned` where the builder is, and `OutOfMemory`, after which it is.
     pub fn require_startup_func(&mut self, types: &mut ModuleTypesBuilder) -> Result<(), BuildError>
-        requires room { types.old.is_poisoned ≡ false → length (starts (shown types.old)).built.types < u32.MAX }
-        ensures ok { OnOk result (self.new ≡ with_startup self.old (raised Always self.old.module.startup (shown types.old))) }
-        ensures types { OnOk result (shown types.new ≡ types_after Always self.old.module.startup (shown types.old)) }
+        requires room { types.old.is_poisoned ≡ false → length (starts (builder_view types.old)).built.types < u32.MAX }
+        ensures ok { OnOk result (self.new ≡ with_startup self.old (raised Always self.old.module.startup (builder_view types.old))) }
+        ensures types { OnOk result (builder_view types.new ≡ types_after Always self.old.module.startup (builder_view types.old)) }
         ensures poisoned { (result ≡ Err BuildError.Poisoned) ↔ (types.old.is_poisoned ≡ true) }
         ensures err { OnErr result ((self.new ≡ self.old) × (types.new.is_poisoned ≡ true)) }
     {
@@ -37,11 +37,11 @@ impl ModuleTranslation<'_> {
         &mut self,
         types: &mut ModuleTypesBuilder,
     ) -> Result<(), BuildError>
-        requires room { types.old.is_poisoned ≡ false → length (starts (shown types.old)).built.types < u32.MAX }
+        requires room { types.old.is_poisoned ≡ false → length (starts (builder_view types.old)).built.types < u32.MAX }
         ensures ok { let kind = with_images (startup_kind self.old.module.startup) in
-            OnOk result (self.new ≡ with_startup self.old (raised kind self.old.module.startup (shown types.old))) }
+            OnOk result (self.new ≡ with_startup self.old (raised kind self.old.module.startup (builder_view types.old))) }
         ensures types { let kind = with_images (startup_kind self.old.module.startup) in
-            OnOk result (shown types.new ≡ types_after kind self.old.module.startup (shown types.old)) }
+            OnOk result (builder_view types.new ≡ types_after kind self.old.module.startup (builder_view types.old)) }
         ensures poisoned { (result ≡ Err BuildError.Poisoned) ↔ (types.old.is_poisoned ≡ true) }
         ensures err { OnErr result ((self.new ≡ self.old) × (types.new.is_poisoned ≡ true)) }
     {
@@ -58,9 +58,9 @@ fn startup_type(
     startup: &ModuleStartup,
     types: &mut ModuleTypesBuilder,
 ) -> Result<EngineOrModuleTypeIndex, BuildError>
-    requires room { types.old.is_poisoned ≡ false → length (starts (shown types.old)).built.types < u32.MAX }
-    ensures index { IfOk result (λ ty. ty ≡ standing_or startup.now (Module (index_of (startup_index (shown types.old))))) }
-    ensures types { OnOk result (shown types.new ≡ types_after Always startup.now (shown types.old)) }
+    requires room { types.old.is_poisoned ≡ false → length (starts (builder_view types.old)).built.types < u32.MAX }
+    ensures index { IfOk result (λ ty. ty ≡ standing_or startup.now (Module (index_of (startup_index (builder_view types.old))))) }
+    ensures types { OnOk result (builder_view types.new ≡ types_after Always startup.now (builder_view types.old)) }
     ensures poisoned { (result ≡ Err BuildError.Poisoned) ↔ (types.old.is_poisoned ≡ true) }
     ensures err { OnErr result (types.new.is_poisoned ≡ true) }
 {

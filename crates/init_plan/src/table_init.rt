@@ -2,7 +2,7 @@
 
 ghost use Rattle.std.specs.Prelude.{◌≡◌, ◌≢◌, ◌↔◌, ◌⊎◌, ◌<◌, ◌&&◌, All, length, true, false, Err, OnOk, OnErr, IsTrue};
 ghost use Rattle.std.specs.List.{filter_map};
-ghost use Rattle.module_types.specs.Builder.{shown, starts};
+ghost use Rattle.module_types.specs.Builder.{builder_view, starts};
 ghost use Rattle.replay_spec.specs.Startup.{is_empty};
 ghost use Rattle.replay_spec.specs.Tables.{IsTablePlan, AgreesOnTables};
 ghost use Rattle.table_images.specs.Views.{initial_of};
@@ -32,7 +32,7 @@ impl ModuleTranslation<'_> {
         types: &mut ModuleTypesBuilder,
     ) -> Result<(), PlanError>
         requires ready { TableHalfIsReady self.old }
-        requires room { types.old.is_poisoned ≡ false → length (starts (shown types.old)).built.types < u32.MAX }
+        requires room { types.old.is_poisoned ≡ false → length (starts (builder_view types.old)).built.types < u32.MAX }
 
         // The images, and what is kept, are those of the rule, and leave what the segments leave.
         ensures planned { OnOk result (IsTablePlan tunables.now.table_lazy_init self.old.module.num_imported_tables
@@ -45,9 +45,9 @@ impl ModuleTranslation<'_> {
 
         // Startup is raised by what is kept, and the builder gains its type where it is raised from none.
         ensures startup { let kind = startup_with_tables self.old (plan_of_tables self.new) in
-            OnOk result (self.new.module.startup ≡ raised kind self.old.module.startup (shown types.old)) }
+            OnOk result (self.new.module.startup ≡ raised kind self.old.module.startup (builder_view types.old)) }
         ensures types { let kind = startup_with_tables self.old (plan_of_tables self.new) in
-            OnOk result (shown types.new ≡ types_after kind self.old.module.startup (shown types.old)) }
+            OnOk result (builder_view types.new ≡ types_after kind self.old.module.startup (builder_view types.old)) }
 
         ensures same { OnOk result (OnlyTableInitChanges self.old self.new) }
         ensures memories_ready { MemoryHalfIsReady self.old → OnOk result (MemoryHalfIsReady self.new) }
@@ -87,13 +87,13 @@ impl ModuleTranslation<'_> {
 
     // Startup, where the tables are planned.
     fn raise_startup_by_tables(&mut self, types: &mut ModuleTypesBuilder) -> Result<(), BuildError>
-        requires room { types.old.is_poisoned ≡ false → length (starts (shown types.old)).built.types < u32.MAX }
+        requires room { types.old.is_poisoned ≡ false → length (starts (builder_view types.old)).built.types < u32.MAX }
         requires usable { types.old.is_poisoned ≡ false }
         requires counts { AreCounted self.old }
         ensures ok { let kind = startup_with_tables self.old (plan_of_tables self.old) in
-            OnOk result (self.new ≡ with_startup self.old (raised kind self.old.module.startup (shown types.old))) }
+            OnOk result (self.new ≡ with_startup self.old (raised kind self.old.module.startup (builder_view types.old))) }
         ensures types { let kind = startup_with_tables self.old (plan_of_tables self.old) in
-            OnOk result (shown types.new ≡ types_after kind self.old.module.startup (shown types.old)) }
+            OnOk result (builder_view types.new ≡ types_after kind self.old.module.startup (builder_view types.old)) }
         ensures err { result ≢ Err BuildError.Poisoned }
         ensures refused { OnErr result (types.new.is_poisoned ≡ true) }
     {

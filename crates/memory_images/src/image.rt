@@ -16,14 +16,14 @@ use entity_map::OutOfMemory;
 use std::alloc::Global;
 
 /// The bytes of a memory from the place `start` on.
-#[derive(Debug, Drop)]
+#[derive(Drop)]
 pub struct Image {
     pub start: u64,
     pub bytes: Vec<u8>,
 }
 
 /// The parts of a memory, and the span of its image.
-#[derive(Debug, Drop)]
+#[derive(Drop)]
 pub struct Measured<'d> {
     pub parts: Vec<Laid<'d>>,
     pub span: Option<Span>,

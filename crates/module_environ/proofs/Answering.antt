@@ -20,7 +20,7 @@ use Rattle.wasm_index.specs.declared.index.Index.{Index}
 use Rattle.wasm_index.specs.declared.spaces.StaticModuleSpace.{StaticModuleSpace}
 use Rattle.wasm_types.specs.declared.tunables.Tunables.{Tunables}
 use Rattle.wasm_types.specs.EntityViews.{global_of}
-use Rattle.module_types.specs.Builder.{Kept as KeptTypes}
+use Rattle.module_types.specs.Builder.{BuilderState}
 use Rattle.init_plan.specs.declared.translation.ModuleTranslation.{ModuleTranslation}
 use Rattle.init_plan.specs.Views.{IsNewTranslation}
 use Rattle.module_environ.specs.declared.error.EnvironError.{EnvironError}
@@ -119,7 +119,7 @@ is_ready debugged m t has keeps few = record {
 
 -- with the bytes and the code, what the form became is the translation
 pub is_translated : (tunables : Tunables) (module_index : Index StaticModuleSpace) (validator : ℕ) (bytes : List ℕ) (m : Module)
-    (empty formed other : ModuleTranslation) (b : KeptTypes) → IsReadable bytes m → HasFewEntries m → IsNewTranslation module_index empty
+    (empty formed other : ModuleTranslation) (b : BuilderState) → IsReadable bytes m → HasFewEntries m → IsNewTranslation module_index empty
     → IsFormed tunables validator m empty formed b → other.wasm.now ≡ bytes
     → map (λ input. body_of input.body) other.function_body_inputs ≡ flat_map bodies_of_section m
     → other.debuginfo.wasm_file.code_section_offset ≡ first_or_zero (flat_map code_places m)

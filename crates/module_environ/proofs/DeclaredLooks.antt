@@ -13,7 +13,7 @@ use Rattle.wasm_types.specs.declared.index.EngineOrModuleTypeIndex.{EngineOrModu
 use Rattle.wasm_types.specs.Views.{module_index}
 use Rattle.wasm_convert.specs.Conversion.{LookUp}
 use Rattle.module_types.specs.Views.{TypeIndex}
-use Rattle.module_types.specs.Builder.{Kept, shown}
+use Rattle.module_types.specs.Builder.{BuilderState, builder_view}
 use Rattle.module_types.specs.Converter.{interned_name}
 use Rattle.module_types.proofs.Along.{composite-before}
 use Rattle.module_types.proofs.Taking.{whole}
@@ -43,12 +43,12 @@ module _ (m : plain.Module) (near : NameEarlier 0 (placed_groups m)) where
         ∙ ap Some (get_or-map type_index d i 0 (type_index 0) inside))
 
     -- also where more types come behind
-    pub look-declared : (b : Kept) (more : List Interned) → (shown b).built.types ≡ (taken (placed_groups m)).built.types ++ more
+    pub look-declared : (b : BuilderState) (more : List Interned) → (builder_view b).built.types ≡ (taken (placed_groups m)).built.types ++ more
         → AgreeBelow (look_type types b) (look_up_in m) (length (plain.types m))
     look-declared b more is i lt =
         let k = interned_at m i in
         let ts = (taken (placed_groups m)).built.types in
-        let kind : kind_of_type (composite_at (shown b).built.types k) ≡ kind_at (placed_groups m) i =
+        let kind : kind_of_type (composite_at (builder_view b).built.types k) ≡ kind_at (placed_groups m) i =
         ap (λ l. kind_of_type (composite_at l k)) is
         ∙ ap (λ c. kind_of_type c) (composite-before ts more k (declared-held i lt))
         ∙ declared-kind (placed_groups m) near i (omega (arith, lt, declared-long)) in
@@ -60,7 +60,7 @@ module _ (m : plain.Module) (near : NameEarlier 0 (placed_groups m)) where
         let inside : i < length (plain.types m) = omega (arith, lt, listed-long) in
         subst (λ o. IsSomeAnd o (λ k. number_of k < length (taken (placed_groups m)).built.types)) (sym (listed-at i inside)) (declared-held i inside)
 
-    pub look-interned : (b : Kept) (startup : Bool) → (shown b).built ≡ interned_list m startup
+    pub look-interned : (b : BuilderState) (startup : Bool) → (builder_view b).built ≡ interned_list m startup
         → AgreeBelow (look_type types b) (look_up_in m) (length (plain.types m))
     look-interned b startup is =
         let r = interned-behind (placed_groups m) (plain.tags m) startup in

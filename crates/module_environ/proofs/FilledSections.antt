@@ -37,7 +37,7 @@ use Rattle.wasm_convert.specs.Conversion.{LookUp}
 use Rattle.wasm_convert.specs.declared.convert.TypeConvert.{Ghosts}
 use Rattle.wasm_module.specs.declared.module.Module.{Module}
 use Rattle.wasm_module.specs.Record.{ModuleRecord}
-use Rattle.module_types.specs.Builder.{Kept, shown}
+use Rattle.module_types.specs.Builder.{BuilderState, builder_view}
 use Rattle.init_plan.specs.declared.translation.ModuleTranslation.{ModuleTranslation}
 use Rattle.init_plan.specs.Views.{IsNewTranslation, IsSegmented, ranges_of}
 use Rattle.init_plan.proofs.Unplanned.{new-ranges, new-segmented}
@@ -80,7 +80,7 @@ module _ (m : plain.Module) (of : (t : TypesData) × AreTypesOf m t) (types : Li
   pub listed-all : length types ≡ length (lists_of_module m).types
   listed-all = listed-long m of.1.earlier types listed ∙ sym (types-long m)
 
-  pub looks-declared : (b : Kept) → (shown b).built ≡ (taken (placed_groups m)).built → (known : UnpackedIndex → Type 0) (look : LookUp)
+  pub looks-declared : (b : BuilderState) → (builder_view b).built ≡ (taken (placed_groups m)).built → (known : UnpackedIndex → Type 0) (look : LookUp)
       → ((i : ℕ) → i < length types → known (index.Module i)) → AgreeBelow look (look_type types b) (length types)
       → LooksUpTypes m known look
   looks-declared b built known look knows looks = record {
@@ -101,7 +101,7 @@ module _ (m : plain.Module) (of : (t : TypesData) × AreTypesOf m t) (types : Li
 
 -- and so are they of the same module, as lists hold it
 pub looks-held : (m n : plain.Module) → m ≡ n → (of : (t : TypesData) × AreTypesOf m t) (types : List EngineOrModuleTypeIndex)
-    → types ≡ map type_index (declared m) → (b : Kept) → (shown b).built ≡ (taken (placed_groups m)).built
+    → types ≡ map type_index (declared m) → (b : BuilderState) → (builder_view b).built ≡ (taken (placed_groups m)).built
     → (known : UnpackedIndex → Type 0) (look : LookUp) → ((i : ℕ) → i < length types → known (index.Module i))
     → AgreeBelow look (look_type types b) (length types) → LooksUpTypes n known look
 looks-held m n same of types listed b built known look knows looks =

@@ -8,7 +8,7 @@ use Rattle.wasm_index.specs.declared.spaces.TypeSpace.{TypeSpace}
 use Rattle.wasm_index.specs.Index.{number_of, index_of}
 use Rattle.wasm_types.specs.declared.index.EngineOrModuleTypeIndex.{EngineOrModuleTypeIndex}
 use Rattle.module_types.specs.Views.{TypeIndex}
-use Rattle.module_types.specs.Builder.{Kept}
+use Rattle.module_types.specs.Builder.{BuilderState}
 use Rattle.module_types.specs.ClosureAnswers.{Answer, AnswersBelow}
 use Rattle.module_types.specs.Converter.{interned_name, look_index, answered, answered-is}
 use Rattle.module_environ.specs.Environment.{interned_in, number_or_zero, AreHeld, look_type}
@@ -32,8 +32,8 @@ module _ (types : List EngineOrModuleTypeIndex) where
 
   -- so a converter whose look-up gives what the record answers looks up the types of the record
   module _ (given : Index TypeSpace → TypeIndex → Type 0) (gives : (i : Index TypeSpace) (r : TypeIndex) → Gives i r → given i r)
-      (c : Kept) (bound : ℕ)
-      (answers : AnswersBelow given (length c.list.types) bound) (ids : Option TypesData) (b : Kept) (same : c ≡ b) (e : bound ≡ length types) where
+      (c : BuilderState) (bound : ℕ)
+      (answers : AnswersBelow given (length c.list.types) bound) (ids : Option TypesData) (b : BuilderState) (same : c ≡ b) (e : bound ≡ length types) where
     number-is : (i : ℕ) → i < bound → (o : Option TypeIndex) → interned_in types i ≡ o → IsSomeAnd o (λ k. number_of k < length b.list.types)
         → answered given c bound answers ids i ≡ number_or_zero o
     number-is i h None at held = absurd held

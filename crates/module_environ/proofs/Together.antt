@@ -5,7 +5,7 @@ use Rattle.wasm_spec.specs.Module.{function_import}
 use Rattle.wasm_spec.specs.Module as plain
 use Rattle.rule_spec.specs.declared.rules.Rule.{Rule}
 use Rattle.rule_spec.specs.Lists.{lists_of_module}
-use Rattle.rule_spec.specs.Rules.{Kept, Keeps, KeepsBefore}
+use Rattle.rule_spec.specs.Rules.{Satisfies, Keeps, KeepsBefore}
 use Rattle.form_rules.specs.declared.error.CheckError.{CheckError}
 use Rattle.form_rules.specs.declared.error.CheckError.TheVariants as checks
 use Rattle.form_types.specs.Numbered.{AreNumbered}
@@ -17,7 +17,7 @@ use Rattle.wasm_module.specs.declared.startup.ModuleStartup.TheVariants as start
 use Rattle.wasm_module.specs.Record.{ModuleRecord}
 use Rattle.module_types.specs.declared.error.BuildError.{BuildError}
 use Rattle.module_types.specs.declared.error.BuildError.TheVariants as build
-use Rattle.module_types.specs.Builder.{Builder, Kept as KeptTypes, shown}
+use Rattle.module_types.specs.Builder.{Builder, BuilderState, builder_view}
 use Rattle.replay_spec.specs.Startup.{Always, is_empty}
 use Rattle.init_plan.specs.declared.translation.ModuleTranslation.{ModuleTranslation}
 use Rattle.init_plan.specs.Startup.{raised, types_after, with_startup}
@@ -38,7 +38,7 @@ use Rattle.module_environ.proofs.Carried.{CarriesNames, sections-keep, customs-k
 -- ---- causes
 
 pub check-cause : {A : Type 0} (m : plain.Module) (poisoned : Bool) (r : Result A CheckError) (e : CheckError) → r ≡ Err e
-    → ((rule : Rule) → r ≡ Err (checks.Invalid rule) → Kept rule (lists_of_module m) → ⊥)
+    → ((rule : Rule) → r ≡ Err (checks.Invalid rule) → Satisfies rule (lists_of_module m) → ⊥)
     → ((rule : Rule) → r ≡ Err (checks.Invalid rule) → KeepsBefore rule m) → FormCause m poisoned (error_of_check e)
 check-cause m poisoned r (checks.Invalid rule) was broken first = (broken rule was, first rule was)
 check-cause m poisoned r checks.OutOfMemory was broken first = tt
@@ -84,7 +84,7 @@ module _ (tunables : Tunables) (validator : ℕ) (m : plain.Module) (old filled 
   module _ (groups tagged : Builder) (alone : HoldsGroupsAlone validator groups) (gains : GainsExceptions groups tagged)
       (built : tagged.built ≡ interned_list m false) (few : length tagged.built.types < 2 ^ 31 + 2 ^ 30) where
     -- nothing is to be run
-    pub formed-never : true ≡ nothing → (b : KeptTypes) → shown b ≡ tagged → IsFormed tunables validator m old set b
+    pub formed-never : true ≡ nothing → (b : BuilderState) → builder_view b ≡ tagged → IsFormed tunables validator m old set b
     formed-never is b shows =
         let never : false ≡ starts_always m = ap not is ∙ starts-is tunables.debug_guest m set set-sections in
         record {
@@ -100,12 +100,12 @@ module _ (tunables : Tunables) (validator : ℕ) (m : plain.Module) (old filled 
         }
 
     -- startup is known to run
-    pub formed-always : false ≡ nothing → (u : ModuleTranslation) (b : KeptTypes)
-        → u ≡ with_startup set (raised Always set.module.startup tagged) → shown b ≡ types_after Always set.module.startup tagged
+    pub formed-always : false ≡ nothing → (u : ModuleTranslation) (b : BuilderState)
+        → u ≡ with_startup set (raised Always set.module.startup tagged) → builder_view b ≡ types_after Always set.module.startup tagged
         → IsFormed tunables validator m old u b
     formed-always is u b raises gained =
         let always : true ≡ starts_always m = ap not is ∙ starts-is tunables.debug_guest m set set-sections in
-        let after : shown b ≡ types_after Always startup.None tagged = gained ∙ ap (λ s. types_after Always s tagged) set-startup in
+        let after : builder_view b ≡ types_after Always startup.None tagged = gained ∙ ap (λ s. types_after Always s tagged) set-startup in
         record {
           keeps = keeps;
           types = types-keep m set u validator (ap (λ (t : ModuleTranslation). t.module.types) raises)
@@ -116,7 +116,7 @@ module _ (tunables : Tunables) (validator : ℕ) (m : plain.Module) (old filled 
               with_startup t (raised Always set.module.startup tagged)) same) ∙ imports;
           startup = ap (λ (t : ModuleTranslation). t.module.startup) raises ∙ ap (λ s. raised Always s tagged) set-startup
               ∙ always-raised m validator groups tagged alone gains built few always;
-          builder = always-holds m validator groups tagged alone gains built few always (shown b) after;
+          builder = always-holds m validator groups tagged alone gains built few always (builder_view b) after;
           index = ap (λ (t : ModuleTranslation). t.module.module_index) (raises ∙ ap (λ (t : ModuleTranslation).
               with_startup t (raised Always set.module.startup tagged)) same) ∙ rest.index;
           offset = ap (λ (t : ModuleTranslation). t.wasm_module_offset) (raises ∙ ap (λ (t : ModuleTranslation).

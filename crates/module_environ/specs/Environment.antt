@@ -6,7 +6,7 @@ use Rattle.wasm_types.specs.declared.index.EngineOrModuleTypeIndex.{EngineOrModu
 use Rattle.wasm_types.specs.Views.{module_index}
 use Rattle.wasm_convert.specs.Conversion.{LookUp}
 use Rattle.module_types.specs.Views.{TypeIndex}
-use Rattle.module_types.specs.Builder.{Kept}
+use Rattle.module_types.specs.Builder.{BuilderState}
 use Rattle.module_types.specs.Converter.{interned_name}
 
 -- the interned type of a type of a record
@@ -22,7 +22,7 @@ abbrev pub AreHeld : List EngineOrModuleTypeIndex → ℕ → Type 0
 AreHeld types count = (i : ℕ) → i < length types → IsSomeAnd (interned_in types i) (λ k. number_of k < count)
 
 -- over the types of a record, and what a builder keeps
-module _ (types : List EngineOrModuleTypeIndex) (b : Kept) where
+module _ (types : List EngineOrModuleTypeIndex) (b : BuilderState) where
   -- what each is named by
   abbrev pub look_type : LookUp
   look_type (index.Module i) = interned_name b (number_or_zero (interned_in types i))

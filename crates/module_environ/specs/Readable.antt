@@ -6,7 +6,7 @@ use Rattle.wasm_spec.specs.Grammar.{Spells, Stops}
 use Rattle.wasm_spec.specs.Interfaces.{HasNoInterfaceTypes}
 use Rattle.rule_spec.specs.declared.rules.Rule.{Rule}
 use Rattle.rule_spec.specs.Lists.{lists_of_module}
-use Rattle.rule_spec.specs.Rules.{Kept, KeepsBefore}
+use Rattle.rule_spec.specs.Rules.{Satisfies, KeepsBefore}
 use Rattle.module_environ.specs.declared.error.EnvironError.{EnvironError}
 use Rattle.module_environ.specs.declared.error.EnvironError.TheVariants as refusal
 
@@ -20,7 +20,7 @@ pub record IsReadable (bytes : List ℕ) (m : Module) : Type 0 where
 pub record Breaks (rule : Rule) (bytes : List ℕ) : Type 0 where
   pub meaning : Module
   pub read : IsReadable bytes meaning
-  pub broken : ¬ Kept rule (lists_of_module meaning)
+  pub broken : ¬ Satisfies rule (lists_of_module meaning)
   pub first : KeepsBefore rule meaning
 
 -- why the bytes have no translation, with a builder that was poisoned or not

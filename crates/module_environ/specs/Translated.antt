@@ -7,7 +7,7 @@ use Rattle.replay_spec.specs.Startup.{leaves_nothing}
 use Rattle.wasm_index.specs.declared.index.Index.{Index}
 use Rattle.wasm_index.specs.declared.spaces.StaticModuleSpace.{StaticModuleSpace}
 use Rattle.wasm_types.specs.declared.tunables.Tunables.{Tunables}
-use Rattle.module_types.specs.Builder.{Builder, Kept, shown}
+use Rattle.module_types.specs.Builder.{Builder, BuilderState, builder_view}
 use Rattle.init_plan.specs.declared.translation.ModuleTranslation.{ModuleTranslation}
 use Rattle.init_plan.specs.Held.{HoldsMemories, HoldsTables, HoldsGlobals}
 use Rattle.init_plan.specs.Ready.{MemoryHalfIsReady}
@@ -42,10 +42,10 @@ pub record IsReady (m : plain.Module) (t : ModuleTranslation) : Type 0 where
 
 -- the bytes spell a module that keeps the listed rules, and these are its translation and its types
 pub record IsTranslated (tunables : Tunables) (module_index : Index StaticModuleSpace) (validator : ℕ) (bytes : List ℕ) (t : ModuleTranslation)
-    (b : Kept) : Type 0 where
+    (b : BuilderState) : Type 0 where
   pub meaning : plain.Module
   pub read : IsReadable bytes meaning
   pub keeps : Keeps meaning
   pub translation : IsTranslation tunables module_index validator bytes meaning t
   pub ready : IsReady meaning t
-  pub types : HoldsTypes meaning (shown b)
+  pub types : HoldsTypes meaning (builder_view b)

@@ -2,7 +2,7 @@
 
 ghost use Rattle.std.specs.Prelude.{◌≡◌, [], false, IfOk, IsOk};
 ghost use Rattle.module_environ.specs.Named.{IsNamed, name_in};
-ghost use Rattle.module_types.specs.Builder.{shown, new_builder};
+ghost use Rattle.module_types.specs.Builder.{builder_view, new_builder};
 
 use crate::declared::{named_heap_type, named_index};
 use entity_map::OutOfMemory;
@@ -34,7 +34,7 @@ impl<'a, 'd> ModuleEnvironment<'a, 'd> {
         types: &'a mut ModuleTypesBuilder,
         module_index: StaticModuleIndex,
     ) -> Result<Self, OutOfMemory>
-        requires empty { types.old.is_poisoned ≡ false → shown types.old ≡ new_builder validator.now }
+        requires empty { types.old.is_poisoned ≡ false → builder_view types.old ≡ new_builder validator.now }
         ensures made { IsOk result }
         ensures index { IfOk result (λ e. e.module_index ≡ module_index) }
         ensures tunables { IfOk result (λ e. e.tunables ≡ tunables.entry) }

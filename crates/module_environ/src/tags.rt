@@ -3,7 +3,7 @@
 ghost use Rattle.std.specs.Prelude.{◌≡◌, ◌<◌, ◌+◌, ◌^◌, false, length, IsTrue, IsSome, IfOk, OnOk, OnErr, Err};
 ghost use Rattle.wasm_spec.specs.Module.{Module};
 ghost use Rattle.type_spec.specs.Interned.{composite_at};
-ghost use Rattle.module_types.specs.Builder.{shown, is_function, excepts};
+ghost use Rattle.module_types.specs.Builder.{builder_view, is_function, excepts};
 ghost use Rattle.module_environ.specs.Environment.{interned_in};
 ghost use Rattle.module_environ.specs.Entities.{tags_of};
 ghost use Rattle.module_environ.specs.Tagged.{CanTag, GainsExceptions, function_at, tag_at};
@@ -23,12 +23,12 @@ pub(crate) fn convert_tags(
     declared: &PrimaryMap<TypeIndex, EngineOrModuleTypeIndex>,
     types: &mut ModuleTypesBuilder,
 ) -> Result<PrimaryMap<TagIndex, Tag>, EnvironError>
-    requires of_module { (m : Module) × CanTag m tags.now declared.now (shown types.old) }
+    requires of_module { (m : Module) × CanTag m tags.now declared.now (builder_view types.old) }
     requires few_tags { length tags.now < 2 ^ 30 }
     requires few_types { length types.old.list.types < 2 ^ 31 }
-    ensures tags { IfOk result (λ converted. (m : Module) → CanTag m tags.now declared.now (shown types.old) → converted ≡ tags_of m) }
-    ensures built { OnOk result ((m : Module) → CanTag m tags.now declared.now (shown types.old) → (shown types.new).built ≡ interned_list m false) }
-    ensures gains { OnOk result (GainsExceptions (shown types.old) (shown types.new)) }
+    ensures tags { IfOk result (λ converted. (m : Module) → CanTag m tags.now declared.now (builder_view types.old) → converted ≡ tags_of m) }
+    ensures built { OnOk result ((m : Module) → CanTag m tags.now declared.now (builder_view types.old) → (builder_view types.new).built ≡ interned_list m false) }
+    ensures gains { OnOk result (GainsExceptions (builder_view types.old) (builder_view types.new)) }
     // There is room for one more type.
     ensures few { OnOk result (length types.new.list.types < 2 ^ 31 + 2 ^ 30) }
     ensures memory { OnErr result (result ≡ Err EnvironError.OutOfMemory) }
@@ -51,11 +51,11 @@ fn convert_tag(
     requires few { length declared.now < 2 ^ 30 }
     requires names { IsSome (interned_in declared.now index) }
     requires held { function_at declared.now index < length types.old.list.types }
-    requires called { IsTrue (is_function (composite_at (shown types.old).built.types (function_at declared.now index))) }
-    requires room { length (excepts (shown types.old) (function_at declared.now index)).built.types < u32.MAX }
+    requires called { IsTrue (is_function (composite_at (builder_view types.old).built.types (function_at declared.now index))) }
+    requires room { length (excepts (builder_view types.old) (function_at declared.now index)).built.types < u32.MAX }
     requires sound { types.old.is_poisoned ≡ false }
-    ensures tag { IfOk result (λ tag. tag ≡ tag_at (shown types.old) (function_at declared.now index)) }
-    ensures defined { OnOk result (shown types.new ≡ excepts (shown types.old) (function_at declared.now index)) }
+    ensures tag { IfOk result (λ tag. tag ≡ tag_at (builder_view types.old) (function_at declared.now index)) }
+    ensures defined { OnOk result (builder_view types.new ≡ excepts (builder_view types.old) (function_at declared.now index)) }
     ensures memory { OnErr result (result ≡ Err EnvironError.OutOfMemory) }
 {
     let signature = declared[TypeIndex::from_u32(index)];

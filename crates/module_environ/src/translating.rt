@@ -5,7 +5,7 @@ ghost use Rattle.wasm_spec.specs.Module.{Module};
 ghost use Rattle.wasm_spec.specs.Sizes.{HasFewEntries, HasShortTypes};
 ghost use Rattle.rule_spec.specs.Rules.{Keeps};
 ghost use Rattle.form_data.specs.Views.{module_of};
-ghost use Rattle.module_types.specs.Builder.{shown, new_builder};
+ghost use Rattle.module_types.specs.Builder.{builder_view, new_builder};
 ghost use Rattle.init_plan.specs.Views.{IsNewTranslation};
 ghost use Rattle.module_environ.specs.Readable.{IsReadable, HasCause, SucceedsOrNoMemory};
 ghost use Rattle.replay_spec.specs.Startup.{is_empty};
@@ -43,7 +43,7 @@ impl<'a, 'd> ModuleEnvironment<'a, 'd> {
         alloc: Global,
         bytes: &'d [u8],
     ) -> Result<ModuleTranslation<'d>, EnvironError>
-        requires types { self.types.now.is_poisoned ≡ false → shown self.types.now ≡ new_builder self.validator.now }
+        requires types { self.types.now.is_poisoned ≡ false → builder_view self.types.now ≡ new_builder self.validator.now }
 
         // The bytes spell a module that keeps the listed rules, and the translation is that of the module.
         ensures translated { IfOk result (λ t.
@@ -76,7 +76,7 @@ fn translation_of<'d>(
     module_index: StaticModuleIndex,
     bytes: &'d [u8],
 ) -> Result<ModuleTranslation<'d>, EnvironError>
-    requires types { types.old.is_poisoned ≡ false → shown types.old ≡ new_builder validator.now }
+    requires types { types.old.is_poisoned ≡ false → builder_view types.old ≡ new_builder validator.now }
     ensures translated { IfOk result (λ t. IsTranslated tunables.now module_index validator.now bytes.now t types.new) }
     ensures cause { IfErr result (HasCause bytes.now types.old.is_poisoned) }
     ensures too_long { 2 ^ 30 ≤ length bytes.now → result ≡ Err EnvironError.TooLarge }
@@ -105,7 +105,7 @@ fn translate_form<'d>(
     requires few { HasFewEntries (module_of form.now) }
     requires short { HasShortTypes (module_of form.now) }
     requires new { IsNewTranslation translation.old.module.module_index translation.old }
-    requires types { types.old.is_poisoned ≡ false → shown types.old ≡ new_builder validator.now }
+    requires types { types.old.is_poisoned ≡ false → builder_view types.old ≡ new_builder validator.now }
     ensures formed { OnOk result
         (IsFormed tunables.now validator.now (module_of form.now) translation.old translation.new types.new) }
     ensures cause { IfErr result (FormCause (module_of form.now) types.old.is_poisoned) }

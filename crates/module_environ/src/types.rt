@@ -4,7 +4,7 @@ ghost use Rattle.std.specs.Prelude.{◌≡◌, ◌<◌, ◌^◌, length, map, If
 ghost use Rattle.wasm_spec.specs.Module.{Module};
 ghost use Rattle.type_spec.specs.Interned.{taken};
 ghost use Rattle.form_types.specs.Placed.{placed_groups};
-ghost use Rattle.module_types.specs.Builder.{shown, new_builder};
+ghost use Rattle.module_types.specs.Builder.{builder_view, new_builder};
 ghost use Rattle.module_environ.specs.Environment.{AreHeld};
 ghost use Rattle.module_environ.specs.Types.{declared, type_index, AreTypesOf, HoldsGroupsAlone};
 
@@ -23,13 +23,13 @@ pub fn intern_types(
     builder: &mut ModuleTypesBuilder,
 ) -> Result<PrimaryMap<TypeIndex, EngineOrModuleTypeIndex>, EnvironError>
     requires of_module { (m : Module) × AreTypesOf m types.now }
-    requires new { shown builder.old ≡ new_builder types.now.validator }
+    requires new { builder_view builder.old ≡ new_builder types.now.validator }
     ensures indices { IfOk result (λ indices. (m : Module) → AreTypesOf m types.now → indices ≡ map type_index (declared m)) }
-    ensures built { OnOk result ((m : Module) → AreTypesOf m types.now → (shown builder.new).built ≡ (taken (placed_groups m)).built) }
+    ensures built { OnOk result ((m : Module) → AreTypesOf m types.now → (builder_view builder.new).built ≡ (taken (placed_groups m)).built) }
     // Each index is that of a type that the builder holds, and there is room for more.
     ensures held { IfOk result (λ indices. AreHeld indices (length builder.new.list.types)) }
     ensures few { OnOk result (length builder.new.list.types < 2 ^ 31) }
-    ensures alone { OnOk result (HoldsGroupsAlone types.now.validator (shown builder.new)) }
+    ensures alone { OnOk result (HoldsGroupsAlone types.now.validator (builder_view builder.new)) }
     ensures memory { OnErr result (result ≡ Err EnvironError.OutOfMemory) }
 {
     let count = types.core_type_count_in_module();

@@ -109,8 +109,8 @@ fn shows(
     function: &WasmSubType,
     text: &str,
 ) -> Result<(), AllocError> {
-    let shown = format!(in alloc; "{function}")?;
-    assert_eq!(rt; shown.as_str(), text);
+    let builder_view = format!(in alloc; "{function}")?;
+    assert_eq!(rt; builder_view.as_str(), text);
     Ok(())
 }
 

@@ -3,7 +3,7 @@
 ghost use Rattle.std.specs.Prelude.{◌≡◌, ◌^◌, ◌<◌, ◌≤◌, length, IfOk, IsTrue, OnOk};
 ghost use Rattle.type_spec.specs.Interned.{composite_at};
 ghost use Rattle.wasm_index.specs.Index.{number_of};
-ghost use Rattle.module_types.specs.Builder.{shown, new_builder, excepts, starts, is_function};
+ghost use Rattle.module_types.specs.Builder.{builder_view, new_builder, excepts, starts, is_function};
 ghost use Rattle.module_environ.specs.Types.{HoldsGroupsAlone};
 
 use entity_map::EntityRef;
@@ -71,8 +71,8 @@ fn interned(
     sections: &[u8],
     builder: &mut ModuleTypesBuilder,
 ) -> Result<Vec<u32>, Fail>
-    requires new { shown builder.old ≡ new_builder 7 }
-    ensures alone { OnOk result (HoldsGroupsAlone 7 (shown builder.new)) }
+    requires new { builder_view builder.old ≡ new_builder 7 }
+    ensures alone { OnOk result (HoldsGroupsAlone 7 (builder_view builder.new)) }
     ensures few { OnOk result (length builder.new.list.types < 2 ^ 31) }
 {
     let bytes = module(alloc, sections)?;
@@ -188,7 +188,7 @@ fn startup_type_comes_behind_the_groups(rt: HostRuntime) -> Result<(), Fail> {
 /// Whether few types are held, so that there is room for one more.
 pub(crate) fn check_few(types: &ModuleTypesBuilder) -> Result<(), Fail>
     ensures few { OnOk result (length types.now.list.types ≤ 1000) }
-    ensures room { OnOk result (length (starts (shown types.now)).built.types < u32.MAX) }
+    ensures room { OnOk result (length (starts (builder_view types.now)).built.types < u32.MAX) }
 {
     match types.wasm_types().nth(1000) {
         Some(_) => Err(Fail::from("too many types")),
@@ -199,8 +199,8 @@ pub(crate) fn check_few(types: &ModuleTypesBuilder) -> Result<(), Fail>
 /// The first type, which is a function type. Few types are held, so that there is room for one more.
 fn first_function(builder: &ModuleTypesBuilder) -> Result<ModuleInternedTypeIndex, Fail>
     ensures in_range { IfOk result (λ k. number_of k < length builder.now.list.types) }
-    ensures function { IfOk result (λ k. IsTrue (is_function (composite_at (shown builder.now).built.types (number_of k)))) }
-    ensures room { IfOk result (λ k. length (excepts (shown builder.now) (number_of k)).built.types < u32.MAX) }
+    ensures function { IfOk result (λ k. IsTrue (is_function (composite_at (builder_view builder.now).built.types (number_of k)))) }
+    ensures room { IfOk result (λ k. length (excepts (builder_view builder.now) (number_of k)).built.types < u32.MAX) }
 {
     check_few(builder)?;
     let Some((function, ty)) = builder.wasm_types().nth(0) else {

@@ -9,7 +9,7 @@ use Rattle.wasm_types.specs.declared.sub.WasmSubType.{WasmSubType}
 use Rattle.wasm_types.specs.ValueViews.{Name}
 use Rattle.wasm_types.specs.TypeViews.{composite_of}
 use Rattle.module_types.specs.Views.{TypeIndex, inner_of, index_at}
-use Rattle.module_types.specs.Builder.{Kept}
+use Rattle.module_types.specs.Builder.{BuilderState}
 use Rattle.module_types.specs.Converter.{interned_name}
 use Rattle.module_types.proofs.Steps.{composite-read}
 
@@ -23,7 +23,7 @@ kind-kept (inner.Exn t) = refl
 abbrev named_as : WasmSubType → ℕ → Name
 named_as t n = record { kind = kind_of_type (composite_of t.composite_type.inner); index = index_at n }
 
-pub name-is : (b : Kept) (i : TypeIndex) (t : WasmSubType) → slice_get b.list.types (number_of i) ≡ Some t → (n : ℕ) → number_of i ≡ n
+pub name-is : (b : BuilderState) (i : TypeIndex) (t : WasmSubType) → slice_get b.list.types (number_of i) ≡ Some t → (n : ℕ) → number_of i ≡ n
     → named_as t (number_of i) ≡ interned_name b n
 name-is b i t read n is =
     (λ j. record {

@@ -10,7 +10,7 @@ use Rattle.wasm_index.specs.declared.index.Index.{Index}
 use Rattle.wasm_index.specs.declared.spaces.ModuleInternedRecGroupSpace.{ModuleInternedRecGroupSpace}
 use Rattle.wasm_index.specs.Index.{number_of, index_of}
 use Rattle.module_types.specs.Views.{TypeIndex, interned_of, span_of}
-use Rattle.module_types.specs.Builder.{Kept, shown, noted, new_builder, interns_by, interns, excepts_by, excepts, starts_by, starts}
+use Rattle.module_types.specs.Builder.{BuilderState, builder_view, noted, new_builder, interns_by, interns, excepts_by, excepts, starts_by, starts}
 
 pub where-ok : {A E : Type 0} {P : Type 0} (r : Result A E) → is_err r ≡ false → OnOk r P → P
 where-ok (Ok x) e p = p
@@ -39,42 +39,42 @@ notes-number before after id n k puts count m =
     ap (option_map number_of) (puts m) ∙ number-noted (nat_eq id m) k (lookup (nat_eq m) before)
     ∙ ap (λ c. cond (nat_eq id m) (Some c) (option_map number_of (lookup (nat_eq m) before))) count
 
-module _ (old new : Kept) where
-  types-count : (k : TypeIndex) → k ≡ index_of (length old.list.types) → number_of k ≡ length (shown old).built.types
+module _ (old new : BuilderState) where
+  types-count : (k : TypeIndex) → k ≡ index_of (length old.list.types) → number_of k ≡ length (builder_view old).built.types
   types-count k next = ap number_of next ∙ sym (length-map old.list.types interned_of)
 
   pub shows-interned : (ts : List Interned) (id : ℕ) (k : Index ModuleInternedRecGroupSpace) → None ≡ lookup (nat_eq id) old.ids
-      → (shown new).built ≡ with_group (shown old).built ts → k ≡ index_of (length old.list.groups) → Notes old.ids new.ids id k
+      → (builder_view new).built ≡ with_group (builder_view old).built ts → k ≡ index_of (length old.list.groups) → Notes old.ids new.ids id k
       → new.validator ≡ old.validator → new.exceptions ≡ old.exceptions → new.startup ≡ old.startup → new.is_poisoned ≡ old.is_poisoned
-      → shown new ≡ interns (shown old) id ts
+      → builder_view new ≡ interns (builder_view old) id ts
   shows-interned ts id k none built next puts validator exceptions startup poisoned =
       (λ j. record {
         validator = validator j;
         built = built j;
-        ids = λ m. notes-number old.ids new.ids id (length (shown old).built.groups) k puts (ap number_of next ∙ sym (length-map old.list.groups span_of)) m j;
+        ids = λ m. notes-number old.ids new.ids id (length (builder_view old).built.groups) k puts (ap number_of next ∙ sym (length-map old.list.groups span_of)) m j;
         exceptions = λ m. option_map number_of (lookup (nat_eq m) (exceptions j));
         startup = option_map number_of (startup j);
         is_poisoned = poisoned j;
-      }) ∙ ap (λ o. interns_by (shown old) id ts (option_map number_of o)) none
+      }) ∙ ap (λ o. interns_by (builder_view old) id ts (option_map number_of o)) none
 
   pub shows-excepted : (i : ℕ) (k : TypeIndex) → None ≡ lookup (nat_eq i) old.exceptions
-      → (shown new).built ≡ with_exception (shown old).built i → k ≡ index_of (length old.list.types) → Notes old.exceptions new.exceptions i k
+      → (builder_view new).built ≡ with_exception (builder_view old).built i → k ≡ index_of (length old.list.types) → Notes old.exceptions new.exceptions i k
       → new.validator ≡ old.validator → new.ids ≡ old.ids → new.startup ≡ old.startup → new.is_poisoned ≡ old.is_poisoned
-      → shown new ≡ excepts (shown old) i
+      → builder_view new ≡ excepts (builder_view old) i
   shows-excepted i k none built next puts validator ids startup poisoned =
       (λ j. record {
         validator = validator j;
         built = built j;
         ids = λ m. option_map number_of (lookup (nat_eq m) (ids j));
-        exceptions = λ m. notes-number old.exceptions new.exceptions i (length (shown old).built.types) k puts (types-count k next) m j;
+        exceptions = λ m. notes-number old.exceptions new.exceptions i (length (builder_view old).built.types) k puts (types-count k next) m j;
         startup = option_map number_of (startup j);
         is_poisoned = poisoned j;
-      }) ∙ ap (λ o. excepts_by (shown old) i (option_map number_of o)) none
+      }) ∙ ap (λ o. excepts_by (builder_view old) i (option_map number_of o)) none
 
-  pub shows-started : (k : TypeIndex) → old.startup ≡ None → (shown new).built ≡ with_startup (shown old).built true
+  pub shows-started : (k : TypeIndex) → old.startup ≡ None → (builder_view new).built ≡ with_startup (builder_view old).built true
       → k ≡ index_of (length old.list.types) → new.startup ≡ Some k
       → new.validator ≡ old.validator → new.ids ≡ old.ids → new.exceptions ≡ old.exceptions → new.is_poisoned ≡ old.is_poisoned
-      → shown new ≡ starts (shown old)
+      → builder_view new ≡ starts (builder_view old)
   shows-started k none built next startup validator ids exceptions poisoned =
       (λ j. record {
         validator = validator j;
@@ -83,10 +83,10 @@ module _ (old new : Kept) where
         exceptions = λ m. option_map number_of (lookup (nat_eq m) (exceptions j));
         startup = (ap (option_map number_of) startup ∙ ap Some (types-count k next)) j;
         is_poisoned = poisoned j;
-      }) ∙ ap (λ o. starts_by (shown old) (option_map number_of o)) (sym none)
+      }) ∙ ap (λ o. starts_by (builder_view old) (option_map number_of o)) (sym none)
 
-pub shows-new : (new : Kept) → (shown new).built ≡ empty → new.ids ≡ [] → new.exceptions ≡ [] → new.startup ≡ None
-    → new.is_poisoned ≡ false → shown new ≡ new_builder new.validator
+pub shows-new : (new : BuilderState) → (builder_view new).built ≡ empty → new.ids ≡ [] → new.exceptions ≡ [] → new.startup ≡ None
+    → new.is_poisoned ≡ false → builder_view new ≡ new_builder new.validator
 shows-new new built ids exceptions startup poisoned = λ j. record {
   validator = new.validator;
   built = built j;

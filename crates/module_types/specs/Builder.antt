@@ -16,7 +16,7 @@ use Rattle.module_types.specs.Held.{built_of}
 
 -- what a builder keeps: the validator's number, its list, and the entries of its maps, in some order: mapped types, ids of groups, and
 -- function types of tags
-pub record Kept : Type 0 where
+pub record BuilderState : Type 0 where
   pub validator : ℕ
   pub list : TypeList
   pub met : List (WasmFuncType × TypeIndex)
@@ -36,8 +36,8 @@ pub record Builder : Type 0 where
   pub is_poisoned : Bool
 
 -- what it shows
-abbrev pub shown : Kept → Builder
-shown k = record {
+abbrev pub builder_view : BuilderState → Builder
+builder_view k = record {
   validator = k.validator;
   built = built_of k.list (λ f. lookup (func.ghosts.eq f) k.met);
   ids = λ n. option_map number_of (lookup (nat_eq n) k.ids);
@@ -110,5 +110,5 @@ abbrev pub starts : Builder → Builder
 starts b = starts_by b b.startup
 
 -- the builder has gained the startup type, unless it had it, and nothing else
-abbrev pub GainsStartup : Kept → Kept → Type 0
-GainsStartup old new = shown new ≡ starts (shown old)
+abbrev pub GainsStartup : BuilderState → BuilderState → Type 0
+GainsStartup old new = builder_view new ≡ starts (builder_view old)

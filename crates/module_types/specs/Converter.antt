@@ -14,31 +14,31 @@ use Rattle.wasm_index.specs.declared.spaces.TypeSpace.{TypeSpace}
 use Rattle.wasm_index.specs.Index.{number_of, index_of}
 use Rattle.wasm_types.specs.ValueViews.{Name}
 use Rattle.module_types.specs.Views.{TypeIndex, index_at, interned_of, span_of}
-use Rattle.module_types.specs.Builder.{Kept}
+use Rattle.module_types.specs.Builder.{BuilderState}
 use Rattle.module_types.specs.Conversion.{KnowsId, look_by_id}
 use Rattle.module_types.specs.ClosureAnswers.{AnswersBelow}
 
 -- what the interned type at an index is named by
-abbrev pub interned_name : Kept → ℕ → Name
+abbrev pub interned_name : BuilderState → ℕ → Name
 interned_name b n = named index_at (record { kind = kind_of_type (composite_at (map interned_of b.list.types) n); index = n })
 
 -- the ids of a list of types, if there is one
-abbrev pub knows_ids : Kept → Option TypesData → UnpackedIndex → Type 0
+abbrev pub knows_ids : BuilderState → Option TypesData → UnpackedIndex → Type 0
 knows_ids b None i = ⊥
 knows_ids b (Some t) i = KnowsId t (length b.list.types) (map span_of b.list.groups) (λ k. option_map number_of (lookup (nat_eq k) b.ids)) i
 
-abbrev pub look_ids : Kept → Option TypesData → UnpackedIndex → Name
+abbrev pub look_ids : BuilderState → Option TypesData → UnpackedIndex → Name
 look_ids b None i = interned_name b 0
 look_ids b (Some t) i = look_by_id t (length b.list.types) (map span_of b.list.groups) (λ k. option_map number_of (lookup (nat_eq k) b.ids)) i
 
 -- the types of the module below a bound, at which the closure may be called; and the ids
-module _ (Callable : Index TypeSpace → Type 0) (b : Kept) (bound : ℕ) (types : Option TypesData) where
+module _ (Callable : Index TypeSpace → Type 0) (b : BuilderState) (bound : ℕ) (types : Option TypesData) where
   abbrev pub KnowsIndex : UnpackedIndex → Type 0
   KnowsIndex (index.Module i) = (i < bound) × Callable (index_of i)
   KnowsIndex (index.Id id) = knows_ids b types (index.Id id)
   KnowsIndex (index.RecGroup i) = ⊥
 
-module _ (Gives : Index TypeSpace → TypeIndex → Type 0) (b : Kept) (bound : ℕ) (answers : AnswersBelow Gives (length b.list.types) bound) (types : Option TypesData) where
+module _ (Gives : Index TypeSpace → TypeIndex → Type 0) (b : BuilderState) (bound : ℕ) (answers : AnswersBelow Gives (length b.list.types) bound) (types : Option TypesData) where
   abbrev pub number_by : (i : ℕ) (below : Bool) → nat_lt i bound ≡ below → ℕ
   number_by i true e = (answers i (ltb-true i bound e)).number
   number_by i false e = 0

@@ -34,14 +34,14 @@ pub struct ModuleTypesBuilder {
     pub(crate) poisoned: bool,
 }
 
-/// A contract sees the list, and the entries of the maps; `shown` is what they say.
+/// A contract sees the list, and the entries of the maps; `builder_view` is what they say.
 impl Model for ModuleTypesBuilder {
     ghost use Rattle.std.specs.Prelude.{◌≡◌, false};
     ghost use Rattle.module_types.specs.Orderly.{IsOrderly};
     ghost use Rattle.module_types.specs.Interner.{built};
-    ghost use Rattle.module_types.specs.Builder.{Kept};
+    ghost use Rattle.module_types.specs.Builder.{BuilderState};
 
-    ghost Value = { Kept };
+    ghost Value = { BuilderState };
 
     ghost view = { λ b. record {
       validator = b.validator.0;
@@ -57,11 +57,11 @@ impl Model for ModuleTypesBuilder {
 }
 
 impl ModuleTypesBuilder {
-    ghost use Rattle.module_types.specs.Builder.{shown, new_builder, exception_index, excepts, is_function, startup_index, starts};
+    ghost use Rattle.module_types.specs.Builder.{builder_view, new_builder, exception_index, excepts, is_function, startup_index, starts};
 
     /// A builder that holds nothing, for the types of a validator.
     pub fn new(alloc: Global, validator: &Validator) -> Self
-        ensures { shown result ≡ new_builder validator.now }
+        ensures { builder_view result ≡ new_builder validator.now }
     {
         let validator = validator.id();
         ModuleTypesBuilder {
@@ -98,10 +98,10 @@ impl ModuleTypesBuilder {
         for_func_ty: ModuleInternedTypeIndex,
     ) -> Result<ModuleInternedTypeIndex, BuildError>
         requires in_range { number_of for_func_ty < length self.old.list.types }
-        requires function { IsTrue (is_function (composite_at (shown self.old).built.types (number_of for_func_ty))) }
-        requires room { self.old.is_poisoned ≡ false → length (excepts (shown self.old) (number_of for_func_ty)).built.types < u32.MAX }
-        ensures index { IfOk result (λ k. number_of k ≡ exception_index (shown self.old) (number_of for_func_ty)) }
-        ensures defined { OnOk result (shown self.new ≡ excepts (shown self.old) (number_of for_func_ty)) }
+        requires function { IsTrue (is_function (composite_at (builder_view self.old).built.types (number_of for_func_ty))) }
+        requires room { self.old.is_poisoned ≡ false → length (excepts (builder_view self.old) (number_of for_func_ty)).built.types < u32.MAX }
+        ensures index { IfOk result (λ k. number_of k ≡ exception_index (builder_view self.old) (number_of for_func_ty)) }
+        ensures defined { OnOk result (builder_view self.new ≡ excepts (builder_view self.old) (number_of for_func_ty)) }
         ensures poisoned { (result ≡ Err BuildError.Poisoned) ↔ (self.old.is_poisoned ≡ true) }
         ensures err { OnErr result (self.new.is_poisoned ≡ true) }
     {
@@ -133,9 +133,9 @@ impl ModuleTypesBuilder {
     /// # Errors
     /// `OutOfMemory`, and from then on `Poisoned`.
     pub fn startup_func_type(&mut self) -> Result<ModuleInternedTypeIndex, BuildError>
-        requires room { self.old.is_poisoned ≡ false → length (starts (shown self.old)).built.types < u32.MAX }
-        ensures index { IfOk result (λ k. number_of k ≡ startup_index (shown self.old)) }
-        ensures made { OnOk result (shown self.new ≡ starts (shown self.old)) }
+        requires room { self.old.is_poisoned ≡ false → length (starts (builder_view self.old)).built.types < u32.MAX }
+        ensures index { IfOk result (λ k. number_of k ≡ startup_index (builder_view self.old)) }
+        ensures made { OnOk result (builder_view self.new ≡ starts (builder_view self.old)) }
         ensures poisoned { (result ≡ Err BuildError.Poisoned) ↔ (self.old.is_poisoned ≡ true) }
         ensures err { OnErr result (self.new.is_poisoned ≡ true) }
     {

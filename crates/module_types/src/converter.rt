@@ -14,7 +14,7 @@ ghost use Rattle.wasm_index.specs.declared.spaces.ModuleInternedTypeSpace.{Modul
 ghost use Rattle.wasm_types.specs.ValueViews.{heap_of};
 ghost use Rattle.wasm_types.specs.TypeViews.{composite_of};
 ghost use Rattle.wasm_types.specs.declared.index.EngineOrModuleTypeIndex.TheVariants.{Module};
-ghost use Rattle.module_types.specs.Builder.{shown};
+ghost use Rattle.module_types.specs.Builder.{builder_view};
 ghost use Rattle.module_types.specs.Conversion.{group_of_id, members_of, HoldsGroups};
 ghost use Rattle.module_types.specs.ClosureAnswers.{AnswersBelow, AnswersBelow-prop};
 ghost use Rattle.module_types.specs.Converter.{KnowsIndex, look_index, answered, knows_ids};
@@ -101,14 +101,14 @@ impl<'a, F: TypeLookUp> WasmparserTypeConverter<'a, F> {
     /// Looks up ids of a list of types besides: those of groups that the builder holds, and those of one group, which
     /// is interned next unless it is held.
     pub fn with_rec_group(&mut self, types: &'a Types, rec_group: RecGroupId) -> &Self
-        requires holds { HoldsGroups types.now (shown self.old.types.now) }
-        requires room { (shown self.old.types.now).ids rec_group.0 ≡ None → length self.old.types.now.list.types + length (members_of types.now rec_group.0) < u32.MAX }
+        requires holds { HoldsGroups types.now (builder_view self.old.types.now) }
+        requires room { (builder_view self.old.types.now).ids rec_group.0 ≡ None → length self.old.types.now.list.types + length (members_of types.now rec_group.0) < u32.MAX }
         ensures types { result.now.types.now ≡ self.old.types.now }
         ensures count { result.now.count ≡ self.old.count }
         ensures look_up { result.now.lookup_type_idx ≡ self.old.lookup_type_idx }
         ensures ids { result.now.rec_group ≡ Some (types.entry, rec_group) }
         ensures known { (n : ℕ) → n < length (types_by_id types.now.groups)
-            → (group_of_id types.now n ≡ rec_group.0) ⊎ IsSome ((shown self.old.types.now).ids (group_of_id types.now n))
+            → (group_of_id types.now n ≡ rec_group.0) ⊎ IsSome ((builder_view self.old.types.now).ids (group_of_id types.now n))
             → knows_ids self.old.types.now (Some types.now) (Id (id_of n)) }
     {
         self.rec_group = Some((types, rec_group));

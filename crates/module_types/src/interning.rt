@@ -6,7 +6,7 @@ ghost use Rattle.form_types.specs.Types.{types_by_id};
 ghost use Rattle.wasm_index.specs.Index.{number_of};
 ghost use Rattle.module_types.specs.Views.{interned_of};
 ghost use Rattle.module_types.specs.Conversion.{members_of, group_of_id, interned_members, interned_index, HoldsGroups, NamesInterned};
-ghost use Rattle.module_types.specs.Builder.{shown, group_index, interns};
+ghost use Rattle.module_types.specs.Builder.{builder_view, group_index, interns};
 
 use crate::builder::ModuleTypesBuilder;
 use crate::error::BuildError;
@@ -34,10 +34,10 @@ impl ModuleTypesBuilder {
     // A group that is to be interned next, converted.
     fn converted(&self, types: &Types, id: RecGroupId) -> Result<Vec<WasmSubType>, OutOfMemory>
         requires known { id.0 < length types.now.groups }
-        requires holds { HoldsGroups types.now (shown self.now) }
-        requires named { NamesInterned types.now (shown self.now) id.0 }
+        requires holds { HoldsGroups types.now (builder_view self.now) }
+        requires named { NamesInterned types.now (builder_view self.now) id.0 }
         requires room { length self.now.list.types + length (members_of types.now id.0) < u32.MAX }
-        ensures { IfOk result (λ ts. map interned_of ts.items ≡ interned_members types.now (shown self.now) id.0) }
+        ensures { IfOk result (λ ts. map interned_of ts.items ≡ interned_members types.now (builder_view self.now) id.0) }
     {
         let converter = self.looking_up(types);
         convert_members(self.alloc, &converter, types.members(id))
@@ -51,11 +51,11 @@ impl ModuleTypesBuilder {
         members: Vec<WasmSubType>,
     ) -> Result<ModuleInternedRecGroupIndex, OutOfMemory>
         requires sound { self.old.is_poisoned ≡ false }
-        requires unheld { (shown self.old).ids id.0 ≡ None }
+        requires unheld { (builder_view self.old).ids id.0 ≡ None }
         requires filled { 0 < length members.items }
-        requires room { length (with_group (shown self.old).built (map interned_of members.items)).types < u32.MAX }
+        requires room { length (with_group (builder_view self.old).built (map interned_of members.items)).types < u32.MAX }
         ensures index { IfOk result (λ k. number_of k ≡ length self.old.list.groups) }
-        ensures appended { OnOk result (shown self.new ≡ interns (shown self.old) id.0 (map interned_of members.items)) }
+        ensures appended { OnOk result (builder_view self.new ≡ interns (builder_view self.old) id.0 (map interned_of members.items)) }
         ensures err { OnErr result (self.new.is_poisoned ≡ true) }
     {
         self.poisoned = true;
@@ -78,11 +78,11 @@ impl ModuleTypesBuilder {
     ) -> Result<ModuleInternedRecGroupIndex, BuildError>
         requires known { id.0 < length types.now.groups }
         requires filled { 0 < length (members_of types.now id.0) }
-        requires holds { HoldsGroups types.now (shown self.old) }
-        requires named { NamesInterned types.now (shown self.old) id.0 }
-        requires room { self.old.is_poisoned ≡ false → length (interns (shown self.old) id.0 (interned_members types.now (shown self.old) id.0)).built.types < u32.MAX }
-        ensures index { IfOk result (λ k. number_of k ≡ group_index (shown self.old) id.0) }
-        ensures interned { OnOk result (shown self.new ≡ interns (shown self.old) id.0 (interned_members types.now (shown self.old) id.0)) }
+        requires holds { HoldsGroups types.now (builder_view self.old) }
+        requires named { NamesInterned types.now (builder_view self.old) id.0 }
+        requires room { self.old.is_poisoned ≡ false → length (interns (builder_view self.old) id.0 (interned_members types.now (builder_view self.old) id.0)).built.types < u32.MAX }
+        ensures index { IfOk result (λ k. number_of k ≡ group_index (builder_view self.old) id.0) }
+        ensures interned { OnOk result (builder_view self.new ≡ interns (builder_view self.old) id.0 (interned_members types.now (builder_view self.old) id.0)) }
         ensures poisoned { (result ≡ Err BuildError.Poisoned) ↔ (self.old.is_poisoned ≡ true) }
         ensures err { OnErr result (self.new.is_poisoned ≡ true) }
     {
@@ -112,11 +112,11 @@ impl ModuleTypesBuilder {
         id: CoreTypeId,
     ) -> Result<ModuleInternedTypeIndex, BuildError>
         requires known { id.0 < length (types_by_id types.now.groups) }
-        requires holds { HoldsGroups types.now (shown self.old) }
-        requires named { NamesInterned types.now (shown self.old) (group_of_id types.now id.0) }
-        requires room { self.old.is_poisoned ≡ false → length (interns (shown self.old) (group_of_id types.now id.0) (interned_members types.now (shown self.old) (group_of_id types.now id.0))).built.types < u32.MAX }
-        ensures index { IfOk result (λ k. number_of k ≡ interned_index types.now (shown self.new) id.0) }
-        ensures interned { OnOk result (shown self.new ≡ interns (shown self.old) (group_of_id types.now id.0) (interned_members types.now (shown self.old) (group_of_id types.now id.0))) }
+        requires holds { HoldsGroups types.now (builder_view self.old) }
+        requires named { NamesInterned types.now (builder_view self.old) (group_of_id types.now id.0) }
+        requires room { self.old.is_poisoned ≡ false → length (interns (builder_view self.old) (group_of_id types.now id.0) (interned_members types.now (builder_view self.old) (group_of_id types.now id.0))).built.types < u32.MAX }
+        ensures index { IfOk result (λ k. number_of k ≡ interned_index types.now (builder_view self.new) id.0) }
+        ensures interned { OnOk result (builder_view self.new ≡ interns (builder_view self.old) (group_of_id types.now id.0) (interned_members types.now (builder_view self.old) (group_of_id types.now id.0))) }
         ensures poisoned { (result ≡ Err BuildError.Poisoned) ↔ (self.old.is_poisoned ≡ true) }
         ensures err { OnErr result (self.new.is_poisoned ≡ true) }
     {

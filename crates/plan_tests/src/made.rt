@@ -1,7 +1,7 @@
 //! A translation that is filled by hand, and the startup that it has before it is planned.
 
 ghost use Rattle.std.specs.Prelude.{◌≡◌, ◌≤◌, [], length, IfOk, OnOk, false};
-ghost use Rattle.module_types.specs.Builder.{shown, starts};
+ghost use Rattle.module_types.specs.Builder.{builder_view, starts};
 ghost use Rattle.init_plan.specs.Ready.{MemoryHalfIsReady};
 ghost use Rattle.init_plan.specs.Views.{passive_data_of};
 

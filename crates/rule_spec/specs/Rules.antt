@@ -50,21 +50,21 @@ pub record AreInRange (l : Lists) : Type 0 where
   pub segments : All (λ (s : Segment). NamesMemory l s.kind) l.segments
 
 -- a rule is kept
-abbrev pub Kept : Rule → Lists → Type 0
-Kept rule.L1 l = All (IsDeclaredWell l) l.types
-Kept rule.L2 l = TypesAreNamed l
-Kept rule.L3 l = CountsAgree l
-Kept rule.L4 l = HaveLimits l
-Kept rule.L5 l = All IsInitialised l.tables
-Kept rule.L6 l = AreExpressionsTyped l
-Kept rule.L7 l = AreExported l
-Kept rule.L8 l = All (CanStart l) l.starts
-Kept rule.L9 l = AreInRange l
-Kept rule.L10 l = AllReferIn (length l.types) l
+abbrev pub Satisfies : Rule → Lists → Type 0
+Satisfies rule.L1 l = All (IsDeclaredWell l) l.types
+Satisfies rule.L2 l = TypesAreNamed l
+Satisfies rule.L3 l = CountsAgree l
+Satisfies rule.L4 l = HaveLimits l
+Satisfies rule.L5 l = All IsInitialised l.tables
+Satisfies rule.L6 l = AreExpressionsTyped l
+Satisfies rule.L7 l = AreExported l
+Satisfies rule.L8 l = All (CanStart l) l.starts
+Satisfies rule.L9 l = AreInRange l
+Satisfies rule.L10 l = AllReferIn (length l.types) l
 
 -- the module keeps all listed rules
 abbrev pub Keeps : Module → Type 0
-Keeps m = (r : Rule) → Kept r (lists_of_module m)
+Keeps m = (r : Rule) → Satisfies r (lists_of_module m)
 
 -- the number of a rule, in the order of which rules are asked
 abbrev pub number_of : Rule → ℕ
@@ -81,4 +81,4 @@ number_of rule.L10 = 10
 
 -- the module keeps each rule of a lower number
 abbrev pub KeepsBefore : Rule → Module → Type 0
-KeepsBefore r m = (lower : Rule) → number_of lower < number_of r → Kept lower (lists_of_module m)
+KeepsBefore r m = (lower : Rule) → number_of lower < number_of r → Satisfies lower (lists_of_module m)

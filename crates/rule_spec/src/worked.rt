@@ -8,22 +8,22 @@ ghost use Rattle.rule_spec.specs.declared.rules.Rule.TheVariants as rule;
 ghost use Rattle.rule_spec.specs.declared.classes.Class.{Class};
 ghost use Rattle.rule_spec.specs.declared.classes.Class.TheVariants as class;
 ghost use Rattle.rule_spec.specs.Lists.{lists_of_module};
-ghost use Rattle.rule_spec.specs.Rules.{Kept};
+ghost use Rattle.rule_spec.specs.Rules.{Satisfies};
 ghost use Rattle.rule_spec.specs.Typing.{signature, HasClass};
 ghost use Rattle.rule_spec.specs.Worked.{pushes, three_types, two_globals, type_past_group, function_without_type, function_without_body, maximum_below_minimum, table_without_initialiser, global_of_another_class, exported_twice, start_without_function, segment_without_table, reference_without_type};
 
 /// A small module that breaks each rule.
 pub fn worked_rules()
-    ensures types { ¬ Kept rule.L1 (lists_of_module type_past_group) }
-    ensures functions { ¬ Kept rule.L2 (lists_of_module function_without_type) }
-    ensures bodies { ¬ Kept rule.L3 (lists_of_module function_without_body) }
-    ensures limits { ¬ Kept rule.L4 (lists_of_module maximum_below_minimum) }
-    ensures tables { ¬ Kept rule.L5 (lists_of_module table_without_initialiser) }
-    ensures expressions { ¬ Kept rule.L6 (lists_of_module global_of_another_class) }
-    ensures exports { ¬ Kept rule.L7 (lists_of_module exported_twice) }
-    ensures start { ¬ Kept rule.L8 (lists_of_module start_without_function) }
-    ensures segments { ¬ Kept rule.L9 (lists_of_module segment_without_table) }
-    ensures references { ¬ Kept rule.L10 (lists_of_module reference_without_type) }
+    ensures types { ¬ Satisfies rule.L1 (lists_of_module type_past_group) }
+    ensures functions { ¬ Satisfies rule.L2 (lists_of_module function_without_type) }
+    ensures bodies { ¬ Satisfies rule.L3 (lists_of_module function_without_body) }
+    ensures limits { ¬ Satisfies rule.L4 (lists_of_module maximum_below_minimum) }
+    ensures tables { ¬ Satisfies rule.L5 (lists_of_module table_without_initialiser) }
+    ensures expressions { ¬ Satisfies rule.L6 (lists_of_module global_of_another_class) }
+    ensures exports { ¬ Satisfies rule.L7 (lists_of_module exported_twice) }
+    ensures start { ¬ Satisfies rule.L8 (lists_of_module start_without_function) }
+    ensures segments { ¬ Satisfies rule.L9 (lists_of_module segment_without_table) }
+    ensures references { ¬ Satisfies rule.L10 (lists_of_module reference_without_type) }
 {}
 
 /// What each operator takes and pushes, and what it may not name.

@@ -18,7 +18,7 @@ use wasm_types::{Table, WasmHeapTopType};
 pub(crate) const MOST_CELLS: u64 = 1048576;
 
 /// Where a segment is laid into an image: the table, by its number among the defined ones, and the place of the first cell.
-#[derive(Clone, Copy, Debug)]
+#[derive(Clone, Copy)]
 pub(crate) struct Spot {
     pub(crate) table: usize,
     pub(crate) place: usize,

@@ -13,7 +13,7 @@ use Rattle.replay_spec.specs.Plan.{MemoryPlan, Agrees}
 use Rattle.replay_spec.specs.Startup.{Startup, startup_of, first_startup, raised_by_tables, raised_by_memories}
 use Rattle.replay_spec.specs.Tables.{TablePlan, IsTablePlan}
 use Rattle.type_spec.specs.Interned.{Built}
-use Rattle.module_types.specs.Builder.{Kept, shown}
+use Rattle.module_types.specs.Builder.{BuilderState, builder_view}
 use Rattle.module_types.specs.Views.{interned_of}
 use Rattle.init_plan.specs.declared.translation.ModuleTranslation.{ModuleTranslation}
 use Rattle.init_plan.specs.Agreement.{AgreesOnElements, AgreesInAll}
@@ -33,7 +33,7 @@ use Rattle.translate.proofs.Started.{IsStarted, next, starts_first, first_room, 
 use Rattle.translate.proofs.Unchanged.{changes_both}
 
 -- what was translated with equal words is translated with these
-pub translated_with : (a b : Tunables) (i j : Index StaticModuleSpace) (v w : ℕ) (bytes : List ℕ) (t : ModuleTranslation) (before types : Kept)
+pub translated_with : (a b : Tunables) (i j : Index StaticModuleSpace) (v w : ℕ) (bytes : List ℕ) (t : ModuleTranslation) (before types : BuilderState)
     → a ≡ b → i ≡ j → v ≡ w → before ≡ types → IsTranslated a i v bytes t before → IsTranslated b j w bytes t types
 translated_with a b i j v w bytes t before types ab ij vw same h =
     subst (IsTranslated b j w bytes t) same (subst (λ (x : ℕ). IsTranslated b j x bytes t before) vw
@@ -49,47 +49,47 @@ pub record Laws (m : Module) : Type 0 where
       → Agrees m memories → AgreesOnElements m tables → AgreesInAll m globals memories tables
 
 -- the plan of the memories of a translation, and then that of its tables
-pub record Plans (i : InitOptions) (m : Module) (old mid new : ModuleTranslation) (b mid_types new_types : Kept) : Type 0 where
+pub record Plans (i : InitOptions) (m : Module) (old mid new : ModuleTranslation) (b mid_types new_types : BuilderState) : Type 0 where
   pub memories : MemoriesTell i old mid
   pub memories_same : OnlyMemoryInitChanges old mid
-  pub memories_startup : mid.module.startup ≡ raised (raised_by_memories (memory_plan_of mid) (startup_kind old.module.startup)) old.module.startup (shown b)
-  pub memories_types : shown mid_types ≡ types_after (raised_by_memories (memory_plan_of mid) (startup_kind old.module.startup)) old.module.startup (shown b)
+  pub memories_startup : mid.module.startup ≡ raised (raised_by_memories (memory_plan_of mid) (startup_kind old.module.startup)) old.module.startup (builder_view b)
+  pub memories_types : builder_view mid_types ≡ types_after (raised_by_memories (memory_plan_of mid) (startup_kind old.module.startup)) old.module.startup (builder_view b)
   pub tables : IsTablePlan i.tunables.table_lazy_init mid.module.num_imported_tables (tables_of mid) (elements_of mid) (plan_of_tables new)
   pub tables_same : OnlyTableInitChanges mid new
   pub tables_left : IsLeft mid.table_initialization new.table_initialization
   pub tables_counted : AreCounted new
-  pub tables_startup : new.module.startup ≡ raised (startup_with_tables mid (plan_of_tables new)) mid.module.startup (shown mid_types)
-  pub tables_types : shown new_types ≡ types_after (startup_with_tables mid (plan_of_tables new)) mid.module.startup (shown mid_types)
+  pub tables_startup : new.module.startup ≡ raised (startup_with_tables mid (plan_of_tables new)) mid.module.startup (builder_view mid_types)
+  pub tables_types : builder_view new_types ≡ types_after (startup_with_tables mid (plan_of_tables new)) mid.module.startup (builder_view mid_types)
   pub agree_globals : AgreesOnGlobals (lists_of_module m).imported_globals (initialisers (lists_of_module m)) (plan_of_globals old)
   pub agree_memories : Agrees m (memory_plan_of mid)
   pub agree_tables : AgreesOnElements m (plan_of_tables new)
 
-module _ (i : InitOptions) (bytes : List ℕ) (old : ModuleTranslation) (b : Kept) (told : IsTranslated i.tunables (index_of 0) 0 bytes old b) where
+module _ (i : InitOptions) (bytes : List ℕ) (old : ModuleTranslation) (b : BuilderState) (told : IsTranslated i.tunables (index_of 0) 0 bytes old b) where
   abbrev listed : Built
   listed = interned_list told.meaning false
 
   abbrev kind : Startup
   kind = first_startup (lists_of_module told.meaning)
 
-  pub started : IsStarted listed kind old.module.startup (shown b)
-  started = starts_first told.meaning old.module.startup (shown b) told.translation.startup told.types
+  pub started : IsStarted listed kind old.module.startup (builder_view b)
+  started = starts_first told.meaning old.module.startup (builder_view b) told.translation.startup told.types
 
   pub room : length listed.types + 1 < 4294967295
-  room = first_room told.meaning (shown b) told.types
+  room = first_room told.meaning (builder_view b) told.types
 
   pub holds_data : image_memories old.module ≡ map image_memory_of (defined_memories told.meaning) → HoldsData told.meaning old
   holds_data memories = record { holds = told.ready.holds_memories; memories = memories; passive = told.translation.sections.data_segments.passive }
 
   -- startup, once the memories are planned
-  pub started_memories : (mid : ModuleTranslation) (types : Kept)
-      → mid.module.startup ≡ raised (raised_by_memories (memory_plan_of mid) (startup_kind old.module.startup)) old.module.startup (shown b)
-      → shown types ≡ types_after (raised_by_memories (memory_plan_of mid) (startup_kind old.module.startup)) old.module.startup (shown b)
-      → IsStarted listed (raised_by_memories (memory_plan_of mid) kind) mid.module.startup (shown types)
+  pub started_memories : (mid : ModuleTranslation) (types : BuilderState)
+      → mid.module.startup ≡ raised (raised_by_memories (memory_plan_of mid) (startup_kind old.module.startup)) old.module.startup (builder_view b)
+      → builder_view types ≡ types_after (raised_by_memories (memory_plan_of mid) (startup_kind old.module.startup)) old.module.startup (builder_view b)
+      → IsStarted listed (raised_by_memories (memory_plan_of mid) kind) mid.module.startup (builder_view types)
   started_memories mid types startup grown =
-      next listed (raised_by_memories (memory_plan_of mid)) kind old.module.startup mid.module.startup (shown b) (shown types)
+      next listed (raised_by_memories (memory_plan_of mid)) kind old.module.startup mid.module.startup (builder_view b) (builder_view types)
       (raised-memories (memory_plan_of mid)) started startup grown
 
-  module _ (mid new : ModuleTranslation) (mid_types new_types : Kept) (laws : Laws told.meaning)
+  module _ (mid new : ModuleTranslation) (mid_types new_types : BuilderState) (laws : Laws told.meaning)
       (plans : Plans i told.meaning old mid new b mid_types new_types) (memories : image_memories old.module ≡ map image_memory_of (defined_memories told.meaning)) where
     -- the plan of the tables keeps that of the memories, and both the globals
     plan_same : memory_plan_of new ≡ memory_plan_of mid
@@ -101,13 +101,13 @@ module _ (i : InitOptions) (bytes : List ℕ) (old : ModuleTranslation) (b : Kep
     abbrev last_kind : Startup
     last_kind = startup_by told.meaning (memory_plan_of new) (plan_of_tables new)
 
-    last_started : IsStarted listed last_kind new.module.startup (shown new_types)
+    last_started : IsStarted listed last_kind new.module.startup (builder_view new_types)
     last_started =
         let raised_to = laws.startup (lists_of_module told.meaning) (plan_of_tables new) (memory_plan_of mid)
         ∙ ap (startup_of (lists_of_module told.meaning) (plan_of_tables new)) (sym plan_same) in
-        subst (λ (k : Startup). IsStarted listed k new.module.startup (shown new_types)) raised_to
+        subst (λ (k : Startup). IsStarted listed k new.module.startup (builder_view new_types)) raised_to
         (next listed (raised_by_tables (plan_of_tables new)) (raised_by_memories (memory_plan_of mid) kind) mid.module.startup new.module.startup
-        (shown mid_types) (shown new_types) (raised-tables (plan_of_tables new))
+        (builder_view mid_types) (builder_view new_types) (raised-tables (plan_of_tables new))
         (started_memories mid mid_types plans.memories_startup plans.memories_types) plans.tables_startup plans.tables_types)
 
     agreed : AgreesInAll told.meaning (plan_of_globals new) (memory_plan_of new) (plan_of_tables new)
@@ -136,6 +136,6 @@ module _ (i : InitOptions) (bytes : List ℕ) (old : ModuleTranslation) (b : Kep
       };
       types = last_started.built;
       sound = last_started.sound;
-      few = let fewer = few_types listed last_kind new.module.startup (shown new_types) last_started room in
+      few = let fewer = few_types listed last_kind new.module.startup (builder_view new_types) last_started room in
           subst (λ (n : ℕ). n < 4294967295) (length-map new_types.list.types interned_of) fewer;
     }

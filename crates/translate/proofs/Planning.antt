@@ -16,7 +16,7 @@ use Rattle.form_types.specs.Placed.{placed_groups}
 use Rattle.wasm_types.specs.declared.sub.WasmSubType.{WasmSubType}
 use Rattle.module_types.specs.Views.{interned_number, interned_of}
 use Rattle.module_types.specs.TypeList.{TypeList}
-use Rattle.module_types.specs.Builder.{Kept}
+use Rattle.module_types.specs.Builder.{BuilderState}
 use Rattle.module_types.specs.Held.{built_of}
 use Rattle.module_types.proofs.EqualLists.{declared}
 use Rattle.module_types.proofs.NamingEarlier.{keeps-earlier}
@@ -56,7 +56,7 @@ not-above : (a b : ℕ) → (a < b → ⊥) → b ≤ a
 not-above a b never = ⊎_elim (λ (above : a < b). absurd (never above)) (λ (below : b ≤ a). below) (cases_lt a b)
 
 -- what a list of types holds, once it is finished
-module _ (o : Options) (bytes : List ℕ) (t : ModuleTranslation) (b : Kept) (init : Initialises o.init bytes t b) (l : TypeList) (finished : l ≡ b.list) where
+module _ (o : Options) (bytes : List ℕ) (t : ModuleTranslation) (b : BuilderState) (init : Initialises o.init bytes t b) (l : TypeList) (finished : l ≡ b.list) where
   abbrev m : Module
   m = init.meaning
 

@@ -6,7 +6,7 @@ use Rattle.wasm_index.specs.Index.{index_of}
 use Rattle.replay_spec.specs.Data.{active_segments}
 use Rattle.replay_spec.specs.Images.{image_memory_of}
 use Rattle.replay_spec.specs.Plan.{MemoryPlan, ranges_from, FindsPassive}
-use Rattle.module_types.specs.Builder.{Kept, shown}
+use Rattle.module_types.specs.Builder.{BuilderState, builder_view}
 use Rattle.init_plan.specs.declared.translation.ModuleTranslation.{ModuleTranslation}
 use Rattle.init_plan.specs.Views.{memory_plan_of, ranges_of, IsSegmented, IsProcessed, FindsInOrder}
 use Rattle.init_plan.specs.Images.{HasTightImages, HasWholeRanges}
@@ -82,11 +82,11 @@ pub record IsInitialised (i : InitOptions) (bytes : List ℕ) (m : Module) (t : 
 
 -- the bytes spell a module that keeps the listed rules; this is its translation, planned, and the builder holds its types, with a startup
 -- type exactly where startup may run
-pub record Initialises (i : InitOptions) (bytes : List ℕ) (t : ModuleTranslation) (b : Kept) : Type 0 where
+pub record Initialises (i : InitOptions) (bytes : List ℕ) (t : ModuleTranslation) (b : BuilderState) : Type 0 where
   pub meaning : Module
   pub read : IsReadable bytes meaning
   pub keeps : Keeps meaning
   pub initialised : IsInitialised i bytes meaning t
-  pub types : (shown b).built ≡ interned_list meaning (runs (startup_by meaning (memory_plan_of t) (plan_of_tables t)))
+  pub types : (builder_view b).built ≡ interned_list meaning (runs (startup_by meaning (memory_plan_of t) (plan_of_tables t)))
   pub sound : b.is_poisoned ≡ false
   pub few : length b.list.types < 4294967295

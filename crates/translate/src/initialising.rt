@@ -2,7 +2,7 @@
 
 ghost use Rattle.std.specs.Prelude.{◌≡◌, ◌^◌, ◌<◌, ◌≤◌, length, IfOk, IfErr, Err};
 ghost use Rattle.std.specs.Int.{IsPowerOfTwo};
-ghost use Rattle.module_types.specs.Builder.{shown, new_builder};
+ghost use Rattle.module_types.specs.Builder.{builder_view, new_builder};
 ghost use Rattle.translate.specs.Options.{Options, init_options};
 ghost use Rattle.translate.specs.Initialised.{Initialises};
 ghost use Rattle.translate.specs.Planned.{HasCause, SucceedsOrNoMemory};
@@ -35,7 +35,7 @@ pub(crate) fn planned_translation<'d>(
     bytes: &'d [u8],
 ) -> Result<ModuleTranslation<'d>, TranslateError>
     requires page_size { IsPowerOfTwo page_size }
-    requires new { shown types.old ≡ new_builder validator.now }
+    requires new { builder_view types.old ≡ new_builder validator.now }
     requires number { validator.now ≡ 0 }
     ensures initialised { IfOk result (λ t. Initialises (init_options tunables.now page_size max_image) bytes.now t types.new) }
     ensures cause { IfErr result (λ e. (o : Options) → o.init ≡ init_options tunables.now page_size max_image → HasCause o bytes.now e) }

@@ -1,7 +1,7 @@
 //! The start of a region.
 
 /// A region's description, and its first byte.
-#[derive(Clone, Copy, Debug)]
+#[derive(Clone, Copy)]
 pub struct Part {
     pub description: &'static str,
     pub begin: u32,

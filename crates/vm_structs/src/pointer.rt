@@ -17,7 +17,7 @@ pub trait PtrSize {
         ensures { result ≡ pointer_size self.now };
 
     /// The layout of [`offsets::VMFunctionImport`].
-    fn vm_function_import(&self) -> offsets::VMFunctionImport<u8>
+    final fn vm_function_import(&self) -> offsets::VMFunctionImport<u8>
         requires { IsPointerSize (pointer_size self.now) }
         ensures { result ≡ record { 0 = pointer_size self.now } }
     {
@@ -25,7 +25,7 @@ pub trait PtrSize {
     }
 
     /// The layout of [`offsets::VMTableImport`].
-    fn vm_table_import(&self) -> offsets::VMTableImport<u8>
+    final fn vm_table_import(&self) -> offsets::VMTableImport<u8>
         requires { IsPointerSize (pointer_size self.now) }
         ensures { result ≡ record { 0 = pointer_size self.now } }
     {
@@ -33,7 +33,7 @@ pub trait PtrSize {
     }
 
     /// The layout of [`offsets::VMMemoryImport`].
-    fn vm_memory_import(&self) -> offsets::VMMemoryImport<u8>
+    final fn vm_memory_import(&self) -> offsets::VMMemoryImport<u8>
         requires { IsPointerSize (pointer_size self.now) }
         ensures { result ≡ record { 0 = pointer_size self.now } }
     {
@@ -41,7 +41,7 @@ pub trait PtrSize {
     }
 
     /// The layout of [`offsets::VMTagImport`].
-    fn vm_tag_import(&self) -> offsets::VMTagImport<u8>
+    final fn vm_tag_import(&self) -> offsets::VMTagImport<u8>
         requires { IsPointerSize (pointer_size self.now) }
         ensures { result ≡ record { 0 = pointer_size self.now } }
     {
@@ -49,7 +49,7 @@ pub trait PtrSize {
     }
 
     /// The layout of [`offsets::VMGlobalImport`].
-    fn vm_global_import(&self) -> offsets::VMGlobalImport<u8>
+    final fn vm_global_import(&self) -> offsets::VMGlobalImport<u8>
         requires { IsPointerSize (pointer_size self.now) }
         ensures { result ≡ record { 0 = pointer_size self.now } }
     {
@@ -57,7 +57,7 @@ pub trait PtrSize {
     }
 
     /// The layout of [`offsets::VMMemoryDefinition`].
-    fn vm_memory_definition(&self) -> offsets::VMMemoryDefinition<u8>
+    final fn vm_memory_definition(&self) -> offsets::VMMemoryDefinition<u8>
         requires { IsPointerSize (pointer_size self.now) }
         ensures { result ≡ record { 0 = pointer_size self.now } }
     {
@@ -65,7 +65,7 @@ pub trait PtrSize {
     }
 
     /// The layout of [`offsets::VMTableDefinition`].
-    fn vm_table_definition(&self) -> offsets::VMTableDefinition<u8>
+    final fn vm_table_definition(&self) -> offsets::VMTableDefinition<u8>
         requires { IsPointerSize (pointer_size self.now) }
         ensures { result ≡ record { 0 = pointer_size self.now } }
     {
@@ -73,7 +73,7 @@ pub trait PtrSize {
     }
 
     /// The layout of [`offsets::VMGlobalDefinition`].
-    fn vm_global_definition(&self) -> offsets::VMGlobalDefinition<u8>
+    final fn vm_global_definition(&self) -> offsets::VMGlobalDefinition<u8>
         requires { IsPointerSize (pointer_size self.now) }
         ensures { result ≡ record { 0 = pointer_size self.now } }
     {
@@ -81,7 +81,7 @@ pub trait PtrSize {
     }
 
     /// The layout of [`offsets::VMTagDefinition`].
-    fn vm_tag_definition(&self) -> offsets::VMTagDefinition<u8>
+    final fn vm_tag_definition(&self) -> offsets::VMTagDefinition<u8>
         requires { IsPointerSize (pointer_size self.now) }
         ensures { result ≡ record { 0 = pointer_size self.now } }
     {
@@ -89,7 +89,7 @@ pub trait PtrSize {
     }
 
     /// The layout of [`offsets::VMFuncRef`].
-    fn vm_func_ref(&self) -> offsets::VMFuncRef<u8>
+    final fn vm_func_ref(&self) -> offsets::VMFuncRef<u8>
         requires { IsPointerSize (pointer_size self.now) }
         ensures { result ≡ record { 0 = pointer_size self.now } }
     {
@@ -97,7 +97,7 @@ pub trait PtrSize {
     }
 
     /// The layout of [`offsets::VMStoreContext`].
-    fn vm_store_context(&self) -> offsets::VMStoreContext<u8>
+    final fn vm_store_context(&self) -> offsets::VMStoreContext<u8>
         requires { IsPointerSize (pointer_size self.now) }
         ensures { result ≡ record { 0 = pointer_size self.now } }
     {
@@ -105,7 +105,7 @@ pub trait PtrSize {
     }
 
     /// The static layout of [`offsets::VMContext`].
-    fn vmctx(&self) -> offsets::VMContext<u8>
+    final fn vmctx(&self) -> offsets::VMContext<u8>
         requires { IsPointerSize (pointer_size self.now) }
         ensures { result ≡ record { 0 = pointer_size self.now } }
     {
@@ -113,7 +113,7 @@ pub trait PtrSize {
     }
 
     /// The size of a type index of the engine.
-    fn size_of_vmshared_type_index(&self) -> u8
+    final fn size_of_vmshared_type_index(&self) -> u8
         requires { IsPointerSize (pointer_size self.now) }
         ensures { result ≡ 4 }
     {
@@ -121,7 +121,7 @@ pub trait PtrSize {
     }
 
     /// The alignment of a type index of the engine.
-    fn align_of_vmshared_type_index(&self) -> u8
+    final fn align_of_vmshared_type_index(&self) -> u8
         requires { IsPointerSize (pointer_size self.now) }
         ensures { result ≡ 4 }
     {
@@ -129,7 +129,7 @@ pub trait PtrSize {
     }
 
     /// The size of the widest value, a vector of 128 bits.
-    fn maximum_value_size(&self) -> u8
+    final fn maximum_value_size(&self) -> u8
         requires { IsPointerSize (pointer_size self.now) }
         ensures { result ≡ 16 }
     {
@@ -137,7 +137,7 @@ pub trait PtrSize {
     }
 
     /// The size of a pointer to a memory.
-    fn size_of_vmmemory_pointer(&self) -> u8
+    final fn size_of_vmmemory_pointer(&self) -> u8
         requires { IsPointerSize (pointer_size self.now) }
         ensures { result ≡ pointer_size self.now }
     {
@@ -145,7 +145,7 @@ pub trait PtrSize {
     }
 
     /// Where the function reference of a host function's context begins: after a number of 32 bits.
-    fn vmarray_call_host_func_context_func_ref(&self) -> u8
+    final fn vmarray_call_host_func_context_func_ref(&self) -> u8
         requires { IsPointerSize (pointer_size self.now) }
         ensures { result ≡ next_multiple_of 4 (pointer_size self.now) }
     {
@@ -153,7 +153,7 @@ pub trait PtrSize {
     }
 
     /// The size of a link in the chain of stacks: two words.
-    fn size_of_vmstack_chain(&self) -> u8
+    final fn size_of_vmstack_chain(&self) -> u8
         requires { IsPointerSize (pointer_size self.now) }
         ensures { result ≡ 2 * pointer_size self.now }
     {
@@ -161,7 +161,7 @@ pub trait PtrSize {
     }
 
     /// Where the reference of a continuation object begins.
-    fn vmcontobj_contref(&self) -> u8
+    final fn vmcontobj_contref(&self) -> u8
         requires { IsPointerSize (pointer_size self.now) }
         ensures { result ≡ 0 }
     {
@@ -169,7 +169,7 @@ pub trait PtrSize {
     }
 
     /// Where the revision of a continuation object begins.
-    fn vmcontobj_revision(&self) -> u8
+    final fn vmcontobj_revision(&self) -> u8
         requires { IsPointerSize (pointer_size self.now) }
         ensures { result ≡ pointer_size self.now }
     {
@@ -177,7 +177,7 @@ pub trait PtrSize {
     }
 
     /// The size of a continuation object: two words.
-    fn size_of_vmcontobj(&self) -> u8
+    final fn size_of_vmcontobj(&self) -> u8
         requires { IsPointerSize (pointer_size self.now) }
         ensures { result ≡ 2 * pointer_size self.now }
     {

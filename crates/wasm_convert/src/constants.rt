@@ -19,7 +19,7 @@ use wasm_index::FuncIndex;
 use wasm_spec::Operator;
 
 /// A constant expression: its operators, of which there is at least one. Two are kept without an allocation.
-#[derive(Debug, Drop)]
+#[derive(Drop)]
 pub struct ConstExpr {
     ops: SmallVec<ConstOp, 2>,
 }

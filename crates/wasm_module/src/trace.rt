@@ -36,7 +36,7 @@ impl TypeTrace for FunctionType {
         self.signature.trace_mut(func)
     }
 
-    ghost told = { tells function_back };
+    ghost injective = { tells function_back };
 }
 
 impl TypeTrace for ModuleStartup {
@@ -68,7 +68,7 @@ impl TypeTrace for ModuleStartup {
         }
     }
 
-    ghost told = { tells startup_back };
+    ghost injective = { tells startup_back };
 }
 
 // Visits each edge of the values of a list.
@@ -132,5 +132,5 @@ impl TypeTrace for Module {
         self.startup.trace_mut(func)
     }
 
-    ghost told = { tells module_back };
+    ghost injective = { tells module_back };
 }

@@ -32,7 +32,7 @@ impl TypeTrace for WasmStructType {
         trace_all_mut(self.fields.as_mut_slice(), func)
     }
 
-    ghost told = { tells struct_back };
+    ghost injective = { tells struct_back };
 }
 
 impl TypeTrace for WasmExnType {
@@ -60,5 +60,5 @@ impl TypeTrace for WasmExnType {
         trace_all_mut(self.fields.as_mut_slice(), func)
     }
 
-    ghost told = { tells exception_back };
+    ghost injective = { tells exception_back };
 }

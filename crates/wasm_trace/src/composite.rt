@@ -37,7 +37,7 @@ impl TypeTrace for WasmCompositeType {
         trace_inner_mut(&mut self.inner, func)
     }
 
-    ghost told = { tells shared_back };
+    ghost injective = { tells shared_back };
 }
 
 // Visits each edge of a composite type without its share flag.
@@ -130,7 +130,7 @@ impl TypeTrace for WasmSubType {
         self.composite_type.trace_mut(func)
     }
 
-    ghost told = { tells sub_type_back };
+    ghost injective = { tells sub_type_back };
 }
 
 impl TypeTrace for WasmRecGroup {
@@ -154,5 +154,5 @@ impl TypeTrace for WasmRecGroup {
         trace_all_mut(self.types.as_mut_slice(), func)
     }
 
-    ghost told = { tells group_back };
+    ghost injective = { tells group_back };
 }

@@ -30,5 +30,5 @@ impl TypeTrace for WasmContType {
         func(self.index_mut())
     }
 
-    ghost told = { tells cont_back };
+    ghost injective = { tells cont_back };
 }

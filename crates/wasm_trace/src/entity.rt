@@ -30,7 +30,7 @@ impl TypeTrace for Global {
         self.wasm_ty.trace_mut(func)
     }
 
-    ghost told = { tells global_back };
+    ghost injective = { tells global_back };
 }
 
 impl TypeTrace for Table {
@@ -54,7 +54,7 @@ impl TypeTrace for Table {
         self.ref_type.trace_mut(func)
     }
 
-    ghost told = { tells table_back };
+    ghost injective = { tells table_back };
 }
 
 impl TypeTrace for Tag {
@@ -82,7 +82,7 @@ impl TypeTrace for Tag {
         func(&mut self.exception)
     }
 
-    ghost told = { tells tag_back };
+    ghost injective = { tells tag_back };
 }
 
 impl TypeTrace for EntityType {
@@ -120,5 +120,5 @@ impl TypeTrace for EntityType {
         }
     }
 
-    ghost told = { tells entity_back };
+    ghost injective = { tells entity_back };
 }

@@ -37,7 +37,7 @@ impl TypeTrace for WasmStorageType {
         }
     }
 
-    ghost told = { tells storage_back };
+    ghost injective = { tells storage_back };
 }
 
 impl TypeTrace for WasmFieldType {
@@ -61,7 +61,7 @@ impl TypeTrace for WasmFieldType {
         self.element_type.trace_mut(func)
     }
 
-    ghost told = { tells field_back };
+    ghost injective = { tells field_back };
 }
 
 impl TypeTrace for WasmArrayType {
@@ -85,5 +85,5 @@ impl TypeTrace for WasmArrayType {
         self.0.trace_mut(func)
     }
 
-    ghost told = { tells array_back };
+    ghost injective = { tells array_back };
 }

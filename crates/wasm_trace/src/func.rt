@@ -36,5 +36,5 @@ impl TypeTrace for WasmFuncType {
         result
     }
 
-    ghost told = { tells function_back };
+    ghost injective = { tells function_back };
 }

@@ -28,5 +28,5 @@ impl TypeTrace for EngineOrModuleTypeIndex {
         func(self)
     }
 
-    ghost told = { λ x y same. same };
+    ghost injective = { λ x y same. same };
 }

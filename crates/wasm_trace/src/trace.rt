@@ -44,7 +44,7 @@ pub trait TypeTrace {
         ensures run { RunMut F.FnMut func.old (shape.edges (view self.old)) result func.new (shape.edges (view self.new)) };
 
     /// Visits each edge that is an engine's, in order. It stops at the first `Err` that a visit answers.
-    fn trace_engine_indices<F, E>(&self, func: &mut F) -> Result<(), E>
+    final fn trace_engine_indices<F, E>(&self, func: &mut F) -> Result<(), E>
     where
         F: FnMut(VMSharedTypeIndex) -> Result<(), E>,
         requires { MayRun F.FnMut func.old (engine_edges (shape.edges (view self.now))) }
@@ -66,7 +66,7 @@ pub trait TypeTrace {
 
     /// Rewrites each edge into a module's types to the engine's index of that type. No edge may be into a
     /// recursion group.
-    fn canonicalize_for_runtime_usage<F>(&mut self, module_to_engine: &F)
+    final fn canonicalize_for_runtime_usage<F>(&mut self, module_to_engine: &F)
     where
         F: Fn(ModuleInternedTypeIndex) -> VMSharedTypeIndex,
         requires { All (CanBeRuntimeEdge (F.pre module_to_engine.now)) (shape.edges (view self.old)) }
@@ -91,7 +91,7 @@ pub trait TypeTrace {
     }
 
     /// Whether each edge is an engine's.
-    fn is_canonicalized_for_runtime_usage(&self) -> bool
+    final fn is_canonicalized_for_runtime_usage(&self) -> bool
         ensures { IsTrue result ↔ All (λ e. IsSome (engine_index e)) (shape.edges (view self.now)) }
     {
         self.trace(&mut |edge: EngineOrModuleTypeIndex| {
@@ -107,7 +107,7 @@ pub trait TypeTrace {
     /// Rewrites each edge into a module's types: into the recursion group of the range it becomes an index
     /// into the group, and all others become the engine's index of that type. No edge may be into a
     /// recursion group before, or past the range.
-    fn canonicalize_for_hash_consing<F>(
+    final fn canonicalize_for_hash_consing<F>(
         &mut self,
         rec_group_range: Range<ModuleInternedTypeIndex>,
         module_to_engine: &F,
@@ -145,7 +145,7 @@ pub trait TypeTrace {
     }
 
     /// Whether no edge is into a module's types.
-    fn is_canonicalized_for_hash_consing(&self) -> bool
+    final fn is_canonicalized_for_hash_consing(&self) -> bool
         ensures { IsTrue result ↔ All (λ e. module_index e ≡ None) (shape.edges (view self.now)) }
     {
         self.trace(&mut |edge: EngineOrModuleTypeIndex| {
@@ -159,5 +159,5 @@ pub trait TypeTrace {
     }
 
     /// The view tells values apart.
-    ghost told: { (x y : Self) → view x ≡ view y → x ≡ y };
+    ghost injective: { (x y : Self) → view x ≡ view y → x ≡ y };
 }

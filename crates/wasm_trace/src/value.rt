@@ -46,7 +46,7 @@ impl TypeTrace for WasmHeapType {
         }
     }
 
-    ghost told = { tells heap_back };
+    ghost injective = { tells heap_back };
 }
 
 impl TypeTrace for WasmRefType {
@@ -70,7 +70,7 @@ impl TypeTrace for WasmRefType {
         self.heap_type.trace_mut(func)
     }
 
-    ghost told = { tells reference_back };
+    ghost injective = { tells reference_back };
 }
 
 impl TypeTrace for WasmValType {
@@ -100,5 +100,5 @@ impl TypeTrace for WasmValType {
         }
     }
 
-    ghost told = { tells value_back };
+    ghost injective = { tells value_back };
 }

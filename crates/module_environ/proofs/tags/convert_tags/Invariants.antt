@@ -1,10 +1,10 @@
 use Rattle.wasm_spec.specs.Module.{Module}
-use Rattle.module_types.specs.Builder.{shown}
+use Rattle.module_types.specs.Builder.{builder_view}
 use Rattle.module_environ.specs.Tagged.{CanTag}
 use Rattle.module_environ.proofs.Tagging.{IsTagging}
 use Rattle.module_environ.proofs.tags.convert_tags.Given as goal
 
 -- the tags so far have their exception types
 abbrev pub invariant-loop-index : goal.invariant-loop-index
-invariant-loop-index l = (m : Module) → CanTag m l.tags l.declared (shown l.initial.types)
-    → IsTagging m l.tags (shown l.initial.types) (shown l.types) l.index-index l.converted
+invariant-loop-index l = (m : Module) → CanTag m l.tags l.declared (builder_view l.initial.types)
+    → IsTagging m l.tags (builder_view l.initial.types) (builder_view l.types) l.index-index l.converted

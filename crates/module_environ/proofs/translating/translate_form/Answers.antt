@@ -8,7 +8,7 @@ use Rattle.form_data.specs.declared.form.Form.{Form}
 use Rattle.form_data.specs.Views.{module_of}
 use Rattle.module_types.proofs.NamingEarlier.{keeps-earlier}
 use Rattle.wasm_spec.specs.Module.{function_import}
-use Rattle.module_types.specs.Builder.{Builder, shown}
+use Rattle.module_types.specs.Builder.{Builder, builder_view}
 use Rattle.module_environ.specs.Entities.{count_of}
 use Rattle.module_types.specs.Views.{interned_of}
 use Rattle.module_environ.specs.Types.{AreTypesOf, HoldsGroupsAlone, declared, type_index}
@@ -131,8 +131,8 @@ returns-clause-formed c =
     let same-module : module_of c.in_ok-lists.lists.form.now ≡ m = ap (λ (f : Bor Form). module_of f.now) c.in_ok-lists.ensures.of_form in
     let f = c.in_ok-fill_sections.ensures in
     let t = c.in_ok-translation.ensures in
-    let groups = shown c.intern_types.new.builder in
-    let tagged = shown c.convert_tags.new.types in
+    let groups = builder_view c.intern_types.new.builder in
+    let tagged = builder_view c.convert_tags.new.types in
     let can : CanTag m c.as_slice.result.now c.in_ok-indices.indices groups = record {
       earlier = of.earlier;
       few = of.few;
@@ -161,11 +161,11 @@ returns-clause-formed c =
           (new-startup c.args.translation.now c.requires.new) c.in_ok-indices.indices c.in_ok-translation.field-0 c.in_ok-ids.ids c.set_types.ensures.same
           c.set_types.ensures.set of.numbered c.in_ok-ids.ensures.made can.listed (t.tags m can) groups tagged alone t.gains (t.built m can) few
           (sym w.if-not-leaves_nothing.true ∙ c.leaves_nothing.ensures) c.if-not-leaves_nothing.translation c.if-not-leaves_nothing.types
-          (w.translation-is ∙ w.in_ok-require_startup_func.ensures.ok) (ap shown w.types-is ∙ w.in_ok-require_startup_func.ensures.types)
+          (w.translation-is ∙ w.in_ok-require_startup_func.ensures.ok) (ap builder_view w.types-is ∙ w.in_ok-require_startup_func.ensures.types)
       | else-not-leaves_nothing w ↦
           subst (λ u. IsFormed c.args.tunables.now c.args.validator.now m c.args.translation.now u c.if-not-leaves_nothing.types) (sym w.translation-is)
           (formed-never c.args.tunables.now c.args.validator.now m c.args.translation.now filled set c.in_ok-lists.ensures.kept sections named imports rest
           (new-startup c.args.translation.now c.requires.new) c.in_ok-indices.indices c.in_ok-translation.field-0 c.in_ok-ids.ids c.set_types.ensures.same
           c.set_types.ensures.set of.numbered c.in_ok-ids.ensures.made can.listed (t.tags m can) groups tagged alone t.gains (t.built m can) few
-          (sym w.if-not-leaves_nothing.false ∙ c.leaves_nothing.ensures) c.if-not-leaves_nothing.types (ap shown w.types-is))
+          (sym w.if-not-leaves_nothing.false ∙ c.leaves_nothing.ensures) c.if-not-leaves_nothing.types (ap builder_view w.types-is))
     ]

@@ -3,7 +3,7 @@ use Rattle.std.proofs.lemmas.Result.{err_from_is_err_and}
 use Rattle.std.proofs.lemmas.List.{length-map}
 use Rattle.wasm_spec.specs.Module.{Module}
 use Rattle.module_types.specs.Views.{interned_of}
-use Rattle.module_types.specs.Builder.{Builder, shown}
+use Rattle.module_types.specs.Builder.{Builder, builder_view}
 use Rattle.module_types.specs.declared.error.BuildError.{BuildError}
 use Rattle.module_types.specs.declared.error.BuildError.TheVariants as build
 use Rattle.module_environ.specs.declared.error.EnvironError.TheVariants as refusal
@@ -20,8 +20,8 @@ unpoisoned build.Poisoned none = absurd (none refl)
 
 pub loop-place-init : goal.loop-place-init
 loop-place-init c = λ m of.
-    subst (Interns m c.args.types.now of (shown c.args.builder.now) 0) (sym c.in_ok-indices.ensures)
-    (interns-none m c.args.types.now of (shown c.args.builder.now) c.requires.new)
+    subst (Interns m c.args.types.now of (builder_view c.args.builder.now) 0) (sym c.in_ok-indices.ensures)
+    (interns-none m c.args.types.now of (builder_view c.args.builder.now) c.requires.new)
 
 pub intern_type-requires-clause-holds : goal.intern_type-requires-clause-holds
 intern_type-requires-clause-holds c = (c.loop-place.invariant c.requires.of_module.0 c.requires.of_module.1).holds
@@ -31,7 +31,7 @@ intern_type-requires-clause-named c =
     let of = c.requires.of_module in
     let lt : c.loop-place.place < length c.args.types.now.declared = omega
     (arith, c.loop-place-test.true, c.core_type_count_in_module-count.ensures) in
-    names of.0 c.args.types.now of.1 (shown c.loop-place.builder) c.loop-place.place c.loop-place.indices (c.loop-place.invariant of.0 of.1) lt
+    names of.0 c.args.types.now of.1 (builder_view c.loop-place.builder) c.loop-place.place c.loop-place.indices (c.loop-place.invariant of.0 of.1) lt
     c.core_type_at_in_module-id.result.0 c.core_type_at_in_module-id.ensures.id
 
 pub intern_type-requires-clause-room : goal.intern_type-requires-clause-room
@@ -39,7 +39,7 @@ intern_type-requires-clause-room c = λ sound.
     let of = c.requires.of_module in
     let lt : c.loop-place.place < length c.args.types.now.declared = omega
     (arith, c.loop-place-test.true, c.core_type_count_in_module-count.ensures) in
-    room of.0 c.args.types.now of.1 (shown c.loop-place.builder) c.loop-place.place c.loop-place.indices (c.loop-place.invariant of.0 of.1) lt
+    room of.0 c.args.types.now of.1 (builder_view c.loop-place.builder) c.loop-place.place c.loop-place.indices (c.loop-place.invariant of.0 of.1) lt
     c.core_type_at_in_module-id.result.0 c.core_type_at_in_module-id.ensures.id
 
 pub returns-in_err-index-clause-memory : goal.returns-in_err-index-clause-memory
@@ -57,7 +57,7 @@ push-requires c =
     let of = c.requires.of_module in
     let lt : c.loop-place.place < length c.args.types.now.declared = omega
     (arith, c.loop-place-test.true, c.core_type_count_in_module-count.ensures) in
-    let long = listed-long of.0 c.args.types.now of.1 (shown c.loop-place.builder) c.loop-place.place c.loop-place.indices
+    let long = listed-long of.0 c.args.types.now of.1 (builder_view c.loop-place.builder) c.loop-place.place c.loop-place.indices
     (c.loop-place.invariant of.0 of.1) lt in
     omega (arith, long, lt, of.1.numbered.each, of.1.few)
 
@@ -65,40 +65,40 @@ pub loop-place-preserved : goal.loop-place-preserved
 loop-place-preserved c = λ m of.
     let t = c.args.types.now in
     let lt : c.loop-place.place < length t.declared = omega (arith, c.loop-place-test.true, c.core_type_count_in_module-count.ensures) in
-    subst (Interns m t of (shown c.intern_type.new.self) (c.loop-place.place + 1)) (sym c.in_ok-push.ensures.ok)
-    (interns-next m t of (shown c.loop-place.builder) c.loop-place.place c.loop-place.indices (c.loop-place.invariant m of) lt
-    c.core_type_at_in_module-id.result.0 c.core_type_at_in_module-id.ensures.id (shown c.intern_type.new.self) c.in_ok-index.index
+    subst (Interns m t of (builder_view c.intern_type.new.self) (c.loop-place.place + 1)) (sym c.in_ok-push.ensures.ok)
+    (interns-next m t of (builder_view c.loop-place.builder) c.loop-place.place c.loop-place.indices (c.loop-place.invariant m of) lt
+    c.core_type_at_in_module-id.result.0 c.core_type_at_in_module-id.ensures.id (builder_view c.intern_type.new.self) c.in_ok-index.index
     c.in_ok-index.ensures.interned c.in_ok-index.ensures.index)
 
 -- ---- all were interned
 
 module _ (c : goal.After-loop-place) where
   ended : (m : Module) (of : AreTypesOf m c.args.types.now)
-      → Interns m c.args.types.now of (shown c.loop-place.builder) (length c.args.types.now.declared) c.loop-place.indices
+      → Interns m c.args.types.now of (builder_view c.loop-place.builder) (length c.args.types.now.declared) c.loop-place.indices
   ended m of =
       let end : c.loop-place.place ≡ length c.args.types.now.declared =
       omega (arith, c.loop-place-test.false, c.loop-place.auto.place-end, c.core_type_count_in_module-count.ensures) in
-      subst (λ (n : ℕ). Interns m c.args.types.now of (shown c.loop-place.builder) n c.loop-place.indices) end (c.loop-place.invariant m of)
+      subst (λ (n : ℕ). Interns m c.args.types.now of (builder_view c.loop-place.builder) n c.loop-place.indices) end (c.loop-place.invariant m of)
 
-  long : length (shown c.loop-place.builder).built.types ≡ length c.loop-place.builder.list.types
+  long : length (builder_view c.loop-place.builder).built.types ≡ length c.loop-place.builder.list.types
   long = length-map c.loop-place.builder.list.types interned_of
 
 pub returns-clause-indices : goal.returns-clause-indices
-returns-clause-indices c = λ m of. listed-all m c.args.types.now of (shown c.loop-place.builder) c.loop-place.indices (ended c m of)
+returns-clause-indices c = λ m of. listed-all m c.args.types.now of (builder_view c.loop-place.builder) c.loop-place.indices (ended c m of)
 
 pub returns-clause-built : goal.returns-clause-built
-returns-clause-built c = λ m of. built-all m c.args.types.now of (shown c.loop-place.builder) c.loop-place.indices (ended c m of)
+returns-clause-built c = λ m of. built-all m c.args.types.now of (builder_view c.loop-place.builder) c.loop-place.indices (ended c m of)
 
 pub returns-clause-held : goal.returns-clause-held
 returns-clause-held c =
     let of = c.requires.of_module in
     subst (AreHeld c.loop-place.indices) (long c)
-    (held-all of.0 c.args.types.now of.1 (shown c.loop-place.builder) c.loop-place.indices (ended c of.0 of.1))
+    (held-all of.0 c.args.types.now of.1 (builder_view c.loop-place.builder) c.loop-place.indices (ended c of.0 of.1))
 
 pub returns-clause-few : goal.returns-clause-few
 returns-clause-few c =
     let of = c.requires.of_module in
-    omega (arith, sym (long c), few-all of.0 c.args.types.now of.1 (shown c.loop-place.builder) c.loop-place.indices (ended c of.0 of.1))
+    omega (arith, sym (long c), few-all of.0 c.args.types.now of.1 (builder_view c.loop-place.builder) c.loop-place.indices (ended c of.0 of.1))
 
 pub returns-clause-alone : goal.returns-clause-alone
 returns-clause-alone c = (c.loop-place.invariant c.requires.of_module.0 c.requires.of_module.1).alone

@@ -2,7 +2,7 @@ use Rattle.std.proofs.Common.{◌≡◌, ◌∙◌, ◌<◌, length, refl, sym, 
 use Rattle.std.proofs.lemmas.List.{length-map}
 use Rattle.wasm_index.specs.Index.{number_of}
 use Rattle.module_types.specs.Views.{interned_of}
-use Rattle.module_types.specs.Builder.{Kept, shown, starts, startup_index}
+use Rattle.module_types.specs.Builder.{BuilderState, builder_view, starts, startup_index}
 use Rattle.module_tests.proofs.builders.look_up_is_stored.Goals as goal
 
 pub new-converter-requires : goal.new-converter-requires
@@ -15,5 +15,5 @@ new-converter-requires g c =
       number = number_of c.in_ok-function.function;
       given = ∣ refl ∣₁;
       alone = λ r p. ap number_of p;
-      held = omega (arith, first, long, ap (λ (k : Kept). length k.list.types) c.builder.view_is);
+      held = omega (arith, first, long, ap (λ (k : BuilderState). length k.list.types) c.builder.view_is);
     }

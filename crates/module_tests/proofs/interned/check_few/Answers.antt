@@ -9,7 +9,7 @@ use Rattle.entity_map.proofs.KeyedLemmas.{length-keyed_from}
 use Rattle.wasm_index.specs.declared.spaces.ModuleInternedTypeSpace.{ModuleInternedTypeSpace}
 use Rattle.wasm_index.specs.Index.{index_of}
 use Rattle.type_spec.specs.Interned.{startup_type}
-use Rattle.module_types.specs.Builder.{Builder, shown, starts}
+use Rattle.module_types.specs.Builder.{Builder, builder_view, starts}
 use Rattle.module_types.specs.Views.{interned_of}
 use Rattle.module_tests.proofs.interned.check_few.Goals as goal
 
@@ -40,4 +40,4 @@ returns-in-None-clause-room c =
     let at = nth_from_yields_List c.nth.result _ 1000 c.nth.ensures.ran (YieldsList-from_first _ _ _ c.wasm_types.ensures) in
     let end = past (keyed index_of types) 1000 (sym at ∙ ap (option_map _) c.in-None.is) in
     let k = length-keyed_from (index_of {Space = ModuleInternedTypeSpace}) 0 types in
-    at-most (shown c.args.types.now) (let l = length-map types interned_of in omega (arith, l, k, end))
+    at-most (builder_view c.args.types.now) (let l = length-map types interned_of in omega (arith, l, k, end))

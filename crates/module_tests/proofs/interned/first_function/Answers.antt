@@ -10,7 +10,7 @@ use Rattle.wasm_index.specs.Index.{index_of, number_of}
 use Rattle.wasm_types.specs.declared.composite.WasmCompositeInnerType.TheVariants as inner
 use Rattle.wasm_types.specs.declared.sub.WasmSubType.{WasmSubType}
 use Rattle.type_spec.specs.Interned.{plain, exception_for, composite_at}
-use Rattle.module_types.specs.Builder.{Builder, shown, excepts}
+use Rattle.module_types.specs.Builder.{Builder, builder_view, excepts}
 use Rattle.module_types.specs.Views.{TypeIndex, interned_of}
 use Rattle.module_types.proofs.Steps.{composite-read}
 use Rattle.module_tests.proofs.interned.first_function.Goals as goal
@@ -52,4 +52,4 @@ returns-in-Func-clause-function c =
 pub returns-in-Func-clause-room : goal.returns-in-Func-clause-room
 returns-in-Func-clause-room c =
     let types = c.args.builder.now.list.types in
-    at-most (shown c.args.builder.now) (number_of c.in-Some.function) (let l = length-map types interned_of in omega (arith, l, c.in_ok-check_few.ensures.few))
+    at-most (builder_view c.args.builder.now) (number_of c.in-Some.function) (let l = length-map types interned_of in omega (arith, l, c.in_ok-check_few.ensures.few))

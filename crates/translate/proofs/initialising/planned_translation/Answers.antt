@@ -4,7 +4,7 @@ use Rattle.rule_spec.specs.declared.rules.Rule.TheVariants.{L6}
 use Rattle.wasm_index.specs.Index.{index_of}
 use Rattle.wasm_types.specs.declared.tunables.Tunables.{Tunables}
 use Rattle.replay_spec.specs.Plan.{MemoryPlan}
-use Rattle.module_types.specs.Builder.{Builder, Kept}
+use Rattle.module_types.specs.Builder.{Builder, BuilderState}
 use Rattle.init_plan.specs.Views.{memory_plan_of}
 use Rattle.init_plan.specs.Tables.{plan_of_tables}
 use Rattle.init_plan.specs.declared.error.PlanError.TheVariants as plan
@@ -24,7 +24,7 @@ returns-in_err-translation-clause-complete c = λ can.
     let p = err_from_is_err_and c.from_residual-in_err-translation.result c.from_residual-in_err-translation.ensures.1 in
     let new = ap (λ (b : Builder). b.is_poisoned) c.requires.new in
     let h = c.in_err-translation.ensures.complete can.meaning can.read can.keeps in
-    rw p.1 (p.2 ∙ ap error_of_translation (h (ap (λ (k : Kept). k.is_poisoned) c.in_ok-environment.ensures.types ∙ new)))
+    rw p.1 (p.2 ∙ ap error_of_translation (h (ap (λ (k : BuilderState). k.is_poisoned) c.in_ok-environment.ensures.types ∙ new)))
 
 -- ---- the memories are planned
 

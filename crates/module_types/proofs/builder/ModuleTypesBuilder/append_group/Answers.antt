@@ -3,7 +3,7 @@ use Rattle.std.proofs.lemmas.List.{length-map}
 use Rattle.module_types.specs.Views.{interned_of}
 use Rattle.module_types.specs.Orderly.{IsOrderly}
 use Rattle.module_types.specs.Interner.{built}
-use Rattle.module_types.specs.Builder.{Kept, shown, interns}
+use Rattle.module_types.specs.Builder.{BuilderState, builder_view, interns}
 use Rattle.module_types.specs.contracts.builder.ModuleTypesBuilder.{the_view}
 use Rattle.module_types.proofs.Along.{orderly-group}
 use Rattle.module_types.proofs.Holding.{none-of}
@@ -13,7 +13,7 @@ use Rattle.module_types.proofs.builder.ModuleTypesBuilder.append_group.Goals as 
 
 pub invariant_of-self-2 : goal.invariant_of-self-2
 invariant_of-self-2 c = λ e.
-    let sound : c.self.inside.poisoned ≡ false = ap (λ (k : Kept). k.is_poisoned) c.self.view_is ∙ c.requires.sound in
+    let sound : c.self.inside.poisoned ≡ false = ap (λ (k : BuilderState). k.is_poisoned) c.self.view_is ∙ c.requires.sound in
     let back = sym c.in_ok-push_group.ensures in
     coe 0 1 (j. IsOrderly (back j)) (orderly-group (built c.self.inside.interner) (map interned_of c.args.members.items)
     (omega (arith, c.requires.filled, length-map c.args.members.items interned_of)) (c.self.invariant sound))
@@ -21,9 +21,9 @@ invariant_of-self-2 c = λ e.
 pub returns-clause-appended : goal.returns-clause-appended
 returns-clause-appended c =
     let ts = map interned_of c.args.members.items in
-    let old : Kept = the_view c.self.inside in
-    let sound : c.self.inside.poisoned ≡ false = ap (λ (k : Kept). k.is_poisoned) c.self.view_is ∙ c.requires.sound in
+    let old : BuilderState = the_view c.self.inside in
+    let sound : c.self.inside.poisoned ≡ false = ap (λ (k : BuilderState). k.is_poisoned) c.self.view_is ∙ c.requires.sound in
     shows-interned old _ ts c.args.id.0 c.next_rec_group-next.result
-    (sym (none-of number_of _ (ap (λ (k : Kept). (shown k).ids c.args.id.0) c.self.view_is ∙ c.requires.unheld)))
+    (sym (none-of number_of _ (ap (λ (k : BuilderState). (builder_view k).ids c.args.id.0) c.self.view_is ∙ c.requires.unheld)))
     c.in_ok-push_group.ensures c.next_rec_group-next.ensures c.in_ok-insert.ensures.updates.0 refl refl refl (sym sound)
-    ∙ ap (λ (k : Kept). interns (shown k) c.args.id.0 ts) c.self.view_is
+    ∙ ap (λ (k : BuilderState). interns (builder_view k) c.args.id.0 ts) c.self.view_is

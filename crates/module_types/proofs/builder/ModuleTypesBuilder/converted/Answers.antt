@@ -10,7 +10,7 @@ use Rattle.wasm_index.specs.Index.{number_of}
 use Rattle.wasm_convert.specs.Known.{Known, CanConvert}
 use Rattle.module_types.specs.Views.{interned_of, span_of}
 use Rattle.module_types.specs.TypeList.{TypeList}
-use Rattle.module_types.specs.Builder.{shown}
+use Rattle.module_types.specs.Builder.{builder_view}
 use Rattle.module_types.specs.Conversion.{KnowsId, look_by_id, members_of, members_by_index}
 use Rattle.module_types.proofs.Places.{get-or}
 use Rattle.module_types.proofs.Convertible.{group-known, members-can, made-is}
@@ -21,7 +21,7 @@ pub convert_members-requires-clause-known : goal.convert_members-requires-clause
 convert_members-requires-clause-known c =
     let t = c.args.types.now in
     let k = c.args.id.0 in
-    let b = shown c.args.self.now in
+    let b = builder_view c.args.self.now in
     let list = sym c.looking_up-converter.ensures.list in
     let ids = sym c.looking_up-converter.ensures.ids in
     let types = sym c.looking_up-converter.ensures.types in
@@ -35,7 +35,7 @@ pub convert_members-requires-clause-can : goal.convert_members-requires-clause-c
 convert_members-requires-clause-can c =
     let t = c.args.types.now in
     let k = c.args.id.0 in
-    let b = shown c.args.self.now in
+    let b = builder_view c.args.self.now in
     let list = sym c.looking_up-converter.ensures.list in
     let ids = sym c.looking_up-converter.ensures.ids in
     let types = sym c.looking_up-converter.ensures.types in
@@ -49,7 +49,7 @@ pub returns : goal.returns
 returns c =
     let t = c.args.types.now in
     let k = c.args.id.0 in
-    let b = shown c.args.self.now in
+    let b = builder_view c.args.self.now in
     let list = c.looking_up-converter.ensures.list in
     let ids = c.looking_up-converter.ensures.ids in
     let types = c.looking_up-converter.ensures.types in

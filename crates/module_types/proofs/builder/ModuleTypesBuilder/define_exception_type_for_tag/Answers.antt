@@ -3,7 +3,7 @@ use Rattle.type_spec.specs.Interned.{with_exception}
 use Rattle.wasm_index.specs.Index.{number_of}
 use Rattle.module_types.specs.Orderly.{IsOrderly}
 use Rattle.module_types.specs.Interner.{built}
-use Rattle.module_types.specs.Builder.{Kept, shown, excepts}
+use Rattle.module_types.specs.Builder.{BuilderState, builder_view, excepts}
 use Rattle.module_types.specs.contracts.builder.ModuleTypesBuilder.{the_view}
 use Rattle.module_types.proofs.Along.{grows-exception}
 use Rattle.module_types.proofs.Shows.{where-ok, shows-excepted}
@@ -16,8 +16,8 @@ invariant_of-self-2 c = λ e.
 
 pub returns-clause-defined : goal.returns-clause-defined
 returns-clause-defined c =
-    let old : Kept = the_view c.self.inside in
+    let old : BuilderState = the_view c.self.inside in
     let puts = where-ok c.insert.result (sym c.if-is_err-2.ensures.value) c.insert.ensures.updates in
     shows-excepted old _ c.as_u32-key.result c.next_ty-next.result (c.in_default.ensures ∙ c.get.ensures.value)
-    (where-ok c.push_exception.result (sym c.if-is_err.ensures.value) c.push_exception.ensures ∙ ap (with_exception (shown old).built) (sym c.as_u32-key.ensures)) c.next_ty-next.ensures puts.0 refl refl refl (sym c.if-self.false)
-    ∙ (λ j. excepts (shown (c.self.view_is j)) (c.as_u32-key.ensures j))
+    (where-ok c.push_exception.result (sym c.if-is_err.ensures.value) c.push_exception.ensures ∙ ap (with_exception (builder_view old).built) (sym c.as_u32-key.ensures)) c.next_ty-next.ensures puts.0 refl refl refl (sym c.if-self.false)
+    ∙ (λ j. excepts (builder_view (c.self.view_is j)) (c.as_u32-key.ensures j))

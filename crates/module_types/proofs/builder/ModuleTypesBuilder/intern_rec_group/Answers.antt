@@ -3,7 +3,7 @@ use Rattle.std.specs.Option.{option_map}
 use Rattle.std.proofs.lemmas.List.{length-map}
 use Rattle.wasm_index.specs.Index.{number_of}
 use Rattle.module_types.specs.Views.{interned_of}
-use Rattle.module_types.specs.Builder.{Kept, shown, interns_by}
+use Rattle.module_types.specs.Builder.{BuilderState, builder_view, interns_by}
 use Rattle.module_types.specs.Conversion.{interned_members}
 use Rattle.module_types.proofs.Along.{group-long}
 use Rattle.module_types.proofs.Convertible.{members-long}
@@ -12,11 +12,11 @@ use Rattle.module_types.proofs.builder.ModuleTypesBuilder.intern_rec_group.Goals
 pub converted-requires-clause-room : goal.converted-requires-clause-room
 converted-requires-clause-room c =
     let k = c.args.id.0 in
-    let b = shown c.args.self.now in
+    let b = builder_view c.args.self.now in
     let ts = interned_members c.args.types.now b k in
     let unheld : b.ids k ≡ None =
-    ap (λ (s : Kept). (shown s).ids k) (sym c.self.view_is) ∙ ap (option_map number_of) (sym (c.in_default.ensures ∙ c.get.ensures.value)) in
-    let room = c.requires.room (ap (λ (s : Kept). s.is_poisoned) (sym c.self.view_is) ∙ c.if-self.false) in
+    ap (λ (s : BuilderState). (builder_view s).ids k) (sym c.self.view_is) ∙ ap (option_map number_of) (sym (c.in_default.ensures ∙ c.get.ensures.value)) in
+    let room = c.requires.room (ap (λ (s : BuilderState). s.is_poisoned) (sym c.self.view_is) ∙ c.if-self.false) in
     omega (
       arith,
       room,

@@ -5,7 +5,7 @@ use Rattle.std.proofs.lemmas.List.{length-map}
 use Rattle.wasm_index.specs.Index.{number_of}
 use Rattle.module_types.specs.Views.{interned_of, span_of}
 use Rattle.module_types.specs.TypeList.{TypeList}
-use Rattle.module_types.specs.Builder.{shown, interns}
+use Rattle.module_types.specs.Builder.{builder_view, interns}
 use Rattle.module_types.specs.Conversion.{interned_members, NamesInterned, HasIndex}
 use Rattle.module_types.proofs.Convertible.{members-long}
 use Rattle.module_types.proofs.Holding.{has-index}
@@ -18,34 +18,34 @@ intern_rec_group-requires-clause-filled c = filled c.args.types.now c.args.id.0 
 pub intern_rec_group-requires-clause-named : goal.intern_rec_group-requires-clause-named
 intern_rec_group-requires-clause-named c =
     let is = group-is c.args.types.now c.args.id.0 c.rec_group_id_of-group.result.0 c.rec_group_id_of-group.ensures.number in
-    coe 0 1 (j. NamesInterned c.args.types.now (shown c.args.self.now) (is j)) c.requires.named
+    coe 0 1 (j. NamesInterned c.args.types.now (builder_view c.args.self.now) (is j)) c.requires.named
 
 pub intern_rec_group-requires-clause-room : goal.intern_rec_group-requires-clause-room
 intern_rec_group-requires-clause-room c =
     let is = group-is c.args.types.now c.args.id.0 c.rec_group_id_of-group.result.0 c.rec_group_id_of-group.ensures.number in
-    let b = shown c.args.self.now in
+    let b = builder_view c.args.self.now in
     coe 0 1 (j. b.is_poisoned ≡ false → length (interns b (is j) (interned_members c.args.types.now b (is j))).built.types < 4294967295) c.requires.room
 
 pub index_of-requires : goal.index_of-requires
 index_of-requires c =
     let t = c.args.types.now in
     let k = c.rec_group_id_of-group.result.0 in
-    let b = shown c.args.self.now in
+    let b = builder_view c.args.self.now in
     let ts = interned_members t b k in
     let new = c.intern_rec_group.new.self in
     let is = group-is t c.args.id.0 k c.rec_group_id_of-group.ensures.number in
     let made = sym c.in-Ok.ensures.interned in
-    let has : HasIndex t (length (shown new).built.types) (shown new).built.groups (shown new).ids c.args.id.0 =
+    let has : HasIndex t (length (builder_view new).built.types) (builder_view new).built.groups (builder_view new).ids c.args.id.0 =
     coe 0 1 (j. HasIndex t (length (made j).built.types) (made j).built.groups (made j).ids c.args.id.0)
     (has-index t b k ts c.requires.holds (members-long t b k) c.args.id.0 c.requires.known is) in
     let list = sym c.looking_up.ensures.list in
     let ids = sym c.looking_up.ensures.ids in
     let types = sym c.looking_up.ensures.types in
-    let next : length (shown new).built.types ≡ length c.looking_up.result.list.now.types = length-map new.list.types interned_of ∙ ap (λ (l : TypeList). length l.types) list in
+    let next : length (builder_view new).built.types ≡ length c.looking_up.result.list.now.types = length-map new.list.types interned_of ∙ ap (λ (l : TypeList). length l.types) list in
     coe 0 1 (j. HasIndex (types j) (next j) (map span_of (list j).groups) (λ m. option_map number_of (lookup (nat_eq m) (ids j))) c.args.id.0) has
 
 pub returns-in-Ok-clause-interned : goal.returns-in-Ok-clause-interned
 returns-in-Ok-clause-interned c =
     let is = group-is c.args.types.now c.args.id.0 c.rec_group_id_of-group.result.0 c.rec_group_id_of-group.ensures.number in
-    let b = shown c.args.self.now in
+    let b = builder_view c.args.self.now in
     c.in-Ok.ensures.interned ∙ ap (λ k. interns b k (interned_members c.args.types.now b k)) (sym is)

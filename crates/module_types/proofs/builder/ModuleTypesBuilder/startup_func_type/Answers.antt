@@ -1,7 +1,7 @@
 use Rattle.std.proofs.Common.{◌∙◌, refl, sym, ap}
 use Rattle.module_types.specs.Orderly.{IsOrderly}
 use Rattle.module_types.specs.Interner.{built}
-use Rattle.module_types.specs.Builder.{Kept, shown, starts}
+use Rattle.module_types.specs.Builder.{BuilderState, builder_view, starts}
 use Rattle.module_types.specs.contracts.builder.ModuleTypesBuilder.{the_view}
 use Rattle.module_types.proofs.Along.{grows-startup}
 use Rattle.module_types.proofs.Shows.{where-ok, shows-started}
@@ -14,7 +14,7 @@ invariant_of-self-2 c = λ e.
 
 pub returns-clause-made : goal.returns-clause-made
 returns-clause-made c =
-    let old : Kept = the_view c.self.inside in
+    let old : BuilderState = the_view c.self.inside in
     shows-started old _ c.next_ty-next.result c.in_default.is
     (where-ok c.push_startup.result (sym c.if-is_err.ensures.value) c.push_startup.ensures) c.next_ty-next.ensures refl refl refl refl (sym c.if-self.false)
-    ∙ ap (λ k. starts (shown k)) c.self.view_is
+    ∙ ap (λ k. starts (builder_view k)) c.self.view_is
