@@ -32,6 +32,15 @@ pub struct Report<'d> {
     pub refusal: Option<TranslateError>,
 }
 
+impl Report<'_> {
+    /// The status. All else is dropped here, so that no crate above has to prove how a plan is dropped.
+    pub fn into_status(self) -> u8
+        ensures { result ≡ self.status }
+    {
+        self.status
+    }
+}
+
 /// Reads a module from the source, or makes one, plans it, and writes the text of the plan, the summary of a module that was made, or the
 /// line of the refusal, to the sink. The words are those after the program's name. The bytes stand in the store, which is empty at first.
 pub fn run<'d, S: Source, K: Sink>(

@@ -25,10 +25,10 @@ fn words_of(rt: &HostRuntime) -> Option<Result<Vec<String>, AllocError>> {
 }
 
 /// What the program ends with after a run: its status.
-fn end_of(report: &Report<'_>) -> ExitCode
-    ensures { exit_status result ≡ report.now.status }
+fn end_of(report: Report<'_>) -> ExitCode
+    ensures { exit_status result ≡ report.status }
 {
-    ExitCode::from(report.status)
+    ExitCode::from(report.into_status())
 }
 
 /// Runs from standard input to standard output.
@@ -36,7 +36,7 @@ fn run_over_standard(rt: &HostRuntime, words: &[String]) -> ExitCode {
     let mut source = StdSource::new(rt.reader());
     let mut store = Vec::new(rt.alloc());
     let mut sink = StdSink::new(io::writer(rt));
-    end_of(&run(rt.alloc(), words, &mut source, &mut store, &mut sink))
+    end_of(run(rt.alloc(), words, &mut source, &mut store, &mut sink))
 }
 
 fn main(rt: HostRuntime) -> ExitCode {
