@@ -26,14 +26,14 @@ tail_of [] = []
 tail_of (m ∷ ms) = ms
 
 -- page sizes are 1 or 65536
-from_seen : (plain : List PlainMemory) (memories : List Memory) → memories_of plain ≡ map image_memory memories
+view_from : (plain : List PlainMemory) (memories : List Memory) → memories_of plain ≡ map image_memory memories
     → All (λ m. (m.page_size_log2 ≡ 0) ⊎ (m.page_size_log2 ≡ 16)) memories → All (λ m. m.page_size_log2 ≤ 16) plain
-from_seen [] memories seen all = λ k d l. absurd (omega arith)
-from_seen (p ∷ ps) [] seen all = absurd cc
-from_seen (p ∷ ps) (m ∷ ms) seen all = every
+view_from [] memories seen all = λ k d l. absurd (omega arith)
+view_from (p ∷ ps) [] seen all = absurd cc
+view_from (p ∷ ps) (m ∷ ms) seen all = every
     (let e : p.page_size_log2 ≡ m.page_size_log2 = ap (λ xs. first_log2 xs) seen in
     ⊎_elim (λ (h : m.page_size_log2 ≡ 0). omega (arith, e, h)) (λ (h : m.page_size_log2 ≡ 16). omega (arith, e, h)) (all 0 m (omega arith)))
-    (from_seen ps ms (ap tail_of seen) (λ k d l. all (suc k) d (omega arith))) where
+    (view_from ps ms (ap tail_of seen) (λ k d l. all (suc k) d (omega arith))) where
       every : p.page_size_log2 ≤ 16 → All (λ m. m.page_size_log2 ≤ 16) ps → All (λ m. m.page_size_log2 ≤ 16) (p ∷ ps)
       every first more zero d l = first
       every first more (suc k) d l = more k d (omega arith)
@@ -49,17 +49,17 @@ module _ (imports : ℕ) (memories : List Memory) (plain : List PlainMemory) (se
 
   -- page sizes are 1 or 65536
   pub small_pages : All (λ m. (m.page_size_log2 ≡ 0) ⊎ (m.page_size_log2 ≡ 16)) memories → All (λ m. m.page_size_log2 ≤ 16) plain
-  small_pages all = from_seen plain (drop imports memories) seen (all_drop (λ m. (m.page_size_log2 ≡ 0) ⊎ (m.page_size_log2 ≡ 16)) imports memories all)
+  small_pages all = view_from plain (drop imports memories) seen (all_drop (λ m. (m.page_size_log2 ≡ 0) ⊎ (m.page_size_log2 ≡ 16)) imports memories all)
 
 module _ (options : ImageOptions) (imports : ℕ) (memories seen : List ImageMemory) (same : memories ≡ seen) (xs ys : List ActiveSegment) (z : AllZip IsAlike xs ys) where
-  pub static_seen : IsStatic options imports memories xs → IsStatic options imports seen ys
-  static_seen h = subst (λ ms. IsStatic options imports ms ys) same (static_alike options imports memories xs ys z h)
+  pub view_static : IsStatic options imports memories xs → IsStatic options imports seen ys
+  view_static h = subst (λ ms. IsStatic options imports ms ys) same (static_alike options imports memories xs ys z h)
 
   pub static_back : IsStatic options imports seen ys → IsStatic options imports memories xs
   static_back h = static_alike options imports memories ys xs (all_alike_back xs ys z) (subst (λ ms. IsStatic options imports ms ys) (sym same) h)
 
-  pub images_seen : IsStatic options imports memories xs → (n m : ℕ) → n ≡ m → (images : List (Option MemoryImage)) → AreImages options.page n xs images → AreImages options.page m ys images
-  images_seen h n m is images are = subst (λ (k : ℕ). AreImages options.page k ys images) is (images_alike imports memories options.page n xs ys images z h.placed are)
+  pub view_images : IsStatic options imports memories xs → (n m : ℕ) → n ≡ m → (images : List (Option MemoryImage)) → AreImages options.page n xs images → AreImages options.page m ys images
+  view_images h n m is images are = subst (λ (k : ℕ). AreImages options.page k ys images) is (images_alike imports memories options.page n xs ys images z h.placed are)
 
   pub images_back : IsStatic options imports memories xs → (n m : ℕ) → n ≡ m → (images : List (Option MemoryImage)) → AreImages options.page m ys images → AreImages options.page n xs images
   images_back h n m is images are = subst (λ (k : ℕ). AreImages options.page k xs images) (sym is)
