@@ -6,9 +6,11 @@ use std::alloc::{AllocError, Global};
 #[derive(Clone, Copy)]
 pub enum CaseError {
     OutOfMemory,
-    /// A line begins with no word that is known, or a case has no name.
+    /// A line begins with no word that is known.
     UnknownLine,
-    /// A piece is no byte of two digits, no text in quotes and no run of a byte.
+    /// A line stands before the name, or there is a second name.
+    Name,
+    /// A piece is no byte of two digits, no text in quotes and no run of bytes.
     UnknownPiece,
     /// A number is missing, is none, or is out of its range.
     NoNumber,
@@ -19,7 +21,8 @@ pub fn words_of_error(error: CaseError) -> &'static str {
     match error {
         CaseError::OutOfMemory => "out of memory",
         CaseError::UnknownLine => "a line of no known kind",
-        CaseError::UnknownPiece => "a piece that is none",
+        CaseError::Name => "no name before a line, or a second name",
+        CaseError::UnknownPiece => "a piece of no known kind",
         CaseError::NoNumber => "no number, or one out of its range",
     }
 }
@@ -35,6 +38,9 @@ impl From<AllocError> for CaseError {
 pub struct Given {
     pub words: Vec<String>,
     pub bytes: Vec<u8>,
+    /// How many of the bytes are given at least and at most: one run for each number between.
+    pub shortest: u64,
+    pub longest: u64,
     /// The most bytes that one read gives.
     pub piece: usize,
     pub failing_reads: Vec<u64>,
@@ -45,13 +51,33 @@ pub struct Given {
     pub failing_writes: Vec<u64>,
 }
 
+/// How many lines of a text begin with these words.
+#[derive(Drop)]
+pub struct LineCount {
+    pub count: u64,
+    pub words: String,
+}
+
+/// The bytes of a runtime data entry.
+#[derive(Drop)]
+pub struct DataBytes {
+    pub place: u64,
+    pub bytes: Vec<u8>,
+}
+
 /// What a run is to give.
 #[derive(Drop)]
 pub struct Expected {
     pub status: u64,
-    /// The text that is written, and whether anything is said of it.
+    /// The text that is written, and whether the whole of it is said.
     pub text: String,
     pub is_text_said: bool,
+    /// Lines that the text has.
+    pub lines: Vec<String>,
+    /// How many lines of a kind it has.
+    pub counts: Vec<LineCount>,
+    /// What the plan's runtime data are.
+    pub data: Vec<DataBytes>,
     /// How many bytes are read, where that is said.
     pub read: Option<u64>,
 }
@@ -68,6 +94,8 @@ fn plain_given(alloc: Global) -> Given {
     Given {
         words: Vec::new(alloc),
         bytes: Vec::new(alloc),
+        shortest: u64::MAX,
+        longest: u64::MAX,
         piece: 4096,
         failing_reads: Vec::new(alloc),
         room: 1 << 20,
@@ -76,17 +104,25 @@ fn plain_given(alloc: Global) -> Given {
     }
 }
 
+/// What is expected where no line says more: a plan.
+fn plain_expected(alloc: Global) -> Expected {
+    Expected {
+        status: 0,
+        text: String::new(alloc),
+        is_text_said: false,
+        lines: Vec::new(alloc),
+        counts: Vec::new(alloc),
+        data: Vec::new(alloc),
+        read: None,
+    }
+}
+
 /// The case of no line.
 pub fn empty_case(alloc: Global) -> Result<Box<Case>, AllocError> {
     let case = Case {
         name: String::new(alloc),
         given: plain_given(alloc),
-        expected: Expected {
-            status: 0,
-            text: String::new(alloc),
-            is_text_said: false,
-            read: None,
-        },
+        expected: plain_expected(alloc),
     };
     Ok(Box::new(alloc, case)?)
 }

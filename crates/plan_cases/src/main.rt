@@ -2,18 +2,21 @@
 #![tactic(auto)]
 
 mod case;
+mod comparing;
 mod expected;
 mod given;
 mod lines;
 mod pieces;
 mod running;
+mod telling;
 
-use case::{Case, CaseError, empty_case, is_named, words_of_error};
-use lines::take_line;
-use running::{Outcome, is_as_expected, outcome_of};
-use std::alloc::Global;
+use case::{Case, is_named};
+use comparing::difference_of;
+use lines::read_case;
+use running::outcome_of;
 use std::process::ExitCode;
 use std::{env, fs, io};
+use telling::{tell_fault, tell_outcome};
 
 /// How many cases there were, and how many of them failed.
 #[derive(Clone, Copy)]
@@ -22,39 +25,16 @@ struct Totals {
     failed: u64,
 }
 
-/// The case of the lines of a block; its name is empty where the block has comments alone.
-fn read_case(alloc: Global, block: &str) -> Result<Box<Case>, CaseError> {
-    let mut case = empty_case(alloc)?;
-    for line in block.lines() {
-        take_line(alloc, &mut case, line)?;
-    }
-    Ok(case)
-}
-
-/// Tells how a case failed: what it gave.
-fn tell_outcome(rt: &HostRuntime, path: &str, case: &Case, outcome: &Outcome) -> io::Result<()> {
-    println!(rt; "FAILED {path}: {}", case.name)?;
-    println!(rt; "status {}", outcome.status)?;
-    let text = str::from_utf8(outcome.text.as_slice()).unwrap_or("no text");
-    rt.println(text)
-}
-
-/// Tells why a block is no case.
-fn tell_fault(rt: &HostRuntime, path: &str, block: &str, fault: CaseError) -> io::Result<()> {
-    println!(rt; "FAILED {path}: {}", words_of_error(fault))?;
-    rt.println(block)
-}
-
-/// Runs a case, and tells of it where it fails. Whether it went well.
-fn try_case(rt: &HostRuntime, path: &str, case: &Case) -> io::Result<bool> {
-    match outcome_of(rt.alloc(), case) {
-        Ok(outcome) => {
-            let is_well = is_as_expected(case, &outcome);
-            if !is_well {
-                tell_outcome(rt, path, case, &outcome)?;
+/// Runs a case over so many of its bytes, and tells of it where it fails. Whether it went well.
+fn try_length(rt: &HostRuntime, path: &str, case: &Case, length: u64) -> io::Result<bool> {
+    match outcome_of(rt.alloc(), case, length) {
+        Ok(outcome) => match difference_of(case, &outcome) {
+            Some(difference) => {
+                tell_outcome(rt, path, case, &outcome, difference)?;
+                Ok(false)
             }
-            Ok(is_well)
-        }
+            None => Ok(true),
+        },
         Err(fault) => {
             tell_fault(rt, path, case.name.as_str(), fault)?;
             Ok(false)
@@ -62,13 +42,30 @@ fn try_case(rt: &HostRuntime, path: &str, case: &Case) -> io::Result<bool> {
     }
 }
 
-/// Runs the case of a block, if it is one, and counts it.
-fn try_block(rt: &HostRuntime, path: &str, block: &str, totals: &mut Totals) -> io::Result<()> {
-    let is_well = match read_case(rt.alloc(), block) {
+/// Runs a case over each number of its bytes that it names, up to the first that fails. Whether all went well.
+fn try_case(rt: &HostRuntime, path: &str, case: &Case) -> io::Result<bool> {
+    for length in case.given.shortest..=case.given.longest {
+        if !try_length(rt, path, case, length)? {
+            return Ok(false);
+        }
+    }
+    Ok(case.given.shortest <= case.given.longest)
+}
+
+/// Runs the case of a block, if it is one, and counts it; its bytes become those of the case before.
+fn try_block(
+    rt: &HostRuntime,
+    path: &str,
+    block: &str,
+    before: &mut Vec<u8>,
+    totals: &mut Totals,
+) -> io::Result<()> {
+    let is_well = match read_case(rt.alloc(), before.as_slice(), block) {
         Ok(case) => {
             if !is_named(&case) {
                 return Ok(());
             }
+            *before = Vec::from_slice(rt.alloc(), case.given.bytes.as_slice())?;
             try_case(rt, path, &case)?
         }
         Err(fault) => {
@@ -86,8 +83,9 @@ fn try_block(rt: &HostRuntime, path: &str, block: &str, totals: &mut Totals) -> 
 /// Runs the cases of a file, between which stand empty lines.
 fn try_file(rt: &HostRuntime, path: &str, totals: &mut Totals) -> io::Result<()> {
     let text = fs::read_to_string(rt, path)?;
+    let mut before = Vec::new(rt.alloc());
     for block in text.as_str().split("\n\n") {
-        try_block(rt, path, block, totals)?;
+        try_block(rt, path, block, &mut before, totals)?;
     }
     Ok(())
 }

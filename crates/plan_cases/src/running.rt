@@ -1,39 +1,78 @@
 //! A run of a case over devices in memory.
 
-use crate::case::{Case, CaseError, Expected, Given};
+use crate::case::{Case, CaseError, Given};
 use devices::{ListSink, ListSource};
-use std::alloc::Global;
-use translate::run;
+use init_plan::RuntimeBytes;
+use std::alloc::{AllocError, Global};
+use translate::{Report, run};
 
 /// What a run gave.
 #[derive(Drop)]
 pub struct Outcome {
     pub status: u8,
-    pub text: Vec<u8>,
+    /// How many bytes were read.
     pub read: usize,
+    pub text: Vec<u8>,
+    /// The bytes of the plan's runtime data, in order.
+    pub data: Vec<Vec<u8>>,
 }
 
-/// The status of a run, and how many bytes it read.
-fn status_of(
+/// The bytes of runtime data.
+fn slice_of<'a>(data: &'a RuntimeBytes<'_>) -> &'a [u8] {
+    match data {
+        RuntimeBytes::Borrowed(bytes) => bytes,
+        RuntimeBytes::Owned(bytes) => bytes.as_slice(),
+    }
+}
+
+/// The bytes of the runtime data of a report's plan; none where there is no plan.
+fn data_of(alloc: Global, report: &Report<'_>) -> Result<Vec<Vec<u8>>, AllocError> {
+    let mut all = Vec::new(alloc);
+    if let Some(plan) = &report.plan {
+        for data in plan.translation.runtime_data.values() {
+            all.push(Vec::from_slice(alloc, slice_of(data))?)
+                .map_err(AllocError::from)?;
+        }
+    }
+    Ok(all)
+}
+
+/// The run of these words. Its text is the sink's.
+fn outcome_over(
     alloc: Global,
-    given: &Given,
+    words: &[String],
     source: &mut ListSource<'_>,
     sink: &mut ListSink<'_>,
-) -> (u8, usize) {
+) -> Result<Outcome, AllocError> {
     let mut store = Vec::new(alloc);
-    let report = run(alloc, given.words.as_slice(), source, &mut store, sink);
+    let report = run(alloc, words, source, &mut store, sink);
     let read = report.bytes.len();
-    (report.into_status(), read)
+    let data = data_of(alloc, &report);
+    let status = report.into_status();
+    let data = data?;
+    let text = Vec::from_slice(alloc, sink.held())?;
+    Ok(Outcome {
+        status,
+        read,
+        text,
+        data,
+    })
 }
 
-/// What a run of the case gives.
-pub fn outcome_of(alloc: Global, case: &Case) -> Result<Outcome, CaseError> {
+/// The first bytes that are given, up to so many.
+fn first_bytes(given: &Given, length: u64) -> &[u8] {
+    let end = given.bytes.len().min(length as usize);
+    &given.bytes[..end]
+}
+
+/// What a run of the case over so many of its bytes gives.
+pub fn outcome_of(alloc: Global, case: &Case, length: u64) -> Result<Outcome, CaseError> {
     let given = &case.given;
     if given.piece == 0 || given.most == 0 {
         return Err(CaseError::NoNumber);
     }
     let mut source = ListSource::new(
-        given.bytes.as_slice(),
+        first_bytes(given, length),
         given.piece,
         given.failing_reads.as_slice(),
     );
@@ -41,24 +80,5 @@ pub fn outcome_of(alloc: Global, case: &Case) -> Result<Outcome, CaseError> {
     let Ok(mut sink) = ListSink::new(alloc, given.room, given.most, failing) else {
         return Err(CaseError::OutOfMemory);
     };
-    let (status, read) = status_of(alloc, given, &mut source, &mut sink);
-    let text = Vec::from_slice(alloc, sink.held())?;
-    Ok(Outcome { status, text, read })
-}
-
-/// Whether the text is as it is to be, where anything is said of it.
-fn has_text(expected: &Expected, text: &[u8]) -> bool {
-    !expected.is_text_said || expected.text.as_bytes() == text
-}
-
-/// Whether a case gave what it is to give.
-pub fn is_as_expected(case: &Case, outcome: &Outcome) -> bool {
-    let expected = &case.expected;
-    let has_read = match expected.read {
-        Some(count) => outcome.read as u64 == count,
-        None => true,
-    };
-    u64::from(outcome.status) == expected.status
-        && has_read
-        && has_text(expected, outcome.text.as_slice())
+    Ok(outcome_over(alloc, given.words.as_slice(), &mut source, &mut sink)?)
 }
