@@ -85,9 +85,9 @@ module _ (options : ImageOptions) (passive runtime : List (List ℕ)) (found : �
 
 -- the passive segments stand
 pub same_passive : (page_size : ℕ) (images : Option (Vec (Option Image))) (active : List ActiveSegment) (taken mid : ModuleTranslation)
-    → Begins page_size images active taken mid → mid.hidden.passive_data ≡ taken.hidden.passive_data
-same_passive page_size None active taken mid h = ap (λ (t : ModuleTranslation). t.hidden.passive_data) h.same
-same_passive page_size (Some images) active taken mid h = ap (λ (t : ModuleTranslation). t.hidden.passive_data) h.same
+    → Begins page_size images active taken mid → mid.private_parts.passive_data ≡ taken.private_parts.passive_data
+same_passive page_size None active taken mid h = ap (λ (t : ModuleTranslation). t.private_parts.passive_data) h.same
+same_passive page_size (Some images) active taken mid h = ap (λ (t : ModuleTranslation). t.private_parts.passive_data) h.same
 
 -- the plan leaves what the segments leave
 pub agrees_sized : (options : ImageOptions) (m : Module) (active : List ActiveSegment) (passive : List (List ℕ)) (plan : MemoryPlan) → IsPowerOfTwo options.page

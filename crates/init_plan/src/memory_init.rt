@@ -63,7 +63,7 @@ impl<'d> ModuleTranslation<'d> {
             → 2 ^ 32 ≤ sum_by length plan.runtime }
     {
         let segments = self.take_segments(alloc);
-        let beside = passive_length(&self.hidden.passive_data)?;
+        let beside = passive_length(&self.private_parts.passive_data)?;
         let settings = ImageSettings {
             enabled: tunables.memory_init_cow,
             page_size,
@@ -72,7 +72,7 @@ impl<'d> ModuleTranslation<'d> {
         let images = memory_images_of(alloc, settings, &self.module, &segments, beside)?;
         self.begin_memories(alloc, images, segments, page_size)?;
         keep_passive(
-            &self.hidden.passive_data,
+            &self.private_parts.passive_data,
             &mut self.runtime_data,
             &mut self.runtime_data_map,
         )?;
@@ -137,7 +137,7 @@ impl<'d> ModuleTranslation<'d> {
         ensures fits { OnOk result (total_bytes (map active_segment_of segments.entry.items) (passive_data_of self.old) < 2 ^ 32) }
         ensures too_large { result ≡ Err PlanError.TooLarge → 2 ^ 32 ≤ total_bytes (map active_segment_of segments.entry.items) (passive_data_of self.old) }
     {
-        check_total(&segments, &self.hidden.passive_data)?;
+        check_total(&segments, &self.private_parts.passive_data)?;
         let kept = keep_active(alloc, segments, &mut self.runtime_data)?;
         self.memory_init = MemoryInit::Processed(kept);
         Ok(())

@@ -53,5 +53,5 @@ impl TypeTrace for ModuleTypes {
         trace_types_mut(&mut self.wasm_types, func)
     }
 
-    ghost told = { tells type_list_back };
+    ghost injective = { tells type_list_back };
 }

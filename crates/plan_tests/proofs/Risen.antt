@@ -28,4 +28,4 @@ distinct-none = tt
 
 -- a frame after a frame
 pub same-twice : (a b c : ModuleTranslation) → SameButPassive a b → SameButPassive b c → SameButPassive a c
-same-twice a b c first second = second ∙ ap (λ (t : ModuleTranslation). record t { hidden = record t.hidden { passive_data = c.hidden.passive_data } }) first
+same-twice a b c first second = second ∙ ap (λ (t : ModuleTranslation). record t { private_parts = record t.private_parts { passive_data = c.private_parts.passive_data } }) first

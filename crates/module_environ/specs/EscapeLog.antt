@@ -3,10 +3,10 @@ use Rattle.std.specs.Prelude.{ℕ, List}
 use Rattle.module_environ.specs.Firsts.{firsts_after}
 
 -- of so many functions, those that were met, in the order of the first cause
-pub record Flags : Type 0 where
+pub record EscapeLog : Type 0 where
   pub count : ℕ
   pub order : List ℕ
 
 -- more references, in order
-abbrev pub flagged : Flags → List ℕ → Flags
-flagged f functions = record { count = f.count; order = firsts_after f.order functions }
+abbrev pub after_escapes : EscapeLog → List ℕ → EscapeLog
+after_escapes f functions = record { count = f.count; order = firsts_after f.order functions }

@@ -5,9 +5,9 @@ use Rattle.wasm_spec.specs.declared.types.CoreTypeId.{CoreTypeId}
 use Rattle.type_spec.specs.Equality.{canonical}
 use Rattle.form_types.specs.Seen.{ids_of}
 use Rattle.form_types.specs.Placed.{placed}
-use Rattle.form_types.specs.Forms.{form, targets}
-use Rattle.form_types.proofs.FormLaws.{form-made}
-use Rattle.form_types.proofs.finding.next_form.Goals as goal
+use Rattle.form_types.specs.Keys.{group_key, targets}
+use Rattle.form_types.proofs.KeyLaws.{group_key-made}
+use Rattle.form_types.proofs.finding.next_key.Goals as goal
 
 pub returns : goal.returns
 returns c g is =
@@ -16,5 +16,5 @@ returns c g is =
     let named = c.in_ok-references.ensures ∙ ap (targets ids start) c.deref.ensures.value in
     (λ k. record { codes = c.args.read.frame.items; references = named k })
     ∙ (λ k. record { codes = (is k).codes; references = targets ids start (is k).references })
-    ∙ form-made ids start g
-    ∙ ap (λ n. form (canonical (slice_index ids) (record { start = n; members = placed g }))) (sym (length-map c.args.ids.now (λ (id : CoreTypeId). id.0)))
+    ∙ group_key-made ids start g
+    ∙ ap (λ n. group_key (canonical (slice_index ids) (record { start = n; members = placed g }))) (sym (length-map c.args.ids.now (λ (id : CoreTypeId). id.0)))

@@ -1,4 +1,4 @@
--- A form is that of one canonical group, and looking up tells forms apart.
+-- A key is that of one canonical group, and looking up tells keys apart.
 use Rattle.std.proofs.Common.{◌≡◌, ◌∙◌, ℕ, Bool, true, false, nat_eq, ◌&&◌, List, [], ◌∷◌, map, refl, sym, ap}
 use Rattle.std.specs.Cmp.Lexicographic.{pointwise}
 use Rattle.std.proofs.lemmas.Bool.{eqb-true, eq-eqb}
@@ -18,10 +18,10 @@ use Rattle.form_types.specs.declared.canonical.CanonicalGroup.{CanonicalGroup}
 use Rattle.form_types.specs.contracts.canonical.CanonicalGroupPartialEq.TheImpl as group
 use Rattle.form_types.specs.Ids.{id_of}
 use Rattle.form_types.specs.Codes.{group_codes}
-use Rattle.form_types.specs.Forms.{Form, index_of, canonical_index, targets, form, form_of}
+use Rattle.form_types.specs.Keys.{GroupKey, index_of, canonical_index, targets, group_key, key_of}
 use Rattle.form_types.proofs.Decoding.{group-mapped, group-told}
 
--- ---- equal forms are those of one group
+-- ---- equal keys are those of one group
 
 index-told : (s t : Target ℕ) → index_of s ≡ index_of t → s ≡ t
 index-told (Inside p) (Inside q) same = let one : p ≡ q = cc in ap Inside one
@@ -41,15 +41,15 @@ indices-told (s ∷ ss) (t ∷ ts) same =
     let rest = indices-told ss ts tail in
     λ i. one i ∷ rest i
 
-pub form-told : (g h : Group (Target ℕ) (Target ℕ)) → form g ≡ form h → g ≡ h
-form-told g h same =
-    let codes : group_codes g ≡ group_codes h = ap (λ (f : Form). f.codes) same in
-    let references : map index_of (group_edges (λ t. t) g) ≡ map index_of (group_edges (λ t. t) h) = ap (λ (f : Form). f.references) same in
+pub group_key-exact : (g h : Group (Target ℕ) (Target ℕ)) → group_key g ≡ group_key h → g ≡ h
+group_key-exact g h same =
+    let codes : group_codes g ≡ group_codes h = ap (λ (f : GroupKey). f.codes) same in
+    let references : map index_of (group_edges (λ t. t) g) ≡ map index_of (group_edges (λ t. t) h) = ap (λ (f : GroupKey). f.references) same in
     (plainly group_shape).determined g h
     (group-told _ _ (group-mapped erased erased g ∙ codes ∙ sym (group-mapped erased erased h)))
     (indices-told _ _ references)
 
--- ---- keys are equal where their forms are
+-- ---- keys that are looked up are equal where they say the same
 
 nat-told : (m n : ℕ) → nat_eq m n ≡ true → m ≡ n
 nat-told m n same = eqb-true m n same
@@ -91,25 +91,25 @@ module _ {A : Type 0} (test : A → A → Bool) where
   list-same each [] = refl
   list-same each (x ∷ xs) = both-and (test x x) (pointwise test xs xs) (each x) (list-same each xs)
 
-pub key-told : (a b : CanonicalGroup) → group.ghosts.eq a b ≡ true → form_of a ≡ form_of b
+pub key-told : (a b : CanonicalGroup) → group.ghosts.eq a b ≡ true → key_of a ≡ key_of b
 key-told a b same =
     let both = and-both (pointwise nat_eq a.frame.items b.frame.items) (pointwise index.ghosts.eq a.references.items b.references.items) same in
     let codes = list-told nat_eq nat-told a.frame.items b.frame.items both.0 in
     let references = list-told index.ghosts.eq unpacked-told a.references.items b.references.items both.1 in
     λ i. record { codes = codes i; references = references i }
 
-pub key-same : (a b : CanonicalGroup) → form_of a ≡ form_of b → group.ghosts.eq a b ≡ true
+pub key-same : (a b : CanonicalGroup) → key_of a ≡ key_of b → group.ghosts.eq a b ≡ true
 key-same a b same =
     both-and (pointwise nat_eq a.frame.items b.frame.items) (pointwise index.ghosts.eq a.references.items b.references.items)
-    (ap (λ (f : Form). pointwise nat_eq a.frame.items f.codes) (sym same) ∙ list-same nat_eq nat-same a.frame.items)
-    (ap (λ (f : Form). pointwise index.ghosts.eq a.references.items f.references) (sym same) ∙ list-same index.ghosts.eq unpacked-same a.references.items)
+    (ap (λ (f : GroupKey). pointwise nat_eq a.frame.items f.codes) (sym same) ∙ list-same nat_eq nat-same a.frame.items)
+    (ap (λ (f : GroupKey). pointwise index.ghosts.eq a.references.items f.references) (sym same) ∙ list-same index.ghosts.eq unpacked-same a.references.items)
 
--- ---- what is made is the form
+-- ---- what is made is the key
 
-pub form-made : (ids : List ℕ) (start : ℕ) (g : NamedGroup)
+pub group_key-made : (ids : List ℕ) (start : ℕ) (g : NamedGroup)
     → record { codes = group_codes g; references = targets ids start (group_edges (λ i. i) g) }
-    ≡ form (canonical (slice_index ids) (record { start = start; members = placed g }))
-form-made ids start g =
+    ≡ group_key (canonical (slice_index ids) (record { start = start; members = placed g }))
+group_key-made ids start g =
     let t : ℕ → Target ℕ = target (slice_index ids) start in
     let codes : group_codes g ≡ group_codes (map_group t t (placed g)) = sym (group-mapped t t (placed g) ∙ group-mapped place_of place_of g) in
     let edges : group_edges (λ r. r) (map_group t t (placed g)) ≡ map t (map place_of (group_edges (λ i. i) g)) =

@@ -15,21 +15,21 @@ index_of (Inside place) = RecGroup place
 index_of (Earlier id) = Id (id_of id)
 
 -- the frame, and what the references name
-pub record Form : Type 0 where
+pub record GroupKey : Type 0 where
   pub codes : List ℕ
   pub references : List UnpackedIndex
 
-abbrev pub form : Group (Target ℕ) (Target ℕ) → Form
-form g = record { codes = group_codes g; references = map index_of (group_edges (λ t. t) g) }
+abbrev pub group_key : Group (Target ℕ) (Target ℕ) → GroupKey
+group_key g = record { codes = group_codes g; references = map index_of (group_edges (λ t. t) g) }
 
-abbrev pub form_of : CanonicalGroup → Form
-form_of key = record { codes = key.frame.items; references = key.references.items }
+abbrev pub key_of : CanonicalGroup → GroupKey
+key_of key = record { codes = key.frame.items; references = key.references.items }
 
 -- what an index in a group that starts at a place names
 abbrev pub canonical_index : List ℕ → ℕ → UnpackedIndex → UnpackedIndex
 canonical_index ids start index = index_of (target (slice_index ids) start (place_of index))
 
--- ---- while a form is made
+-- ---- while a key is made
 
 -- what the references of a part name
 abbrev pub targets : List ℕ → ℕ → List UnpackedIndex → List UnpackedIndex

@@ -1,10 +1,10 @@
 use Rattle.std.proofs.Common.{◌≡◌, ◌<◌, ◌∷◌, [], ℕ, List, length, get_or, set, ap, sym, ◌∙◌, subst, arith}
 use Rattle.std.proofs.lemmas.List.{get_or_default}
-use Rattle.module_environ.specs.Flags.{flagged}
+use Rattle.module_environ.specs.EscapeLog.{after_escapes}
 use Rattle.module_environ.specs.Numbers.{AreNumbers}
 use Rattle.module_environ.proofs.Numbering.{order-few, AreNumbers-more}
-use Rattle.module_environ.proofs.Flagging.{seen-new, seen-old}
-use Rattle.module_environ.proofs.escapes.Escaping.flag_at.Goals as goal
+use Rattle.module_environ.proofs.NotingEscapes.{seen-new, seen-old}
+use Rattle.module_environ.proofs.escapes.Escaping.note_escape_at.Goals as goal
 
 number-read : (numbers : List ℕ) (f x : ℕ) → f < length numbers → x ≡ get_or numbers f x → get_or numbers f 0 ≡ x
 number-read numbers f x lt is = get_or_default numbers f 0 x lt ∙ sym is
@@ -31,7 +31,7 @@ returns-in_ok-push c =
     let next : length kept.order.items ≡ c.len-number.result = omega arith in
     let e = number-read kept.numbers.items c.args.function _ in' c.index.ensures ∙ c.if-index.true in
     subst (λ n. record { count = length (set kept.numbers.items c.args.function n); order = c.push.new.self.items }
-    ≡ flagged c.args.self.now (c.args.function ∷ [])) next
+    ≡ after_escapes c.args.self.now (c.args.function ∷ [])) next
     (seen-new c.args.self.now kept.numbers.items kept.order.items c.push.new.self.items c.args.function
     c.self.invariant c.self.view_is in' e c.in_ok-push.ensures.items)
 

@@ -21,7 +21,7 @@ Carries t u = u ≡ record t {
   function_body_inputs = u.function_body_inputs;
   debuginfo = u.debuginfo;
   has_unparsed_debuginfo = u.has_unparsed_debuginfo;
-  hidden = record t.hidden { types = u.hidden.types; branch_hints = u.hidden.branch_hints };
+  private_parts = record t.private_parts { types = u.private_parts.types; branch_hints = u.private_parts.branch_hints };
 }
 
 -- with its entities, whose names it pools, it has the sections
@@ -69,7 +69,7 @@ CarriesNames t u = u ≡ record t {
   debuginfo = record t.debuginfo {
     wasm_file = record t.debuginfo.wasm_file { code_section_offset = u.debuginfo.wasm_file.code_section_offset };
   };
-  hidden = record t.hidden { types = u.hidden.types };
+  private_parts = record t.private_parts { types = u.private_parts.types };
 }
 
 module _ (m : plain.Module) (t u : ModuleTranslation) (same : CarriesNames t u) where

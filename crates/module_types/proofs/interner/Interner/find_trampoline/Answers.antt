@@ -7,7 +7,7 @@ use Rattle.wasm_types.specs.contracts.equal.WasmFuncTypePartialEq.TheImpl as fun
 use Rattle.wasm_types.specs.contracts.equal.WasmFuncTypeEq.TheImpl.Laws as func_equal
 use Rattle.wasm_types.specs.Trampolines.{trampoline_of, is_borrowed}
 use Rattle.wasm_types.proofs.Sound.{decides, function-sound}
-use Rattle.module_types.proofs.interner.Interner.find_mapped.Goals as goal
+use Rattle.module_types.proofs.interner.Interner.find_trampoline.Goals as goal
 
 equal : (f g : WasmFuncType) → (func.ghosts.eq f g ≡ true) ↔ (f ≡ g)
 equal f g = decides func.ghosts.eq function-sound func_equal.laws-law.refl f g
@@ -21,7 +21,7 @@ unequal f g off = by (func.ghosts.eq f g) refl where
 pub returns-in_ok-try_clone-in-Borrowed : goal.returns-in_ok-try_clone-in-Borrowed
 returns-in_ok-try_clone-in-Borrowed c =
     let f = c.args.func.now in
-    let old = get func.ghosts.eq c.args.self.now.met in
+    let old = get func.ghosts.eq c.args.self.now.trampolines in
     let mapped = c.in_ok-mapped.ensures in
     let same = (subst (λ t. IsTrue (is_borrowed t) ↔ (trampoline_of f ≡ f)) c.in-Borrowed.is mapped.kept).0 refl in (
       record {
@@ -34,7 +34,7 @@ returns-in_ok-try_clone-in-Borrowed c =
 pub returns-in-Owned : goal.returns-in-Owned
 returns-in-Owned c =
     let f = c.args.func.now in
-    let old = get func.ghosts.eq c.args.self.now.met in
+    let old = get func.ghosts.eq c.args.self.now.trampolines in
     let mapped = c.in_ok-mapped.ensures in
     let kept = subst (λ t. IsTrue (is_borrowed t) ↔ (trampoline_of f ≡ f)) c.in-Owned.is mapped.kept in (
       record {

@@ -9,16 +9,16 @@ use std::collections::BTreeMap;
 use wasm_index::{DataIndex, FuncIndex};
 
 /// The passive data segments, the types by ids, and the hints of each function's branches.
-pub struct Hidden<'d> {
+pub struct PrivateParts<'d> {
     pub passive_data: Vec<(DataIndex, &'d [u8])>,
     pub types: Option<Types>,
     pub branch_hints: BTreeMap<FuncIndex, Vec<BranchHint>>,
 }
 
 // One call in place of a walk over the parts, wherever a translation is let go.
-impl Drop for Hidden<'_> {
+impl Drop for PrivateParts<'_> {
     fn drop(self) {
-        let Hidden {
+        let PrivateParts {
             passive_data: _passive_data,
             types: _types,
             branch_hints: _branch_hints,
@@ -26,14 +26,14 @@ impl Drop for Hidden<'_> {
     }
 }
 
-impl Hidden<'_> {
+impl PrivateParts<'_> {
     /// Nothing of the three.
     pub fn new(alloc: Global) -> Self
         ensures passive_data { result.passive_data.items ≡ [] }
         ensures types { result.types ≡ None }
         ensures branch_hints { result.branch_hints.entries ≡ [] }
     {
-        Hidden {
+        PrivateParts {
             passive_data: Vec::new(alloc),
             types: None,
             branch_hints: BTreeMap::new(alloc),

@@ -32,8 +32,8 @@ use Rattle.module_environ.specs.Translated.{starts_always, HoldsTypes}
 use Rattle.module_environ.specs.Filling.{LeavesRest}
 use Rattle.module_environ.specs.Forming.{IsFormed, FormCause}
 use Rattle.module_environ.proofs.Started.{starts-is}
-use Rattle.module_environ.proofs.Formed.{never-holds, always-holds, always-raised}
-use Rattle.module_environ.proofs.Carried.{CarriesNames, sections-keep, customs-keep, types-keep}
+use Rattle.module_environ.proofs.BuilderAfterTags.{never-holds, always-holds, always-raised}
+use Rattle.module_environ.proofs.UnchangedViews.{CarriesNames, sections-keep, customs-keep, types-keep}
 
 -- ---- causes
 
@@ -56,7 +56,7 @@ module _ (tunables : Tunables) (validator : ℕ) (m : plain.Module) (old filled 
     (sections : HasSections tunables.debug_guest m filled) (customs : HasCustoms tunables m filled)
     (imports : filled.debuginfo.wasm_file.imported_func_count ≡ count_of function_import (plain.imports m)) (rest : LeavesRest old filled)
     (none : old.module.startup ≡ startup.None) (indices : List EngineOrModuleTypeIndex) (tags : List Tag) (ids : TypesData)
-    (same : set ≡ record filled { «module» = record filled.module { types = indices; tags = tags }; hidden = record filled.hidden { types = set.hidden.types } })
+    (same : set ≡ record filled { «module» = record filled.module { types = indices; tags = tags }; private_parts = record filled.private_parts { types = set.private_parts.types } })
     (is-set : types_of set ≡ Some ids) (numbered : AreNumbered m ids) (made : ids.validator ≡ validator)
     (listed : indices ≡ map type_index (declared m)) (tagged-so : tags ≡ tags_of m) where
   set-sections : HasSections tunables.debug_guest m set
