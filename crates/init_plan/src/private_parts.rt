@@ -15,7 +15,7 @@ pub struct PrivateParts<'d> {
     pub branch_hints: BTreeMap<FuncIndex, Vec<BranchHint>>,
 }
 
-// One call in place of a walk over the parts, wherever a translation is let go.
+// One call in place of a walk over the parts, wherever a translation is dropped.
 impl Drop for PrivateParts<'_> {
     fn drop(self) {
         let PrivateParts {

@@ -44,7 +44,7 @@ pub(crate) fn fill_customs<'d>(
     let native = tunables.debug_native;
     let names = kept_names(alloc, lists.form, native)?;
     translation.module.name = pool_name(&mut translation.module.strings, names.module_name)?;
-    // The names and functions of before, of which there are none, are let go as values of their own.
+    // The names and functions of before, of which there are none, are dropped as values of their own.
     let _no_names = mem::replace(
         &mut translation.debuginfo.name_section,
         asked_names(names, native),

@@ -87,7 +87,7 @@ fn translation_of<'d>(
     translate_form(alloc, tunables, validator, types, &form, &mut translation)?;
     translation.wasm = bytes;
     let (bodies, place) = take_bodies(alloc, form)?;
-    // The list of before, which is empty, is let go as a value of its own.
+    // The list of before, which is empty, is dropped as a value of its own.
     let _none = mem::replace(&mut translation.function_body_inputs, bodies);
     translation.debuginfo.wasm_file.code_section_offset = place;
     Ok(translation)
