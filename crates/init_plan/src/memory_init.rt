@@ -4,7 +4,7 @@ ghost use Rattle.std.specs.Prelude.{◌≡◌, ◌+◌, ◌^◌, ◌<◌, ◌≤
 ghost use Rattle.std.specs.Int.{IsPowerOfTwo};
 ghost use Rattle.replay_spec.specs.Plan.{MemoryPlan, AgreesOver, ranges_from};
 ghost use Rattle.replay_spec.specs.Images.{IsMemoryPlan};
-ghost use Rattle.memory_images.specs.Images.{images_of as images_seen};
+ghost use Rattle.memory_images.specs.Images.{images_of as view_images};
 ghost use Rattle.init_plan.specs.Views.{memory_plan_of, initializers_of, passive_data_of, defined_sizes, ranges_of, total_bytes, passive_bytes, FindsData, FindsInOrder, OnlyMemoriesChange, IsUnprocessed, IsProcessed, active_segment_of, SameButSegments};
 ghost use Rattle.init_plan.specs.Images.{image_options, image_memories, BeginsByRule, BeginsAsImages, KeepsSegments, Begins};
 ghost use Rattle.init_plan.specs.Ready.{MemoryHalfIsReady};
@@ -113,7 +113,7 @@ impl<'d> ModuleTranslation<'d> {
         page_size: u64,
     ) -> Result<(), OutOfMemory>
         requires { length self.old.runtime_data + length images.items < u32.MAX }
-        ensures begins { OnOk result (BeginsAsImages page_size (images_seen images.items) self.old self.new) }
+        ensures begins { OnOk result (BeginsAsImages page_size (view_images images.items) self.old self.new) }
         ensures few { OnOk result (length self.new.runtime_data ≤ length self.old.runtime_data + length images.items) }
     {
         let kept = keep_images(alloc, images, &mut self.runtime_data)?;

@@ -121,9 +121,9 @@ plain_items (ExpressionItems type expressions) =
 plain_active : ActiveItems → ActiveElements
 plain_active a = record { table = a.table; offset = expression_of a.offset; items = plain_items a.items }
 
-plain_seen : (s : TableSegment) → active_elements_of s ≡ plain_active (view_segment s)
+view_plain : (s : TableSegment) → active_elements_of s ≡ plain_active (view_segment s)
 unfolding plain_items plain_active
-plain_seen s =
+view_plain s =
     ap (λ (items : ElementItems). record { table = (view_segment s).table; offset = expression_of s.offset; items = items }) (by s.elements) where
       by : (x : TableSegmentElements) → items_of x ≡ plain_items (view_items x)
       by (elements.Functions functions) = refl
@@ -194,27 +194,27 @@ functions_on_top (types.Abstract abstract.Func) = true
 functions_on_top (types.Abstract abstract.NoFunc) = true
 functions_on_top (types.Abstract _) = false
 
-on_top_seen : (h : WasmHeapType) → is_func (top_of h) ≡ functions_on_top (view_heap h)
+view_on_top : (h : WasmHeapType) → is_func (top_of h) ≡ functions_on_top (view_heap h)
 unfolding functions_on_top names_function
-on_top_seen heap.Extern = refl
-on_top_seen heap.NoExtern = refl
-on_top_seen heap.Func = refl
-on_top_seen (heap.ConcreteFunc i) = refl
-on_top_seen heap.NoFunc = refl
-on_top_seen heap.Exn = refl
-on_top_seen (heap.ConcreteExn i) = refl
-on_top_seen heap.NoExn = refl
-on_top_seen heap.Cont = refl
-on_top_seen (heap.ConcreteCont i) = refl
-on_top_seen heap.NoCont = refl
-on_top_seen heap.Any = refl
-on_top_seen heap.Eq = refl
-on_top_seen heap.I31 = refl
-on_top_seen heap.Array = refl
-on_top_seen (heap.ConcreteArray i) = refl
-on_top_seen heap.Struct = refl
-on_top_seen (heap.ConcreteStruct i) = refl
-on_top_seen heap.None = refl
+view_on_top heap.Extern = refl
+view_on_top heap.NoExtern = refl
+view_on_top heap.Func = refl
+view_on_top (heap.ConcreteFunc i) = refl
+view_on_top heap.NoFunc = refl
+view_on_top heap.Exn = refl
+view_on_top (heap.ConcreteExn i) = refl
+view_on_top heap.NoExn = refl
+view_on_top heap.Cont = refl
+view_on_top (heap.ConcreteCont i) = refl
+view_on_top heap.NoCont = refl
+view_on_top heap.Any = refl
+view_on_top heap.Eq = refl
+view_on_top heap.I31 = refl
+view_on_top heap.Array = refl
+view_on_top (heap.ConcreteArray i) = refl
+view_on_top heap.Struct = refl
+view_on_top (heap.ConcreteStruct i) = refl
+view_on_top heap.None = refl
 
 on_top_same : (m : plain.Module) (h : HeapType) → HeapIsBelow (length (lists_of_module m).types) (heap_of h)
     → functions_on_top (map_heap (look_up_in m) (heap_of h)) ≡ has_functions_on_top (lists_of_module m) h
@@ -248,7 +248,7 @@ module _ (m : plain.Module) where
   unfolding table_in
   table_held t v d below same value =
       let minimum : t.limits.min ≡ d.type.initial = ap (λ (x : TableData Name). x.limits.min) same in
-      let functions = on_top_seen t.ref_type.heap_type ∙ ap (λ (x : TableData Name). functions_on_top x.reference.heap) same
+      let functions = view_on_top t.ref_type.heap_type ∙ ap (λ (x : TableData Name). functions_on_top x.reference.heap) same
       ∙ on_top_same m d.type.element_type.heap below.elements in
       let first = initial_held (look_up_in m) v d.init value in
       λ i. record { minimum = minimum i; functions = functions i; initial = first i }
@@ -285,7 +285,7 @@ module _ (m : plain.Module) where
       record {
         imports = counts.tables;
         tables = tables_held (own_tables t) t.table_initialization.initial_values defs below.tables own has.first;
-        active = map_alike active_elements_of (λ s. plain_active (view_segment s)) plain_seen t.table_initialization.segments.items
+        active = map_alike active_elements_of (λ s. plain_active (view_segment s)) view_plain t.table_initialization.segments.items
             ∙ sym (map_both plain_active view_segment t.table_initialization.segments.items)
             ∙ ap (map plain_active) has.active ∙ elements_held (look_up_in m) (lists_of_module m).elements;
       }

@@ -92,9 +92,9 @@ module _ (l : TypeList) (get : WasmFuncType → Option TypeIndex) (i : ℕ) (f :
   own : (b : Bool) → func.ghosts.eq (trampoline_of f) f ≡ b → same_mapped (mapped (called_of f)) (called_of f) ≡ b
   own b e = sym (key-is f f) ∙ e
 
-  -- its mapped type was met before
-  pub met-before : (k : TypeIndex) → Some k ≡ get (trampoline_of f) → built_of (called_by l i k) get ≡ assign_trampoline old i (composite_at old.types i)
-  met-before k e =
+  -- the trampoline is known
+  pub known-before : (k : TypeIndex) → Some k ≡ get (trampoline_of f) → built_of (called_by l i k) get ≡ assign_trampoline old i (composite_at old.types i)
+  known-before k e =
       (λ j. record { types = old.types; groups = old.groups; trampolines = map-set (option_map number_of) l.trampolines i (Some k) j; known_trampolines = old.known_trampolines })
       ∙ sym (made (Some k) e)
 
@@ -102,7 +102,7 @@ module _ (l : TypeList) (get : WasmFuncType → Option TypeIndex) (i : ℕ) (f :
   number-noted true k o = refl
   number-noted false k o = refl
 
-  -- what came next where its mapped type was not met
+  -- what came next where the trampoline was not known
   abbrev unmet : Bool → Built
   unmet b =
       if b then with_trampoline (knows old (mapped (called_of f)) i) i i
@@ -120,8 +120,8 @@ module _ (l : TypeList) (get : WasmFuncType → Option TypeIndex) (i : ℕ) (f :
         ∙ ap (λ b. cond b (Some (number_of k)) (old.known_trampolines g)) (key-is f (function_at g))
         ∙ ap (λ h. cond (same_mapped (mapped (called_of f)) h) (Some (number_of k)) (old.known_trampolines g)) (function-back g)
 
-    pub kept-met : built_of (called_by l i k) later ≡ with_trampoline (knows old (mapped (called_of f)) (number_of k)) i (number_of k)
-    kept-known_trampolines = λ j. record {
+    pub known-now : built_of (called_by l i k) later ≡ with_trampoline (knows old (mapped (called_of f)) (number_of k)) i (number_of k)
+    known-now = λ j. record {
       types = old.types;
       groups = old.groups;
       trampolines = map-set (option_map number_of) l.trampolines i (Some k) j;
@@ -129,19 +129,19 @@ module _ (l : TypeList) (get : WasmFuncType → Option TypeIndex) (i : ℕ) (f :
     }
 
   -- it is its own mapped type
-  pub met-itself : (none : None ≡ get (trampoline_of f)) (later : WasmFuncType → Option TypeIndex) (k : TypeIndex) → number_of k ≡ i
+  pub known-itself : (none : None ≡ get (trampoline_of f)) (later : WasmFuncType → Option TypeIndex) (k : TypeIndex) → number_of k ≡ i
       → ((q : WasmFuncType) → later q ≡ cond (func.ghosts.eq (trampoline_of f) q) (Some k) (get q)) → func.ghosts.eq (trampoline_of f) f ≡ true
       → built_of (called_by l i k) later ≡ assign_trampoline old i (composite_at old.types i)
-  met-itself none later k at puts is_own =
-      kept-met none later k puts ∙ ap (λ n. with_trampoline (knows old (mapped (called_of f)) n) i n) at ∙ sym (made-new none true is_own)
+  known-itself none later k at puts is_own =
+      known-now none later k puts ∙ ap (λ n. with_trampoline (knows old (mapped (called_of f)) n) i n) at ∙ sym (made-new none true is_own)
 
   -- a new type is appended
-  pub met-new : (none : None ≡ get (trampoline_of f)) (later : WasmFuncType → Option TypeIndex) (k : TypeIndex) → number_of k ≡ length old.types
+  pub known-new : (none : None ≡ get (trampoline_of f)) (later : WasmFuncType → Option TypeIndex) (k : TypeIndex) → number_of k ≡ length old.types
       → ((q : WasmFuncType) → later q ≡ cond (func.ghosts.eq (trampoline_of f) q) (Some k) (get q)) → func.ghosts.eq (trampoline_of f) f ≡ false
       → (t : Interned) → t ≡ plain (Func (mapped (called_of f)))
       → alone (built_of (called_by l i k) later) t (Some (number_of k)) ≡ assign_trampoline old i (composite_at old.types i)
-  met-new none later k count puts not_own t is =
-      (λ j. alone (kept-met none later k puts j) (is j) (Some (number_of k)))
+  known-new none later k count puts not_own t is =
+      (λ j. alone (known-now none later k puts j) (is j) (Some (number_of k)))
       ∙ ap (λ n. alone (with_trampoline (knows old (mapped (called_of f)) n) i n) (plain (Func (mapped (called_of f)))) (Some n)) count
       ∙ sym (made-new none false not_own)
 

@@ -1,17 +1,18 @@
 //! A plan of a hundred thousand types.
 
-use crate::bytes::HEADER;
 use command_words::Collector;
 use entity_map::EntityRef;
 use std::alloc::{AllocError, Global};
 use std::test::Fail;
-use translate::translate_module;
+use translate::{summary_text, translate_module};
 use wasm_types::Tunables;
 
 const COUNT: u32 = 100_000;
 
-/// The head of the section of the types, and their number.
-const HEAD: [u8; 8] = [0x01, 0xE3, 0xF7, 0x98, 0x03, 0xA0, 0x8D, 0x06];
+/// The header, the head of the section of the types, and their number.
+const HEAD: [u8; 16] = [
+    0x00, 0x61, 0x73, 0x6D, 0x01, 0x00, 0x00, 0x00, 0x01, 0xE3, 0xF7, 0x98, 0x03, 0xA0, 0x8D, 0x06,
+];
 
 /// No switch is on.
 const PLAIN: Tunables = Tunables {
@@ -42,7 +43,6 @@ fn push_type(bytes: &mut Vec<u8>, number: u32) -> Result<(), AllocError> {
 /// The module of so many types, no two of which are equal.
 fn many_types(alloc: Global) -> Result<Vec<u8>, AllocError> {
     let mut bytes = Vec::with_capacity(alloc, 6_700_016)?;
-    bytes.extend_from_slice(&HEADER)?;
     bytes.extend_from_slice(&HEAD)?;
     for number in 0..COUNT {
         push_type(&mut bytes, number)?;
@@ -52,7 +52,7 @@ fn many_types(alloc: Global) -> Result<Vec<u8>, AllocError> {
 
 /// What of the plan is looked at.
 #[derive(Debug, PartialEq, Eq, Clone, Copy)]
-struct Told {
+struct PlanNumbers {
     bytes: usize,
     types: usize,
     /// The interned type of the last type, and the trampoline of that.
@@ -60,7 +60,8 @@ struct Told {
     trampoline: Option<u32>,
 }
 
-fn look_at_plan(alloc: Global) -> Result<Told, Fail> {
+/// The numbers of the plan, and its summary.
+fn look_at_plan(alloc: Global) -> Result<(PlanNumbers, Vec<u8>), Fail> {
     let bytes = many_types(alloc)?;
     let page_size = 4096u64.next_power_of_two();
     let plan = translate_module(
@@ -84,22 +85,31 @@ fn look_at_plan(alloc: Global) -> Result<Told, Fail> {
             trampoline = Some(called.as_u32());
         }
     }
-    Ok(Told {
+    let types = plan.types.len_types();
+    let summary = summary_text(alloc, COUNT, bytes.len() as u64, &plan);
+    drop(plan);
+    let numbers = PlanNumbers {
         bytes: bytes.len(),
-        types: plan.types.len_types(),
+        types,
         last,
         trampoline,
-    })
+    };
+    Ok((numbers, summary?))
 }
 
 #[test]
 fn types_are_found_without_a_walk_through_all(rt: HostRuntime) -> Result<(), Fail> {
-    let want = Told {
+    let want = PlanNumbers {
         bytes: 6_700_016,
         types: 100_000,
         last: Some(99_999),
         trampoline: Some(99_999),
     };
-    assert_eq!(rt; look_at_plan(rt.alloc())?, want);
+    let (numbers, summary) = look_at_plan(rt.alloc())?;
+    assert_eq!(rt; numbers, want);
+    assert_eq!(rt;
+        summary.as_slice(),
+        b"generated 100000\nbytes 6700016\ntypes 100000\nruntime 0\nstartup none\ncontext 48\n".as_slice()
+    );
     Ok(())
 }

@@ -10,7 +10,7 @@ use Rattle.module_types.specs.Held.{built_of}
 use Rattle.module_types.specs.Interner.{built, IsTrampoline}
 use Rattle.module_types.proofs.Keys.{called-mapped}
 use Rattle.module_types.proofs.Ordering.{few-groups}
-use Rattle.module_types.proofs.Steps.{composite-read, assign_trampoline-other, met-before, met-itself, met-new, new-long}
+use Rattle.module_types.proofs.Steps.{composite-read, assign_trampoline-other, known-before, known-itself, known-new, new-long}
 use Rattle.module_types.proofs.interner.Interner.assign_trampoline.Goals as goal
 
 pub returns-in_default : goal.returns-in_default
@@ -22,7 +22,7 @@ returns-in-Known c =
     let old = get func.ghosts.eq c.args.self.now.trampolines in
     let kind = composite-read c.args.self.now.list.types (number_of c.args.ty) c.index.result.now c.index.ensures _ c.in-Func.is in
     ap (λ l. built_of l old) c.set_trampoline.ensures
-    ∙ met-before c.args.self.now.list old (number_of c.args.ty) c.in-Func.func kind c.in-Known.found
+    ∙ known-before c.args.self.now.list old (number_of c.args.ty) c.in-Func.func kind c.in-Known.found
     (sym (subst (IsTrampoline old c.in-Func.func) c.in-Known.is c.in_ok-found.ensures))
 
 pub returns-in_ok-insert-in-Itself : goal.returns-in_ok-insert-in-Itself
@@ -32,7 +32,7 @@ returns-in_ok-insert-in-Itself c =
     let kind = composite-read c.args.self.now.list.types (number_of c.args.ty) c.index.result.now c.index.ensures _ c.in-Func.is in
     let own = subst (IsTrampoline old c.in-Func.func) c.in-Itself.is c.in_ok-found.ensures in
     ap (λ l. built_of l new) c.set_trampoline-in-Itself.ensures
-    ∙ met-itself c.args.self.now.list old (number_of c.args.ty) c.in-Func.func kind (sym own.0.unknown)
+    ∙ known-itself c.args.self.now.list old (number_of c.args.ty) c.in-Func.func kind (sym own.0.unknown)
     new c.args.ty refl (rw own.0.key_is at c.in_ok-insert-in-Itself.ensures.updates.0) own.1
 
 pub push_alone-requires-clause-types : goal.push_alone-requires-clause-types
@@ -59,7 +59,7 @@ returns-in_ok-push_alone-in-New c =
     let kind = composite-read c.args.self.now.list.types (number_of c.args.ty) c.index.result.now c.index.ensures _ c.in-Func.is in
     let other = subst (IsTrampoline old c.in-Func.func) c.in-New.is c.in_ok-found.ensures in
     let key = other.0.key_is in
-    let made = met-new c.args.self.now.list old (number_of c.args.ty) c.in-Func.func kind (sym other.0.unknown)
+    let made = known-new c.args.self.now.list old (number_of c.args.ty) c.in-Func.func kind (sym other.0.unknown)
     new c.next_ty-trampoline.result (ap number_of c.next_ty-trampoline.ensures ∙ sym (length-map c.args.self.now.list.types interned_of))
     (rw key at c.in_ok-insert-in-New.ensures.updates.0) other.1
     (plain (Func (called_of c.in_ok-copy-in-New.copy))) (ap (λ k. plain (Func (called_of k))) (c.in_ok-copy-in-New.ensures ∙ key) ∙ ap (λ k. plain (Func k)) (called-mapped c.in-Func.func)) in

@@ -26,7 +26,7 @@ returns-in_ok-try_clone-in-Borrowed c =
     let same = (subst (λ t. IsTrue (is_borrowed t) ↔ (trampoline_of f ≡ f)) c.in-Borrowed.is mapped.kept).0 refl in (
       record {
         key_is = c.in_ok-try_clone-in-Borrowed.ensures ∙ ap value_of (sym c.in-Borrowed.is) ∙ mapped.value;
-        not_met = sym (c.in_default.ensures ∙ c.get.ensures.value ∙ ap old (c.lent.ensures ∙ mapped.value));
+        unknown = sym (c.in_default.ensures ∙ c.get.ensures.value ∙ ap old (c.lent.ensures ∙ mapped.value));
       },
       (equal (trampoline_of f) f).1 same,
     )
@@ -39,7 +39,7 @@ returns-in-Owned c =
     let kept = subst (λ t. IsTrue (is_borrowed t) ↔ (trampoline_of f ≡ f)) c.in-Owned.is mapped.kept in (
       record {
         key_is = ap value_of (sym c.in-Owned.is) ∙ mapped.value;
-        not_met = sym (c.in_default.ensures ∙ c.get.ensures.value ∙ ap old (c.lent.ensures ∙ mapped.value));
+        unknown = sym (c.in_default.ensures ∙ c.get.ensures.value ∙ ap old (c.lent.ensures ∙ mapped.value));
       },
       unequal (trampoline_of f) f (λ e. let no : false ≡ true = kept.1 e in absurd cc),
     )

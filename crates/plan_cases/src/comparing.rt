@@ -1,0 +1,115 @@
+//! What a run gave beside what it was to give.
+
+use crate::case::{Case, DataBytes, Expected, LineCount};
+use crate::running::Outcome;
+
+/// What is not as it was to be.
+#[derive(Clone, Copy)]
+pub enum Difference<'a> {
+    Status(u64),
+    Read,
+    Text,
+    /// There is no such line.
+    Line(&'a str),
+    /// Another number of lines begins so.
+    Count(&'a LineCount),
+    /// The runtime data of this number are others.
+    Data(u64),
+}
+
+/// Whether a line is these words, or begins with them and a space.
+fn begins_with(line: &str, words: &str) -> bool {
+    match line.strip_prefix(words) {
+        Some(rest) => rest.is_empty() || rest.starts_with(' '),
+        None => false,
+    }
+}
+
+/// How many lines of the text begin with these words.
+fn count_lines(text: &str, words: &str) -> u64 {
+    let mut count = 0u64;
+    for line in text.lines() {
+        if begins_with(line, words) {
+            count = count.saturating_add(1);
+        }
+    }
+    count
+}
+
+/// Whether the text has this line.
+fn has_line(text: &str, wanted: &str) -> bool {
+    for line in text.lines() {
+        if line == wanted {
+            return true;
+        }
+    }
+    false
+}
+
+/// The first of the lines that the text has not.
+fn missing_line<'a>(lines: &'a [String], text: &str) -> Option<Difference<'a>> {
+    for line in lines {
+        if !has_line(text, line.as_str()) {
+            return Some(Difference::Line(line.as_str()));
+        }
+    }
+    None
+}
+
+/// The first kind of lines of which the text has another number.
+fn wrong_count<'a>(counts: &'a [LineCount], text: &str) -> Option<Difference<'a>> {
+    for one in counts {
+        if count_lines(text, one.words.as_str()) != one.count {
+            return Some(Difference::Count(one));
+        }
+    }
+    None
+}
+
+/// The first of the data that are others.
+fn wrong_data<'a>(wanted: &'a [DataBytes], data: &[Vec<u8>]) -> Option<Difference<'a>> {
+    for one in wanted {
+        match data.get(one.place as usize) {
+            Some(bytes) if bytes.as_slice() == one.bytes.as_slice() => {}
+            _ => return Some(Difference::Data(one.place)),
+        }
+    }
+    None
+}
+
+/// What differs of the status, of the bytes that were read and of the whole text.
+fn wrong_end<'a>(expected: &'a Expected, outcome: &Outcome) -> Option<Difference<'a>> {
+    if u64::from(outcome.status) != expected.status {
+        return Some(Difference::Status(expected.status));
+    }
+    if let Some(read) = expected.read
+        && outcome.read as u64 != read
+    {
+        return Some(Difference::Read);
+    }
+    if expected.is_text_said && expected.text.as_bytes() != outcome.text.as_slice() {
+        return Some(Difference::Text);
+    }
+    None
+}
+
+/// What the text holds; nothing where it is no text.
+pub fn text_of(outcome: &Outcome) -> &str {
+    str::from_utf8(outcome.text.as_slice()).unwrap_or("")
+}
+
+/// The first thing that the run gave and was not to give.
+pub fn difference_of<'a>(case: &'a Case, outcome: &Outcome) -> Option<Difference<'a>> {
+    let expected = &case.expected;
+    let text = text_of(outcome);
+    if let Some(wrong) = wrong_end(expected, outcome) {
+        return Some(wrong);
+    }
+    if let Some(wrong) = missing_line(expected.lines.as_slice(), text) {
+        return Some(wrong);
+    }
+    if let Some(wrong) = wrong_count(expected.counts.as_slice(), text) {
+        return Some(wrong);
+    }
+    wrong_data(expected.data.as_slice(), outcome.data.as_slice())
+}

@@ -1,0 +1,84 @@
+//! A run of a case over devices in memory.
+
+use crate::case::{Case, CaseError, Given};
+use devices::{ListSink, ListSource};
+use init_plan::RuntimeBytes;
+use std::alloc::{AllocError, Global};
+use translate::{Report, run};
+
+/// What a run gave.
+#[derive(Drop)]
+pub struct Outcome {
+    pub status: u8,
+    /// How many bytes were read.
+    pub read: usize,
+    pub text: Vec<u8>,
+    /// The bytes of the plan's runtime data, in order.
+    pub data: Vec<Vec<u8>>,
+}
+
+/// The bytes of runtime data.
+fn slice_of<'a>(data: &'a RuntimeBytes<'_>) -> &'a [u8] {
+    match data {
+        RuntimeBytes::Borrowed(bytes) => bytes,
+        RuntimeBytes::Owned(bytes) => bytes.as_slice(),
+    }
+}
+
+/// The bytes of the runtime data of a report's plan; none where there is no plan.
+fn data_of(alloc: Global, report: &Report<'_>) -> Result<Vec<Vec<u8>>, AllocError> {
+    let mut all = Vec::new(alloc);
+    if let Some(plan) = &report.plan {
+        for data in plan.translation.runtime_data.values() {
+            all.push(Vec::from_slice(alloc, slice_of(data))?)
+                .map_err(AllocError::from)?;
+        }
+    }
+    Ok(all)
+}
+
+/// The run of these words. Its text is the sink's.
+fn outcome_over(
+    alloc: Global,
+    words: &[String],
+    source: &mut ListSource<'_>,
+    sink: &mut ListSink<'_>,
+) -> Result<Outcome, AllocError> {
+    let mut store = Vec::new(alloc);
+    let report = run(alloc, words, source, &mut store, sink);
+    let read = report.bytes.len();
+    let data = data_of(alloc, &report);
+    let status = report.into_status();
+    let data = data?;
+    let text = Vec::from_slice(alloc, sink.held())?;
+    Ok(Outcome {
+        status,
+        read,
+        text,
+        data,
+    })
+}
+
+/// The first bytes that are given, up to so many.
+fn first_bytes(given: &Given, length: u64) -> &[u8] {
+    let end = given.bytes.len().min(length as usize);
+    &given.bytes[..end]
+}
+
+/// What a run of the case over so many of its bytes gives.
+pub fn outcome_of(alloc: Global, case: &Case, length: u64) -> Result<Outcome, CaseError> {
+    let given = &case.given;
+    if given.piece == 0 || given.most == 0 {
+        return Err(CaseError::NoNumber);
+    }
+    let mut source = ListSource::new(
+        first_bytes(given, length),
+        given.piece,
+        given.failing_reads.as_slice(),
+    );
+    let failing = given.failing_writes.as_slice();
+    let Ok(mut sink) = ListSink::new(alloc, given.room, given.most, failing) else {
+        return Err(CaseError::OutOfMemory);
+    };
+    Ok(outcome_over(alloc, given.words.as_slice(), &mut source, &mut sink)?)
+}

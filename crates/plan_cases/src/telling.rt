@@ -1,0 +1,55 @@
+//! What is printed of a case that failed.
+
+use crate::case::{Case, CaseError, words_of_error};
+use crate::comparing::{Difference, text_of};
+use crate::running::Outcome;
+use std::io;
+
+/// Tells what differs.
+fn tell_difference(rt: &HostRuntime, difference: Difference<'_>) -> io::Result<()> {
+    match difference {
+        Difference::Status(status) => println!(rt; "the status is not {status}"),
+        Difference::Read => println!(rt; "another number of bytes was read"),
+        Difference::Text => println!(rt; "the text is another"),
+        Difference::Line(line) => println!(rt; "no line '{line}'"),
+        Difference::Count(wanted) => {
+            println!(rt; "not {} lines that begin '{}'", wanted.count, wanted.words)
+        }
+        Difference::Data(place) => println!(rt; "runtime data {place} are others"),
+    }
+}
+
+/// Tells the bytes of runtime data, as a line of a case.
+fn tell_bytes(rt: &HostRuntime, place: usize, bytes: &[u8]) -> io::Result<()> {
+    print!(rt; "data {place}")?;
+    for byte in bytes {
+        print!(rt; " {byte:02X}")?;
+    }
+    println!(rt)
+}
+
+/// Tells how a case failed, and what it gave.
+pub fn tell_outcome(
+    rt: &HostRuntime,
+    path: &str,
+    case: &Case,
+    outcome: &Outcome,
+    difference: Difference<'_>,
+) -> io::Result<()> {
+    println!(rt; "FAILED {path}: {}", case.name)?;
+    tell_difference(rt, difference)?;
+    println!(rt; "status {}, {} bytes read", outcome.status, outcome.read)?;
+    println!(rt; "{}", text_of(outcome))?;
+    if !case.expected.data.is_empty() {
+        for (place, bytes) in outcome.data.iter().enumerate() {
+            tell_bytes(rt, place, bytes.as_slice())?;
+        }
+    }
+    Ok(())
+}
+
+/// Tells why a block is no case, or why its case could not be run.
+pub fn tell_fault(rt: &HostRuntime, path: &str, block: &str, fault: CaseError) -> io::Result<()> {
+    println!(rt; "FAILED {path}: {}", words_of_error(fault))?;
+    println!(rt; "{block}")
+}
