@@ -24,7 +24,7 @@ use Rattle.module_types.specs.Conversion.{group_of_id, id_number, interned_membe
 use Rattle.module_types.specs.InTurn.{interns_type}
 use Rattle.module_types.proofs.DeclaredGroups.{Has, CanComeNext, id-at, step-by, comes-next, index-held, has-none}
 use Rattle.module_types.proofs.Taking.{Taking, home-first, taking-hollow, number_in, starting}
-use Rattle.module_environ.proofs.Counting.{held, take-adds}
+use Rattle.module_environ.proofs.Counting.{type_count, take-adds}
 
 module _ (m : plain.Module) (t : TypesData) (are : AreNumbered m t) (near : NameEarlier 0 (placed_groups m)) where
   abbrev all : List (Group ℕ ℕ)
@@ -52,11 +52,11 @@ module _ (m : plain.Module) (t : TypesData) (are : AreNumbered m t) (near : Name
     pub taking : Taking all number s start gs done
     pub has : Has m t are near b s start
     pub le : i ≤ start
-    pub few : held b.built ≤ start + start
+    pub few : type_count b.built ≤ start + start
 
   reach-new : (gs : List (Group ℕ ℕ)) (b : Builder) (s : Taken) (start : ℕ) (done : List Home)
       → ((r : ℕ) → number r ≡ get_or (take_groups all s start gs).declared r 0) → take_groups all s start gs ≡ taken all
-      → Taking all number s start gs done → Has m t are near b s start → start < size all → held b.built ≤ start + start
+      → Taking all number s start gs done → Has m t are near b s start → start < size all → type_count b.built ≤ start + start
       → Reached (interns_type t b (id start)) (start + 1)
   reach-new [] b s start done reads is h has lt few = absurd (omega (arith, h.sized, lt))
   reach-new ([] ∷ gs) b s start done reads is h has lt few = reach-new gs b s start done reads is
@@ -64,9 +64,9 @@ module _ (m : plain.Module) (t : TypesData) (are : AreNumbered m t) (near : Name
   reach-new ((x ∷ xs) ∷ gs) b s start done reads is h has lt few =
       let end = start + length (x ∷ xs) in
       let o = first_equal all start 0 start in
-      let few' : held s.built ≤ start + start = omega (arith, few, ap held has.built) in
+      let few' : type_count s.built ≤ start + start = omega (arith, few, ap type_count has.built) in
       step-by m t are near b s start (x ∷ xs) gs done h (omega arith) has
-      (λ c s'. take_groups all s' end gs ≡ taken all → held s'.built ≤ end + end → Reached c (start + 1))
+      (λ c s'. take_groups all s' end gs ≡ taken all → type_count s'.built ≤ end + end → Reached c (start + 1))
       (λ b' s' done' reads' h' has' is' adds. record {
         s = s';
         start = end;
@@ -77,7 +77,7 @@ module _ (m : plain.Module) (t : TypesData) (are : AreNumbered m t) (near : Name
         taking = h';
         has = has';
         le = omega arith;
-        few = omega (arith, adds, ap held has'.built);
+        few = omega (arith, adds, ap type_count has'.built);
       })
       o refl reads is (take-adds all s start (x ∷ xs) o few')
 
@@ -198,9 +198,9 @@ module _ (m : plain.Module) (t : TypesData) (are : AreNumbered m t) (near : Name
   reach-index b i lt r = index-held m t are near (interns_type t b (id i)) i lt (r.has.held i (omega (arith, r.le)))
 
   -- there is room for all
-  pub reach-few : (b : Builder) (i : ℕ) → Reached b i → size all < 2 ^ 30 → held b.built < 2 ^ 31
+  pub reach-few : (b : Builder) (i : ℕ) → Reached b i → size all < 2 ^ 30 → type_count b.built < 2 ^ 31
   reach-few b i r few = omega (arith, r.few, r.taking.sized, few)
 
   -- each index is that of a type that is held
-  pub reach-held : (b : Builder) (i : ℕ) → Reached b i → (j : ℕ) → j < i → number j < held b.built
-  reach-held b i r j lt = omega (arith, r.taking.below j (omega (arith, lt, r.le)), ap held r.has.built)
+  pub reach-held : (b : Builder) (i : ℕ) → Reached b i → (j : ℕ) → j < i → number j < type_count b.built
+  reach-held b i r j lt = omega (arith, r.taking.below j (omega (arith, lt, r.le)), ap type_count r.has.built)
