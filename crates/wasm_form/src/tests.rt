@@ -29,10 +29,7 @@ fn reads_overlapping_segments(rt: HostRuntime) -> Result<(), Fail> {
         return Err(Fail::from("a passive segment"));
     };
     assert_eq!(rt; *memory_index, 0);
-    assert_eq!(rt;
-        offset.ops.as_slice(),
-        [Operator::I32Const { value: 17 }].as_slice()
-    );
+    assert!(rt; offset.ops.as_slice() == [Operator::I32Const { value: 17 }].as_slice());
     assert_eq!(rt; segments[1].bytes, [9].as_slice());
     Ok(())
 }
@@ -68,7 +65,7 @@ fn a_linked_program_keeps_the_rules(rt: HostRuntime) -> Result<(), Fail> {
         globals: 1,
         tags: 0,
     };
-    assert_eq!(rt; form.counts(), counts);
+    assert!(rt; form.counts() == counts);
     Ok(())
 }
 
