@@ -10,7 +10,7 @@ use std::alloc::AllocError;
 #[derive(Clone, Copy, Debug, PartialEq, Eq)]
 pub struct Failed;
 
-/// Want of memory.
+/// Out of memory.
 // This crate stands on no other, so its callers turn this into their own.
 #[derive(Clone, Copy, Debug, PartialEq, Eq)]
 pub struct OutOfMemory;

@@ -59,7 +59,7 @@ pub fn read_all<S: Source>(source: &mut S, store: &mut Vec<u8>, most: usize) -> 
 {
     let mut buffer = [0u8; BUFFER];
     'reads: while store.len() < most {
-        // The room is there before the bytes are, so want of memory loses none.
+        // The room is there before the bytes are, so running out of memory loses none.
         store.reserve(BUFFER)?;
         let room = (most - store.len()).min(BUFFER);
         let count = source.read(&mut buffer[..room])?;

@@ -1,4 +1,4 @@
--- A form is made part by part.
+-- A key is made part by part.
 use Rattle.std.proofs.Common.{◌≡◌, ◌∙◌, ℕ, ◌+◌, ◌<◌, List, [], ◌∷◌, ◌++◌, length, map, take, get_or, sym, ap, append_assoc}
 use Rattle.std.specs.List.{flat_map}
 use Rattle.std.proofs.lemmas.List.{append-nil, map_more}
@@ -6,7 +6,7 @@ use Rattle.std.proofs.lemmas.List.Concat.{flat_map-append, flat_map_single}
 use Rattle.wasm_spec.specs.declared.types.UnpackedIndex.{UnpackedIndex}
 use Rattle.form_types.specs.declared.canonical.CanonicalGroup.{CanonicalGroup}
 use Rattle.form_types.specs.Codes.{ended}
-use Rattle.form_types.specs.Forms.{Adds}
+use Rattle.form_types.specs.Keys.{Adds}
 
 pub Adds-none : (key : CanonicalGroup) → Adds key key [] []
 Adds-none key = record { frame = sym (append-nil key.frame.items); names = sym (append-nil key.references.items) }

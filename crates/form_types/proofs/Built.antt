@@ -16,11 +16,11 @@ use Rattle.form_types.specs.contracts.canonical.CanonicalGroupPartialEq.TheImpl 
 use Rattle.form_types.specs.Types.{NamedGroup, types_by_id}
 use Rattle.form_types.specs.Seen.{ids_of}
 use Rattle.form_types.specs.Placed.{place_of, placed, id_at, named_index}
-use Rattle.form_types.specs.Forms.{form, form_of}
+use Rattle.form_types.specs.Keys.{group_key, key_of}
 use Rattle.form_types.specs.Finding.{first_of}
 use Rattle.form_types.specs.Distinct.{IsListed}
 use Rattle.form_types.specs.Adding.{HasNone, HasFewIds, AddsMet, AddsNew, AddsBy, AddsGroup}
-use Rattle.form_types.proofs.FormLaws.{key-told, key-same}
+use Rattle.form_types.proofs.KeyLaws.{key-told, key-same}
 use Rattle.form_types.proofs.Steps.{NearIn, IsNumbered, Stood, renamed, numbered-old, numbered-new}
 
 abbrev pub places : List NamedGroup → List (Group ℕ ℕ)
@@ -28,7 +28,7 @@ places gs = map placed gs
 
 -- the first groups are numbered
 pub record Built (done : List NamedGroup) (n : Numbering) : Type 0 where
-  pub numbered : IsNumbered form_of (places done) (slice_index (ids_of n.declared.items)) (map group_of n.distinct.groups.items) (first_of n.first_ids)
+  pub numbered : IsNumbered key_of (places done) (slice_index (ids_of n.declared.items)) (map group_of n.distinct.groups.items) (first_of n.first_ids)
   pub counted : length (ids_of n.declared.items) ≡ size (places done)
   pub listed : IsListed n.distinct (map group_of n.distinct.groups.items)
 
@@ -38,7 +38,7 @@ relisted n gs listed = subst (λ l. IsListed n.distinct l) (sym listed.groups_ar
 
 pub built-none : (n : Numbering) → HasNone n → Built [] n
 built-none n none = record {
-  numbered = subst (λ l. IsNumbered form_of [] (slice_index (ids_of n.declared.items)) l (first_of n.first_ids)) (sym none.listed.groups_are) (record {
+  numbered = subst (λ l. IsNumbered key_of [] (slice_index (ids_of n.declared.items)) l (first_of n.first_ids)) (sym none.listed.groups_are) (record {
     few = omega arith;
     tells = λ i j h k. absurd (omega arith);
     in_row = λ i h. absurd (omega arith);
@@ -65,7 +65,7 @@ module _ {K : Type 0} (gs : List (Group ℕ ℕ)) (number : ℕ → ℕ) (groups
   empty-size = omega (arith, size-more gs [])
 
 pub numbered-empty : (gs : List (Group ℕ ℕ)) (number : ℕ → ℕ) (groups : List NamedGroup) (get : CanonicalGroup → Option ℕ)
-    → IsNumbered form_of gs number groups get → IsNumbered form_of (gs ++ [] ∷ []) number groups get
+    → IsNumbered key_of gs number groups get → IsNumbered key_of (gs ++ [] ∷ []) number groups get
 numbered-empty gs number groups get st =
     let less : (i : ℕ) → i < size (gs ++ [] ∷ []) → i < size gs = λ i h. omega (arith, h, size-more gs []) in
     let more : (i : ℕ) → i < size gs → i < size (gs ++ [] ∷ []) = λ i h. omega (arith, h, size-more gs []) in
@@ -80,11 +80,11 @@ numbered-empty gs number groups get st =
       below = λ i h. st.below i (less i h);
       found = λ key first is.
           let f = st.found key first is in
-          (f.0, more f.0 f.1, f.2 ∙ ap (λ x. form (canonical number x)) (at f.0 f.1));
+          (f.0, more f.0 f.1, f.2 ∙ ap (λ x. group_key (canonical number x)) (at f.0 f.1));
       kept = λ i key h is.
-          st.kept i key (less i h) (is ∙ ap (λ x. form (canonical number x)) (sym (at i (less i h))))
+          st.kept i key (less i h) (is ∙ ap (λ x. group_key (canonical number x)) (sym (at i (less i h))))
           ∙ ap (λ (x : Home). Some (number x.start)) (at i (less i h));
-      held = λ i h. subst (λ x. Stood form_of groups number x) (at i (less i h)) (st.held i (less i h));
+      held = λ i h. subst (λ x. Stood key_of groups number x) (at i (less i h)) (st.held i (less i h));
       in_order = λ i id h lt. st.in_order i id (less i h) lt;
       nothing_else = λ id lt. let f = st.nothing_else id lt in (f.0, more f.0 f.1, f.2);
       near = λ i h. subst (λ x. NearIn x) (at i (less i h)) (st.near i (less i h));
@@ -100,7 +100,7 @@ built-empty done n g none b =
     let e : places done ++ [] ∷ [] ≡ places (done ++ g ∷ []) =
     ap (λ (h : NamedGroup). places done ++ placed h ∷ []) (sym (no-members g none)) ∙ sym (places-more done g) in
     record {
-      numbered = subst (λ gs. IsNumbered form_of gs (slice_index (ids_of n.declared.items)) (map group_of n.distinct.groups.items) (first_of n.first_ids)) e
+      numbered = subst (λ gs. IsNumbered key_of gs (slice_index (ids_of n.declared.items)) (map group_of n.distinct.groups.items) (first_of n.first_ids)) e
           (numbered-empty (places done) (slice_index (ids_of n.declared.items)) (map group_of n.distinct.groups.items) (first_of n.first_ids) b.numbered);
       counted = b.counted ∙ omega (arith, size-more (places done) [], ap size e);
       listed = b.listed;
@@ -125,8 +125,8 @@ module _ (done : List NamedGroup) (n n' : Numbering) (g : NamedGroup) (b : Built
   long : length (placed g) ≡ length g
   long = length-map g _
 
-  is_form : form_of adds.form ≡ form (canonical (slice_index ids) (record { start = size gs; members = placed g }))
-  is_form = adds.form_is ∙ ap (λ s. form (canonical (slice_index ids) (record { start = s; members = placed g }))) b.counted
+  is_key : key_of adds.key ≡ group_key (canonical (slice_index ids) (record { start = size gs; members = placed g }))
+  is_key = adds.key_is ∙ ap (λ s. group_key (canonical (slice_index ids) (record { start = s; members = placed g }))) b.counted
 
   some_placed : 0 < length (placed g)
   some_placed = omega (arith, some, long)
@@ -147,38 +147,38 @@ module _ (done : List NamedGroup) (n n' : Numbering) (g : NamedGroup) (b : Built
         ap length row ∙ length-append ids (range_with_len first (length g))
         ∙ omega (arith, range, b.counted, size-more gs (placed g), ap size (places-more done g), long)
 
-  built-met : (first : ℕ) → first_of n.first_ids adds.form ≡ Some first → AddsMet n n' g first → Built (done ++ g ∷ []) n'
+  built-met : (first : ℕ) → first_of n.first_ids adds.key ≡ Some first → AddsMet n n' g first → Built (done ++ g ∷ []) n'
   built-met first found a =
-      let st = numbered-old form_of gs (slice_index ids) groups (first_of n.first_ids) b.numbered (placed g) some_placed adds.form is_form near
+      let st = numbered-old key_of gs (slice_index ids) groups (first_of n.first_ids) b.numbered (placed g) some_placed adds.key is_key near
       first found (slice_index ids') (agree first a.ids) (fresh first a.ids) (first_of n'.first_ids) a.met in
       record {
-        numbered = subst (λ l. IsNumbered form_of l (slice_index ids') (map group_of n'.distinct.groups.items) (first_of n'.first_ids)) (sym (places-more done g))
-            (subst (λ l. IsNumbered form_of (gs ++ placed g ∷ []) (slice_index ids') l (first_of n'.first_ids)) (sym a.listed.groups_are) st);
+        numbered = subst (λ l. IsNumbered key_of l (slice_index ids') (map group_of n'.distinct.groups.items) (first_of n'.first_ids)) (sym (places-more done g))
+            (subst (λ l. IsNumbered key_of (gs ++ placed g ∷ []) (slice_index ids') l (first_of n'.first_ids)) (sym a.listed.groups_are) st);
         counted = counts first a.ids;
         listed = relisted n' groups a.listed;
       }
 
-  built-new : first_of n.first_ids adds.form ≡ None → AddsNew n n' g adds.form → Built (done ++ g ∷ []) n'
+  built-new : first_of n.first_ids adds.key ≡ None → AddsNew n n' g adds.key → Built (done ++ g ∷ []) n'
   built-new none a =
       let next = b.listed.next_is in
       let named = map_group (named_index ids') (named_index ids') g in
       let row : ids' ≡ ids ++ range_with_len (length (types_by_id groups)) (length g) = a.ids ∙ ap (λ f. ids ++ range_with_len f (length g)) next in
       let is_named : named ≡ renamed (slice_index ids') (placed g) = sym ((plainly group_shape).map_twice place_of (id_at ids') g) in
-      let puts : (q : CanonicalGroup) → first_of n'.first_ids q ≡ cond (group.ghosts.eq adds.form q) (Some (length (types_by_id groups))) (first_of n.first_ids q) =
-      λ q. a.met q ∙ ap (λ f. cond (group.ghosts.eq adds.form q) (Some f) (first_of n.first_ids q)) next in
-      let st = numbered-new form_of gs (slice_index ids) groups (first_of n.first_ids) b.numbered (placed g) some_placed adds.form is_form near
+      let puts : (q : CanonicalGroup) → first_of n'.first_ids q ≡ cond (group.ghosts.eq adds.key q) (Some (length (types_by_id groups))) (first_of n.first_ids q) =
+      λ q. a.met q ∙ ap (λ f. cond (group.ghosts.eq adds.key q) (Some f) (first_of n.first_ids q)) next in
+      let st = numbered-new key_of gs (slice_index ids) groups (first_of n.first_ids) b.numbered (placed g) some_placed adds.key is_key near
       none (slice_index ids') (agree (length (types_by_id groups)) row) (fresh (length (types_by_id groups)) row) named is_named
-      (first_of n'.first_ids) (λ q. group.ghosts.eq adds.form q) (λ q. key-told adds.form q) (λ q. key-same adds.form q) puts in
+      (first_of n'.first_ids) (λ q. group.ghosts.eq adds.key q) (λ q. key-told adds.key q) (λ q. key-same adds.key q) puts in
       record {
-        numbered = subst (λ l. IsNumbered form_of l (slice_index ids') (map group_of n'.distinct.groups.items) (first_of n'.first_ids)) (sym (places-more done g))
-            (subst (λ l. IsNumbered form_of (gs ++ placed g ∷ []) (slice_index ids') l (first_of n'.first_ids)) (sym a.listed.groups_are) st);
+        numbered = subst (λ l. IsNumbered key_of l (slice_index ids') (map group_of n'.distinct.groups.items) (first_of n'.first_ids)) (sym (places-more done g))
+            (subst (λ l. IsNumbered key_of (gs ++ placed g ∷ []) (slice_index ids') l (first_of n'.first_ids)) (sym a.listed.groups_are) st);
         counted = counts n.distinct.next a.ids;
         listed = relisted n' (groups ++ named ∷ []) a.listed;
       }
 
   pub built-more : Built (done ++ g ∷ []) n'
-  built-more = by (first_of n.first_ids adds.form) refl adds.adds where
-    by : (o : Option ℕ) → first_of n.first_ids adds.form ≡ o → AddsBy n n' g adds.form o → Built (done ++ g ∷ []) n'
+  built-more = by (first_of n.first_ids adds.key) refl adds.adds where
+    by : (o : Option ℕ) → first_of n.first_ids adds.key ≡ o → AddsBy n n' g adds.key o → Built (done ++ g ∷ []) n'
     by (Some first) found a = built-met first found a
     by None none a = built-new none a
 

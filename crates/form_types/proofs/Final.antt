@@ -24,7 +24,7 @@ use Rattle.form_types.specs.declared.building.Numbering.{Numbering}
 use Rattle.form_types.specs.Types.{NamedGroup, TypesData, types_by_id, NamesFunction, CompositeContinues, ContinuesFunction, IsSound}
 use Rattle.form_types.specs.Seen.{ids_of}
 use Rattle.form_types.specs.Placed.{place_of, id_at, named_index}
-use Rattle.form_types.specs.Numbered.{Stands, AreNumbered}
+use Rattle.form_types.specs.Numbered.{HasItsId, AreNumbered}
 use Rattle.form_types.proofs.Steps.{renamed-is}
 use Rattle.form_types.proofs.Built.{places, Built}
 use Rattle.form_types.proofs.Ruled.{declared-types, places-joined, size-places}
@@ -54,7 +54,7 @@ module _ (m : plain.Module) (n : Numbering) (b : Built (plain.groups m) n) (vali
   within : (i : ℕ) → i < length (plain.types m) → i < size gs
   within i h = omega (arith, h, all)
 
-  stands : (i : ℕ) → i < size gs → Stands t (home gs i) i (slice_index ids i)
+  stands : (i : ℕ) → i < size gs → HasItsId t (home gs i) i (slice_index ids i)
   stands i h =
       let s = b.numbered.held i h in
       let row : (r : ℕ) → r < (home gs i).start + length (home gs i).members → (home gs i).start ≤ r

@@ -2,7 +2,7 @@ mod Counting
 mod Looking
 mod Adding
 mod Decoding
-mod FormLaws
+mod KeyLaws
 pub mod Steps
 mod Listing
 mod Rows

@@ -16,12 +16,12 @@ use Rattle.type_data.specs.Names.{plainly}
 use Rattle.type_spec.proofs.Homes.{joined, size}
 use Rattle.rule_spec.specs.Lists.{Declared, Lists, declared_from, declared_groups, lists_of_module}
 use Rattle.rule_spec.specs.TypeRules.{IsBelow, KindIsBelow, IsDeclaredWell}
-use Rattle.form_types.specs.declared.groups.Formed.{Formed}
+use Rattle.form_types.specs.declared.groups.GroupWithKey.{GroupWithKey}
 use Rattle.form_data.specs.Views.{group_of}
 use Rattle.form_types.specs.Types.{NamedGroup, types_by_id}
 use Rattle.form_types.specs.declared.building.Numbering.{Numbering}
-use Rattle.form_types.specs.Forms.{form_of}
-use Rattle.form_types.specs.Groups.{GroupAndForm, read_form, formed_of, with_form, lent_groups}
+use Rattle.form_types.specs.Keys.{key_of}
+use Rattle.form_types.specs.Groups.{GroupAndKey, read_key, group_and_key, with_key, lent_groups}
 use Rattle.form_types.specs.Placed.{place_of, placed}
 use Rattle.form_types.proofs.Steps.{NearIn, all-becomes}
 use Rattle.form_types.proofs.Built.{Built, places}
@@ -131,35 +131,35 @@ module _ (m : plain.Module) (done : List NamedGroup) (g : NamedGroup) (rest : Li
   near-next all =
       coe 0 1 (t. NearIn (record { start = size (places (sym done-is t)); members = placed (at t) })) (rules-near m (length done) below all)
 
--- what is lent are the groups, with their forms
-lent-are : (fs : List Formed) (gs : List NamedGroup) → map formed_of fs ≡ map with_form gs → lent_groups fs ≡ gs
+-- what is lent are the groups, with their keys
+lent-are : (fs : List GroupWithKey) (gs : List NamedGroup) → map group_and_key fs ≡ map with_key gs → lent_groups fs ≡ gs
 lent-are [] [] same = refl
 lent-are [] (g ∷ gs) same = cc
 lent-are (f ∷ fs) [] same = cc
 lent-are (f ∷ fs) (g ∷ gs) same =
-    let whole : formed_of f ∷ map formed_of fs ≡ with_form g ∷ map with_form gs = same in
-    let head : formed_of f ≡ with_form g = cc in
-    let tail : map formed_of fs ≡ map with_form gs = cc in
+    let whole : group_and_key f ∷ map group_and_key fs ≡ with_key g ∷ map with_key gs = same in
+    let head : group_and_key f ≡ with_key g = cc in
+    let tail : map group_and_key fs ≡ map with_key gs = cc in
     let rest = lent-are fs gs tail in
     λ i. (head i).group ∷ rest i
 
-item-formed : (fs : List Formed) (f : Formed) (rest : List Formed) (gs : List NamedGroup) → map formed_of (fs ++ f ∷ rest) ≡ map with_form gs
-    → form_of f.form ≡ read_form (group_of f.group.now)
-item-formed [] f rest [] same = cc
-item-formed [] f rest (g ∷ gs) same =
-    let whole : formed_of f ∷ map formed_of rest ≡ with_form g ∷ map with_form gs = same in
-    let head : formed_of f ≡ with_form g = cc in
-    ap (λ (x : GroupAndForm). x.form) head ∙ ap (λ (x : GroupAndForm). read_form x.group) (sym head)
-item-formed (e ∷ es) f rest [] same = cc
-item-formed (e ∷ es) f rest (g ∷ gs) same =
-    let whole : formed_of e ∷ map formed_of (es ++ f ∷ rest) ≡ with_form g ∷ map with_form gs = same in
-    let tail : map formed_of (es ++ f ∷ rest) ≡ map with_form gs = cc in
-    item-formed es f rest gs tail
+item-keyed : (fs : List GroupWithKey) (f : GroupWithKey) (rest : List GroupWithKey) (gs : List NamedGroup) → map group_and_key (fs ++ f ∷ rest) ≡ map with_key gs
+    → key_of f.key ≡ read_key (group_of f.group.now)
+item-keyed [] f rest [] same = cc
+item-keyed [] f rest (g ∷ gs) same =
+    let whole : group_and_key f ∷ map group_and_key rest ≡ with_key g ∷ map with_key gs = same in
+    let head : group_and_key f ≡ with_key g = cc in
+    ap (λ (x : GroupAndKey). x.key) head ∙ ap (λ (x : GroupAndKey). read_key x.group) (sym head)
+item-keyed (e ∷ es) f rest [] same = cc
+item-keyed (e ∷ es) f rest (g ∷ gs) same =
+    let whole : group_and_key e ∷ map group_and_key (es ++ f ∷ rest) ≡ with_key g ∷ map with_key gs = same in
+    let tail : map group_and_key (es ++ f ∷ rest) ≡ map with_key gs = cc in
+    item-keyed es f rest gs tail
 
 -- some groups are numbered, and so many come next
-pub record Walks (m : plain.Module) (n : Numbering) (done rest : List Formed) (count : ℕ) : Type 0 where
+pub record Walks (m : plain.Module) (n : Numbering) (done rest : List GroupWithKey) (count : ℕ) : Type 0 where
   pub built : Built (lent_groups done) n
-  pub all : map formed_of (done ++ rest) ≡ map with_form (plain.groups m)
+  pub all : map group_and_key (done ++ rest) ≡ map with_key (plain.groups m)
   pub counts : count ≡ length rest
 
 no-items : {A : Type 0} (xs : List A) → length xs ≡ 0 → xs ≡ []
@@ -167,28 +167,28 @@ no-items [] none = refl
 no-items (x ∷ xs) none = absurd (omega arith)
 
 -- the last was numbered
-pub walked : (m : plain.Module) (n : Numbering) (done rest : List Formed) (count : ℕ) → Walks m n done rest count → count ≡ 0 → Built (plain.groups m) n
+pub walked : (m : plain.Module) (n : Numbering) (done rest : List GroupWithKey) (count : ℕ) → Walks m n done rest count → count ≡ 0 → Built (plain.groups m) n
 walked m n done rest count w none =
     let over : rest ≡ [] = no-items rest (sym w.counts ∙ none) in
-    let done-all : map formed_of done ≡ map with_form (plain.groups m) =
-    ap (map formed_of) (sym (append-nil done) ∙ ap (λ l. done ++ l) (sym over)) ∙ w.all in
+    let done-all : map group_and_key done ≡ map with_key (plain.groups m) =
+    ap (map group_and_key) (sym (append-nil done) ∙ ap (λ l. done ++ l) (sym over)) ∙ w.all in
     subst (λ l. Built l n) (lent-are done (plain.groups m) done-all) w.built
 
-module _ (m : plain.Module) (n : Numbering) (done rest : List Formed) (count : ℕ) (w : Walks m n done rest count)
-    (item : Formed) (rest' : List Formed) (next : rest ≡ item ∷ rest') where
-  all-next : map formed_of (done ++ item ∷ rest') ≡ map with_form (plain.groups m)
-  all-next = ap (λ l. map formed_of (done ++ l)) (sym next) ∙ w.all
+module _ (m : plain.Module) (n : Numbering) (done rest : List GroupWithKey) (count : ℕ) (w : Walks m n done rest count)
+    (item : GroupWithKey) (rest' : List GroupWithKey) (next : rest ≡ item ∷ rest') where
+  all-next : map group_and_key (done ++ item ∷ rest') ≡ map with_key (plain.groups m)
+  all-next = ap (λ l. map group_and_key (done ++ l)) (sym next) ∙ w.all
 
   pub whole-next : lent_groups done ++ group_of item.group.now ∷ lent_groups rest' ≡ plain.groups m
-  whole-next = sym (map-append (λ (f : Formed). group_of f.group.now) done (item ∷ rest')) ∙ lent-are (done ++ item ∷ rest') (plain.groups m) all-next
+  whole-next = sym (map-append (λ (f : GroupWithKey). group_of f.group.now) done (item ∷ rest')) ∙ lent-are (done ++ item ∷ rest') (plain.groups m) all-next
 
-  pub form-next : form_of item.form ≡ read_form (group_of item.group.now)
-  form-next = item-formed done item rest' (plain.groups m) all-next
+  pub key-next : key_of item.key ≡ read_key (group_of item.group.now)
+  key-next = item-keyed done item rest' (plain.groups m) all-next
 
   pub walks-more : (n' : Numbering) (count' : ℕ) → Built (lent_groups done ++ group_of item.group.now ∷ []) n' → count' + 1 ≡ count
       → Walks m n' (done ++ item ∷ []) rest' count'
   walks-more n' count' built left = record {
-    built = subst (λ l. Built l n') (sym (map-append (λ (f : Formed). group_of f.group.now) done (item ∷ []))) built;
-    all = ap (map formed_of) (append_assoc done (item ∷ []) rest') ∙ all-next;
+    built = subst (λ l. Built l n') (sym (map-append (λ (f : GroupWithKey). group_of f.group.now) done (item ∷ []))) built;
+    all = ap (map group_and_key) (append_assoc done (item ∷ []) rest') ∙ all-next;
     counts = omega (arith, left, w.counts, ap length next);
   }

@@ -18,12 +18,12 @@ use Rattle.type_spec.proofs.Numbers.{place, TellApart}
 use Rattle.form_types.specs.Ids.{id_of}
 use Rattle.form_types.specs.Types.{NamedGroup, types_by_id, IsIdBelow, NameEarlier}
 use Rattle.form_types.specs.Numbered.{first_id}
-use Rattle.form_types.specs.Forms.{Form, form}
-use Rattle.form_types.proofs.FormLaws.{form-told}
+use Rattle.form_types.specs.Keys.{GroupKey, group_key}
+use Rattle.form_types.proofs.KeyLaws.{group_key-exact}
 
 -- ---- what a canonical group reads
 
--- a canonical form reads the numbers of earlier types alone
+-- a canonical group reads the numbers of earlier types alone
 pub canonical-agrees : (number number' : ℕ → ℕ) (g : Home) → ((i : ℕ) → i < g.start → number' i ≡ number i)
     → canonical number' g ≡ canonical number g
 canonical-agrees number number' g agree = ap (λ f. map_group f f g.members) (λ k i. by i (nat_le g.start i) refl k) where
@@ -54,7 +54,7 @@ pub all-becomes : {A : Type 0} (P Q : A → Type 0) → ((a : A) → P a → Q a
 all-becomes P Q each [] all = All-nil Q
 all-becomes P Q each (x ∷ xs) all = All-cons Q x xs (each x (All-head P x xs all)) (all-becomes P Q each xs (All-tail P x xs all))
 
--- a group by the numbers of what it names is its canonical form, by ids
+-- a group by the numbers of what it names is its canonical group, by ids
 pub renamed-is : (number : ℕ → ℕ) (first : ℕ) (g : Home) (P : ℕ → Type 0)
     → ((r : ℕ) → P r → g.start ≤ r → number r ≡ first + (r - g.start)) → All P (group_edges (λ r. r) g.members)
     → renamed number g.members ≡ by_ids first (canonical number g)
@@ -88,7 +88,7 @@ references-more first (h ∷ groups) g earlier here =
     omega (arith, length-append h (types_by_id groups)) in
     (earlier.0, references-more (first + length h) groups g earlier.1 (rw e at here))
 
-module _ {K : Type 0} (view : K → Form) where
+module _ {K : Type 0} (view : K → GroupKey) where
   -- a type's group stands among the groups, its first member at the id of its own first
   pub record Stood (groups : List NamedGroup) (number : ℕ → ℕ) (g : Home) : Type 0 where
     pub at : ℕ
@@ -101,8 +101,8 @@ module _ {K : Type 0} (view : K → Form) where
     pub tells : TellApart gs gs number number (size gs) (size gs)
     pub in_row : (i : ℕ) → i < size gs → number i ≡ number (home gs i).start + place gs i
     pub below : (i : ℕ) → i < size gs → number i < length (types_by_id groups)
-    pub found : (key : K) (first : ℕ) → get key ≡ Some first → (i : ℕ) × (i < size gs) × (view key ≡ form (canonical number (home gs i)))
-    pub kept : (i : ℕ) (key : K) → i < size gs → view key ≡ form (canonical number (home gs i)) → get key ≡ Some (number (home gs i).start)
+    pub found : (key : K) (first : ℕ) → get key ≡ Some first → (i : ℕ) × (i < size gs) × (view key ≡ group_key (canonical number (home gs i)))
+    pub kept : (i : ℕ) (key : K) → i < size gs → view key ≡ group_key (canonical number (home gs i)) → get key ≡ Some (number (home gs i).start)
     pub held : (i : ℕ) → i < size gs → Stood groups number (home gs i)
     pub in_order : (i id : ℕ) → i < size gs → id < number i → (j : ℕ) × (j < i) × (number j ≡ id)
     pub nothing_else : (id : ℕ) → id < length (types_by_id groups) → (j : ℕ) × (j < size gs) × (number j ≡ id)
@@ -114,7 +114,7 @@ module _ {K : Type 0} (view : K → Form) where
 
   -- a group of `m` types comes next, whose members get numbers in a row
   module _ (gs : List (Group ℕ ℕ)) (number : ℕ → ℕ) (groups : List NamedGroup) (get : K → Option ℕ) (st : IsNumbered gs number groups get)
-      (m : Group ℕ ℕ) (some : 0 < length m) (key : K) (is_key : view key ≡ form (canonical number (record { start = size gs; members = m })))
+      (m : Group ℕ ℕ) (some : 0 < length m) (key : K) (is_key : view key ≡ group_key (canonical number (record { start = size gs; members = m })))
       (bounded : NearIn (record { start = size gs; members = m })) where
     abbrev next-home : Home
     next-home = record { start = size gs; members = m }
@@ -130,10 +130,10 @@ module _ {K : Type 0} (view : K → Form) where
     cross-new : get key ≡ None → Crosses (length (types_by_id groups))
     cross-new none i p h k = (
       (λ same. absurd (omega (arith, st.below i h, same))),
-      (λ same. absurd (let held = st.kept i key h (is_key ∙ ap form (sym same.1)) in let off : None ≡ Some (number (home gs i).start) = sym none ∙ held in cc)),
+      (λ same. absurd (let held = st.kept i key h (is_key ∙ ap group_key (sym same.1)) in let off : None ≡ Some (number (home gs i).start) = sym none ∙ held in cc)),
     )
 
-    -- the earlier group that has the key's form
+    -- the earlier group that has the key
     pub record Met (first : ℕ) : Type 0 where
       pub one : ℕ
       pub lt : one < size gs
@@ -146,7 +146,7 @@ module _ {K : Type 0} (view : K → Form) where
         record {
           one = f.0;
           lt = f.1;
-          same = form-told _ _ (sym f.2 ∙ is_key);
+          same = group_key-exact _ _ (sym f.2 ∙ is_key);
           first_is = some-is _ _ (sym (st.kept f.0 key f.1 f.2) ∙ e);
         }
 
@@ -187,16 +187,16 @@ module _ {K : Type 0} (view : K → Form) where
         → (number i ≡ first + p) ↔ ((place gs i ≡ p) × (canonical number (home gs i) ≡ canonical number next-home)))
         (number' : ℕ → ℕ) (agree : (i : ℕ) → i < size gs → number' i ≡ number i)
         (fresh : (p : ℕ) → p < length m → number' (size gs + p) ≡ first + p) where
-      earlier-form : (i : ℕ) → i < size gs → canonical number' (home more i) ≡ canonical number (home gs i)
-      earlier-form i h =
+      earlier-key : (i : ℕ) → i < size gs → canonical number' (home more i) ≡ canonical number (home gs i)
+      earlier-key i h =
           ap (canonical number') (home-before gs m i h)
           ∙ canonical-agrees number number' (home gs i) (λ r lt. agree r (omega (arith, lt, (home-within gs i h).from)))
 
       member-home : (p : ℕ) → p < length m → home more (size gs + p) ≡ next-home
       member-home p h = home-last gs m (size gs + p) (omega arith) (omega arith)
 
-      member-form : (p : ℕ) → p < length m → canonical number' (home more (size gs + p)) ≡ canonical number next-home
-      member-form p h = ap (canonical number') (member-home p h) ∙ canonical-agrees number number' next-home agree
+      member-key : (p : ℕ) → p < length m → canonical number' (home more (size gs + p)) ≡ canonical number next-home
+      member-key p h = ap (canonical number') (member-home p h) ∙ canonical-agrees number number' next-home agree
 
       earlier-place : (i : ℕ) → i < size gs → place more i ≡ place gs i
       earlier-place i h = ap (λ (g : Home). i - g.start) (home-before gs m i h)
@@ -211,21 +211,21 @@ module _ {K : Type 0} (view : K → Form) where
       told-earlier i j h k =
           let a = sym (agree i h) in let b = sym (agree j k) in
           let x = sym (earlier-place i h) in let y = sym (earlier-place j k) in
-          let u = sym (earlier-form i h) in let v = sym (earlier-form j k) in
+          let u = sym (earlier-key i h) in let v = sym (earlier-key j k) in
           coe 0 1 (t. (a t ≡ b t) ↔ ((x t ≡ y t) × (u t ≡ v t))) (st.tells i j h k)
 
       told-cross : (i p : ℕ) → i < size gs → p < length m → Told i (size gs + p)
       told-cross i p h k =
           let a = sym (agree i h) in let b = sym (fresh p k) in
           let x = sym (earlier-place i h) in let y = sym (member-place p k) in
-          let u = sym (earlier-form i h) in let v = sym (member-form p k) in
+          let u = sym (earlier-key i h) in let v = sym (member-key p k) in
           coe 0 1 (t. (a t ≡ b t) ↔ ((x t ≡ y t) × (u t ≡ v t))) (crosses i p h k)
 
       told-members : (p q : ℕ) → p < length m → q < length m → Told (size gs + p) (size gs + q)
       told-members p q h k =
           let a = sym (fresh p h) in let b = sym (fresh q k) in
           let x = sym (member-place p h) in let y = sym (member-place q k) in
-          let u = sym (member-form p h) in let v = sym (member-form q k) in
+          let u = sym (member-key p h) in let v = sym (member-key q k) in
           coe 0 1 (t. (a t ≡ b t) ↔ ((x t ≡ y t) × (u t ≡ v t)))
           ((λ (same : first + p ≡ first + q). let one : p ≡ q = omega arith in (one, refl)), (λ same. ap (λ n. first + n) same.0))
 
@@ -289,7 +289,7 @@ module _ {K : Type 0} (view : K → Form) where
       stood-earlier groups' i h s = record {
         at = s.at;
         below = s.below;
-        group = s.group ∙ sym (λ t. by_ids (earlier-start i h t) (earlier-form i h t));
+        group = s.group ∙ sym (λ t. by_ids (earlier-start i h t) (earlier-key i h t));
         first = s.first ∙ sym (earlier-start i h);
       }
 
@@ -298,11 +298,11 @@ module _ {K : Type 0} (view : K → Form) where
       stood-member groups' at p h below group starts = record {
         at = at;
         below = below;
-        group = group ∙ sym (λ t. by_ids (member-start p h t) (member-form p h t));
+        group = group ∙ sym (λ t. by_ids (member-start p h t) (member-key p h t));
         first = starts ∙ sym (member-start p h);
       }
 
-    -- a group with a form that was met
+    -- a group with a key that was met
     module _ (first : ℕ) (e : get key ≡ Some first) (number' : ℕ → ℕ) (agree : (i : ℕ) → i < size gs → number' i ≡ number i)
         (fresh : (p : ℕ) → p < length m → number' (size gs + p) ≡ first + p) (get' : K → Option ℕ) (same : (q : K) → get' q ≡ get q) where
       pub numbered-old : IsNumbered more number' groups get'
@@ -317,14 +317,14 @@ module _ {K : Type 0} (view : K → Form) where
         ];
         found = λ q v is.
             let f = st.found q v (sym (same q) ∙ is) in
-            (f.0, omega (arith, f.1, size-more gs m), f.2 ∙ ap form (sym (earlier-form first (cross-old first e) number' agree fresh f.0 f.1)));
+            (f.0, omega (arith, f.1, size-more gs m), f.2 ∙ ap group_key (sym (earlier-key first (cross-old first e) number' agree fresh f.0 f.1)));
         kept = λ i q h is. elim (either first (cross-old first e) number' agree fresh i h) [
-          | inl a ↦ same q ∙ st.kept i q a (is ∙ ap form (earlier-form first (cross-old first e) number' agree fresh i a))
+          | inl a ↦ same q ∙ st.kept i q a (is ∙ ap group_key (earlier-key first (cross-old first e) number' agree fresh i a))
               ∙ ap (λ n. Some n) (sym (earlier-start first (cross-old first e) number' agree fresh i a))
           | inr (p, a, d) ↦
               let w = met-one first e in
-              let back = subst (λ x. view q ≡ form (canonical number' (home more x))) (sym d) is in
-              same q ∙ st.kept w.one q w.lt (back ∙ ap form (member-form first (cross-old first e) number' agree fresh p a ∙ sym w.same))
+              let back = subst (λ x. view q ≡ group_key (canonical number' (home more x))) (sym d) is in
+              same q ∙ st.kept w.one q w.lt (back ∙ ap group_key (member-key first (cross-old first e) number' agree fresh p a ∙ sym w.same))
               ∙ ap (λ n. Some n) (w.first_is ∙ subst (λ x. first ≡ number' (home more x).start) d (sym (member-start first (cross-old first e) number' agree fresh p a)))
         ];
         held = λ i h. elim (either first (cross-old first e) number' agree fresh i h) [
@@ -353,7 +353,7 @@ module _ {K : Type 0} (view : K → Form) where
         references = st.references;
       }
 
-    -- a group with a new form
+    -- a group with a new key
     abbrev total : ℕ
     total = length (types_by_id groups)
 
@@ -405,35 +405,35 @@ module _ {K : Type 0} (view : K → Form) where
 
       module _ (get' : K → Option ℕ) (test : K → Bool) (is_test : (q : K) → test q ≡ true → view key ≡ view q)
           (tests : (q : K) → view key ≡ view q → test q ≡ true) (puts : (q : K) → get' q ≡ cond (test q) (Some total) (get q)) where
-        found-new : (q : K) (first : ℕ) → get' q ≡ Some first → (i : ℕ) × (i < size more) × (view q ≡ form (canonical number' (home more i)))
+        found-new : (q : K) (first : ℕ) → get' q ≡ Some first → (i : ℕ) × (i < size more) × (view q ≡ group_key (canonical number' (home more i)))
         found-new q first is = by (test q) refl where
-          by : (b : Bool) → test q ≡ b → (i : ℕ) × (i < size more) × (view q ≡ form (canonical number' (home more i)))
+          by : (b : Bool) → test q ≡ b → (i : ℕ) × (i < size more) × (view q ≡ group_key (canonical number' (home more i)))
           by true e =
               let same = is_test q e in (
                 size gs + 0,
                 omega (arith, size-more gs m, some),
-                sym same ∙ is_key ∙ ap form (sym (member-form total (cross-new none) number' agree fresh 0 some)),
+                sym same ∙ is_key ∙ ap group_key (sym (member-key total (cross-new none) number' agree fresh 0 some)),
               )
           by false e =
               let old : get q ≡ Some first = ap (λ b. cond b (Some total) (get q)) (sym e) ∙ sym (puts q) ∙ is in
               let f = st.found q first old in
-              (f.0, omega (arith, f.1, size-more gs m), f.2 ∙ ap form (sym (earlier-form total (cross-new none) number' agree fresh f.0 f.1)))
+              (f.0, omega (arith, f.1, size-more gs m), f.2 ∙ ap group_key (sym (earlier-key total (cross-new none) number' agree fresh f.0 f.1)))
 
-        kept-earlier : (i : ℕ) (q : K) → i < size gs → view q ≡ form (canonical number' (home more i)) → get' q ≡ Some (number' (home more i).start)
+        kept-earlier : (i : ℕ) (q : K) → i < size gs → view q ≡ group_key (canonical number' (home more i)) → get' q ≡ Some (number' (home more i).start)
         kept-earlier i q a is = by (test q) refl where
           by : (b : Bool) → test q ≡ b → get' q ≡ Some (number' (home more i).start)
           by true e =
-              let held = st.kept i key a (is_test q e ∙ is ∙ ap form (earlier-form total (cross-new none) number' agree fresh i a)) in
+              let held = st.kept i key a (is_test q e ∙ is ∙ ap group_key (earlier-key total (cross-new none) number' agree fresh i a)) in
               absurd (let off : None ≡ Some (number (home gs i).start) = sym none ∙ held in cc)
           by false e =
               puts q ∙ ap (λ b. cond b (Some total) (get q)) e
-              ∙ st.kept i q a (is ∙ ap form (earlier-form total (cross-new none) number' agree fresh i a))
+              ∙ st.kept i q a (is ∙ ap group_key (earlier-key total (cross-new none) number' agree fresh i a))
               ∙ ap (λ n. Some n) (sym (earlier-start total (cross-new none) number' agree fresh i a))
 
-        kept-member : (p : ℕ) (q : K) → p < length m → view q ≡ form (canonical number' (home more (size gs + p)))
+        kept-member : (p : ℕ) (q : K) → p < length m → view q ≡ group_key (canonical number' (home more (size gs + p)))
             → get' q ≡ Some (number' (home more (size gs + p)).start)
         kept-member p q a is =
-            let same = tests q (is_key ∙ ap form (sym (member-form total (cross-new none) number' agree fresh p a)) ∙ sym is) in
+            let same = tests q (is_key ∙ ap group_key (sym (member-key total (cross-new none) number' agree fresh p a)) ∙ sym is) in
             puts q ∙ ap (λ b. cond b (Some total) (get q)) same
             ∙ ap (λ n. Some n) (sym (member-start total (cross-new none) number' agree fresh p a))
 
@@ -450,7 +450,7 @@ module _ {K : Type 0} (view : K → Form) where
           kept = λ i q h is. elim (either total (cross-new none) number' agree fresh i h) [
             | inl a ↦ kept-earlier i q a is
             | inr (p, a, d) ↦ subst (λ x. get' q ≡ Some (number' (home more x).start)) d
-                (kept-member p q a (subst (λ x. view q ≡ form (canonical number' (home more x))) (sym d) is))
+                (kept-member p q a (subst (λ x. view q ≡ group_key (canonical number' (home more x))) (sym d) is))
           ];
           held = λ i h. elim (either total (cross-new none) number' agree fresh i h) [
             | inl a ↦ stood-earlier total (cross-new none) number' agree fresh (groups ++ g ∷ []) i a (earlier-group i (st.held i a))

@@ -9,9 +9,9 @@ use Rattle.form_types.specs.contracts.canonical.CanonicalGroupPartialEq.TheImpl 
 use Rattle.form_types.specs.Types.{NamedGroup}
 use Rattle.form_types.specs.Seen.{ids_of}
 use Rattle.form_types.specs.Placed.{placed, named_index}
-use Rattle.form_types.specs.Forms.{form_of}
+use Rattle.form_types.specs.Keys.{key_of}
 use Rattle.form_types.specs.Distinct.{IsListed}
-use Rattle.form_types.specs.Finding.{FirstIds, first_of, next_form}
+use Rattle.form_types.specs.Finding.{FirstIds, first_of, next_key}
 
 -- no group is numbered
 pub record HasNone (n : Numbering) : Type 0 where
@@ -30,17 +30,17 @@ pub record AddsMet (old new : Numbering) (g : NamedGroup) (first : ℕ) : Type 0
   pub met : (q : CanonicalGroup) → first_of new.first_ids q ≡ first_of old.first_ids q
 
 -- the group is new, and named by the ids of its own members too
-pub record AddsNew (old new : Numbering) (g : NamedGroup) (form : CanonicalGroup) : Type 0 where
+pub record AddsNew (old new : Numbering) (g : NamedGroup) (key : CanonicalGroup) : Type 0 where
   pub ids : ids_of new.declared.items ≡ ids_of old.declared.items ++ range_with_len old.distinct.next (length g)
   pub listed : IsListed new.distinct (map group_of old.distinct.groups.items
       ++ map_group (named_index (ids_of new.declared.items)) (named_index (ids_of new.declared.items)) g ∷ [])
-  pub met : (q : CanonicalGroup) → first_of new.first_ids q ≡ cond (group.ghosts.eq form q) (Some old.distinct.next) (first_of old.first_ids q)
+  pub met : (q : CanonicalGroup) → first_of new.first_ids q ≡ cond (group.ghosts.eq key q) (Some old.distinct.next) (first_of old.first_ids q)
 
 abbrev pub AddsBy : Numbering → Numbering → NamedGroup → CanonicalGroup → Option ℕ → Type 0
-AddsBy old new g form (Some first) = AddsMet old new g first
-AddsBy old new g form None = AddsNew old new g form
+AddsBy old new g key (Some first) = AddsMet old new g first
+AddsBy old new g key None = AddsNew old new g key
 
 pub record AddsGroup (old new : Numbering) (g : NamedGroup) : Type 0 where
-  pub form : CanonicalGroup
-  pub form_is : form_of form ≡ next_form (ids_of old.declared.items) (placed g)
-  pub adds : AddsBy old new g form (first_of old.first_ids form)
+  pub key : CanonicalGroup
+  pub key_is : key_of key ≡ next_key (ids_of old.declared.items) (placed g)
+  pub adds : AddsBy old new g key (first_of old.first_ids key)

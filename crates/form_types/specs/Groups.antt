@@ -1,25 +1,25 @@
--- Groups that are lent, with their forms as they were read.
+-- Groups that are lent, with their keys as they were read.
 use Rattle.std.specs.Prelude.{List, map}
 use Rattle.wasm_spec.specs.TypeData.{group_edges}
 use Rattle.form_data.specs.Views.{group_of}
-use Rattle.form_types.specs.declared.groups.Formed.{Formed}
+use Rattle.form_types.specs.declared.groups.GroupWithKey.{GroupWithKey}
 use Rattle.form_types.specs.Types.{NamedGroup}
 use Rattle.form_types.specs.Codes.{group_codes}
-use Rattle.form_types.specs.Forms.{Form, form_of}
+use Rattle.form_types.specs.Keys.{GroupKey, key_of}
 
--- the form of a group, in which each reference is that which was read
-abbrev pub read_form : NamedGroup → Form
-read_form g = record { codes = group_codes g; references = group_edges (λ i. i) g }
+-- the key of a group, in which each reference is that which was read
+abbrev pub read_key : NamedGroup → GroupKey
+read_key g = record { codes = group_codes g; references = group_edges (λ i. i) g }
 
-pub record GroupAndForm : Type 0 where
+pub record GroupAndKey : Type 0 where
   pub group : NamedGroup
-  pub form : Form
+  pub key : GroupKey
 
-abbrev pub formed_of : Formed → GroupAndForm
-formed_of f = record { group = group_of f.group.now; form = form_of f.form }
+abbrev pub group_and_key : GroupWithKey → GroupAndKey
+group_and_key f = record { group = group_of f.group.now; key = key_of f.key }
 
-abbrev pub with_form : NamedGroup → GroupAndForm
-with_form g = record { group = g; form = read_form g }
+abbrev pub with_key : NamedGroup → GroupAndKey
+with_key g = record { group = g; key = read_key g }
 
-abbrev pub lent_groups : List Formed → List NamedGroup
-lent_groups all = map (λ (f : Formed). group_of f.group.now) all
+abbrev pub lent_groups : List GroupWithKey → List NamedGroup
+lent_groups all = map (λ (f : GroupWithKey). group_of f.group.now) all

@@ -4,7 +4,7 @@ pub mod Types
 pub mod Kept
 pub mod Placed
 pub mod Codes
-pub mod Forms
+pub mod Keys
 pub mod Groups
 pub mod Numbered
 pub mod Distinct

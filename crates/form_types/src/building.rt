@@ -4,15 +4,15 @@ ghost use Rattle.std.specs.Prelude.{◌≡◌, ◌+◌, ◌<◌, ◌^◌, length
 ghost use Rattle.wasm_spec.specs.Sizes.{HasFewEntries, HasShortTypes};
 ghost use Rattle.rule_spec.specs.Rules.{Keeps};
 ghost use Rattle.form_data.specs.Views.{group_of, module_of};
-ghost use Rattle.form_types.specs.Forms.{form_of};
-ghost use Rattle.form_types.specs.Groups.{read_form};
+ghost use Rattle.form_types.specs.Keys.{key_of};
+ghost use Rattle.form_types.specs.Groups.{read_key};
 ghost use Rattle.form_types.specs.Distinct.{IsListed};
 ghost use Rattle.form_types.specs.Numbered.{AreNumbered};
 ghost use Rattle.form_types.specs.Adding.{HasNone, HasFewIds, AddsGroup};
 
 use crate::distinct::Distinct;
-use crate::finding::{FirstIds, find_or_note, next_form, push_row, seed_of};
-use crate::groups::{Formed, all_groups};
+use crate::finding::{FirstIds, find_or_note, next_key, push_row, seed_of};
+use crate::groups::{GroupWithKey, all_groups};
 use crate::named::named_group;
 use crate::numbering::Types;
 use crate::validator::Validator;
@@ -43,20 +43,20 @@ impl Numbering {
     }
 
     /// Gives ids to the members of a group: those of an equal group, or new ones.
-    fn add_group(&mut self, alloc: Global, group: Formed<'_>) -> Result<(), AllocError>
+    fn add_group(&mut self, alloc: Global, group: GroupWithKey<'_>) -> Result<(), AllocError>
         requires some { 0 < length group.group.now.types.items }
-        requires formed { form_of group.form ≡ read_form (group_of group.group.now) }
+        requires keyed { key_of group.key ≡ read_key (group_of group.group.now) }
         requires room { length self.old.declared.items + length group.group.now.types.items < 2 ^ 30 }
         requires few { self.old.distinct.next + length group.group.now.types.items < 2 ^ 30 }
         requires ids { HasFewIds self.old.first_ids }
         requires listed { IsListed self.old.distinct (map group_of self.old.distinct.groups.items) }
         ensures { OnOk result (AddsGroup self.old self.new (group_of group.entry.group.now)) }
     {
-        let Formed { group, form } = group;
+        let GroupWithKey { group, key } = group;
         let members = group.types.as_slice();
-        let form = next_form(alloc, &self.declared, form)?;
+        let key = next_key(alloc, &self.declared, key)?;
         let next = self.distinct.next;
-        match find_or_note(&mut self.first_ids, form, next)? {
+        match find_or_note(&mut self.first_ids, key, next)? {
             Some(first) => push_row(&mut self.declared, first, members.len())?,
             None => {
                 push_row(&mut self.declared, next, members.len())?;

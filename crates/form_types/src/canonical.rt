@@ -1,4 +1,4 @@
-//! The forms by which groups are told apart.
+//! The keys by which groups are told apart.
 
 ghost use Rattle.std.specs.Prelude.{◌≡◌, [], ◌∷◌, ◌++◌, map, IfOk, OnOk, Option, is_some};
 ghost use Rattle.std.specs.List.{flat_map};
@@ -10,7 +10,7 @@ ghost use Rattle.std.specs.Cmp.Lexicographic.{bytes_decides};
 ghost use Rattle.std.specs.Hash as fed;
 ghost use Rattle.std.specs.Hash.{same_Alike, on_Alike, and-Alike, items_Alike};
 ghost use Rattle.wasm_spec.specs.contracts.types.UnpackedIndexHash.TheImpl.Laws as index_hash;
-ghost use Rattle.form_types.specs.Forms.{form_of, Adds};
+ghost use Rattle.form_types.specs.Keys.{key_of, Adds};
 
 use crate::codes::{END, flag, reference_code};
 use form_data::{CompositeInnerType, FuncType, SubType};
@@ -21,7 +21,7 @@ use wasm_spec::{FieldType, HeapType, RefType, StorageType, UnpackedIndex, ValTyp
 /// A group as bytes and references.
 ///
 /// As it is looked up, a reference is a place in the group or the id of an earlier type: groups that are equal by what came before them have
-/// one form. As it is made first, a reference is that which was read.
+/// one key. As it is made first, a reference is that which was read.
 #[derive(Drop, PartialEq, Eq)]
 pub struct CanonicalGroup {
     /// All of the group but what its references name.
@@ -44,9 +44,9 @@ impl Hash for CanonicalGroup {
 }
 
 impl CanonicalGroup {
-    /// The form of no members.
+    /// The key of no members.
     pub fn new(alloc: Global) -> CanonicalGroup
-        ensures { form_of result ≡ record { codes = []; references = [] } }
+        ensures { key_of result ≡ record { codes = []; references = [] } }
     {
         CanonicalGroup {
             frame: Vec::new(alloc),
@@ -56,7 +56,7 @@ impl CanonicalGroup {
 
     /// Forgets all members.
     pub fn clear(&mut self)
-        ensures { form_of self.new ≡ record { codes = []; references = [] } }
+        ensures { key_of self.new ≡ record { codes = []; references = [] } }
     {
         self.frame.clear();
         self.references.clear();
@@ -64,7 +64,7 @@ impl CanonicalGroup {
 
     /// Another one like it, with no more room than it needs.
     pub fn copied(&self, alloc: Global) -> Result<CanonicalGroup, AllocError>
-        ensures { IfOk result (λ copy. form_of copy ≡ form_of self.now) }
+        ensures { IfOk result (λ copy. key_of copy ≡ key_of self.now) }
     {
         let mut frame = Vec::with_capacity(alloc, self.frame.len())?;
         frame.extend_from_slice(&self.frame)?;

@@ -32,7 +32,7 @@ impl Distinct {
         }
     }
 
-    /// Puts a group behind the others.
+    /// Appends a group.
     pub fn push(&mut self, group: RecGroup) -> Result<(), AllocError>
         requires listed { IsListed self.old (map group_of self.old.groups.items) }
         requires some { 0 < length group.types.items }

@@ -1,16 +1,16 @@
-//! The groups that were met, by their forms.
+//! The groups that were met, by their keys.
 
 ghost use Rattle.std.specs.Prelude.{◌≡◌, ◌+◌, ◌<◌, ◌^◌, ◌++◌, IfOk, OnOk, MatchOption, Some, cond, length};
 ghost use Rattle.std.specs.List.{range_with_len};
 ghost use Rattle.form_types.specs.Types.{NamedGroup};
 ghost use Rattle.form_types.specs.Seen.{ids_of};
 ghost use Rattle.form_types.specs.Placed.{placed};
-ghost use Rattle.form_types.specs.Forms.{form_of, targets};
-ghost use Rattle.form_types.specs.Groups.{read_form};
-ghost use Rattle.form_types.specs.Finding.{first_of, next_form};
+ghost use Rattle.form_types.specs.Keys.{key_of, targets};
+ghost use Rattle.form_types.specs.Groups.{read_key};
+ghost use Rattle.form_types.specs.Finding.{first_of, next_key};
 
 use crate::canonical::CanonicalGroup;
-use crate::groups::Formed;
+use crate::groups::GroupWithKey;
 use crate::seen::Seen;
 use entity_map::Seeded;
 use std::alloc::{AllocError, Global};
@@ -18,14 +18,14 @@ use std::collections::HashMap;
 use std::hash::{DefaultHasher, Hash, Hasher};
 use wasm_spec::{CoreTypeId, UnpackedIndex};
 
-/// The first id of each group that was met, by its form.
+/// The first id of each group that was met, by its key.
 pub type FirstIds = HashMap<CanonicalGroup, u32, Seeded>;
 
 /// A digest of all groups. Groups that a stranger chose to collide would have to be chosen for the digest that they change.
-pub fn seed_of(groups: &[Formed<'_>]) -> u64 {
+pub fn seed_of(groups: &[GroupWithKey<'_>]) -> u64 {
     let mut digest = DefaultHasher::new();
     for group in groups {
-        group.form.hash(&mut digest);
+        group.key.hash(&mut digest);
     }
     digest.finish()
 }
@@ -45,14 +45,14 @@ fn targets(
     Ok(named)
 }
 
-/// The form of a group that comes next, from its form as it was read.
-pub fn next_form(
+/// The key of a group that comes next, from its key as it was read.
+pub fn next_key(
     alloc: Global,
     ids: &[CoreTypeId],
     read: CanonicalGroup,
 ) -> Result<CanonicalGroup, AllocError>
     requires { length ids.now < 2 ^ 30 }
-    ensures { IfOk result (λ f. (g : NamedGroup) → form_of read ≡ read_form g → form_of f ≡ next_form (ids_of ids.now) (placed g)) }
+    ensures { IfOk result (λ f. (g : NamedGroup) → key_of read ≡ read_key g → key_of f ≡ next_key (ids_of ids.now) (placed g)) }
 {
     let CanonicalGroup { frame, references } = read;
     let seen = Seen {
@@ -63,21 +63,21 @@ pub fn next_form(
     Ok(CanonicalGroup { frame, references })
 }
 
-/// What a group of this form was given, or else it is given `next`.
+/// What a group of this key was given, or else it is given `next`.
 pub fn find_or_note(
     first_ids: &mut FirstIds,
-    form: CanonicalGroup,
+    key: CanonicalGroup,
     next: u32,
 ) -> Result<Option<u32>, AllocError>
-    ensures found { IfOk result (λ found. found ≡ first_of first_ids.old form) }
+    ensures found { IfOk result (λ found. found ≡ first_of first_ids.old key) }
     ensures noted { IfOk result (λ found. MatchOption found
-        ((q : CanonicalGroup) → first_of first_ids.new q ≡ cond (⟦<CanonicalGroup as PartialEq>⟧.eq form q) (Some next) (first_of first_ids.old q))
+        ((q : CanonicalGroup) → first_of first_ids.new q ≡ cond (⟦<CanonicalGroup as PartialEq>⟧.eq key q) (Some next) (first_of first_ids.old q))
         (λ _. (q : CanonicalGroup) → first_of first_ids.new q ≡ first_of first_ids.old q)) }
 {
-    if let Some(first) = first_ids.get(&form).copied() {
+    if let Some(first) = first_ids.get(&key).copied() {
         return Ok(Some(first));
     }
-    first_ids.insert(form, next)?;
+    first_ids.insert(key, next)?;
     Ok(None)
 }
 

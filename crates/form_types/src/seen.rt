@@ -1,7 +1,7 @@
 //! What stands before a group, and what a reference names by it.
 
 ghost use Rattle.std.specs.Prelude.{◌≡◌, slice_index};
-ghost use Rattle.form_types.specs.Forms.{canonical_index};
+ghost use Rattle.form_types.specs.Keys.{canonical_index};
 ghost use Rattle.form_types.specs.Seen.{ids_of};
 ghost use Rattle.form_types.specs.Ids.{id_of};
 ghost use Rattle.form_types.specs.Placed.{place_of};

@@ -13,7 +13,7 @@ use Rattle.replay_spec.specs.Values.{Value, action, acted, run, only_value, eval
 use Rattle.replay_spec.specs.Elements.{ActiveElements, DefinedTable, value_or_null, cell_of, item_cells, elements_piece, initial_cell, first_cell, table_sizes, elements_phase}
 use Rattle.replay_spec.specs.Tables.{TablePlan, AgreesOnTables}
 use Rattle.replay_spec.specs.Globals.{GlobalPlan, values_after, ReadsBelow, ReadEarlier, AgreesOnGlobals}
-use Rattle.init_plan.specs.Held.{held, held_items, held_elements, held_table}
+use Rattle.init_plan.specs.Held.{erase_null_type, erased_items, erased_elements, erased_table}
 
 map_over : {X Y : Type 0} (f g : X → Y) (h : X → X) → ((x : X) → f (h x) ≡ g x) → (xs : List X) → map f (map h xs) ≡ map g xs
 map_over f g h same [] = refl
@@ -22,13 +22,13 @@ map_over f g h same (x ∷ xs) = rw (same x, map_over f g h same xs) refl
 -- ---- expressions
 
 run_held : (step : Operator → List Value → Option (List Value)) → ((op : Operator) → step (with_any_null op) ≡ step op)
-    → (e : Expression) (stack : List Value) → run step (held e) stack ≡ run step e stack
+    → (e : Expression) (stack : List Value) → run step (erase_null_type e) stack ≡ run step e stack
 run_held step same [] stack = refl
 run_held step same (op ∷ ops) stack =
-    ap (λ (f : List Value → Option (List Value)). option_and_then (run step (held ops)) (f stack)) (same op)
+    ap (λ (f : List Value → Option (List Value)). option_and_then (run step (erase_null_type ops)) (f stack)) (same op)
     ∙ over (λ s. run_held step same ops s) (step op stack) where
-      over : ((s : List Value) → run step (held ops) s ≡ run step ops s) → (o : Option (List Value))
-          → option_and_then (run step (held ops)) o ≡ option_and_then (run step ops) o
+      over : ((s : List Value) → run step (erase_null_type ops) s ≡ run step ops s) → (o : Option (List Value))
+          → option_and_then (run step (erase_null_type ops)) o ≡ option_and_then (run step ops) o
       over more None = refl
       over more (Some s) = more s
 
@@ -36,39 +36,39 @@ plain_held : (op : Operator) → plain_step (with_any_null op) ≡ plain_step op
 plain_held (op.RefNull heap) = refl
 plain_held _ = refl
 
-pub const_held : (e : Expression) → const_value (held e) ≡ const_value e
-const_held e = ap (option_and_then only_value) (run_held plain_step plain_held e [])
+pub const_erased : (e : Expression) → const_value (erase_null_type e) ≡ const_value e
+const_erased e = ap (option_and_then only_value) (run_held plain_step plain_held e [])
 
 module _ (globals : List Value) (fields : ℕ → ℕ) where
   action_held : (op : Operator) → action globals fields (with_any_null op) ≡ action globals fields op
   action_held (op.RefNull heap) = refl
   action_held _ = refl
 
-  eval_held : (e : Expression) → eval globals fields (held e) ≡ eval globals fields e
+  eval_held : (e : Expression) → eval globals fields (erase_null_type e) ≡ eval globals fields e
   eval_held e = ap (option_and_then only_value) (run_held (λ op. acted (action globals fields op)) (λ op. ap acted (action_held op)) e [])
 
-  pub cell_held : (e : Expression) → cell_of globals fields (held e) ≡ cell_of globals fields e
+  pub cell_held : (e : Expression) → cell_of globals fields (erase_null_type e) ≡ cell_of globals fields e
   cell_held e = ap value_or_null (eval_held e)
 
-  offset_held : (e : Expression) → offset_over globals fields (held e) ≡ offset_over globals fields e
+  offset_held : (e : Expression) → offset_over globals fields (erase_null_type e) ≡ offset_over globals fields e
   offset_held e = ap number_or_zero (eval_held e)
 
   -- ---- element segments and tables
 
-  items_held : (items : ElementItems) → item_cells globals fields (held_items items) ≡ item_cells globals fields items
+  items_held : (items : ElementItems) → item_cells globals fields (erased_items items) ≡ item_cells globals fields items
   items_held (Functions indices) = refl
-  items_held (Expressions type items) = map_over (cell_of globals fields) (cell_of globals fields) held cell_held items
+  items_held (Expressions type items) = map_over (cell_of globals fields) (cell_of globals fields) erase_null_type cell_held items
 
-  piece_held : (s : ActiveElements) → elements_piece globals fields (held_elements s) ≡ elements_piece globals fields s
+  piece_held : (s : ActiveElements) → elements_piece globals fields (erased_elements s) ≡ elements_piece globals fields s
   piece_held s = rw (offset_held s.offset, items_held s.items) refl
 
-  initial_held : (o : Option Expression) → initial_cell globals fields (option_map held o) ≡ initial_cell globals fields o
+  initial_held : (o : Option Expression) → initial_cell globals fields (option_map erase_null_type o) ≡ initial_cell globals fields o
   initial_held None = refl
   initial_held (Some e) = cell_held e
 
-  first_held : (tables : List DefinedTable) (i : ℕ) → first_cell globals fields (slice_get (map held_table tables) i) ≡ first_cell globals fields (slice_get tables i)
-  first_held tables i = ap (first_cell globals fields) (slice_get-map held_table tables i) ∙ over (slice_get tables i) where
-    over : (o : Option DefinedTable) → first_cell globals fields (option_map held_table o) ≡ first_cell globals fields o
+  first_held : (tables : List DefinedTable) (i : ℕ) → first_cell globals fields (slice_get (map erased_table tables) i) ≡ first_cell globals fields (slice_get tables i)
+  first_held tables i = ap (first_cell globals fields) (slice_get-map erased_table tables i) ∙ over (slice_get tables i) where
+    over : (o : Option DefinedTable) → first_cell globals fields (option_map erased_table o) ≡ first_cell globals fields o
     over None = refl
     over (Some t) = initial_held t.initial
 
@@ -82,11 +82,11 @@ same_phase one two other sizes pieces base h = record {
 }
 
 pub tables_held : (imports : ℕ) (tables : List DefinedTable) (active : List ActiveElements) (plan : TablePlan)
-    → AgreesOnTables imports (map held_table tables) (map held_elements active) plan → AgreesOnTables imports tables active plan
+    → AgreesOnTables imports (map erased_table tables) (map erased_elements active) plan → AgreesOnTables imports tables active plan
 tables_held imports tables active plan h = λ globals fields imported is.
-    same_phase (elements_phase globals fields imported (map held_table tables) (map held_elements active)) (elements_phase globals fields imported tables active) _
-    (ap (table_sizes imported) (map_over (λ (t : DefinedTable). t.minimum) (λ (t : DefinedTable). t.minimum) held_table (λ t. refl) tables))
-    (map_over (elements_piece globals fields) (elements_piece globals fields) held_elements (piece_held globals fields) active)
+    same_phase (elements_phase globals fields imported (map erased_table tables) (map erased_elements active)) (elements_phase globals fields imported tables active) _
+    (ap (table_sizes imported) (map_over (λ (t : DefinedTable). t.minimum) (λ (t : DefinedTable). t.minimum) erased_table (λ t. refl) tables))
+    (map_over (elements_piece globals fields) (elements_piece globals fields) erased_elements (piece_held globals fields) active)
     (λ object place. ap (λ (v : Value). if nat_lt object (length imported) then value_or_null (slice_get (unwrap_or (slice_get imported object) []) place) else v)
     (first_held globals fields tables (object - length imported)))
     (h globals fields imported is)
@@ -97,15 +97,15 @@ reads_held : (n : ℕ) (op : Operator) → ReadsBelow n op → ReadsBelow n (wit
 reads_held n (op.RefNull heap) h = h
 reads_held n _ h = h
 
-pub earlier_held : (n : ℕ) (es : List Expression) → ReadEarlier n es → ReadEarlier n (map held es)
+pub earlier_held : (n : ℕ) (es : List Expression) → ReadEarlier n es → ReadEarlier n (map erase_null_type es)
 earlier_held n [] h = tt
 earlier_held n (e ∷ es) h =
     (All-map (ReadsBelow n) with_any_null e (All-weaker (ReadsBelow n) (λ (op : Operator). ReadsBelow n (with_any_null op)) (reads_held n) e h.0), earlier_held (n + 1) es h.1)
 
-values_held : (fields : ℕ → ℕ) (known : List Value) (es : List Expression) → values_after fields known (map held es) ≡ values_after fields known es
+values_held : (fields : ℕ → ℕ) (known : List Value) (es : List Expression) → values_after fields known (map erase_null_type es) ≡ values_after fields known es
 values_held fields known [] = refl
 values_held fields known (e ∷ es) =
-    ap (λ (v : Value). values_after fields (known ++ v ∷ []) (map held es)) (cell_held known fields e) ∙ values_held fields (known ++ cell_of known fields e ∷ []) es
+    ap (λ (v : Value). values_after fields (known ++ v ∷ []) (map erase_null_type es)) (cell_held known fields e) ∙ values_held fields (known ++ cell_of known fields e ∷ []) es
 
-pub globals_held : (imports : ℕ) (es : List Expression) (plan : GlobalPlan) → AgreesOnGlobals imports (map held es) plan → AgreesOnGlobals imports es plan
+pub globals_held : (imports : ℕ) (es : List Expression) (plan : GlobalPlan) → AgreesOnGlobals imports (map erase_null_type es) plan → AgreesOnGlobals imports es plan
 globals_held imports es plan h = λ fields imported is. h fields imported is ∙ values_held fields imported es

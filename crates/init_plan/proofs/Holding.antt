@@ -30,7 +30,7 @@ use Rattle.init_plan.specs.declared.translation.ModuleTranslation.{ModuleTransla
 use Rattle.init_plan.specs.Views.{initializers_of, defined_sizes}
 use Rattle.init_plan.specs.Images.{image_memory, image_memories, is_wide}
 use Rattle.init_plan.specs.Tables.{tables_of, elements_of}
-use Rattle.init_plan.specs.Held.{held, held_elements, held_table, initialisers, plan_of_globals, HoldsMemories, HoldsTables, HoldsGlobals}
+use Rattle.init_plan.specs.Held.{erase_null_type, erased_elements, erased_table, initialisers, plan_of_globals, HoldsMemories, HoldsTables, HoldsGlobals}
 use Rattle.init_plan.specs.Agreement.{AgreesOnElements}
 use Rattle.init_plan.proofs.Held.{tables_held, globals_held, earlier_held}
 
@@ -112,7 +112,7 @@ module _ (l : Lists) (visible : List GlobalType) where
   last (x ∷ xs) y h = last xs y (All-tail IsNumber x (xs ++ y ∷ []) h)
 
   -- from numbers back to numbers, an expression is held whole
-  leads_whole : (e : Expression) (before after : List Class) → Leads l visible e before after → All IsNumber after → (held e ≡ e) × All IsNumber before
+  leads_whole : (e : Expression) (before after : List Class) → Leads l visible e before after → All IsNumber after → (erase_null_type e ≡ e) × All IsNumber before
   leads_whole [] before after h numbers = (refl, subst (All IsNumber) (sym h) numbers)
   leads_whole (o ∷ e) before after h numbers =
       let behind = leads_whole e h.0 after h.2 numbers in
@@ -120,10 +120,10 @@ module _ (l : Lists) (visible : List GlobalType) where
       let between : All IsNumber (step.rest ++ step.signed.pushes ∷ []) = subst (All IsNumber) step.has_pushed behind.1 in
       let here = whole_by o step.signed step.is_signed (last step.rest step.signed.pushes between) in
       let taken : All IsNumber before = subst (All IsNumber) (sym step.has_taken) (All-append IsNumber step.rest step.signed.takes (front step.rest _ between) here.1) in
-      (ap (λ (x : Operator). x ∷ held e) here.0 ∙ ap (λ (es : Expression). o ∷ es) behind.0, taken)
+      (ap (λ (x : Operator). x ∷ erase_null_type e) here.0 ∙ ap (λ (es : Expression). o ∷ es) behind.0, taken)
 
-  pub held_whole : (e : Expression) (c : Class) → IsNumber c → HasClass l visible e c → held e ≡ e
-  held_whole e c number typed = (leads_whole e [] (c ∷ []) typed (All-cons IsNumber c [] number (All-nil IsNumber))).0
+  pub erased_whole : (e : Expression) (c : Class) → IsNumber c → HasClass l visible e c → erase_null_type e ≡ e
+  erased_whole e c number typed = (leads_whole e [] (c ∷ []) typed (All-cons IsNumber c [] number (All-nil IsNumber))).0
 
 -- ---- memories
 
@@ -170,8 +170,8 @@ pub elements_agree : (m : Module) (t : ModuleTranslation) (plan : TablePlan) →
 elements_agree m t plan holds h =
     let l : Lists = lists_of_module m in
     tables_held _ (defined_tables l) (active_elements l.elements) plan
-    (subst (λ (n : ℕ). AgreesOnTables n (map held_table (defined_tables l)) (map held_elements (active_elements l.elements)) plan) holds.imports
-    (subst (λ (ts : List DefinedTable). AgreesOnTables t.module.num_imported_tables ts (map held_elements (active_elements l.elements)) plan) holds.tables
+    (subst (λ (n : ℕ). AgreesOnTables n (map erased_table (defined_tables l)) (map erased_elements (active_elements l.elements)) plan) holds.imports
+    (subst (λ (ts : List DefinedTable). AgreesOnTables t.module.num_imported_tables ts (map erased_elements (active_elements l.elements)) plan) holds.tables
     (subst (λ (ss : List ActiveElements). AgreesOnTables t.module.num_imported_tables (tables_of t) ss plan) holds.active h)))
 
 pub globals_agree : (m : Module) (t : ModuleTranslation) → HoldsGlobals m t → (let l = lists_of_module m in AreGlobalsTyped l l.imported_globals l.globals)
@@ -179,5 +179,5 @@ pub globals_agree : (m : Module) (t : ModuleTranslation) → HoldsGlobals m t �
 globals_agree m t holds typed =
     let l : Lists = lists_of_module m in
     globals_held l.imported_globals (initialisers l) (plan_of_globals t)
-    (globals-agree l.imported_globals (map held (initialisers l)) (plan_of_globals t)
+    (globals-agree l.imported_globals (map erase_null_type (initialisers l)) (plan_of_globals t)
     (earlier_held l.imported_globals (initialisers l) (reads-earlier l l.imported_globals l.globals typed)) holds)

@@ -3,7 +3,7 @@ pub mod Totals
 pub mod Unplanned
 pub mod TablesKept
 pub mod Plain
-pub mod ImagesSeen
+pub mod ViewedImages
 pub mod Planning
 pub mod ImagesOff
 pub mod MemoriesKept

@@ -4,7 +4,7 @@ use Rattle.std.specs.Prelude.{IfNone, IfSome}
 use Rattle.std.specs.Global.{Vec}
 use Rattle.std.proofs.lemmas.List.{length-map}
 use Rattle.memory_images.specs.declared.image.Image.{Image}
-use Rattle.memory_images.specs.Images.{images_of as images_seen}
+use Rattle.memory_images.specs.Images.{images_of as view_images}
 use Rattle.wasm_types.specs.declared.memory.Memory.{Memory}
 use Rattle.wasm_types.specs.Memories.{minimum_bytes}
 use Rattle.wasm_module.specs.declared.module.Module.{Module}
@@ -18,12 +18,12 @@ use Rattle.std.specs.Int.{IsPowerOfTwo}
 use Rattle.replay_spec.proofs.Joined.{agrees}
 use Rattle.init_plan.proofs.Unplanned.{images_of-segmented}
 
-pub sizes_seen : (memories : List Memory) → map minimum_bytes memories ≡ map size_of (map image_memory memories)
-sizes_seen [] = refl
-sizes_seen (m ∷ ms) = ap (λ ns. minimum_bytes m ∷ ns) (sizes_seen ms)
+pub view_sizes : (memories : List Memory) → map minimum_bytes memories ≡ map size_of (map image_memory memories)
+view_sizes [] = refl
+view_sizes (m ∷ ms) = ap (λ ns. minimum_bytes m ∷ ns) (view_sizes ms)
 
-pub count_seen : (m : Module) → m.num_imported_memories ≤ length m.memories → m.num_imported_memories + length (image_memories m) ≡ length m.memories
-count_seen m low =
+pub view_count : (m : Module) → m.num_imported_memories ≤ length m.memories → m.num_imported_memories + length (image_memories m) ≡ length m.memories
+view_count m low =
     let a = length-map (drop m.num_imported_memories m.memories) image_memory in
     let b = length-drop m.num_imported_memories m.memories in
     omega (arith, a, b)
@@ -41,21 +41,21 @@ module _ (options : ImageOptions) (passive runtime : List (List ℕ)) (found : �
     (empty : taken.runtime_data ≡ []) (segmented : IsSegmented taken.module.memory_initialization)
     (low : taken.module.num_imported_memories ≤ length taken.module.memories) (is_runtime : runtime ≡ map bytes_of mid.runtime_data ++ passive) where
   as_images : (images : Vec (Option Image)) → IsStatic options taken.module.num_imported_memories (image_memories taken.module) active
-      → AreImages options.page (length taken.module.memories) active (images_seen images.items) → BeginsAsImages options.page (images_seen images.items) taken mid
+      → AreImages options.page (length taken.module.memories) active (view_images images.items) → BeginsAsImages options.page (view_images images.items) taken mid
       → IsMemoryPlan options taken.module.num_imported_memories (image_memories taken.module) active passive (plan_of mid runtime found)
   as_images images static are h =
       let none : length taken.runtime_data ≡ 0 = ap length empty in
       let none_before : map bytes_of taken.runtime_data ≡ [] = ap (map bytes_of) empty in
-      let in_map : images_of mid.module.memory_initialization ≡ image_map 0 (images_seen images.items) = h.in_map ∙ ap (λ (n : ℕ). image_map n (images_seen images.items)) none in
+      let in_map : images_of mid.module.memory_initialization ≡ image_map 0 (view_images images.items) = h.in_map ∙ ap (λ (n : ℕ). image_map n (view_images images.items)) none in
       record {
-        sizes = ap (λ (t : ModuleTranslation). defined_sizes t.module) h.same ∙ sizes_seen (drop taken.module.num_imported_memories taken.module.memories);
+        sizes = ap (λ (t : ModuleTranslation). defined_sizes t.module) h.same ∙ view_sizes (drop taken.module.num_imported_memories taken.module.memories);
         segments = inl (record {
           static = static;
-          images = images_seen images.items;
-          are_images = subst (λ (n : ℕ). AreImages options.page n active (images_seen images.items)) (sym (count_seen taken.module low)) are;
+          images = view_images images.items;
+          are_images = subst (λ (n : ℕ). AreImages options.page n active (view_images images.items)) (sym (view_count taken.module low)) are;
           in_map = in_map;
-          in_list = h.in_list ∙ ap (λ (n : ℕ). entries_of 0 (image_map n (images_seen images.items))) none ∙ ap (entries_of 0) (sym in_map);
-          runtime = is_runtime ∙ ap (λ bs. bs ++ passive) (h.runtime ∙ ap (λ bs. bs ++ image_bytes (images_seen images.items)) none_before);
+          in_list = h.in_list ∙ ap (λ (n : ℕ). entries_of 0 (image_map n (view_images images.items))) none ∙ ap (entries_of 0) (sym in_map);
+          runtime = is_runtime ∙ ap (λ bs. bs ++ passive) (h.runtime ∙ ap (λ bs. bs ++ image_bytes (view_images images.items)) none_before);
         });
       }
 
@@ -65,7 +65,7 @@ module _ (options : ImageOptions) (passive runtime : List (List ℕ)) (found : �
       let none : length taken.runtime_data ≡ 0 = ap length empty in
       let none_before : map bytes_of taken.runtime_data ≡ [] = ap (map bytes_of) empty in
       record {
-        sizes = ap (λ (t : ModuleTranslation). defined_sizes t.module) h.same ∙ sizes_seen (drop taken.module.num_imported_memories taken.module.memories);
+        sizes = ap (λ (t : ModuleTranslation). defined_sizes t.module) h.same ∙ view_sizes (drop taken.module.num_imported_memories taken.module.memories);
         segments = inr (record {
           not_static = refused;
           in_map = ap (λ (t : ModuleTranslation). images_of t.module.memory_initialization) h.same ∙ images_of-segmented taken.module.memory_initialization segmented;
@@ -77,7 +77,7 @@ module _ (options : ImageOptions) (passive runtime : List (List ℕ)) (found : �
   pub planned : (images : Option (Vec (Option Image)))
       → IfNone images (IsStatic options taken.module.num_imported_memories (image_memories taken.module) active → ⊥)
       → IfSome images (λ _. IsStatic options taken.module.num_imported_memories (image_memories taken.module) active)
-      → IfSome images (λ v. AreImages options.page (length taken.module.memories) active (images_seen v.items))
+      → IfSome images (λ v. AreImages options.page (length taken.module.memories) active (view_images v.items))
       → Begins options.page images active taken mid
       → IsMemoryPlan options taken.module.num_imported_memories (image_memories taken.module) active passive (plan_of mid runtime found)
   planned None none holds are h = as_segments none h
@@ -85,13 +85,13 @@ module _ (options : ImageOptions) (passive runtime : List (List ℕ)) (found : �
 
 -- the passive segments stand
 pub same_passive : (page_size : ℕ) (images : Option (Vec (Option Image))) (active : List ActiveSegment) (taken mid : ModuleTranslation)
-    → Begins page_size images active taken mid → mid.hidden.passive_data ≡ taken.hidden.passive_data
-same_passive page_size None active taken mid h = ap (λ (t : ModuleTranslation). t.hidden.passive_data) h.same
-same_passive page_size (Some images) active taken mid h = ap (λ (t : ModuleTranslation). t.hidden.passive_data) h.same
+    → Begins page_size images active taken mid → mid.private_parts.passive_data ≡ taken.private_parts.passive_data
+same_passive page_size None active taken mid h = ap (λ (t : ModuleTranslation). t.private_parts.passive_data) h.same
+same_passive page_size (Some images) active taken mid h = ap (λ (t : ModuleTranslation). t.private_parts.passive_data) h.same
 
 -- the plan leaves what the segments leave
 pub agrees_sized : (options : ImageOptions) (m : Module) (active : List ActiveSegment) (passive : List (List ℕ)) (plan : MemoryPlan) → IsPowerOfTwo options.page
     → IsMemoryPlan options m.num_imported_memories (image_memories m) active passive plan → AgreesOver m.num_imported_memories (defined_sizes m) active plan
 agrees_sized options m active passive plan page h =
-    subst (λ (ns : List ℕ). AgreesOver m.num_imported_memories ns active plan) (sym (sizes_seen (drop m.num_imported_memories m.memories)))
+    subst (λ (ns : List ℕ). AgreesOver m.num_imported_memories ns active plan) (sym (view_sizes (drop m.num_imported_memories m.memories)))
     (agrees options m.num_imported_memories (image_memories m) active passive plan page h)

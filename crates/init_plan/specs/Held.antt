@@ -22,19 +22,19 @@ use Rattle.init_plan.specs.Views.{initializers_of}
 use Rattle.init_plan.specs.Tables.{tables_of, elements_of}
 
 -- an expression as a translation holds it: the heap type of a null reference is lost
-abbrev pub held : Expression → Expression
-held e = map with_any_null e
+abbrev pub erase_null_type : Expression → Expression
+erase_null_type e = map with_any_null e
 
 -- of the items' type only that they are references is held
-abbrev pub held_items : ElementItems → ElementItems
-held_items (Functions indices) = Functions indices
-held_items (Expressions type items) = Expressions (record { nullable = type.nullable; heap = Abstract Any }) (map held items)
+abbrev pub erased_items : ElementItems → ElementItems
+erased_items (Functions indices) = Functions indices
+erased_items (Expressions type items) = Expressions (record { nullable = type.nullable; heap = Abstract Any }) (map erase_null_type items)
 
-abbrev pub held_elements : ActiveElements → ActiveElements
-held_elements s = record { table = s.table; offset = held s.offset; items = held_items s.items }
+abbrev pub erased_elements : ActiveElements → ActiveElements
+erased_elements s = record { table = s.table; offset = erase_null_type s.offset; items = erased_items s.items }
 
-abbrev pub held_table : DefinedTable → DefinedTable
-held_table t = record { minimum = t.minimum; functions = t.functions; initial = option_map held t.initial }
+abbrev pub erased_table : DefinedTable → DefinedTable
+erased_table t = record { minimum = t.minimum; functions = t.functions; initial = option_map erase_null_type t.initial }
 
 -- the active data segments and the memories are those of the module
 pub record HoldsMemories (m : Module) (t : ModuleTranslation) : Type 0 where
@@ -45,8 +45,8 @@ pub record HoldsMemories (m : Module) (t : ModuleTranslation) : Type 0 where
 -- the active element segments and the defined tables are those of the module
 pub record HoldsTables (m : Module) (t : ModuleTranslation) : Type 0 where
   pub imports : t.module.num_imported_tables ≡ length (imported_of table_import m)
-  pub tables : tables_of t ≡ map held_table (defined_tables (lists_of_module m))
-  pub active : elements_of t ≡ map held_elements (active_elements (lists_of_module m).elements)
+  pub tables : tables_of t ≡ map erased_table (defined_tables (lists_of_module m))
+  pub active : elements_of t ≡ map erased_elements (active_elements (lists_of_module m).elements)
 
 abbrev pub simple_global_of : Index DefinedGlobalSpace × GlobalConstValue → ℕ × Value
 simple_global_of g = (number_of g.0, plain_value_of g.1)
@@ -68,4 +68,4 @@ initialisers l = map (λ g. g.init) l.globals
 
 -- constant first values stand in the record, and the other initialisers are kept
 abbrev pub HoldsGlobals : Module → ModuleTranslation → Type 0
-HoldsGlobals m t = IsGlobalPlan (map held (initialisers (lists_of_module m))) (plan_of_globals t)
+HoldsGlobals m t = IsGlobalPlan (map erase_null_type (initialisers (lists_of_module m))) (plan_of_globals t)

@@ -2,7 +2,7 @@
 use Rattle.std.specs.Prelude.{◌≡◌, ◌++◌, ◌+◌, ◌%◌, IsSomeAnd, Bool, false, true, ℕ, List, length, map, drop, slice_get, Option, None, Some}
 use Rattle.std.specs.Global.{Vec}
 use Rattle.memory_images.specs.declared.image.Image.{Image}
-use Rattle.memory_images.specs.Images.{images_of as images_seen}
+use Rattle.memory_images.specs.Images.{images_of as view_images}
 use Rattle.wasm_types.specs.declared.limits.IndexType.{IndexType}
 use Rattle.wasm_types.specs.declared.limits.IndexType.TheVariants as index
 use Rattle.wasm_types.specs.declared.memory.Memory.{Memory}
@@ -75,4 +75,4 @@ pub record KeepsSegments (active : List ActiveSegment) (old new : ModuleTranslat
 -- one of these, by whether there are images
 abbrev pub Begins : ℕ → Option (Vec (Option Image)) → List ActiveSegment → ModuleTranslation → ModuleTranslation → Type 0
 Begins page_size None active old new = KeepsSegments active old new
-Begins page_size (Some images) active old new = BeginsAsImages page_size (images_seen images.items) old new
+Begins page_size (Some images) active old new = BeginsAsImages page_size (view_images images.items) old new

@@ -58,19 +58,19 @@ passive_segment_of p = (number_of p.0, p.1.now)
 
 -- the passive data segments, in order
 abbrev pub passive_data_of : ModuleTranslation → List (ℕ × List ℕ)
-passive_data_of t = map passive_segment_of t.hidden.passive_data.items
+passive_data_of t = map passive_segment_of t.private_parts.passive_data.items
 
 -- the types by ids, where they are set
 abbrev pub types_of : ModuleTranslation → Option TypesData
-types_of t = t.hidden.types
+types_of t = t.private_parts.types
 
 -- the hints of each function that has an entry, by its index
 abbrev pub hint_entries_of : ModuleTranslation → List (ℕ × List BranchHint)
-hint_entries_of t = map (λ e. (number_of e.0, e.1.items)) t.hidden.branch_hints.entries
+hint_entries_of t = map (λ e. (number_of e.0, e.1.items)) t.private_parts.branch_hints.entries
 
 -- the hints of a function
 abbrev pub hints_of : ModuleTranslation → ℕ → Option (List BranchHint)
-hints_of t function = option_map (λ hints. hints.items) (lookup (λ index. nat_eq function (number_of index)) t.hidden.branch_hints.entries)
+hints_of t function = option_map (λ hints. hints.items) (lookup (λ index. nat_eq function (number_of index)) t.private_parts.branch_hints.entries)
 
 abbrev pub active_bytes : ModuleTranslation → List (List ℕ)
 active_bytes t = map (λ s. s.bytes) (initializers_of t)
@@ -180,15 +180,15 @@ OnlyMemoryInitChanges old new = new ≡ record old {
 
 -- all but the passive data
 abbrev pub SameButPassive : ModuleTranslation → ModuleTranslation → Type 0
-SameButPassive old new = new ≡ record old { hidden = record old.hidden { passive_data = new.hidden.passive_data } }
+SameButPassive old new = new ≡ record old { private_parts = record old.private_parts { passive_data = new.private_parts.passive_data } }
 
 -- all but the types by ids
 abbrev pub SameButTypes : ModuleTranslation → ModuleTranslation → Type 0
-SameButTypes old new = new ≡ record old { hidden = record old.hidden { types = new.hidden.types } }
+SameButTypes old new = new ≡ record old { private_parts = record old.private_parts { types = new.private_parts.types } }
 
 -- all but the hints
 abbrev pub SameButHints : ModuleTranslation → ModuleTranslation → Type 0
-SameButHints old new = new ≡ record old { hidden = record old.hidden { branch_hints = new.hidden.branch_hints } }
+SameButHints old new = new ≡ record old { private_parts = record old.private_parts { branch_hints = new.private_parts.branch_hints } }
 
 -- all but the active data segments
 abbrev pub SameButSegments : ModuleTranslation → ModuleTranslation → Type 0

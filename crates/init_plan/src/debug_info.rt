@@ -49,7 +49,7 @@ pub struct BranchHint {
     pub taken: bool,
 }
 
-// One call in place of a walk over the parts, wherever a translation is let go.
+// One call in place of a walk over the parts, wherever a translation is dropped.
 impl Drop for DebugInfoData<'_> {
     fn drop(self) {
         let DebugInfoData {

@@ -4,7 +4,7 @@ ghost use Rattle.std.specs.Prelude.{◌≡◌, ◌+◌, ◌<◌, ◌≤◌, ◌+
 ghost use Rattle.std.specs.Option.{option_map};
 ghost use Rattle.wasm_index.specs.Index.{number_of};
 ghost use Rattle.replay_spec.specs.Images.{image_map, entries_of, image_bytes};
-ghost use Rattle.memory_images.specs.Images.{images_of as images_seen};
+ghost use Rattle.memory_images.specs.Images.{images_of as view_images};
 ghost use Rattle.init_plan.specs.Views.{bytes_of, planned_segment_of};
 
 use crate::translation::{MemorySegmentOffset, RuntimeBytes};
@@ -28,11 +28,11 @@ pub(crate) fn keep_images(
 ) -> Result<KeptImages, OutOfMemory>
     requires { length runtime_data.old + length images.items < u32.MAX }
     ensures in_map { IfOk result (λ kept. map (option_map (λ image. (image.0, number_of image.1))) kept.by_memory
-        ≡ image_map (length runtime_data.old) (images_seen images.items)) }
+        ≡ image_map (length runtime_data.old) (view_images images.items)) }
     ensures in_list { IfOk result (λ kept. map planned_segment_of kept.listed.items
-        ≡ entries_of 0 (image_map (length runtime_data.old) (images_seen images.items))) }
+        ≡ entries_of 0 (image_map (length runtime_data.old) (view_images images.items))) }
     ensures few { OnOk result (length runtime_data.new ≤ length runtime_data.old + length images.items) }
-    ensures runtime { OnOk result (map bytes_of runtime_data.new ≡ map bytes_of runtime_data.old ++ image_bytes (images_seen images.items)) }
+    ensures runtime { OnOk result (map bytes_of runtime_data.new ≡ map bytes_of runtime_data.old ++ image_bytes (view_images images.items)) }
 {
     let mut by_memory = PrimaryMap::new(alloc);
     let mut listed = Vec::new(alloc);

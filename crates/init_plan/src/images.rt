@@ -7,7 +7,7 @@ ghost use Rattle.replay_spec.specs.Values.{const_value};
 ghost use Rattle.replay_spec.specs.Images.{index_of_constant, IsStatic, AreImages, MemoryImage, image_bytes};
 ghost use Rattle.wasm_convert.specs.Constants.{expression_of};
 ghost use Rattle.memory_images.specs.Views.{expression_of_constant, active_of, memory_of, memories_of, options_of, IsAlike};
-ghost use Rattle.memory_images.specs.Images.{images_of as images_seen};
+ghost use Rattle.memory_images.specs.Images.{images_of as view_images};
 ghost use Rattle.init_plan.specs.Views.{active_segment_of};
 ghost use Rattle.init_plan.specs.Images.{image_memory, image_memories};
 
@@ -104,8 +104,8 @@ pub(crate) fn memory_images_of(
     ensures holds { IfOk result (λ o. IfSome o (λ _.
         IsStatic (options_of settings) translated.now.num_imported_memories (image_memories translated.now) (map active_segment_of segments.now))) }
     ensures images { IfOk result (λ o. IfSome o (λ images.
-        AreImages settings.page_size (length translated.now.memories) (map active_segment_of segments.now) (images_seen images.items))) }
-    ensures fits { IfOk result (λ o. IfSome o (λ images. beside + sum_by length (image_bytes (images_seen images.items)) < 2 ^ 32)) }
+        AreImages settings.page_size (length translated.now.memories) (map active_segment_of segments.now) (view_images images.items))) }
+    ensures fits { IfOk result (λ o. IfSome o (λ images. beside + sum_by length (image_bytes (view_images images.items)) < 2 ^ 32)) }
     ensures too_large { result ≡ Err PlanError.TooLarge → (images : List (Option MemoryImage))
         → AreImages settings.page_size (length translated.now.memories) (map active_segment_of segments.now) images
         → 2 ^ 32 ≤ beside + sum_by length (image_bytes images) }

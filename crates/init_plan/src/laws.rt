@@ -17,13 +17,13 @@ ghost use Rattle.init_plan.specs.declared.translation.ModuleTranslation.{ModuleT
 ghost use Rattle.init_plan.specs.Views.{initializers_of, defined_sizes};
 ghost use Rattle.init_plan.specs.Images.{image_memories};
 ghost use Rattle.init_plan.specs.Tables.{tables_of, elements_of};
-ghost use Rattle.init_plan.specs.Held.{held, initialisers, plan_of_globals, HoldsMemories, HoldsTables, HoldsGlobals};
+ghost use Rattle.init_plan.specs.Held.{erase_null_type, initialisers, plan_of_globals, HoldsMemories, HoldsTables, HoldsGlobals};
 ghost use Rattle.init_plan.specs.Agreement.{AgreesOnElements, AgreesInAll};
 
-/// An expression that is held has the constant value of the expression, and an expression of a number is held whole.
-pub fn held_expression_laws()
-    ensures constant { (e : Expression) → const_value (held e) ≡ const_value e }
-    ensures whole { (l : Lists) (visible : List GlobalType) (e : Expression) (c : Class) → c ≢ class.Ref → HasClass l visible e c → held e ≡ e }
+/// An expression whose null type is erased has the constant value of the expression, and an expression of a number is held whole.
+pub fn erased_expression_laws()
+    ensures constant { (e : Expression) → const_value (erase_null_type e) ≡ const_value e }
+    ensures whole { (l : Lists) (visible : List GlobalType) (e : Expression) (c : Class) → c ≢ class.Ref → HasClass l visible e c → erase_null_type e ≡ e }
 {}
 
 /// Where a translation holds a module's lists, a plan that agrees with the translation agrees with the module.

@@ -3,12 +3,12 @@
 
 mod debug_info;
 mod error;
-mod hidden;
 mod image_data;
 mod images;
 mod laws;
 mod memory_init;
 mod memory_startup;
+mod private_parts;
 mod runtime_data;
 mod startup;
 mod table_init;
@@ -16,7 +16,7 @@ mod translation;
 
 pub use debug_info::{BranchHint, DebugInfoData, FunctionMetadata, NameSection, WasmFileInfo};
 pub use error::PlanError;
-pub use laws::{agreement_law, held_agreement_laws, held_expression_laws};
+pub use laws::{agreement_law, erased_expression_laws, held_agreement_laws};
 pub use memory_images::{Written, written_ranges};
 pub use translation::{
     FunctionBodyData, MemoryInit, MemorySegmentOffset, ModuleTranslation, RuntimeBytes,

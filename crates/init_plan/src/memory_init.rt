@@ -4,7 +4,7 @@ ghost use Rattle.std.specs.Prelude.{◌≡◌, ◌+◌, ◌^◌, ◌<◌, ◌≤
 ghost use Rattle.std.specs.Int.{IsPowerOfTwo};
 ghost use Rattle.replay_spec.specs.Plan.{MemoryPlan, AgreesOver, ranges_from};
 ghost use Rattle.replay_spec.specs.Images.{IsMemoryPlan};
-ghost use Rattle.memory_images.specs.Images.{images_of as images_seen};
+ghost use Rattle.memory_images.specs.Images.{images_of as view_images};
 ghost use Rattle.init_plan.specs.Views.{memory_plan_of, initializers_of, passive_data_of, defined_sizes, ranges_of, total_bytes, passive_bytes, FindsData, FindsInOrder, OnlyMemoriesChange, IsUnprocessed, IsProcessed, active_segment_of, SameButSegments};
 ghost use Rattle.init_plan.specs.Images.{image_options, image_memories, BeginsByRule, BeginsAsImages, KeepsSegments, Begins};
 ghost use Rattle.init_plan.specs.Ready.{MemoryHalfIsReady};
@@ -63,7 +63,7 @@ impl<'d> ModuleTranslation<'d> {
             → 2 ^ 32 ≤ sum_by length plan.runtime }
     {
         let segments = self.take_segments(alloc);
-        let beside = passive_length(&self.hidden.passive_data)?;
+        let beside = passive_length(&self.private_parts.passive_data)?;
         let settings = ImageSettings {
             enabled: tunables.memory_init_cow,
             page_size,
@@ -72,7 +72,7 @@ impl<'d> ModuleTranslation<'d> {
         let images = memory_images_of(alloc, settings, &self.module, &segments, beside)?;
         self.begin_memories(alloc, images, segments, page_size)?;
         keep_passive(
-            &self.hidden.passive_data,
+            &self.private_parts.passive_data,
             &mut self.runtime_data,
             &mut self.runtime_data_map,
         )?;
@@ -113,7 +113,7 @@ impl<'d> ModuleTranslation<'d> {
         page_size: u64,
     ) -> Result<(), OutOfMemory>
         requires { length self.old.runtime_data + length images.items < u32.MAX }
-        ensures begins { OnOk result (BeginsAsImages page_size (images_seen images.items) self.old self.new) }
+        ensures begins { OnOk result (BeginsAsImages page_size (view_images images.items) self.old self.new) }
         ensures few { OnOk result (length self.new.runtime_data ≤ length self.old.runtime_data + length images.items) }
     {
         let kept = keep_images(alloc, images, &mut self.runtime_data)?;
@@ -137,7 +137,7 @@ impl<'d> ModuleTranslation<'d> {
         ensures fits { OnOk result (total_bytes (map active_segment_of segments.entry.items) (passive_data_of self.old) < 2 ^ 32) }
         ensures too_large { result ≡ Err PlanError.TooLarge → 2 ^ 32 ≤ total_bytes (map active_segment_of segments.entry.items) (passive_data_of self.old) }
     {
-        check_total(&segments, &self.hidden.passive_data)?;
+        check_total(&segments, &self.private_parts.passive_data)?;
         let kept = keep_active(alloc, segments, &mut self.runtime_data)?;
         self.memory_init = MemoryInit::Processed(kept);
         Ok(())

@@ -6,7 +6,7 @@ ghost use Rattle.wasm_index.specs.Index.{number_of};
 ghost use Rattle.init_plan.specs.Views.{bytes_of, passive_data_of, types_of, hints_of, hint_entries_of, IsNewTranslation, SameButPassive, SameButTypes, SameButHints};
 
 use crate::debug_info::{BranchHint, DebugInfoData};
-use crate::hidden::Hidden;
+use crate::private_parts::PrivateParts;
 use entity_map::{OutOfMemory, PrimaryMap, SecondaryMap};
 use form_data::FunctionBody;
 use form_types::Types;
@@ -53,7 +53,7 @@ pub struct ModuleTranslation<'d> {
     pub table_initialization: TableInitialization,
     /// The active data segments, before and after they are planned.
     pub memory_init: MemoryInit<'d>,
-    pub(crate) hidden: Hidden<'d>,
+    pub(crate) private_parts: PrivateParts<'d>,
 }
 
 /// A function body that is compiled later.
@@ -124,7 +124,7 @@ impl<'d> ModuleTranslation<'d> {
                 segments: Vec::new(alloc),
             },
             memory_init: MemoryInit::Unprocessed(Vec::new(alloc)),
-            hidden: Hidden::new(alloc),
+            private_parts: PrivateParts::new(alloc),
         })
     }
 
@@ -145,7 +145,7 @@ impl<'d> ModuleTranslation<'d> {
         ensures err { OnErr result (passive_data_of self.new ≡ passive_data_of self.old) }
         ensures same { SameButPassive self.old self.new }
     {
-        self.hidden.passive_data.push((index, bytes))?;
+        self.private_parts.passive_data.push((index, bytes))?;
         Ok(())
     }
 
@@ -154,7 +154,7 @@ impl<'d> ModuleTranslation<'d> {
         requires { IsSome (types_of self.now) }
         ensures { types_of self.now ≡ Some result.now }
     {
-        self.hidden.types.as_ref().unwrap()
+        self.private_parts.types.as_ref().unwrap()
     }
 
     /// Sets the types of the module.
@@ -162,14 +162,14 @@ impl<'d> ModuleTranslation<'d> {
         ensures set { types_of self.new ≡ Some types }
         ensures same { SameButTypes self.old self.new }
     {
-        self.hidden.types = Some(types);
+        self.private_parts.types = Some(types);
     }
 
     /// The hints of a function's branches, in order; none where no entry of it stands.
     pub fn branch_hints(&self, func: FuncIndex) -> Option<&[BranchHint]>
         ensures { option_map (λ hints. hints.now) result ≡ hints_of self.now (number_of func) }
     {
-        self.hidden
+        self.private_parts
             .branch_hints
             .get(&func)
             .map(|hints| hints.as_slice())
@@ -180,6 +180,6 @@ impl<'d> ModuleTranslation<'d> {
         ensures set { hint_entries_of self.new ≡ map (λ e. (number_of e.0, e.1.items)) hints.entries }
         ensures same { SameButHints self.old self.new }
     {
-        self.hidden.branch_hints = hints;
+        self.private_parts.branch_hints = hints;
     }
 }

@@ -2,10 +2,7 @@
 
 ghost use Rattle.vm_structs.specs.Fields.{IsPointerSize};
 
-use vm_structs::{
-    HostPtr, NUM_COMPONENT_CONTEXT_SLOTS, PtrSize, VM_ARRAY_CALL_HOST_FUNC_MAGIC,
-    VM_LAZY_THREAD_FORCED, VMCONTEXT_MAGIC,
-};
+use vm_structs::{HostPtr, PtrSize};
 
 fn import_offsets<P: PtrSize>(ptr: &P) -> [u8; 15]
     requires { IsPointerSize (P.pointer_size ptr.now) }
@@ -160,12 +157,4 @@ fn structs_with_pointers_of_4_bytes(rt: HostRuntime) {
     assert_eq!(rt; sizes(&4u8), [12, 12, 12, 12, 16, 8, 8, 16, 4, 16, 32]);
     assert_eq!(rt; aligns(&4u8), [4, 4, 4, 4, 4, 4, 4, 16, 4, 4, 8]);
     assert_eq!(rt; words(&4u8), [4, 4, 4, 16, 4, 4, 8, 0, 4, 8]);
-}
-
-#[test]
-fn numbers_spell_their_texts(rt: HostRuntime) {
-    assert_eq!(rt; VMCONTEXT_MAGIC.to_le_bytes(), *b"core");
-    assert_eq!(rt; VM_ARRAY_CALL_HOST_FUNC_MAGIC.to_le_bytes(), *b"ACHF");
-    assert_eq!(rt; NUM_COMPONENT_CONTEXT_SLOTS, 2);
-    assert_eq!(rt; VM_LAZY_THREAD_FORCED, 1);
 }

@@ -5,7 +5,7 @@ ghost use Rattle.std.specs.List.{AllZip};
 ghost use Rattle.memory_images.specs.Contents.{contents_of, HasRoom};
 ghost use Rattle.std.specs.Option.{option_map};
 ghost use Rattle.replay_spec.specs.Images.{ImageOf, image_bytes};
-ghost use Rattle.memory_images.specs.Images.{IsMeasured, image_of, images_of as images_seen, span_size, IsReady, IsMade, TooMuch};
+ghost use Rattle.memory_images.specs.Images.{IsMeasured, image_of, images_of as view_images, span_size, IsReady, IsMade, TooMuch};
 
 use crate::error::ImageError;
 use crate::fill::filled;
@@ -114,7 +114,7 @@ pub fn images_of(
     requires page { 0 < page }
     requires room { All (λ laid. HasRoom page laid.items) memories.now }
     ensures images { IfOk result (λ v. AllZip (λ laid image. ImageOf page (contents_of laid.items) (option_map image_of image)) memories.now v.items) }
-    ensures fits { IfOk result (λ v. beside + sum_by length (image_bytes (images_seen v.items)) < 2 ^ 32) }
+    ensures fits { IfOk result (λ v. beside + sum_by length (image_bytes (view_images v.items)) < 2 ^ 32) }
     ensures too_large { result ≡ Err ImageError.TooLarge → TooMuch page beside memories.now }
 {
     let measured = measure_all(alloc, memories, page)?;

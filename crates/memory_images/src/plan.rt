@@ -3,7 +3,7 @@
 ghost use Rattle.std.specs.Prelude.{◌≡◌, ◌+◌, ◌^◌, ◌≤◌, ◌<◌, ℕ, List, Option, All, IfOk, IfSome, IfNone, Err, length, map, sum_by};
 ghost use Rattle.std.specs.Int.{IsPowerOfTwo};
 ghost use Rattle.replay_spec.specs.Images.{IsStatic, AreImages, MemoryImage, image_bytes};
-ghost use Rattle.memory_images.specs.Images.{images_of as images_seen};
+ghost use Rattle.memory_images.specs.Images.{images_of as view_images};
 ghost use Rattle.memory_images.specs.Views.{memories_of, active_of, options_of};
 
 use crate::error::ImageError;
@@ -31,9 +31,9 @@ pub fn plan_images(
     ensures none { IfOk result (λ o. IfNone o (IsStatic (options_of settings) imported (memories_of defined.now) (map active_of segments.now) → ⊥)) }
     ensures holds { IfOk result (λ o. IfSome o (λ _. IsStatic (options_of settings) imported (memories_of defined.now) (map active_of segments.now))) }
     ensures images { IfOk result (λ o. IfSome o (λ images.
-        AreImages settings.page_size (imported + length defined.now) (map active_of segments.now) (images_seen images.items))) }
+        AreImages settings.page_size (imported + length defined.now) (map active_of segments.now) (view_images images.items))) }
     // Too large exactly where the images and the bytes beside them pass 4294967295 bytes.
-    ensures fits { IfOk result (λ o. IfSome o (λ images. beside + sum_by length (image_bytes (images_seen images.items)) < 2 ^ 32)) }
+    ensures fits { IfOk result (λ o. IfSome o (λ images. beside + sum_by length (image_bytes (view_images images.items)) < 2 ^ 32)) }
     ensures too_large { result ≡ Err ImageError.TooLarge → (images : List (Option MemoryImage))
         → AreImages settings.page_size (imported + length defined.now) (map active_of segments.now) images
         → 2 ^ 32 ≤ beside + sum_by length (image_bytes images) }

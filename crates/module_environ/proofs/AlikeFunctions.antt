@@ -1,4 +1,4 @@
--- What is told of the functions of a module, by look-ups that agree on its declared types.
+-- The metadata of the functions of a module, by look-ups that agree on its declared types.
 use Rattle.std.proofs.Common.{◌≡◌, ◌∙◌, ℕ, ◌+◌, ◌<◌, ◌≤◌, ◌⊎◌, List, [], ◌∷◌, ◌++◌, Option, Some, None, length, map, take, get_or, refl, sym, ap, subst, arith, inl, inr, append_assoc, length-append}
 use Rattle.std.specs.Prelude.{All, slice_get, unwrap_or}
 use Rattle.std.specs.List.{flat_map, enumerate_from}
@@ -26,12 +26,12 @@ use Rattle.form_lists.specs.declared.lists.Lists.{Lists}
 use Rattle.form_lists.specs.Views.{lists_of}
 use Rattle.form_lists.proofs.AllSections.{All-joined, All-parts, All-from_map, length_more_le}
 use Rattle.form_lists.proofs.DeclaredLists.{length-declared_from}
-use Rattle.wasm_types.specs.ValueViews.{Name, value_of as value_seen}
+use Rattle.wasm_types.specs.ValueViews.{Name, value_of as view_value}
 use Rattle.wasm_convert.specs.Conversion.{LookUp}
 use Rattle.wasm_convert.specs.Known.{Known}
 use Rattle.init_plan.specs.declared.debug_info.FunctionMetadata.{FunctionMetadata}
 use Rattle.module_environ.specs.Filling.{module_in, IsGathered, LooksUpTypes}
-use Rattle.module_environ.specs.Metadata.{FunctionData, params_of, params_at, function_data, function_seen}
+use Rattle.module_environ.specs.Metadata.{FunctionData, params_of, params_at, function_data, view_function}
 use Rattle.module_environ.specs.Types.{look_up_in}
 use Rattle.module_environ.proofs.Agreeing.{known-edges, value-alike}
 use Rattle.module_environ.proofs.BySection.{section-all}
@@ -185,13 +185,13 @@ module _ (lists : Lists) (gathered : IsGathered lists) where
         map_alike (λ (run : ℕ × ValType). ValueRefersIn count run.1) (run_of look) (run_of (look_up_in m))
         (λ run below i. (run.0, value-alike look (look_up_in m) count looks.same (value_of run.1) below i)) body.locals refers
 
-    -- so what is told of a function is as the definition has it
-    pub told : (n f : ℕ) (body : Body) (params : List ValType) (runs : List (ℕ × ValType)) (z : FunctionMetadata) → BodyRefersIn count body
+    -- so the metadata of a function is as the definition has it
+    pub metadata : (n f : ℕ) (body : Body) (params : List ValType) (runs : List (ℕ × ValType)) (z : FunctionMetadata) → BodyRefersIn count body
         → f ≡ lists.imported_functions + n → map value_of params ≡ params_at (lists_of lists) f → runs ≡ body.locals
-        → map value_seen z.params.items ≡ map (λ (ty : ValType). map_value look (value_of ty)) params
-        → map {B = ℕ × Value Name} (λ run. (run.0, value_seen run.1)) z.locals.items ≡ map (run_of look) runs
-        → function_seen z ≡ function_data (look_up_in m) all (n, body)
-    told n f body params runs z refers at are listed first second =
+        → map view_value z.params.items ≡ map (λ (ty : ValType). map_value look (value_of ty)) params
+        → map {B = ℕ × Value Name} (λ run. (run.0, view_value run.1)) z.locals.items ≡ map (run_of look) runs
+        → view_function z ≡ function_data (look_up_in m) all (n, body)
+    metadata n f body params runs z refers at are listed first second =
         let place : f ≡ all.imported_functions + n = at ∙ ap (λ (r : rule.Lists). r.imported_functions + n) gathered.lists in
         let ps = first ∙ params-alike f params are ∙ ap (λ (k : ℕ). map (map_value (look_up_in m)) (params_at all k)) place in
         let ls = second ∙ ap (map (run_of look)) listed ∙ locals-alike body refers in
@@ -200,18 +200,18 @@ module _ (lists : Lists) (gathered : IsGathered lists) where
 -- ---- one body more
 
 module _ {Z : Type 0} (seen : Z → FunctionData) (made : ℕ × Body → FunctionData) where
-  -- what is told of bodies, and of those that follow
-  told-append : (n : ℕ) (before more : List Body) → map made (enumerate_from n before) ++ map made (enumerate_from (n + length before) more)
+  -- the metadata of bodies, and of those that follow
+  metadata-append : (n : ℕ) (before more : List Body) → map made (enumerate_from n before) ++ map made (enumerate_from (n + length before) more)
       ≡ map made (enumerate_from n (before ++ more))
-  told-append n before more =
+  metadata-append n before more =
       sym (map-append made (enumerate_from n before) (enumerate_from (n + length before) more))
       ∙ ap (map made) (sym (enumerate_from-append n before more))
 
-  pub told_more : (start now after : List Z) (z : Z) (bodies : List FunctionBody) (k : ℕ) (b : FunctionBody)
+  pub metadata_more : (start now after : List Z) (z : Z) (bodies : List FunctionBody) (k : ℕ) (b : FunctionBody)
       → k < length bodies → b ≡ get_or bodies k b → seen z ≡ made (length start + k, body_of b) → after ≡ now ++ z ∷ []
       → map seen now ≡ map seen start ++ map made (enumerate_from (length start) (map body_of (take k bodies)))
       → map seen after ≡ map seen start ++ map made (enumerate_from (length start) (map body_of (take (k + 1) bodies)))
-  told_more start now after z bodies k b lt at is pushed before =
+  metadata_more start now after z bodies k b lt at is pushed before =
       let entries = map body_of (take k bodies) in
       let long : length entries ≡ k = length-map (take k bodies) body_of ∙ length-take-le k bodies (omega (arith, lt)) in
       let one : seen z ≡ made (length start + length entries, body_of b) = is ∙ ap (λ (j : ℕ). made (length start + j, body_of b)) (sym long) in
@@ -219,7 +219,7 @@ module _ {Z : Type 0} (seen : Z → FunctionData) (made : ℕ × Body → Functi
       ∙ (λ i. before i ++ one i ∷ [])
       ∙ append_assoc (map seen start) (map made (enumerate_from (length start) entries)) _
       ∙ ap (λ (ws : List FunctionData). map seen start ++ ws)
-      (told-append (length start) entries (body_of b ∷ [])
+      (metadata-append (length start) entries (body_of b ∷ [])
       ∙ ap (λ (bs : List Body). map made (enumerate_from (length start) bs)) (sym (entry_more body_of bodies k b lt at)))
 
   -- ---- one section more
@@ -229,23 +229,23 @@ module _ {Z : Type 0} (seen : Z → FunctionData) (made : ℕ × Body → Functi
     abbrev so_far : ℕ → List Body
     so_far n = flat_map bodies_of_section (map payload_of (take n ps))
 
-    told-long : (now : List Z) → map seen now ≡ map made (enumerate_from 0 (so_far k)) → length now ≡ length (so_far k)
-    told-long now before =
+    metadata-long : (now : List Z) → map seen now ≡ map made (enumerate_from 0 (so_far k)) → length now ≡ length (so_far k)
+    metadata-long now before =
         sym (length-map now seen) ∙ ap length before
         ∙ length-map (enumerate_from 0 (so_far k)) made
         ∙ length-enumerate_from 0 (so_far k)
 
-    pub told_section : (now after : List Z) → map seen after ≡ map seen now ++ map made (enumerate_from (length now) ys)
+    pub metadata_section : (now after : List Z) → map seen after ≡ map seen now ++ map made (enumerate_from (length now) ys)
         → map seen now ≡ map made (enumerate_from 0 (so_far k)) → map seen after ≡ map made (enumerate_from 0 (so_far (k + 1)))
-    told_section now after more before =
-        let long : length now ≡ 0 + length (so_far k) = omega (arith, told-long now before) in
+    metadata_section now after more before =
+        let long : length now ≡ 0 + length (so_far k) = omega (arith, metadata-long now before) in
         more
         ∙ (λ i. before i ++ map made (enumerate_from (long i) ys))
-        ∙ told-append 0 (so_far k) ys
+        ∙ metadata-append 0 (so_far k) ys
         ∙ ap (λ (bs : List Body). map made (enumerate_from 0 bs)) (sym (section_more bodies_of_section ps k p lt at ys same))
 
     -- and there is room for its bodies among all
-    pub told-within : (now : List Z) → map seen now ≡ map made (enumerate_from 0 (so_far k))
+    pub metadata-within : (now : List Z) → map seen now ≡ map made (enumerate_from 0 (so_far k))
         → length now + length ys ≤ length (flat_map bodies_of_section (map payload_of ps))
-    told-within now before =
-        omega (arith, told-long now before, ap length same, length_more_le bodies_of_section ps k p lt at)
+    metadata-within now before =
+        omega (arith, metadata-long now before, ap length same, length_more_le bodies_of_section ps k p lt at)

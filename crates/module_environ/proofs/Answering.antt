@@ -26,11 +26,11 @@ use Rattle.init_plan.specs.Views.{IsNewTranslation}
 use Rattle.module_environ.specs.declared.error.EnvironError.{EnvironError}
 use Rattle.module_environ.specs.declared.error.EnvironError.TheVariants as refusal
 use Rattle.module_environ.specs.Errors.{error_of_read}
-use Rattle.module_environ.specs.Readable.{IsReadable, HasCause}
+use Rattle.module_environ.specs.Readable.{IsReadable, HasTranslationCause}
 use Rattle.module_environ.specs.Translation.{HasEntities, CountsImports, HasSections, code_places, first_or_zero}
 use Rattle.module_environ.specs.Translated.{IsReady, IsTranslated}
 use Rattle.module_environ.specs.Forming.{IsFormed, FormCause}
-use Rattle.module_environ.proofs.Carried.{sections-keep, customs-keep, types-keep}
+use Rattle.module_environ.proofs.UnchangedViews.{sections-keep, customs-keep, types-keep}
 use Rattle.module_environ.proofs.HoldsLists.{holds_memories, holds_tables, holds_globals}
 use Rattle.module_environ.proofs.MemoriesReady.{memories-ready}
 use Rattle.module_environ.proofs.TablesReady.{tables-ready}
@@ -46,13 +46,13 @@ pub record ReadingTells (bytes : List ℕ) (r : Result Form ReadError) : Type 0 
   pub stops_nowhere : r ≡ Err read.Malformed → (what : What) → ¬ Stops bytes what
 
 pub read_cause : (bytes : List ℕ) (poisoned : Bool) (r : Result Form ReadError) (e : ReadError) → ReadingTells bytes r → r ≡ Err e
-    → HasCause bytes poisoned (error_of_read e)
+    → HasTranslationCause bytes poisoned (error_of_read e)
 read_cause bytes poisoned r read.Malformed t is = (t.malformed is, t.stops_nowhere is)
 read_cause bytes poisoned r (read.Unsupported what) t is = t.unsupported what is
 read_cause bytes poisoned r read.TooLarge t is = t.too_large.0 is
 read_cause bytes poisoned r read.OutOfMemory t is = tt
 
--- input that can be read is refused for want of memory alone
+-- input that can be read is refused only where memory runs out
 pub read_complete : (bytes : List ℕ) (r : Result Form ReadError) (e : ReadError) (m : Module) → ReadingTells bytes r → r ≡ Err e
     → IsReadable bytes m → error_of_read e ≡ refusal.OutOfMemory
 read_complete bytes r e m t is can = ap error_of_read
@@ -77,7 +77,7 @@ read_as bytes form m t can = t.complete can.short m can.spelled can.no_interface
 
 -- why the form becomes none is why the bytes have none
 pub form_cause : (bytes : List ℕ) (m : Module) (poisoned : Bool) (e : EnvironError) → IsReadable bytes m → FormCause m poisoned e
-    → HasCause bytes poisoned e
+    → HasTranslationCause bytes poisoned e
 form_cause bytes m poisoned (refusal.Invalid rule) readable cause =
     record { meaning = m; read = readable; broken = cause.0; first = cause.1 }
 form_cause bytes m poisoned refusal.Poisoned readable cause = cause

@@ -38,7 +38,7 @@ seen-at f (e ∷ es) = by (nat_eq f (number_of e.0)) (seen-at f es) where
 pub hints-set : (asked : Bool) (m : plain.Module) (t : ModuleTranslation) (kept : BTreeMap (Index FuncSpace) (Vec BranchHint))
     → hint_entries_of t ≡ map seen kept.entries → HasFirst (hints_asked asked m) (at_number number_of kept) → HasHints asked m t
 hints-set asked m t kept same first f =
-    seen-at f t.hidden.branch_hints.entries ∙ ap (lookup (nat_eq f)) same ∙ sym (seen-at f kept.entries) ∙ first f
+    seen-at f t.private_parts.branch_hints.entries ∙ ap (lookup (nat_eq f)) same ∙ sym (seen-at f kept.entries) ∙ first f
 
 -- no hints of any function
 none-kept : (f : ℕ) → kept_hint {H = List Hint} [] f ≡ None

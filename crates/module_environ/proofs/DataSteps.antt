@@ -15,24 +15,24 @@ use Rattle.wasm_convert.specs.Operators.{const_op_of, operator_of, with_any_null
 use Rattle.wasm_convert.specs.Constants.{const_ops_of, expression_of}
 use Rattle.wasm_module.specs.declared.memory_initialization.MemoryInitializer.{MemoryInitializer}
 use Rattle.replay_spec.specs.Data.{ActiveSegment, active_of_kind}
-use Rattle.init_plan.specs.Held.{held}
+use Rattle.init_plan.specs.Held.{erase_null_type}
 use Rattle.init_plan.specs.declared.translation.ModuleTranslation.{ModuleTranslation}
 use Rattle.init_plan.specs.Views.{active_segment_of, SameButPassive}
 use Rattle.module_environ.specs.Initialisers.{passive_data_in, passive_data_from}
 
--- an expression that is converted is held
+-- an expression that is converted has its null type erased
 back : (look : LookUp) (o : Operator) → operator_of (const_op_of look o) ≡ with_any_null o
 back look (op.RefNull heap) = refl
 back look _ = refl
 
-pub converted-held : (look : LookUp) (e : Expression) → expression_of (const_ops_of look e) ≡ held e
+pub converted-held : (look : LookUp) (e : Expression) → expression_of (const_ops_of look e) ≡ erase_null_type e
 converted-held look [] = refl
 converted-held look (o ∷ os) = (λ i. back look o i ∷ converted-held look os i)
 
 -- an active segment more
 pub active-added : (look : LookUp) (old new : List MemoryInitializer) (x : MemoryInitializer) (kind : DataKind) (memory : ℕ) (offset : ConstExpr)
     (bytes : List ℕ) → kind ≡ kinds.Active memory offset → new ≡ old ++ x ∷ [] → number_of x.memory_index ≡ memory
-    → x.offset ≡ const_ops_of look offset.ops.items → held offset.ops.items ≡ offset.ops.items → x.bytes.now ≡ bytes
+    → x.offset ≡ const_ops_of look offset.ops.items → erase_null_type offset.ops.items ≡ offset.ops.items → x.bytes.now ≡ bytes
     → map active_segment_of new ≡ map active_segment_of old ++ cons_option (active_of_kind (data_kind_of kind) bytes) []
 active-added look old new x kind memory offset bytes is grows at place whole these =
     let seen : active_segment_of x ≡ record { memory = memory; offset = offset.ops.items; bytes = bytes } =
@@ -57,5 +57,5 @@ grown {A = A} a b c xs ys zs first second both =
 
 pub same-both : (a b c : ModuleTranslation) → SameButPassive a b → SameButPassive b c → SameButPassive a c
 same-both a b c ab bc =
-    let passed : ModuleTranslation → ModuleTranslation = λ t. record t { hidden = record t.hidden { passive_data = c.hidden.passive_data } } in
+    let passed : ModuleTranslation → ModuleTranslation = λ t. record t { private_parts = record t.private_parts { passive_data = c.private_parts.passive_data } } in
     bc ∙ ap passed ab

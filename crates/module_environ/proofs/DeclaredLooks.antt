@@ -15,7 +15,7 @@ use Rattle.wasm_convert.specs.Conversion.{LookUp}
 use Rattle.module_types.specs.Views.{TypeIndex}
 use Rattle.module_types.specs.Builder.{BuilderState, builder_view}
 use Rattle.module_types.specs.Converter.{interned_name}
-use Rattle.module_types.proofs.Along.{composite-before}
+use Rattle.module_types.proofs.GroupMembers.{composite-before}
 use Rattle.module_types.proofs.Taking.{whole}
 use Rattle.module_environ.specs.Types.{declared, interned_at, type_index, look_up_in, interned_list}
 use Rattle.module_environ.specs.Environment.{interned_in, number_or_zero, AreHeld, look_type}

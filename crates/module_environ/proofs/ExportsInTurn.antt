@@ -28,18 +28,18 @@ use Rattle.form_rules.proofs.ExportNames.{distinct_front}
 use Rattle.module_environ.specs.Entities.{text_at, entity_at, resolved_export}
 use Rattle.module_environ.specs.Escapes.{exported_function}
 use Rattle.module_environ.specs.Exported.{exported_functions, CanExport, AreEntered}
-use Rattle.module_environ.specs.Flags.{Flags, flagged}
+use Rattle.module_environ.specs.EscapeLog.{EscapeLog, after_escapes}
 use Rattle.module_environ.specs.Pooled.{GrowsBy, HasText}
-use Rattle.module_environ.proofs.Filling.{flagged-then}
+use Rattle.module_environ.proofs.Filling.{after_escapes-then}
 use Rattle.module_environ.proofs.GrownPool.{pooled-grown, exports-grown}
 
 -- ---- functions that are noted
 
 -- references after others
-pub noted-then : (old now new : Flags) (es fs gs : List Export) → now ≡ flagged old (exported_functions es)
-    → new ≡ flagged now (exported_functions fs) → gs ≡ es ++ fs → new ≡ flagged old (exported_functions gs)
+pub noted-then : (old now new : EscapeLog) (es fs gs : List Export) → now ≡ after_escapes old (exported_functions es)
+    → new ≡ after_escapes now (exported_functions fs) → gs ≡ es ++ fs → new ≡ after_escapes old (exported_functions gs)
 noted-then old now new es fs gs first second both =
-    flagged-then old now new (exported_functions es) (exported_functions fs) (exported_functions gs) first second
+    after_escapes-then old now new (exported_functions es) (exported_functions fs) (exported_functions gs) first second
     (ap exported_functions both ∙ filter_map-append (λ (e : Export). exported_function e.kind e.index) es fs)
 
 -- ---- one name more

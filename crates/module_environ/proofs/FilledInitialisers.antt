@@ -19,11 +19,11 @@ use Rattle.init_plan.specs.declared.translation.ModuleTranslation.{ModuleTransla
 use Rattle.init_plan.specs.Views.{initializers_of, passive_data_of, IsUnprocessed}
 use Rattle.module_environ.specs.Entities.{exported_entities, resolved_export}
 use Rattle.module_environ.specs.Filling.{module_in, IsGathered, FillsInitialisers, references_of}
-use Rattle.module_environ.specs.Flags.{Flags, flagged}
-use Rattle.module_environ.specs.Initialisers.{first_values, first_value_seen, passive_data_from}
+use Rattle.module_environ.specs.EscapeLog.{EscapeLog, after_escapes}
+use Rattle.module_environ.specs.Initialisers.{first_values, view_first_value, passive_data_from}
 use Rattle.module_environ.specs.Pooled.{GrowsBy, HasText}
 use Rattle.module_environ.specs.Translation.{HasGlobals, HasElements}
-use Rattle.module_environ.proofs.Flagging.{flagged-append}
+use Rattle.module_environ.proofs.NotingEscapes.{after_escapes-append}
 use Rattle.module_environ.proofs.GatheredTables.{none_of_each}
 
 -- the declared types are as few as the types
@@ -47,12 +47,12 @@ on_ok (Ok x) a b c d f = f a b c d
 on_ok (Err e) a b c d f = tt
 
 -- the references of each part, noted one after another
-pub noted_all : (s a b d e : Flags) (tables globals exports elements : List ℕ) → a ≡ flagged s tables → b ≡ flagged a globals
-    → d ≡ flagged b exports → e ≡ flagged d elements → e ≡ flagged s (tables ++ globals ++ exports ++ elements)
+pub noted_all : (s a b d e : EscapeLog) (tables globals exports elements : List ℕ) → a ≡ after_escapes s tables → b ≡ after_escapes a globals
+    → d ≡ after_escapes b exports → e ≡ after_escapes d elements → e ≡ after_escapes s (tables ++ globals ++ exports ++ elements)
 noted_all s a b d e tables globals exports elements at bt dt et =
-    let second = bt ∙ ap (λ f. flagged f globals) at ∙ flagged-append s tables globals in
-    let third = dt ∙ ap (λ f. flagged f exports) second ∙ flagged-append s (tables ++ globals) exports in
-    et ∙ ap (λ f. flagged f elements) third ∙ flagged-append s (tables ++ globals ++ exports) elements
+    let second = bt ∙ ap (λ f. after_escapes f globals) at ∙ after_escapes-append s tables globals in
+    let third = dt ∙ ap (λ f. after_escapes f exports) second ∙ after_escapes-append s (tables ++ globals) exports in
+    et ∙ ap (λ f. after_escapes f elements) third ∙ after_escapes-append s (tables ++ globals ++ exports) elements
 
 -- the pool grows by fewer than is allowed
 pub grows_less : (n : ℕ) (old new : List (List ℕ)) → n < 2 ^ 30 → GrowsBy n old new → GrowsBy (2 ^ 30) old new
@@ -60,18 +60,18 @@ grows_less n old new lt g = record { added = g.added; whole = g.whole; few = ome
 
 -- as many tables as values have no image
 pub no_images_of : (look : LookUp) (tables : List TableDef) (values : List TableInitialValue) (images : List (List (Index FuncSpace)))
-    → map first_value_seen values ≡ first_values look tables → (n : ℕ) → n ≡ length values → images ≡ replicate n []
+    → map view_first_value values ≡ first_values look tables → (n : ℕ) → n ≡ length values → images ≡ replicate n []
     → images ≡ map (λ table. []) tables
 no_images_of look tables values images first n is none =
-    none_of_each tables images (none ∙ ap (λ k. replicate k []) (is ∙ sym (length-map values first_value_seen)
+    none_of_each tables images (none ∙ ap (λ k. replicate k []) (is ∙ sym (length-map values view_first_value)
     ∙ ap length first ∙ length-map tables (λ t. option_map (const_ops_of look) t.init)))
 
 -- the data segments are filled in last
-pub fills : (m : plain.Module) (before after : Flags) (old mid new : ModuleTranslation)
+pub fills : (m : plain.Module) (before after : EscapeLog) (old mid new : ModuleTranslation)
     → map (resolved_export mid.module.strings) mid.module.exports.entries ≡ exported_entities (lists_of_module m).exports
     → GrowsBy (2 ^ 30) old.module.strings mid.module.strings → All (λ e. HasText mid.module.strings e.0) mid.module.exports.entries
     → HasGlobals m mid → HasElements m mid
-    → after ≡ flagged before (references_of (lists_of_module m))
+    → after ≡ after_escapes before (references_of (lists_of_module m))
     → mid ≡ record old {
       «module» = record old.module {
         strings = mid.module.strings;
@@ -86,12 +86,12 @@ pub fills : (m : plain.Module) (before after : Flags) (old mid new : ModuleTrans
       table_initialization = mid.table_initialization;
     }
     → initializers_of new ≡ active_segments m → passive_data_of new ≡ passive_data_from 0 (plain.segments m) → IsUnprocessed new.memory_init
-    → new ≡ record mid { memory_init = new.memory_init; hidden = record mid.hidden { passive_data = new.hidden.passive_data } }
+    → new ≡ record mid { memory_init = new.memory_init; private_parts = record mid.private_parts { passive_data = new.private_parts.passive_data } }
     → FillsInitialisers m before after old new
 fills m before after old mid new exports texts pooled globals elements noted made active passive unprocessed same =
     let last : ModuleTranslation = record mid {
       memory_init = new.memory_init;
-      hidden = record mid.hidden { passive_data = new.hidden.passive_data };
+      private_parts = record mid.private_parts { passive_data = new.private_parts.passive_data };
     } in
     record {
       exports = subst (λ (t : ModuleTranslation). map (resolved_export t.module.strings) t.module.exports.entries
@@ -124,9 +124,9 @@ fills m before after old mid new exports texts pooled globals elements noted mad
         passive_elements = t.passive_elements;
         table_initialization = t.table_initialization;
         memory_init = t.memory_init;
-        hidden = record old.hidden { passive_data = t.hidden.passive_data };
+        private_parts = record old.private_parts { passive_data = t.private_parts.passive_data };
       }) (sym same) (ap (λ (t : ModuleTranslation). (let r : ModuleTranslation = record t {
         memory_init = new.memory_init;
-        hidden = record t.hidden { passive_data = new.hidden.passive_data };
+        private_parts = record t.private_parts { passive_data = new.private_parts.passive_data };
       } in r)) made);
     }

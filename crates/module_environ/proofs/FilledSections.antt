@@ -46,13 +46,13 @@ use Rattle.module_environ.specs.Environment.{look_type}
 use Rattle.module_environ.specs.Escapes.{references, defined_functions, referred, referred_if_any, item_functions}
 use Rattle.module_environ.specs.Exported.{exported_functions}
 use Rattle.module_environ.specs.Filling.{module_in, IsGathered, LooksUpTypes, FillsEntities, FillsInitialisers, references_of}
-use Rattle.module_environ.specs.Flags.{Flags, flagged}
+use Rattle.module_environ.specs.EscapeLog.{EscapeLog, after_escapes}
 use Rattle.module_environ.specs.LookUps.{AgreeBelow}
 use Rattle.module_environ.specs.Translation.{HasEntities, CountsImports, NeedsHeap, HasData}
 use Rattle.module_environ.specs.Pooled.{HasText, HasTexts}
 use Rattle.module_environ.specs.Types.{declared, look_up_in, type_index, AreTypesOf}
 use Rattle.module_environ.proofs.DeclaredLooks.{listed-long, look-declared, agree-chained}
-use Rattle.module_environ.proofs.Flagging.{flagged-append}
+use Rattle.module_environ.proofs.NotingEscapes.{after_escapes-append}
 use Rattle.module_environ.proofs.FromRules.{below-by}
 use Rattle.module_environ.proofs.GrownPool.{imports-grown, names-grown}
 
@@ -125,29 +125,29 @@ joined a b c d e =
 abbrev pub behind : Bool → rule.Lists → List ℕ
 behind debugged l = if debugged then defined_functions l else []
 
-pub all-noted : (debugged : Bool) (l : rule.Lists) (start imported filled after : Flags)
-    → imported ≡ flagged start (range_with_len 0 l.imported_functions)
-    → filled ≡ flagged imported (references_of l) → after ≡ flagged filled (behind debugged l)
-    → after ≡ flagged start (references debugged l)
+pub all-noted : (debugged : Bool) (l : rule.Lists) (start imported filled after : EscapeLog)
+    → imported ≡ after_escapes start (range_with_len 0 l.imported_functions)
+    → filled ≡ after_escapes imported (references_of l) → after ≡ after_escapes filled (behind debugged l)
+    → after ≡ after_escapes start (references debugged l)
 all-noted debugged l start imported filled after first second third =
     let range = range_with_len 0 l.imported_functions in
     third
-    ∙ ap (λ f. flagged f (behind debugged l))
-    (second ∙ ap (λ f. flagged f (references_of l)) first ∙ flagged-append start range (references_of l))
-    ∙ flagged-append start (range ++ references_of l) (behind debugged l)
-    ∙ ap (λ (x : List ℕ). flagged start (x ++ behind debugged l))
+    ∙ ap (λ f. after_escapes f (behind debugged l))
+    (second ∙ ap (λ f. after_escapes f (references_of l)) first ∙ after_escapes-append start range (references_of l))
+    ∙ after_escapes-append start (range ++ references_of l) (behind debugged l)
+    ∙ ap (λ (x : List ℕ). after_escapes start (x ++ behind debugged l))
     (joined range (flat_map (λ t. referred_if_any t.init) l.tables) (flat_map (λ g. referred g.init) l.globals)
     (exported_functions l.exports) (flat_map (λ e. item_functions e.items) l.elements))
 
-module _ (l : rule.Lists) (filled after : Flags) where
+module _ (l : rule.Lists) (filled after : EscapeLog) where
   pub noted-where : (debugged : Bool) → debugged ≡ true → (start count : ℕ) → start ≡ l.imported_functions
-      → count ≡ length l.functions - l.imported_functions → after ≡ flagged filled (range_with_len start count)
-      → after ≡ flagged filled (behind debugged l)
+      → count ≡ length l.functions - l.imported_functions → after ≡ after_escapes filled (range_with_len start count)
+      → after ≡ after_escapes filled (behind debugged l)
   noted-where debugged is start count first rest noted =
-      noted ∙ (λ i. flagged filled (range_with_len (first i) (rest i))) ∙ ap (λ b. flagged filled (behind b l)) (sym is)
+      noted ∙ (λ i. after_escapes filled (range_with_len (first i) (rest i))) ∙ ap (λ b. after_escapes filled (behind b l)) (sym is)
 
-  pub noted-not : (debugged : Bool) → debugged ≡ false → after ≡ filled → after ≡ flagged filled (behind debugged l)
-  noted-not debugged is same = same ∙ ap (λ b. flagged filled (behind b l)) (sym is)
+  pub noted-not : (debugged : Bool) → debugged ≡ false → after ≡ filled → after ≡ after_escapes filled (behind debugged l)
+  noted-not debugged is same = same ∙ ap (λ b. after_escapes filled (behind b l)) (sym is)
 
 -- ---- what was gathered
 
@@ -185,7 +185,7 @@ new-name index empty new texts = subst (λ n. IfSome n (HasText texts)) (sym (ap
 
 -- an empty translation whose entities are filled in, and then its initialisers
 module _ (m : plain.Module) (index : Index StaticModuleSpace) (empty : ModuleTranslation) (new : IsNewTranslation index empty)
-    (entities : Module) (first : FillsEntities m empty.module entities) (before after : Flags) (t : ModuleTranslation)
+    (entities : Module) (first : FillsEntities m empty.module entities) (before after : EscapeLog) (t : ModuleTranslation)
     (second : FillsInitialisers m before after (record empty { «module» = entities }) t) where
   -- what initialisers leave of the entities
   abbrev kept : Module

@@ -16,7 +16,7 @@ use Rattle.wasm_convert.specs.Constants.{const_ops_of, expression_of}
 use Rattle.replay_spec.specs.Values.{Value, const_value}
 use Rattle.replay_spec.specs.Globals.{simple_of, kept_of}
 use Rattle.module_environ.specs.declared.globals.FirstGlobals.{FirstGlobals}
-use Rattle.module_environ.specs.FirstGlobals.{seen_globals, known_seen, left_seen, next_initialisers, known_next, left_next, AddsGlobals, AddsInitialiser}
+use Rattle.module_environ.specs.FirstGlobals.{seen_globals, view_known, view_left, next_initialisers, known_next, left_next, AddsGlobals, AddsInitialiser}
 use Rattle.module_environ.proofs.Filling.{entry_more, section_more}
 use Rattle.module_environ.proofs.HeldExpressions.{const_value_converted}
 use Rattle.module_environ.proofs.LookedUp.{converted}
@@ -46,8 +46,8 @@ grown {A = A} a b c xs ys zs first second both =
 
 pub AddsGlobals-none : (look : LookUp) (a : FirstGlobals) → AddsGlobals look a a []
 AddsGlobals-none look a = record {
-  known = sym (append-nil (known_seen a));
-  left = sym (append-nil (left_seen a));
+  known = sym (append-nil (view_known a));
+  left = sym (append-nil (view_left a));
   counted = sym (add-zero (seen_globals a));
 }
 
@@ -84,10 +84,10 @@ left-one look n e = by (const_value e) where
 pub AddsGlobals-one : (look : LookUp) (a b : FirstGlobals) (g : GlobalDef) (ops : List ConstOp) → ops ≡ const_ops_of look g.init
     → const_value (expression_of ops) ≡ const_value g.init → AddsInitialiser a b ops → AddsGlobals look a b (g ∷ [])
 AddsGlobals-one look a b g ops is value adds = record {
-  known = adds.known ∙ ap (λ (v : Option Value). known_seen a ++ known_next (seen_globals a) v) value
-      ∙ ap (λ (vs : List (ℕ × Value)). known_seen a ++ vs) (sym (known-one (seen_globals a) g.init));
-  left = adds.left ∙ (λ i. left_seen a ++ left_next (seen_globals a) (is i) (value i))
-      ∙ ap (λ (vs : List (ℕ × List ConstOp)). left_seen a ++ vs) (sym (left-one look (seen_globals a) g.init));
+  known = adds.known ∙ ap (λ (v : Option Value). view_known a ++ known_next (seen_globals a) v) value
+      ∙ ap (λ (vs : List (ℕ × Value)). view_known a ++ vs) (sym (known-one (seen_globals a) g.init));
+  left = adds.left ∙ (λ i. view_left a ++ left_next (seen_globals a) (is i) (value i))
+      ∙ ap (λ (vs : List (ℕ × List ConstOp)). view_left a ++ vs) (sym (left-one look (seen_globals a) g.init));
   counted = adds.counted;
 }
 

@@ -14,7 +14,7 @@ use Rattle.wasm_convert.specs.declared.operators.ConstOp.{ConstOp}
 use Rattle.wasm_convert.specs.Conversion.{LookUp}
 use Rattle.wasm_convert.specs.Constants.{const_ops_of}
 use Rattle.wasm_module.specs.declared.table_initialization.TableInitialValue.{TableInitialValue}
-use Rattle.module_environ.specs.Initialisers.{first_values, first_value_seen}
+use Rattle.module_environ.specs.Initialisers.{first_values, view_first_value}
 
 abbrev Image : Type 0
 Image = List (Index FuncSpace)
@@ -22,7 +22,7 @@ Image = List (Index FuncSpace)
 -- the values so far and the tables of one section more are not more than all tables
 pub few_more : (look : LookUp) (values : List TableInitialValue) (qs ps : List Payload) → ps ≡ qs → (k : ℕ) (p : Payload) (ts : List TableRead)
     → k < length ps → p ≡ get_or ps k p → map table_of ts ≡ tables_of_section (payload_of p)
-    → map first_value_seen values ≡ first_values look (flat_map tables_of_section (map payload_of (take k ps)))
+    → map view_first_value values ≡ first_values look (flat_map tables_of_section (map payload_of (take k ps)))
     → length (flat_map tables_of_section (map payload_of qs)) < 4294967295 → length values + length ts < 4294967295
 few_more look values qs ps read k p ts lt at same before few =
     let before_tables = flat_map tables_of_section (map payload_of (take k ps)) in
@@ -34,7 +34,7 @@ few_more look values qs ps read k p ts lt at same before few =
       length_more_le tables_of_section ps k p lt at,
       ap length same,
       length-map ts table_of,
-      sym (length-map values first_value_seen) ∙ ap length before ∙ length-map before_tables init_of,
+      sym (length-map values view_first_value) ∙ ap length before ∙ length-map before_tables init_of,
     )
 
 -- no image of each of so many tables is none of each table

@@ -20,7 +20,7 @@ use Rattle.wasm_module.specs.declared.table_initialization.TableSegmentElements.
 use Rattle.wasm_module.specs.Elements.{element_type, element_count}
 use Rattle.replay_spec.specs.Startup.{is_passive, passive_elements}
 use Rattle.module_environ.specs.declared.elements.ElementSegments.{ElementSegments}
-use Rattle.module_environ.specs.Initialisers.{ActiveItems, Items, active_in, active_elements, segment_seen, passive_items, items_in, items_seen, passive_numbers}
+use Rattle.module_environ.specs.Initialisers.{ActiveItems, Items, active_in, active_elements, view_segment, passive_items, items_in, view_items, passive_numbers}
 use Rattle.module_environ.specs.Segments.{HoldsElements, AddsElements, HasRoom}
 
 -- ---- numbers among the passive ones
@@ -77,13 +77,13 @@ number_in-other (n ∷ ns) o (suc i) ne = number_in-other ns o i (λ e. ne (ap s
 
 -- ---- one segment more
 
-abbrev kind_seen : TableSegmentElements → WasmRefType × ℕ
-kind_seen items = (element_type items, element_count items)
+abbrev view_kind : TableSegmentElements → WasmRefType × ℕ
+view_kind items = (element_type items, element_count items)
 
 counted : (look : LookUp) (before : List Element) (s : ElementSegments) → HoldsElements look before s → length s.passive
     ≡ length (passive_elements before)
 counted look before s holds =
-    sym (length-map s.passive items_seen) ∙ ap length holds.passive ∙ length-map (passive_elements before) (λ (x : Element). items_in look x.items)
+    sym (length-map s.passive view_items) ∙ ap length holds.passive ∙ length-map (passive_elements before) (λ (x : Element). items_in look x.items)
 
 module _ (look : LookUp) (before : List Element) (e : Element) (old : ElementSegments) (holds : HoldsElements look before old) where
   abbrev next : ℕ
@@ -93,9 +93,9 @@ module _ (look : LookUp) (before : List Element) (e : Element) (old : ElementSeg
   earlier = passive_numbers 0 before
 
   holds-more : (new : ElementSegments)
-      → map segment_seen new.active.items ≡ map segment_seen old.active.items ++ active_elements look (e ∷ [])
-      → map items_seen new.passive ≡ map items_seen old.passive ++ passive_items look (e ∷ [])
-      → new.kinds ≡ map kind_seen new.passive
+      → map view_segment new.active.items ≡ map view_segment old.active.items ++ active_elements look (e ∷ [])
+      → map view_items new.passive ≡ map view_items old.passive ++ passive_items look (e ∷ [])
+      → new.kinds ≡ map view_kind new.passive
       → ((i : ℕ) → option_map number_of (value_at new.numbers i) ≡ number_in (earlier ++ passive_numbers next (e ∷ [])) i)
       → new.count ≡ old.count + 1 → HoldsElements look (before ++ e ∷ []) new
   holds-more new active passive kinds numbers count = record {
@@ -111,39 +111,39 @@ module _ (look : LookUp) (before : List Element) (e : Element) (old : ElementSeg
 
   -- one that is not passive keeps all but the active ones
   holds-other : (new : ElementSegments) → is_passive e.kind ≡ false
-      → map segment_seen new.active.items ≡ map segment_seen old.active.items ++ active_elements look (e ∷ [])
+      → map view_segment new.active.items ≡ map view_segment old.active.items ++ active_elements look (e ∷ [])
       → new.passive ≡ old.passive → new.kinds ≡ old.kinds → new.numbers ≡ old.numbers → new.count ≡ old.count + 1
       → HoldsElements look (before ++ e ∷ []) new
   holds-other new isnt active passive kinds numbers count =
       holds-more new active
-      (ap (map items_seen) passive ∙ sym (append-nil (map items_seen old.passive))
-      ∙ ap (λ (b : Bool). map items_seen old.passive ++ map (λ (x : Element). items_in look x.items) (if b then e ∷ [] else [])) (sym isnt))
-      (kinds ∙ holds.kinds ∙ ap (map kind_seen) (sym passive))
+      (ap (map view_items) passive ∙ sym (append-nil (map view_items old.passive))
+      ∙ ap (λ (b : Bool). map view_items old.passive ++ map (λ (x : Element). items_in look x.items) (if b then e ∷ [] else [])) (sym isnt))
+      (kinds ∙ holds.kinds ∙ ap (map view_kind) (sym passive))
       (λ i. ap (λ (d : Defaulted (Option (Index PassiveElemSpace))). option_map number_of (value_at d i)) numbers ∙ holds.numbers i
       ∙ sym (number_in-none earlier i)
       ∙ ap (λ (b : Bool). number_in (earlier ++ (if b then Some next ∷ [] else None ∷ [])) i) (sym isnt))
       count
 
   pub holds-active : (table : Option ℕ) (offset : Expression) (s : TableSegment) (new : ElementSegments) → e.kind ≡ ActiveElement table offset
-      → number_of s.table_index ≡ unwrap_or table 0 → s.offset ≡ const_ops_of look offset → items_seen s.elements ≡ items_in look e.items
+      → number_of s.table_index ≡ unwrap_or table 0 → s.offset ≡ const_ops_of look offset → view_items s.elements ≡ items_in look e.items
       → new.active.items ≡ old.active.items ++ s ∷ []
       → new.passive ≡ old.passive → new.kinds ≡ old.kinds → new.numbers ≡ old.numbers → new.count ≡ old.count + 1
       → HoldsElements look (before ++ e ∷ []) new
   holds-active table offset s new is at place items active =
-      let seen : segment_seen s ≡ record { table = unwrap_or table 0; offset = const_ops_of look offset; items = items_in look e.items } =
+      let seen : view_segment s ≡ record { table = unwrap_or table 0; offset = const_ops_of look offset; items = items_in look e.items } =
       λ i. record { table = at i; offset = place i; items = items i } in
       holds-other new (ap is_passive is)
-      (ap (map segment_seen) active ∙ map-append segment_seen old.active.items (s ∷ [])
-      ∙ ap (λ (a : ActiveItems). map segment_seen old.active.items ++ a ∷ []) seen
-      ∙ ap (λ (k : ElementKind). map segment_seen old.active.items ++ cons_option (active_in look k e.items) []) (sym is))
+      (ap (map view_segment) active ∙ map-append view_segment old.active.items (s ∷ [])
+      ∙ ap (λ (a : ActiveItems). map view_segment old.active.items ++ a ∷ []) seen
+      ∙ ap (λ (k : ElementKind). map view_segment old.active.items ++ cons_option (active_in look k e.items) []) (sym is))
 
   pub holds-declared : (new : ElementSegments) → e.kind ≡ DeclaredElement → new.active.items ≡ old.active.items
       → new.passive ≡ old.passive → new.kinds ≡ old.kinds → new.numbers ≡ old.numbers → new.count ≡ old.count + 1
       → HoldsElements look (before ++ e ∷ []) new
   holds-declared new is active =
       holds-other new (ap is_passive is)
-      (ap (map segment_seen) active ∙ sym (append-nil (map segment_seen old.active.items))
-      ∙ ap (λ (k : ElementKind). map segment_seen old.active.items ++ cons_option (active_in look k e.items) []) (sym is))
+      (ap (map view_segment) active ∙ sym (append-nil (map view_segment old.active.items))
+      ∙ ap (λ (k : ElementKind). map view_segment old.active.items ++ cons_option (active_in look k e.items) []) (sym is))
 
   numbers-passive : (n k i : ℕ) → n ≡ length before → k ≡ next
       → option_map number_of (value_at (with_value old.numbers n (Some (index_of {Space = PassiveElemSpace} k))) i)
@@ -161,20 +161,20 @@ module _ (look : LookUp) (before : List Element) (e : Element) (old : ElementSeg
       ]
 
   pub holds-passive : (x : TableSegmentElements) (n : ℕ) (new : ElementSegments) → e.kind ≡ PassiveElement
-      → items_seen x ≡ items_in look e.items → n ≡ old.count
-      → new.active.items ≡ old.active.items → new.passive ≡ old.passive ++ x ∷ [] → new.kinds ≡ old.kinds ++ kind_seen x ∷ []
+      → view_items x ≡ items_in look e.items → n ≡ old.count
+      → new.active.items ≡ old.active.items → new.passive ≡ old.passive ++ x ∷ [] → new.kinds ≡ old.kinds ++ view_kind x ∷ []
       → new.numbers ≡ with_value old.numbers n (Some (index_of (length old.passive))) → new.count ≡ old.count + 1
       → HoldsElements look (before ++ e ∷ []) new
   holds-passive x n new is items at active passive kinds numbers count =
       let passes : is_passive e.kind ≡ true = ap is_passive is in
       holds-more new
-      (ap (map segment_seen) active ∙ sym (append-nil (map segment_seen old.active.items))
-      ∙ ap (λ (k : ElementKind). map segment_seen old.active.items ++ cons_option (active_in look k e.items) []) (sym is))
-      (ap (map items_seen) passive ∙ map-append items_seen old.passive (x ∷ [])
-      ∙ ap (λ (y : Items). map items_seen old.passive ++ y ∷ []) items
-      ∙ ap (λ (b : Bool). map items_seen old.passive ++ map (λ (x : Element). items_in look x.items) (if b then e ∷ [] else [])) (sym passes))
-      (kinds ∙ ap (λ (ks : List (WasmRefType × ℕ)). ks ++ kind_seen x ∷ []) holds.kinds ∙ sym (map-append kind_seen old.passive (x ∷ []))
-      ∙ ap (map kind_seen) (sym passive))
+      (ap (map view_segment) active ∙ sym (append-nil (map view_segment old.active.items))
+      ∙ ap (λ (k : ElementKind). map view_segment old.active.items ++ cons_option (active_in look k e.items) []) (sym is))
+      (ap (map view_items) passive ∙ map-append view_items old.passive (x ∷ [])
+      ∙ ap (λ (y : Items). map view_items old.passive ++ y ∷ []) items
+      ∙ ap (λ (b : Bool). map view_items old.passive ++ map (λ (x : Element). items_in look x.items) (if b then e ∷ [] else [])) (sym passes))
+      (kinds ∙ ap (λ (ks : List (WasmRefType × ℕ)). ks ++ view_kind x ∷ []) holds.kinds ∙ sym (map-append view_kind old.passive (x ∷ []))
+      ∙ ap (map view_kind) (sym passive))
       (λ i. ap (λ (d : Defaulted (Option (Index PassiveElemSpace))). option_map number_of (value_at d i)) numbers
       ∙ numbers-passive n (length old.passive) i (at ∙ holds.count) (counted look before old holds)
       ∙ ap (λ (b : Bool). number_in (earlier ++ (if b then Some next ∷ [] else None ∷ [])) i) (sym passes))
@@ -201,7 +201,7 @@ module _ (look : LookUp) where
       → (a.count < 4294967295) × (length a.kinds < 4294967294) × (length a.passive < 4294967294)
   room-counts a room =
       let passive = counted look room.0 a room.1 in
-      let kinds = ap length room.1.kinds ∙ length-map a.passive kind_seen in (
+      let kinds = ap length room.1.kinds ∙ length-map a.passive view_kind in (
         omega (arith, room.2, room.1.count),
         omega (arith, room.2, few_passive room.0, passive, kinds),
         omega (arith, room.2, few_passive room.0, passive),

@@ -25,8 +25,8 @@ back_conversion : (look : LookUp) (o : Operator) → operator_of (const_op_of lo
 back_conversion look (op.RefNull heap) = refl
 back_conversion look _ = refl
 
-pub held-is : (look : LookUp) (e : Expression) → expression_of (const_ops_of look e) ≡ map with_any_null e
-held-is look e = map_both operator_of (const_op_of look) e ∙ map_alike (λ o. operator_of (const_op_of look o)) with_any_null (back_conversion look) e
+pub erased-is : (look : LookUp) (e : Expression) → expression_of (const_ops_of look e) ≡ map with_any_null e
+erased-is look e = map_both operator_of (const_op_of look) e ∙ map_alike (λ o. operator_of (const_op_of look o)) with_any_null (back_conversion look) e
 
 run_held : (e : Expression) (stack : List Value) → run plain_step (map with_any_null e) stack ≡ run plain_step e stack
 run_held [] stack = refl
@@ -43,9 +43,9 @@ run_held (o ∷ ops) stack =
       over more (Some s) = more s
 
 -- a held expression has the constant value of the expression
-pub const_held : (e : Expression) → const_value (map with_any_null e) ≡ const_value e
-const_held e = ap (option_and_then only_value) (run_held e [])
+pub const_erased : (e : Expression) → const_value (map with_any_null e) ≡ const_value e
+const_erased e = ap (option_and_then only_value) (run_held e [])
 
 -- so has a converted one
 pub const_value_converted : (look : LookUp) (e : Expression) → const_value (expression_of (const_ops_of look e)) ≡ const_value e
-const_value_converted look e = ap const_value (held-is look e) ∙ const_held e
+const_value_converted look e = ap const_value (erased-is look e) ∙ const_erased e

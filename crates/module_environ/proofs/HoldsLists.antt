@@ -30,7 +30,7 @@ use Rattle.wasm_types.specs.declared.table.Table.{Table}
 use Rattle.wasm_types.specs.Tops.{top_of}
 use Rattle.wasm_types.specs.EntityData.{TableData, map_table}
 use Rattle.wasm_types.specs.EntityViews.{table_of}
-use Rattle.wasm_types.specs.ValueViews.{Name, heap_of as heap_seen}
+use Rattle.wasm_types.specs.ValueViews.{Name, heap_of as view_heap}
 use Rattle.wasm_convert.specs.declared.operators.ConstOp.{ConstOp}
 use Rattle.wasm_convert.specs.Conversion.{LookUp, table_type_of}
 use Rattle.wasm_convert.specs.Constants.{const_ops_of, expression_of}
@@ -46,10 +46,10 @@ use Rattle.replay_spec.specs.Elements as replay
 use Rattle.replay_spec.specs.Globals.{simple_of, kept_of}
 use Rattle.init_plan.specs.declared.translation.ModuleTranslation.{ModuleTranslation}
 use Rattle.init_plan.specs.Tables.{own_tables}
-use Rattle.init_plan.specs.Held.{held, held_items, held_elements, held_table, HoldsMemories, HoldsTables, HoldsGlobals}
-use Rattle.module_environ.proofs.HeldExpressions.{map_alike, map_both, held-is, const_held}
+use Rattle.init_plan.specs.Held.{erase_null_type, erased_items, erased_elements, erased_table, HoldsMemories, HoldsTables, HoldsGlobals}
+use Rattle.module_environ.proofs.HeldExpressions.{map_alike, map_both, erased-is, const_erased}
 use Rattle.module_environ.specs.Types.{look_up_in}
-use Rattle.module_environ.specs.Initialisers.{initialiser_seen, first_values, first_value_seen, Items, FunctionItems, ExpressionItems, items_in, items_seen, ActiveItems, active_in, active_elements, segment_seen}
+use Rattle.module_environ.specs.Initialisers.{view_initialiser, first_values, view_first_value, Items, FunctionItems, ExpressionItems, items_in, view_items, ActiveItems, active_in, active_elements, view_segment}
 use Rattle.module_environ.specs.Translation.{HasEntities, CountsImports, HasGlobals, HasElements, HasData}
 
 -- ---- lists
@@ -68,25 +68,25 @@ gathered_alike f g same (x ∷ xs) = λ i. cons_option (same x i) (gathered_alik
 
 -- ---- globals
 
-simple_held : (n : ℕ) (es : List Expression) → filter_map simple_of (enumerate_from n (map held es)) ≡ filter_map simple_of (enumerate_from n es)
+simple_held : (n : ℕ) (es : List Expression) → filter_map simple_of (enumerate_from n (map erase_null_type es)) ≡ filter_map simple_of (enumerate_from n es)
 simple_held n [] = refl
-simple_held n (e ∷ es) = λ i. cons_option (option_map (λ v. (n, v)) (const_held e i)) (simple_held (n + 1) es i)
+simple_held n (e ∷ es) = λ i. cons_option (option_map (λ v. (n, v)) (const_erased e i)) (simple_held (n + 1) es i)
 
 held_at : ℕ × Expression → ℕ × Expression
-held_at g = (g.0, held g.1)
+held_at g = (g.0, erase_null_type g.1)
 
 kept_held : (n : ℕ) (es : List Expression)
-    → filter_map kept_of (enumerate_from n (map held es)) ≡ map held_at (filter_map kept_of (enumerate_from n es))
+    → filter_map kept_of (enumerate_from n (map erase_null_type es)) ≡ map held_at (filter_map kept_of (enumerate_from n es))
 unfolding held_at
 kept_held n [] = refl
 kept_held n (e ∷ es) =
-    ap (λ (v : Option Value). cons_option (if is_none v then Some (n, held e) else None) (filter_map kept_of (enumerate_from (n + 1) (map held es))))
-    (const_held e)
+    ap (λ (v : Option Value). cons_option (if is_none v then Some (n, erase_null_type e) else None) (filter_map kept_of (enumerate_from (n + 1) (map erase_null_type es))))
+    (const_erased e)
     ∙ by (filter_map kept_of (enumerate_from (n + 1) es)) (kept_held (n + 1) es) (is_none (const_value e)) where
-      by : (kept : List (ℕ × Expression)) → filter_map kept_of (enumerate_from (n + 1) (map held es)) ≡ map held_at kept → (left : Bool)
-          → cons_option (if left then Some (n, held e) else None) (filter_map kept_of (enumerate_from (n + 1) (map held es)))
+      by : (kept : List (ℕ × Expression)) → filter_map kept_of (enumerate_from (n + 1) (map erase_null_type es)) ≡ map held_at kept → (left : Bool)
+          → cons_option (if left then Some (n, erase_null_type e) else None) (filter_map kept_of (enumerate_from (n + 1) (map erase_null_type es)))
           ≡ map held_at (cons_option (if left then Some (n, e) else None) kept)
-      by kept rest true = λ i. (n, held e) ∷ rest i
+      by kept rest true = λ i. (n, erase_null_type e) ∷ rest i
       by kept rest false = rest
 
 pub holds_globals : (m : plain.Module) (t : ModuleTranslation) → HasGlobals m t
@@ -98,11 +98,11 @@ holds_globals m t has counted =
     let back : ℕ × List ConstOp → ℕ × Expression = λ g. (g.0, expression_of g.1) in
     let kept = filter_map kept_of (enumerate_from 0 es) in
     record {
-      count = counted ∙ sym (length-map globals (λ (g : GlobalDef). g.init)) ∙ sym (length-map es held);
+      count = counted ∙ sym (length-map globals (λ (g : GlobalDef). g.init)) ∙ sym (length-map es erase_null_type);
       simple = has.known ∙ sym (simple_held 0 es);
-      kept = sym (map_both back (initialiser_seen (λ e. e)) t.global_initializers.items) ∙ ap (map back) has.left
+      kept = sym (map_both back (view_initialiser (λ e. e)) t.global_initializers.items) ∙ ap (map back) has.left
           ∙ map_both back (λ (g : ℕ × Expression). (g.0, const_ops_of (look_up_in m) g.1)) kept
-          ∙ map_alike _ held_at (λ g. λ i. (g.0, held-is (look_up_in m) g.1 i)) kept ∙ sym (kept_held 0 es);
+          ∙ map_alike _ held_at (λ g. λ i. (g.0, erased-is (look_up_in m) g.1 i)) kept ∙ sym (kept_held 0 es);
     }
 
 -- ---- memories
@@ -121,34 +121,34 @@ plain_items (ExpressionItems type expressions) =
 plain_active : ActiveItems → ActiveElements
 plain_active a = record { table = a.table; offset = expression_of a.offset; items = plain_items a.items }
 
-plain_seen : (s : TableSegment) → active_elements_of s ≡ plain_active (segment_seen s)
+view_plain : (s : TableSegment) → active_elements_of s ≡ plain_active (view_segment s)
 unfolding plain_items plain_active
-plain_seen s =
-    ap (λ (items : ElementItems). record { table = (segment_seen s).table; offset = expression_of s.offset; items = items }) (by s.elements) where
-      by : (x : TableSegmentElements) → items_of x ≡ plain_items (items_seen x)
+view_plain s =
+    ap (λ (items : ElementItems). record { table = (view_segment s).table; offset = expression_of s.offset; items = items }) (by s.elements) where
+      by : (x : TableSegmentElements) → items_of x ≡ plain_items (view_items x)
       by (elements.Functions functions) = refl
       by (elements.Expressions ty expressions) = refl
 
-items_held : (look : LookUp) (items : ElementItems) → plain_items (items_in look items) ≡ held_items items
+items_held : (look : LookUp) (items : ElementItems) → plain_items (items_in look items) ≡ erased_items items
 unfolding plain_items
 items_held look (Functions indices) = refl
 items_held look (Expressions type items) =
     ap (Expressions (record { nullable = type.nullable; heap = Abstract abstract.Any }))
-    (map_both expression_of (const_ops_of look) items ∙ map_alike (λ e. expression_of (const_ops_of look e)) held (held-is look) items)
+    (map_both expression_of (const_ops_of look) items ∙ map_alike (λ e. expression_of (const_ops_of look e)) erase_null_type (erased-is look) items)
 
 active_held : (look : LookUp) (kind : ElementKind) (items : ElementItems)
-    → option_map plain_active (active_in look kind items) ≡ option_map held_elements (active_of_element kind items)
+    → option_map plain_active (active_in look kind items) ≡ option_map erased_elements (active_of_element kind items)
 unfolding plain_active
 active_held look PassiveElement items = refl
 active_held look DeclaredElement items = refl
 active_held look (ActiveElement table offset) items =
-    λ i. Some (record { table = unwrap_or table 0; offset = held-is look offset i; items = items_held look items i })
+    λ i. Some (record { table = unwrap_or table 0; offset = erased-is look offset i; items = items_held look items i })
 
-elements_held : (look : LookUp) (es : List Element) → map plain_active (active_elements look es) ≡ map held_elements (replay.active_elements es)
+elements_held : (look : LookUp) (es : List Element) → map plain_active (active_elements look es) ≡ map erased_elements (replay.active_elements es)
 elements_held look es =
     map_gathered plain_active (λ (e : Element). active_in look e.kind e.items) es
     ∙ gathered_alike _ _ (λ (e : Element). active_held look e.kind e.items) es
-    ∙ sym (map_gathered held_elements (λ (e : Element). active_of_element e.kind e.items) es)
+    ∙ sym (map_gathered erased_elements (λ (e : Element). active_of_element e.kind e.items) es)
 
 -- ---- the kinds of declared types
 
@@ -194,27 +194,27 @@ functions_on_top (types.Abstract abstract.Func) = true
 functions_on_top (types.Abstract abstract.NoFunc) = true
 functions_on_top (types.Abstract _) = false
 
-on_top_seen : (h : WasmHeapType) → is_func (top_of h) ≡ functions_on_top (heap_seen h)
+view_on_top : (h : WasmHeapType) → is_func (top_of h) ≡ functions_on_top (view_heap h)
 unfolding functions_on_top names_function
-on_top_seen heap.Extern = refl
-on_top_seen heap.NoExtern = refl
-on_top_seen heap.Func = refl
-on_top_seen (heap.ConcreteFunc i) = refl
-on_top_seen heap.NoFunc = refl
-on_top_seen heap.Exn = refl
-on_top_seen (heap.ConcreteExn i) = refl
-on_top_seen heap.NoExn = refl
-on_top_seen heap.Cont = refl
-on_top_seen (heap.ConcreteCont i) = refl
-on_top_seen heap.NoCont = refl
-on_top_seen heap.Any = refl
-on_top_seen heap.Eq = refl
-on_top_seen heap.I31 = refl
-on_top_seen heap.Array = refl
-on_top_seen (heap.ConcreteArray i) = refl
-on_top_seen heap.Struct = refl
-on_top_seen (heap.ConcreteStruct i) = refl
-on_top_seen heap.None = refl
+view_on_top heap.Extern = refl
+view_on_top heap.NoExtern = refl
+view_on_top heap.Func = refl
+view_on_top (heap.ConcreteFunc i) = refl
+view_on_top heap.NoFunc = refl
+view_on_top heap.Exn = refl
+view_on_top (heap.ConcreteExn i) = refl
+view_on_top heap.NoExn = refl
+view_on_top heap.Cont = refl
+view_on_top (heap.ConcreteCont i) = refl
+view_on_top heap.NoCont = refl
+view_on_top heap.Any = refl
+view_on_top heap.Eq = refl
+view_on_top heap.I31 = refl
+view_on_top heap.Array = refl
+view_on_top (heap.ConcreteArray i) = refl
+view_on_top heap.Struct = refl
+view_on_top (heap.ConcreteStruct i) = refl
+view_on_top heap.None = refl
 
 on_top_same : (m : plain.Module) (h : HeapType) → HeapIsBelow (length (lists_of_module m).types) (heap_of h)
     → functions_on_top (map_heap (look_up_in m) (heap_of h)) ≡ has_functions_on_top (lists_of_module m) h
@@ -228,34 +228,34 @@ on_top_same m (Concrete (index.Module i)) below = sym (kinds_same (plain.groups 
 on_top_same m (Concrete (index.RecGroup i)) below = absurd (All-head (IsBelow (length (lists_of_module m).types)) (index.RecGroup i) [] below)
 on_top_same m (Concrete (index.Id i)) below = absurd (All-head (IsBelow (length (lists_of_module m).types)) (index.Id i) [] below)
 
-initial_held : (look : LookUp) (v : TableInitialValue) (e : Option Expression) → first_value_seen v ≡ option_map (const_ops_of look) e
-    → initial_of v ≡ option_map held e
+initial_held : (look : LookUp) (v : TableInitialValue) (e : Option Expression) → view_first_value v ≡ option_map (const_ops_of look) e
+    → initial_of v ≡ option_map erase_null_type e
 initial_held look v e same = seen v ∙ ap (option_map expression_of) same ∙ back e where
-  seen : (v : TableInitialValue) → initial_of v ≡ option_map expression_of (first_value_seen v)
+  seen : (v : TableInitialValue) → initial_of v ≡ option_map expression_of (view_first_value v)
   seen initial.Null = refl
   seen (initial.Expr e) = refl
 
-  back : (e : Option Expression) → option_map expression_of (option_map (const_ops_of look) e) ≡ option_map held e
+  back : (e : Option Expression) → option_map expression_of (option_map (const_ops_of look) e) ≡ option_map erase_null_type e
   back None = refl
-  back (Some e) = ap Some (held-is look e)
+  back (Some e) = ap Some (erased-is look e)
 
 module _ (m : plain.Module) where
   table_in : TableType → TableData Name
   table_in t = map_table (look_up_in m) (table_type_of t)
 
   table_held : (t : Table) (v : TableInitialValue) (d : TableDef) → TableRefersIn (length (lists_of_module m).types) d → table_of t ≡ table_in d.type
-      → first_value_seen v ≡ option_map (const_ops_of (look_up_in m)) d.init → defined_table_of t v ≡ held_table (defined_table (lists_of_module m) d)
+      → view_first_value v ≡ option_map (const_ops_of (look_up_in m)) d.init → defined_table_of t v ≡ erased_table (defined_table (lists_of_module m) d)
   unfolding table_in
   table_held t v d below same value =
       let minimum : t.limits.min ≡ d.type.initial = ap (λ (x : TableData Name). x.limits.min) same in
-      let functions = on_top_seen t.ref_type.heap_type ∙ ap (λ (x : TableData Name). functions_on_top x.reference.heap) same
+      let functions = view_on_top t.ref_type.heap_type ∙ ap (λ (x : TableData Name). functions_on_top x.reference.heap) same
       ∙ on_top_same m d.type.element_type.heap below.elements in
       let first = initial_held (look_up_in m) v d.init value in
       λ i. record { minimum = minimum i; functions = functions i; initial = first i }
 
   tables_held : (ts : List Table) (vs : List TableInitialValue) (ds : List TableDef) → All (TableRefersIn (length (lists_of_module m).types)) ds
-      → map table_of ts ≡ map (λ (d : TableDef). table_in d.type) ds → map first_value_seen vs ≡ first_values (look_up_in m) ds
-      → defined_tables_of ts vs ≡ map held_table (map (defined_table (lists_of_module m)) ds)
+      → map table_of ts ≡ map (λ (d : TableDef). table_in d.type) ds → map view_first_value vs ≡ first_values (look_up_in m) ds
+      → defined_tables_of ts vs ≡ map erased_table (map (defined_table (lists_of_module m)) ds)
   tables_held [] vs [] below same values = refl
   tables_held [] vs (d ∷ ds) below same values = cc
   tables_held (t ∷ ts) vs [] below same values = cc
@@ -263,8 +263,8 @@ module _ (m : plain.Module) where
   tables_held (t ∷ ts) (v ∷ vs) (d ∷ ds) below same values =
       let here : table_of t ≡ table_in d.type = cc in
       let others : map table_of ts ≡ map (λ (d : TableDef). table_in d.type) ds = cc in
-      let value : first_value_seen v ≡ option_map (const_ops_of (look_up_in m)) d.init = cc in
-      let others_values : map first_value_seen vs ≡ first_values (look_up_in m) ds = cc in
+      let value : view_first_value v ≡ option_map (const_ops_of (look_up_in m)) d.init = cc in
+      let others_values : map view_first_value vs ≡ first_values (look_up_in m) ds = cc in
       let P = TableRefersIn (length (lists_of_module m).types) in
       let one = table_held t v d (All-head P d ds below) here value in
       let rest = tables_held ts vs ds (All-tail P d ds below) others others_values in
@@ -285,7 +285,7 @@ module _ (m : plain.Module) where
       record {
         imports = counts.tables;
         tables = tables_held (own_tables t) t.table_initialization.initial_values defs below.tables own has.first;
-        active = map_alike active_elements_of (λ s. plain_active (segment_seen s)) plain_seen t.table_initialization.segments.items
-            ∙ sym (map_both plain_active segment_seen t.table_initialization.segments.items)
+        active = map_alike active_elements_of (λ s. plain_active (view_segment s)) view_plain t.table_initialization.segments.items
+            ∙ sym (map_both plain_active view_segment t.table_initialization.segments.items)
             ∙ ap (map plain_active) has.active ∙ elements_held (look_up_in m) (lists_of_module m).elements;
       }

@@ -7,14 +7,14 @@ mod RuledSections
 mod FilledInitialisers
 mod FilledSections
 mod Started
-mod Formed
-mod Carried
+mod BuilderAfterTags
+mod UnchangedViews
 mod Named
 mod AskedHints
-mod Together
+mod WholeTranslation
 mod Answering
 pub mod Numbering
-pub mod Flagging
+pub mod NotingEscapes
 pub mod Typed
 pub mod Signatures
 pub mod Referring

@@ -9,7 +9,7 @@ use Rattle.init_plan.specs.declared.translation.ModuleTranslation.{ModuleTransla
 use Rattle.module_environ.specs.Filling.{LeavesRest, OnlyCustomsChange}
 use Rattle.module_environ.specs.Pooled.{GrowsBy, HasText, HasTexts}
 use Rattle.module_environ.specs.Translation.{HasEntities, HasSections}
-use Rattle.module_environ.proofs.Carried.{Carries, sections-carry}
+use Rattle.module_environ.proofs.UnchangedViews.{Carries, sections-carry}
 use Rattle.module_environ.proofs.GrownPool.{imports-grown, exports-grown, names-grown, pooled-grown}
 
 module _ (t u : ModuleTranslation) (same : OnlyCustomsChange t u) where

@@ -127,12 +127,12 @@ AreNumbers-more numbers order f kept in' e =
     }
 
 -- and so the functions that were met are as they are to be
-pub flagged-new : (numbers order : List ℕ) (f : ℕ) → AreNumbers numbers order → f < length numbers → get_or numbers f 0 ≡ 4294967295
+pub after_escapes-new : (numbers order : List ℕ) (f : ℕ) → AreNumbers numbers order → f < length numbers → get_or numbers f 0 ≡ 4294967295
     → order ++ f ∷ [] ≡ firsts_after order (f ∷ [])
-flagged-new numbers order f kept in' e =
+after_escapes-new numbers order f kept in' e =
     ap (λ b. if b then order else order ++ f ∷ []) (sym (unmet-place order f (unmet numbers order f kept in' e)))
 
-pub flagged-old : (numbers order : List ℕ) (f : ℕ) → AreNumbers numbers order → f < length numbers → (get_or numbers f 0 ≡ 4294967295 → ⊥)
+pub after_escapes-old : (numbers order : List ℕ) (f : ℕ) → AreNumbers numbers order → f < length numbers → (get_or numbers f 0 ≡ 4294967295 → ⊥)
     → order ≡ firsts_after order (f ∷ [])
-flagged-old numbers order f kept in' apart =
+after_escapes-old numbers order f kept in' apart =
     ap (λ b. if b then order else order ++ f ∷ []) (sym (met-place order f (met numbers order f kept in' apart)))

@@ -7,7 +7,7 @@ use Rattle.wasm_spec.specs.Module.{Expression}
 use Rattle.wasm_index.specs.Index.{number_of}
 use Rattle.wasm_convert.specs.Constants.{functions_of}
 use Rattle.module_environ.specs.Escapes.{referred}
-use Rattle.module_environ.specs.Flags.{Flags, flagged}
+use Rattle.module_environ.specs.EscapeLog.{EscapeLog, after_escapes}
 
 referred-is : (e : Expression) → map number_of (functions_of e) ≡ referred e
 referred-is [] = refl
@@ -20,5 +20,5 @@ all-referred n e h k d lt =
     subst (λ f. f < n) (get_or-map number_of (functions_of e) k d (number_of d) lt)
     (numbers k (number_of d) (subst (λ m. k < m) (sym (length-map (functions_of e) number_of)) lt))
 
-pub flagged-referred : (s t : Flags) (e : Expression) → t ≡ flagged s (map number_of (functions_of e)) → t ≡ flagged s (referred e)
-flagged-referred s t e is = is ∙ ap (flagged s) (referred-is e)
+pub after_escapes-referred : (s t : EscapeLog) (e : Expression) → t ≡ after_escapes s (map number_of (functions_of e)) → t ≡ after_escapes s (referred e)
+after_escapes-referred s t e is = is ∙ ap (after_escapes s) (referred-is e)

@@ -28,7 +28,7 @@ use Rattle.rule_spec.specs.Typing.{HasClass}
 use Rattle.wasm_types.specs.EntityData.{global_edges, table_edges}
 use Rattle.wasm_convert.specs.Conversion.{global_type_of, table_type_of}
 use Rattle.wasm_convert.specs.Known.{Known}
-use Rattle.init_plan.specs.Held.{held}
+use Rattle.init_plan.specs.Held.{erase_null_type}
 use Rattle.module_environ.specs.Convertible.{IsConvertible}
 use Rattle.module_environ.specs.Escapes.{exported_function}
 use Rattle.module_environ.specs.Exported.{CanExport}
@@ -49,7 +49,7 @@ at-entry Q R xs i lt f h = by (slice_get_cases xs i).1 where
 
 -- an expression of a number is held whole
 abbrev pub NumbersAreWhole : Type 0
-NumbersAreWhole = (l : Lists) (visible : List GlobalType) (e : plain.Expression) (c : Class) → c ≢ class.Ref → HasClass l visible e c → held e ≡ e
+NumbersAreWhole = (l : Lists) (visible : List GlobalType) (e : plain.Expression) (c : Class) → c ≢ class.Ref → HasClass l visible e c → erase_null_type e ≡ e
 
 -- a module that keeps the rules, with what is known of its declared types
 module _ (m : plain.Module) (keeps : Keeps m) (few : HasFewEntries m) (known : UnpackedIndex → Type 0)
@@ -155,13 +155,13 @@ module _ (m : plain.Module) (keeps : Keeps m) (few : HasFewEntries m) (known : U
       → IsDataConvertible known k
   segment-converts whole Passive named typed refers = tt
   segment-converts whole (Active memory offset) named typed refers =
-      let held-offset = at-entry (λ (t : MemoryType). HasClass l l.global_types offset (address_class t.memory64))
-      (IsOffset known offset × (held offset ≡ offset)) l.memories memory named
+      let whole-offset = at-entry (λ (t : MemoryType). HasClass l l.global_types offset (address_class t.memory64))
+      (IsOffset known offset × (erase_null_type offset ≡ offset)) l.memories memory named
       (λ t h. (
         offset-converts offset (convert l.global_types few.globals offset _ h refers),
         whole l l.global_types offset (address_class t.memory64) (not-ref t.memory64) h,
       )) typed in
-      (omega (arith, named, few.memories), held-offset.0, held-offset.1)
+      (omega (arith, named, few.memories), whole-offset.0, whole-offset.1)
 
   pub segments-convert : NumbersAreWhole → AreDataConvertible known l.segments
   segments-convert whole k d lt =

@@ -11,7 +11,7 @@ use Rattle.replay_spec.specs.Globals.{kept_of}
 use Rattle.replay_spec.specs.Values.{const_value}
 use Rattle.replay_spec.specs.Startup.{is_empty, kept_globals, passive_elements}
 use Rattle.init_plan.specs.declared.translation.ModuleTranslation.{ModuleTranslation}
-use Rattle.module_environ.specs.Initialisers.{initialisers, initialiser_seen, items_seen}
+use Rattle.module_environ.specs.Initialisers.{initialisers, view_initialiser, view_items}
 use Rattle.module_environ.specs.Translation.{HasSections}
 use Rattle.module_environ.specs.Translated.{starts_always}
 
@@ -40,7 +40,7 @@ module _ (debugged : Bool) (m : plain.Module) (t : ModuleTranslation) (s : HasSe
   pub left-empty : is_empty t.global_initializers.items ≡ is_empty (kept_globals (lists_of_module m).globals)
   left-empty =
       let globals = (lists_of_module m).globals in
-      sym (empty-map (initialiser_seen (λ e. e)) t.global_initializers.items) ∙ ap is_empty s.globals.left
+      sym (empty-map (view_initialiser (λ e. e)) t.global_initializers.items) ∙ ap is_empty s.globals.left
       ∙ empty-map _ (filter_map kept_of (initialisers globals))
       ∙ empty-left 0 (map (λ (g : GlobalDef). g.init) globals)
 
@@ -49,7 +49,7 @@ module _ (debugged : Bool) (m : plain.Module) (t : ModuleTranslation) (s : HasSe
 
   pub passive-empty : is_empty t.passive_elements ≡ is_empty (passive_elements (lists_of_module m).elements)
   passive-empty =
-      sym (empty-map items_seen t.passive_elements) ∙ ap is_empty s.elements.passive ∙ empty-map _ (passive_elements (lists_of_module m).elements)
+      sym (empty-map view_items t.passive_elements) ∙ ap is_empty s.elements.passive ∙ empty-map _ (passive_elements (lists_of_module m).elements)
 
   abbrev starts : Bool → Bool → Bool → Bool
   starts a b c = not (a && b && c)

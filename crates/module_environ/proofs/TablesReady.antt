@@ -41,7 +41,7 @@ use Rattle.table_images.specs.Steps.{images_of}
 use Rattle.init_plan.specs.declared.translation.ModuleTranslation.{ModuleTranslation}
 use Rattle.init_plan.specs.Tables.{IsAmong, own_tables, TableHalfIsReady}
 use Rattle.module_environ.specs.Types.{look_up_in}
-use Rattle.module_environ.specs.Initialisers.{ActiveItems, Items, FunctionItems, ExpressionItems, active_in, active_elements, segment_seen, items_in, items_seen, first_value_seen}
+use Rattle.module_environ.specs.Initialisers.{ActiveItems, Items, FunctionItems, ExpressionItems, active_in, active_elements, view_segment, items_in, view_items, view_first_value}
 use Rattle.module_environ.specs.Translation.{HasElements, HasEntities, CountsImports, Escapes}
 
 All-unmap : {X Y : Type 0} (P : Y → Type 0) (f : X → Y) (xs : List X) → All P (map f xs) → All (λ x. P (f x)) xs
@@ -74,7 +74,7 @@ abbrev cells : Items → List (Option ℕ)
 cells (FunctionItems functions) = map Some functions
 cells (ExpressionItems type list) = map (λ e. unwrap_or (expression_cell e) None) (map expression_of list)
 
-cells-seen : (x : TableSegmentElements) → image_cells (items_of x) ≡ cells (items_seen x)
+cells-seen : (x : TableSegmentElements) → image_cells (items_of x) ≡ cells (view_items x)
 cells-seen (elements.Functions functions) = refl
 cells-seen (elements.Expressions ty list) = refl
 
@@ -120,7 +120,7 @@ few_active look (e ∷ es) = with_kind e.kind (few_active look es) where
 
 -- ---- initial values
 
-initial-seen : (v : TableInitialValue) → initial_of v ≡ option_map expression_of (first_value_seen v)
+initial-seen : (v : TableInitialValue) → initial_of v ≡ option_map expression_of (view_first_value v)
 initial-seen initial.Null = refl
 initial-seen (initial.Expr e) = refl
 
@@ -173,11 +173,11 @@ module _ (debugged : Bool) (m : Module) (t : ModuleTranslation) (has : HasElemen
   own_count = length-append (plain.imported_of plain.table_import m) (map (λ (d : TableDef). d.type) l.tables)
       ∙ (let long = length-map l.tables (λ (d : TableDef). d.type) in omega (arith, counts.tables, long))
 
-  ready : All (IsActiveReady look l) (map segment_seen t.table_initialization.segments.items)
+  ready : All (IsActiveReady look l) (map view_segment t.table_initialization.segments.items)
   ready = subst (All (IsActiveReady look l)) (sym has.active) (active-ready look l l.elements (kept L9).elements (kept L6).elements)
 
-  each : All (λ (s : TableSegment). IsActiveReady look l (segment_seen s)) t.table_initialization.segments.items
-  each = All-unmap (IsActiveReady look l) segment_seen t.table_initialization.segments.items ready
+  each : All (λ (s : TableSegment). IsActiveReady look l (view_segment s)) t.table_initialization.segments.items
+  each = All-unmap (IsActiveReady look l) view_segment t.table_initialization.segments.items ready
 
   initials : All (λ (v : TableInitialValue). IsAmong (length t.module.functions) (initial_function (initial_of v)))
       t.table_initialization.initial_values
@@ -187,12 +187,12 @@ module _ (debugged : Bool) (m : Module) (t : ModuleTranslation) (has : HasElemen
       All-weaker (HasTypedInitialiser l) (λ (d : TableDef). A (option_map (const_ops_of look) d.init))
       (λ d h. subst (λ n. IsAmong n (initial_function (option_map expression_of (option_map (const_ops_of look) d.init)))) (sym function_count)
       (initial-among look l (take l.imported_globals l.global_types) class.Ref d.init h)) l.tables (kept L6).tables in
-      let seen : All A (map first_value_seen t.table_initialization.initial_values) =
+      let seen : All A (map view_first_value t.table_initialization.initial_values) =
       subst (All A) (sym has.first) (All-map A (λ (d : TableDef). option_map (const_ops_of look) d.init) l.tables typed) in
-      All-weaker (λ (v : TableInitialValue). A (first_value_seen v))
+      All-weaker (λ (v : TableInitialValue). A (view_first_value v))
       (λ (v : TableInitialValue). IsAmong (length t.module.functions) (initial_function (initial_of v)))
       (λ v h. subst (λ o. IsAmong (length t.module.functions) (initial_function o)) (sym (initial-seen v)) h) t.table_initialization.initial_values
-      (All-unmap A first_value_seen t.table_initialization.initial_values seen)
+      (All-unmap A view_first_value t.table_initialization.initial_values seen)
 
   pub tables-ready : TableHalfIsReady t
   tables-ready =
@@ -202,7 +202,7 @@ module _ (debugged : Bool) (m : Module) (t : ModuleTranslation) (has : HasElemen
         few_tables = omega (arith, table_count, few.tables);
         few_functions = omega (arith, function_count, few.functions);
         each_value =
-            let count = sym (length-map t.table_initialization.initial_values first_value_seen) ∙ ap length has.first ∙ length-map l.tables _ in
+            let count = sym (length-map t.table_initialization.initial_values view_first_value) ∙ ap length has.first ∙ length-map l.tables _ in
             omega (arith, count, table_count, own_count);
         each_image =
             let count = sym (length-map t.module.table_initialization (λ image. image.items)) ∙ ap length has.no_images ∙ length-map l.tables _ in
@@ -210,18 +210,18 @@ module _ (debugged : Bool) (m : Module) (t : ModuleTranslation) (has : HasElemen
         no_images = no_images t.module.table_initialization l.tables has.no_images;
         few_segments =
             let count = length-map segments active_elements_of in
-            let same = sym (length-map segments segment_seen) ∙ ap length has.active in
+            let same = sym (length-map segments view_segment) ∙ ap length has.active in
             let le = few_active look l.elements in
             omega (arith, count, same, le, few.elements);
         in_range = All-map (λ (s : ActiveElements). s.table < length t.module.tables) active_elements_of segments
-            (All-weaker (λ (s : TableSegment). IsActiveReady look l (segment_seen s))
+            (All-weaker (λ (s : TableSegment). IsActiveReady look l (view_segment s))
             (λ (s : TableSegment). number_of s.table_index < length t.module.tables)
             (λ s h. let in' = h.table in omega (arith, in', table_count)) segments each);
         functions = All-map (λ (s : ActiveElements). All (IsAmong (length t.module.functions)) (image_cells s.items)) active_elements_of segments
-            (All-weaker (λ (s : TableSegment). IsActiveReady look l (segment_seen s))
+            (All-weaker (λ (s : TableSegment). IsActiveReady look l (view_segment s))
             (λ (s : TableSegment). All (IsAmong (length t.module.functions)) (image_cells (items_of s.elements)))
             (λ s h. subst (All (IsAmong (length t.module.functions))) (sym (cells-seen s.elements))
-            (subst (λ n. All (IsAmong n) (cells (items_seen s.elements))) (sym function_count) h.functions)) segments each);
+            (subst (λ n. All (IsAmong n) (cells (view_items s.elements))) (sym function_count) h.functions)) segments each);
         initial_functions = All-defined (λ o. IsAmong (length t.module.functions) (initial_function o)) (own_tables t)
             t.table_initialization.initial_values initials;
       }

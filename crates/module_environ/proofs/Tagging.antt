@@ -13,7 +13,7 @@ use Rattle.wasm_index.specs.Index.{index_of}
 use Rattle.wasm_types.specs.declared.index.EngineOrModuleTypeIndex.{EngineOrModuleTypeIndex}
 use Rattle.wasm_types.specs.declared.tag.Tag.{Tag}
 use Rattle.module_types.specs.Builder.{Builder, is_function, noted, exception_index, excepts_by, excepts}
-use Rattle.module_types.proofs.Along.{composite-before}
+use Rattle.module_types.proofs.GroupMembers.{composite-before}
 use Rattle.module_environ.specs.Types.{interned_at, type_index, declared_type, exception_at, interned_list}
 use Rattle.module_environ.specs.Environment.{interned_in, number_or_zero}
 use Rattle.module_environ.specs.Entities.{tags_of}

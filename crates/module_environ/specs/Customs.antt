@@ -14,7 +14,7 @@ use Rattle.module_customs.specs.Debugged.{is_debug_section}
 use Rattle.init_plan.specs.declared.translation.ModuleTranslation.{ModuleTranslation}
 use Rattle.init_plan.specs.Views.{hints_of}
 use Rattle.module_environ.specs.Entities.{text_at}
-use Rattle.module_environ.specs.Metadata.{function_seen, functions_asked}
+use Rattle.module_environ.specs.Metadata.{view_function, functions_asked}
 use Rattle.module_environ.specs.Types.{look_up_in}
 
 -- the names for a debugger, and of those otherwise what names functions
@@ -38,6 +38,6 @@ pub record HasCustoms (tunables : Tunables) (m : plain.Module) (t : ModuleTransl
   pub names : HasNames tunables.debug_native m t
   pub hints : HasHints tunables.branch_hinting m t
   -- parameters and locals of the defined functions, for a debugger
-  pub functions : map function_seen t.debuginfo.wasm_file.funcs.items ≡ functions_asked (look_up_in m) (lists_of_module m) tunables.debug_native
+  pub functions : map view_function t.debuginfo.wasm_file.funcs.items ≡ functions_asked (look_up_in m) (lists_of_module m) tunables.debug_native
   -- whether there is debug information, which is not read
   pub debug : t.has_unparsed_debuginfo ≡ list_any is_debug_section m

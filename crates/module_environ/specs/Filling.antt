@@ -22,7 +22,7 @@ use Rattle.init_plan.specs.declared.translation.ModuleTranslation.{ModuleTransla
 use Rattle.init_plan.specs.Views.{initializers_of, passive_data_of, IsUnprocessed}
 use Rattle.module_environ.specs.Types.{look_up_in}
 use Rattle.module_environ.specs.LookUps.{AgreeBelow}
-use Rattle.module_environ.specs.Flags.{Flags, flagged}
+use Rattle.module_environ.specs.EscapeLog.{EscapeLog, after_escapes}
 use Rattle.module_environ.specs.Escapes.{referred, referred_if_any, item_functions}
 use Rattle.module_environ.specs.Exported.{exported_functions}
 use Rattle.module_environ.specs.Pooled.{GrowsBy, HasText, HasTexts}
@@ -82,7 +82,7 @@ references_of l =
     ++ flat_map (λ e. item_functions e.items) l.elements
 
 -- exports, first values and segments are filled in, and their references noted
-pub record FillsInitialisers (m : plain.Module) (before after : Flags) (old new : ModuleTranslation) : Type 0 where
+pub record FillsInitialisers (m : plain.Module) (before after : EscapeLog) (old new : ModuleTranslation) : Type 0 where
   pub exports : map (resolved_export new.module.strings) new.module.exports.entries ≡ exported_entities (lists_of_module m).exports
   pub texts : GrowsBy (2 ^ 30) old.module.strings new.module.strings
   pub pooled : All (λ e. HasText new.module.strings e.0) new.module.exports.entries
@@ -91,7 +91,7 @@ pub record FillsInitialisers (m : plain.Module) (before after : Flags) (old new 
   pub unprocessed : IsUnprocessed new.memory_init
   pub active : initializers_of new ≡ active_segments m
   pub passive : passive_data_of new ≡ passive_data_from 0 (plain.segments m)
-  pub noted : after ≡ flagged before (references_of (lists_of_module m))
+  pub noted : after ≡ after_escapes before (references_of (lists_of_module m))
   pub same : new ≡ record old {
     «module» = record old.module {
       strings = new.module.strings;
@@ -105,7 +105,7 @@ pub record FillsInitialisers (m : plain.Module) (before after : Flags) (old new 
     passive_elements = new.passive_elements;
     table_initialization = new.table_initialization;
     memory_init = new.memory_init;
-    hidden = record old.hidden { passive_data = new.hidden.passive_data };
+    private_parts = record old.private_parts { passive_data = new.private_parts.passive_data };
   }
 
 -- what the sections leave of a translation
@@ -114,7 +114,7 @@ pub record LeavesRest (old new : ModuleTranslation) : Type 0 where
   pub startup : new.module.startup ≡ old.module.startup
   pub offset : new.wasm_module_offset ≡ old.wasm_module_offset
 
--- of a translation only names, hints, and what is told of its functions and of debug information, may be others
+-- of a translation only names, hints, and the metadata of its functions and of debug information, may be others
 abbrev pub OnlyCustomsChange : ModuleTranslation → ModuleTranslation → Type 0
 OnlyCustomsChange old new = new ≡ record old {
   «module» = record old.module { strings = new.module.strings; name = new.module.name };
@@ -123,5 +123,5 @@ OnlyCustomsChange old new = new ≡ record old {
     wasm_file = record old.debuginfo.wasm_file { funcs = new.debuginfo.wasm_file.funcs };
   };
   has_unparsed_debuginfo = new.has_unparsed_debuginfo;
-  hidden = record old.hidden { branch_hints = new.hidden.branch_hints };
+  private_parts = record old.private_parts { branch_hints = new.private_parts.branch_hints };
 }

@@ -9,17 +9,17 @@ use Rattle.wasm_convert.specs.Constants.{const_ops_of, expression_of}
 use Rattle.replay_spec.specs.Values.{Value, const_value}
 use Rattle.replay_spec.specs.Globals.{simple_of, kept_of}
 use Rattle.module_environ.specs.declared.globals.FirstGlobals.{FirstGlobals}
-use Rattle.module_environ.specs.Initialisers.{value_seen, initialiser_seen}
+use Rattle.module_environ.specs.Initialisers.{view_value, view_initialiser}
 
 -- each global is in one of the lists
 abbrev pub seen_globals : FirstGlobals → ℕ
 seen_globals g = length g.known.items + length g.left.items
 
-abbrev pub known_seen : FirstGlobals → List (ℕ × Value)
-known_seen g = map value_seen g.known.items
+abbrev pub view_known : FirstGlobals → List (ℕ × Value)
+view_known g = map view_value g.known.items
 
-abbrev pub left_seen : FirstGlobals → List (ℕ × List ConstOp)
-left_seen g = map (initialiser_seen (λ e. e)) g.left.items
+abbrev pub view_left : FirstGlobals → List (ℕ × List ConstOp)
+view_left g = map (view_initialiser (λ e. e)) g.left.items
 
 -- the initialisers of globals that come next, by their numbers
 abbrev pub next_initialisers : FirstGlobals → List GlobalDef → List (ℕ × Expression)
@@ -27,8 +27,8 @@ next_initialisers first globals = enumerate_from (seen_globals first) (map (λ g
 
 -- globals are added in order
 pub record AddsGlobals (look : LookUp) (old new : FirstGlobals) (globals : List GlobalDef) : Type 0 where
-  pub known : known_seen new ≡ known_seen old ++ filter_map simple_of (next_initialisers old globals)
-  pub left : left_seen new ≡ left_seen old ++ map (λ g. (g.0, const_ops_of look g.1)) (filter_map kept_of (next_initialisers old globals))
+  pub known : view_known new ≡ view_known old ++ filter_map simple_of (next_initialisers old globals)
+  pub left : view_left new ≡ view_left old ++ map (λ g. (g.0, const_ops_of look g.1)) (filter_map kept_of (next_initialisers old globals))
   pub counted : seen_globals new ≡ seen_globals old + length globals
 
 -- where the value of the initialiser of the next global is this one, if it is known
@@ -40,6 +40,6 @@ left_next number ops value = if is_none value then (number, ops) ∷ [] else []
 
 -- the global of an initialiser is added
 pub record AddsInitialiser (old new : FirstGlobals) (ops : List ConstOp) : Type 0 where
-  pub known : known_seen new ≡ known_seen old ++ known_next (seen_globals old) (const_value (expression_of ops))
-  pub left : left_seen new ≡ left_seen old ++ left_next (seen_globals old) ops (const_value (expression_of ops))
+  pub known : view_known new ≡ view_known old ++ known_next (seen_globals old) (const_value (expression_of ops))
+  pub left : view_left new ≡ view_left old ++ left_next (seen_globals old) ops (const_value (expression_of ops))
   pub counted : seen_globals new ≡ seen_globals old + 1

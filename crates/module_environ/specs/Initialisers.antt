@@ -7,7 +7,7 @@ use Rattle.wasm_spec.specs.TypeData.{Reference, reference_of, map_reference}
 use Rattle.wasm_index.specs.declared.index.Index.{Index}
 use Rattle.wasm_index.specs.declared.spaces.DefinedGlobalSpace.{DefinedGlobalSpace}
 use Rattle.wasm_index.specs.Index.{number_of}
-use Rattle.wasm_types.specs.ValueViews.{Name, reference_of as reference_seen}
+use Rattle.wasm_types.specs.ValueViews.{Name, reference_of as view_reference}
 use Rattle.wasm_convert.specs.declared.operators.ConstOp.{ConstOp}
 use Rattle.wasm_convert.specs.Conversion.{LookUp}
 use Rattle.wasm_convert.specs.Constants.{const_ops_of, plain_value_of}
@@ -32,20 +32,20 @@ known_values globals = filter_map simple_of (initialisers globals)
 abbrev pub left_initialisers : LookUp → List GlobalDef → List (ℕ × List ConstOp)
 left_initialisers look globals = map (λ g. (g.0, const_ops_of look g.1)) (filter_map kept_of (initialisers globals))
 
-abbrev pub value_seen : Index DefinedGlobalSpace × GlobalConstValue → ℕ × Value
-value_seen g = (number_of g.0, plain_value_of g.1)
+abbrev pub view_value : Index DefinedGlobalSpace × GlobalConstValue → ℕ × Value
+view_value g = (number_of g.0, plain_value_of g.1)
 
-abbrev pub initialiser_seen : {C : Type 0} → (C → List ConstOp) → Index DefinedGlobalSpace × C → ℕ × List ConstOp
-initialiser_seen ops g = (number_of g.0, ops g.1)
+abbrev pub view_initialiser : {C : Type 0} → (C → List ConstOp) → Index DefinedGlobalSpace × C → ℕ × List ConstOp
+view_initialiser ops g = (number_of g.0, ops g.1)
 
 -- ---- tables
 
 abbrev pub first_values : LookUp → List TableDef → List (Option (List ConstOp))
 first_values look tables = map (λ t. option_map (const_ops_of look) t.init) tables
 
-abbrev pub first_value_seen : TableInitialValue → Option (List ConstOp)
-first_value_seen initial.Null = None
-first_value_seen (initial.Expr e) = Some e
+abbrev pub view_first_value : TableInitialValue → Option (List ConstOp)
+view_first_value initial.Null = None
+view_first_value (initial.Expr e) = Some e
 
 -- ---- the items of element segments: functions by their indices, or expressions of a type
 
@@ -57,9 +57,9 @@ abbrev pub items_in : LookUp → ElementItems → Items
 items_in look (Functions indices) = FunctionItems indices
 items_in look (Expressions type items) = ExpressionItems (map_reference look (reference_of type)) (map (const_ops_of look) items)
 
-abbrev pub items_seen : TableSegmentElements → Items
-items_seen (elements.Functions functions) = FunctionItems (map number_of functions.items)
-items_seen (elements.Expressions ty expressions) = ExpressionItems (reference_seen ty) expressions.items
+abbrev pub view_items : TableSegmentElements → Items
+view_items (elements.Functions functions) = FunctionItems (map number_of functions.items)
+view_items (elements.Expressions ty expressions) = ExpressionItems (view_reference ty) expressions.items
 
 -- ---- active element segments: a table that is not named is the first
 
@@ -76,8 +76,8 @@ active_in look _ items = None
 abbrev pub active_elements : LookUp → List Element → List ActiveItems
 active_elements look elements = filter_map (λ e. active_in look e.kind e.items) elements
 
-abbrev pub segment_seen : TableSegment → ActiveItems
-segment_seen s = record { table = number_of s.table_index; offset = s.offset; items = items_seen s.elements }
+abbrev pub view_segment : TableSegment → ActiveItems
+view_segment s = record { table = number_of s.table_index; offset = s.offset; items = view_items s.elements }
 
 -- ---- passive element segments, and the number of each among those
 

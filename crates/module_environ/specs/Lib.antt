@@ -5,7 +5,7 @@ pub mod Tagged
 pub mod Firsts
 pub mod Types
 pub mod Escapes
-pub mod Flags
+pub mod EscapeLog
 pub mod Numbers
 pub mod Convertible
 pub mod Segments

@@ -1,4 +1,4 @@
--- What is told of the functions that a module defines: their parameters, and their locals in runs of one type (core specification, 2.5, functions).
+-- The metadata of the functions that a module defines: their parameters, and their locals in runs of one type (core specification, 2.5, functions).
 use Rattle.std.specs.Prelude.{ℕ, ◌+◌, Bool, List, [], map, unwrap_or, if◌then◌else◌}
 use Rattle.std.specs.List.{enumerate_from}
 use Rattle.std.specs.Option.{option_map}
@@ -7,7 +7,7 @@ use Rattle.wasm_spec.specs.TypeData.{Value, Composite, Func, value_of, map_value
 use Rattle.wasm_spec.specs.Module.{Body}
 use Rattle.rule_spec.specs.Lists.{Lists}
 use Rattle.rule_spec.specs.Indices.{kind_of_function}
-use Rattle.wasm_types.specs.ValueViews.{Name, value_of as value_seen}
+use Rattle.wasm_types.specs.ValueViews.{Name, value_of as view_value}
 use Rattle.wasm_convert.specs.Conversion.{LookUp}
 use Rattle.init_plan.specs.declared.debug_info.FunctionMetadata.{FunctionMetadata}
 
@@ -43,5 +43,5 @@ module _ (look : LookUp) (l : Lists) where
   functions_asked asked = if asked then functions_data else []
 
 -- as a translation has it
-abbrev pub function_seen : FunctionMetadata → FunctionData
-function_seen f = record { params = map value_seen f.params.items; locals = map (λ run. (run.0, value_seen run.1)) f.locals.items }
+abbrev pub view_function : FunctionMetadata → FunctionData
+view_function f = record { params = map view_value f.params.items; locals = map (λ run. (run.0, view_value run.1)) f.locals.items }

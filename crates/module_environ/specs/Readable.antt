@@ -24,13 +24,13 @@ pub record Breaks (rule : Rule) (bytes : List ℕ) : Type 0 where
   pub first : KeepsBefore rule meaning
 
 -- why the bytes have no translation, with a builder that was poisoned or not
-abbrev pub HasCause : List ℕ → Bool → EnvironError → Type 0
-HasCause bytes poisoned refusal.Malformed = ((m : Module) → ¬ Spells bytes m) × ((what : What) → ¬ Stops bytes what)
-HasCause bytes poisoned (refusal.Invalid rule) = Breaks rule bytes
-HasCause bytes poisoned (refusal.Unsupported what) = Stops bytes what
-HasCause bytes poisoned refusal.TooLarge = 2 ^ 30 ≤ length bytes
-HasCause bytes poisoned refusal.OutOfMemory = Unit {0}
-HasCause bytes poisoned refusal.Poisoned = poisoned ≡ true
+abbrev pub HasTranslationCause : List ℕ → Bool → EnvironError → Type 0
+HasTranslationCause bytes poisoned refusal.Malformed = ((m : Module) → ¬ Spells bytes m) × ((what : What) → ¬ Stops bytes what)
+HasTranslationCause bytes poisoned (refusal.Invalid rule) = Breaks rule bytes
+HasTranslationCause bytes poisoned (refusal.Unsupported what) = Stops bytes what
+HasTranslationCause bytes poisoned refusal.TooLarge = 2 ^ 30 ≤ length bytes
+HasTranslationCause bytes poisoned refusal.OutOfMemory = Unit {0}
+HasTranslationCause bytes poisoned refusal.Poisoned = poisoned ≡ true
 
 -- there is an answer, or no memory for it
 abbrev pub SucceedsOrNoMemory : {A : Type 0} → Result A EnvironError → Type 0

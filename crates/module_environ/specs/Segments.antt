@@ -10,10 +10,10 @@ use Rattle.wasm_convert.specs.Conversion.{LookUp}
 use Rattle.wasm_convert.specs.Known.{Known}
 use Rattle.wasm_convert.specs.Operators.{KnowsOperator}
 use Rattle.wasm_module.specs.Elements.{element_type, element_count}
-use Rattle.init_plan.specs.Held.{held}
+use Rattle.init_plan.specs.Held.{erase_null_type}
 use Rattle.module_environ.specs.declared.elements.ElementSegments.{ElementSegments}
 use Rattle.module_environ.specs.Convertible.{IsConvertible}
-use Rattle.module_environ.specs.Initialisers.{active_elements, segment_seen, passive_items, items_seen, passive_numbers}
+use Rattle.module_environ.specs.Initialisers.{active_elements, view_segment, passive_items, view_items, passive_numbers}
 
 -- over the indices that an environment knows
 module _ (known : UnpackedIndex → Type 0) where
@@ -25,7 +25,7 @@ module _ (known : UnpackedIndex → Type 0) where
   -- the memory of an active data segment has an index, and its offset is a number, so that a translation holds it whole
   abbrev pub IsDataConvertible : DataKind → Type 0
   IsDataConvertible Passive = Unit {0}
-  IsDataConvertible (Active memory offset) = (memory < 4294967295) × IsOffset offset × (held offset ≡ offset)
+  IsDataConvertible (Active memory offset) = (memory < 4294967295) × IsOffset offset × (erase_null_type offset ≡ offset)
 
   abbrev pub AreDataConvertible : List Segment → Type 0
   AreDataConvertible segments = All (λ s. IsDataConvertible s.kind) segments
@@ -50,8 +50,8 @@ module _ (known : UnpackedIndex → Type 0) where
 
 -- active segments, and passive ones with their types and lengths, each found by its place among all
 pub record HoldsElements (look : LookUp) (elements : List Element) (s : ElementSegments) : Type 0 where
-  pub active : map segment_seen s.active.items ≡ active_elements look elements
-  pub passive : map items_seen s.passive ≡ passive_items look elements
+  pub active : map view_segment s.active.items ≡ active_elements look elements
+  pub passive : map view_items s.passive ≡ passive_items look elements
   pub kinds : s.kinds ≡ map (λ items. (element_type items, element_count items)) s.passive
   pub numbers : (index : ℕ) → option_map number_of (value_at s.numbers index) ≡ unwrap_or (slice_get (passive_numbers 0 elements) index) None
   pub count : s.count ≡ length elements

@@ -28,7 +28,7 @@ use Rattle.module_environ.specs.Customs.{HasCustoms}
 use Rattle.module_environ.specs.Entities.{count_of, imported_entities, exported_entities, resolved_import, resolved_export, function_types, tables_data, globals_data, tags_of}
 use Rattle.module_environ.specs.Escapes.{escaping, AreSignatures}
 use Rattle.module_environ.specs.Pooled.{HasText, HasTexts}
-use Rattle.module_environ.specs.Initialisers.{known_values, left_initialisers, value_seen, initialiser_seen, first_values, first_value_seen, active_elements, segment_seen, passive_items, items_seen, passive_numbers, passive_data_from}
+use Rattle.module_environ.specs.Initialisers.{known_values, left_initialisers, view_value, view_initialiser, first_values, view_first_value, active_elements, view_segment, passive_items, view_items, passive_numbers, passive_data_from}
 
 -- where the code section's contents begin, and 0 without one
 abbrev pub code_places : plain.Payload → List ℕ
@@ -81,15 +81,15 @@ NeedsHeap t = t.module.needs_gc_heap ≡ list_any (λ table. heap_is_collected t
 
 -- globals whose value is known, and the initialisers of the others
 pub record HasGlobals (m : plain.Module) (t : ModuleTranslation) : Type 0 where
-  pub known : map value_seen t.module.global_initializers.items ≡ known_values (lists_of_module m).globals
-  pub left : map (initialiser_seen (λ e. e)) t.global_initializers.items ≡ left_initialisers (look_up_in m) (lists_of_module m).globals
+  pub known : map view_value t.module.global_initializers.items ≡ known_values (lists_of_module m).globals
+  pub left : map (view_initialiser (λ e. e)) t.global_initializers.items ≡ left_initialisers (look_up_in m) (lists_of_module m).globals
 
 -- first values of tables, and element segments: no table has an image yet
 pub record HasElements (m : plain.Module) (t : ModuleTranslation) : Type 0 where
-  pub first : map first_value_seen t.table_initialization.initial_values ≡ first_values (look_up_in m) (lists_of_module m).tables
-  pub active : map segment_seen t.table_initialization.segments.items ≡ active_elements (look_up_in m) (lists_of_module m).elements
+  pub first : map view_first_value t.table_initialization.initial_values ≡ first_values (look_up_in m) (lists_of_module m).tables
+  pub active : map view_segment t.table_initialization.segments.items ≡ active_elements (look_up_in m) (lists_of_module m).elements
   pub no_images : map (λ image. image.items) t.module.table_initialization ≡ map (λ table. []) (lists_of_module m).tables
-  pub passive : map items_seen t.passive_elements ≡ passive_items (look_up_in m) (lists_of_module m).elements
+  pub passive : map view_items t.passive_elements ≡ passive_items (look_up_in m) (lists_of_module m).elements
   pub kinds : t.module.passive_elements ≡ map (λ items. (element_type items, element_count items)) t.passive_elements
   pub numbers : (index : ℕ) → option_map number_of (value_at t.passive_elem_map index)
       ≡ unwrap_or (slice_get (passive_numbers 0 (lists_of_module m).elements) index) None

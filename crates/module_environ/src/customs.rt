@@ -1,4 +1,4 @@
-//! What the custom sections of a module give its translation, and what is told of its functions.
+//! What the custom sections of a module give its translation, and the metadata of its functions.
 
 ghost use Rattle.std.specs.Prelude.{◌≡◌, ◌+◌, ◌-◌, ◌<◌, ◌^◌, length, IfOk, IfSome, OnOk};
 ghost use Rattle.std.specs.Option.{option_map};
@@ -25,7 +25,7 @@ use wasm_convert::TypeConvert;
 use wasm_index::FuncIndex;
 use wasm_types::Tunables;
 
-/// Fills in names, hints of branches and what is told of functions, as far as they are asked for, and whether there is debug information.
+/// Fills in names, hints of branches and the metadata of functions, as far as they are asked for, and whether there is debug information.
 pub(crate) fn fill_customs<'d>(
     alloc: Global,
     tunables: &Tunables,
@@ -44,7 +44,7 @@ pub(crate) fn fill_customs<'d>(
     let native = tunables.debug_native;
     let names = kept_names(alloc, lists.form, native)?;
     translation.module.name = pool_name(&mut translation.module.strings, names.module_name)?;
-    // The names and functions of before, of which there are none, are let go as values of their own.
+    // The names and functions of before, of which there are none, are dropped as values of their own.
     let _no_names = mem::replace(
         &mut translation.debuginfo.name_section,
         asked_names(names, native),

@@ -34,7 +34,7 @@ pub(crate) fn add_segments<'d>(
     ensures unprocessed { OnOk result (IsUnprocessed translation.new.memory_init) }
     ensures same { OnOk result (translation.new ≡ record translation.old {
       memory_init = translation.new.memory_init;
-      hidden = record translation.old.hidden { passive_data = translation.new.hidden.passive_data };
+      private_parts = record translation.old.private_parts { passive_data = translation.new.private_parts.passive_data };
     }) }
 {
     let active = convert_active(alloc, env, form)?;

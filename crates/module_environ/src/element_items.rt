@@ -7,8 +7,8 @@ ghost use Rattle.wasm_index.specs.Index.{number_of};
 ghost use Rattle.wasm_convert.specs.Constants.{const_ops_of};
 ghost use Rattle.module_environ.specs.Convertible.{IsConvertible};
 ghost use Rattle.module_environ.specs.Escapes.{referred, item_functions};
-ghost use Rattle.module_environ.specs.Flags.{flagged};
-ghost use Rattle.module_environ.specs.Initialisers.{items_in, items_seen};
+ghost use Rattle.module_environ.specs.EscapeLog.{after_escapes};
+ghost use Rattle.module_environ.specs.Initialisers.{items_in, view_items};
 ghost use Rattle.module_environ.specs.Segments.{AreItemsConvertible};
 
 use crate::escapes::Escaping;
@@ -28,8 +28,8 @@ pub(crate) fn convert_items(
     escaping: &mut Escaping,
 ) -> Result<TableSegmentElements, OutOfMemory>
     requires { AreItemsConvertible (knows env.now) escaping.old.count (items_of items.now) }
-    ensures converted { IfOk result (λ r. items_seen r ≡ items_in (look_up env.now) (items_of items.now)) }
-    ensures noted { OnOk result (escaping.new ≡ flagged escaping.old (item_functions (items_of items.now))) }
+    ensures converted { IfOk result (λ r. view_items r ≡ items_in (look_up env.now) (items_of items.now)) }
+    ensures noted { OnOk result (escaping.new ≡ after_escapes escaping.old (item_functions (items_of items.now))) }
 {
     match items {
         ElementItems::Functions(indices) => Ok(TableSegmentElements::Functions(convert_functions(
@@ -49,12 +49,12 @@ fn convert_functions(
 ) -> Result<Vec<FuncIndex>, OutOfMemory>
     requires { All (λ f. (f < escaping.old.count) × (f < u32.MAX)) indices.now }
     ensures converted { IfOk result (λ functions. map number_of functions.items ≡ indices.now) }
-    ensures noted { OnOk result (escaping.new ≡ flagged escaping.old indices.now) }
+    ensures noted { OnOk result (escaping.new ≡ after_escapes escaping.old indices.now) }
 {
     let mut functions = Vec::with_capacity(alloc, indices.len())?;
     for index in indices {
         let function = FuncIndex::from_u32(*index);
-        escaping.flag(function)?;
+        escaping.note_escape(function)?;
         functions.push(function)?;
     }
     Ok(functions)
@@ -68,7 +68,7 @@ fn convert_expressions(
 ) -> Result<Vec<ConstExpr>, OutOfMemory>
     requires { All (IsConvertible (knows env.now) escaping.old.count) (map expression_of list.now) }
     ensures converted { IfOk result (λ es. es.items ≡ map (const_ops_of (look_up env.now)) (map expression_of list.now)) }
-    ensures noted { OnOk result (escaping.new ≡ flagged escaping.old (flat_map referred (map expression_of list.now))) }
+    ensures noted { OnOk result (escaping.new ≡ after_escapes escaping.old (flat_map referred (map expression_of list.now))) }
 {
     let mut expressions = Vec::with_capacity(alloc, list.len())?;
     for expression in list {

@@ -10,7 +10,7 @@ ghost use Rattle.wasm_index.specs.Index.{index_of, number_of};
 ghost use Rattle.wasm_convert.specs.Conversion.{LookUp};
 ghost use Rattle.wasm_module.specs.Elements.{element_type, element_count};
 ghost use Rattle.module_environ.specs.Escapes.{item_functions};
-ghost use Rattle.module_environ.specs.Flags.{flagged};
+ghost use Rattle.module_environ.specs.EscapeLog.{after_escapes};
 ghost use Rattle.module_environ.specs.Segments.{IsElementConvertible, AreElementsConvertible, HoldsElements, HasRoom, AddsElements};
 
 use crate::element_items::convert_items;
@@ -52,7 +52,7 @@ pub(crate) fn convert_elements(
     requires convertible { AreElementsConvertible (knows env.now) escaping.old.count (flat_map plain.elements_of_section (module_of form.now)) }
     ensures holds { IfOk result (HoldsElements (look_up env.now) (flat_map plain.elements_of_section (module_of form.now))) }
     ensures noted { OnOk result
-        (escaping.new ≡ flagged escaping.old (flat_map (λ e. item_functions e.items) (flat_map plain.elements_of_section (module_of form.now)))) }
+        (escaping.new ≡ after_escapes escaping.old (flat_map (λ e. item_functions e.items) (flat_map plain.elements_of_section (module_of form.now)))) }
 {
     let mut segments = ElementSegments::new(alloc);
     for payload in &form.payloads {
@@ -85,7 +85,7 @@ impl ElementSegments {
         requires convertible { AreElementsConvertible (knows env.now) escaping.old.count (map element_of elements.now) }
         ensures holds { OnOk result (AddsElements (look_up env.now) self.old self.new (map element_of elements.now)) }
         ensures noted { OnOk result
-            (escaping.new ≡ flagged escaping.old (flat_map (λ e. item_functions e.items) (map element_of elements.now))) }
+            (escaping.new ≡ after_escapes escaping.old (flat_map (λ e. item_functions e.items) (map element_of elements.now))) }
     {
         for element in elements {
             self.add(alloc, env, element, escaping)?;
@@ -103,7 +103,7 @@ impl ElementSegments {
         requires room { HasRoom (look_up env.now) self.old 1 }
         requires convertible { IsElementConvertible (knows env.now) escaping.old.count (element_of element.now) }
         ensures added { OnOk result (AddsElements (look_up env.now) self.old self.new (element_of element.now ∷ [])) }
-        ensures noted { OnOk result (escaping.new ≡ flagged escaping.old (item_functions (element_of element.now).items)) }
+        ensures noted { OnOk result (escaping.new ≡ after_escapes escaping.old (item_functions (element_of element.now).items)) }
     {
         let items = convert_items(alloc, env, &element.items, escaping)?;
         let index = ElemIndex::from_u32(self.count);

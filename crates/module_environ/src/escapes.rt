@@ -4,7 +4,7 @@ ghost use Rattle.std.specs.Prelude.{◌≡◌, ◌+◌, ◌<◌, ◌≤◌, ◌�
 ghost use Rattle.std.specs.List.{range_with_len};
 ghost use Rattle.wasm_index.specs.Index.{number_of};
 ghost use Rattle.module_environ.specs.Escapes.{number_among};
-ghost use Rattle.module_environ.specs.Flags.{flagged};
+ghost use Rattle.module_environ.specs.EscapeLog.{after_escapes};
 
 use entity_map::{EntityRef, OutOfMemory, ReservedValue};
 use std::alloc::Global;
@@ -22,10 +22,10 @@ pub(crate) struct Escaping {
 
 impl Model for Escaping {
     ghost use Rattle.std.specs.Prelude.{length};
-    ghost use Rattle.module_environ.specs.Flags.{Flags};
+    ghost use Rattle.module_environ.specs.EscapeLog.{EscapeLog};
     ghost use Rattle.module_environ.specs.Numbers.{AreNumbers};
 
-    ghost Value = { Flags };
+    ghost Value = { EscapeLog };
 
     ghost view = { λ e. record { count = length e.numbers.items; order = e.order.items } };
 
@@ -45,39 +45,39 @@ impl Escaping {
     }
 
     /// Notes a reference to a function.
-    pub(crate) fn flag(&mut self, function: FuncIndex) -> Result<(), OutOfMemory>
+    pub(crate) fn note_escape(&mut self, function: FuncIndex) -> Result<(), OutOfMemory>
         requires { number_of function < self.old.count }
-        ensures { OnOk result (self.new ≡ flagged self.old (number_of function ∷ [])) }
+        ensures { OnOk result (self.new ≡ after_escapes self.old (number_of function ∷ [])) }
     {
-        self.flag_at(function.index())
+        self.note_escape_at(function.index())
     }
 
     /// Notes references to functions, in order.
-    pub(crate) fn flag_all(&mut self, functions: &[FuncIndex]) -> Result<(), OutOfMemory>
+    pub(crate) fn note_escapes(&mut self, functions: &[FuncIndex]) -> Result<(), OutOfMemory>
         requires { All (λ f. number_of f < self.old.count) functions.now }
-        ensures { OnOk result (self.new ≡ flagged self.old (map number_of functions.now)) }
+        ensures { OnOk result (self.new ≡ after_escapes self.old (map number_of functions.now)) }
     {
         for function in functions {
-            self.flag(*function)?;
+            self.note_escape(*function)?;
         }
         Ok(())
     }
 
     /// Notes references to functions whose numbers follow each other.
-    pub(crate) fn flag_range(&mut self, start: u32, count: u32) -> Result<(), OutOfMemory>
+    pub(crate) fn note_escape_range(&mut self, start: u32, count: u32) -> Result<(), OutOfMemory>
         requires { start + count ≤ self.old.count }
-        ensures { OnOk result (self.new ≡ flagged self.old (range_with_len start count)) }
+        ensures { OnOk result (self.new ≡ after_escapes self.old (range_with_len start count)) }
     {
         for offset in 0..count {
-            self.flag_at(start as usize + offset as usize)?;
+            self.note_escape_at(start as usize + offset as usize)?;
         }
         Ok(())
     }
 
     // Notes a reference to the function of a number.
-    fn flag_at(&mut self, function: usize) -> Result<(), OutOfMemory>
+    fn note_escape_at(&mut self, function: usize) -> Result<(), OutOfMemory>
         requires { function < self.old.count }
-        ensures { OnOk result (self.new ≡ flagged self.old (function ∷ [])) }
+        ensures { OnOk result (self.new ≡ after_escapes self.old (function ∷ [])) }
     {
         if self.numbers[function] == u32::MAX {
             let number = self.order.len() as u32;

@@ -9,7 +9,7 @@ ghost use Rattle.form_data.specs.Views.{export_of, module_of};
 ghost use Rattle.rule_spec.specs.Rules.{AreDistinct};
 ghost use Rattle.module_environ.specs.Entities.{entity_at, exported_entities, resolved_export};
 ghost use Rattle.module_environ.specs.Exported.{CanExport, AreEntered, exported_functions};
-ghost use Rattle.module_environ.specs.Flags.{flagged};
+ghost use Rattle.module_environ.specs.EscapeLog.{after_escapes};
 ghost use Rattle.module_environ.specs.Pooled.{GrowsBy, HasText};
 
 use crate::escapes::Escaping;
@@ -36,7 +36,7 @@ pub(crate) fn convert_exports(
     ensures exports { IfOk result (λ es. map (resolved_export strings.new) es.entries
         ≡ exported_entities (flat_map exports_of_section (module_of form.now))) }
     ensures noted { OnOk result (escaping.new
-        ≡ flagged escaping.old (exported_functions (flat_map exports_of_section (module_of form.now)))) }
+        ≡ after_escapes escaping.old (exported_functions (flat_map exports_of_section (module_of form.now)))) }
     ensures pool { OnOk result (GrowsBy (length (flat_map exports_of_section (module_of form.now))) strings.old strings.new) }
     ensures pooled { IfOk result (λ es. All (λ e. HasText strings.new e.0) es.entries) }
 {
@@ -58,7 +58,7 @@ fn add_exports(
     requires room { length strings.old + length exports.now < u32.MAX - 1 }
     requires in_range { All (CanExport escaping.old.count) (map export_of exports.now) }
     ensures pool { OnOk result (GrowsBy (length (map export_of exports.now)) strings.old strings.new) }
-    ensures noted { OnOk result (escaping.new ≡ flagged escaping.old (exported_functions (map export_of exports.now))) }
+    ensures noted { OnOk result (escaping.new ≡ after_escapes escaping.old (exported_functions (map export_of exports.now))) }
     ensures entered { OnOk result ((before : List plain.Export) → AreEntered before strings.old entries.old.entries
         → AreDistinct (before ++ map export_of exports.now) → AreEntered (before ++ map export_of exports.now) strings.new entries.new.entries) }
 {
@@ -103,10 +103,10 @@ fn exported_entity(export: &Export<'_>) -> EntityIndex
 /// Notes what is exported, where it is a function.
 fn note_function(escaping: &mut Escaping, export: &Export<'_>) -> Result<(), OutOfMemory>
     requires { CanExport escaping.old.count (export_of export.now) }
-    ensures { OnOk result (escaping.new ≡ flagged escaping.old (exported_functions (export_of export.now ∷ []))) }
+    ensures { OnOk result (escaping.new ≡ after_escapes escaping.old (exported_functions (export_of export.now ∷ []))) }
 {
     match export.kind {
-        ExternalKind::Func => escaping.flag(FuncIndex::from_u32(export.index)),
+        ExternalKind::Func => escaping.note_escape(FuncIndex::from_u32(export.index)),
         _ => Ok(()),
     }
 }

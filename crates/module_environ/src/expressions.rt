@@ -4,7 +4,7 @@ ghost use Rattle.std.specs.Prelude.{◌≡◌, IfOk, OnOk};
 ghost use Rattle.wasm_convert.specs.Constants.{const_ops_of};
 ghost use Rattle.module_environ.specs.Convertible.{IsConvertible};
 ghost use Rattle.module_environ.specs.Escapes.{referred};
-ghost use Rattle.module_environ.specs.Flags.{flagged};
+ghost use Rattle.module_environ.specs.EscapeLog.{after_escapes};
 
 use crate::escapes::Escaping;
 use entity_map::OutOfMemory;
@@ -20,9 +20,9 @@ pub(crate) fn convert_expression(
 ) -> Result<ConstExpr, OutOfMemory>
     requires { IsConvertible (knows env.now) escaping.old.count expression.now.ops.items }
     ensures converted { IfOk result (λ e. e ≡ const_ops_of (look_up env.now) expression.now.ops.items) }
-    ensures noted { OnOk result (escaping.new ≡ flagged escaping.old (referred expression.now.ops.items)) }
+    ensures noted { OnOk result (escaping.new ≡ after_escapes escaping.old (referred expression.now.ops.items)) }
 {
     let (converted, functions) = ConstExpr::from_wasmparser(alloc, env, expression)?;
-    escaping.flag_all(functions.as_slice())?;
+    escaping.note_escapes(functions.as_slice())?;
     Ok(converted)
 }

@@ -8,7 +8,7 @@ ghost use Rattle.form_data.specs.Views.{module_of, table_of};
 ghost use Rattle.wasm_convert.specs.Constants.{const_ops_of};
 ghost use Rattle.module_environ.specs.Convertible.{IsConvertible};
 ghost use Rattle.module_environ.specs.Escapes.{referred_if_any};
-ghost use Rattle.module_environ.specs.Flags.{flagged};
+ghost use Rattle.module_environ.specs.EscapeLog.{after_escapes};
 ghost use Rattle.module_environ.specs.Initialisers as initial;
 
 use crate::escapes::Escaping;
@@ -31,10 +31,10 @@ pub(crate) fn first_values(
     requires convertible { All (λ t. IfSome t.init (IsConvertible (knows env.now) escaping.old.count))
         (flat_map tables_of_section (module_of form.now)) }
     requires few { length (flat_map tables_of_section (module_of form.now)) < u32.MAX }
-    ensures values { IfOk result (λ vs. map initial.first_value_seen vs
+    ensures values { IfOk result (λ vs. map initial.view_first_value vs
         ≡ initial.first_values (look_up env.now) (flat_map tables_of_section (module_of form.now))) }
     ensures noted { OnOk result (escaping.new
-        ≡ flagged escaping.old (flat_map (λ t. referred_if_any t.init) (flat_map tables_of_section (module_of form.now)))) }
+        ≡ after_escapes escaping.old (flat_map (λ t. referred_if_any t.init) (flat_map tables_of_section (module_of form.now)))) }
 {
     let mut values = PrimaryMap::new(alloc);
     for payload in &form.payloads {
@@ -52,9 +52,9 @@ fn add_first_values(
 ) -> Result<(), OutOfMemory>
     requires convertible { All (λ t. IfSome t.init (IsConvertible (knows env.now) escaping.old.count)) (map table_of tables.now) }
     requires few { length values.old + length tables.now < u32.MAX }
-    ensures values { OnOk result (map initial.first_value_seen values.new
-        ≡ map initial.first_value_seen values.old ++ initial.first_values (look_up env.now) (map table_of tables.now)) }
-    ensures noted { OnOk result (escaping.new ≡ flagged escaping.old (flat_map (λ t. referred_if_any t.init) (map table_of tables.now))) }
+    ensures values { OnOk result (map initial.view_first_value values.new
+        ≡ map initial.view_first_value values.old ++ initial.first_values (look_up env.now) (map table_of tables.now)) }
+    ensures noted { OnOk result (escaping.new ≡ after_escapes escaping.old (flat_map (λ t. referred_if_any t.init) (map table_of tables.now))) }
 {
     for table in tables {
         values.push(first_value(alloc, env, table, escaping)?)?;
@@ -69,8 +69,8 @@ fn first_value(
     escaping: &mut Escaping,
 ) -> Result<TableInitialValue, OutOfMemory>
     requires { IfSome (table_of table.now).init (IsConvertible (knows env.now) escaping.old.count) }
-    ensures value { IfOk result (λ v. initial.first_value_seen v ≡ option_map (const_ops_of (look_up env.now)) (table_of table.now).init) }
-    ensures noted { OnOk result (escaping.new ≡ flagged escaping.old (referred_if_any (table_of table.now).init)) }
+    ensures value { IfOk result (λ v. initial.view_first_value v ≡ option_map (const_ops_of (look_up env.now)) (table_of table.now).init) }
+    ensures noted { OnOk result (escaping.new ≡ after_escapes escaping.old (referred_if_any (table_of table.now).init)) }
 {
     match &table.init {
         None => Ok(TableInitialValue::Null),

@@ -6,8 +6,8 @@ ghost use Rattle.wasm_spec.specs.Module.{globals_of_section};
 ghost use Rattle.form_data.specs.Views.{module_of, global_of};
 ghost use Rattle.module_environ.specs.Convertible.{IsConvertible};
 ghost use Rattle.module_environ.specs.Escapes.{referred};
-ghost use Rattle.module_environ.specs.Flags.{flagged};
-ghost use Rattle.module_environ.specs.Initialisers.{known_values, left_initialisers, value_seen, initialiser_seen};
+ghost use Rattle.module_environ.specs.EscapeLog.{after_escapes};
+ghost use Rattle.module_environ.specs.Initialisers.{known_values, left_initialisers, view_value, view_initialiser};
 ghost use Rattle.module_environ.specs.FirstGlobals.{seen_globals, AddsGlobals, AddsInitialiser};
 
 use crate::escapes::Escaping;
@@ -37,11 +37,11 @@ pub(crate) fn first_globals(
 ) -> Result<FirstGlobals, OutOfMemory>
     requires convertible { All (λ g. IsConvertible (knows env.now) escaping.old.count g.init) (flat_map globals_of_section (module_of form.now)) }
     requires few { length (flat_map globals_of_section (module_of form.now)) < u32.MAX }
-    ensures known { IfOk result (λ g. map value_seen g.known.items ≡ known_values (flat_map globals_of_section (module_of form.now))) }
-    ensures left { IfOk result (λ g. map (initialiser_seen (λ e. e)) g.left.items
+    ensures known { IfOk result (λ g. map view_value g.known.items ≡ known_values (flat_map globals_of_section (module_of form.now))) }
+    ensures left { IfOk result (λ g. map (view_initialiser (λ e. e)) g.left.items
         ≡ left_initialisers (look_up env.now) (flat_map globals_of_section (module_of form.now))) }
     ensures noted { OnOk result (escaping.new
-        ≡ flagged escaping.old (flat_map (λ g. referred g.init) (flat_map globals_of_section (module_of form.now)))) }
+        ≡ after_escapes escaping.old (flat_map (λ g. referred g.init) (flat_map globals_of_section (module_of form.now)))) }
 {
     let mut first = FirstGlobals {
         known: Vec::new(alloc),
@@ -63,7 +63,7 @@ fn add_globals(
     requires convertible { All (λ g. IsConvertible (knows env.now) escaping.old.count g.init) (map global_of globals.now) }
     requires few { seen_globals first.old + length globals.now < u32.MAX }
     ensures added { OnOk result (AddsGlobals (look_up env.now) first.old first.new (map global_of globals.now)) }
-    ensures noted { OnOk result (escaping.new ≡ flagged escaping.old (flat_map (λ g. referred g.init) (map global_of globals.now))) }
+    ensures noted { OnOk result (escaping.new ≡ after_escapes escaping.old (flat_map (λ g. referred g.init) (map global_of globals.now))) }
 {
     for global in globals {
         let initialiser = convert_expression(alloc, env, &global.init, escaping)?;

@@ -1,4 +1,4 @@
-//! What is told of the functions that a module defines.
+//! The metadata of the functions that a module defines.
 
 ghost use Rattle.std.specs.Prelude.{◌≡◌, ℕ, ◌+◌, ◌<◌, ◌≤◌, ◌++◌, length, map, All, IfOk, OnOk};
 ghost use Rattle.std.specs.List.{enumerate_from};
@@ -7,10 +7,10 @@ ghost use Rattle.rule_spec.specs.Lists.{lists_of_module};
 ghost use Rattle.rule_spec.specs.References.{BodyRefersIn};
 ghost use Rattle.form_data.specs.Views.{body_of, composite_of};
 ghost use Rattle.form_lists.specs.Views.{lists_of};
-ghost use Rattle.wasm_types.specs.ValueViews.{Name, value_of as value_seen};
+ghost use Rattle.wasm_types.specs.ValueViews.{Name, value_of as view_value};
 ghost use Rattle.wasm_convert.specs.Known.{Known};
 ghost use Rattle.module_environ.specs.Filling.{module_in, IsGathered, LooksUpTypes};
-ghost use Rattle.module_environ.specs.Metadata.{params_of, params_at, function_data, function_seen, functions_asked};
+ghost use Rattle.module_environ.specs.Metadata.{params_of, params_at, function_data, view_function, functions_asked};
 ghost use Rattle.module_environ.specs.Types.{look_up_in};
 
 use entity_map::OutOfMemory;
@@ -31,7 +31,7 @@ pub(crate) fn function_metadata(
 ) -> Result<Vec<FunctionMetadata>, OutOfMemory>
     requires gathered { IsGathered lists.now }
     requires looks { LooksUpTypes (module_in lists.now) (knows env.now) (look_up env.now) }
-    ensures { IfOk result (λ all. map function_seen all.items
+    ensures { IfOk result (λ all. map view_function all.items
         ≡ functions_asked (look_up_in (module_in lists.now)) (lists_of_module (module_in lists.now)) asked) }
 {
     let mut all = Vec::new(alloc);
@@ -44,7 +44,7 @@ pub(crate) fn function_metadata(
     Ok(all)
 }
 
-/// Adds what is told of the functions of these bodies, which follow on those before.
+/// Adds the metadata of the functions of these bodies, which follow on those before.
 fn add_functions(
     alloc: Global,
     env: &dyn TypeConvert,
@@ -56,7 +56,7 @@ fn add_functions(
     requires looks { LooksUpTypes (module_in lists.now) (knows env.now) (look_up env.now) }
     requires refer { All (BodyRefersIn (length (lists_of_module (module_in lists.now)).types)) (map body_of bodies.now) }
     requires counted { lists.now.imported_functions + length all.old.items + length bodies.now ≤ length lists.now.spaces.functions.items }
-    ensures { OnOk result (map function_seen all.new.items ≡ map function_seen all.old.items
+    ensures { OnOk result (map view_function all.new.items ≡ map view_function all.old.items
         ++ map (function_data (look_up_in (module_in lists.now)) (lists_of_module (module_in lists.now)))
         (enumerate_from (length all.old.items) (map body_of bodies.now))) }
 {
@@ -98,7 +98,7 @@ fn convert_types(
     types: &[ValType],
 ) -> Result<Vec<WasmValType>, OutOfMemory>
     requires { All (λ ty. Known (knows env.now) (value_edges (λ i. i) (value_of ty))) types.now }
-    ensures { IfOk result (λ converted. map value_seen converted.items ≡ map (λ ty. map_value (look_up env.now) (value_of ty)) types.now) }
+    ensures { IfOk result (λ converted. map view_value converted.items ≡ map (λ ty. map_value (look_up env.now) (value_of ty)) types.now) }
 {
     let mut converted = Vec::with_capacity(alloc, types.len())?;
     for ty in types {
@@ -114,7 +114,7 @@ fn convert_locals(
     locals: &[(u32, ValType)],
 ) -> Result<Vec<(u32, WasmValType)>, OutOfMemory>
     requires { All (λ run. Known (knows env.now) (value_edges (λ i. i) (value_of run.1))) locals.now }
-    ensures { IfOk result (λ converted. map {B = ℕ × Value Name} (λ run. (run.0, value_seen run.1)) converted.items
+    ensures { IfOk result (λ converted. map {B = ℕ × Value Name} (λ run. (run.0, view_value run.1)) converted.items
         ≡ map (λ run. (run.0, map_value (look_up env.now) (value_of run.1))) locals.now) }
 {
     let mut converted = Vec::with_capacity(alloc, locals.len())?;

@@ -22,7 +22,7 @@ use crate::spaces::{convert_globals, convert_memories, convert_tables, hold_coll
 use crate::start::start_function;
 use entity_map::{OutOfMemory, PrimaryMap, StringPool};
 use form_lists::Lists;
-use init_plan::{ModuleTranslation, held_expression_laws};
+use init_plan::{ModuleTranslation, erased_expression_laws};
 use std::alloc::Global;
 use wasm_convert::TypeConvert;
 use wasm_index::TypeIndex;
@@ -53,10 +53,10 @@ pub(crate) fn fill_sections<'d>(
     fill_entities(alloc, env, lists, &mut translation.module)?;
     let mut escaping = Escaping::new(alloc, lists.spaces.functions.len())?;
     let imported = lists.imported_functions as u32;
-    escaping.flag_range(0, imported)?;
+    escaping.note_escape_range(0, imported)?;
     fill_initialisers(alloc, env, lists, &mut escaping, translation)?;
     if debugged {
-        escaping.flag_range(imported, lists.spaces.functions.len() as u32 - imported)?;
+        escaping.note_escape_range(imported, lists.spaces.functions.len() as u32 - imported)?;
     }
     let functions = lists.spaces.functions.as_slice();
     translation.module.functions = function_types(alloc, functions, indices, &escaping)?;
@@ -134,6 +134,6 @@ fn fill_initialisers<'d>(
     translation.module.passive_elements = kinds;
     translation.passive_elem_map = numbers;
     // What says that an offset is held whole: it does nothing when it is run.
-    held_expression_laws();
+    erased_expression_laws();
     add_segments(alloc, env, form, translation)
 }

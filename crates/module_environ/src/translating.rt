@@ -7,7 +7,7 @@ ghost use Rattle.rule_spec.specs.Rules.{Keeps};
 ghost use Rattle.form_data.specs.Views.{module_of};
 ghost use Rattle.module_types.specs.Builder.{builder_view, new_builder};
 ghost use Rattle.init_plan.specs.Views.{IsNewTranslation};
-ghost use Rattle.module_environ.specs.Readable.{IsReadable, HasCause, SucceedsOrNoMemory};
+ghost use Rattle.module_environ.specs.Readable.{IsReadable, HasTranslationCause, SucceedsOrNoMemory};
 ghost use Rattle.replay_spec.specs.Startup.{is_empty};
 ghost use Rattle.module_environ.specs.Translated.{IsTranslated};
 ghost use Rattle.module_environ.specs.Forming.{IsFormed, FormCause};
@@ -50,7 +50,7 @@ impl<'a, 'd> ModuleEnvironment<'a, 'd> {
             IsTranslated self.entry.tunables.now self.entry.module_index self.entry.validator.now bytes.now t self.exit.1.1.0.now) }
 
         // Each refusal has its cause; length goes first.
-        ensures cause { IfErr result (HasCause bytes.now self.entry.types.now.is_poisoned) }
+        ensures cause { IfErr result (HasTranslationCause bytes.now self.entry.types.now.is_poisoned) }
         ensures too_long { 2 ^ 30 ≤ length bytes.now → result ≡ Err EnvironError.TooLarge }
 
         // A module that keeps the rules has a translation, unless memory runs out.
@@ -78,7 +78,7 @@ fn translation_of<'d>(
 ) -> Result<ModuleTranslation<'d>, EnvironError>
     requires types { types.old.is_poisoned ≡ false → builder_view types.old ≡ new_builder validator.now }
     ensures translated { IfOk result (λ t. IsTranslated tunables.now module_index validator.now bytes.now t types.new) }
-    ensures cause { IfErr result (HasCause bytes.now types.old.is_poisoned) }
+    ensures cause { IfErr result (HasTranslationCause bytes.now types.old.is_poisoned) }
     ensures too_long { 2 ^ 30 ≤ length bytes.now → result ≡ Err EnvironError.TooLarge }
     ensures complete { (m : Module) → IsReadable bytes.now m → Keeps m → types.old.is_poisoned ≡ false → SucceedsOrNoMemory result }
 {
@@ -87,7 +87,7 @@ fn translation_of<'d>(
     translate_form(alloc, tunables, validator, types, &form, &mut translation)?;
     translation.wasm = bytes;
     let (bodies, place) = take_bodies(alloc, form)?;
-    // The list of before, which is empty, is let go as a value of its own.
+    // The list of before, which is empty, is dropped as a value of its own.
     let _none = mem::replace(&mut translation.function_body_inputs, bodies);
     translation.debuginfo.wasm_file.code_section_offset = place;
     Ok(translation)

@@ -1,17 +1,10 @@
-//! The list and the builder, each call once.
-
-ghost use Rattle.std.specs.Prelude.{◌≡◌};
+//! The list of types and its builder.
 
 use entity_map::EntityRef;
 use form_types::Validator;
-use module_types::{ModuleTypes, ModuleTypesBuilder, TypeLookUp, WasmparserTypeConverter};
+use module_types::{BuildError, ModuleTypes, ModuleTypesBuilder};
 use std::test::Fail;
-use wasm_convert::TypeConvert;
-use wasm_index::{ModuleInternedTypeIndex, TypeIndex};
-use wasm_spec::UnpackedIndex;
-use wasm_types::{
-    EngineOrModuleTypeIndex, WasmCompositeInnerType, WasmCompositeType, WasmFuncType, WasmSubType,
-};
+use wasm_types::{WasmCompositeInnerType, WasmCompositeType, WasmFuncType, WasmSubType};
 
 #[test]
 fn function_is_called_by_itself(rt: HostRuntime) -> Result<(), Fail> {
@@ -46,37 +39,13 @@ fn startup_type_is_made_once(rt: HostRuntime) -> Result<(), Fail> {
     Ok(())
 }
 
+/// For runs in which an allocation fails: the builder takes nothing more.
 #[test]
-fn exception_type_is_made_once(rt: HostRuntime) -> Result<(), Fail> {
+fn builder_without_memory_is_poisoned(rt: HostRuntime) {
     let mut builder = ModuleTypesBuilder::new(rt.alloc(), &Validator::new(7));
-    let function = builder.startup_func_type()?;
-    let first = builder.define_exception_type_for_tag(function)?;
-    assert_eq!(rt; first.as_u32(), 1);
-    let again = builder.define_exception_type_for_tag(function)?;
-    assert_eq!(rt; again.as_u32(), 1);
-    Ok(())
-}
-
-// Looks every type up to one.
-#[derive(Drop)]
-struct OneType(ModuleInternedTypeIndex);
-
-impl TypeLookUp for OneType {
-    ghost callable = { λ f i. Unit {0} };
-
-    ghost gives = { λ f i r. r ≡ f.0 };
-
-    fn interned_index(&self, _index: TypeIndex) -> ModuleInternedTypeIndex {
-        self.0
+    if builder.startup_func_type().is_err() {
+        assert!(rt; builder.is_poisoned());
+        let more = builder.reserve_wasm_signatures(1);
+        assert!(rt; matches!(more, Err(BuildError::Poisoned)));
     }
-}
-
-#[test]
-fn look_up_is_stored(rt: HostRuntime) -> Result<(), Fail> {
-    let mut builder = ModuleTypesBuilder::new(rt.alloc(), &Validator::new(7));
-    let function = builder.startup_func_type()?;
-    let converter = WasmparserTypeConverter::new(&builder, 1, OneType(function));
-    let index = converter.lookup_type_index(UnpackedIndex::Module(0));
-    assert_eq!(rt; index, EngineOrModuleTypeIndex::Module(function));
-    Ok(())
 }

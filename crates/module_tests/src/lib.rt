@@ -1,24 +1,7 @@
-//! Tests of single calls on modules: their types as a list, interned and in canonical form, records, custom sections, whole translations,
-//! and modules that are generated.
+//! Tests of single calls on records: the record of a module, the list of its types, and the builder of that list.
 #![tactic(auto)]
 
 #[cfg(test)]
 mod builders;
 #[cfg(test)]
-mod canonical;
-#[cfg(test)]
-mod customs;
-#[cfg(test)]
-mod generated;
-#[cfg(test)]
-mod interned;
-#[cfg(test)]
 mod records;
-#[cfg(test)]
-mod sections;
-#[cfg(test)]
-mod small_generated;
-#[cfg(test)]
-mod translated;
-#[cfg(test)]
-mod translations;

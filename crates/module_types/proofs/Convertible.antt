@@ -22,7 +22,7 @@ use Rattle.wasm_types.specs.TypeViews.{sub_type_of}
 use Rattle.wasm_convert.specs.Conversion.{index_in}
 use Rattle.wasm_convert.specs.Known.{CanLookUp, Known, CanConvert}
 use Rattle.module_types.specs.Views.{interned_number, interned_of}
-use Rattle.module_types.specs.Conversion.{id_number, first_id, kind_in, group_of_id, members_of, members_by_index, look_by_id, Stands, KnowsId, HasIndex, HoldsGroups, interned_members}
+use Rattle.module_types.specs.Conversion.{id_number, first_id, kind_in, group_of_id, members_of, members_by_index, look_by_id, StandsInterned, KnowsId, HasIndex, HoldsGroups, interned_members}
 use Rattle.module_types.specs.Builder.{Builder}
 use Rattle.module_types.proofs.Parts.{all-first, all-second}
 use Rattle.module_types.proofs.Places.{group-ends}
@@ -60,7 +60,7 @@ names-earlier first (g ∷ gs) (suc k) h e =
     All-weaker _ (IsIdBelow (first + ((length g + first_id gs k) + length (get_or gs k [])))) (below-more _ _ le) (group_edges (λ r. r) (get_or gs k [])) rest
 
 module _ (t : TypesData) (next : ℕ) (spans : List Span) (ids : ℕ → Option ℕ) (k : ℕ)
-    (holds : (m j : ℕ) → ids m ≡ Some j → Stands t next spans ids m j) (room : next + length (members_of t k) < 4294967295) where
+    (holds : (m j : ℕ) → ids m ≡ Some j → StandsInterned t next spans ids m j) (room : next + length (members_of t k) < 4294967295) where
   no-room : (n : ℕ) → (group_of_id t n ≡ k) ⊎ IsSome (ids (group_of_id t n)) → ids (group_of_id t n) ≡ None
       → next + length (members_of t (group_of_id t n)) < 4294967295
   no-room n (inl same) none = let back = sym same in coe 0 1 (j. next + length (members_of t (back j)) < 4294967295) room

@@ -10,7 +10,7 @@ use Rattle.type_spec.proofs.ByNames.{name_by}
 use Rattle.module_types.specs.Runs.{with_groups, AllFilled}
 use Rattle.module_types.proofs.Taking.{form, Stand, with_forms, number_in, whole}
 use Rattle.module_types.proofs.TakingBoth.{all-told}
-use Rattle.module_types.proofs.Told.{told}
+use Rattle.module_types.proofs.BuiltGroups.{groups_determined}
 
 module _ (all : List (Group ℕ ℕ)) (number : ℕ → ℕ) where
   in-turn : (hs : List Home) (b : Built) → with_forms all number b hs ≡ with_groups b (map (form all number) hs)
@@ -35,7 +35,7 @@ equal-lists ms ns near near' =
     let is : (taken ms).built ≡ with_groups empty groups = w.built ∙ in-turn ms (number_in ms) hs empty in
     let is' : (taken ns).built ≡ with_groups empty groups' = w'.built ∙ in-turn ns (number_in ns) ks empty in
     let both = all-told ms ns (number_in ms) (number_in ns) w.exact w'.exact hs ks empty [] w.stand w.covers w'.stand (λ i lt none. absurd none) in (
-      (λ same. both.0 (told empty groups groups' (filled ms (number_in ms) hs empty w.stand) (filled ns (number_in ns) ks empty w'.stand)
+      (λ same. both.0 (groups_determined empty groups groups' (filled ms (number_in ms) hs empty w.stand) (filled ns (number_in ns) ks empty w'.stand)
           (sym (ap (λ (b : Built). b.types) is) ∙ same.types ∙ ap (λ (b : Built). b.types) is')
           (sym (ap (λ (b : Built). b.groups) is) ∙ same.groups ∙ ap (λ (b : Built). b.groups) is'))),
       (λ same.

@@ -4,9 +4,9 @@ use Rattle.std.specs.Prelude.{if◌then◌else◌}
 use Rattle.std.proofs.lemmas.List.{length-append}
 use Rattle.wasm_spec.specs.TypeData.{Composite, Func, Array, Struct, Cont, Exn}
 use Rattle.type_data.specs.Names.{Named}
-use Rattle.type_spec.specs.Interned.{Interned, Called, Built, mapped, same_mapped, plain, alone, meets, with_trampoline, meet_at, meet, meet_all, opened, with_group, Span, next_span}
+use Rattle.type_spec.specs.Interned.{Interned, Called, Built, mapped, same_mapped, plain, alone, knows, with_trampoline, assign_at, assign_trampoline, assign_trampolines, opened, with_group, Span, next_span}
 use Rattle.module_types.specs.Runs.{with_groups}
-use Rattle.module_types.proofs.Along.{no-more, append-again}
+use Rattle.module_types.proofs.GroupMembers.{no-more, append-again}
 
 -- more types and groups behind the others
 pub record Extends (b c : Built) : Type 0 where
@@ -31,26 +31,26 @@ extends-both b c d x y = record {
   groups = y.groups ∙ ap (λ ts. ts ++ y.groups_more) x.groups ∙ append-again b.groups x.groups_more y.groups_more;
 }
 
-extends-at : (b : Built) (i : ℕ) (f : Called) (o : Option ℕ) → Extends b (meet_at b i f o)
+extends-at : (b : Built) (i : ℕ) (f : Called) (o : Option ℕ) → Extends b (assign_at b i f o)
 extends-at b i f (Some k) = extends-none b (with_trampoline b i k) refl refl
 extends-at b i f None = by (same_mapped (mapped f) f) where
-  by : (own : Bool) → Extends b (if own then with_trampoline (meets b (mapped f) i) i i
-      else alone (with_trampoline (meets b (mapped f) (length b.types)) i (length b.types)) (plain (Func (mapped f))) (Some (length b.types)))
-  by true = extends-none b (with_trampoline (meets b (mapped f) i) i i) refl refl
+  by : (own : Bool) → Extends b (if own then with_trampoline (knows b (mapped f) i) i i
+      else alone (with_trampoline (knows b (mapped f) (length b.types)) i (length b.types)) (plain (Func (mapped f))) (Some (length b.types)))
+  by true = extends-none b (with_trampoline (knows b (mapped f) i) i i) refl refl
   by false = record { types_more = plain (Func (mapped f)) ∷ []; types = refl; groups_more = next_span b 1 ∷ []; groups = refl }
 
-extends-meet : (b : Built) (i : ℕ) (c : Composite (Named ℕ) ℕ) → Extends b (meet b i c)
-extends-meet b i (Func f) = extends-at b i f (b.met (mapped f))
-extends-meet b i (Array f) = extends-none b b refl refl
-extends-meet b i (Struct fs) = extends-none b b refl refl
-extends-meet b i (Cont f) = extends-none b b refl refl
-extends-meet b i (Exn t) = extends-none b b refl refl
+extends-assign_trampoline : (b : Built) (i : ℕ) (c : Composite (Named ℕ) ℕ) → Extends b (assign_trampoline b i c)
+extends-assign_trampoline b i (Func f) = extends-at b i f (b.known_trampolines (mapped f))
+extends-assign_trampoline b i (Array f) = extends-none b b refl refl
+extends-assign_trampoline b i (Struct fs) = extends-none b b refl refl
+extends-assign_trampoline b i (Cont f) = extends-none b b refl refl
+extends-assign_trampoline b i (Exn t) = extends-none b b refl refl
 
-extends-all : (b : Built) (i : ℕ) (ts : List Interned) → Extends b (meet_all b i ts)
+extends-all : (b : Built) (i : ℕ) (ts : List Interned) → Extends b (assign_trampolines b i ts)
 extends-all b i [] = extends-none b b refl refl
 extends-all b i (t ∷ ts) =
-    extends-both b (meet b i t.composite.inner) (meet_all b i (t ∷ ts)) (extends-meet b i t.composite.inner)
-    (extends-all (meet b i t.composite.inner) (suc i) ts)
+    extends-both b (assign_trampoline b i t.composite.inner) (assign_trampolines b i (t ∷ ts)) (extends-assign_trampoline b i t.composite.inner)
+    (extends-all (assign_trampoline b i t.composite.inner) (suc i) ts)
 
 pub extends-group : (b : Built) (ts : List Interned) → Extends (opened b ts) (with_group b ts)
 extends-group b ts = extends-all (opened b ts) (length b.types) ts

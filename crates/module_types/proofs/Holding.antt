@@ -7,7 +7,7 @@ use Rattle.std.specs.Option.{option_map}
 use Rattle.type_spec.specs.Interned.{Interned, Span, with_group, opened, next_span}
 use Rattle.form_types.specs.Types.{TypesData, types_by_id}
 use Rattle.module_types.specs.Builder.{Builder, interns_by, interns}
-use Rattle.module_types.specs.Conversion.{group_of_id, members_of, no_span, Stands, HasIndex, HoldsGroups}
+use Rattle.module_types.specs.Conversion.{group_of_id, members_of, no_span, StandsInterned, HasIndex, HoldsGroups}
 use Rattle.module_types.proofs.Extends.{Extends, extends-group}
 
 pub none-of : {A B : Type 0} (f : A → B) (o : Option A) → option_map f o ≡ None → o ≡ None
@@ -28,7 +28,7 @@ module _ (t : TypesData) (b : Builder) (k : ℕ) (ts : List Interned) (holds : H
   later = interns_by b k ts None
 
   abbrev StandsLater : ℕ → ℕ → Type 0
-  StandsLater m j = Stands t (length later.built.types) later.built.groups later.ids m j
+  StandsLater m j = StandsInterned t (length later.built.types) later.built.groups later.ids m j
 
   x : Extends (opened b.built ts) (with_group b.built ts)
   x = extends-group b.built ts

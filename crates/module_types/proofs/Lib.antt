@@ -1,7 +1,7 @@
 pub mod Keys
 pub mod Steps
 pub mod Ordering
-pub mod Along
+pub mod GroupMembers
 pub mod Exceptions
 pub mod Shows
 pub mod Elements
@@ -10,7 +10,7 @@ pub mod Places
 pub mod Indexing
 pub mod Convertible
 pub mod Extends
-pub mod Told
+pub mod BuiltGroups
 pub mod Runs
 pub mod Holding
 pub mod Finding

@@ -6,11 +6,11 @@ use Rattle.std.proofs.lemmas.List.Elements.{All-nil, All-cons, All-append, All-h
 use Rattle.wasm_spec.specs.TypeData.{Value, I32, I64, F32, F64, V128, Ref, Composite, Func, Array, Struct, Cont, Exn, map_value, map_field, map_composite, map_sub_type, map_group, value_edges, field_edges, composite_edges, sub_type_edges, group_edges}
 use Rattle.std.specs.Option.{option_to_list}
 use Rattle.type_data.specs.Names.{NameKind, Named, index_of}
-use Rattle.type_spec.specs.Interned.{Interned, Called, Built, passed, mapped, same_mapped, plain, alone, meets, with_trampoline, meet_at, meet, meet_all, opened, with_group, field_for, exception_for, composite_at, is_among, with_exception, with_exceptions, startup_type, with_startup}
+use Rattle.type_spec.specs.Interned.{Interned, Called, Built, passed, mapped, same_mapped, plain, alone, knows, with_trampoline, assign_at, assign_trampoline, assign_trampolines, opened, with_group, field_for, exception_for, composite_at, is_among, with_exception, with_exceptions, startup_type, with_startup}
 use Rattle.type_spec.proofs.ByNames.{name_by, by_names}
 use Rattle.module_types.specs.ListGroups.{unkinded, kind_in}
 use Rattle.form_lists.proofs.AllSections.{All-joined}
-use Rattle.module_types.proofs.Along.{no-more, append-again}
+use Rattle.module_types.proofs.GroupMembers.{no-more, append-again}
 use Rattle.module_types.proofs.WellNamed.{AllBelow, Well, well-next, named-before}
 
 -- ---- a mapped type names nothing
@@ -80,31 +80,31 @@ steps-alone b t k below kinds = record {
   well = λ w. well-next b.types (t ∷ []) b.groups w (omega arith) (below w) (kinds w);
 }
 
-steps-at : (b : Built) (i : ℕ) (f : Called) (o : Option ℕ) → Steps b (meet_at b i f o)
+steps-at : (b : Built) (i : ℕ) (f : Called) (o : Option ℕ) → Steps b (assign_at b i f o)
 steps-at b i f (Some k) = steps-none b (with_trampoline b i k) refl refl
 steps-at b i f None = by (same_mapped (mapped f) f) where
-  by : (own : Bool) → Steps b (if own then with_trampoline (meets b (mapped f) i) i i
-      else alone (with_trampoline (meets b (mapped f) (length b.types)) i (length b.types)) (plain (Func (mapped f))) (Some (length b.types)))
-  by true = steps-none b (with_trampoline (meets b (mapped f) i) i i) refl refl
+  by : (own : Bool) → Steps b (if own then with_trampoline (knows b (mapped f) i) i i
+      else alone (with_trampoline (knows b (mapped f) (length b.types)) i (length b.types)) (plain (Func (mapped f))) (Some (length b.types)))
+  by true = steps-none b (with_trampoline (knows b (mapped f) i) i i) refl refl
   by false =
       let t = plain (Func (mapped f)) in
-      let s = steps-alone (with_trampoline (meets b (mapped f) (length b.types)) i (length b.types)) t (Some (length b.types))
+      let s = steps-alone (with_trampoline (knows b (mapped f) (length b.types)) i (length b.types)) t (Some (length b.types))
       (λ w. subst (λ rs. All (λ r. r < length b.types + 1) rs) (sym (mapped-nothing f)) (All-nil (λ r. r < length b.types + 1)))
       (λ w. mapped-named (kind_in (b.types ++ t ∷ [])) f) in
       record { more = s.more; types = s.types; well = s.well }
 
-steps-meet : (b : Built) (i : ℕ) (c : Composite (Named ℕ) ℕ) → Steps b (meet b i c)
-steps-meet b i (Func f) = steps-at b i f (b.met (mapped f))
-steps-meet b i (Array f) = steps-none b b refl refl
-steps-meet b i (Struct fs) = steps-none b b refl refl
-steps-meet b i (Cont f) = steps-none b b refl refl
-steps-meet b i (Exn t) = steps-none b b refl refl
+steps-assign_trampoline : (b : Built) (i : ℕ) (c : Composite (Named ℕ) ℕ) → Steps b (assign_trampoline b i c)
+steps-assign_trampoline b i (Func f) = steps-at b i f (b.known_trampolines (mapped f))
+steps-assign_trampoline b i (Array f) = steps-none b b refl refl
+steps-assign_trampoline b i (Struct fs) = steps-none b b refl refl
+steps-assign_trampoline b i (Cont f) = steps-none b b refl refl
+steps-assign_trampoline b i (Exn t) = steps-none b b refl refl
 
-steps-all : (b : Built) (i : ℕ) (ts : List Interned) → Steps b (meet_all b i ts)
+steps-all : (b : Built) (i : ℕ) (ts : List Interned) → Steps b (assign_trampolines b i ts)
 steps-all b i [] = steps-none b b refl refl
 steps-all b i (t ∷ ts) =
-    steps-both b (meet b i t.composite.inner) (meet_all b i (t ∷ ts)) (steps-meet b i t.composite.inner)
-    (steps-all (meet b i t.composite.inner) (suc i) ts)
+    steps-both b (assign_trampoline b i t.composite.inner) (assign_trampolines b i (t ∷ ts)) (steps-assign_trampoline b i t.composite.inner)
+    (steps-all (assign_trampoline b i t.composite.inner) (suc i) ts)
 
 -- a group, and then the trampolines that are missing
 pub record GroupSteps (b : Built) (ts : List Interned) : Type 0 where

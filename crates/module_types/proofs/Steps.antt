@@ -5,7 +5,7 @@ use Rattle.std.specs.Option.{option_map}
 use Rattle.std.specs.declared.ops.Range.{Range}
 use Rattle.std.proofs.lemmas.List.{length-map, length-append}
 use Rattle.wasm_spec.specs.TypeData.{Func}
-use Rattle.type_spec.specs.Interned.{Interned, Called, Built, mapped, same_mapped, plain, alone, now_met, meets, with_trampoline, meet_at, meet, composite_at, opened}
+use Rattle.type_spec.specs.Interned.{Interned, Called, Built, mapped, same_mapped, plain, alone, now_known, knows, with_trampoline, assign_at, assign_trampoline, composite_at, opened}
 use Rattle.wasm_index.specs.Index.{number_of, index_of}
 use Rattle.wasm_types.specs.declared.func.WasmFuncType.{WasmFuncType}
 use Rattle.wasm_types.specs.declared.composite.WasmCompositeInnerType.{WasmCompositeInnerType}
@@ -61,7 +61,7 @@ module _ (l : TypeList) (get : WasmFuncType → Option TypeIndex) where
         groups = (map-both span_of l.groups (r ∷ [])
             ∙ (λ i. map span_of l.groups ++ record { start = (ap number_of start ∙ long) i; end = (ap number_of end ∙ length-append l.types (t ∷ []) ∙ ap (λ n. n + 1) long) i } ∷ [])) j;
         trampolines = map-both (option_map number_of) l.trampolines (k ∷ []) j;
-        met = held.met;
+        known_trampolines = held.known_trampolines;
       }
 
   pub opened-is : (ts : List WasmSubType) (r : Range TypeIndex) → r.start ≡ index_of (length l.types)
@@ -76,7 +76,7 @@ module _ (l : TypeList) (get : WasmFuncType → Option TypeIndex) where
             ∙ (λ i. map span_of l.groups ++ record { start = (ap number_of start ∙ long) i; end = (ap number_of end ∙ length-append l.types ts ∙ (λ m. long m + many m)) i } ∷ [])) j;
         trampolines = (map-both (option_map number_of) l.trampolines (replicate (length ts) None)
             ∙ ap (λ ks. map (option_map number_of) l.trampolines ++ ks) (map-replicate (option_map number_of) (length ts) None ∙ ap (λ n. replicate n None) many)) j;
-        met = held.met;
+        known_trampolines = held.known_trampolines;
       }
 
 -- ---- a function and its trampoline
@@ -86,73 +86,73 @@ module _ (l : TypeList) (get : WasmFuncType → Option TypeIndex) (i : ℕ) (f :
   abbrev old : Built
   old = built_of l get
 
-  made : (o : Option TypeIndex) → o ≡ get (trampoline_of f) → meet old i (composite_at old.types i) ≡ meet_at old i (called_of f) (option_map number_of o)
-  made o e = ap (meet old i) kind ∙ ap (meet_at old i (called_of f)) (sym (ap (option_map number_of) (e ∙ ap get (mapped-is f))))
+  made : (o : Option TypeIndex) → o ≡ get (trampoline_of f) → assign_trampoline old i (composite_at old.types i) ≡ assign_at old i (called_of f) (option_map number_of o)
+  made o e = ap (assign_trampoline old i) kind ∙ ap (assign_at old i (called_of f)) (sym (ap (option_map number_of) (e ∙ ap get (mapped-is f))))
 
   own : (b : Bool) → func.ghosts.eq (trampoline_of f) f ≡ b → same_mapped (mapped (called_of f)) (called_of f) ≡ b
   own b e = sym (key-is f f) ∙ e
 
-  -- its mapped type was met before
-  pub met-before : (k : TypeIndex) → Some k ≡ get (trampoline_of f) → built_of (called_by l i k) get ≡ meet old i (composite_at old.types i)
-  met-before k e =
-      (λ j. record { types = old.types; groups = old.groups; trampolines = map-set (option_map number_of) l.trampolines i (Some k) j; met = old.met })
+  -- the trampoline is known
+  pub known-before : (k : TypeIndex) → Some k ≡ get (trampoline_of f) → built_of (called_by l i k) get ≡ assign_trampoline old i (composite_at old.types i)
+  known-before k e =
+      (λ j. record { types = old.types; groups = old.groups; trampolines = map-set (option_map number_of) l.trampolines i (Some k) j; known_trampolines = old.known_trampolines })
       ∙ sym (made (Some k) e)
 
   number-noted : (b : Bool) (k : TypeIndex) (o : Option TypeIndex) → option_map number_of (cond b (Some k) o) ≡ cond b (Some (number_of k)) (option_map number_of o)
   number-noted true k o = refl
   number-noted false k o = refl
 
-  -- what came next where its mapped type was not met
+  -- what came next where the trampoline was not known
   abbrev unmet : Bool → Built
   unmet b =
-      if b then with_trampoline (meets old (mapped (called_of f)) i) i i
-      else alone (with_trampoline (meets old (mapped (called_of f)) (length old.types)) i (length old.types)) (plain (Func (mapped (called_of f)))) (Some (length old.types))
+      if b then with_trampoline (knows old (mapped (called_of f)) i) i i
+      else alone (with_trampoline (knows old (mapped (called_of f)) (length old.types)) i (length old.types)) (plain (Func (mapped (called_of f)))) (Some (length old.types))
 
-  pub made-new : None ≡ get (trampoline_of f) → (b : Bool) → func.ghosts.eq (trampoline_of f) f ≡ b → meet old i (composite_at old.types i) ≡ unmet b
+  pub made-new : None ≡ get (trampoline_of f) → (b : Bool) → func.ghosts.eq (trampoline_of f) f ≡ b → assign_trampoline old i (composite_at old.types i) ≡ unmet b
   made-new none b e = made None none ∙ ap unmet (own b e)
 
   module _ (none : None ≡ get (trampoline_of f)) (later : WasmFuncType → Option TypeIndex) (k : TypeIndex)
       (puts : (q : WasmFuncType) → later q ≡ cond (func.ghosts.eq (trampoline_of f) q) (Some k) (get q)) where
-    noted : (g : Called) → option_map number_of (later (function_at g)) ≡ now_met old.met (mapped (called_of f)) (number_of k) g
+    noted : (g : Called) → option_map number_of (later (function_at g)) ≡ now_known old.known_trampolines (mapped (called_of f)) (number_of k) g
     noted g =
         ap (option_map number_of) (puts (function_at g))
         ∙ number-noted (func.ghosts.eq (trampoline_of f) (function_at g)) k (get (function_at g))
-        ∙ ap (λ b. cond b (Some (number_of k)) (old.met g)) (key-is f (function_at g))
-        ∙ ap (λ h. cond (same_mapped (mapped (called_of f)) h) (Some (number_of k)) (old.met g)) (function-back g)
+        ∙ ap (λ b. cond b (Some (number_of k)) (old.known_trampolines g)) (key-is f (function_at g))
+        ∙ ap (λ h. cond (same_mapped (mapped (called_of f)) h) (Some (number_of k)) (old.known_trampolines g)) (function-back g)
 
-    pub kept-met : built_of (called_by l i k) later ≡ with_trampoline (meets old (mapped (called_of f)) (number_of k)) i (number_of k)
-    kept-met = λ j. record {
+    pub known-now : built_of (called_by l i k) later ≡ with_trampoline (knows old (mapped (called_of f)) (number_of k)) i (number_of k)
+    known-now = λ j. record {
       types = old.types;
       groups = old.groups;
       trampolines = map-set (option_map number_of) l.trampolines i (Some k) j;
-      met = λ g. noted g j;
+      known_trampolines = λ g. noted g j;
     }
 
   -- it is its own mapped type
-  pub met-itself : (none : None ≡ get (trampoline_of f)) (later : WasmFuncType → Option TypeIndex) (k : TypeIndex) → number_of k ≡ i
+  pub known-itself : (none : None ≡ get (trampoline_of f)) (later : WasmFuncType → Option TypeIndex) (k : TypeIndex) → number_of k ≡ i
       → ((q : WasmFuncType) → later q ≡ cond (func.ghosts.eq (trampoline_of f) q) (Some k) (get q)) → func.ghosts.eq (trampoline_of f) f ≡ true
-      → built_of (called_by l i k) later ≡ meet old i (composite_at old.types i)
-  met-itself none later k at puts is_own =
-      kept-met none later k puts ∙ ap (λ n. with_trampoline (meets old (mapped (called_of f)) n) i n) at ∙ sym (made-new none true is_own)
+      → built_of (called_by l i k) later ≡ assign_trampoline old i (composite_at old.types i)
+  known-itself none later k at puts is_own =
+      known-now none later k puts ∙ ap (λ n. with_trampoline (knows old (mapped (called_of f)) n) i n) at ∙ sym (made-new none true is_own)
 
   -- a new type is appended
-  pub met-new : (none : None ≡ get (trampoline_of f)) (later : WasmFuncType → Option TypeIndex) (k : TypeIndex) → number_of k ≡ length old.types
+  pub known-new : (none : None ≡ get (trampoline_of f)) (later : WasmFuncType → Option TypeIndex) (k : TypeIndex) → number_of k ≡ length old.types
       → ((q : WasmFuncType) → later q ≡ cond (func.ghosts.eq (trampoline_of f) q) (Some k) (get q)) → func.ghosts.eq (trampoline_of f) f ≡ false
       → (t : Interned) → t ≡ plain (Func (mapped (called_of f)))
-      → alone (built_of (called_by l i k) later) t (Some (number_of k)) ≡ meet old i (composite_at old.types i)
-  met-new none later k count puts not_own t is =
-      (λ j. alone (kept-met none later k puts j) (is j) (Some (number_of k)))
-      ∙ ap (λ n. alone (with_trampoline (meets old (mapped (called_of f)) n) i n) (plain (Func (mapped (called_of f)))) (Some n)) count
+      → alone (built_of (called_by l i k) later) t (Some (number_of k)) ≡ assign_trampoline old i (composite_at old.types i)
+  known-new none later k count puts not_own t is =
+      (λ j. alone (known-now none later k puts j) (is j) (Some (number_of k)))
+      ∙ ap (λ n. alone (with_trampoline (knows old (mapped (called_of f)) n) i n) (plain (Func (mapped (called_of f)))) (Some n)) count
       ∙ sym (made-new none false not_own)
 
   -- then there is one type more
   pub new-long : None ≡ get (trampoline_of f) → func.ghosts.eq (trampoline_of f) f ≡ false
-      → length (meet old i (composite_at old.types i)).types ≡ length l.types + 1
+      → length (assign_trampoline old i (composite_at old.types i)).types ≡ length l.types + 1
   new-long none not_own =
       ap (λ b. length b.types) (made-new none false not_own)
       ∙ length-append old.types (plain (Func (mapped (called_of f))) ∷ []) ∙ ap (λ n. n + 1) (length-map l.types interned_of)
 
-not-function : (b : Built) (i : ℕ) (c : WasmCompositeInnerType) → ((f : WasmFuncType) → c ≡ inner.Func f → ⊥) → meet b i (inner_of c) ≡ b
+not-function : (b : Built) (i : ℕ) (c : WasmCompositeInnerType) → ((f : WasmFuncType) → c ≡ inner.Func f → ⊥) → assign_trampoline b i (inner_of c) ≡ b
 not-function b i (inner.Func f) other = absurd (other f refl)
 not-function b i (inner.Array f) other = refl
 not-function b i (inner.Struct f) other = refl
@@ -160,8 +160,8 @@ not-function b i (inner.Cont f) other = refl
 not-function b i (inner.Exn f) other = refl
 
 -- only a function has a trampoline
-pub meet-other : (l : TypeList) (get : WasmFuncType → Option TypeIndex) (i : ℕ) (x : WasmSubType)
+pub assign_trampoline-other : (l : TypeList) (get : WasmFuncType → Option TypeIndex) (i : ℕ) (x : WasmSubType)
     → slice_get l.types i ≡ Some x → ((f : WasmFuncType) → x.composite_type.inner ≡ inner.Func f → ⊥)
-    → built_of l get ≡ meet (built_of l get) i (composite_at (map interned_of l.types) i)
-meet-other l get i x read other =
-    sym (ap (meet (built_of l get) i) (composite-read l.types i x read x.composite_type.inner refl) ∙ not-function (built_of l get) i x.composite_type.inner other)
+    → built_of l get ≡ assign_trampoline (built_of l get) i (composite_at (map interned_of l.types) i)
+assign_trampoline-other l get i x read other =
+    sym (ap (assign_trampoline (built_of l get) i) (composite-read l.types i x read x.composite_type.inner refl) ∙ not-function (built_of l get) i x.composite_type.inner other)

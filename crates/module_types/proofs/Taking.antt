@@ -14,7 +14,7 @@ use Rattle.type_spec.proofs.Decided.{down-decided}
 use Rattle.type_spec.proofs.Equivalence.{home-start, type-itself, type-turned, type-chained, type-groups, type-beside, groups-long}
 use Rattle.type_spec.proofs.Homes.{size, size-cons, in_front, behind, home-within, home-again}
 use Rattle.type_spec.proofs.ByNames.{name_by, by_names, names-same, zip-known-itself}
-use Rattle.module_types.proofs.Along.{group-long}
+use Rattle.module_types.proofs.GroupMembers.{group-long}
 
 module _ (all : List (Group ℕ ℕ)) where
   -- ---- the search for an equal group

@@ -5,11 +5,11 @@ use Rattle.std.proofs.lemmas.List.{length-append, length-replicate}
 use Rattle.std.proofs.Math.ListN.{length-set}
 use Rattle.wasm_spec.specs.TypeData.{Composite, Func, Array, Struct, Cont, Exn}
 use Rattle.type_data.specs.Names.{Named}
-use Rattle.type_spec.specs.Interned.{Interned, Called, Built, mapped, same_mapped, plain, alone, now_met, meets, with_trampoline, meet_at, meet, meet_all, composite_at, opened, with_group}
+use Rattle.type_spec.specs.Interned.{Interned, Called, Built, mapped, same_mapped, plain, alone, now_known, knows, with_trampoline, assign_at, assign_trampoline, assign_trampolines, composite_at, opened, with_group}
 use Rattle.wasm_types.specs.declared.func.WasmFuncType.{WasmFuncType}
 use Rattle.wasm_types.specs.contracts.equal.WasmFuncTypePartialEq.TheImpl as func
 use Rattle.module_types.specs.Tied.{trampoline_in, IsTied}
-use Rattle.module_types.proofs.Along.{grows, composite-before, append-again, no-more}
+use Rattle.module_types.proofs.GroupMembers.{grows, composite-before, append-again, no-more}
 use Rattle.module_types.proofs.MappedTypes.{same-mapped, mapped-same, mapped-twice}
 
 -- ---- lists
@@ -73,8 +73,8 @@ module _ (b : Built) (tied : IsTied b) where
   pub tied-alone : (t : Interned) → IsTied (alone b t None)
   tied-alone t = record {
     sized = length-append b.trampolines (None ∷ []) ∙ ap (λ n. n + 1) tied.sized ∙ sym (length-append b.types (t ∷ []));
-    met = λ f k e.
-        let old = tied.met f k e in
+    known = λ f k e.
+        let old = tied.known f k e in
         (omega (arith, old.0, length-append b.types (t ∷ [])), composite-before b.types (t ∷ []) k old.0 ∙ old.1);
     called = λ i k f e is.
         elim (read-more b.trampolines (None ∷ []) i) [
@@ -86,8 +86,8 @@ module _ (b : Built) (tied : IsTied b) where
   pub tied-opened : (ts : List Interned) → IsTied (opened b ts)
   tied-opened ts = record {
     sized = length-append b.trampolines (replicate (length ts) None) ∙ omega (arith, tied.sized, length-replicate (length ts) (let o : Option ℕ = None in o), length-append b.types ts);
-    met = λ f k e.
-        let old = tied.met f k e in
+    known = λ f k e.
+        let old = tied.known f k e in
         (omega (arith, old.0, length-append b.types ts), composite-before b.types ts k old.0 ∙ old.1);
     called = λ i k f e is.
         elim (read-more b.trampolines (replicate (length ts) None) i) [
@@ -97,64 +97,64 @@ module _ (b : Built) (tied : IsTied b) where
   }
 
   -- a function is called by what its mapped type was met at
-  pub tied-set : (i k : ℕ) (f : Called) → composite_at b.types i ≡ Func f → b.met (mapped f) ≡ Some k → IsTied (with_trampoline b i k)
+  pub tied-set : (i k : ℕ) (f : Called) → composite_at b.types i ≡ Func f → b.known_trampolines (mapped f) ≡ Some k → IsTied (with_trampoline b i k)
   tied-set i k f at is = record {
     sized = length-set b.trampolines i (Some k) ∙ tied.sized;
-    met = tied.met;
+    known = tied.known;
     called = λ j l g e at'.
         elim (read-set b.trampolines i j (Some k)) [
           | inl r ↦ tied.called j l g (sym r ∙ e) at'
           | inr r ↦
               let same : Some k ≡ Some l = sym r.1 ∙ e in
               let one : f ≡ g = func-same f g (composite_at b.types j) (ap (composite_at b.types) (sym r.0) ∙ at) at' in
-              ap (λ h. b.met (mapped h)) (sym one) ∙ is ∙ same
+              ap (λ h. b.known_trampolines (mapped h)) (sym one) ∙ is ∙ same
         ];
   }
 
   module _ (tells : (x y : WasmFuncType) → (func.ghosts.eq x y ≡ true → x ≡ y) × (x ≡ y → func.ghosts.eq x y ≡ true)) (f : Called) (k : ℕ)
-      (none : b.met (mapped f) ≡ None) (stands : composite_at b.types k ≡ Func (mapped f)) where
-    met-by : (g : Called) (l : ℕ) (test : Bool) → same_mapped (mapped f) (mapped g) ≡ test → (if test then Some k else b.met (mapped g)) ≡ Some l
+      (none : b.known_trampolines (mapped f) ≡ None) (stands : composite_at b.types k ≡ Func (mapped f)) where
+    met-by : (g : Called) (l : ℕ) (test : Bool) → same_mapped (mapped f) (mapped g) ≡ test → (if test then Some k else b.known_trampolines (mapped g)) ≡ Some l
         → (l < length b.types) × (composite_at b.types l ≡ Func (mapped g))
     met-by g l true same e =
         let one : mapped f ≡ mapped g = same-mapped tells f (mapped g) same in
         let place : k ≡ l = cc in
         let at : composite_at b.types l ≡ Func (mapped g) = ap (composite_at b.types) (sym place) ∙ stands ∙ ap Func one in
         (within b.types l (mapped g) at, at)
-    met-by g l false other e = tied.met g l e
+    met-by g l false other e = tied.known g l e
 
-    called-by : (g : Called) (l : ℕ) → b.met (mapped g) ≡ Some l → (test : Bool) → same_mapped (mapped f) (mapped g) ≡ test
-        → (if test then Some k else b.met (mapped g)) ≡ Some l
+    called-by : (g : Called) (l : ℕ) → b.known_trampolines (mapped g) ≡ Some l → (test : Bool) → same_mapped (mapped f) (mapped g) ≡ test
+        → (if test then Some k else b.known_trampolines (mapped g)) ≡ Some l
     called-by g l is true same =
-        let no : None ≡ Some l = sym none ∙ ap b.met (same-mapped tells f (mapped g) same) ∙ is in absurd cc
+        let no : None ≡ Some l = sym none ∙ ap b.known_trampolines (same-mapped tells f (mapped g) same) ∙ is in absurd cc
     called-by g l is false other = is
 
     -- a mapped type that was not met is met where it stands
-    pub tied-meets : IsTied (meets b (mapped f) k)
-    tied-meets = record {
+    pub tied-knows : IsTied (knows b (mapped f) k)
+    tied-knows = record {
       sized = tied.sized;
-      met = λ g l e. met-by g l (same_mapped (mapped f) (mapped g)) refl e;
+      known = λ g l e. met-by g l (same_mapped (mapped f) (mapped g)) refl e;
       called = λ i l g e at. called-by g l (tied.called i l g e at) (same_mapped (mapped f) (mapped g)) refl;
     }
 
 -- where `==` of function types tells them
 module _ (tells : (x y : WasmFuncType) → (func.ghosts.eq x y ≡ true → x ≡ y) × (x ≡ y → func.ghosts.eq x y ≡ true)) where
   -- the test finds a mapped type that was just met
-  met-now : (f : Called) (met : Called → Option ℕ) (k : ℕ) → same_mapped (mapped f) (mapped f) ≡ true → now_met met (mapped f) k (mapped f) ≡ Some k
+  met-now : (f : Called) (met : Called → Option ℕ) (k : ℕ) → same_mapped (mapped f) (mapped f) ≡ true → now_known met (mapped f) k (mapped f) ≡ Some k
   met-now f met k e = ap (λ t. if t then Some k else met (mapped f)) e
 
-  tied-new : (b : Built) → IsTied b → (i : ℕ) (f : Called) → composite_at b.types i ≡ Func f → b.met (mapped f) ≡ None
+  tied-new : (b : Built) → IsTied b → (i : ℕ) (f : Called) → composite_at b.types i ≡ Func f → b.known_trampolines (mapped f) ≡ None
       → same_mapped (mapped f) (mapped f) ≡ true
-      → IsTied (alone (with_trampoline (meets b (mapped f) (length b.types)) i (length b.types)) (plain (Func (mapped f))) (Some (length b.types)))
+      → IsTied (alone (with_trampoline (knows b (mapped f) (length b.types)) i (length b.types)) (plain (Func (mapped f))) (Some (length b.types)))
   tied-new b tied i f at none itself =
       let k = length b.types in
       let t = plain (Func (mapped f)) in
       let one = tied-alone b tied t in
-      let two = tied-meets (alone b t None) one tells f k none (at-last b.types t) in
+      let two = tied-knows (alone b t None) one tells f k none (at-last b.types t) in
       let there : composite_at (b.types ++ t ∷ []) i ≡ Func f = composite-before b.types (t ∷ []) i (within b.types i f at) ∙ at in
-      let met = met-now f b.met k itself in
-      let three = tied-set (meets (alone b t None) (mapped f) k) two i k f there met in
-      let four : IsTied (with_trampoline (with_trampoline (meets (alone b t None) (mapped f) k) i k) k k) =
-      tied-set (with_trampoline (meets (alone b t None) (mapped f) k) i k) three k k (mapped f) (at-last b.types t) (ap (now_met b.met (mapped f) k) (mapped-twice f) ∙ met) in
+      let met = met-now f b.known_trampolines k itself in
+      let three = tied-set (knows (alone b t None) (mapped f) k) two i k f there met in
+      let four : IsTied (with_trampoline (with_trampoline (knows (alone b t None) (mapped f) k) i k) k k) =
+      tied-set (with_trampoline (knows (alone b t None) (mapped f) k) i k) three k k (mapped f) (at-last b.types t) (ap (now_known b.known_trampolines (mapped f) k) (mapped-twice f) ∙ met) in
       let read : set (set (b.trampolines ++ None ∷ []) i (Some k)) k (Some k) ≡ set b.trampolines i (Some k) ++ Some k ∷ [] =
       ap (λ ks. set ks k (Some k)) (set-more b.trampolines (None ∷ []) i (Some k) (omega (arith, within b.types i f at, tied.sized)))
       ∙ ap (λ n. set (set b.trampolines i (Some k) ++ None ∷ []) n (Some k)) (sym (length-set b.trampolines i (Some k) ∙ tied.sized))
@@ -163,34 +163,34 @@ module _ (tells : (x y : WasmFuncType) → (func.ghosts.eq x y ≡ true → x �
         types = b.types ++ t ∷ [];
         groups = (alone b t None).groups;
         trampolines = read j;
-        met = now_met b.met (mapped f) k;
+        known_trampolines = now_known b.known_trampolines (mapped f) k;
       })) four
 
   tied-at : (b : Built) → IsTied b → (i : ℕ) (f : Called) → composite_at b.types i ≡ Func f → same_mapped (mapped f) (mapped f) ≡ true
-      → (o : Option ℕ) → b.met (mapped f) ≡ o → IsTied (meet_at b i f o)
+      → (o : Option ℕ) → b.known_trampolines (mapped f) ≡ o → IsTied (assign_at b i f o)
   tied-at b tied i f at itself (Some k) is = tied-set b tied i k f at is
   tied-at b tied i f at itself None none = by (same_mapped (mapped f) f) refl where
-    by : (own : Bool) → same_mapped (mapped f) f ≡ own → IsTied (if own then with_trampoline (meets b (mapped f) i) i i
-        else alone (with_trampoline (meets b (mapped f) (length b.types)) i (length b.types)) (plain (Func (mapped f))) (Some (length b.types)))
+    by : (own : Bool) → same_mapped (mapped f) f ≡ own → IsTied (if own then with_trampoline (knows b (mapped f) i) i i
+        else alone (with_trampoline (knows b (mapped f) (length b.types)) i (length b.types)) (plain (Func (mapped f))) (Some (length b.types)))
     by true own =
         let stands : composite_at b.types i ≡ Func (mapped f) = at ∙ ap Func (sym (same-mapped tells f f own)) in
-        tied-set (meets b (mapped f) i) (tied-meets b tied tells f i none stands) i i f at (met-now f b.met i itself)
+        tied-set (knows b (mapped f) i) (tied-knows b tied tells f i none stands) i i f at (met-now f b.known_trampolines i itself)
     by false other = tied-new b tied i f at none itself
 
-  tied-meet : (b : Built) → IsTied b → (i : ℕ) (c : Composite (Named ℕ) ℕ) → composite_at b.types i ≡ c → IsTied (meet b i c)
-  tied-meet b tied i (Func f) at = tied-at b tied i f at (mapped-same tells f (mapped f) refl) (b.met (mapped f)) refl
-  tied-meet b tied i (Array f) at = tied
-  tied-meet b tied i (Struct f) at = tied
-  tied-meet b tied i (Cont f) at = tied
-  tied-meet b tied i (Exn f) at = tied
+  tied-assign_trampoline : (b : Built) → IsTied b → (i : ℕ) (c : Composite (Named ℕ) ℕ) → composite_at b.types i ≡ c → IsTied (assign_trampoline b i c)
+  tied-assign_trampoline b tied i (Func f) at = tied-at b tied i f at (mapped-same tells f (mapped f) refl) (b.known_trampolines (mapped f)) refl
+  tied-assign_trampoline b tied i (Array f) at = tied
+  tied-assign_trampoline b tied i (Struct f) at = tied
+  tied-assign_trampoline b tied i (Cont f) at = tied
+  tied-assign_trampoline b tied i (Exn f) at = tied
 
-  tied-all : (b : Built) → IsTied b → (i : ℕ) (front ts more : List Interned) → length front ≡ i → b.types ≡ front ++ (ts ++ more) → IsTied (meet_all b i ts)
+  tied-all : (b : Built) → IsTied b → (i : ℕ) (front ts more : List Interned) → length front ≡ i → b.types ≡ front ++ (ts ++ more) → IsTied (assign_trampolines b i ts)
   tied-all b tied i front [] more long types = tied
   tied-all b tied i front (t ∷ ts) more long types =
       let c = t.composite.inner in
       let at : composite_at b.types i ≡ c = (λ j. composite_at (types j) (sym long j)) ∙ at-front front t (ts ++ more) in
       let g = grows b i c in
-      tied-all (meet b i c) (tied-meet b tied i c at) (suc i) (front ++ t ∷ []) ts (more ++ g.more) (length-append front (t ∷ []) ∙ omega (arith, long))
+      tied-all (assign_trampoline b i c) (tied-assign_trampoline b tied i c at) (suc i) (front ++ t ∷ []) ts (more ++ g.more) (length-append front (t ∷ []) ∙ omega (arith, long))
       (g.types ∙ ap (λ us. us ++ g.more) types ∙ append-again front (t ∷ (ts ++ more)) g.more
       ∙ ap (λ us. front ++ t ∷ us) (append-again ts more g.more) ∙ sym (append-again front (t ∷ []) (ts ++ (more ++ g.more))))
 
@@ -204,6 +204,6 @@ pub one-index : (b : Built) → IsTied b → (i j k l : ℕ) (f g : Called) → 
 one-index b tied i j k l f g at at' is is' =
     let x = tied.called i k f is at in
     let y = tied.called j l g is' at' in (
-      λ same. func-same (mapped f) (mapped g) (composite_at b.types l) (ap (composite_at b.types) (sym same) ∙ (tied.met f k x).1) (tied.met g l y).1,
-      λ same. let both : Some k ≡ Some l = sym x ∙ ap b.met same ∙ y in cc,
+      λ same. func-same (mapped f) (mapped g) (composite_at b.types l) (ap (composite_at b.types) (sym same) ∙ (tied.known f k x).1) (tied.known g l y).1,
+      λ same. let both : Some k ≡ Some l = sym x ∙ ap b.known_trampolines same ∙ y in cc,
     )

@@ -19,7 +19,7 @@ use Rattle.module_types.specs.Held.{built_of}
 pub record BuilderState : Type 0 where
   pub validator : ℕ
   pub list : TypeList
-  pub met : List (WasmFuncType × TypeIndex)
+  pub trampolines : List (WasmFuncType × TypeIndex)
   pub ids : List (ℕ × Index ModuleInternedRecGroupSpace)
   pub exceptions : List (ℕ × TypeIndex)
   pub startup : Option TypeIndex
@@ -39,7 +39,7 @@ pub record Builder : Type 0 where
 abbrev pub builder_view : BuilderState → Builder
 builder_view k = record {
   validator = k.validator;
-  built = built_of k.list (λ f. lookup (func.ghosts.eq f) k.met);
+  built = built_of k.list (λ f. lookup (func.ghosts.eq f) k.trampolines);
   ids = λ n. option_map number_of (lookup (nat_eq n) k.ids);
   exceptions = λ n. option_map number_of (lookup (nat_eq n) k.exceptions);
   startup = option_map number_of k.startup;

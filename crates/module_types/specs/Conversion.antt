@@ -61,14 +61,14 @@ module _ (t : TypesData) (next : ℕ) (spans : List Span) (ids : ℕ → Option 
   members_by_index k = map_group (λ i. name_by_id (id_number i)) (λ i. index_by_id (id_number i)) (members_of t k)
 
   -- a group stands under its id with all its members
-  pub record Stands (k j : ℕ) : Type 0 where
+  pub record StandsInterned (k j : ℕ) : Type 0 where
     pub within : j < length spans
     pub whole : (get_or spans j no_span).end ≡ (get_or spans j no_span).start + length (members_of t k)
 
   -- the type of an id is that of a group that stands, or there is room for its group
   pub record HasIndex (n : ℕ) : Type 0 where
     pub within : n < length (types_by_id t.groups)
-    pub stands : (j : ℕ) → ids (group_of_id t n) ≡ Some j → Stands (group_of_id t n) j
+    pub stands : (j : ℕ) → ids (group_of_id t n) ≡ Some j → StandsInterned (group_of_id t n) j
     pub room : ids (group_of_id t n) ≡ None → next + length (members_of t (group_of_id t n)) < 4294967295
 
   abbrev pub KnowsId : UnpackedIndex → Type 0
@@ -88,7 +88,7 @@ module _ (t : TypesData) (b : Builder) where
 
   -- each id of a group that the builder holds names in the list of types the group that was interned under it
   abbrev pub HoldsGroups : Type 0
-  HoldsGroups = (k j : ℕ) → b.ids k ≡ Some j → Stands t (length b.built.types) b.built.groups b.ids k j
+  HoldsGroups = (k j : ℕ) → b.ids k ≡ Some j → StandsInterned t (length b.built.types) b.built.groups b.ids k j
 
   -- the groups that a group names outside itself are interned
   abbrev pub NamesInterned : ℕ → Type 0

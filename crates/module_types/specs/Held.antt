@@ -12,5 +12,5 @@ built_of l get = record {
   types = map interned_of l.types;
   groups = map span_of l.groups;
   trampolines = map (option_map number_of) l.trampolines;
-  met = λ f. option_map number_of (get (function_at f));
+  known_trampolines = λ f. option_map number_of (get (function_at f));
 }

@@ -10,5 +10,5 @@ trampoline_in b i = get_or b.trampolines i None
 -- a function's trampoline is where its mapped type was met, and there stands the mapped type
 pub record IsTied (b : Built) : Type 0 where
   pub sized : length b.trampolines ≡ length b.types
-  pub met : (f : Called) (k : ℕ) → b.met (mapped f) ≡ Some k → (k < length b.types) × (composite_at b.types k ≡ Func (mapped f))
-  pub called : (i k : ℕ) (f : Called) → trampoline_in b i ≡ Some k → composite_at b.types i ≡ Func f → b.met (mapped f) ≡ Some k
+  pub known : (f : Called) (k : ℕ) → b.known_trampolines (mapped f) ≡ Some k → (k < length b.types) × (composite_at b.types k ≡ Func (mapped f))
+  pub called : (i k : ℕ) (f : Called) → trampoline_in b i ≡ Some k → composite_at b.types i ≡ Func f → b.known_trampolines (mapped f) ≡ Some k

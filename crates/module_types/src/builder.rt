@@ -46,7 +46,7 @@ impl Model for ModuleTypesBuilder {
     ghost view = { λ b. record {
       validator = b.validator.0;
       list = b.interner.list;
-      met = b.interner.met.entries;
+      trampolines = b.interner.trampolines.entries;
       ids = b.ids.entries;
       exceptions = b.exceptions.entries;
       startup = b.startup;

@@ -41,7 +41,7 @@ fn reference_to_interned(ty: &WasmSubType, index: ModuleInternedTypeIndex) -> Wa
     }
 }
 
-/// What answers the interned index of each type of a module. A closure does, as `Asked`.
+/// What answers the interned index of each type of a module. A closure does, as `FnLookUp`.
 pub trait TypeLookUp {
     /// It may be asked at an index.
     ghost callable: { Self → Index TypeSpace → Type 0 };
@@ -57,9 +57,9 @@ pub trait TypeLookUp {
 
 /// A closure that is asked for each index.
 #[derive(Drop)]
-pub struct Asked<F>(pub F);
+pub struct FnLookUp<F>(pub F);
 
-impl<F: Fn(TypeIndex) -> ModuleInternedTypeIndex> TypeLookUp for Asked<F> {
+impl<F: Fn(TypeIndex) -> ModuleInternedTypeIndex> TypeLookUp for FnLookUp<F> {
     ghost callable = { λ f i. F.pre f.0 i };
 
     ghost gives = { λ f i r. F.post f.0 i r };

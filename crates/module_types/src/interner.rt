@@ -3,13 +3,13 @@
 ghost use Rattle.std.specs.Prelude.{◌≡◌, ◌+◌, ◌-◌, ◌<◌, ◌≤◌, length, map, drop, IfOk, OnOk, IsTrue, true};
 ghost use Rattle.std.specs.Option.{option_map};
 ghost use Rattle.wasm_spec.specs.TypeData.{Func};
-ghost use Rattle.type_spec.specs.Interned.{empty, plain, alone, meet, meet_all, opened, with_group, with_exception, with_startup, composite_at};
+ghost use Rattle.type_spec.specs.Interned.{empty, plain, alone, assign_trampoline, assign_trampolines, opened, with_group, with_exception, with_startup, composite_at};
 ghost use Rattle.wasm_index.specs.Index.{number_of};
 ghost use Rattle.entity_map.specs.Cow.{value_of};
 ghost use Rattle.module_types.specs.Views.{called_of, interned_of, field_at};
 ghost use Rattle.module_types.specs.Orderly.{IsOrderly};
 ghost use Rattle.module_types.specs.Builder.{is_function};
-ghost use Rattle.module_types.specs.Interner.{built, IsMapped};
+ghost use Rattle.module_types.specs.Interner.{built, IsTrampoline};
 ghost use Rattle.std.specs.HashMap.{get};
 
 use crate::list::ModuleTypes;
@@ -22,11 +22,11 @@ use wasm_types::{
     WasmFuncType, WasmStorageType, WasmSubType, WasmValType,
 };
 
-/// A list of interned types, and where mapped types were met.
+/// A list of interned types, and the trampoline that is known of each mapped type.
 #[derive(Drop)]
 pub(crate) struct Interner {
     pub(crate) list: ModuleTypes,
-    pub(crate) met: HashMap<WasmFuncType, ModuleInternedTypeIndex, Seeded>,
+    pub(crate) trampolines: HashMap<WasmFuncType, ModuleInternedTypeIndex, Seeded>,
 }
 
 // A final function type without supertype.
@@ -43,15 +43,15 @@ fn plain_function(ty: WasmFuncType) -> WasmSubType
     }
 }
 
-// What is known of the type by which functions of a type are called.
+// The type by which functions of a type are called.
 #[derive(Drop)]
-pub(crate) enum Mapped {
-    /// It was met at an index.
-    Met(ModuleInternedTypeIndex),
-    /// It is the function's own type, and was not met.
-    Own(WasmFuncType),
-    /// It is another type, and was not met.
-    Other(WasmFuncType),
+pub(crate) enum Trampoline {
+    /// It is known, at an index.
+    Known(ModuleInternedTypeIndex),
+    /// It is the function's own type, which is not known yet.
+    Itself(WasmFuncType),
+    /// It is another type, which is not known yet.
+    New(WasmFuncType),
 }
 
 // The type that is borrowed or owned.
@@ -92,21 +92,21 @@ impl Interner {
     {
         Interner {
             list: ModuleTypes::new(alloc),
-            met: HashMap::with_hasher(alloc, Seeded::new(0)),
+            trampolines: HashMap::with_hasher(alloc, Seeded::new(0)),
         }
     }
 
-    // Lets the hashes of mapped types begin from a seed, as long as none was met.
+    // Lets the hashes of mapped types begin from a seed, as long as no trampoline is known.
     fn seed_from(&mut self, alloc: Global, seed: u64)
         ensures list { self.new.list ≡ self.old.list }
         ensures built { built self.new ≡ built self.old }
     {
-        if self.met.is_empty() {
-            self.met = HashMap::with_hasher(alloc, Seeded::new(seed));
+        if self.trampolines.is_empty() {
+            self.trampolines = HashMap::with_hasher(alloc, Seeded::new(seed));
         }
     }
 
-    // Puts a type behind the others, in a group of its own.
+    // Appends a type, in a group of its own.
     fn push_alone(
         &mut self,
         ty: WasmSubType,
@@ -122,41 +122,45 @@ impl Interner {
         Ok(())
     }
 
-    // The type by which functions of a type are called: where it was met, or else the type. Looking up copies nothing.
-    fn find_mapped(&self, alloc: Global, func: &WasmFuncType) -> Result<Mapped, OutOfMemory>
-        ensures { IfOk result (IsMapped (get ⟦<WasmFuncType as PartialEq>⟧.eq self.now.met) func.now) }
+    // The type by which functions of a type are called: where it stands, or else the type. Looking up copies nothing.
+    fn find_trampoline(&self, alloc: Global, func: &WasmFuncType) -> Result<Trampoline, OutOfMemory>
+        ensures { IfOk result (IsTrampoline (get ⟦<WasmFuncType as PartialEq>⟧.eq self.now.trampolines) func.now) }
     {
         let mapped = func.trampoline_type(alloc)?;
-        if let Some(found) = self.met.get(lent(&mapped)).copied() {
-            return Ok(Mapped::Met(found));
+        if let Some(found) = self.trampolines.get(lent(&mapped)).copied() {
+            return Ok(Trampoline::Known(found));
         }
         match mapped {
-            TryCow::Borrowed(own) => Ok(Mapped::Own(own.try_clone(alloc)?)),
-            TryCow::Owned(other) => Ok(Mapped::Other(other)),
+            TryCow::Borrowed(own) => Ok(Trampoline::Itself(own.try_clone(alloc)?)),
+            TryCow::Owned(other) => Ok(Trampoline::New(other)),
         }
     }
 
     // Gives the type at an index its trampoline, if it is a function.
-    fn meet(&mut self, alloc: Global, ty: ModuleInternedTypeIndex) -> Result<(), OutOfMemory>
+    fn assign_trampoline(
+        &mut self,
+        alloc: Global,
+        ty: ModuleInternedTypeIndex,
+    ) -> Result<(), OutOfMemory>
         requires in_range { number_of ty < length self.old.list.types }
         requires orderly { IsOrderly (built self.old) }
-        requires room { length (meet (built self.old) (number_of ty) (composite_at (built self.old).types (number_of ty))).types < u32.MAX }
-        ensures { OnOk result (built self.new ≡ meet (built self.old) (number_of ty) (composite_at (built self.old).types (number_of ty))) }
+        requires room { length (assign_trampoline (built self.old) (number_of ty) (composite_at (built self.old).types (number_of ty))).types < u32.MAX }
+        ensures { OnOk result (built self.new ≡ assign_trampoline (built self.old) (number_of ty) (composite_at (built self.old).types (number_of ty))) }
     {
         let WasmCompositeInnerType::Func(func) = &self.list[ty].composite_type.inner else {
             return Ok(());
         };
-        match self.find_mapped(alloc, func)? {
-            Mapped::Met(found) => self.list.call_by(ty, found),
-            Mapped::Own(key) => {
-                self.met.insert(key, ty)?;
-                self.list.call_by(ty, ty);
+        match self.find_trampoline(alloc, func)? {
+            Trampoline::Known(found) => self.list.set_trampoline(ty, found),
+            Trampoline::Itself(key) => {
+                self.trampolines.insert(key, ty)?;
+                self.list.set_trampoline(ty, ty);
             }
-            Mapped::Other(key) => {
+            Trampoline::New(key) => {
                 let copy = key.try_clone(alloc)?;
                 let trampoline = self.list.next_ty();
-                self.met.insert(key, trampoline)?;
-                self.list.call_by(ty, trampoline);
+                self.trampolines.insert(key, trampoline)?;
+                self.list.set_trampoline(ty, trampoline);
                 self.push_alone(plain_function(copy), Some(trampoline))?;
             }
         }
@@ -164,19 +168,19 @@ impl Interner {
     }
 
     // Gives each of the types from an index on its trampoline.
-    fn meet_all(&mut self, alloc: Global, first: usize) -> Result<(), OutOfMemory>
+    fn assign_trampolines(&mut self, alloc: Global, first: usize) -> Result<(), OutOfMemory>
         requires in_range { first ≤ length self.old.list.types }
         requires orderly { IsOrderly (built self.old) }
-        requires room { length (meet_all (built self.old) first (drop first (built self.old).types)).types < u32.MAX }
-        ensures { OnOk result (built self.new ≡ meet_all (built self.old) first (drop first (built self.old).types)) }
+        requires room { length (assign_trampolines (built self.old) first (drop first (built self.old).types)).types < u32.MAX }
+        ensures { OnOk result (built self.new ≡ assign_trampolines (built self.old) first (drop first (built self.old).types)) }
     {
         for i in first..self.list.len_types() {
-            self.meet(alloc, ModuleInternedTypeIndex::new(i))?;
+            self.assign_trampoline(alloc, ModuleInternedTypeIndex::new(i))?;
         }
         Ok(())
     }
 
-    // Puts a group behind the others, with no trampolines.
+    // Appends a group, with no trampolines.
     fn open_group(&mut self, members: Vec<WasmSubType>) -> Result<(), OutOfMemory>
         requires filled { 0 < length members.items }
         requires orderly { IsOrderly (built self.old) }
@@ -191,7 +195,7 @@ impl Interner {
         Ok(())
     }
 
-    // Puts a group behind the others, and then the trampolines that are missing.
+    // Appends a group, and then the trampolines that are missing.
     fn add_group(&mut self, alloc: Global, members: Vec<WasmSubType>) -> Result<(), OutOfMemory>
         requires filled { 0 < length members.items }
         requires orderly { IsOrderly (built self.old) }
@@ -200,10 +204,10 @@ impl Interner {
     {
         let first = self.list.len_types();
         self.open_group(members)?;
-        self.meet_all(alloc, first)
+        self.assign_trampolines(alloc, first)
     }
 
-    /// Puts a group behind the others, and then the trampolines that are missing. Where it is the first, mapped types are hashed from the seed.
+    /// Appends a group, and then the trampolines that are missing. Where it is the first, mapped types are hashed from the seed.
     pub(crate) fn push_group(
         &mut self,
         alloc: Global,
@@ -219,7 +223,7 @@ impl Interner {
         self.add_group(alloc, members)
     }
 
-    /// Puts the exception type of a function type behind the others.
+    /// Appends the exception type of a function type.
     pub(crate) fn push_exception(
         &mut self,
         alloc: Global,
@@ -249,7 +253,7 @@ impl Interner {
         self.push_alone(ty, None)
     }
 
-    /// Puts the startup type behind the others.
+    /// Appends the startup type.
     pub(crate) fn push_startup(&mut self, alloc: Global) -> Result<(), OutOfMemory>
         requires orderly { IsOrderly (built self.old) }
         requires room { length self.old.list.types < u32.MAX - 1 }

@@ -63,7 +63,7 @@ pub fn runs_law()
 {}
 
 /// Two lists of groups that are not empty are equal exactly where what is built of them has equal types and equal groups.
-pub fn told_law()
+pub fn built_groups_law()
     ensures { (tss uss : List (List Interned)) → AllFilled tss → AllFilled uss
         → (tss ≡ uss) ↔ (((with_groups empty tss).types ≡ (with_groups empty uss).types) × ((with_groups empty tss).groups ≡ (with_groups empty uss).groups)) }
 {}

@@ -194,12 +194,12 @@ impl ModuleTypes {
         ensures ok { OnOk result (self.new ≡ called_by self.old (number_of for_ty) trampoline_ty) }
         ensures err { OnErr result (self.new ≡ self.old) }
     {
-        self.call_by(for_ty, trampoline_ty);
+        self.set_trampoline(for_ty, trampoline_ty);
         Ok(())
     }
 
     // The same, without an answer.
-    pub(crate) fn call_by(
+    pub(crate) fn set_trampoline(
         &mut self,
         for_ty: ModuleInternedTypeIndex,
         trampoline_ty: ModuleInternedTypeIndex,

@@ -8,7 +8,7 @@ use Rattle.gc_layout.specs.declared.error.LayoutError.TheVariants as layout
 use Rattle.plan.specs.declared.error.TranslateError.{TranslateError}
 use Rattle.plan.specs.declared.error.TranslateError.TheVariants as refusal
 
--- a builder is poisoned by want of memory alone
+-- a builder is poisoned only where memory ran out
 abbrev pub error_of_translation : EnvironError → TranslateError
 error_of_translation environ.Malformed = refusal.Malformed
 error_of_translation (environ.Invalid rule) = refusal.Invalid rule

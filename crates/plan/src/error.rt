@@ -37,7 +37,7 @@ impl From<EnvironError> for TranslateError {
             EnvironError::Invalid(rule) => TranslateError::Invalid(rule),
             EnvironError::Unsupported(what) => TranslateError::Unsupported(what),
             EnvironError::TooLarge => TranslateError::TooLarge,
-            // A builder is poisoned by want of memory alone.
+            // A builder is poisoned only where memory ran out.
             EnvironError::OutOfMemory | EnvironError::Poisoned => TranslateError::OutOfMemory,
         }
     }

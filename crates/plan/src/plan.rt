@@ -19,7 +19,7 @@ pub struct Plan<'d> {
     pub offsets: VMOffsets<u8>,
 }
 
-// One call in place of a walk over the parts, wherever a plan is let go.
+// One call in place of a walk over the parts, wherever a plan is dropped.
 impl Drop for Plan<'_> {
     fn drop(self) {
         let Plan {

@@ -89,7 +89,7 @@ impl Text {
     }
 }
 
-/// A write fails only for want of memory.
+/// A write fails only where memory runs out.
 impl Write for Text {
     ghost write_str_gives = { λ text words longer. longer ≡ text ++ words };
 

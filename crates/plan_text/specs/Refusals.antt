@@ -27,7 +27,7 @@ name_of_spelling what.Operator = codes "operator"
 name_of_spelling what.ExactImport = codes "exact import"
 name_of_spelling what.InterfaceTypes = codes "interface types"
 
--- want of memory has no line
+-- out of memory has no line
 abbrev pub text_of_refusal : TranslateError → List ℕ
 text_of_refusal refusal.Malformed = codes "refused malformed\n"
 text_of_refusal (refusal.Invalid r) = codes "refused invalid " ++ name_of_rule r ++ codes "\n"

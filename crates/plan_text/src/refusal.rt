@@ -7,7 +7,7 @@ use plan::TranslateError;
 use rule_spec::Rule;
 use wasm_spec::What;
 
-/// The line that says why there is no plan, with its line feed. Want of memory has no line.
+/// The line that says why there is no plan, with its line feed. Out of memory has no line.
 pub fn refusal_line(refusal: &TranslateError) -> &'static str
     requires { refusal.now ≢ TranslateError.OutOfMemory }
     ensures { result.now ≡ text_of_refusal refusal.now }

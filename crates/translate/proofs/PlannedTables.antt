@@ -6,7 +6,7 @@ use Rattle.replay_spec.specs.Elements.{ActiveElements, DefinedTable, defined_tab
 use Rattle.replay_spec.specs.Tables.{TablePlan, IsTablePlan}
 use Rattle.init_plan.specs.declared.translation.ModuleTranslation.{ModuleTranslation}
 use Rattle.init_plan.specs.Views.{OnlyMemoryInitChanges}
-use Rattle.init_plan.specs.Held.{held_table, held_elements, HoldsTables}
+use Rattle.init_plan.specs.Held.{erased_table, erased_elements, HoldsTables}
 use Rattle.init_plan.specs.Tables.{tables_of, elements_of}
 use Rattle.translate.specs.Options.{InitOptions, PlansTables}
 
@@ -23,6 +23,6 @@ pub plans_tables : (i : InitOptions) (m : Module) (t : ModuleTranslation) (plan 
 plans_tables i m t plan holds h =
     let l : Lists = lists_of_module m in
     let lazy = i.tunables.table_lazy_init in
-    subst (λ (n : ℕ). IsTablePlan lazy n (map held_table (defined_tables l)) (map held_elements (active_elements l.elements)) plan) holds.imports
-    (subst (λ (ts : List DefinedTable). IsTablePlan lazy t.module.num_imported_tables ts (map held_elements (active_elements l.elements)) plan) holds.tables
+    subst (λ (n : ℕ). IsTablePlan lazy n (map erased_table (defined_tables l)) (map erased_elements (active_elements l.elements)) plan) holds.imports
+    (subst (λ (ts : List DefinedTable). IsTablePlan lazy t.module.num_imported_tables ts (map erased_elements (active_elements l.elements)) plan) holds.tables
     (subst (λ (ss : List ActiveElements). IsTablePlan lazy t.module.num_imported_tables (tables_of t) ss plan) holds.active h))

@@ -20,7 +20,7 @@ memories_cause i o bytes m plan.TooLarge is read keeps much =
 memories_cause i o bytes m plan.OutOfMemory is read keeps much = tt
 memories_cause i o bytes m plan.Poisoned is read keeps much = tt
 
--- where its data fit, that is for want of memory
+-- where its data fit, memory ran out
 pub memories_complete : (i : InitOptions) (bytes : List ℕ) (m : Module) (e : PlanError) (can : CanBeInitialised i bytes) → can.meaning ≡ m
     → (e ≡ plan.TooLarge → HasMuchData i m) → error_of_plan e ≡ refusal.OutOfMemory
 memories_complete i bytes m plan.TooLarge can same much =
@@ -30,7 +30,7 @@ memories_complete i bytes m plan.TooLarge can same much =
 memories_complete i bytes m plan.OutOfMemory can same much = refl
 memories_complete i bytes m plan.Poisoned can same much = refl
 
--- the tables have no plan for want of memory alone
+-- the tables have no plan only where memory ran out
 pub tables_error : (e : PlanError) → (e ≡ plan.TooLarge → ⊥) → error_of_plan e ≡ refusal.OutOfMemory
 tables_error plan.TooLarge never = absurd (never refl)
 tables_error plan.OutOfMemory never = refl

@@ -34,7 +34,7 @@ fn run_over(alloc: Global, line: &str, bytes: &[u8]) -> Result<(u8, Vec<u8>), Ou
 
 /// Each run ends with a text, or with no memory and nothing written.
 #[test]
-fn want_of_memory_writes_nothing(rt: HostRuntime) -> Result<(), Fail> {
+fn running_out_of_memory_writes_nothing(rt: HostRuntime) -> Result<(), Fail> {
     for (line, begin) in [
         ("plan --cow", "types 1\n"),
         ("generate 2 --cow --lazy-tables", "generated 2\n"),

@@ -59,18 +59,18 @@ pub record Span : Type 0 where
   pub start : ℕ
   pub end : ℕ
 
--- the types, the indices of each group, the trampoline of each function that has one, and where each mapped type was met
+-- the types, the indices of each group, the trampoline of each function that has one, and the trampoline that is known of each mapped type
 pub record Built : Type 0 where
   pub types : List Interned
   pub groups : List Span
   pub trampolines : List (Option ℕ)
-  pub met : Called → Option ℕ
+  pub known_trampolines : Called → Option ℕ
 
 abbrev pub nowhere : Called → Option ℕ
 nowhere f = None
 
 abbrev pub empty : Built
-empty = record { types = []; groups = []; trampolines = []; met = nowhere }
+empty = record { types = []; groups = []; trampolines = []; known_trampolines = nowhere }
 
 -- a final type without supertype
 abbrev pub plain : Composite (Named ℕ) ℕ → Interned
@@ -89,30 +89,30 @@ alone b t trampoline = record b { types = b.types ++ t ∷ []; groups = b.groups
 abbrev pub with_trampoline : Built → ℕ → ℕ → Built
 with_trampoline b i k = record b { trampolines = set b.trampolines i (Some k) }
 
--- a mapped type is met at an index
-abbrev pub now_met : (Called → Option ℕ) → Called → ℕ → Called → Option ℕ
-now_met met f k g = if same_mapped f g then Some k else met g
+-- the trampoline of a mapped type is known from now on
+abbrev pub now_known : (Called → Option ℕ) → Called → ℕ → Called → Option ℕ
+now_known known f k g = if same_mapped f g then Some k else known g
 
-abbrev pub meets : Built → Called → ℕ → Built
-meets b f k = record b { met = now_met b.met f k }
+abbrev pub knows : Built → Called → ℕ → Built
+knows b f k = record b { known_trampolines = now_known b.known_trampolines f k }
 
--- the function at an index: its mapped type was met, or it is its own mapped type, or a new type is appended
-abbrev pub meet_at : Built → ℕ → Called → Option ℕ → Built
-meet_at b i f (Some k) = with_trampoline b i k
-meet_at b i f None =
-    if same_mapped (mapped f) f then with_trampoline (meets b (mapped f) i) i i
+-- the trampoline of the function at an index: it is known, or the function itself, or a new type that is appended
+abbrev pub assign_at : Built → ℕ → Called → Option ℕ → Built
+assign_at b i f (Some k) = with_trampoline b i k
+assign_at b i f None =
+    if same_mapped (mapped f) f then with_trampoline (knows b (mapped f) i) i i
     else
     (let k = length b.types in
-    alone (with_trampoline (meets b (mapped f) k) i k) (plain (Func (mapped f))) (Some k))
+    alone (with_trampoline (knows b (mapped f) k) i k) (plain (Func (mapped f))) (Some k))
 
-abbrev pub meet : Built → ℕ → Composite (Named ℕ) ℕ → Built
-meet b i (Func f) = meet_at b i f (b.met (mapped f))
-meet b i _ = b
+abbrev pub assign_trampoline : Built → ℕ → Composite (Named ℕ) ℕ → Built
+assign_trampoline b i (Func f) = assign_at b i f (b.known_trampolines (mapped f))
+assign_trampoline b i _ = b
 
 -- the members of a group in order, from an index on
-abbrev pub meet_all : Built → ℕ → List Interned → Built
-meet_all b i [] = b
-meet_all b i (t ∷ ts) = meet_all (meet b i t.composite.inner) (suc i) ts
+abbrev pub assign_trampolines : Built → ℕ → List Interned → Built
+assign_trampolines b i [] = b
+assign_trampolines b i (t ∷ ts) = assign_trampolines (assign_trampoline b i t.composite.inner) (suc i) ts
 
 -- ---- groups
 
@@ -126,7 +126,7 @@ opened b ts = record b {
 
 -- a group behind the others, and then the trampolines that are missing
 abbrev pub with_group : Built → List Interned → Built
-with_group b ts = meet_all (opened b ts) (length b.types) ts
+with_group b ts = assign_trampolines (opened b ts) (length b.types) ts
 
 -- the kind of a type
 abbrev pub kind_of_type : {H R : Type 0} → Composite H R → NameKind

@@ -25,14 +25,14 @@ fn push_long_type(bytes: &mut Vec<u8>, number: u32) -> Result<(), AllocError> {
     Ok(())
 }
 
-/// 100,000 function types of 64 parameters: so many distinct ones that differ late, and then others equal to the first.
-pub fn long_types(alloc: Global, distinct: u32) -> Result<Vec<u8>, AllocError> {
+/// 100,000 function types of 64 parameters, which differ late.
+pub fn long_types(alloc: Global) -> Result<Vec<u8>, AllocError> {
     let mut bytes = Vec::with_capacity(alloc, 6_700_019)?;
     bytes.extend_from_slice(&FRONT)?;
     push_number(&mut bytes, 6_700_005)?;
     push_number(&mut bytes, 100_000)?;
     for place in 0..100_000 {
-        push_long_type(&mut bytes, if place < distinct { place } else { 0 })?;
+        push_long_type(&mut bytes, place)?;
     }
     Ok(bytes)
 }

@@ -18,36 +18,13 @@ fn numbers_of(alloc: Global, bytes: &[u8]) -> Result<Vec<(u32, u32)>, Fail> {
     Ok(numbers)
 }
 
-/// Two equal types, and one that is not final.
-#[test]
-fn equal_types_have_one_group(rt: HostRuntime) -> Result<(), Fail> {
-    let bytes = [
-        0x00, 0x61, 0x73, 0x6D, 0x01, 0x00, 0x00, 0x00, 0x01, 0x0C, 0x03, 0x60, 0x00, 0x00, 0x60,
-        0x00, 0x00, 0x50, 0x00, 0x60, 0x00, 0x00,
-    ];
-    let numbers = numbers_of(rt.alloc(), &bytes)?;
-    assert_eq!(rt; numbers.as_slice(), [(0, 0), (0, 0), (1, 1)].as_slice());
-    Ok(())
-}
-
 #[test]
 fn types_that_differ_late_have_an_id_each(rt: HostRuntime) -> Result<(), Fail> {
-    let bytes = long_types(rt.alloc(), 100_000)?;
+    let bytes = long_types(rt.alloc())?;
     let numbers = numbers_of(rt.alloc(), &bytes)?;
     assert_eq!(rt; numbers.len(), 100_000);
     for place in 0..100_000u32 {
         assert_eq!(rt; numbers.get(place as usize), Some(&(place, place)));
-    }
-    Ok(())
-}
-
-#[test]
-fn many_equal_types_have_one_id(rt: HostRuntime) -> Result<(), Fail> {
-    let bytes = long_types(rt.alloc(), 1)?;
-    let numbers = numbers_of(rt.alloc(), &bytes)?;
-    assert_eq!(rt; numbers.len(), 100_000);
-    for found in numbers.iter() {
-        assert_eq!(rt; *found, (0, 0));
     }
     Ok(())
 }

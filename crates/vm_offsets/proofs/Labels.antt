@@ -4,7 +4,7 @@ use Rattle.std.specs.Prelude.{⊤, sum_by}
 use Rattle.std.proofs.lemmas.List.{map-append, reverse-append}
 use Rattle.std.proofs.lemmas.List.Sums.{sum_by-cons}
 use Rattle.vm_offsets.specs.declared.fields.VMOffsetsFields.{VMOffsetsFields}
-use Rattle.vm_offsets.specs.declared.part.Part.{Part}
+use Rattle.vm_offsets.specs.declared.part.ContextPart.{ContextPart}
 use Rattle.vm_offsets.specs.Context.{Placed, context_entries, context_size}
 use Rattle.vm_offsets.specs.Regions.{regions_back, static_part, context_regions}
 use Rattle.vm_offsets.specs.Falls.{Falls, part_entry, part_label, entry_label}
@@ -68,12 +68,12 @@ pub next_label : {d e : List ℕ} {b a : ℕ} {ls ms : List (List ℕ × ℕ)} �
 next_label same begins others = cc
 
 -- parts by their labels
-regions_back-parts : (end : ℕ) (parts : List Part) → regions_back end (map part_entry parts) ≡ labelled end (map part_label parts)
+regions_back-parts : (end : ℕ) (parts : List ContextPart) → regions_back end (map part_entry parts) ≡ labelled end (map part_label parts)
 regions_back-parts end [] = refl
 regions_back-parts end (part ∷ parts) =
     ap (λ regions. (part.description.now, end - part.begin) ∷ regions) (regions_back-parts part.begin parts)
 
-Falls-labels : (end : ℕ) (parts : List Part) → LabelsFall end (map part_label parts) → Falls end parts
+Falls-labels : (end : ℕ) (parts : List ContextPart) → LabelsFall end (map part_label parts) → Falls end parts
 Falls-labels end [] falls = tt
 Falls-labels end (part ∷ parts) falls = (falls.0, Falls-labels part.begin parts falls.1)
 
@@ -82,7 +82,7 @@ module _ {P : Type 0} (pointer : ℕ) (c : VMOffsetsFields P) where
   falls = (reversed 0 (static_part ∷ context_entries pointer c) (context_size pointer c) (all_rise pointer c)).0
 
   -- parts with a context's labels give its regions
-  pub regions_back-context : (size : ℕ) (parts : List Part)
+  pub regions_back-context : (size : ℕ) (parts : List ContextPart)
       → map part_label parts ≡ map entry_label (reverse (static_part ∷ context_entries pointer c)) → size ≡ context_size pointer c
       → regions_back size (map part_entry parts) ≡ context_regions pointer c
   regions_back-context size parts same sized =
@@ -91,7 +91,7 @@ module _ {P : Type 0} (pointer : ℕ) (c : VMOffsetsFields P) where
       ∙ sym (regions_back-labelled (context_size pointer c) (reverse (static_part ∷ context_entries pointer c)))
 
   -- and fall from its end
-  pub Falls-context : (size : ℕ) (parts : List Part)
+  pub Falls-context : (size : ℕ) (parts : List ContextPart)
       → map part_label parts ≡ map entry_label (reverse (static_part ∷ context_entries pointer c)) → size ≡ context_size pointer c
       → Falls size parts
   Falls-context size parts same sized = Falls-labels size parts (rw (same, sized) falls)

@@ -2,7 +2,7 @@
 
 /// A region's description, and its first byte.
 #[derive(Clone, Copy)]
-pub struct Part {
+pub struct ContextPart {
     pub description: &'static str,
     pub begin: u32,
 }

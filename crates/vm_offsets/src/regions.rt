@@ -13,14 +13,14 @@ use crate::accessors::{
     STARTUP_FUNC_REF, TABLES, TAGS,
 };
 use crate::offsets::VMOffsets;
-use crate::part::Part;
+use crate::part::ContextPart;
 use std::marker::Model;
 use vm_structs::PtrSize;
 
 /// Gives the description and the size, in bytes, of each region of a context. It means the list of those that are left.
 #[derive(Drop)]
 pub struct RegionSizes {
-    parts: [Part; 15],
+    parts: [ContextPart; 15],
     next: usize,
     end: u32,
 }
@@ -55,12 +55,12 @@ impl Iterator for RegionSizes {
 
 impl<P: PtrSize> VMOffsets<P> {
     // The part that begins with the entry at a place.
-    fn part(&self, description: &'static str, place: usize) -> Part
+    fn part(&self, description: &'static str, place: usize) -> ContextPart
         requires { place < 14 }
         ensures description { result.description.now ≡ description.now }
         ensures begin { result.begin ≡ (slice_index_or (entries_of self.now) place no_entry).begin }
     {
-        Part {
+        ContextPart {
             description,
             begin: self.entry(place).begin,
         }
@@ -68,7 +68,7 @@ impl<P: PtrSize> VMOffsets<P> {
 
     // The parts of the context, the last one first.
     #[tactic(auto, unfolding(crate::specs::Context::context_entries, crate::specs::Context::context_table))]
-    fn parts(&self) -> [Part; 15]
+    fn parts(&self) -> [ContextPart; 15]
         ensures { map part_label result ≡ map entry_label (reverse (static_part ∷ entries_of self.now)) }
     {
         [
@@ -86,7 +86,7 @@ impl<P: PtrSize> VMOffsets<P> {
             self.part("owned memories", OWNED_MEMORIES),
             self.part("defined memories", MEMORIES),
             self.part("imported memories", IMPORTED_MEMORIES),
-            Part {
+            ContextPart {
                 description: "static vmctx data",
                 begin: 0,
             },

@@ -1,4 +1,4 @@
-//! Tests of single calls of the vocabulary: maps, indices, types, visits and conversions.
+//! Tests of single calls of the vocabulary: maps, types, visits and constant expressions.
 #![tactic(auto)]
 
 #[cfg(test)]

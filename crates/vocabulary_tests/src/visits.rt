@@ -1,4 +1,4 @@
-//! Visits of a few types, each call once.
+//! Visits of a few types.
 
 ghost use Rattle.std.specs.Prelude.{◌≡◌, ◌<◌};
 ghost use Rattle.wasm_index.specs.Index.{index_of};
@@ -11,9 +11,8 @@ use std::test::Fail;
 use wasm_index::{ModuleInternedTypeIndex, RecGroupRelativeTypeIndex, VMSharedTypeIndex};
 use wasm_trace::TypeTrace;
 use wasm_types::{
-    EngineOrModuleTypeIndex, EntityType, Global, IndexType, Limits, Table, Tag, WasmArrayType,
-    WasmCompositeInnerType, WasmCompositeType, WasmContType, WasmExnType, WasmFieldType,
-    WasmFuncType, WasmHeapType, WasmRecGroup, WasmRefType, WasmStorageType, WasmStructType,
+    EngineOrModuleTypeIndex, Tag, WasmCompositeInnerType, WasmCompositeType, WasmExnType,
+    WasmFieldType, WasmFuncType, WasmHeapType, WasmRecGroup, WasmRefType, WasmStorageType,
     WasmSubType, WasmValType,
 };
 
@@ -64,23 +63,6 @@ fn visited<T: TypeTrace>(
         Ok(())
     })?;
     Ok(edges)
-}
-
-#[test]
-fn visit_stops_at_the_second_edge(rt: HostRuntime) -> Result<(), Fail> {
-    let func = WasmFuncType::new(rt.alloc(), &two_functions(), &[])?;
-    let mut visits = 0u32;
-    let answer = func.trace(&mut |edge| {
-        visits = visits.saturating_add(1);
-        if edge == module_type(1) {
-            Err("stopped")
-        } else {
-            Ok(())
-        }
-    });
-    assert_eq!(rt; answer, Err("stopped"));
-    assert_eq!(rt; visits, 2);
-    Ok(())
 }
 
 #[test]
@@ -140,55 +122,12 @@ fn visits_in_order<T: TypeTrace>(
 #[test]
 fn edges_are_visited_in_order(rt: HostRuntime) -> Result<(), Fail> {
     let alloc = rt.alloc();
-    let value = reference(4);
-    let field = WasmFieldType {
-        element_type: WasmStorageType::Val(value),
-        mutable: false,
-    };
-    visits_in_order(
-        &rt,
-        alloc,
-        &WasmHeapType::ConcreteCont(module_type(4)),
-        &[4],
-    )?;
-    visits_in_order(&rt, alloc, &reference_type(4), &[4])?;
-    visits_in_order(&rt, alloc, &value, &[4])?;
-    visits_in_order(&rt, alloc, &WasmArrayType(field), &[4])?;
-    visits_in_order(&rt, alloc, &WasmContType::new(module_type(5)), &[5])?;
     let func = WasmFuncType::new(alloc, &[reference(6), reference(7)], &[reference(8)])?;
     visits_in_order(&rt, alloc, &func, &[6, 7, 8])?;
-    visits_in_order(&rt, alloc, &exception(alloc)?, &[1, 2, 3])?;
     let mut types = Vec::new(alloc);
     types.push(exception(alloc)?)?;
     types.push(exception(alloc)?)?;
     visits_in_order(&rt, alloc, &WasmRecGroup { types }, &[1, 2, 3, 1, 2, 3])?;
-    let mut fields = Vec::new(alloc);
-    fields.push(field)?;
-    visits_in_order(&rt, alloc, &WasmStructType { fields }, &[4])?;
-    Ok(())
-}
-
-#[test]
-fn edges_of_entities_are_visited(rt: HostRuntime) -> Result<(), Fail> {
-    let alloc = rt.alloc();
-    let value = reference(4);
-    let global = Global {
-        wasm_ty: value,
-        mutability: true,
-    };
-    let table = Table {
-        idx_type: IndexType::I32,
-        limits: Limits { min: 0, max: None },
-        ref_type: reference_type(4),
-    };
-    let tag = Tag {
-        signature: module_type(8),
-        exception: module_type(9),
-    };
-    visits_in_order(&rt, alloc, &EntityType::Global(global), &[4])?;
-    visits_in_order(&rt, alloc, &EntityType::Table(table), &[4])?;
-    visits_in_order(&rt, alloc, &EntityType::Tag(tag), &[8, 9])?;
-    visits_in_order(&rt, alloc, &EntityType::Function(module_type(3)), &[3])?;
     Ok(())
 }
 

@@ -1,6 +1,6 @@
 use Rattle.std.proofs.Common.{◌≡◌, take}
 use Rattle.form_types.specs.Seen.{ids_of}
-use Rattle.form_types.specs.Forms.{targets}
+use Rattle.form_types.specs.Keys.{targets}
 use Rattle.form_types.proofs.finding.targets.Given as goal
 
 abbrev pub invariant-loop-index : goal.invariant-loop-index

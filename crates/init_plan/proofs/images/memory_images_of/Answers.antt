@@ -5,7 +5,7 @@ use Rattle.memory_images.specs.Images.{images_of}
 use Rattle.memory_images.specs.Views.{memories_of, active_of, options_of, IsAlike}
 use Rattle.init_plan.specs.Views.{active_segment_of}
 use Rattle.init_plan.specs.Images.{image_memories}
-use Rattle.init_plan.proofs.ImagesSeen.{plain_count, small_pages, static_seen, static_back, images_seen, images_back, if_none, if_some, if_both}
+use Rattle.init_plan.proofs.ViewedImages.{plain_count, small_pages, view_static, static_back, view_images, images_back, if_none, if_some, if_both}
 use Rattle.init_plan.proofs.images.memory_images_of.Goals as goal
 
 pub plan_images-requires-clause-sizes : goal.plan_images-requires-clause-sizes
@@ -36,7 +36,7 @@ returns-in_err-images-clause-too_large_holds c = λ is.
     let ys = map active_segment_of c.args.segments.now in
     let z : AllZip IsAlike xs ys = c.in_ok-plain.ensures in
     let holds = rw (c.as_slice.ensures.value, c.as_slice-2.ensures.value) at c.in_err-images.ensures.too_large_holds in
-    static_seen (options_of c.args.settings) c.args.translated.now.num_imported_memories (memories_of c.in_ok-memories.memories.items)
+    view_static (options_of c.args.settings) c.args.translated.now.num_imported_memories (memories_of c.in_ok-memories.memories.items)
     (image_memories c.args.translated.now) seen xs ys z (holds (grind (arith, common_steps, c.from_residual-in_err-images.ensures, is)))
 
 pub returns-clause-none : goal.returns-clause-none
@@ -58,7 +58,7 @@ returns-clause-holds c =
     let z : AllZip IsAlike xs ys = c.in_ok-plain.ensures in
     let holds = rw (c.as_slice.ensures.value, c.as_slice-2.ensures.value) at c.in_ok-images.ensures.holds in
     if_some c.in_ok-images.images _ _ (λ v static.
-    static_seen (options_of c.args.settings) c.args.translated.now.num_imported_memories (memories_of c.in_ok-memories.memories.items)
+    view_static (options_of c.args.settings) c.args.translated.now.num_imported_memories (memories_of c.in_ok-memories.memories.items)
     (image_memories c.args.translated.now) seen xs ys z static) holds
 
 pub returns-clause-images : goal.returns-clause-images
@@ -71,6 +71,6 @@ returns-clause-images c =
     let holds = rw (c.as_slice.ensures.value, c.as_slice-2.ensures.value) at c.in_ok-images.ensures.holds in
     let images = rw (c.as_slice.ensures.value, c.as_slice-2.ensures.value) at c.in_ok-images.ensures.images in
     if_some c.in_ok-images.images _ _ (λ v both.
-    images_seen (options_of c.args.settings) c.args.translated.now.num_imported_memories (memories_of c.in_ok-memories.memories.items)
+    view_images (options_of c.args.settings) c.args.translated.now.num_imported_memories (memories_of c.in_ok-memories.memories.items)
     (image_memories c.args.translated.now) seen xs ys z both.0 _ _ n (images_of v.items) both.1)
     (if_both c.in_ok-images.images _ _ holds images)

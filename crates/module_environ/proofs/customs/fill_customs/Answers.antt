@@ -5,7 +5,7 @@ use Rattle.init_plan.specs.declared.debug_info.FunctionMetadata.{FunctionMetadat
 use Rattle.init_plan.specs.declared.translation.ModuleTranslation.{ModuleTranslation}
 use Rattle.module_environ.specs.Customs.{HasCustoms, names_asked}
 use Rattle.module_environ.specs.Filling.{module_in}
-use Rattle.module_environ.specs.Metadata.{function_seen}
+use Rattle.module_environ.specs.Metadata.{view_function}
 use Rattle.module_environ.proofs.AskedHints.{hints-set}
 use Rattle.module_environ.proofs.customs.fill_customs.Goals as goal
 
@@ -23,6 +23,6 @@ returns-clause-customs g c =
       };
       hints = hints-set tunables.branch_hinting m c.set_branch_hints.new.self c.in_ok-asked_hints.field-0 c.set_branch_hints.ensures.set
           c.in_ok-asked_hints.ensures;
-      functions = ap (λ (fs : Vec FunctionMetadata). map function_seen fs.items) c.replace-no_functions.ensures.after ∙ c.in_ok-functions.ensures;
+      functions = ap (λ (fs : Vec FunctionMetadata). map view_function fs.items) c.replace-no_functions.ensures.after ∙ c.in_ok-functions.ensures;
       debug = c.has_debug_section-translation.ensures;
     })

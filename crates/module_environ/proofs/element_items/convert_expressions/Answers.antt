@@ -5,7 +5,7 @@ use Rattle.form_data.specs.Views.{expression_of}
 use Rattle.wasm_convert.specs.Constants.{const_ops_of}
 use Rattle.module_environ.specs.Convertible.{IsConvertible}
 use Rattle.module_environ.specs.Escapes.{referred}
-use Rattle.module_environ.specs.Flags.{Flags}
+use Rattle.module_environ.specs.EscapeLog.{EscapeLog}
 use Rattle.module_environ.proofs.BySection.{at-item, item-more, section-more}
 use Rattle.module_environ.proofs.ElementsNoted.{noted-both}
 use Rattle.module_environ.proofs.element_items.convert_expressions.Goals as goal
@@ -13,7 +13,7 @@ use Rattle.module_environ.proofs.element_items.convert_expressions.Goals as goal
 pub convert_expression-requires : goal.convert_expression-requires
 convert_expression-requires g c =
     let known = (goal.TypeConvert-dyn g c.args.env.now).knows c.args.env.now.1 in
-    subst (λ n. IsConvertible known n c.expression-item.result.ops.items) (sym (ap (λ (f : Flags). f.count) c.loop-expression.invariant.noted))
+    subst (λ n. IsConvertible known n c.expression-item.result.ops.items) (sym (ap (λ (f : EscapeLog). f.count) c.loop-expression.invariant.noted))
     (at-item (IsConvertible known c.args.escaping.now.count) expression_of c.args.list.now c.loop-expression.expression-index c.expression-item.result
     c.loop-expression-test.true c.expression-item.is c.requires)
 

@@ -3,7 +3,7 @@ use Rattle.std.specs.List.{flat_map}
 use Rattle.form_data.specs.Views.{expression_of}
 use Rattle.wasm_convert.specs.Constants.{const_ops_of}
 use Rattle.module_environ.specs.Escapes.{referred}
-use Rattle.module_environ.specs.Flags.{flagged}
+use Rattle.module_environ.specs.EscapeLog.{after_escapes}
 use Rattle.module_environ.proofs.element_items.convert_expressions.Given as goal
 
 -- the expressions so far are converted, and their functions noted
@@ -11,5 +11,5 @@ abbrev pub invariant-loop-expression : goal.invariant-loop-expression
 invariant-loop-expression g l = record {
   converted : l.expressions.items
       ≡ map (const_ops_of ((goal.TypeConvert-dyn g l.env.now).look_up l.env.now.1)) (map expression_of (take l.expression-index l.list));
-  noted : l.escaping ≡ flagged l.initial.escaping (flat_map referred (map expression_of (take l.expression-index l.list)));
+  noted : l.escaping ≡ after_escapes l.initial.escaping (flat_map referred (map expression_of (take l.expression-index l.list)));
 }

@@ -3,7 +3,7 @@ use Rattle.std.proofs.lemmas.List.{map-append, take_more}
 use Rattle.wasm_index.specs.declared.index.Index.{Index}
 use Rattle.wasm_index.specs.declared.spaces.FuncSpace.{FuncSpace}
 use Rattle.wasm_index.specs.Index.{number_of}
-use Rattle.module_environ.specs.Flags.{flagged}
+use Rattle.module_environ.specs.EscapeLog.{after_escapes}
 use Rattle.module_environ.proofs.ElementsNoted.{noted-both}
 use Rattle.module_environ.proofs.element_items.convert_functions.Goals as goal
 
@@ -19,6 +19,6 @@ loop-index-preserved c =
       converted = ap (map (λ (x : Index FuncSpace). number_of x)) c.in_ok-push.ensures.items
           ∙ map-append (λ (x : Index FuncSpace). number_of x) c.loop-index.functions.items (f ∷ [])
           ∙ (λ j. c.loop-index.invariant.converted j ++ at j ∷ []) ∙ sym more;
-      noted = noted-both c.args.escaping.now c.loop-index.escaping c.flag.new.self (take i xs) (n ∷ []) (take (i + 1) xs) c.loop-index.invariant.noted
-          (c.in_ok-flag.ensures ∙ ap (λ (m : ℕ). flagged c.loop-index.escaping (m ∷ [])) at) more;
+      noted = noted-both c.args.escaping.now c.loop-index.escaping c.note_escape.new.self (take i xs) (n ∷ []) (take (i + 1) xs) c.loop-index.invariant.noted
+          (c.in_ok-note_escape.ensures ∙ ap (λ (m : ℕ). after_escapes c.loop-index.escaping (m ∷ [])) at) more;
     }

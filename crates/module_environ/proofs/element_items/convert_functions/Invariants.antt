@@ -1,11 +1,11 @@
 use Rattle.std.proofs.Common.{◌≡◌, map, take}
 use Rattle.wasm_index.specs.Index.{number_of}
-use Rattle.module_environ.specs.Flags.{flagged}
+use Rattle.module_environ.specs.EscapeLog.{after_escapes}
 use Rattle.module_environ.proofs.element_items.convert_functions.Given as goal
 
 -- the functions so far are converted and noted
 abbrev pub invariant-loop-index : goal.invariant-loop-index
 invariant-loop-index l = record {
   converted : map number_of l.functions.items ≡ take l.index-index l.indices;
-  noted : l.escaping ≡ flagged l.initial.escaping (take l.index-index l.indices);
+  noted : l.escaping ≡ after_escapes l.initial.escaping (take l.index-index l.indices);
 }

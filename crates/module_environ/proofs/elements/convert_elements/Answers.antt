@@ -6,7 +6,7 @@ use Rattle.wasm_spec.specs.Module.{Element, elements_of_section}
 use Rattle.form_data.specs.declared.form.Payload.{Payload}
 use Rattle.form_data.specs.Views.{element_of, payload_of}
 use Rattle.module_environ.specs.Escapes.{item_functions}
-use Rattle.module_environ.specs.Flags.{Flags}
+use Rattle.module_environ.specs.EscapeLog.{EscapeLog}
 use Rattle.module_environ.specs.Segments.{IsElementConvertible, AreElementsConvertible, HoldsElements}
 use Rattle.module_environ.proofs.BySection.{section-all, section-few, section-more}
 use Rattle.module_environ.proofs.ElementsNoted.{noted-both}
@@ -32,7 +32,7 @@ add_all-requires-clause-convertible g c =
     let known = (goal.TypeConvert-dyn g c.args.env.now).knows c.args.env.now.1 in
     let count = c.args.escaping.now.count in
     subst (λ n. AreElementsConvertible known n (map element_of c.elements_of.result.now))
-    (sym (ap (λ (f : Flags). f.count) c.loop-payload.invariant.noted))
+    (sym (ap (λ (f : EscapeLog). f.count) c.loop-payload.invariant.noted))
     (subst (AreElementsConvertible known count) (sym c.elements_of.ensures)
     (section-all elements_of_section payload_of c.deref-payload-items.result.now c.loop-payload.payload-index c.payload-item.result
     c.loop-payload-test.true c.payload-item.is (IsElementConvertible known count)

@@ -4,7 +4,7 @@ use Rattle.wasm_spec.specs.Module.{Export}
 use Rattle.form_data.specs.Views.{export_of}
 use Rattle.form_rules.proofs.ExportNames.{no_export}
 use Rattle.module_environ.specs.Exported.{CanExport, AreEntered}
-use Rattle.module_environ.specs.Flags.{Flags}
+use Rattle.module_environ.specs.EscapeLog.{EscapeLog}
 use Rattle.module_environ.proofs.GrownPool.{grows-then}
 use Rattle.module_environ.proofs.ExportsInTurn.{noted-then, exports-more, more-after, distinct-so_far, can-export}
 use Rattle.module_environ.proofs.exports.add_exports.Goals as goal
@@ -20,7 +20,7 @@ note_function-requires c =
     let es = c.args.exports.now in
     let k = c.loop-export.export-index in
     let e = get_or es k no_export in
-    subst (λ (f : Flags). CanExport f.count (export_of e)) (sym c.loop-export.invariant.noted)
+    subst (λ (f : EscapeLog). CanExport f.count (export_of e)) (sym c.loop-export.invariant.noted)
     (can-export es k e c.loop-export-test.true (get_or_default es k _ _ c.loop-export-test.true) c.args.escaping.now.count c.requires.in_range)
 
 pub loop-export-preserved : goal.loop-export-preserved

@@ -3,7 +3,7 @@ use Rattle.wasm_spec.specs.Module.{Export}
 use Rattle.form_data.specs.Views.{export_of}
 use Rattle.rule_spec.specs.Rules.{AreDistinct}
 use Rattle.module_environ.specs.Exported.{exported_functions, AreEntered}
-use Rattle.module_environ.specs.Flags.{flagged}
+use Rattle.module_environ.specs.EscapeLog.{after_escapes}
 use Rattle.module_environ.specs.Pooled.{GrowsBy}
 use Rattle.module_environ.proofs.exports.add_exports.Given as goal
 
@@ -11,7 +11,7 @@ use Rattle.module_environ.proofs.exports.add_exports.Given as goal
 abbrev pub invariant-loop-export : goal.invariant-loop-export
 invariant-loop-export l = record {
   pool : GrowsBy l.export-index l.initial.strings l.strings;
-  noted : l.escaping ≡ flagged l.initial.escaping (exported_functions (map export_of (take l.export-index l.exports)));
+  noted : l.escaping ≡ after_escapes l.initial.escaping (exported_functions (map export_of (take l.export-index l.exports)));
   entered : (before : List Export) → AreEntered before l.initial.strings l.initial.entries.entries → AreDistinct (before ++ map export_of l.exports)
       → AreEntered (before ++ map export_of (take l.export-index l.exports)) l.strings l.entries.entries;
 }

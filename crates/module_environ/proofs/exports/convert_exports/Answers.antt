@@ -7,7 +7,7 @@ use Rattle.form_data.specs.Views.{export_of, payload_of}
 use Rattle.form_lists.proofs.AllSections.{length_more_le}
 use Rattle.rule_spec.specs.Rules.{AreDistinct}
 use Rattle.module_environ.specs.Exported.{CanExport, AreEntered}
-use Rattle.module_environ.specs.Flags.{Flags}
+use Rattle.module_environ.specs.EscapeLog.{EscapeLog}
 use Rattle.module_environ.proofs.GrownPool.{grows-then, length-grown}
 use Rattle.module_environ.proofs.ExportsInTurn.{noted-then, section-more, distinct-sections, section-can_export}
 use Rattle.module_environ.proofs.exports.convert_exports.Goals as goal
@@ -29,7 +29,7 @@ pub add_exports-requires-clause-in_range : goal.add_exports-requires-clause-in_r
 add_exports-requires-clause-in_range c =
     let es = map export_of c.exports_of.result.now in
     let count = c.args.escaping.now.count in
-    subst (λ (f : Flags). All (CanExport f.count) es) (sym c.loop-payload.invariant.noted)
+    subst (λ (f : EscapeLog). All (CanExport f.count) es) (sym c.loop-payload.invariant.noted)
     (section-can_export c.deref-payload-items.result.now c.loop-payload.payload-index c.payload-item.result es c.loop-payload-test.true
     c.payload-item.is c.exports_of.ensures count
     (subst (λ (ps : List Payload). All (CanExport count) (flat_map exports_of_section (map payload_of ps))) (sym c.deref-payload-items.ensures.value)

@@ -3,7 +3,7 @@ use Rattle.std.specs.List.{flat_map}
 use Rattle.wasm_spec.specs.Module.{exports_of_section}
 use Rattle.form_data.specs.Views.{payload_of}
 use Rattle.module_environ.specs.Exported.{exported_functions, AreEntered}
-use Rattle.module_environ.specs.Flags.{flagged}
+use Rattle.module_environ.specs.EscapeLog.{after_escapes}
 use Rattle.module_environ.specs.Pooled.{GrowsBy}
 use Rattle.module_environ.proofs.exports.convert_exports.Given as goal
 
@@ -13,6 +13,6 @@ invariant-loop-payload l =
     let exports = flat_map exports_of_section (map payload_of (take l.payload-index l.payload-items)) in
     record {
       pool : GrowsBy (length exports) l.initial.strings l.strings;
-      noted : l.escaping ≡ flagged l.initial.escaping (exported_functions exports);
+      noted : l.escaping ≡ after_escapes l.initial.escaping (exported_functions exports);
       entered : AreEntered exports l.strings l.exports.entries;
     }

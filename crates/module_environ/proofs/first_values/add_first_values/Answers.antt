@@ -7,7 +7,7 @@ use Rattle.form_data.specs.Views.{table_of}
 use Rattle.wasm_convert.specs.Constants.{const_ops_of}
 use Rattle.module_environ.specs.Convertible.{IsConvertible}
 use Rattle.module_environ.specs.Escapes.{referred_if_any}
-use Rattle.module_environ.specs.Initialisers.{first_value_seen}
+use Rattle.module_environ.specs.Initialisers.{view_first_value}
 use Rattle.module_environ.proofs.Filling.{entry_still, made_more, noted_more}
 use Rattle.module_environ.proofs.first_values.add_first_values.Goals as goal
 
@@ -23,7 +23,7 @@ loop-table-preserved g c =
     let tables = c.args.tables.now in
     let k = c.loop-table.table-index in
     record {
-      values = made_more first_value_seen (λ (t : TableDef). option_map (const_ops_of look) t.init) table_of c.args.values.now c.loop-table.values
+      values = made_more view_first_value (λ (t : TableDef). option_map (const_ops_of look) t.init) table_of c.args.values.now c.loop-table.values
           c.push.new.self c.in_ok-first_value.field-0 tables k c.table-item.result c.loop-table-test.true c.table-item.is
           c.in_ok-first_value.ensures.value c.in_ok-push.ensures.ok c.loop-table.invariant.values;
       counted = omega (arith, ap length c.in_ok-push.ensures.ok ∙ length_push c.loop-table.values _);

@@ -2,8 +2,8 @@ use Rattle.std.proofs.Common.{◌≡◌, ◌+◌, ◌++◌, length, map, take}
 use Rattle.std.specs.List.{flat_map}
 use Rattle.form_data.specs.Views.{table_of}
 use Rattle.module_environ.specs.Escapes.{referred_if_any}
-use Rattle.module_environ.specs.Flags.{flagged}
-use Rattle.module_environ.specs.Initialisers.{first_values, first_value_seen}
+use Rattle.module_environ.specs.EscapeLog.{after_escapes}
+use Rattle.module_environ.specs.Initialisers.{first_values, view_first_value}
 use Rattle.module_environ.proofs.first_values.add_first_values.Given as goal
 
 -- those of the tables so far are added
@@ -11,8 +11,8 @@ abbrev pub invariant-loop-table : goal.invariant-loop-table
 invariant-loop-table g l =
     let tables = map table_of (take l.table-index l.tables) in
     record {
-      values : map first_value_seen l.values
-          ≡ map first_value_seen l.initial.values ++ first_values ((goal.TypeConvert-dyn g l.env.now).look_up l.env.now.1) tables;
+      values : map view_first_value l.values
+          ≡ map view_first_value l.initial.values ++ first_values ((goal.TypeConvert-dyn g l.env.now).look_up l.env.now.1) tables;
       counted : length l.values ≡ length l.initial.values + l.table-index;
-      noted : l.escaping ≡ flagged l.initial.escaping (flat_map (λ t. referred_if_any t.init) tables);
+      noted : l.escaping ≡ after_escapes l.initial.escaping (flat_map (λ t. referred_if_any t.init) tables);
     }

@@ -8,7 +8,7 @@ use Rattle.init_plan.specs.declared.translation.ModuleTranslation.{ModuleTransla
 use Rattle.module_environ.specs.Convertible.{IsConvertible}
 use Rattle.module_environ.specs.Exported.{CanExport}
 use Rattle.module_environ.specs.Filling.{module_in}
-use Rattle.module_environ.specs.Flags.{Flags}
+use Rattle.module_environ.specs.EscapeLog.{EscapeLog}
 use Rattle.module_environ.specs.Segments.{AreElementsConvertible}
 use Rattle.module_environ.specs.Translation.{HasGlobals, HasElements}
 use Rattle.module_environ.specs.Types.{look_up_in}
@@ -32,7 +32,7 @@ first_globals-requires-clause-convertible g c =
     let m = module_in c.args.lists.now in
     let r = c.requires.gathered in
     let counted = counted_functions c.args.lists.now r c.args.escaping.now.count c.requires.functions
-    ∙ sym (ap (λ (f : Flags). f.count) c.in_ok-values.ensures.noted) in
+    ∙ sym (ap (λ (f : EscapeLog). f.count) c.in_ok-values.ensures.noted) in
     subst (λ n. All (λ (x : GlobalDef). IsConvertible known n x.init) (lists_of_module m).globals) counted
     (global-initialisers m r.keeps r.few known c.requires.looks.knows (few_declared m r.few))
 
@@ -49,8 +49,8 @@ convert_exports-requires-clause-in_range g c =
     let m = module_in c.args.lists.now in
     let r = c.requires.gathered in
     let counted = counted_functions c.args.lists.now r c.args.escaping.now.count c.requires.functions
-    ∙ sym (ap (λ (f : Flags). f.count) c.in_ok-values.ensures.noted)
-    ∙ sym (ap (λ (f : Flags). f.count) c.in_ok-known.ensures.noted) in
+    ∙ sym (ap (λ (f : EscapeLog). f.count) c.in_ok-values.ensures.noted)
+    ∙ sym (ap (λ (f : EscapeLog). f.count) c.in_ok-known.ensures.noted) in
     subst (λ n. All (CanExport n) (lists_of_module m).exports) counted
     (exports-in-range m r.keeps r.few known c.requires.looks.knows (few_declared m r.few))
 
@@ -60,9 +60,9 @@ convert_elements-requires-clause-convertible g c =
     let m = module_in c.args.lists.now in
     let r = c.requires.gathered in
     let counted = counted_functions c.args.lists.now r c.args.escaping.now.count c.requires.functions
-    ∙ sym (ap (λ (f : Flags). f.count) c.in_ok-values.ensures.noted)
-    ∙ sym (ap (λ (f : Flags). f.count) c.in_ok-known.ensures.noted)
-    ∙ sym (ap (λ (f : Flags). f.count) c.in_ok-translation-2.ensures.noted) in
+    ∙ sym (ap (λ (f : EscapeLog). f.count) c.in_ok-values.ensures.noted)
+    ∙ sym (ap (λ (f : EscapeLog). f.count) c.in_ok-known.ensures.noted)
+    ∙ sym (ap (λ (f : EscapeLog). f.count) c.in_ok-translation-2.ensures.noted) in
     subst (λ n. AreElementsConvertible known n (lists_of_module m).elements) counted
     (elements-convert m r.keeps r.few known c.requires.looks.knows (few_declared m r.few))
 
@@ -71,7 +71,7 @@ add_segments-requires-clause-convertible g c =
     let known = (goal.TypeConvert-dyn g c.args.env.now).knows c.args.env.now.1 in
     let m = module_in c.args.lists.now in
     let r = c.requires.gathered in
-    segments-convert m r.keeps r.few known c.requires.looks.knows (few_declared m r.few) c.held_expression_laws.ensures.whole
+    segments-convert m r.keeps r.few known c.requires.looks.knows (few_declared m r.few) c.erased_expression_laws.ensures.whole
 
 pub returns : goal.returns
 returns g c =

@@ -8,14 +8,14 @@ use Rattle.wasm_index.specs.Index.{number_of}
 use Rattle.module_environ.specs.Entities.{function_types}
 use Rattle.module_environ.specs.Escapes.{escaping, references, AreSignatures}
 use Rattle.module_environ.specs.Filling.{module_in}
-use Rattle.module_environ.specs.Flags.{Flags, flagged}
+use Rattle.module_environ.specs.EscapeLog.{EscapeLog, after_escapes}
 use Rattle.module_environ.specs.Types.{interned_at}
 use Rattle.module_environ.proofs.FilledSections.{functions-named, starts-below, functions-are, imported-are}
 use Rattle.module_environ.proofs.FilledSections.{behind, all-noted, noted-where, noted-not}
 use Rattle.module_environ.proofs.FilledSections.{entities-filled, counts-filled, heap-filled, data-filled}
 use Rattle.module_environ.proofs.GrownPool.{length-grown}
 use Rattle.module_environ.proofs.sections.fill_sections.Goals as goal
-use Rattle.module_environ.proofs.sections.fill_sections.Goals.{then-debugged+in_ok-flag_range-2, else-debugged}
+use Rattle.module_environ.proofs.sections.fill_sections.Goals.{then-debugged+in_ok-note_escape_range-2, else-debugged}
 
 pub function_types-requires-clause-types : goal.function_types-requires-clause-types
 function_types-requires-clause-types g c =
@@ -44,23 +44,23 @@ returns-clause-sections g c =
     let all = enumerate_from 0 (plain.functions m) in
     let counted : length c.in_ok-translation.field-0 ≡ length c.as_slice-functions.result.now =
     ap length made ∙ length-map all _ ∙ length-enumerate_from 0 (plain.functions m) ∙ ap length (sym functions) in
-    let after : c.if-debugged.escaping ≡ flagged c.fill_initialisers.new.escaping (behind c.args.debugged (lists_of_module m)) =
+    let after : c.if-debugged.escaping ≡ after_escapes c.fill_initialisers.new.escaping (behind c.args.debugged (lists_of_module m)) =
     elim c.if-debugged.branch [
-      | then-debugged+in_ok-flag_range-2 w ↦
+      | then-debugged+in_ok-note_escape_range-2 w ↦
           noted-where (lists_of_module m) c.fill_initialisers.new.escaping c.if-debugged.escaping c.args.debugged w.if-debugged.true _ _
           (imported-are l gathered)
           (omega (arith, w.len-then-debugged.ensures, ap length (functions-are l gathered), imported-are l gathered))
-          (w.escaping-is ∙ w.in_ok-flag_range-2.ensures)
+          (w.escaping-is ∙ w.in_ok-note_escape_range-2.ensures)
       | else-debugged w ↦
           noted-not (lists_of_module m) c.fill_initialisers.new.escaping c.if-debugged.escaping c.args.debugged w.if-debugged.false w.escaping-is
     ] in
-    let whole : c.if-debugged.escaping ≡ flagged c.in_ok-escaping.escaping (references c.args.debugged (lists_of_module m)) =
-    all-noted c.args.debugged (lists_of_module m) c.in_ok-escaping.escaping c.flag_range.new.self
+    let whole : c.if-debugged.escaping ≡ after_escapes c.in_ok-escaping.escaping (references c.args.debugged (lists_of_module m)) =
+    all-noted c.args.debugged (lists_of_module m) c.in_ok-escaping.escaping c.note_escape_range.new.self
     c.fill_initialisers.new.escaping c.if-debugged.escaping
-    (c.in_ok-flag_range.ensures ∙ ap (λ n. flagged c.in_ok-escaping.escaping (range_with_len 0 n)) (imported-are l gathered)) second.noted after in
+    (c.in_ok-note_escape_range.ensures ∙ ap (λ n. after_escapes c.in_ok-escaping.escaping (range_with_len 0 n)) (imported-are l gathered)) second.noted after in
     let noted : c.if-debugged.escaping.order ≡ escaping c.args.debugged (lists_of_module m) =
-    ap (λ (f : Flags). f.order) whole
-    ∙ ap (λ (f : Flags). (flagged f (references c.args.debugged (lists_of_module m))).order) c.in_ok-escaping.ensures in
+    ap (λ (f : EscapeLog). f.order) whole
+    ∙ ap (λ (f : EscapeLog). (after_escapes f (references c.args.debugged (lists_of_module m))).order) c.in_ok-escaping.ensures in
     let counts = counts-filled m _ _ new _ first _ _ t second in
     let segments = data-filled m _ _ new _ first _ _ t second in
     let start = c.start_function-translation in
@@ -89,8 +89,8 @@ returns-clause-sections g c =
           arith,
           c.len-translation.ensures.few,
           counted,
-          ap (λ (f : Flags). f.count) whole,
-          ap (λ (f : Flags). f.count) c.in_ok-escaping.ensures,
+          ap (λ (f : EscapeLog). f.count) whole,
+          ap (λ (f : EscapeLog). f.count) c.in_ok-escaping.ensures,
           ap length c.as_slice-functions.ensures.value,
         );
         signatures =

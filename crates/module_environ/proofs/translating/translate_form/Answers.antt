@@ -19,7 +19,7 @@ use Rattle.module_environ.specs.Translation.{HasSections}
 use Rattle.module_environ.proofs.FilledSections.{looks-held, carried-looks}
 use Rattle.module_environ.proofs.Named.{sections-named, imports-named, rest-named}
 use Rattle.module_environ.proofs.translating.translate_form.OwnLists.{same-1-1}
-use Rattle.module_environ.proofs.Together.{check-cause, build-cause, new-startup, formed-never, formed-always}
+use Rattle.module_environ.proofs.WholeTranslation.{check-cause, build-cause, new-startup, formed-never, formed-always}
 use Rattle.module_environ.proofs.translating.translate_form.Goals.{then-not-leaves_nothing+in_ok-require_startup_func, else-not-leaves_nothing}
 use Rattle.module_environ.proofs.translating.translate_form.Goals as goal
 

@@ -1,5 +1,5 @@
 use Rattle.std.proofs.Common.{refl}
-use Rattle.module_types.proofs.Along.{orderly-group, grows-exception, grows-startup}
+use Rattle.module_types.proofs.GroupMembers.{orderly-group, grows-exception, grows-startup}
 use Rattle.module_types.proofs.laws.ranges_law.Goals as goal
 
 pub returns : goal.returns

@@ -2,7 +2,7 @@ use Rattle.std.proofs.Common.{map, take}
 use Rattle.std.specs.List.{flat_map}
 use Rattle.wasm_spec.specs.TypeData.{field_of, field_edges}
 use Rattle.form_types.specs.Codes.{field_codes}
-use Rattle.form_types.specs.Forms.{Adds}
+use Rattle.form_types.specs.Keys.{Adds}
 use Rattle.form_types.proofs.canonical.CanonicalGroup.add_fields.Given as goal
 
 abbrev pub invariant-loop-field : goal.invariant-loop-field

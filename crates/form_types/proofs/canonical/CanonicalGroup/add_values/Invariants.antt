@@ -2,7 +2,7 @@ use Rattle.std.proofs.Common.{map, take}
 use Rattle.std.specs.List.{flat_map}
 use Rattle.wasm_spec.specs.TypeData.{value_of, value_edges}
 use Rattle.form_types.specs.Codes.{value_code}
-use Rattle.form_types.specs.Forms.{Adds}
+use Rattle.form_types.specs.Keys.{Adds}
 use Rattle.form_types.proofs.canonical.CanonicalGroup.add_values.Given as goal
 
 abbrev pub invariant-loop-value : goal.invariant-loop-value

@@ -8,9 +8,9 @@ use Rattle.wasm_spec.specs.Module.{groups}
 use Rattle.rule_spec.specs.declared.rules.Rule.TheVariants.{L1}
 use Rattle.form_data.specs.declared.types.RecGroup.{RecGroup}
 use Rattle.form_data.specs.Views.{group_of, sub_type_of, module_of}
-use Rattle.form_types.specs.Groups.{formed_of, lent_groups}
+use Rattle.form_types.specs.Groups.{group_and_key, lent_groups}
 use Rattle.form_types.proofs.Built.{built-none, built-empty, built-more, few-ids}
-use Rattle.form_types.proofs.Ruled.{size-places, room, near-next, walked, whole-next, form-next, walks-more}
+use Rattle.form_types.proofs.Ruled.{size-places, room, near-next, walked, whole-next, key-next, walks-more}
 use Rattle.form_types.proofs.Final.{numbered, sound}
 use Rattle.form_types.proofs.numbering.Types.build.Goals as goal
 
@@ -23,13 +23,13 @@ has_none g test = grind (arith, common_steps, test, g.types.ok.0)
 pub loop-group-init : goal.loop-group-init
 loop-group-init c = record {
   built = built-none c.new-numbering.result c.new-numbering.ensures;
-  all = ap (map formed_of) c.into_iter-group-iterator.ensures.into_iter_gives.0 ∙ c.in_ok-groups.ensures;
+  all = ap (map group_and_key) c.into_iter-group-iterator.ensures.into_iter_gives.0 ∙ c.in_ok-groups.ensures;
   counts = grind (arith, common_steps, c.into_iter-group-iterator.ensures.into_iter_gives, c.in_ok-groups.groups.ok.0);
 }
 
-pub add_group-requires-clause-formed : goal.add_group-requires-clause-formed
-add_group-requires-clause-formed c =
-    form-next (module_of c.args.form.now) c.loop-group.numbering c.loop-group.yielded
+pub add_group-requires-clause-keyed : goal.add_group-requires-clause-keyed
+add_group-requires-clause-keyed c =
+    key-next (module_of c.args.form.now) c.loop-group.numbering c.loop-group.yielded
     (into_iter_items c.loop-group.group-iterator) (into_iter_len c.loop-group.group-iterator) c.loop-group.invariant
     c.in-Some.group (into_iter_items c.next.new.self) c.in-Some.ensures.steps.0
 

@@ -27,7 +27,7 @@ returns-clause-planned c =
     let low : taken.module.num_imported_memories ≤ length taken.module.memories =
     subst (λ (m : Module). m.num_imported_memories ≤ length m.memories) (sym same) c.requires.ready.imports in
     let begins = c.in_ok-begin_memories.ensures.begins in
-    let stands = same_passive c.args.page_size c.in_ok-images.images active taken mid begins ∙ ap (λ (t : ModuleTranslation). t.hidden.passive_data) rest in
+    let stands = same_passive c.args.page_size c.in_ok-images.images active taken mid begins ∙ ap (λ (t : ModuleTranslation). t.private_parts.passive_data) rest in
     let runtime : List (List ℕ) = map bytes_of c.keep_passive.new.runtime_data in
     let is_runtime : runtime ≡ map bytes_of mid.runtime_data ++ passive_bytes old = c.in_ok-keep_passive.ensures.runtime
     ∙ ap (λ ps. map bytes_of mid.runtime_data ++ map (λ p. p.1) (map passive_segment_of ps)) (c.deref-3.ensures.value ∙ ap (λ v. v.items) stands) in
@@ -58,7 +58,7 @@ ranges_end_to_end-requires-clause-few c =
     let old : ModuleTranslation = c.args.self.now in
     let mid : ModuleTranslation = c.begin_memories.new.self in
     let stands = same_passive c.args.page_size c.in_ok-images.images (map active_segment_of c.take_segments-segments.result.items) c.take_segments-segments.new.self mid
-    c.in_ok-begin_memories.ensures.begins ∙ ap (λ (t : ModuleTranslation). t.hidden.passive_data) c.take_segments-segments.ensures.rest in
+    c.in_ok-begin_memories.ensures.begins ∙ ap (λ (t : ModuleTranslation). t.private_parts.passive_data) c.take_segments-segments.ensures.rest in
     let kept : List (List ℕ) = map bytes_of mid.runtime_data in
     let is_runtime : map bytes_of c.keep_passive.new.runtime_data ≡ kept ++ passive_bytes old = c.in_ok-keep_passive.ensures.runtime
     ∙ ap (λ ps. kept ++ map (λ p. p.1) (map passive_segment_of ps)) (c.deref-3.ensures.value ∙ ap (λ v. v.items) stands) in
@@ -74,7 +74,7 @@ returns-clause-in_order c =
     let old : ModuleTranslation = c.args.self.now in
     let mid : ModuleTranslation = c.begin_memories.new.self in
     let stands = same_passive c.args.page_size c.in_ok-images.images (map active_segment_of c.take_segments-segments.result.items) c.take_segments-segments.new.self mid
-    c.in_ok-begin_memories.ensures.begins ∙ ap (λ (t : ModuleTranslation). t.hidden.passive_data) c.take_segments-segments.ensures.rest in
+    c.in_ok-begin_memories.ensures.begins ∙ ap (λ (t : ModuleTranslation). t.private_parts.passive_data) c.take_segments-segments.ensures.rest in
     let segments = c.deref-3.ensures.value ∙ ap (λ v. v.items) stands in
     let kept : List (List ℕ) = map bytes_of mid.runtime_data in
     let runtime : List (List ℕ) = map bytes_of c.keep_passive.new.runtime_data in

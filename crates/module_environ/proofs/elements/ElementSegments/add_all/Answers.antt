@@ -4,7 +4,7 @@ use Rattle.std.proofs.lemmas.List.{length-map, length-take-le}
 use Rattle.wasm_spec.specs.Module.{Element}
 use Rattle.form_data.specs.Views.{element_of}
 use Rattle.module_environ.specs.Escapes.{item_functions}
-use Rattle.module_environ.specs.Flags.{Flags}
+use Rattle.module_environ.specs.EscapeLog.{EscapeLog}
 use Rattle.module_environ.specs.Segments.{IsElementConvertible, AddsElements}
 use Rattle.module_environ.proofs.BySection.{at-item, item-more, section-more}
 use Rattle.module_environ.proofs.HeldElements.{adds-both, room-after}
@@ -24,7 +24,7 @@ add-requires-clause-room g c =
 pub add-requires-clause-convertible : goal.add-requires-clause-convertible
 add-requires-clause-convertible g c =
     let known = (goal.TypeConvert-dyn g c.args.env.now).knows c.args.env.now.1 in
-    subst (λ n. IsElementConvertible known n (element_of c.element-item.result)) (sym (ap (λ (f : Flags). f.count) c.loop-element.invariant.noted))
+    subst (λ n. IsElementConvertible known n (element_of c.element-item.result)) (sym (ap (λ (f : EscapeLog). f.count) c.loop-element.invariant.noted))
     (at-item (IsElementConvertible known c.args.escaping.now.count) element_of c.args.elements.now c.loop-element.element-index c.element-item.result
     c.loop-element-test.true c.element-item.is c.requires.convertible)
 

@@ -5,7 +5,7 @@ use Rattle.module_types.specs.Orderly.{IsOrderly}
 use Rattle.module_types.specs.Interner.{built}
 use Rattle.module_types.specs.Builder.{BuilderState, builder_view, interns}
 use Rattle.module_types.specs.contracts.builder.ModuleTypesBuilder.{the_view}
-use Rattle.module_types.proofs.Along.{orderly-group}
+use Rattle.module_types.proofs.GroupMembers.{orderly-group}
 use Rattle.module_types.proofs.Holding.{none-of}
 use Rattle.module_types.proofs.Shows.{shows-interned}
 use Rattle.wasm_index.specs.Index.{number_of}

@@ -5,7 +5,7 @@ use Rattle.wasm_index.specs.Index.{number_of}
 use Rattle.module_types.specs.Views.{interned_of}
 use Rattle.module_types.specs.Builder.{BuilderState, builder_view, interns_by}
 use Rattle.module_types.specs.Conversion.{interned_members}
-use Rattle.module_types.proofs.Along.{group-long}
+use Rattle.module_types.proofs.GroupMembers.{group-long}
 use Rattle.module_types.proofs.Convertible.{members-long}
 use Rattle.module_types.proofs.builder.ModuleTypesBuilder.intern_rec_group.Goals as goal
 

@@ -3,7 +3,7 @@ use Rattle.module_types.specs.Orderly.{IsOrderly}
 use Rattle.module_types.specs.Interner.{built}
 use Rattle.module_types.specs.Builder.{BuilderState, builder_view, starts}
 use Rattle.module_types.specs.contracts.builder.ModuleTypesBuilder.{the_view}
-use Rattle.module_types.proofs.Along.{grows-startup}
+use Rattle.module_types.proofs.GroupMembers.{grows-startup}
 use Rattle.module_types.proofs.Shows.{where-ok, shows-started}
 use Rattle.module_types.proofs.builder.ModuleTypesBuilder.startup_func_type.Goals as goal
 

@@ -8,7 +8,7 @@ use Rattle.module_types.specs.TypeList.{with_range}
 use Rattle.module_types.specs.Orderly.{IsOrderly}
 use Rattle.module_types.specs.Held.{built_of}
 use Rattle.module_types.specs.Interner.{built}
-use Rattle.module_types.proofs.Along.{orderly-opened, group-long}
+use Rattle.module_types.proofs.GroupMembers.{orderly-opened, group-long}
 use Rattle.module_types.proofs.Ordering.{few-groups}
 use Rattle.module_types.proofs.Steps.{opened-is}
 use Rattle.module_types.proofs.interner.Interner.open_group.Goals as goal
@@ -39,7 +39,7 @@ push_rec_group-requires c =
 
 pub returns-clause-opened : goal.returns-clause-opened
 returns-clause-opened c =
-    let met = get func.ghosts.eq c.args.self.now.met in
+    let met = get func.ghosts.eq c.args.self.now.trampolines in
     ap (λ l. built_of l met) (c.in_ok-push_rec_group.ensures.ok ∙ ap (λ l. with_range l (record { start = c.next_ty-start.result; end = c.next_ty-end.result })) c.in_ok-push_all.ensures)
     ∙ opened-is c.args.self.now.list met c.args.members.items _ c.next_ty-start.ensures
     (c.next_ty-end.ensures ∙ ap (λ l. index_of (length l.types)) c.in_ok-push_all.ensures)

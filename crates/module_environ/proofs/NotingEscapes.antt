@@ -1,0 +1,62 @@
+-- References that are noted one after another are noted in one.
+use Rattle.std.proofs.Common.{◌≡◌, ℕ, ◌+◌, ◌<◌, Bool, true, false, List, [], ◌∷◌, ◌++◌, length, get_or, map, take, set, refl, ap, sym, ◌∙◌, subst}
+use Rattle.std.specs.Prelude.{◌==◌, if◌then◌else◌}
+use Rattle.std.specs.List.{list_any, range_with_len}
+use Rattle.std.proofs.lemmas.List.{take_more, length-set, map-append, map-id}
+use Rattle.std.proofs.lemmas.List.FromFn.{map-range_with_len_more}
+use Rattle.rule_spec.specs.Lists.{Lists}
+use Rattle.module_environ.specs.Escapes.{references, escaping}
+use Rattle.module_environ.specs.Firsts.{firsts_after}
+use Rattle.module_environ.specs.EscapeLog.{EscapeLog, after_escapes}
+use Rattle.module_environ.specs.Numbers.{AreNumbers}
+use Rattle.module_environ.proofs.Numbering.{after_escapes-new, after_escapes-old}
+
+firsts-append : (known xs ys : List ℕ) → firsts_after (firsts_after known xs) ys ≡ firsts_after known (xs ++ ys)
+firsts-append known [] ys = refl
+firsts-append known (x ∷ xs) ys =
+    by (list_any (λ k. k == x) known) (firsts-append known xs ys) (firsts-append (known ++ x ∷ []) xs ys)
+  where
+    by : (c : Bool) → firsts_after (firsts_after known xs) ys ≡ firsts_after known (xs ++ ys)
+        → firsts_after (firsts_after (known ++ x ∷ []) xs) ys ≡ firsts_after (known ++ x ∷ []) (xs ++ ys)
+        → firsts_after (if c then firsts_after known xs else firsts_after (known ++ x ∷ []) xs) ys
+        ≡ (if c then firsts_after known (xs ++ ys) else firsts_after (known ++ x ∷ []) (xs ++ ys))
+    by true old new = old
+    by false old new = new
+
+pub after_escapes-append : (s : EscapeLog) (xs ys : List ℕ) → after_escapes (after_escapes s xs) ys ≡ after_escapes s (xs ++ ys)
+after_escapes-append s xs ys = λ i. record { count = s.count; order = firsts-append s.order xs ys i }
+
+-- one more of a list
+pub after_escapes-more : {A : Type 0} (number : A → ℕ) (s t u : EscapeLog) (xs : List A) (i : ℕ) (x : A) → i < length xs → x ≡ get_or xs i x
+    → t ≡ after_escapes s (map number (take i xs)) → u ≡ after_escapes t (number x ∷ []) → u ≡ after_escapes s (map number (take (i + 1) xs))
+after_escapes-more number s t u xs i x lt is before now =
+    now ∙ ap (λ f. after_escapes f (number x ∷ [])) before ∙ after_escapes-append s (map number (take i xs)) (number x ∷ [])
+    ∙ ap (after_escapes s) (sym (map-append number (take i xs) (x ∷ [])) ∙ ap (map number) (ap (λ y. take i xs ++ y ∷ []) is ∙ sym (take_more xs i x lt)))
+
+range-more : (start n : ℕ) → range_with_len start (n + 1) ≡ range_with_len start n ++ (start + n) ∷ []
+range-more start n = sym (map-id (range_with_len start (n + 1))) ∙ map-range_with_len_more (λ k. k) start n (start + n) refl
+    ∙ ap (λ xs. xs ++ (start + n) ∷ []) (map-id (range_with_len start n))
+
+pub after_escapes-next : (s t u : EscapeLog) (start n : ℕ) → t ≡ after_escapes s (range_with_len start n) → u ≡ after_escapes t ((start + n) ∷ [])
+    → u ≡ after_escapes s (range_with_len start (n + 1))
+after_escapes-next s t u start n before now =
+    now ∙ ap (λ f. after_escapes f ((start + n) ∷ [])) before ∙ after_escapes-append s (range_with_len start n) ((start + n) ∷ [])
+    ∙ ap (after_escapes s) (sym (range-more start n))
+
+-- what is kept, seen as one record
+pub seen-new : (s : EscapeLog) (numbers order after : List ℕ) (f : ℕ) → AreNumbers numbers order → record { count = length numbers; order = order } ≡ s
+    → f < length numbers → get_or numbers f 0 ≡ 4294967295 → after ≡ order ++ f ∷ []
+    → record { count = length (set numbers f (length order)); order = after } ≡ after_escapes s (f ∷ [])
+seen-new s numbers order after f kept seen in' e is =
+    subst (λ x. record { count = length (set numbers f (length order)); order = after } ≡ after_escapes x (f ∷ [])) seen
+    (λ i. record { count = length-set numbers f (length order) i; order = (is ∙ after_escapes-new numbers order f kept in' e) i })
+
+pub seen-old : (s : EscapeLog) (numbers order : List ℕ) (f : ℕ) → AreNumbers numbers order → record { count = length numbers; order = order } ≡ s
+    → f < length numbers → (get_or numbers f 0 ≡ 4294967295 → ⊥) → s ≡ after_escapes s (f ∷ [])
+seen-old s numbers order f kept seen in' apart =
+    subst (λ x. x ≡ after_escapes x (f ∷ [])) seen (λ i. record { count = length numbers; order = after_escapes-old numbers order f kept in' apart i })
+
+-- all references of a module, in order
+pub after_escapes-all : (count : ℕ) (debugged : Bool) (l : Lists)
+    → (after_escapes (record { count = count; order = [] }) (references debugged l)).order ≡ escaping debugged l
+after_escapes-all count debugged l = refl

@@ -1,0 +1,124 @@
+-- The parts of a translation together: all but its bytes and its code.
+use Rattle.std.proofs.Common.{◌≡◌, ℕ, ◌+◌, ◌<◌, ◌^◌, Bool, true, false, List, length, map, Some, Result, Err, refl, sym, ap, subst, ◌∙◌}
+use Rattle.std.specs.Prelude.{not, ◌&&◌, is_none}
+use Rattle.wasm_spec.specs.Module.{function_import}
+use Rattle.wasm_spec.specs.Module as plain
+use Rattle.rule_spec.specs.declared.rules.Rule.{Rule}
+use Rattle.rule_spec.specs.Lists.{lists_of_module}
+use Rattle.rule_spec.specs.Rules.{Satisfies, Keeps, KeepsBefore}
+use Rattle.form_rules.specs.declared.error.CheckError.{CheckError}
+use Rattle.form_rules.specs.declared.error.CheckError.TheVariants as checks
+use Rattle.form_types.specs.Numbered.{AreNumbered}
+use Rattle.form_types.specs.Types.{TypesData}
+use Rattle.wasm_types.specs.declared.index.EngineOrModuleTypeIndex.{EngineOrModuleTypeIndex}
+use Rattle.wasm_types.specs.declared.tag.Tag.{Tag}
+use Rattle.wasm_types.specs.declared.tunables.Tunables.{Tunables}
+use Rattle.wasm_module.specs.declared.startup.ModuleStartup.TheVariants as startup
+use Rattle.wasm_module.specs.Record.{ModuleRecord}
+use Rattle.module_types.specs.declared.error.BuildError.{BuildError}
+use Rattle.module_types.specs.declared.error.BuildError.TheVariants as build
+use Rattle.module_types.specs.Builder.{Builder, BuilderState, builder_view}
+use Rattle.replay_spec.specs.Startup.{Always, is_empty}
+use Rattle.init_plan.specs.declared.translation.ModuleTranslation.{ModuleTranslation}
+use Rattle.init_plan.specs.Startup.{raised, types_after, with_startup}
+use Rattle.init_plan.specs.Views.{types_of, IsNewTranslation}
+use Rattle.module_environ.specs.Errors.{error_of_check, error_of_build}
+use Rattle.module_environ.specs.Customs.{HasCustoms}
+use Rattle.module_environ.specs.Entities.{count_of, tags_of}
+use Rattle.module_environ.specs.Types.{declared, type_index, interned_list, HoldsGroupsAlone}
+use Rattle.module_environ.specs.Tagged.{GainsExceptions}
+use Rattle.module_environ.specs.Translation.{startup_when, HasTypes, HasSections}
+use Rattle.module_environ.specs.Translated.{starts_always, HoldsTypes}
+use Rattle.module_environ.specs.Filling.{LeavesRest}
+use Rattle.module_environ.specs.Forming.{IsFormed, FormCause}
+use Rattle.module_environ.proofs.Started.{starts-is}
+use Rattle.module_environ.proofs.BuilderAfterTags.{never-holds, always-holds, always-raised}
+use Rattle.module_environ.proofs.UnchangedViews.{CarriesNames, sections-keep, customs-keep, types-keep}
+
+-- ---- causes
+
+pub check-cause : {A : Type 0} (m : plain.Module) (poisoned : Bool) (r : Result A CheckError) (e : CheckError) → r ≡ Err e
+    → ((rule : Rule) → r ≡ Err (checks.Invalid rule) → Satisfies rule (lists_of_module m) → ⊥)
+    → ((rule : Rule) → r ≡ Err (checks.Invalid rule) → KeepsBefore rule m) → FormCause m poisoned (error_of_check e)
+check-cause m poisoned r (checks.Invalid rule) was broken first = (broken rule was, first rule was)
+check-cause m poisoned r checks.OutOfMemory was broken first = tt
+
+pub build-cause : (m : plain.Module) (poisoned : Bool) (e : BuildError) → (e ≡ build.Poisoned → ⊥) → FormCause m poisoned (error_of_build e)
+build-cause m poisoned build.OutOfMemory sound = tt
+build-cause m poisoned build.Poisoned sound = absurd (sound refl)
+
+-- ---- the whole
+
+pub new-startup : {index : _} (t : ModuleTranslation) → IsNewTranslation index t → t.module.startup ≡ startup.None
+new-startup t new = ap (λ (r : ModuleRecord). r.startup) new.record_of_module
+
+module _ (tunables : Tunables) (validator : ℕ) (m : plain.Module) (old filled set : ModuleTranslation) (keeps : Keeps m)
+    (sections : HasSections tunables.debug_guest m filled) (customs : HasCustoms tunables m filled)
+    (imports : filled.debuginfo.wasm_file.imported_func_count ≡ count_of function_import (plain.imports m)) (rest : LeavesRest old filled)
+    (none : old.module.startup ≡ startup.None) (indices : List EngineOrModuleTypeIndex) (tags : List Tag) (ids : TypesData)
+    (same : set ≡ record filled { «module» = record filled.module { types = indices; tags = tags }; private_parts = record filled.private_parts { types = set.private_parts.types } })
+    (is-set : types_of set ≡ Some ids) (numbered : AreNumbered m ids) (made : ids.validator ≡ validator)
+    (listed : indices ≡ map type_index (declared m)) (tagged-so : tags ≡ tags_of m) where
+  set-sections : HasSections tunables.debug_guest m set
+  set-sections = sections-keep m filled set (subst (CarriesNames filled) (sym same) refl) tunables.debug_guest sections
+
+  set-customs : HasCustoms tunables m set
+  set-customs = customs-keep m filled set (subst (CarriesNames filled) (sym same) refl) tunables customs
+
+  set-types : HasTypes m validator set
+  set-types = record {
+    declared = ap (λ (t : ModuleTranslation). t.module.types) same ∙ listed;
+    tags = ap (λ (t : ModuleTranslation). t.module.tags) same ∙ tagged-so;
+    types = ids;
+    set = is-set;
+    numbered = numbered;
+    made = made;
+  }
+
+  set-startup : set.module.startup ≡ startup.None
+  set-startup = ap (λ (t : ModuleTranslation). t.module.startup) same ∙ rest.startup ∙ none
+
+  abbrev nothing : Bool
+  nothing = is_empty set.global_initializers.items && is_none set.start_func && is_empty set.passive_elements
+
+  module _ (groups tagged : Builder) (alone : HoldsGroupsAlone validator groups) (gains : GainsExceptions groups tagged)
+      (built : tagged.built ≡ interned_list m false) (few : length tagged.built.types < 2 ^ 31 + 2 ^ 30) where
+    -- nothing is to be run
+    pub formed-never : true ≡ nothing → (b : BuilderState) → builder_view b ≡ tagged → IsFormed tunables validator m old set b
+    formed-never is b shows =
+        let never : false ≡ starts_always m = ap not is ∙ starts-is tunables.debug_guest m set set-sections in
+        record {
+          keeps = keeps;
+          types = set-types;
+          sections = set-sections;
+          customs = set-customs;
+          imports = ap (λ (t : ModuleTranslation). t.debuginfo.wasm_file.imported_func_count) same ∙ imports;
+          startup = set-startup ∙ ap (startup_when m) never;
+          builder = subst (HoldsTypes m) (sym shows) (never-holds m validator groups tagged alone gains built few never);
+          index = ap (λ (t : ModuleTranslation). t.module.module_index) same ∙ rest.index;
+          offset = ap (λ (t : ModuleTranslation). t.wasm_module_offset) same ∙ rest.offset;
+        }
+
+    -- startup is known to run
+    pub formed-always : false ≡ nothing → (u : ModuleTranslation) (b : BuilderState)
+        → u ≡ with_startup set (raised Always set.module.startup tagged) → builder_view b ≡ types_after Always set.module.startup tagged
+        → IsFormed tunables validator m old u b
+    formed-always is u b raises gained =
+        let always : true ≡ starts_always m = ap not is ∙ starts-is tunables.debug_guest m set set-sections in
+        let after : builder_view b ≡ types_after Always startup.None tagged = gained ∙ ap (λ s. types_after Always s tagged) set-startup in
+        record {
+          keeps = keeps;
+          types = types-keep m set u validator (ap (λ (t : ModuleTranslation). t.module.types) raises)
+              (ap (λ (t : ModuleTranslation). t.module.tags) raises) (ap types_of raises) set-types;
+          sections = sections-keep m set u (subst (CarriesNames set) (sym raises) refl) tunables.debug_guest set-sections;
+          customs = customs-keep m set u (subst (CarriesNames set) (sym raises) refl) tunables set-customs;
+          imports = ap (λ (t : ModuleTranslation). t.debuginfo.wasm_file.imported_func_count) (raises ∙ ap (λ (t : ModuleTranslation).
+              with_startup t (raised Always set.module.startup tagged)) same) ∙ imports;
+          startup = ap (λ (t : ModuleTranslation). t.module.startup) raises ∙ ap (λ s. raised Always s tagged) set-startup
+              ∙ always-raised m validator groups tagged alone gains built few always;
+          builder = always-holds m validator groups tagged alone gains built few always (builder_view b) after;
+          index = ap (λ (t : ModuleTranslation). t.module.module_index) (raises ∙ ap (λ (t : ModuleTranslation).
+              with_startup t (raised Always set.module.startup tagged)) same) ∙ rest.index;
+          offset = ap (λ (t : ModuleTranslation). t.wasm_module_offset) (raises ∙ ap (λ (t : ModuleTranslation).
+              with_startup t (raised Always set.module.startup tagged)) same) ∙ rest.offset;
+        }

@@ -1,8 +1,0 @@
-use Rattle.std.proofs.Common.{◌≡◌}
-use Rattle.std.specs.List.{range_with_len}
-use Rattle.module_environ.specs.Flags.{flagged}
-use Rattle.module_environ.proofs.escapes.Escaping.flag_range.Given as goal
-
--- the functions so far are noted
-abbrev pub invariant-loop-offset : goal.invariant-loop-offset
-invariant-loop-offset l = l.self ≡ flagged l.initial.self (range_with_len l.start l.offset)

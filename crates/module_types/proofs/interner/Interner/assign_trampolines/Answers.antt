@@ -1,0 +1,17 @@
+use Rattle.std.proofs.Common.{◌∙◌, length, ap, arith}
+use Rattle.std.proofs.lemmas.Grind.{common_steps}
+use Rattle.type_spec.specs.Interned.{assign_trampoline, composite_at}
+use Rattle.wasm_index.specs.Index.{number_of}
+use Rattle.module_types.specs.Interner.{built}
+use Rattle.module_types.proofs.GroupMembers.{along-more, along-room}
+use Rattle.module_types.proofs.interner.Interner.assign_trampolines.Goals as goal
+
+pub assign_trampoline-requires-clause-room : goal.assign_trampoline-requires-clause-room
+assign_trampoline-requires-clause-room c =
+    let room = along-room (built c.args.self.now) (built c.loop-i.self) c.args.first c.loop-i.i c.loop-i.invariant (grind (arith, common_steps)) in
+    let now = built c.loop-i.self in
+    let at = ap number_of c.new.ensures in
+    omega (arith, room, c.requires.room, ap (λ n. length (assign_trampoline now n (composite_at now.types n)).types) at)
+
+pub loop-i-preserved : goal.loop-i-preserved
+loop-i-preserved c = along-more (built c.args.self.now) (built c.loop-i.self) c.args.first c.loop-i.i c.loop-i.invariant (grind (arith, common_steps)) (built c.assign_trampoline.new.self) (c.in_ok-assign_trampoline.ensures ∙ ap (λ n. assign_trampoline (built c.loop-i.self) n (composite_at (built c.loop-i.self).types n)) (ap number_of c.new.ensures))

@@ -1,2 +1,0 @@
-pub mod Risen
-pub mod Cells
