@@ -11,6 +11,12 @@ const OVERLAP: [u8; 30] = [
     0x00, 0x41, 0x10, 0x0B, 0x03, 0x01, 0x02, 0x03, 0x00, 0x41, 0x11, 0x0B, 0x01, 0x09,
 ];
 
+/// A tag, whose exceptions hold an i32 and a v128.
+const EXCEPTION: [u8; 21] = [
+    0x00, 0x61, 0x73, 0x6D, 0x01, 0x00, 0x00, 0x00, 0x01, 0x06, 0x01, 0x60, 0x02, 0x7F, 0x7B, 0x00,
+    0x0D, 0x03, 0x01, 0x00, 0x00,
+];
+
 /// The words of a line.
 fn words_of(alloc: Global, line: &str) -> Result<Vec<String>, AllocError> {
     let mut words = Vec::new(alloc);
@@ -35,11 +41,13 @@ fn run_over(alloc: Global, line: &str, bytes: &[u8]) -> Result<(u8, Vec<u8>), Ou
 /// Each run ends with a text, or with no memory and nothing written.
 #[test]
 fn running_out_of_memory_writes_nothing(rt: HostRuntime) -> Result<(), Fail> {
-    for (line, begin) in [
-        ("plan --cow", "types 1\n"),
-        ("generate 2 --cow --lazy-tables", "generated 2\n"),
-    ] {
-        let Ok((status, text)) = run_over(rt.alloc(), line, &OVERLAP) else {
+    let runs: [(&str, &[u8], &str); 3] = [
+        ("plan --cow", &OVERLAP, "types 1\n"),
+        ("plan", &EXCEPTION, "types 2\n"),
+        ("generate 2 --cow --lazy-tables", &[], "generated 2\n"),
+    ];
+    for (line, bytes, begin) in runs {
+        let Ok((status, text)) = run_over(rt.alloc(), line, bytes) else {
             continue;
         };
         if status == 5 {
