@@ -84,13 +84,24 @@ fn translation_of<'d>(
 {
     let form = read_module(alloc, bytes)?;
     let mut translation = ModuleTranslation::new(alloc, module_index)?;
-    translate_form(alloc, tunables, validator, types, &form, &mut translation)?;
+    if let Err(error) = translate_form(alloc, tunables, validator, types, &form, &mut translation) {
+        // Dropped by one call, not field by field at each exit.
+        drop(translation);
+        return Err(error);
+    }
     translation.wasm = bytes;
-    let (bodies, place) = take_bodies(alloc, form)?;
-    // The list of before, which is empty, is dropped as a value of its own.
-    let _none = mem::replace(&mut translation.function_body_inputs, bodies);
-    translation.debuginfo.wasm_file.code_section_offset = place;
-    Ok(translation)
+    match take_bodies(alloc, form) {
+        Ok((bodies, place)) => {
+            // The list of before, which is empty, is dropped as a value of its own.
+            let _none = mem::replace(&mut translation.function_body_inputs, bodies);
+            translation.debuginfo.wasm_file.code_section_offset = place;
+            Ok(translation)
+        }
+        Err(error) => {
+            drop(translation);
+            Err(error.into())
+        }
+    }
 }
 
 /// Fills an empty translation with all of a module but its bytes and its code.

@@ -36,9 +36,8 @@ returns-in_err-form-clause-complete c = λ m can kept sound.
 
 -- ---- its form becomes no translation
 
-pub returns-in_err-translate_form-clause-cause : goal.returns-in_err-translate_form-clause-cause
-returns-in_err-translate_form-clause-cause c =
-    let p = err_from_is_err_and c.from_residual-in_err-translate_form.result c.from_residual-in_err-translate_form.ensures.1 in
+pub returns-in-Err-clause-cause : goal.returns-in-Err-clause-cause
+returns-in-Err-clause-cause c =
     let e = c.in_ok-form.ensures in
     let tells : ReadingTells c.args.bytes.now (Ok c.in_ok-form.form) = record {
       complete = e.complete;
@@ -47,12 +46,11 @@ returns-in_err-translate_form-clause-cause c =
       malformed = e.malformed;
       stops_nowhere = e.stops_nowhere;
     } in
-    rw (p.1, p.2) (form_cause c.args.bytes.now (module_of c.in_ok-form.form) c.args.types.now.is_poisoned _
-    (was_readable c.args.bytes.now c.in_ok-form.form tells e.read e.no_interface_types) c.in_err-translate_form.ensures.cause)
+    form_cause c.args.bytes.now (module_of c.in_ok-form.form) c.args.types.now.is_poisoned _
+    (was_readable c.args.bytes.now c.in_ok-form.form tells e.read e.no_interface_types) c.in-Err.ensures.cause
 
-pub returns-in_err-translate_form-clause-complete : goal.returns-in_err-translate_form-clause-complete
-returns-in_err-translate_form-clause-complete c = λ m can kept sound.
-    let p = err_from_is_err_and c.from_residual-in_err-translate_form.result c.from_residual-in_err-translate_form.ensures.1 in
+pub returns-in-Err-clause-complete : goal.returns-in-Err-clause-complete
+returns-in-Err-clause-complete c = λ m can kept sound.
     let e = c.in_ok-form.ensures in
     let tells : ReadingTells c.args.bytes.now (Ok c.in_ok-form.form) = record {
       complete = e.complete;
@@ -62,24 +60,20 @@ returns-in_err-translate_form-clause-complete c = λ m can kept sound.
       stops_nowhere = e.stops_nowhere;
     } in
     let same : module_of c.in_ok-form.form ≡ m = read_as c.args.bytes.now c.in_ok-form.form m tells can in
-    rw p.1 (p.2 ∙ c.in_err-translate_form.ensures.complete (subst Keeps (sym same) kept) sound)
+    c.in-Err.ensures.complete (subst Keeps (sym same) kept) sound
 
 -- ---- there is no memory for its code
 
-pub returns-in_err-bodies-clause-cause : goal.returns-in_err-bodies-clause-cause
-returns-in_err-bodies-clause-cause c =
-    let p = err_from_is_err_and c.from_residual-in_err-bodies.result c.from_residual-in_err-bodies.ensures.1 in
-    rw (p.1, p.2) tt
+pub returns-in-Err-take_bodies-clause-cause : goal.returns-in-Err-take_bodies-clause-cause
+returns-in-Err-take_bodies-clause-cause c = rw c.into.ensures tt
 
-pub returns-in_err-bodies-clause-complete : goal.returns-in_err-bodies-clause-complete
-returns-in_err-bodies-clause-complete c = λ m can kept sound.
-    let p = err_from_is_err_and c.from_residual-in_err-bodies.result c.from_residual-in_err-bodies.ensures.1 in
-    rw p.1 p.2
+pub returns-in-Err-take_bodies-clause-complete : goal.returns-in-Err-take_bodies-clause-complete
+returns-in-Err-take_bodies-clause-complete c = λ m can kept sound. c.into.ensures
 
 -- ---- it is translated
 
-pub returns-clause-translated : goal.returns-clause-translated
-returns-clause-translated c =
+pub returns-in-Ok-clause-translated : goal.returns-in-Ok-clause-translated
+returns-in-Ok-clause-translated c =
     let m = module_of c.in_ok-form.form in
     let formed = c.translate_form.new.translation in
     let e = c.in_ok-form.ensures in
@@ -93,9 +87,9 @@ returns-clause-translated c =
     let coded : ModuleTranslation = record formed {
       wasm = c.args.bytes;
       function_body_inputs = c.replace-none.new.dest;
-      debuginfo = record formed.debuginfo { wasm_file = record formed.debuginfo.wasm_file { code_section_offset = c.in_ok-bodies.place } };
+      debuginfo = record formed.debuginfo { wasm_file = record formed.debuginfo.wasm_file { code_section_offset = c.in-Ok.place } };
     } in
     is_translated c.args.tunables.now c.args.module_index c.args.validator.now c.args.bytes.now m c.in_ok-translation.translation formed coded
     c.translate_form.new.types (was_readable c.args.bytes.now c.in_ok-form.form tells e.read e.no_interface_types) e.few
-    c.in_ok-translation.ensures c.in_ok-translate_form.ensures.formed refl
-    (ap (map (λ input. body_of input.body)) c.replace-none.ensures.after ∙ c.in_ok-bodies.ensures.bodies) c.in_ok-bodies.ensures.place
+    c.in_ok-translation.ensures c.in_default.ensures.formed refl
+    (ap (map (λ input. body_of input.body)) c.replace-none.ensures.after ∙ c.in-Ok.ensures.bodies) c.in-Ok.ensures.place
