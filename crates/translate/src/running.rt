@@ -35,7 +35,7 @@ pub struct Report<'d> {
 impl Report<'_> {
     /// The status. All else is dropped here, so that no crate above has to prove how a plan is dropped.
     pub fn into_status(self) -> u8
-        ensures { result ≡ self.status }
+        ensures { result ≡ self.entry.status }
     {
         self.status
     }

@@ -26,7 +26,7 @@ fn words_of(rt: &HostRuntime) -> Option<Result<Vec<String>, AllocError>> {
 
 /// What the program ends with after a run: its status.
 fn end_of(report: Report<'_>) -> ExitCode
-    ensures { exit_status result ≡ report.status }
+    ensures { exit_status result ≡ report.entry.status }
 {
     ExitCode::from(report.into_status())
 }
