@@ -50,7 +50,16 @@ pub(crate) fn planned_translation<'d>(
     let index = StaticModuleIndex::from_u32(0);
     let environment = ModuleEnvironment::new(alloc, tunables, validator, types, index)?;
     let mut translation = environment.translate(alloc, bytes)?;
-    translation.finalize_memory_init(alloc, tunables, page_size, max_image, types)?;
-    translation.finalize_table_init(alloc, tunables, types)?;
+    if let Err(error) = translation.finalize_memory_init(
+        alloc, tunables, page_size, max_image, types,
+    ) {
+        // Dropped by one call, not field by field at each exit.
+        drop(translation);
+        return Err(error.into());
+    }
+    if let Err(error) = translation.finalize_table_init(alloc, tunables, types) {
+        drop(translation);
+        return Err(error.into());
+    }
     Ok(translation)
 }

@@ -50,12 +50,24 @@ pub fn translate_module<'d>(
         alloc, tunables, page_size, max_image, &validator, &mut types, bytes,
     )?;
     let types = types.finish();
-    let layouts = layouts_for(alloc, collector, &types)?;
-    let offsets = VMOffsets::new(ptr, &translation.module)?;
-    Ok(Plan {
-        translation,
-        types,
-        layouts,
-        offsets,
-    })
+    let layouts = match layouts_for(alloc, collector, &types) {
+        Ok(layouts) => layouts,
+        Err(error) => {
+            // Dropped by one call, not field by field at each exit.
+            drop(translation);
+            return Err(error);
+        }
+    };
+    match VMOffsets::new(ptr, &translation.module) {
+        Ok(offsets) => Ok(Plan {
+            translation,
+            types,
+            layouts,
+            offsets,
+        }),
+        Err(error) => {
+            drop(translation);
+            Err(error.into())
+        }
+    }
 }

@@ -39,8 +39,8 @@ finalize_memory_init-requires-clause-room c = λ sound.
     (ap (λ r. r.now) c.in_ok-environment.ensures.validator ∙ c.requires.number) back c.in_ok-translation.ensures.translated in
     has_room _ _ _ _ (started i bytes old _ told) (room i bytes old _ told)
 
-pub returns-in_err-finalize_memory_init-clause-cause : goal.returns-in_err-finalize_memory_init-clause-cause
-returns-in_err-finalize_memory_init-clause-cause c =
+pub returns-in-Err-clause-cause : goal.returns-in-Err-clause-cause
+returns-in-Err-clause-cause c =
     let i = init_options c.args.tunables.now c.args.page_size c.args.max_image in
     let bytes = c.args.bytes.now in
     let old = c.in_ok-translation.translation in
@@ -48,14 +48,13 @@ returns-in_err-finalize_memory_init-clause-cause c =
     (ap (λ (r : Bor Tunables). r.now) c.in_ok-environment.ensures.tunables) (c.in_ok-environment.ensures.index ∙ c.from_u32-index.ensures)
     (ap (λ r. r.now) c.in_ok-environment.ensures.validator ∙ c.requires.number) refl c.in_ok-translation.ensures.translated in
     let held = c.held_agreement_laws.ensures.memories told.meaning old told.ready.holds_memories in
-    let p = err_from_is_err_and c.from_residual-in_err-finalize_memory_init.result c.from_residual-in_err-finalize_memory_init.ensures.1 in
-    let e = c.in_err-finalize_memory_init in
-    let much = λ (is : e.field-0.0 ≡ plan.TooLarge) (planned : MemoryPlan) (h : PlansMemories i told.meaning planned).
-    c.finalize_memory_init.ensures.too_large (e.was ∙ ap Err is) planned (plans_held i told.meaning old (holds_data i bytes old _ told held) planned h) in
-    rw (p.1, p.2) (λ o same. memories_cause i o bytes told.meaning e.field-0.0 same told.read told.keeps much)
+    let e = c.in-Err in
+    let much = λ (is : e.error ≡ plan.TooLarge) (planned : MemoryPlan) (h : PlansMemories i told.meaning planned).
+    c.finalize_memory_init.ensures.too_large (e.is ∙ ap Err is) planned (plans_held i told.meaning old (holds_data i bytes old _ told held) planned h) in
+    rw c.into.ensures (λ o same. memories_cause i o bytes told.meaning e.error same told.read told.keeps much)
 
-pub returns-in_err-finalize_memory_init-clause-complete : goal.returns-in_err-finalize_memory_init-clause-complete
-returns-in_err-finalize_memory_init-clause-complete c = λ can.
+pub returns-in-Err-clause-complete : goal.returns-in-Err-clause-complete
+returns-in-Err-clause-complete c = λ can.
     let i = init_options c.args.tunables.now c.args.page_size c.args.max_image in
     let bytes = c.args.bytes.now in
     let old = c.in_ok-translation.translation in
@@ -63,12 +62,11 @@ returns-in_err-finalize_memory_init-clause-complete c = λ can.
     (ap (λ (r : Bor Tunables). r.now) c.in_ok-environment.ensures.tunables) (c.in_ok-environment.ensures.index ∙ c.from_u32-index.ensures)
     (ap (λ r. r.now) c.in_ok-environment.ensures.validator ∙ c.requires.number) refl c.in_ok-translation.ensures.translated in
     let held = c.held_agreement_laws.ensures.memories told.meaning old told.ready.holds_memories in
-    let p = err_from_is_err_and c.from_residual-in_err-finalize_memory_init.result c.from_residual-in_err-finalize_memory_init.ensures.1 in
-    let e = c.in_err-finalize_memory_init in
-    let much = λ (is : e.field-0.0 ≡ plan.TooLarge) (planned : MemoryPlan) (h : PlansMemories i told.meaning planned).
-    c.finalize_memory_init.ensures.too_large (e.was ∙ ap Err is) planned (plans_held i told.meaning old (holds_data i bytes old _ told held) planned h) in
+    let e = c.in-Err in
+    let much = λ (is : e.error ≡ plan.TooLarge) (planned : MemoryPlan) (h : PlansMemories i told.meaning planned).
+    c.finalize_memory_init.ensures.too_large (e.is ∙ ap Err is) planned (plans_held i told.meaning old (holds_data i bytes old _ told held) planned h) in
     let one = c.spelling_is_unique.ensures.one_module bytes can.meaning told.meaning can.read.spelled told.read.spelled in
-    rw p.1 (p.2 ∙ memories_complete i bytes told.meaning e.field-0.0 can one much)
+    c.into.ensures ∙ memories_complete i bytes told.meaning e.error can one much
 
 -- ---- the tables are planned
 
@@ -81,21 +79,19 @@ finalize_table_init-requires-clause-room c = λ sound.
     let told = translated_with _ c.args.tunables.now _ (index_of 0) _ 0 bytes old _ _
     (ap (λ (r : Bor Tunables). r.now) c.in_ok-environment.ensures.tunables) (c.in_ok-environment.ensures.index ∙ c.from_u32-index.ensures)
     (ap (λ r. r.now) c.in_ok-environment.ensures.validator ∙ c.requires.number) back c.in_ok-translation.ensures.translated in
-    let m = c.in_ok-finalize_memory_init.ensures in
+    let m = c.in_default.ensures in
     has_room _ _ _ _ (started_memories i bytes old _ told c.finalize_memory_init.new.self c.finalize_memory_init.new.types m.startup m.types)
     (room i bytes old _ told)
 
-pub returns-in_err-finalize_table_init-clause-cause : goal.returns-in_err-finalize_table_init-clause-cause
-returns-in_err-finalize_table_init-clause-cause c =
-    let p = err_from_is_err_and c.from_residual-in_err-finalize_table_init.result c.from_residual-in_err-finalize_table_init.ensures.1 in
-    let never = tables_error c.in_err-finalize_table_init.field-0.0 (λ is. c.finalize_table_init.ensures.never_too_large (c.in_err-finalize_table_init.was ∙ ap Err is)) in
-    rw (p.1, p.2, never) (λ o same. tt)
+pub returns-in-Err-finalize_table_init-clause-cause : goal.returns-in-Err-finalize_table_init-clause-cause
+returns-in-Err-finalize_table_init-clause-cause c =
+    let never = tables_error c.in-Err-finalize_table_init.error (λ is. c.finalize_table_init.ensures.never_too_large (c.in-Err-finalize_table_init.is ∙ ap Err is)) in
+    rw (c.into-in-Err-finalize_table_init.ensures, never) (λ o same. tt)
 
-pub returns-in_err-finalize_table_init-clause-complete : goal.returns-in_err-finalize_table_init-clause-complete
-returns-in_err-finalize_table_init-clause-complete c = λ can.
-    let p = err_from_is_err_and c.from_residual-in_err-finalize_table_init.result c.from_residual-in_err-finalize_table_init.ensures.1 in
-    let never = tables_error c.in_err-finalize_table_init.field-0.0 (λ is. c.finalize_table_init.ensures.never_too_large (c.in_err-finalize_table_init.was ∙ ap Err is)) in
-    rw p.1 (p.2 ∙ never)
+pub returns-in-Err-finalize_table_init-clause-complete : goal.returns-in-Err-finalize_table_init-clause-complete
+returns-in-Err-finalize_table_init-clause-complete c = λ can.
+    let never = tables_error c.in-Err-finalize_table_init.error (λ is. c.finalize_table_init.ensures.never_too_large (c.in-Err-finalize_table_init.is ∙ ap Err is)) in
+    c.into-in-Err-finalize_table_init.ensures ∙ never
 
 -- ---- all is planned
 
@@ -111,8 +107,8 @@ returns-clause-initialised c =
     let held = c.held_agreement_laws.ensures.memories told.meaning old told.ready.holds_memories in
     let mid = c.finalize_memory_init.new.self in
     let new = c.finalize_table_init.new.self in
-    let m = c.in_ok-finalize_memory_init.ensures in
-    let t = c.in_ok-finalize_table_init.ensures in
+    let m = c.in_default.ensures in
+    let t = c.in_default-finalize_table_init.ensures in
     let laws = c.held_agreement_laws.ensures in
     all_planned i bytes old _ told mid new c.finalize_memory_init.new.types c.finalize_table_init.new.types
     (record { startup = c.startup_law.ensures.memories_first; agreement = c.agreement_law.ensures told.meaning }) (record {

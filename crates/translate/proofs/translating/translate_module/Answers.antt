@@ -31,19 +31,17 @@ layouts_for-requires c =
     let same = ap (λ (l : TypeList). length l.types) c.finish-types.ensures in
     omega (arith, same, c.in_ok-translation.ensures.initialised.few)
 
-pub returns-in_err-layouts-clause-cause : goal.returns-in_err-layouts-clause-cause
-returns-in_err-layouts-clause-cause c =
+pub returns-in-Err-clause-cause : goal.returns-in-Err-clause-cause
+returns-in-Err-clause-cause c =
     let o = with_options c.args.tunables.now c.args.collector c.args.ptr c.args.page_size c.args.max_image in
-    let p = err_from_is_err_and c.from_residual-in_err-layouts.result c.from_residual-in_err-layouts.ensures.1 in
-    rw (p.1, p.2) (layout-cause o c.args.bytes.now c.in_ok-translation.translation _ c.in_ok-translation.ensures.initialised c.finish-types.result
-    c.finish-types.ensures c.in_err-layouts.field-0.0 c.in_err-layouts.ensures.causes (λ is. c.layouts_for.ensures.overflow (c.in_err-layouts.was ∙ ap Err is)))
+    layout-cause o c.args.bytes.now c.in_ok-translation.translation _ c.in_ok-translation.ensures.initialised c.finish-types.result
+    c.finish-types.ensures c.in-Err.error c.in-Err.ensures.causes (λ is. c.layouts_for.ensures.overflow (c.in-Err.is ∙ ap Err is))
 
-pub returns-in_err-layouts-clause-complete : goal.returns-in_err-layouts-clause-complete
-returns-in_err-layouts-clause-complete c = λ valid.
+pub returns-in-Err-clause-complete : goal.returns-in-Err-clause-complete
+returns-in-Err-clause-complete c = λ valid.
     let o = with_options c.args.tunables.now c.args.collector c.args.ptr c.args.page_size c.args.max_image in
-    let p = err_from_is_err_and c.from_residual-in_err-layouts.result c.from_residual-in_err-layouts.ensures.1 in
-    rw p.1 (p.2 ∙ layout-complete o c.args.bytes.now c.in_ok-translation.translation _ c.in_ok-translation.ensures.initialised c.finish-types.result
-    c.finish-types.ensures c.in_err-layouts.field-0.0 c.in_err-layouts.ensures.causes (λ is. c.layouts_for.ensures.overflow (c.in_err-layouts.was ∙ ap Err is)) valid)
+    layout-complete o c.args.bytes.now c.in_ok-translation.translation _ c.in_ok-translation.ensures.initialised c.finish-types.result
+    c.finish-types.ensures c.in-Err.error c.in-Err.ensures.causes (λ is. c.layouts_for.ensures.overflow (c.in-Err.is ∙ ap Err is)) valid
 
 -- ---- the context is too large
 
@@ -53,29 +51,28 @@ new-requires-clause-imports c =
     let init = c.in_ok-translation.ensures.initialised in
     holds_imports o.init c.args.bytes.now init.meaning c.in_ok-translation.translation init.initialised
 
-pub returns-in_err-offsets-clause-cause : goal.returns-in_err-offsets-clause-cause
-returns-in_err-offsets-clause-cause c =
+pub returns-clause-cause : goal.returns-clause-cause
+returns-clause-cause c =
     let o = with_options c.args.tunables.now c.args.collector c.args.ptr c.args.page_size c.args.max_image in
-    let p = err_from_is_err_and c.from_residual-in_err-offsets.result c.from_residual-in_err-offsets.ensures.1 in
     let init = c.in_ok-translation.ensures.initialised in
     let t = c.in_ok-translation.translation in
     let counted = counts_same o.init c.args.bytes.now init.meaning t init.initialised o refl in
-    rw (p.1, p.2) (context-cause o c.args.bytes.now t _ init c.finish-types.result c.finish-types.ensures (module_counts o.pointer (record_of t.module)) counted
-    (c.in_err-offsets.ensures.overflow.0 refl))
+    rw c.into.ensures (context-cause o c.args.bytes.now t _ init c.finish-types.result c.finish-types.ensures (module_counts o.pointer (record_of t.module)) counted
+    (c.in-Err-new.ensures.overflow.0 refl))
 
-pub returns-in_err-offsets-clause-complete : goal.returns-in_err-offsets-clause-complete
-returns-in_err-offsets-clause-complete c = λ valid.
+pub returns-clause-complete : goal.returns-clause-complete
+returns-clause-complete c = λ valid.
     let o = with_options c.args.tunables.now c.args.collector c.args.ptr c.args.page_size c.args.max_image in
     let init = c.in_ok-translation.ensures.initialised in
     let t = c.in_ok-translation.translation in
     let counted = counts_same o.init c.args.bytes.now init.meaning t init.initialised o refl in
     absurd (context-fits o c.args.bytes.now t _ init c.finish-types.result c.finish-types.ensures (module_counts o.pointer (record_of t.module)) counted
-    (c.in_err-offsets.ensures.overflow.0 refl) valid)
+    (c.in-Err-new.ensures.overflow.0 refl) valid)
 
 -- ---- there is a plan
 
-pub returns-clause-planned : goal.returns-clause-planned
-returns-clause-planned c =
+pub returns-in-Ok-new-clause-planned : goal.returns-in-Ok-new-clause-planned
+returns-in-Ok-new-clause-planned c =
     let o = with_options c.args.tunables.now c.args.collector c.args.ptr c.args.page_size c.args.max_image in
     let init = c.in_ok-translation.ensures.initialised in
     let t = c.in_ok-translation.translation in
@@ -88,10 +85,10 @@ returns-clause-planned c =
         translation = init.initialised;
         types = same-lists o c.args.bytes.now t _ init c.finish-types.result c.finish-types.ensures;
         equal_types = told-apart init.meaning init.keeps;
-        layouts = c.in_ok-layouts.ensures.layouts;
-        offsets = c.in_ok-offsets.ensures.ok ∙ counted;
-        sizes = sizes-fit o c.args.bytes.now t _ init c.finish-types.result c.finish-types.ensures _ counted c.in_ok-layouts.ensures.fits
-            (λ (large : 4294967295 < context_size o.pointer (module_counts o.pointer (record_of t.module))). let e : false ≡ true = c.in_ok-offsets.ensures.overflow.1 large in cc);
+        layouts = c.in-Ok.ensures.layouts;
+        offsets = c.in-Ok-new.ensures.ok ∙ counted;
+        sizes = sizes-fit o c.args.bytes.now t _ init c.finish-types.result c.finish-types.ensures _ counted c.in-Ok.ensures.fits
+            (λ (large : 4294967295 < context_size o.pointer (module_counts o.pointer (record_of t.module))). let e : false ≡ true = c.in-Ok-new.ensures.overflow.1 large in cc);
       };
     }
 
