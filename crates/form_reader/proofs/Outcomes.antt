@@ -33,7 +33,7 @@ module _ (bytes : List ℕ) where
     | inr stops ↦ absurd (stops.0 none)
   ]
 
-  -- it fails for want of memory alone
+  -- it fails only where memory runs out
   pub fails_spelled : (e : ReadError) (m : Module) → Fails e (module_at bytes) → Spells bytes m → HasNoInterfaceTypes m → e ≡ errors.OutOfMemory
   fails_spelled errors.OutOfMemory m h s none = refl
   fails_spelled errors.TooLarge m h s none = absurd h
