@@ -29,7 +29,7 @@ pub trait Source {
     /// How many reads failed, as a counter of 64 bits tells it, which stays at its last value.
     ghost faults: { Self → ℕ };
 
-    /// Moves the first bytes left into the front of `buf`, and answers how many: none only at the end.
+    /// Moves the first bytes left into the front of `buf`, and returns how many: 0 only at the end.
     /// `Failed` leaves the bytes left as they were.
     fn read(&mut self, buf: &mut [u8]) -> Result<usize, Failed>
         requires { 0 < length buf.old }
@@ -52,7 +52,7 @@ pub trait Sink {
     /// How many writes failed, as a counter of 64 bits tells it, which stays at its last value.
     ghost faults: { Self → ℕ };
 
-    /// Appends the first bytes of `piece`, at least one, and answers how many.
+    /// Appends the first bytes of `piece`, at least one, and returns how many.
     /// `Failed` leaves the bytes held as they were.
     fn write(&mut self, piece: &[u8]) -> Result<usize, Failed>
         requires { 0 < length piece.now }

@@ -15,7 +15,7 @@ const BUFFER: usize = 4096;
 pub enum ReadStop {
     /// A read failed.
     Failed,
-    /// Memory for the bytes was refused.
+    /// Out of memory.
     OutOfMemory,
 }
 
@@ -41,7 +41,7 @@ impl From<AllocError> for ReadStop {
     }
 }
 
-/// Reads into the empty store until the source ends, or until so many bytes were read.
+/// Reads into the empty store until the source ends, or until `most` bytes were read.
 pub fn read_all<S: Source>(source: &mut S, store: &mut Vec<u8>, most: usize) -> Result<(), ReadStop>
     requires { store.old.items ≡ [] }
 
@@ -52,7 +52,7 @@ pub fn read_all<S: Source>(source: &mut S, store: &mut Vec<u8>, most: usize) -> 
     ensures ended { OnOk result (NothingLeft (S.left source.new) ⊎ (vec_len store.new ≡ most)) }
     ensures short { OnOk result (vec_len store.new < most → NothingLeft (S.left source.new)) }
 
-    // No failed read is passed over.
+    // `Failed` is returned where a read failed, and only there.
     ensures cause { result ≡ Err ReadStop.Failed → Rose (S.faults source.old) (S.faults source.new) }
     ensures no_fault { result ≢ Err ReadStop.Failed → S.faults source.new ≡ S.faults source.old }
     ensures counted { S.faults source.old ≤ S.faults source.new }

@@ -28,7 +28,6 @@ fn bodies_hold(lists: &Lists<'_, '_>) -> bool
     lists.imported_functions <= functions && has_bodies(lists, functions - lists.imported_functions)
 }
 
-/// Whether there are so many bodies.
 fn has_bodies(lists: &Lists<'_, '_>, count: usize) -> bool
     ensures { IsTrue result ↔ (count ≡ length (flat_map bodies_of_section (module_of lists.now.form.now))) }
 {
@@ -67,7 +66,6 @@ fn data_count_holds(lists: &Lists<'_, '_>, payload: &Payload<'_>) -> bool
     }
 }
 
-/// Whether there are so many data segments.
 fn has_segments(lists: &Lists<'_, '_>, count: usize) -> bool
     ensures { IsTrue result ↔ (count ≡ length (segments (module_of lists.now.form.now))) }
 {

@@ -74,7 +74,6 @@ pub fn checked_lists<'f, 'd>(alloc: Global, form: &'f Form<'d>) -> Result<Lists<
     Ok(lists)
 }
 
-/// Whether a rule is kept.
 fn keeps(alloc: Global, rule: Rule, lists: &Lists<'_, '_>) -> Result<bool, AllocError>
     requires { HasGlobals (lists_of lists.now) }
     ensures { IfOk result (λ kept. IsTrue kept ↔ Satisfies rule (lists_of lists.now)) }

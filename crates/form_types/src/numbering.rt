@@ -13,8 +13,8 @@ use wasm_spec::CoreTypeId;
 
 /// The types of a module, each once, and the id of each declared type.
 ///
-/// The distinct groups stand in the order of their first occurrence; an id numbers their members through, from 0 on. Types name each other
-/// by ids.
+/// The distinct groups stand in the order of their first occurrence; ids number their members from 0 on, through all groups. Types name
+/// each other by ids.
 #[derive(Drop)]
 pub struct Types {
     pub(crate) validator: ValidatorId,

@@ -10,7 +10,7 @@ use crate::layout::Layout;
 use crate::sizes::byte_size_of_wasm_ty_in_gc_heap;
 use wasm_types::WasmArrayType;
 
-/// Where the elements of an array stand: behind the header and the length, one after another. Offsets count from the
+/// Where the elements of an array stand: after the header and the length, one after another. Offsets count from the
 /// start of the object.
 #[derive(Clone, Copy, Debug)]
 pub struct GcArrayLayout {
@@ -25,7 +25,7 @@ pub struct GcArrayLayout {
 }
 
 impl GcArrayLayout {
-    // The layout behind a header of some bytes.
+    // The layout after a header of `header_size` bytes.
     pub(crate) fn new(header_size: u32, ty: &WasmArrayType) -> Self
         requires { (array_layout_of header_size ty.now).base_size < 2 ^ 32 }
         ensures { result ≡ array_layout_of header_size ty.now }

@@ -76,7 +76,7 @@ pub trait GcTypeLayouts {
         ensures fits { OnOk result ((struct_layout_of header_size ty.now).size ≤ 4294967295) }
         ensures overflow { result ≡ Err LayoutError.OffsetOverflow → 4294967295 < (struct_layout_of header_size ty.now).size }
     {
-        // The fields of a struct begin where the length of an array does, behind the header.
+        // The fields of a struct begin where the length of an array does, after the header.
         let header_size = self.array_length_field_offset();
         GcStructLayout::new(alloc, header_size, ty.fields.as_slice(), false)
     }
@@ -90,7 +90,7 @@ pub trait GcTypeLayouts {
         ensures fits { OnOk result ((exn_layout_of header_size ty.now).size ≤ 4294967295) }
         ensures overflow { result ≡ Err LayoutError.OffsetOverflow → 4294967295 < (exn_layout_of header_size ty.now).size }
     {
-        // The fields of an exception begin behind the second index of its tag.
+        // The fields of an exception begin after the second index of its tag.
         let tag_end = self.exception_tag_defined_offset() + INDEX_SIZE;
         GcStructLayout::new(alloc, tag_end, ty.fields.as_slice(), true)
     }

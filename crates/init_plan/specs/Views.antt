@@ -142,12 +142,12 @@ FindsRuntime runtime (Some index) bytes = slice_get runtime index ≡ Some bytes
 abbrev pub FindsData : MemoryPlan → ℕ × List ℕ → Type 0
 FindsData plan p = FindsRuntime plan.runtime (plan.passive p.0) p.1
 
--- the first passive segment is found at a number, and each other one at the number behind that of the one before
+-- the first passive segment is found at a number, and each other one at the number after that of the one before
 abbrev pub FindsFrom : (ℕ → Option ℕ) → ℕ → List (ℕ × List ℕ) → Type 0
 FindsFrom found start [] = Unit {0}
 FindsFrom found start (p ∷ ps) = (found p.0 ≡ Some start) × FindsFrom found (start + 1) ps
 
--- passive segments are found at the last runtime data, in order: behind those of active segments or of images
+-- passive segments are found at the last runtime data, in order: after those of active segments or of images
 abbrev pub FindsInOrder : MemoryPlan → List (ℕ × List ℕ) → Type 0
 FindsInOrder plan ps = FindsFrom plan.passive (length plan.runtime - length ps) ps
 

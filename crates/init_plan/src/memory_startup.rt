@@ -58,7 +58,7 @@ impl ModuleTranslation<'_> {
         ensures ranges { OnOk result (ranges_of self.new.module ≡ ranges_from 0 (map length (memory_plan_of self.new).runtime)) }
         ensures whole_ranges { OnOk result (HasWholeRanges page_size (memory_plan_of self.new).images (ranges_of self.new.module)) }
 
-        // Each passive segment is found with its bytes, in order behind the other runtime data, and no other is found.
+        // Each passive segment is found with its bytes, in order after the other runtime data, and no other is found.
         ensures found { OnOk result (All (FindsData (memory_plan_of self.new)) (passive_data_of self.old)) }
         ensures in_order { OnOk result (FindsInOrder (memory_plan_of self.new) (passive_data_of self.old)) }
         ensures others { OnOk result ((index : ℕ) → ¬ Contains (map (λ p. p.0) (passive_data_of self.old)) index →
@@ -127,7 +127,6 @@ impl ModuleTranslation<'_> {
     }
 }
 
-// Whether each planned segment is an image.
 fn are_images(segments: &[(MemoryIndex, MemorySegmentOffset, RuntimeDataIndex)]) -> bool
     ensures { IsTrue result ↔ All (λ s. IsPlace s.1) segments.now }
 {
@@ -145,7 +144,6 @@ fn keeps_none(init: &MemoryInit<'_>) -> bool
     }
 }
 
-// Whether no memory has an image.
 fn are_none(images: &[Option<(u64, RuntimeDataIndex)>]) -> bool
     ensures { IsTrue result ↔ All (λ image. image ≡ None) images.now }
 {

@@ -175,7 +175,7 @@ impl<'d> ModuleTranslation<'d> {
             .map(|hints| hints.as_slice())
     }
 
-    /// Puts these hints in the place of all that stood.
+    /// Replaces all hints by these.
     pub fn set_branch_hints(&mut self, hints: BTreeMap<FuncIndex, Vec<BranchHint>>)
         ensures set { hint_entries_of self.new ≡ map (λ e. (number_of e.0, e.1.items)) hints.entries }
         ensures same { SameButHints self.old self.new }

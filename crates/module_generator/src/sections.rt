@@ -8,7 +8,6 @@ use crate::bytes::{push_signed, push_unsigned};
 use entity_map::OutOfMemory;
 use std::alloc::Global;
 
-/// The contents of the type section.
 #[tactic(auto, using(crate::proofs::Places::one_more), unfolding(crate::specs::Spelling::vector))]
 pub(crate) fn type_section(alloc: Global, n: u32) -> Result<Vec<u8>, OutOfMemory>
     ensures { IfOk result (λ contents. contents.items ≡ vector n function_type) }
@@ -68,7 +67,6 @@ pub(crate) fn element_section(alloc: Global, n: u32) -> Result<Vec<u8>, OutOfMem
     Ok(contents)
 }
 
-/// The contents of the data section.
 #[tactic(auto, using(crate::proofs::Places::one_more), unfolding(crate::specs::Spelling::vector))]
 pub(crate) fn data_section(alloc: Global, n: u32) -> Result<Vec<u8>, OutOfMemory>
     requires { n ≤ 100000 }

@@ -26,7 +26,7 @@ pub record BuilderState : Type 0 where
   pub is_poisoned : Bool
 
 -- what was built; the group that was interned under each id, the exception type of each function type, and the startup type; and whether
--- a growing call answered an error
+-- a growing call returned an error
 pub record Builder : Type 0 where
   pub validator : ℕ
   pub built : Built

@@ -1,4 +1,4 @@
-//! A case: what is given to a run, and what it is to give.
+//! A case: what is given to a run, and what it must give.
 
 use std::alloc::{AllocError, Global};
 
@@ -10,7 +10,7 @@ pub enum CaseError {
     UnknownLine,
     /// A line stands before the name, or there is a second name.
     Name,
-    /// A piece is no byte of two digits, no text in quotes and no run of bytes.
+    /// A piece is no byte of two hexadecimal digits, no text in quotes and no run of bytes.
     UnknownPiece,
     /// A number is missing, is none, or is out of its range.
     NoNumber,
@@ -65,7 +65,7 @@ pub struct DataBytes {
     pub bytes: Vec<u8>,
 }
 
-/// What a run is to give.
+/// What a run must give.
 #[derive(Drop)]
 pub struct Expected {
     pub status: u64,

@@ -1,17 +1,17 @@
-//! What a run gave beside what it was to give.
+//! What a run gave, compared with what it must give.
 
 use crate::case::{Case, DataBytes, Expected, LineCount};
 use crate::running::Outcome;
 
-/// What is not as it was to be.
+/// What differs from what is expected.
 #[derive(Clone, Copy)]
 pub enum Difference<'a> {
     Status(u64),
     Read,
     Text,
-    /// There is no such line.
+    /// The text lacks this line.
     Line(&'a str),
-    /// Another number of lines begins so.
+    /// Another number of lines begins with these words.
     Count(&'a LineCount),
     /// The runtime data of this number are others.
     Data(u64),
@@ -36,7 +36,6 @@ fn count_lines(text: &str, words: &str) -> u64 {
     count
 }
 
-/// Whether the text has this line.
 fn has_line(text: &str, wanted: &str) -> bool {
     for line in text.lines() {
         if line == wanted {
@@ -46,7 +45,7 @@ fn has_line(text: &str, wanted: &str) -> bool {
     false
 }
 
-/// The first of the lines that the text has not.
+/// The first of the lines that the text lacks.
 fn missing_line<'a>(lines: &'a [String], text: &str) -> Option<Difference<'a>> {
     for line in lines {
         if !has_line(text, line.as_str()) {
@@ -98,7 +97,7 @@ pub fn text_of(outcome: &Outcome) -> &str {
     str::from_utf8(outcome.text.as_slice()).unwrap_or("")
 }
 
-/// The first thing that the run gave and was not to give.
+/// The first difference between what the run gave and what it must give.
 pub fn difference_of<'a>(case: &'a Case, outcome: &Outcome) -> Option<Difference<'a>> {
     let expected = &case.expected;
     let text = text_of(outcome);

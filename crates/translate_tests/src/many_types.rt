@@ -40,7 +40,7 @@ fn push_type(bytes: &mut Vec<u8>, number: u32) -> Result<(), AllocError> {
     Ok(())
 }
 
-/// The module of so many types, no two of which are equal.
+/// The module of `COUNT` types, no two of which are equal.
 fn many_types(alloc: Global) -> Result<Vec<u8>, AllocError> {
     let mut bytes = Vec::with_capacity(alloc, 6_700_016)?;
     bytes.extend_from_slice(&HEAD)?;
