@@ -26,7 +26,7 @@ pub trait Source {
     /// The bytes left, where it tells them.
     ghost left: { Self → Option (List ℕ) };
 
-    /// How many reads failed, as a counter of 64 bits tells it, which stays at its last value.
+    /// How many reads failed, on a counter of 64 bits that stays at its last value.
     ghost faults: { Self → ℕ };
 
     /// Moves the first bytes left into the front of `buf`, and returns how many: 0 only at the end.
@@ -49,7 +49,7 @@ pub trait Sink {
     /// The bytes held, where it tells them.
     ghost held: { Self → Option (List ℕ) };
 
-    /// How many writes failed, as a counter of 64 bits tells it, which stays at its last value.
+    /// How many writes failed, on a counter of 64 bits that stays at its last value.
     ghost faults: { Self → ℕ };
 
     /// Appends the first bytes of `piece`, at least one, and returns how many.

@@ -51,7 +51,6 @@ const NUMBER_TYPES: [ValType; 5] = [
     ValType::I32,
 ];
 
-/// The abstract heap type of a byte.
 fn abstract_heap(byte: u8) -> Option<AbstractHeapType>
     ensures { result ≡ spec_abstract_heap byte }
 {

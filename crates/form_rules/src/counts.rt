@@ -11,7 +11,7 @@ use form_data::{FunctionBody, Payload};
 use form_lists::{Lists, bodies_of, segments_of};
 use wasm_spec::ValType;
 
-/// Whether bodies, data segments and locals are as many as they are said or allowed to be.
+/// Whether bodies, data segments and locals are as many as is stated or allowed.
 pub fn counts_agree(lists: &Lists<'_, '_>) -> bool
     ensures { IsTrue result ↔ CountsAgree (lists_of lists.now) }
 {
@@ -42,7 +42,7 @@ fn has_bodies(lists: &Lists<'_, '_>, count: usize) -> bool
     left == 0
 }
 
-/// Whether each number of data segments that is said is the number of data segments.
+/// Whether each stated number of data segments is the number of data segments.
 fn data_counts_hold(lists: &Lists<'_, '_>) -> bool
     ensures { IsTrue result
         ↔ All (λ count. count ≡ length (segments (module_of lists.now.form.now)))

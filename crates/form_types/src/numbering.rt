@@ -1,4 +1,4 @@
-//! The list of types of a module, and what can be asked of it.
+//! The list of types of a module, and look-ups in it.
 
 ghost use Rattle.std.specs.Prelude.{◌≡◌, ◌<◌, length, slice_get, slice_index, Some};
 ghost use Rattle.form_data.specs.Views.{sub_type_of};

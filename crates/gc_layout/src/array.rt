@@ -39,21 +39,21 @@ impl GcArrayLayout {
         }
     }
 
-    /// The bytes of an array of some length; None exactly where they pass `u32::MAX`.
+    /// The bytes of an array of `len` elements; `None` exactly where they pass `u32::MAX`.
     pub fn size_for_len(&self, len: u32) -> Option<u32>
         ensures { let size = self.now.base_size + len * self.now.elem_size in SomeIff result (size < 2 ^ 32) size }
     {
         self.elem_offset(len)
     }
 
-    /// The offset of the element at a place; None exactly where it passes `u32::MAX`.
+    /// The offset of the element at a place, in bytes; `None` exactly where it passes `u32::MAX`.
     pub fn elem_offset(&self, i: u32) -> Option<u32>
         ensures { let offset = self.now.base_size + i * self.now.elem_size in SomeIff result (offset < 2 ^ 32) offset }
     {
         self.base_size.checked_add(i.checked_mul(self.elem_size)?)
     }
 
-    /// The size and the alignment of an array of some length; None exactly where the size passes `u32::MAX`, or the
+    /// The size and the alignment of an array of `len` elements; `None` exactly where the size passes `u32::MAX`, or the
     /// alignment is no power of two.
     pub fn layout(&self, len: u32) -> Option<Layout>
         ensures { let size = self.now.base_size + len * self.now.elem_size in

@@ -194,7 +194,7 @@ SameButHints old new = new ≡ record old { private_parts = record old.private_p
 abbrev pub SameButSegments : ModuleTranslation → ModuleTranslation → Type 0
 SameButSegments old new = new ≡ record old { memory_init = new.memory_init }
 
--- no name, and nothing of the functions' source
+-- no name, and no metadata of functions
 pub record TellsNothing (d : DebugInfoData) : Type 0 where
   pub no_name : d.name_section.module_name ≡ None
   pub no_functions : d.name_section.func_names.entries ≡ []

@@ -89,7 +89,7 @@ impl ModuleTranslation<'_> {
         // After an error the builder is as it was, or poisoned.
         ensures refused { OnErr result ((types.new ≡ types.old) ⊎ (types.new.is_poisoned ≡ true)) }
     {
-        // The plan asks nothing of the builder.
+        // The plan does not use the builder.
         match self.plan_memories(alloc, tunables, page_size, max_image) {
             Ok(()) => {}
             Err(PlanError::TooLarge) => return Err(PlanError::TooLarge),

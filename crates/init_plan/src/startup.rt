@@ -1,4 +1,4 @@
-//! Startup: what is left to be done when a module is instantiated asks for a function, and so for its type.
+//! Startup: what is left to be done when a module is instantiated needs a function, and so its type.
 
 ghost use Rattle.std.specs.Prelude.{◌≡◌, ◌↔◌, ◌<◌, length, true, false, Err, IfOk, OnOk, OnErr};
 ghost use Rattle.wasm_index.specs.Index.{index_of};

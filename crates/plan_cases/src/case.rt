@@ -69,7 +69,7 @@ pub struct DataBytes {
 #[derive(Drop)]
 pub struct Expected {
     pub status: u64,
-    /// The text that is written, and whether the whole of it is said.
+    /// The text that is written, and whether the case gives the whole of it.
     pub text: String,
     pub is_text_said: bool,
     /// Lines that the text has.
@@ -78,7 +78,7 @@ pub struct Expected {
     pub counts: Vec<LineCount>,
     /// What the plan's runtime data are.
     pub data: Vec<DataBytes>,
-    /// How many bytes are read, where that is said.
+    /// How many bytes are read, where the case says.
     pub read: Option<u64>,
 }
 

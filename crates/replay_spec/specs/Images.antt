@@ -149,7 +149,7 @@ entries_of memory (None ∷ images) = entries_of (memory + 1) images
 entries_of memory (Some image ∷ images) =
     record { memory = memory; offset = Static image.0; index = image.1 } ∷ entries_of (memory + 1) images
 
--- the bytes of the images
+-- the bytes of each image that there is, in the order of the memories
 abbrev pub image_bytes : List (Option MemoryImage) → List (List ℕ)
 image_bytes [] = []
 image_bytes (None ∷ images) = image_bytes images

@@ -6,7 +6,7 @@ use devices::{Failed, Sink, Source};
 use std::io::{Read, Write};
 use std::marker::Model;
 
-/// A source over a reader. It tells nothing of the bytes, and means how many reads failed.
+/// A source over a reader. It tells nothing of the bytes; a contract sees how many reads failed.
 #[derive(Drop)]
 pub struct StdSource<R: Read + Drop> {
     reader: R,
@@ -46,7 +46,7 @@ impl<R: Read + Drop> Source for StdSource<R> {
     }
 }
 
-/// A sink over a writer. It tells nothing of the bytes, and means how many writes failed.
+/// A sink over a writer. It tells nothing of the bytes; a contract sees how many writes failed.
 #[derive(Drop)]
 pub struct StdSink<W: Write + Drop> {
     writer: W,

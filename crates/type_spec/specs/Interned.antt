@@ -128,7 +128,6 @@ opened b ts = record b {
 abbrev pub with_group : Built → List Interned → Built
 with_group b ts = assign_trampolines (opened b ts) (length b.types) ts
 
--- the kind of a type
 abbrev pub kind_of_type : {H R : Type 0} → Composite H R → NameKind
 kind_of_type (Func f) = FuncName
 kind_of_type (Array f) = ArrayName
