@@ -142,7 +142,7 @@ fn segments<'d>(alloc: Global, bytes: &'d [u8]) -> Result<(Payload<'d>, &'d [u8]
     Ok((Payload::Segments(segments), rest))
 }
 
-/// What follows the id of a section that is no custom one; it stands at `place`.
+/// What follows the id of a section that is not a custom one; it stands at `place`.
 #[tactic(auto, unfolding(crate::specs::ReadingSections::section_contents_at))]
 pub fn section_contents<'d>(
     alloc: Global,

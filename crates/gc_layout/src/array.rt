@@ -54,7 +54,7 @@ impl GcArrayLayout {
     }
 
     /// The size and the alignment of an array of `len` elements; `None` exactly where the size passes `u32::MAX`, or the
-    /// alignment is no power of two.
+    /// alignment is not a power of two.
     pub fn layout(&self, len: u32) -> Option<Layout>
         ensures { let size = self.now.base_size + len * self.now.elem_size in
             SomeIff result ((size < 2 ^ 32) × IsPowerOfTwo self.now.align) (record { size = size; align = self.now.align }) }

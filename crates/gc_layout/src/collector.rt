@@ -37,7 +37,7 @@ pub trait GcTypeLayouts {
     /// in the heap.
     ///
     /// # Errors
-    /// `OffsetOverflow` exactly where the size passes `u32::MAX`, unless memory ends first.
+    /// `OffsetOverflow` exactly where the size passes `u32::MAX`, unless memory runs out first.
     fn gc_layout(
         &self,
         alloc: Global,
@@ -66,7 +66,7 @@ pub trait GcTypeLayouts {
     /// The layout of the structs of a type.
     ///
     /// # Errors
-    /// `OffsetOverflow` exactly where the size passes `u32::MAX`, unless memory ends first.
+    /// `OffsetOverflow` exactly where the size passes `u32::MAX`, unless memory runs out first.
     fn struct_layout(
         &self,
         alloc: Global,
@@ -84,7 +84,7 @@ pub trait GcTypeLayouts {
     /// The layout of the exceptions of a type.
     ///
     /// # Errors
-    /// `OffsetOverflow` exactly where the size passes `u32::MAX`, unless memory ends first.
+    /// `OffsetOverflow` exactly where the size passes `u32::MAX`, unless memory runs out first.
     fn exn_layout(&self, alloc: Global, ty: &WasmExnType) -> Result<GcStructLayout, LayoutError>
         ensures exact { IfOk result (λ layout. layout ≡ exn_layout_of header_size ty.now) }
         ensures fits { OnOk result ((exn_layout_of header_size ty.now).size ≤ 4294967295) }

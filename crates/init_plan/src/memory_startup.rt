@@ -40,7 +40,7 @@ impl ModuleTranslation<'_> {
         requires page_size { IsPowerOfTwo page_size }
         requires room { types.old.is_poisoned ≡ false → length (starts (builder_view types.old)).built.types < u32.MAX }
 
-        // The plan is that of the definitions: images alone where the image rule holds, and else every segment, in order.
+        // The plan is that of the definitions: images alone where the image rule holds, and otherwise every segment, in order.
         ensures planned { OnOk result (IsMemoryPlan (image_options tunables.now page_size max_image) self.old.module.num_imported_memories
             (image_memories self.old.module) (initializers_of self.old) (passive_bytes self.old) (memory_plan_of self.new)) }
         ensures begins { OnOk result (BeginsByRule (image_options tunables.now page_size max_image) self.old self.new) }

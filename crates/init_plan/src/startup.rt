@@ -13,7 +13,7 @@ use wasm_module::ModuleStartup;
 use wasm_types::EngineOrModuleTypeIndex;
 
 impl ModuleTranslation<'_> {
-    /// The module needs a startup function that always runs. A type of startup that stands is kept; else the builder gives it.
+    /// The module needs a startup function that always runs. A type of startup that stands is kept; otherwise the builder gives it.
     ///
     /// # Errors
     /// `Poisoned` where the builder is, and `OutOfMemory`, after which it is.

@@ -33,7 +33,7 @@ fn push_type(bytes: &mut Vec<u8>, k: u32) -> Result<(), OutOfMemory>
     Ok(())
 }
 
-/// The type of a parameter: `i64` where the digit of half of `k` is 1, else `i32`.
+/// The type of a parameter: `i64` where binary digit `j` of half of `k` is 1, otherwise `i32`.
 #[tactic(auto, unfolding(crate::specs::Generated::parameter))]
 fn parameter_type(k: u32, j: u32) -> u8
     requires { j < 16 }

@@ -77,7 +77,7 @@ abbrev pub interns_by : Builder → ℕ → List Interned → Option ℕ → Bui
 interns_by b id ts (Some k) = b
 interns_by b id ts None = record b { built = with_group b.built ts; ids = noted b.ids id (length b.built.groups) }
 
--- where the id is held nothing changes, and else the group is appended with its missing trampolines
+-- where the id is held nothing changes, and otherwise the group is appended with its missing trampolines
 abbrev pub interns : Builder → ℕ → List Interned → Builder
 interns b id ts = interns_by b id ts (b.ids id)
 

@@ -2,7 +2,7 @@
 
 use std::alloc::{AllocError, Global};
 
-/// Why lines are no case.
+/// Why lines are not a case.
 #[derive(Clone, Copy)]
 pub enum CaseError {
     OutOfMemory,
@@ -10,13 +10,13 @@ pub enum CaseError {
     UnknownLine,
     /// A line stands before the name, or there is a second name.
     Name,
-    /// A piece is no byte of two hexadecimal digits, no text in quotes and no run of bytes.
+    /// A piece is neither bytes of two hexadecimal digits each, nor text in quotes, nor a run of bytes.
     UnknownPiece,
-    /// A number is missing, is none, or is out of its range.
+    /// A number is missing, is not a number, or is out of its range.
     NoNumber,
 }
 
-/// What is printed of an error.
+/// The words that are printed for an error.
 pub fn words_of_error(error: CaseError) -> &'static str {
     match error {
         CaseError::OutOfMemory => "out of memory",
@@ -117,7 +117,7 @@ fn plain_expected(alloc: Global) -> Expected {
     }
 }
 
-/// The case of no line.
+/// The case without lines.
 pub fn empty_case(alloc: Global) -> Result<Box<Case>, AllocError> {
     let case = Case {
         name: String::new(alloc),

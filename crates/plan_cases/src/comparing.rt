@@ -13,7 +13,7 @@ pub enum Difference<'a> {
     Line(&'a str),
     /// Another number of lines begins with these words.
     Count(&'a LineCount),
-    /// The runtime data of this number are others.
+    /// The runtime data of this number differ.
     Data(u64),
 }
 
@@ -65,7 +65,7 @@ fn wrong_count<'a>(counts: &'a [LineCount], text: &str) -> Option<Difference<'a>
     None
 }
 
-/// The first of the data that are others.
+/// The first of the runtime data that differ.
 fn wrong_data<'a>(wanted: &'a [DataBytes], data: &[Vec<u8>]) -> Option<Difference<'a>> {
     for one in wanted {
         match data.get(one.place as usize) {
@@ -76,7 +76,7 @@ fn wrong_data<'a>(wanted: &'a [DataBytes], data: &[Vec<u8>]) -> Option<Differenc
     None
 }
 
-/// What differs of the status, of the bytes that were read and of the whole text.
+/// The difference in the status, in how many bytes were read or in the whole text.
 fn wrong_end<'a>(expected: &'a Expected, outcome: &Outcome) -> Option<Difference<'a>> {
     if u64::from(outcome.status) != expected.status {
         return Some(Difference::Status(expected.status));
@@ -92,7 +92,7 @@ fn wrong_end<'a>(expected: &'a Expected, outcome: &Outcome) -> Option<Difference
     None
 }
 
-/// What the text holds; nothing where it is no text.
+/// The text that was written; empty where the bytes are not text.
 pub fn text_of(outcome: &Outcome) -> &str {
     str::from_utf8(outcome.text.as_slice()).unwrap_or("")
 }
