@@ -64,11 +64,11 @@ passive_data_of t = map passive_segment_of t.private_parts.passive_data.items
 abbrev pub types_of : ModuleTranslation → Option TypesData
 types_of t = t.private_parts.types
 
--- the hints of each function that has an entry, by its index
+-- the branch hints of each function that has an entry, by its index
 abbrev pub hint_entries_of : ModuleTranslation → List (ℕ × List BranchHint)
 hint_entries_of t = map (λ e. (number_of e.0, e.1.items)) t.private_parts.branch_hints.entries
 
--- the hints of a function
+-- the branch hints of a function
 abbrev pub hints_of : ModuleTranslation → ℕ → Option (List BranchHint)
 hints_of t function = option_map (λ hints. hints.items) (lookup (λ index. nat_eq function (number_of index)) t.private_parts.branch_hints.entries)
 

@@ -165,7 +165,7 @@ impl<'d> ModuleTranslation<'d> {
         self.private_parts.types = Some(types);
     }
 
-    /// The hints of a function's branches, in order; none where no entry of it stands.
+    /// The branch hints of a function, in order; `None` where it has no entry.
     pub fn branch_hints(&self, func: FuncIndex) -> Option<&[BranchHint]>
         ensures { option_map (λ hints. hints.now) result ≡ hints_of self.now (number_of func) }
     {

@@ -1,4 +1,4 @@
-//! The hints at branches that a module's sections of hints give.
+//! The branch hints that a module's sections of hints give.
 
 ghost use Rattle.std.specs.Prelude.{◌≡◌, ◌++◌, ◌∷◌, [], map, unwrap_or, IfOk, OnOk};
 ghost use Rattle.std.specs.Option.{option_map};
