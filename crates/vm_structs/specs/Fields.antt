@@ -1,6 +1,7 @@
 -- How the fields of a struct are laid out. All numbers are bytes.
-use Rattle.std.specs.Prelude.{◌≡◌, ◌⊎◌, ℕ, ◌+◌, List, [], ◌∷◌, max, if◌then◌else◌}
+use Rattle.std.specs.Prelude.{◌≡◌, ◌⊎◌, ℕ, ◌+◌, List, [], ◌∷◌, max, Option, None, Some, if◌then◌else◌}
 use Rattle.std.specs.Int.{next_multiple_of}
+use Rattle.std.specs.Option.{option_map, option_and_then}
 use Rattle.std.specs.Str.{bytes_eq}
 
 -- a pointer has 4 or 8 bytes
@@ -13,13 +14,13 @@ pub record Field : Type 0 where
   pub size : ℕ
   pub align : ℕ
 
--- where the field of a name begins: a field begins at the least multiple of its alignment that is not before the end
--- of the field before it, here at
-abbrev pub offset_from : ℕ → List Field → List ℕ → ℕ
-offset_from at [] name = at
+-- where the field of a name begins, if there is one: a field begins at the least multiple of its alignment that is not
+-- before the end of the field before it, here at
+abbrev pub offset_from : ℕ → List Field → List ℕ → Option ℕ
+offset_from at [] name = None
 offset_from at (field ∷ fields) name =
     if bytes_eq field.name name
-    then next_multiple_of at field.align
+    then Some (next_multiple_of at field.align)
     else offset_from (next_multiple_of at field.align + field.size) fields name
 
 -- where the last field ends
@@ -34,9 +35,14 @@ greatest_align (field ∷ fields) = max field.align (greatest_align fields)
 
 -- The same of a struct, which is a list of fields at each size of pointers.
 
--- where the field of a name begins
-abbrev pub offset_of : (ℕ → List Field) → List ℕ → ℕ → ℕ
+-- where the field of a name begins, if there is one
+abbrev pub offset_of : (ℕ → List Field) → List ℕ → ℕ → Option ℕ
 offset_of struct name pointer = offset_from 0 (struct pointer) name
+
+-- where a field of the struct begins that is itself a field of another, from the start of that other one
+abbrev pub inner_offset_of : (ℕ → List Field) → List ℕ → (ℕ → List Field) → List ℕ → ℕ → Option ℕ
+inner_offset_of outer outer_name inner name pointer =
+    option_and_then (λ begin. option_map (λ offset. begin + offset) (offset_of inner name pointer)) (offset_of outer outer_name pointer)
 
 -- where the last field ends
 abbrev pub end_of : (ℕ → List Field) → ℕ → ℕ

@@ -1,6 +1,6 @@
 //! What an instance defines. Each offset and size is in bytes.
 
-ghost use Rattle.std.specs.Prelude.{◌≡◌, codes};
+ghost use Rattle.std.specs.Prelude.{◌≡◌, codes, Some};
 ghost use Rattle.vm_structs.specs.Fields.{IsPointerSize, offset_of, align_of, size_of};
 ghost use Rattle.vm_structs.specs.Structs.{memory_definition, table_definition, global_definition, tag_definition, func_ref};
 
@@ -14,7 +14,7 @@ impl<P: PtrSize> VMMemoryDefinition<P> {
     /// Where the pointer to the first byte begins.
     pub fn base(&self) -> u8
         requires { IsPointerSize (P.pointer_size self.now.0) }
-        ensures { result ≡ offset_of memory_definition (codes "base") (P.pointer_size self.now.0) }
+        ensures { offset_of memory_definition (codes "base") (P.pointer_size self.now.0) ≡ Some result }
     {
         0
     }
@@ -22,7 +22,7 @@ impl<P: PtrSize> VMMemoryDefinition<P> {
     /// Where the number of bytes begins.
     pub fn current_length(&self) -> u8
         requires { IsPointerSize (P.pointer_size self.now.0) }
-        ensures { result ≡ offset_of memory_definition (codes "current_length") (P.pointer_size self.now.0) }
+        ensures { offset_of memory_definition (codes "current_length") (P.pointer_size self.now.0) ≡ Some result }
     {
         self.0.size()
     }
@@ -52,7 +52,7 @@ impl<P: PtrSize> VMTableDefinition<P> {
     /// Where the pointer to the first element begins.
     pub fn base(&self) -> u8
         requires { IsPointerSize (P.pointer_size self.now.0) }
-        ensures { result ≡ offset_of table_definition (codes "base") (P.pointer_size self.now.0) }
+        ensures { offset_of table_definition (codes "base") (P.pointer_size self.now.0) ≡ Some result }
     {
         0
     }
@@ -60,7 +60,7 @@ impl<P: PtrSize> VMTableDefinition<P> {
     /// Where the number of elements begins.
     pub fn current_elements(&self) -> u8
         requires { IsPointerSize (P.pointer_size self.now.0) }
-        ensures { result ≡ offset_of table_definition (codes "current_elements") (P.pointer_size self.now.0) }
+        ensures { offset_of table_definition (codes "current_elements") (P.pointer_size self.now.0) ≡ Some result }
     {
         self.0.size()
     }
@@ -90,7 +90,7 @@ impl<P: PtrSize> VMGlobalDefinition<P> {
     /// Where the value begins.
     pub fn storage(&self) -> u8
         requires { IsPointerSize (P.pointer_size self.now.0) }
-        ensures { result ≡ offset_of global_definition (codes "storage") (P.pointer_size self.now.0) }
+        ensures { offset_of global_definition (codes "storage") (P.pointer_size self.now.0) ≡ Some result }
     {
         0
     }
@@ -120,7 +120,7 @@ impl<P: PtrSize> VMTagDefinition<P> {
     /// Where the index of the type begins.
     pub fn type_index(&self) -> u8
         requires { IsPointerSize (P.pointer_size self.now.0) }
-        ensures { result ≡ offset_of tag_definition (codes "type_index") (P.pointer_size self.now.0) }
+        ensures { offset_of tag_definition (codes "type_index") (P.pointer_size self.now.0) ≡ Some result }
     {
         0
     }
@@ -150,7 +150,7 @@ impl<P: PtrSize> VMFuncRef<P> {
     /// Where the pointer to the code for calls with an array of values begins.
     pub fn array_call(&self) -> u8
         requires { IsPointerSize (P.pointer_size self.now.0) }
-        ensures { result ≡ offset_of func_ref (codes "array_call") (P.pointer_size self.now.0) }
+        ensures { offset_of func_ref (codes "array_call") (P.pointer_size self.now.0) ≡ Some result }
     {
         0
     }
@@ -158,7 +158,7 @@ impl<P: PtrSize> VMFuncRef<P> {
     /// Where the pointer to the code for calls from WebAssembly begins.
     pub fn wasm_call(&self) -> u8
         requires { IsPointerSize (P.pointer_size self.now.0) }
-        ensures { result ≡ offset_of func_ref (codes "wasm_call") (P.pointer_size self.now.0) }
+        ensures { offset_of func_ref (codes "wasm_call") (P.pointer_size self.now.0) ≡ Some result }
     {
         self.0.size()
     }
@@ -166,7 +166,7 @@ impl<P: PtrSize> VMFuncRef<P> {
     /// Where the index of the type begins.
     pub fn type_index(&self) -> u8
         requires { IsPointerSize (P.pointer_size self.now.0) }
-        ensures { result ≡ offset_of func_ref (codes "type_index") (P.pointer_size self.now.0) }
+        ensures { offset_of func_ref (codes "type_index") (P.pointer_size self.now.0) ≡ Some result }
     {
         2 * self.0.size()
     }
@@ -174,7 +174,7 @@ impl<P: PtrSize> VMFuncRef<P> {
     /// Where the pointer to the context that the function is called with begins.
     pub fn vmctx(&self) -> u8
         requires { IsPointerSize (P.pointer_size self.now.0) }
-        ensures { result ≡ offset_of func_ref (codes "vmctx") (P.pointer_size self.now.0) }
+        ensures { offset_of func_ref (codes "vmctx") (P.pointer_size self.now.0) ≡ Some result }
     {
         3 * self.0.size()
     }

@@ -1,6 +1,6 @@
 //! What an instance imports. Each offset and size is in bytes.
 
-ghost use Rattle.std.specs.Prelude.{◌≡◌, codes};
+ghost use Rattle.std.specs.Prelude.{◌≡◌, codes, Some};
 ghost use Rattle.vm_structs.specs.Fields.{IsPointerSize, offset_of, align_of, size_of};
 ghost use Rattle.vm_structs.specs.Structs.{function_import, table_import, memory_import, tag_import, global_import};
 
@@ -14,7 +14,7 @@ impl<P: PtrSize> VMFunctionImport<P> {
     /// Where the pointer to the code for calls from WebAssembly begins.
     pub fn wasm_call(&self) -> u8
         requires { IsPointerSize (P.pointer_size self.now.0) }
-        ensures { result ≡ offset_of function_import (codes "wasm_call") (P.pointer_size self.now.0) }
+        ensures { offset_of function_import (codes "wasm_call") (P.pointer_size self.now.0) ≡ Some result }
     {
         0
     }
@@ -22,7 +22,7 @@ impl<P: PtrSize> VMFunctionImport<P> {
     /// Where the pointer to the code for calls with an array of values begins.
     pub fn array_call(&self) -> u8
         requires { IsPointerSize (P.pointer_size self.now.0) }
-        ensures { result ≡ offset_of function_import (codes "array_call") (P.pointer_size self.now.0) }
+        ensures { offset_of function_import (codes "array_call") (P.pointer_size self.now.0) ≡ Some result }
     {
         self.0.size()
     }
@@ -30,7 +30,7 @@ impl<P: PtrSize> VMFunctionImport<P> {
     /// Where the pointer to the context that the function is called with begins.
     pub fn vmctx(&self) -> u8
         requires { IsPointerSize (P.pointer_size self.now.0) }
-        ensures { result ≡ offset_of function_import (codes "vmctx") (P.pointer_size self.now.0) }
+        ensures { offset_of function_import (codes "vmctx") (P.pointer_size self.now.0) ≡ Some result }
     {
         2 * self.0.size()
     }
@@ -60,7 +60,7 @@ impl<P: PtrSize> VMTableImport<P> {
     /// Where the pointer to the table begins.
     pub fn from(&self) -> u8
         requires { IsPointerSize (P.pointer_size self.now.0) }
-        ensures { result ≡ offset_of table_import (codes "from") (P.pointer_size self.now.0) }
+        ensures { offset_of table_import (codes "from") (P.pointer_size self.now.0) ≡ Some result }
     {
         0
     }
@@ -68,7 +68,7 @@ impl<P: PtrSize> VMTableImport<P> {
     /// Where the pointer to the context that defines the table begins.
     pub fn vmctx(&self) -> u8
         requires { IsPointerSize (P.pointer_size self.now.0) }
-        ensures { result ≡ offset_of table_import (codes "vmctx") (P.pointer_size self.now.0) }
+        ensures { offset_of table_import (codes "vmctx") (P.pointer_size self.now.0) ≡ Some result }
     {
         self.0.size()
     }
@@ -76,7 +76,7 @@ impl<P: PtrSize> VMTableImport<P> {
     /// Where the index of the table in the context that defines it begins.
     pub fn index(&self) -> u8
         requires { IsPointerSize (P.pointer_size self.now.0) }
-        ensures { result ≡ offset_of table_import (codes "index") (P.pointer_size self.now.0) }
+        ensures { offset_of table_import (codes "index") (P.pointer_size self.now.0) ≡ Some result }
     {
         2 * self.0.size()
     }
@@ -106,7 +106,7 @@ impl<P: PtrSize> VMMemoryImport<P> {
     /// Where the pointer to the memory begins.
     pub fn from(&self) -> u8
         requires { IsPointerSize (P.pointer_size self.now.0) }
-        ensures { result ≡ offset_of memory_import (codes "from") (P.pointer_size self.now.0) }
+        ensures { offset_of memory_import (codes "from") (P.pointer_size self.now.0) ≡ Some result }
     {
         0
     }
@@ -114,7 +114,7 @@ impl<P: PtrSize> VMMemoryImport<P> {
     /// Where the pointer to the context that defines the memory begins.
     pub fn vmctx(&self) -> u8
         requires { IsPointerSize (P.pointer_size self.now.0) }
-        ensures { result ≡ offset_of memory_import (codes "vmctx") (P.pointer_size self.now.0) }
+        ensures { offset_of memory_import (codes "vmctx") (P.pointer_size self.now.0) ≡ Some result }
     {
         self.0.size()
     }
@@ -122,7 +122,7 @@ impl<P: PtrSize> VMMemoryImport<P> {
     /// Where the index of the memory in the context that defines it begins.
     pub fn index(&self) -> u8
         requires { IsPointerSize (P.pointer_size self.now.0) }
-        ensures { result ≡ offset_of memory_import (codes "index") (P.pointer_size self.now.0) }
+        ensures { offset_of memory_import (codes "index") (P.pointer_size self.now.0) ≡ Some result }
     {
         2 * self.0.size()
     }
@@ -152,7 +152,7 @@ impl<P: PtrSize> VMTagImport<P> {
     /// Where the pointer to the tag begins.
     pub fn from(&self) -> u8
         requires { IsPointerSize (P.pointer_size self.now.0) }
-        ensures { result ≡ offset_of tag_import (codes "from") (P.pointer_size self.now.0) }
+        ensures { offset_of tag_import (codes "from") (P.pointer_size self.now.0) ≡ Some result }
     {
         0
     }
@@ -160,7 +160,7 @@ impl<P: PtrSize> VMTagImport<P> {
     /// Where the pointer to the context that defines the tag begins.
     pub fn vmctx(&self) -> u8
         requires { IsPointerSize (P.pointer_size self.now.0) }
-        ensures { result ≡ offset_of tag_import (codes "vmctx") (P.pointer_size self.now.0) }
+        ensures { offset_of tag_import (codes "vmctx") (P.pointer_size self.now.0) ≡ Some result }
     {
         self.0.size()
     }
@@ -168,7 +168,7 @@ impl<P: PtrSize> VMTagImport<P> {
     /// Where the index of the tag in the context that defines it begins.
     pub fn index(&self) -> u8
         requires { IsPointerSize (P.pointer_size self.now.0) }
-        ensures { result ≡ offset_of tag_import (codes "index") (P.pointer_size self.now.0) }
+        ensures { offset_of tag_import (codes "index") (P.pointer_size self.now.0) ≡ Some result }
     {
         2 * self.0.size()
     }
@@ -198,7 +198,7 @@ impl<P: PtrSize> VMGlobalImport<P> {
     /// Where the pointer to the global begins.
     pub fn from(&self) -> u8
         requires { IsPointerSize (P.pointer_size self.now.0) }
-        ensures { result ≡ offset_of global_import (codes "from") (P.pointer_size self.now.0) }
+        ensures { offset_of global_import (codes "from") (P.pointer_size self.now.0) ≡ Some result }
     {
         0
     }
@@ -206,7 +206,7 @@ impl<P: PtrSize> VMGlobalImport<P> {
     /// Where the pointer to the context that defines the global begins.
     pub fn vmctx(&self) -> u8
         requires { IsPointerSize (P.pointer_size self.now.0) }
-        ensures { result ≡ offset_of global_import (codes "vmctx") (P.pointer_size self.now.0) }
+        ensures { offset_of global_import (codes "vmctx") (P.pointer_size self.now.0) ≡ Some result }
     {
         self.0.size()
     }
@@ -214,7 +214,7 @@ impl<P: PtrSize> VMGlobalImport<P> {
     /// Where the kind of the global begins.
     pub fn kind(&self) -> u8
         requires { IsPointerSize (P.pointer_size self.now.0) }
-        ensures { result ≡ offset_of global_import (codes "kind") (P.pointer_size self.now.0) }
+        ensures { offset_of global_import (codes "kind") (P.pointer_size self.now.0) ≡ Some result }
     {
         2 * self.0.size()
     }
