@@ -1,13 +1,17 @@
 -- Entries that are kept, place by place.
-use Rattle.std.proofs.Common.{◌≡◌, ℕ, List, get_or, sym, ap, ◌∙◌}
-use Rattle.std.proofs.Math.ListN.{get_or-map}
+use Rattle.std.proofs.Common.{◌≡◌, ℕ, ◌<◌, List, length, Some, sym, ap, ◌∙◌}
+use Rattle.std.specs.Prelude.{slice_get}
+use Rattle.std.specs.Option.{option_map}
+use Rattle.std.proofs.lemmas.Option.{slice_get-map, slice_get-get_or}
+use Rattle.std.proofs.Math.ListN.{get_or}
 use Rattle.vm_offsets.specs.declared.table.Entry.{Entry}
-use Rattle.vm_offsets.specs.Context.{Placed, no_entry}
+use Rattle.vm_offsets.specs.Context.{Placed}
 use Rattle.vm_offsets.specs.Entries.{KeepsEntries, kept_extent, placed_extent}
 
-pub kept_at : (kept : List Entry) (placed : List Placed) (i : ℕ) → KeepsEntries kept placed
-    → kept_extent (get_or kept i (record { begin = 0; stride = 0; count = 0 })) ≡ placed_extent (get_or placed i no_entry)
-kept_at kept placed i same =
-    sym (get_or-map kept_extent kept i (record { begin = 0; stride = 0; count = 0 }))
-    ∙ ap (λ extents. get_or extents i (0, 0, 0)) same
-    ∙ get_or-map placed_extent placed i no_entry
+pub kept_at : (kept : List Entry) (placed : List Placed) (i : ℕ) → KeepsEntries kept placed → i < length kept
+    → option_map placed_extent (slice_get placed i) ≡ Some (kept_extent (get_or kept i (record { begin = 0; stride = 0; count = 0 })))
+kept_at kept placed i same below =
+    sym (slice_get-map placed_extent placed i)
+    ∙ ap (λ (extents : List (ℕ × ℕ × ℕ)). slice_get extents i) (sym same)
+    ∙ slice_get-map kept_extent kept i
+    ∙ ap (option_map kept_extent) (slice_get-get_or kept i (record { begin = 0; stride = 0; count = 0 }) below)

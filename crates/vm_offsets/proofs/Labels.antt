@@ -1,5 +1,5 @@
 -- Regions by their labels: the descriptions and the first bytes of their entries.
-use Rattle.std.proofs.Common.{◌≡◌, ℕ, ◌+◌, ◌-◌, ◌≤◌, List, [], ◌∷◌, ◌++◌, map, reverse, arith, refl, ap, sym, ◌∙◌}
+use Rattle.std.proofs.Common.{◌≡◌, ℕ, ◌+◌, ◌-◌, ◌≤◌, List, [], ◌∷◌, ◌++◌, map, reverse, Some, arith, refl, ap, sym, ◌∙◌}
 use Rattle.std.specs.Prelude.{⊤, sum_by}
 use Rattle.std.proofs.lemmas.List.{map-append, reverse-append}
 use Rattle.std.proofs.lemmas.List.Sums.{sum_by-cons}
@@ -64,7 +64,7 @@ sum_by-labelled end (l ∷ ls) falls =
     omega (arith, falls.0, others, first)
 
 -- one more label
-pub next_label : {d e : List ℕ} {b a : ℕ} {ls ms : List (List ℕ × ℕ)} → d ≡ e → b ≡ a → ls ≡ ms → (d, b) ∷ ls ≡ (e, a) ∷ ms
+pub next_label : {d e : List ℕ} {b a : ℕ} {ls ms : List (List ℕ × ℕ)} → d ≡ e → Some a ≡ Some b → ls ≡ ms → (d, b) ∷ ls ≡ (e, a) ∷ ms
 next_label same begins others = cc
 
 -- parts by their labels

@@ -1,5 +1,5 @@
 -- The layout of an instance's context. All numbers but counts are bytes.
-use Rattle.std.specs.Prelude.{ℕ, ◌+◌, ◌*◌, List, [], ◌∷◌, codes, if◌then◌else◌}
+use Rattle.std.specs.Prelude.{ℕ, ◌+◌, ◌*◌, List, [], ◌∷◌, codes, Option, None, Some, if◌then◌else◌}
 use Rattle.std.specs.Int.{next_multiple_of}
 use Rattle.std.specs.Str.{bytes_eq}
 use Rattle.vm_structs.specs.Fields.{size_of, end_of}
@@ -66,12 +66,8 @@ context_entries pointer c = placed_from (end_of static_context pointer) (context
 unfoldable pub context_size : {P : Type 0} → ℕ → VMOffsetsFields P → ℕ
 context_size pointer c = end_from (end_of static_context pointer) (context_table pointer c)
 
--- stands for an entry that is not there
-abbrev pub no_entry : Placed
-no_entry = record { description = []; begin = 0; stride = 0; count = 0 }
-
--- the entry of a description among these
-abbrev pub entry_named : List ℕ → List Placed → Placed
-entry_named description [] = no_entry
+-- the entry of a description among these, if there is one
+abbrev pub entry_named : List ℕ → List Placed → Option Placed
+entry_named description [] = None
 entry_named description (placed ∷ others) =
-    if bytes_eq placed.description description then placed else entry_named description others
+    if bytes_eq placed.description description then Some placed else entry_named description others

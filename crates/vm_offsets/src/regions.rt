@@ -1,8 +1,8 @@
 //! The regions of a context.
 
-ghost use Rattle.std.specs.Prelude.{◌≡◌, ◌<◌, ◌∷◌, map, reverse, slice_index_or};
+ghost use Rattle.std.specs.Prelude.{◌≡◌, ◌<◌, ◌∷◌, map, reverse, slice_get, Some};
+ghost use Rattle.std.specs.Option.{option_map};
 ghost use Rattle.std.specs.Iterator.{YieldsFirstBy, item_count};
-ghost use Rattle.vm_offsets.specs.Context.{no_entry};
 ghost use Rattle.vm_offsets.specs.Falls.{part_label, entry_label};
 ghost use Rattle.vm_offsets.specs.Layouts.{fields_of, pointer_of, entries_of};
 ghost use Rattle.vm_offsets.specs.Regions.{context_regions, static_part};
@@ -58,7 +58,7 @@ impl<P: PtrSize> VMOffsets<P> {
     fn part(&self, description: &'static str, place: usize) -> ContextPart
         requires { place < 14 }
         ensures description { result.description.now ≡ description.now }
-        ensures begin { result.begin ≡ (slice_index_or (entries_of self.now) place no_entry).begin }
+        ensures begin { option_map (λ placed. placed.begin) (slice_get (entries_of self.now) place) ≡ Some result.begin }
     {
         ContextPart {
             description,

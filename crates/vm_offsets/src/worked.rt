@@ -1,14 +1,18 @@
 //! Worked examples of the definitions: each clause computes.
 
-ghost use Rattle.std.specs.Prelude.{◌≡◌, [], ◌∷◌, codes, map, reverse};
+ghost use Rattle.std.specs.Prelude.{◌≡◌, [], ◌∷◌, codes, map, reverse, Some, None};
+ghost use Rattle.std.specs.Option.{option_map};
 ghost use Rattle.vm_offsets.specs.Context.{align, entry, placed_from, end_from, entry_named, context_entries, context_size, context_table};
 ghost use Rattle.vm_offsets.specs.Regions.{regions_back, context_regions};
 ghost use Rattle.vm_offsets.specs.Examples.{empty_module, linked_program};
 
 /// A table of two entries with a step between them. What the step skips counts in the region of the first.
 pub fn worked_table()
-    ensures first { (entry_named (codes "a") (placed_from 48 (entry (codes "a") 3 4 ∷ align 8 ∷ entry (codes "b") 1 8 ∷ []))).begin ≡ 48 }
-    ensures second { (entry_named (codes "b") (placed_from 48 (entry (codes "a") 3 4 ∷ align 8 ∷ entry (codes "b") 1 8 ∷ []))).begin ≡ 64 }
+    ensures first { option_map (λ placed. placed.begin) (entry_named (codes "a")
+        (placed_from 48 (entry (codes "a") 3 4 ∷ align 8 ∷ entry (codes "b") 1 8 ∷ []))) ≡ Some 48 }
+    ensures second { option_map (λ placed. placed.begin) (entry_named (codes "b")
+        (placed_from 48 (entry (codes "a") 3 4 ∷ align 8 ∷ entry (codes "b") 1 8 ∷ []))) ≡ Some 64 }
+    ensures no_such_entry { entry_named (codes "c") (placed_from 48 (entry (codes "a") 3 4 ∷ align 8 ∷ entry (codes "b") 1 8 ∷ [])) ≡ None }
     ensures end { end_from 48 (entry (codes "a") 3 4 ∷ align 8 ∷ entry (codes "b") 1 8 ∷ []) ≡ 72 }
     ensures regions { regions_back 72 (reverse (placed_from 48 (entry (codes "a") 3 4 ∷ align 8 ∷ entry (codes "b") 1 8 ∷ [])))
         ≡ (codes "b", 8) ∷ (codes "a", 16) ∷ [] }
