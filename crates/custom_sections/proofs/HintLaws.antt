@@ -1,15 +1,16 @@
 -- Reading of branch hints agrees with their grammar.
-use Rattle.std.proofs.Common.{◌≡◌, ℕ, List, [], length, Some, None, refl, ap, sym, ◌∙◌}
+use Rattle.std.proofs.Common.{◌≡◌, ℕ, List, length, Some, None, refl, ap, sym, ◌∙◌}
 use Rattle.std.specs.Prelude.{true, false, ◌==◌}
-use Rattle.std.proofs.lemmas.List.{append-nil, nil_from_length}
+use Rattle.std.proofs.lemmas.Bool.{eq-eqb, ne_eqb}
+use Rattle.form_reader.specs.Reading.{whole}
 use Rattle.form_reader.specs.ReadingNumbers.{unsigned_at, vector_at}
-use Rattle.form_reader.proofs.Agrees.{Agrees, gives_agrees, nothing_agrees, then_agrees, choose_agrees, first_byte_agrees}
+use Rattle.form_reader.proofs.Agrees.{Agrees, Fills, gives_agrees, nothing_agrees, then_agrees, choose_agrees, first_byte_agrees, whole_fills}
 use Rattle.form_reader.proofs.NumberLaws.{unsigned_agrees, vector_agrees}
 use Rattle.custom_sections.specs.declared.hints.Hint.{Hint}
 use Rattle.custom_sections.specs.Reading.{taken}
 use Rattle.custom_sections.specs.HintGrammar as grammar
-use Rattle.custom_sections.specs.HintReading.{likely_at, hint_at, hint_entry_at}
-use Rattle.custom_sections.proofs.Takes.{some, some_is, none_is, read_from_taken, fault_from_none}
+use Rattle.custom_sections.specs.HintReading.{likely_at, hint_at, hint_entry_at, hints_of_section}
+use Rattle.custom_sections.proofs.Takes.{some_is, none_is, read_from_taken, fault_from_none}
 
 likely_agrees : (b : ℕ) → Agrees (likely_at b) (grammar.likely b)
 likely_agrees b = choose_agrees (b == 0x01) (first_byte_agrees (λ c.
@@ -26,18 +27,16 @@ hint_entry_agrees = then_agrees (unsigned_agrees 32) (λ function. then_agrees (
 section_agrees : Agrees (vector_at hint_entry_at) grammar.hint_section
 section_agrees = vector_agrees hint_entry_agrees
 
--- entries behind which nothing is left are spelled
-pub section_spelled : (bytes : List ℕ) (es : List (ℕ × List Hint)) → taken (vector_at hint_entry_at bytes) ≡ Some (es, [])
-    → grammar.hint_section.spells bytes es
-section_spelled bytes es e =
-    let f = section_agrees.found bytes es [] (read_from_taken (vector_at hint_entry_at bytes) (es, []) e) in
-    rw (f.1, append-nil f.0) f.2
+whole_section : Fills (whole (vector_at hint_entry_at)) grammar.hint_section
+whole_section = whole_fills section_agrees
+
+-- what is read is spelled
+pub section_spelled : (bytes : List ℕ) (es : List (ℕ × List Hint)) → hints_of_section bytes ≡ Some es → grammar.hint_section.spells bytes es
+section_spelled bytes es e = whole_section.found bytes es (read_from_taken (whole (vector_at hint_entry_at) bytes) es e)
 
 -- what is spelled is read
-pub section_read : (bytes : List ℕ) (es : List (ℕ × List Hint)) → grammar.hint_section.spells bytes es
-    → taken (vector_at hint_entry_at bytes) ≡ Some (es, [])
-section_read bytes es s =
-    ap (λ (l : List ℕ). taken (vector_at hint_entry_at l)) (sym (append-nil bytes)) ∙ ap taken (section_agrees.again bytes es [] s)
+pub section_read : (bytes : List ℕ) (es : List (ℕ × List Hint)) → grammar.hint_section.spells bytes es → hints_of_section bytes ≡ Some es
+section_read bytes es s = ap taken (whole_section.again bytes es s)
 
 -- ---- an entry, step by step
 
@@ -63,27 +62,28 @@ no_hints bytes function rest e n =
 
 -- ---- the outcome
 
-abbrev Whole : Type 0
-Whole = List (ℕ × List Hint) × List ℕ
-
-entries_are : (es fs : List (ℕ × List Hint)) (rest : List ℕ) → some {A = Whole} (es, rest) ≡ some (fs, []) → (es ≡ fs) × (rest ≡ [])
-entries_are es fs rest e =
-    let same = some_is {A = Whole} (es, rest) (fs, []) e in
-    (ap (λ (p : Whole). p.0) same, ap (λ (p : Whole). p.1) same)
+abbrev Entries : Type 0
+Entries = List (ℕ × List Hint)
 
 module _ (bytes : List ℕ) where
-  pub whole_spelled : (es : List (ℕ × List Hint)) (rest : List ℕ) → Some (es, rest) ≡ taken (vector_at hint_entry_at bytes)
-      → length rest ≡ 0 → grammar.hint_section.spells bytes es
-  whole_spelled es rest e none =
-      section_spelled bytes es (sym e ∙ ap (λ (l : List ℕ). Some (es, l)) (nil_from_length rest none))
+  pub read_whole : (es : Entries) (rest : List ℕ) → Some (es, rest) ≡ taken (vector_at hint_entry_at bytes) → length rest ≡ 0
+      → Some es ≡ hints_of_section bytes
+  unfolding whole
+  read_whole es rest e none = rw (read_from_taken (vector_at hint_entry_at bytes) (es, rest) (sym e), eq-eqb (length rest) 0 none) refl
 
-  pub whole_only : (es fs : List (ℕ × List Hint)) (rest : List ℕ) → Some (es, rest) ≡ taken (vector_at hint_entry_at bytes)
-      → grammar.hint_section.spells bytes fs → es ≡ fs
-  whole_only es fs rest e s = (entries_are es fs rest (e ∙ section_read bytes fs s)).0
+  pub not_with_rest : (es : Entries) (rest : List ℕ) → Some (es, rest) ≡ taken (vector_at hint_entry_at bytes) → ¬ (length rest ≡ 0)
+      → None ≡ hints_of_section bytes
+  unfolding whole
+  not_with_rest es rest e more = rw (read_from_taken (vector_at hint_entry_at bytes) (es, rest) (sym e), ne_eqb (length rest) 0 more) refl
 
-  pub not_with_rest : (es fs : List (ℕ × List Hint)) (rest : List ℕ) → Some (es, rest) ≡ taken (vector_at hint_entry_at bytes)
-      → (length rest ≡ 0 → ⊥) → grammar.hint_section.spells bytes fs → ⊥
-  not_with_rest es fs rest e more s = more (ap length (entries_are es fs rest (e ∙ section_read bytes fs s)).1)
+  pub not_with_fault : None ≡ taken (vector_at hint_entry_at bytes) → None ≡ hints_of_section bytes
+  unfolding whole
+  not_with_fault e = let f = fault_from_none (vector_at hint_entry_at bytes) (sym e) in rw f.1 refl
 
-  pub not_with_fault : (fs : List (ℕ × List Hint)) → None ≡ taken (vector_at hint_entry_at bytes) → grammar.hint_section.spells bytes fs → ⊥
-  not_with_fault fs e s = none_is {A = Whole} (fs, []) (e ∙ section_read bytes fs s)
+  -- what is read is all that is spelled
+  pub only_read : (es fs : Entries) → Some es ≡ hints_of_section bytes → grammar.hint_section.spells bytes fs → es ≡ fs
+  only_read es fs e s = some_is {A = Entries} es fs (e ∙ section_read bytes fs s)
+
+  -- what is not read is not spelled
+  pub not_spelled : (fs : Entries) → None ≡ hints_of_section bytes → ¬ grammar.hint_section.spells bytes fs
+  not_spelled fs e s = none_is {A = Entries} fs (e ∙ section_read bytes fs s)

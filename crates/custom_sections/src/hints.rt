@@ -6,7 +6,7 @@ ghost use Rattle.form_reader.specs.ReadingNumbers.{vector_at};
 ghost use Rattle.custom_sections.specs.declared.hints.Hint.{Hint};
 ghost use Rattle.custom_sections.specs.Reading.{taken};
 ghost use Rattle.custom_sections.specs.HintGrammar.{hint_section};
-ghost use Rattle.custom_sections.specs.HintReading.{hint_at, hint_entry_at};
+ghost use Rattle.custom_sections.specs.HintReading.{hint_at, hint_entry_at, hints_of_section};
 ghost use Rattle.custom_sections.specs.Views.{hint_entry_of};
 
 use crate::parts::{first_byte, u32_at};
@@ -96,6 +96,7 @@ pub fn read_hints(
     alloc: Global,
     contents: &[u8],
 ) -> Result<Option<Vec<(u32, Vec<Hint>)>>, OutOfMemory>
+    ensures read { IfOk result (λ o. option_map (λ all. map hint_entry_of all.items) o ≡ hints_of_section contents.now) }
     ensures spelled { IfOk result (λ o. IfSome o (λ all. hint_section.spells contents.now (map hint_entry_of all.items))) }
     ensures complete { (es : List (ℕ × List Hint)) → hint_section.spells contents.now es
         → IfOk result (λ o. MatchOption o ⊥ (λ all. map hint_entry_of all.items ≡ es)) }

@@ -1,8 +1,11 @@
 //! Laws of the definitions.
 
-ghost use Rattle.std.specs.Prelude.{◌≡◌, ℕ, List, ◌++◌, Bool, Some};
+ghost use Rattle.std.specs.Prelude.{◌≡◌, ◌↔◌, ℕ, List, ◌++◌, Bool, Some};
+ghost use Rattle.custom_sections.specs.declared.hints.Hint.{Hint};
 ghost use Rattle.custom_sections.specs.NameReading.{NameLists, names_before, names_of_section};
 ghost use Rattle.custom_sections.specs.NameGrammar.{name_map, SpellsSubsections, joined_all};
+ghost use Rattle.custom_sections.specs.HintReading.{hints_of_section};
+ghost use Rattle.custom_sections.specs.HintGrammar.{hint_section};
 
 /// What the grammar of the standard spells is read whole: names one after another, whatever follows, and a section without a fault.
 pub fn spelled_names_are_read()
@@ -10,4 +13,9 @@ pub fn spelled_names_are_read()
         → names_before (front ++ rest) ≡ (names, Some rest) }
     ensures section { (locals : Bool) (bytes : List ℕ) (all : List NameLists) → SpellsSubsections locals bytes all
         → names_of_section locals bytes ≡ joined_all all }
+{}
+
+/// Hints are read exactly where the grammar spells them: all that the contents of a section spell, and nothing where they spell no such section.
+pub fn spelled_hints_are_read()
+    ensures { (bytes : List ℕ) (entries : List (ℕ × List Hint)) → hint_section.spells bytes entries ↔ (hints_of_section bytes ≡ Some entries) }
 {}
