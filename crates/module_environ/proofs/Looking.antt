@@ -2,7 +2,6 @@
 use Rattle.std.proofs.Common.{◌≡◌, ◌∙◌, ◌<◌, ℕ, List, length, Option, Some, None, refl, sym, ap, subst}
 use Rattle.std.specs.Prelude.{IsSome, IsSomeAnd}
 use Rattle.wasm_spec.specs.declared.types.UnpackedIndex.TheVariants as index
-use Rattle.form_types.specs.Types.{TypesData}
 use Rattle.wasm_index.specs.declared.index.Index.{Index}
 use Rattle.wasm_index.specs.declared.spaces.TypeSpace.{TypeSpace}
 use Rattle.wasm_index.specs.Index.{number_of, index_of}
@@ -10,7 +9,7 @@ use Rattle.wasm_types.specs.declared.index.EngineOrModuleTypeIndex.{EngineOrModu
 use Rattle.module_types.specs.Views.{TypeIndex}
 use Rattle.module_types.specs.Builder.{BuilderState}
 use Rattle.module_types.specs.ClosureAnswers.{Answer, AnswersBelow}
-use Rattle.module_types.specs.Converter.{interned_name, look_index, answered, answered-is}
+use Rattle.module_types.specs.Converter.{TypesAndGroup, interned_name, look_index, answered, answered-is}
 use Rattle.module_environ.specs.Environment.{interned_in, number_or_zero, AreHeld, look_type}
 
 module _ (types : List EngineOrModuleTypeIndex) where
@@ -33,7 +32,7 @@ module _ (types : List EngineOrModuleTypeIndex) where
   -- so a converter whose look-up gives what the record gives looks up the types of the record
   module _ (given : Index TypeSpace → TypeIndex → Type 0) (gives : (i : Index TypeSpace) (r : TypeIndex) → Gives i r → given i r)
       (c : BuilderState) (bound : ℕ)
-      (answers : AnswersBelow given (length c.list.types) bound) (ids : Option TypesData) (b : BuilderState) (same : c ≡ b) (e : bound ≡ length types) where
+      (answers : AnswersBelow given (length c.list.types) bound) (ids : Option TypesAndGroup) (b : BuilderState) (same : c ≡ b) (e : bound ≡ length types) where
     number-is : (i : ℕ) → i < bound → (o : Option TypeIndex) → interned_in types i ≡ o → IsSomeAnd o (λ k. number_of k < length b.list.types)
         → answered given c bound answers ids i ≡ number_or_zero o
     number-is i h None at held = absurd held

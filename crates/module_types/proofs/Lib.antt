@@ -16,6 +16,7 @@ pub mod Holding
 pub mod Finding
 pub mod MappedTypes
 pub mod Tying
+pub mod Called
 pub mod Interned
 pub mod Taking
 pub mod TakingBoth

@@ -54,11 +54,11 @@ at-last : (ts : List Interned) (t : Interned) → composite_at (ts ++ t ∷ []) 
 at-last [] t = refl
 at-last (u ∷ ts) t = at-last ts t
 
-at-front : (front : List Interned) (t : Interned) (ts : List Interned) → composite_at (front ++ t ∷ ts) (length front) ≡ t.composite.inner
+pub at-front : (front : List Interned) (t : Interned) (ts : List Interned) → composite_at (front ++ t ∷ ts) (length front) ≡ t.composite.inner
 at-front [] t ts = refl
 at-front (u ∷ front) t ts = at-front front t ts
 
-within : (ts : List Interned) (i : ℕ) (f : Called) → composite_at ts i ≡ Func f → i < length ts
+pub within : (ts : List Interned) (i : ℕ) (f : Called) → composite_at ts i ≡ Func f → i < length ts
 within [] i f e = absurd cc
 within (t ∷ ts) zero f e = omega arith
 within (t ∷ ts) (suc i) f e = let h = within ts i f e in omega (arith, h)

@@ -1,6 +1,6 @@
 //! The builder of a module's interned types.
 
-ghost use Rattle.std.specs.Prelude.{◌≡◌, ◌↔◌, ◌<◌, ◌-◌, length, slice_get, Some, IfOk, OnOk, OnErr, Err, IsTrue, IsSome, true, false};
+ghost use Rattle.std.specs.Prelude.{◌≡◌, ◌↔◌, ◌<◌, ◌-◌, length, slice_get, Some, IfOk, IsOk, OnOk, OnErr, Err, IsTrue, IsSome, true, false};
 ghost use Rattle.std.specs.Option.{option_map};
 ghost use Rattle.entity_map.specs.Keyed.{keyed};
 ghost use Rattle.type_spec.specs.Interned.{composite_at};
@@ -57,6 +57,7 @@ impl Model for ModuleTypesBuilder {
 }
 
 impl ModuleTypesBuilder {
+    ghost use Rattle.module_types.specs.Orderly.{IsOrderly};
     ghost use Rattle.module_types.specs.Builder.{builder_view, new_builder, exception_index, excepts, is_function, startup_index, starts};
 
     /// A builder that holds nothing, for the types of a validator.
@@ -84,7 +85,8 @@ impl ModuleTypesBuilder {
 
     /// Whether an earlier growing call answered an error.
     pub fn is_poisoned(&self) -> bool
-        ensures { result ≡ self.now.is_poisoned }
+        ensures told { result ≡ self.now.is_poisoned }
+        ensures orderly { self.now.is_poisoned ≡ false → IsOrderly (builder_view self.now).built }
     {
         self.poisoned
     }
@@ -102,6 +104,7 @@ impl ModuleTypesBuilder {
         requires room { self.old.is_poisoned ≡ false → length (excepts (builder_view self.old) (number_of for_func_ty)).built.types < u32.MAX }
         ensures index { IfOk result (λ k. number_of k ≡ exception_index (builder_view self.old) (number_of for_func_ty)) }
         ensures defined { OnOk result (builder_view self.new ≡ excepts (builder_view self.old) (number_of for_func_ty)) }
+        ensures held { self.old.is_poisoned ≡ false → IsSome ((builder_view self.old).exceptions (number_of for_func_ty)) → IsOk result }
         ensures poisoned { (result ≡ Err BuildError.Poisoned) ↔ (self.old.is_poisoned ≡ true) }
         ensures err { OnErr result (self.new.is_poisoned ≡ true) }
     {
@@ -136,6 +139,7 @@ impl ModuleTypesBuilder {
         requires room { self.old.is_poisoned ≡ false → length (starts (builder_view self.old)).built.types < u32.MAX }
         ensures index { IfOk result (λ k. number_of k ≡ startup_index (builder_view self.old)) }
         ensures made { OnOk result (builder_view self.new ≡ starts (builder_view self.old)) }
+        ensures held { self.old.is_poisoned ≡ false → IsSome (builder_view self.old).startup → IsOk result }
         ensures poisoned { (result ≡ Err BuildError.Poisoned) ↔ (self.old.is_poisoned ≡ true) }
         ensures err { OnErr result (self.new.is_poisoned ≡ true) }
     {

@@ -1,6 +1,6 @@
 //! Conversion over a look-up that is stored.
 
-ghost use Rattle.std.specs.Prelude.{◌≡◌, ◌<◌, ◌+◌, ◌⊎◌, ℕ, length, None, Some, IsSome};
+ghost use Rattle.std.specs.Prelude.{◌≡◌, ◌↔◌, ◌<◌, ◌+◌, ◌⊎◌, ℕ, length, None, Some, IsSome};
 ghost use Rattle.wasm_spec.specs.declared.types.UnpackedIndex.TheVariants.{Id};
 ghost use Rattle.form_types.specs.Ids.{id_of};
 ghost use Rattle.form_types.specs.Types.{types_by_id};
@@ -17,7 +17,7 @@ ghost use Rattle.wasm_types.specs.declared.index.EngineOrModuleTypeIndex.TheVari
 ghost use Rattle.module_types.specs.Builder.{builder_view};
 ghost use Rattle.module_types.specs.Conversion.{group_of_id, members_of, HoldsGroups};
 ghost use Rattle.module_types.specs.ClosureAnswers.{AnswersBelow, AnswersBelow-prop};
-ghost use Rattle.module_types.specs.Converter.{KnowsIndex, look_index, answered, knows_ids};
+ghost use Rattle.module_types.specs.Converter.{KnowsIndex, look_index, look_ids, answered, HaveIndices, HaveIndices-prop};
 
 use crate::builder::ModuleTypesBuilder;
 use entity_map::EntityRef;
@@ -78,6 +78,8 @@ pub struct WasmparserTypeConverter<'a, F: TypeLookUp> {
     rec_group: Option<(&'a Types, RecGroupId)>,
     // The look-up has one answer for each of the first types, and it is interned.
     ghost answers: { AnswersBelow (λ i r. F.gives lookup_type_idx i r) (length types.now.list.types) count } by { AnswersBelow-prop (λ i r. F.gives lookup_type_idx i r) (length types.now.list.types) count },
+    // Each id that it knows has an index.
+    ghost have_indices: { HaveIndices types.now (option_map (λ p. (p.0.now, p.1.0)) rec_group) } by { HaveIndices-prop types.now (option_map (λ p. (p.0.now, p.1.0)) rec_group) },
 }
 
 impl<'a, F: TypeLookUp> WasmparserTypeConverter<'a, F> {
@@ -98,8 +100,9 @@ impl<'a, F: TypeLookUp> WasmparserTypeConverter<'a, F> {
         }
     }
 
-    /// Looks up ids of a list of types besides: those of groups that the builder holds, and those of one group, which
-    /// is interned next unless it is held.
+    /// Looks up ids of a list of types besides: those of groups that the builder holds, at their interned indices, and
+    /// those of one group, which is interned next unless it is held, at the builder's next index plus their places in
+    /// it. It knows no other id.
     pub fn with_rec_group(&mut self, types: &'a Types, rec_group: RecGroupId) -> &Self
         requires holds { HoldsGroups types.now (builder_view self.old.types.now) }
         requires room { (builder_view self.old.types.now).ids rec_group.0 ≡ None → length self.old.types.now.list.types + length (members_of types.now rec_group.0) < u32.MAX }
@@ -107,9 +110,10 @@ impl<'a, F: TypeLookUp> WasmparserTypeConverter<'a, F> {
         ensures count { result.now.count ≡ self.old.count }
         ensures look_up { result.now.lookup_type_idx ≡ self.old.lookup_type_idx }
         ensures ids { result.now.rec_group ≡ Some (types.entry, rec_group) }
-        ensures known { (n : ℕ) → n < length (types_by_id types.now.groups)
-            → (group_of_id types.now n ≡ rec_group.0) ⊎ IsSome ((builder_view self.old.types.now).ids (group_of_id types.now n))
-            → knows_ids self.old.types.now (Some types.now) (Id (id_of n)) }
+        ensures known { (n : ℕ) → ⟦<WasmparserTypeConverter<'a, F> as TypeConvert>⟧.knows result.now (Id (id_of n))
+            ↔ ((n < length (types_by_id types.now.groups)) × ((group_of_id types.now n ≡ rec_group.0) ⊎ IsSome ((builder_view self.old.types.now).ids (group_of_id types.now n)))) }
+        ensures looks { (n : ℕ) → ⟦<WasmparserTypeConverter<'a, F> as TypeConvert>⟧.look_up result.now (Id (id_of n))
+            ≡ look_ids self.old.types.now (Some (types.now, rec_group.0)) (Id (id_of n)) }
     {
         self.rec_group = Some((types, rec_group));
         self
@@ -119,7 +123,7 @@ impl<'a, F: TypeLookUp> WasmparserTypeConverter<'a, F> {
     fn interned(&self, number: u32) -> ModuleInternedTypeIndex
         requires below { number < self.now.count }
         requires callable { F.callable self.now.lookup_type_idx (index_of number) }
-        ensures answered { number_of result ≡ answered (λ i r. F.gives self.now.lookup_type_idx i r) self.now.types.now self.now.count self.now.answers (option_map (λ p. p.0.now) self.now.rec_group) number }
+        ensures answered { number_of result ≡ answered (λ i r. F.gives self.now.lookup_type_idx i r) self.now.types.now self.now.count self.now.answers (option_map (λ p. (p.0.now, p.1.0)) self.now.rec_group) number }
         ensures held { number_of result < length self.now.types.now.list.types }
     {
         prove!(number < self.count);
@@ -129,9 +133,9 @@ impl<'a, F: TypeLookUp> WasmparserTypeConverter<'a, F> {
 }
 
 impl<'a, F: TypeLookUp> TypeConvert for WasmparserTypeConverter<'a, F> {
-    ghost knows = { λ c i. KnowsIndex (λ i. F.callable c.lookup_type_idx i) c.types.now c.count (option_map (λ p. p.0.now) c.rec_group) i };
+    ghost knows = { λ c i. KnowsIndex (λ i. F.callable c.lookup_type_idx i) c.types.now c.count (option_map (λ p. (p.0.now, p.1.0)) c.rec_group) i };
 
-    ghost look_up = { λ c i. look_index (λ i r. F.gives c.lookup_type_idx i r) c.types.now c.count c.answers (option_map (λ p. p.0.now) c.rec_group) i };
+    ghost look_up = { λ c i. look_index (λ i r. F.gives c.lookup_type_idx i r) c.types.now c.count c.answers (option_map (λ p. (p.0.now, p.1.0)) c.rec_group) i };
 
     fn lookup_heap_type(&self, index: UnpackedIndex) -> WasmHeapType {
         match index {

@@ -1,6 +1,6 @@
 //! Groups of a list of types, interned under their ids.
 
-ghost use Rattle.std.specs.Prelude.{◌≡◌, ◌↔◌, ◌+◌, ◌<◌, length, map, None, IfOk, OnOk, OnErr, Err, true, false};
+ghost use Rattle.std.specs.Prelude.{◌≡◌, ◌↔◌, ◌+◌, ◌<◌, length, map, None, IfOk, IsOk, IsSome, OnOk, OnErr, Err, true, false};
 ghost use Rattle.type_spec.specs.Interned.{with_group};
 ghost use Rattle.form_types.specs.Types.{types_by_id};
 ghost use Rattle.wasm_index.specs.Index.{number_of};
@@ -83,6 +83,7 @@ impl ModuleTypesBuilder {
         requires room { self.old.is_poisoned ≡ false → length (interns (builder_view self.old) id.0 (interned_members types.now (builder_view self.old) id.0)).built.types < u32.MAX }
         ensures index { IfOk result (λ k. number_of k ≡ group_index (builder_view self.old) id.0) }
         ensures interned { OnOk result (builder_view self.new ≡ interns (builder_view self.old) id.0 (interned_members types.now (builder_view self.old) id.0)) }
+        ensures held { self.old.is_poisoned ≡ false → IsSome ((builder_view self.old).ids id.0) → IsOk result }
         ensures poisoned { (result ≡ Err BuildError.Poisoned) ↔ (self.old.is_poisoned ≡ true) }
         ensures err { OnErr result (self.new.is_poisoned ≡ true) }
     {
@@ -117,6 +118,7 @@ impl ModuleTypesBuilder {
         requires room { self.old.is_poisoned ≡ false → length (interns (builder_view self.old) (group_of_id types.now id.0) (interned_members types.now (builder_view self.old) (group_of_id types.now id.0))).built.types < u32.MAX }
         ensures index { IfOk result (λ k. number_of k ≡ interned_index types.now (builder_view self.new) id.0) }
         ensures interned { OnOk result (builder_view self.new ≡ interns (builder_view self.old) (group_of_id types.now id.0) (interned_members types.now (builder_view self.old) (group_of_id types.now id.0))) }
+        ensures held { self.old.is_poisoned ≡ false → IsSome ((builder_view self.old).ids (group_of_id types.now id.0)) → IsOk result }
         ensures poisoned { (result ≡ Err BuildError.Poisoned) ↔ (self.old.is_poisoned ≡ true) }
         ensures err { OnErr result (self.new.is_poisoned ≡ true) }
     {

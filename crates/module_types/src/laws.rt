@@ -1,6 +1,6 @@
 //! Laws of interned lists. Each function is the proof of its clauses.
 
-ghost use Rattle.std.specs.Prelude.{◌≡◌, ◌↔◌, ◌<◌, ℕ, Bool, List, [], ◌∷◌, ◌++◌, length, get_or, slice_index, Some, true};
+ghost use Rattle.std.specs.Prelude.{◌≡◌, ◌↔◌, ◌<◌, ℕ, Bool, List, [], ◌∷◌, ◌++◌, ◌+◌, length, get_or, slice_index, Some, None, IsSome, true};
 ghost use Rattle.std.specs.List.{flat_map};
 ghost use Rattle.wasm_spec.specs.TypeData.{Group, Func};
 ghost use Rattle.wasm_spec.specs.Module.{Module};
@@ -13,9 +13,10 @@ ghost use Rattle.form_types.specs.Types.{TypesData};
 ghost use Rattle.form_types.specs.Placed.{placed_groups};
 ghost use Rattle.form_types.specs.Numbered.{AreNumbered};
 ghost use Rattle.module_types.specs.Orderly.{IsOrderly};
-ghost use Rattle.module_types.specs.Builder.{Builder, new_builder, interns};
+ghost use Rattle.module_types.specs.TypeList.{trampoline_at};
+ghost use Rattle.module_types.specs.Builder.{BuilderState, Builder, builder_view, new_builder, interns, excepts, starts};
 ghost use Rattle.module_types.specs.Conversion.{group_of_id, members_of, interned_index, HoldsGroups};
-ghost use Rattle.module_types.specs.Tied.{trampoline_in, IsTied};
+ghost use Rattle.module_types.specs.Tied.{trampoline_in, HasTrampoline, HaveTrampolines, IsTied};
 ghost use Rattle.module_types.specs.InTurn.{interns_declared, HasTaken, CanIntern};
 ghost use Rattle.module_types.specs.ListGroups.{group_at, list_groups, IsWellNamed, EngineMap, TellTypes, IsCompared};
 ghost use Rattle.module_types.specs.Runs.{with_groups, runs, firsts, AllFilled};
@@ -44,11 +45,26 @@ pub fn one_trampoline_law()
     ensures group { (b : Built) (ts : List Interned) → IsTied b → IsTied (with_group b ts) }
     ensures exception { (b : Built) (i : ℕ) → IsTied b → IsTied (with_exception b i) }
     ensures startup { (b : Built) → IsTied b → IsTied (with_startup b true) }
+    ensures taken { (ms : List (Group ℕ ℕ)) → IsTied (taken ms).built }
+    ensures interned { (ms : List (Group ℕ ℕ)) (tags : List ℕ) (startup : Bool) → IsTied (interned ms tags startup) }
     ensures one { (b : Built) → IsTied b → (i j k l : ℕ) (f g : Called) → composite_at b.types i ≡ Func f → composite_at b.types j ≡ Func g
         → trampoline_in b i ≡ Some k → trampoline_in b j ≡ Some l → (k ≡ l) ↔ (mapped f ≡ mapped g) }
 {
     equality_law();
 }
+
+/// Each function type that is taken of a module has a trampoline, also in its interned list; in a builder each function member of a group
+/// that was interned has one, and keeps it. So `trampoline_type` may be called with it.
+pub fn has_trampoline_law()
+    ensures taken { (ms : List (Group ℕ ℕ)) → HaveTrampolines (length (taken ms).built.types) (taken ms).built }
+    ensures interned { (ms : List (Group ℕ ℕ)) (tags : List ℕ) (startup : Bool) → HaveTrampolines (length (taken ms).built.types) (interned ms tags startup) }
+    ensures member { (b : Builder) (id : ℕ) (ts : List Interned) → IsTied b.built → b.ids id ≡ None → (i : ℕ) (f : Called) → composite_at ts i ≡ Func f
+        → HasTrampoline (interns b id ts).built (length b.built.types + i) }
+    ensures group { (b : Builder) (id : ℕ) (ts : List Interned) (i : ℕ) → HasTrampoline b.built i → HasTrampoline (interns b id ts).built i }
+    ensures exception { (b : Builder) (k i : ℕ) → HasTrampoline b.built i → HasTrampoline (excepts b k).built i }
+    ensures startup { (b : Builder) (i : ℕ) → HasTrampoline b.built i → HasTrampoline (starts b).built i }
+    ensures shown { (b : BuilderState) (i : ℕ) → HasTrampoline (builder_view b).built i → IsSome (trampoline_at b.list i) }
+{}
 
 /// After one more group each id that a builder holds names the group that was interned under it, if it did so before.
 pub fn holds_law()

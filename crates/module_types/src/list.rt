@@ -1,6 +1,6 @@
 //! The list of a module's interned types.
 
-ghost use Rattle.std.specs.Prelude.{◌≡◌, ◌<◌, ◌+◌, ◌-◌, length, map, slice_get, Some, None, IfOk, OnOk, OnErr, IsSome};
+ghost use Rattle.std.specs.Prelude.{◌≡◌, ◌<◌, ◌+◌, ◌-◌, length, map, slice_get, Some, None, IfOk, IsOk, OnOk, OnErr, IsSome};
 ghost use Rattle.std.specs.Option.{option_copied, option_map};
 ghost use Rattle.std.specs.Borrow.{sem};
 ghost use Rattle.entity_map.specs.Keyed.{keyed};
@@ -191,8 +191,8 @@ impl ModuleTypes {
         trampoline_ty: ModuleInternedTypeIndex,
     ) -> Result<(), OutOfMemory>
         requires { number_of for_ty < length self.old.types }
-        ensures ok { OnOk result (self.new ≡ called_by self.old (number_of for_ty) trampoline_ty) }
-        ensures err { OnErr result (self.new ≡ self.old) }
+        ensures none { IsOk result }
+        ensures set { self.new ≡ called_by self.old (number_of for_ty) trampoline_ty }
     {
         self.set_trampoline(for_ty, trampoline_ty);
         Ok(())
