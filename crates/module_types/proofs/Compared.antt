@@ -18,7 +18,7 @@ use Rattle.wasm_types.specs.TypeViews.{group_of}
 use Rattle.wasm_types.specs.ViewsTell.{tells, group_back}
 use Rattle.wasm_trace.specs.Canonical.{consed_edge}
 use Rattle.module_types.specs.Views.{index_at}
-use Rattle.module_types.specs.ListGroups.{unkinded, types_in, span_at, group_at, list_groups, kind_in, IsWellNamed, EngineMap, TellTypes, IsCompared}
+use Rattle.module_types.specs.ListGroups.{unkinded, types_in, span_at, group_at, list_groups, kind_in, IsWellNamed, EngineMap, TellTypes, TellTypesBefore, IsCompared}
 use Rattle.module_types.proofs.Standing.{list-size, list-kind, stands-at, span-long, span-named}
 
 -- what becomes of a reference from a group that begins at an index
@@ -52,7 +52,7 @@ module _ (b : Built) (w : IsWellNamed b) (k : ℕ) (lt : k < length b.groups) wh
   in-size : (r : ℕ) → InSpan r → r < size (list_groups b)
   in-size r p = omega (arith, in-list r p, list-size b w)
 
-  span-home : (r : ℕ) → (span_at b k).start ≤ r → InSpan r → home (list_groups b) r ≡ group_at b k
+  pub span-home : (r : ℕ) → (span_at b k).start ≤ r → InSpan r → home (list_groups b) r ≡ group_at b k
   span-home r low p =
       let s = stands-at b w k lt in
       let long = span-long b w k lt in
@@ -61,7 +61,7 @@ module _ (b : Built) (w : IsWellNamed b) (k : ℕ) (lt : k < length b.groups) wh
       home-again (list_groups b) (span_at b k).start r (in-size (span_at b k).start s.some)
       (record { from = omega (arith, from, low); to = omega (arith, from, members, long, low, p, s.some) }) ∙ s.at
 
-  span-place : (r : ℕ) → (span_at b k).start ≤ r → InSpan r → r - (home (list_groups b) r).start ≡ r - (span_at b k).start
+  pub span-place : (r : ℕ) → (span_at b k).start ≤ r → InSpan r → r - (home (list_groups b) r).start ≡ r - (span_at b k).start
   span-place r low p = ap (λ (g : Home). r - g.start) (span-home r low p)
 
   -- what the group is rewritten to, by names
@@ -77,8 +77,9 @@ module _ (b : Built) (w : IsWellNamed b) (k : ℕ) (lt : k < length b.groups) wh
       ∙ group_shape.map_twice (λ i. named index_at (name_by kind (λ (r : ℕ). r) i)) (named given) index_at given (unkinded (types_in b.types
       (span_at b k)))
 
-module _ (b b' : Built) (w : IsWellNamed b) (w' : IsWellNamed b') (engine engine' : EngineMap) (told : TellTypes b b' engine engine')
-    (k l : ℕ) (lt : k < length b.groups) (lt' : l < length b'.groups) where
+module _ (b b' : Built) (w : IsWellNamed b) (w' : IsWellNamed b') (engine engine' : EngineMap)
+    (k l : ℕ) (lt : k < length b.groups) (lt' : l < length b'.groups)
+    (told : TellTypesBefore b b' engine engine' (span_at b k).start (span_at b' l).start) where
   abbrev Same : ℕ → ℕ → Type 0
   Same i j = SameType (list_groups b) (list_groups b') i j
 
@@ -88,15 +89,15 @@ module _ (b b' : Built) (w : IsWellNamed b) (w' : IsWellNamed b') (engine engine
   abbrev start' : ℕ
   start' = (span_at b' l).start
 
-  to : (r t : ℕ) → InSpan b w k lt r → InSpan b' w' l lt' t → (c d : Bool) → given_by engine start c r ≡ given_by engine' start' d t
-      → SameTarget Same (target_by c (r - start) r) (target_by d (t - start') t)
-  to r t p q true true same = ap place_given same
-  to r t p q true false same = let no : RecGroup (index_of (r - start)) ≡ Engine (engine' (index_of t)) = same in cc
-  to r t p q false true same = let no : Engine (engine (index_of r)) ≡ RecGroup (index_of (t - start')) = same in cc
-  to r t p q false false same =
+  to : (r t : ℕ) → InSpan b w k lt r → InSpan b' w' l lt' t → (c d : Bool) → nat_le start r ≡ c → nat_le start' t ≡ d
+      → given_by engine start c r ≡ given_by engine' start' d t → SameTarget Same (target_by c (r - start) r) (target_by d (t - start') t)
+  to r t p q true true e f same = ap place_given same
+  to r t p q true false e f same = let no : RecGroup (index_of (r - start)) ≡ Engine (engine' (index_of t)) = same in cc
+  to r t p q false true e f same = let no : Engine (engine (index_of r)) ≡ RecGroup (index_of (t - start')) = same in cc
+  to r t p q false false e f same =
       let whole : Engine (engine (index_of r)) ≡ Engine (engine' (index_of t)) = same in
       let one : engine (index_of r) ≡ engine' (index_of t) = cc in
-      (told r t (in-list b w k lt r p) (in-list b' w' l lt' t q)).0 one
+      (told r t (leb-false start r e) (leb-false start' t f)).0 one
 
   module _ (groups : SameGroup Same (group_at b k) (group_at b' l)) where
     -- equal references name equal types, and become one
@@ -117,7 +118,7 @@ module _ (b b' : Built) (w : IsWellNamed b) (w' : IsWellNamed b') (engine engine
     from r t p q true false e f same = absurd same
     from r t p q false true e f same = absurd same
     from r t p q false false e f same =
-        record { given_is = ap Engine ((told r t (in-list b w k lt r p) (in-list b' w' l lt' t q)).1 same); same = same }
+        record { given_is = ap Engine ((told r t (leb-false start r e) (leb-false start' t f)).1 same); same = same }
 
     names : (r t : ℕ) → InSpan b w k lt r → InSpan b' w' l lt' t → SameTarget Same (target (λ i. i) start r) (target (λ i. i) start' t)
         → name_by (kind_in b.types) (λ i. consed_edge engine start (index_at i)) r ≡ name_by (kind_in b'.types) (λ i. consed_edge engine' start'
@@ -146,7 +147,7 @@ module _ (b b' : Built) (w : IsWellNamed b) (w' : IsWellNamed b') (engine engine
             record {
               frames = alike.frames;
               edges = zip-known (InSpan b w k lt) (InSpan b' w' l lt') _ _
-                  (λ r t p q e. to r t p q (nat_le start r) (nat_le start' t) (sym (given-is engine start r) ∙ e ∙ given-is engine' start' t))
+                  (λ r t p q e. to r t p q (nat_le start r) (nat_le start' t) refl refl (sym (given-is engine start r) ∙ e ∙ given-is engine' start' t))
                   (group_edges (λ r. r) g) (group_edges (λ r. r) h) near near' alike.edges;
             }),
         (λ groups. tells group_back x' y' (left ∙ names-same (kind_in b.types) (kind_in b'.types) given given' g h (record {
@@ -155,3 +156,11 @@ module _ (b b' : Built) (w : IsWellNamed b) (w' : IsWellNamed b') (engine engine
               (λ r. r) h) near near' groups.edges;
         }) ∙ sym right)),
       )
+
+-- what tells all types tells those before two groups
+pub all-before : (b b' : Built) (w : IsWellNamed b) (w' : IsWellNamed b') (engine engine' : EngineMap) → TellTypes b b' engine engine'
+    → (k l : ℕ) → k < length b.groups → l < length b'.groups → TellTypesBefore b b' engine engine' (span_at b k).start (span_at b' l).start
+all-before b b' w w' engine engine' told k l lt lt' i j before before' =
+    let s = stands-at b w k lt in
+    let s' = stands-at b' w' l lt' in
+    told i j (omega (arith, s.high, s.some, before)) (omega (arith, s'.high, s'.some, before'))

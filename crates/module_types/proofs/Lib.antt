@@ -26,6 +26,7 @@ pub mod NamedSteps
 pub mod NamedLists
 pub mod Standing
 pub mod Compared
+pub mod ToldByForms
 pub mod NamingEarlier
 pub mod DeclaredGroups
 pub mod SameIndex

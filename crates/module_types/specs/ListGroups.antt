@@ -1,5 +1,5 @@
 -- An interned list as a list of groups, whose references are places in it.
-use Rattle.std.specs.Prelude.{◌≡◌, ◌↔◌, ◌<◌, ℕ, ◌-◌, List, length, get_or, take, drop, map}
+use Rattle.std.specs.Prelude.{◌≡◌, ◌↔◌, ◌<◌, ◌≤◌, ℕ, ◌-◌, List, length, get_or, take, drop, map}
 use Rattle.wasm_spec.specs.TypeData.{Group, map_group}
 use Rattle.type_data.specs.Names.{NameKind, Named, named, index_of as index_in}
 use Rattle.type_spec.specs.Equality.{Home, SameType}
@@ -62,8 +62,23 @@ abbrev pub TellTypes : Built → Built → EngineMap → EngineMap → Type 0
 TellTypes b b' engine engine' = (i j : ℕ) → i < length b.types → j < length b'.types
     → (engine (index_of i) ≡ engine' (index_of j)) ↔ SameType (list_groups b) (list_groups b') i j
 
+-- the same for the types before two places
+abbrev pub TellTypesBefore : Built → Built → EngineMap → EngineMap → ℕ → ℕ → Type 0
+TellTypesBefore b b' engine engine' start start' = (i j : ℕ) → i < start → j < start'
+    → (engine (index_of i) ≡ engine' (index_of j)) ↔ SameType (list_groups b) (list_groups b') i j
+
 -- the group with a number, and what it is rewritten to over its own range
 pub record IsCompared (b : Built) (engine : EngineMap) (k : ℕ) (old new : WasmRecGroup) : Type 0 where
   pub within : k < length b.groups
   pub stands : group_of old ≡ map_group (named index_at) index_at (types_in b.types (span_at b k))
   pub mapped : group_of new ≡ map_group (named (consed_edge engine (span_at b k).start)) (consed_edge engine (span_at b k).start) (group_of old)
+
+-- types of two lists have one engine's index exactly where they stand at one place of one canonical group
+abbrev pub OneIndex : Built → Built → EngineMap → EngineMap → (ℕ → WasmRecGroup) → (ℕ → WasmRecGroup) → Type 0
+OneIndex b b' engine engine' forms forms' = (k l i j : ℕ) → k < length b.groups → l < length b'.groups
+    → (span_at b k).start ≤ i → i < (span_at b k).end → (span_at b' l).start ≤ j → j < (span_at b' l).end
+    → (engine (index_of i) ≡ engine' (index_of j)) ↔ ((i - (span_at b k).start ≡ j - (span_at b' l).start) × (forms k ≡ forms' l))
+
+-- each group, and the canonical group that it becomes
+abbrev pub AreCompared : Built → EngineMap → (ℕ → WasmRecGroup) → (ℕ → WasmRecGroup) → Type 0
+AreCompared b engine olds forms = (k : ℕ) → k < length b.groups → IsCompared b engine k (olds k) (forms k)

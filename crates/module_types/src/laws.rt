@@ -18,7 +18,7 @@ ghost use Rattle.module_types.specs.Builder.{BuilderState, Builder, builder_view
 ghost use Rattle.module_types.specs.Conversion.{group_of_id, members_of, interned_index, HoldsGroups};
 ghost use Rattle.module_types.specs.Tied.{trampoline_in, HasTrampoline, HaveTrampolines, IsTied};
 ghost use Rattle.module_types.specs.InTurn.{interns_declared, HasTaken, CanIntern};
-ghost use Rattle.module_types.specs.ListGroups.{group_at, list_groups, IsWellNamed, EngineMap, TellTypes, IsCompared};
+ghost use Rattle.module_types.specs.ListGroups.{group_at, list_groups, span_at, IsWellNamed, EngineMap, TellTypes, TellTypesBefore, IsCompared, OneIndex, AreCompared};
 ghost use Rattle.module_types.specs.Runs.{with_groups, runs, firsts, AllFilled};
 
 use wasm_types::{WasmRecGroup, equality_law};
@@ -138,4 +138,19 @@ pub fn compared_groups_law()
     ensures { (b b' : Built) → IsWellNamed b → IsWellNamed b' → (engine engine' : EngineMap) → TellTypes b b' engine engine'
         → (k l : ℕ) (x x' y y' : WasmRecGroup) → IsCompared b engine k x x' → IsCompared b' engine' l y y'
         → (x' ≡ y') ↔ SameGroup (λ i j. SameType (list_groups b) (list_groups b') i j) (group_at b k) (group_at b' l) }
+{}
+
+/// For canonical groups of two groups it is enough that the engine's indices tell the types before the two.
+pub fn compared_before_law()
+    ensures { (b b' : Built) → IsWellNamed b → IsWellNamed b' → (engine engine' : EngineMap) (k l : ℕ)
+        → TellTypesBefore b b' engine engine' (span_at b k).start (span_at b' l).start
+        → (x x' y y' : WasmRecGroup) → IsCompared b engine k x x' → IsCompared b' engine' l y y'
+        → (x' ≡ y') ↔ SameGroup (λ i j. SameType (list_groups b) (list_groups b') i j) (group_at b k) (group_at b' l) }
+{}
+
+/// Where types of two lists have one engine's index exactly if they stand at one place of one canonical group, the indices tell types.
+pub fn told_by_forms_law()
+    ensures { (b b' : Built) → IsWellNamed b → IsWellNamed b' → (engine engine' : EngineMap) (olds forms olds' forms' : ℕ → WasmRecGroup)
+        → AreCompared b engine olds forms → AreCompared b' engine' olds' forms' → OneIndex b b' engine engine' forms forms'
+        → TellTypes b b' engine engine' }
 {}
