@@ -48,7 +48,7 @@ module _ (b b' : Built) (w : IsWellNamed b) (w' : IsWellNamed b') (engine engine
         (λ same. at.1 (
           sym (span-place b w k lt i low high) ∙ same.0 ∙ span-place b' w' l lt' j low' high',
           groups.1 (coe 0 1 (t. SameGroup Same (span-home b w k lt i low high t) (span-home b' w' l lt' j low' high' t))
-          (type-groups (list_groups b) (list_groups b') i j same)),
+              (type-groups (list_groups b) (list_groups b') i j same)),
         )),
       )
 

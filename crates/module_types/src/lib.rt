@@ -19,7 +19,8 @@ pub use error::BuildError;
 pub use iterators::{RecGroupElements, RecGroups, TrampolineTypes};
 pub use laws::{
     built_groups_law, compared_before_law, compared_groups_law, declared_groups_law, declared_law,
-    earlier_law, equal_lists_law, has_trampoline_law, holds_law, next_group_law, one_trampoline_law,
-    ranges_law, runs_law, same_type_law, told_by_forms_law, trampolines_law, well_named_law,
+    earlier_law, equal_lists_law, has_trampoline_law, holds_law, next_group_law,
+    one_trampoline_law, ranges_law, runs_law, same_type_law, told_by_forms_law, trampolines_law,
+    well_named_law,
 };
 pub use list::{ModuleTypes, TypesMut, WasmTypesIter};
