@@ -13,4 +13,5 @@ pub mod TablesJoined
 pub mod Taken
 pub mod GlobalsKnown
 pub mod GlobalsTyped
+pub mod Evaluated
 pub mod TablesWorked
