@@ -14,4 +14,6 @@ pub mod Taken
 pub mod GlobalsKnown
 pub mod GlobalsTyped
 pub mod Evaluated
+pub mod Decided
+pub mod Existing
 pub mod TablesWorked
