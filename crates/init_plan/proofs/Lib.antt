@@ -6,6 +6,7 @@ pub mod Plain
 pub mod ViewedImages
 pub mod Planning
 pub mod ImagesOff
+pub mod Sized
 pub mod MemoriesKept
 mod Held
 mod Holding

@@ -1,10 +1,11 @@
 -- The plan of a translation is that of the definitions.
-use Rattle.std.proofs.Common.{◌≡◌, ℕ, ◌+◌, ◌≤◌, List, [], ◌∷◌, ◌++◌, length, map, drop, Option, None, Some, inl, inr, refl, sym, ◌∙◌, ap, subst, arith, length-drop}
+use Rattle.std.proofs.Common.{◌≡◌, ℕ, ◌+◌, ◌^◌, ◌<◌, ◌≤◌, List, [], ◌∷◌, ◌++◌, length, map, drop, Option, None, Some, inl, inr, refl, sym, ◌∙◌, ap, subst, arith, length-drop}
 use Rattle.std.specs.Prelude.{IfNone, IfSome}
 use Rattle.std.specs.Global.{Vec}
+use Rattle.std.specs.Option.{option_map}
 use Rattle.std.proofs.lemmas.List.{length-map}
 use Rattle.memory_images.specs.declared.image.Image.{Image}
-use Rattle.memory_images.specs.Images.{images_of as view_images}
+use Rattle.memory_images.specs.Images.{image_of, images_of as view_images}
 use Rattle.wasm_types.specs.declared.memory.Memory.{Memory}
 use Rattle.wasm_types.specs.Memories.{minimum_bytes}
 use Rattle.wasm_module.specs.declared.module.Module.{Module}
@@ -12,8 +13,9 @@ use Rattle.replay_spec.specs.Data.{ActiveSegment}
 use Rattle.replay_spec.specs.Plan.{MemoryPlan, AgreesOver, planned_from}
 use Rattle.replay_spec.specs.Images.{ImageOptions, size_of, IsStatic, AreImages, IsMemoryPlan, image_map, entries_of, image_bytes}
 use Rattle.init_plan.specs.declared.translation.ModuleTranslation.{ModuleTranslation}
-use Rattle.init_plan.specs.Views.{defined_sizes, images_of, processed_of, bytes_of, IsSegmented}
-use Rattle.init_plan.specs.Images.{image_memory, image_memories, Begins, BeginsAsImages, KeepsSegments}
+use Rattle.init_plan.specs.Views.{initializers_of, passive_bytes, defined_sizes, images_of, processed_of, bytes_of, IsSegmented, SameButSegments}
+use Rattle.init_plan.specs.Images.{image_memory, image_memories, AreSized, Begins, BeginsAsImages, KeepsSegments}
+use Rattle.init_plan.specs.Ready.{MemoryHalfIsReady}
 use Rattle.std.specs.Int.{IsPowerOfTwo}
 use Rattle.replay_spec.proofs.Joined.{agrees}
 use Rattle.init_plan.proofs.Unplanned.{images_of-segmented}
@@ -28,7 +30,7 @@ view_count m low =
     let b = length-drop m.num_imported_memories m.memories in
     omega (arith, a, b)
 
-abbrev plan_of : ModuleTranslation → List (List ℕ) → (ℕ → Option ℕ) → MemoryPlan
+abbrev pub plan_of : ModuleTranslation → List (List ℕ) → (ℕ → Option ℕ) → MemoryPlan
 plan_of mid runtime found = record {
   sizes = defined_sizes mid.module;
   images = images_of mid.module.memory_initialization;
@@ -74,7 +76,7 @@ module _ (options : ImageOptions) (passive runtime : List (List ℕ)) (found : �
         });
       }
 
-  pub planned : (images : Option (Vec (Option Image)))
+  planned : (images : Option (Vec (Option Image)))
       → IfNone images (IsStatic options taken.module.num_imported_memories (image_memories taken.module) active → ⊥)
       → IfSome images (λ _. IsStatic options taken.module.num_imported_memories (image_memories taken.module) active)
       → IfSome images (λ v. AreImages options.page (length taken.module.memories) active (view_images v.items))
@@ -84,10 +86,55 @@ module _ (options : ImageOptions) (passive runtime : List (List ℕ)) (found : �
   planned (Some images) none holds are h = as_images images holds are h
 
 -- the passive segments stand
-pub same_passive : (page_size : ℕ) (images : Option (Vec (Option Image))) (active : List ActiveSegment) (taken mid : ModuleTranslation)
+same_passive : (page_size : ℕ) (images : Option (Vec (Option Image))) (active : List ActiveSegment) (taken mid : ModuleTranslation)
     → Begins page_size images active taken mid → mid.private_parts.passive_data ≡ taken.private_parts.passive_data
 same_passive page_size None active taken mid h = ap (λ (t : ModuleTranslation). t.private_parts.passive_data) h.same
 same_passive page_size (Some images) active taken mid h = ap (λ (t : ModuleTranslation). t.private_parts.passive_data) h.same
+
+-- ---- from a translation that is ready
+
+split_none : (options : ImageOptions) (t : ModuleTranslation) (images : Option (Vec (Option Image))) → AreSized options t images
+    → IfNone images (IsStatic options t.module.num_imported_memories (image_memories t.module) (initializers_of t) → ⊥)
+split_none options t None sized = sized.0
+split_none options t (Some v) sized = tt
+
+split_static : (options : ImageOptions) (t : ModuleTranslation) (images : Option (Vec (Option Image))) → AreSized options t images
+    → IfSome images (λ _. IsStatic options t.module.num_imported_memories (image_memories t.module) (initializers_of t))
+split_static options t None sized = tt
+split_static options t (Some v) sized = sized.0
+
+split_images : (options : ImageOptions) (t : ModuleTranslation) (images : Option (Vec (Option Image))) → AreSized options t images
+    → IfSome images (λ v. AreImages options.page (length t.module.memories) (initializers_of t) (view_images v.items))
+split_images options t None sized = tt
+split_images options t (Some v) sized = sized.1
+
+-- there are as many images as memories
+pub few_images : (options : ImageOptions) (t : ModuleTranslation) (images : Option (Vec (Option Image))) → length t.module.memories < 2 ^ 30 → AreSized options t images
+    → IfSome images (λ v. length v.items < 2 ^ 30)
+few_images options t None few sized = tt
+few_images options t (Some v) few sized = let count = sized.1.count in let same = length-map v.items (option_map image_of) in omega (arith, count, same, few)
+
+module _ (options : ImageOptions) (old taken mid : ModuleTranslation) (images : Option (Vec (Option Image))) (active : List ActiveSegment)
+    (ready : MemoryHalfIsReady old) (sized : AreSized options old images) (rest : SameButSegments old taken) (is : active ≡ initializers_of old)
+    (begins : Begins options.page images active taken mid) where
+  module_same : taken.module ≡ old.module
+  module_same = ap (λ (t : ModuleTranslation). t.module) rest
+
+  pub stands : mid.private_parts.passive_data ≡ old.private_parts.passive_data
+  stands = same_passive options.page images active taken mid begins ∙ ap (λ (t : ModuleTranslation). t.private_parts.passive_data) rest
+
+  pub planned_sized : (runtime : List (List ℕ)) (found : ℕ → Option ℕ) → runtime ≡ map bytes_of mid.runtime_data ++ passive_bytes old
+      → IsMemoryPlan options old.module.num_imported_memories (image_memories old.module) (initializers_of old) (passive_bytes old) (plan_of mid runtime found)
+  planned_sized runtime found is_runtime =
+      let base = planned options (passive_bytes old) runtime found (initializers_of old) taken mid
+      (ap (λ (t : ModuleTranslation). t.runtime_data) rest ∙ ready.no_runtime)
+      (subst (λ (m : Module). IsSegmented m.memory_initialization) (sym module_same) ready.segmented)
+      (subst (λ (m : Module). m.num_imported_memories ≤ length m.memories) (sym module_same) ready.imports) is_runtime images
+      (subst (λ (m : Module). IfNone images (IsStatic options m.num_imported_memories (image_memories m) (initializers_of old) → ⊥)) (sym module_same) (split_none options old images sized))
+      (subst (λ (m : Module). IfSome images (λ _. IsStatic options m.num_imported_memories (image_memories m) (initializers_of old))) (sym module_same) (split_static options old images sized))
+      (subst (λ (m : Module). IfSome images (λ v. AreImages options.page (length m.memories) (initializers_of old) (view_images v.items))) (sym module_same) (split_images options old images sized))
+      (subst (λ xs. Begins options.page images xs taken mid) is begins) in
+      subst (λ (m : Module). IsMemoryPlan options m.num_imported_memories (image_memories m) (initializers_of old) (passive_bytes old) (plan_of mid runtime found)) module_same base
 
 -- the plan leaves what the segments leave
 pub agrees_sized : (options : ImageOptions) (m : Module) (active : List ActiveSegment) (passive : List (List ℕ)) (plan : MemoryPlan) → IsPowerOfTwo options.page

@@ -2,6 +2,7 @@
 use Rattle.std.proofs.Common.{◌≡◌, ℕ, [], ◌∷◌, refl, sym, ap, subst, arith}
 use Rattle.std.specs.Prelude.{nat_eq}
 use Rattle.std.specs.List.{IsDistinct}
+use Rattle.entity_map.specs.Secondary.{value_at}
 use Rattle.wasm_index.specs.Index.{number_of}
 use Rattle.wasm_index.specs.declared.index.Index.{Index}
 use Rattle.wasm_index.specs.declared.spaces.StaticModuleSpace.{StaticModuleSpace}
@@ -44,7 +45,7 @@ MemoryHalfIsReady-new i t h = record {
   no_ranges = new-ranges i t h;
   no_runtime = h.no_runtime;
   no_alignment = h.no_alignment;
-  nothing_found = h.nothing_found;
+  nothing_found = λ n. ap (λ m. value_at m n) h.nothing_found;
   imports = rw (new-imports i t h, new-memories i t h) (omega arith);
   few_memories = rw (new-memories i t h) (omega arith);
   page_sizes = rw (new-memories i t h) (λ k d past. absurd (omega arith));

@@ -1,33 +1,12 @@
--- The runtime data of images stand at whole pages; and the runtime data of a plan are determined.
-use Rattle.std.proofs.Common.{◌≡◌, ℕ, zero, suc, ◌+◌, ◌*◌, ◌/◌, ◌%◌, ◌^◌, ◌<◌, ◌≤◌, ◌⊎◌, inl, inr, List, [], ◌∷◌, ◌++◌, length, map, Option, None, Some, refl, sym, ◌∙◌, ap, arith}
-use Rattle.std.specs.Prelude.{slice_get, sum_by, IsSomeAnd}
+-- The runtime data of images stand at whole pages.
+use Rattle.std.proofs.Common.{◌≡◌, ℕ, zero, suc, ◌+◌, ◌*◌, ◌/◌, ◌%◌, ◌⊎◌, inl, inr, List, [], ◌∷◌, ◌++◌, length, map, Option, None, Some, refl, sym, ◌∙◌, ap, arith}
+use Rattle.std.specs.Prelude.{slice_get, IsSomeAnd}
 use Rattle.std.proofs.Math.Nat.{mod-add-div', add-mul-mod_self_right, mul-mod_left, zero-mod, zero-add}
 use Rattle.std.proofs.lemmas.Option.{none-some, same_Some}
 use Rattle.replay_spec.specs.Data.{ActiveSegment}
 use Rattle.replay_spec.specs.Plan.{MemoryPlan, ranges_from}
 use Rattle.replay_spec.specs.Images.{ImageOptions, ImageMemory, MemoryImage, IsImage, written_on, image_map, image_bytes, PlansImages, PlansSegments, IsMemoryPlan}
-use Rattle.replay_spec.proofs.One.{one-list}
 use Rattle.init_plan.specs.Images.{IsWholeRange, HasWholeRanges}
-
--- ---- one list of runtime data
-
-module _ (options : ImageOptions) (imports : ℕ) (memories : List ImageMemory) (active : List ActiveSegment) (passive : List (List ℕ)) where
-  pub one_runtime : (p q : MemoryPlan) → IsMemoryPlan options imports memories active passive p → IsMemoryPlan options imports memories active passive q
-      → p.runtime ≡ q.runtime
-  one_runtime p q hp hq = by hp.segments hq.segments where
-    by : PlansImages options imports memories active passive p ⊎ PlansSegments options imports memories active passive p
-        → PlansImages options imports memories active passive q ⊎ PlansSegments options imports memories active passive q → p.runtime ≡ q.runtime
-    by (inl a) (inl b) = a.runtime
-        ∙ ap (λ (images : List (Option MemoryImage)). image_bytes images ++ passive) (one-list options.page (imports + length memories) active a.images b.images a.are_images b.are_images)
-        ∙ sym b.runtime
-    by (inr a) (inr b) = a.runtime ∙ sym b.runtime
-    by (inl a) (inr b) = absurd (b.not_static a.static)
-    by (inr a) (inl b) = absurd (a.not_static b.static)
-
-  -- where one plan's runtime data fit, those of each do
-  pub fits_both : (p q : MemoryPlan) → IsMemoryPlan options imports memories active passive p → IsMemoryPlan options imports memories active passive q
-      → sum_by length p.runtime < 2 ^ 32 → 2 ^ 32 ≤ sum_by length q.runtime → ⊥
-  fits_both p q hp hq fits large = let same = ap (sum_by length) (one_runtime p q hp hq) in omega (arith, same, fits, large)
 
 -- ---- whole pages
 

@@ -1,5 +1,5 @@
 -- The memories of a translated module, as the image rule asks of them.
-use Rattle.std.specs.Prelude.{◌≡◌, ◌++◌, ◌+◌, ◌%◌, IsSomeAnd, Bool, false, true, ℕ, List, length, map, drop, slice_get, Option, None, Some}
+use Rattle.std.specs.Prelude.{◌≡◌, ◌++◌, ◌+◌, ◌%◌, ◌^◌, ◌<◌, IsSomeAnd, Bool, false, true, ℕ, List, length, map, drop, sum_by, slice_get, Option, None, Some}
 use Rattle.std.specs.Global.{Vec}
 use Rattle.memory_images.specs.declared.image.Image.{Image}
 use Rattle.memory_images.specs.Images.{images_of as view_images}
@@ -10,9 +10,9 @@ use Rattle.wasm_types.specs.declared.tunables.Tunables.{Tunables}
 use Rattle.wasm_module.specs.declared.module.Module.{Module}
 use Rattle.replay_spec.specs.Data.{ActiveSegment}
 use Rattle.replay_spec.specs.Plan.{MemoryPlan, planned_from}
-use Rattle.replay_spec.specs.Images.{ImageOptions, ImageMemory, IsStatic, MemoryImage, written_on, bytes_on, image_map, entries_of, image_bytes, PlansImages, IsTight}
+use Rattle.replay_spec.specs.Images.{ImageOptions, ImageMemory, IsStatic, MemoryImage, AreImages, written_on, bytes_on, image_map, entries_of, image_bytes, PlansImages, IsTight}
 use Rattle.init_plan.specs.declared.translation.ModuleTranslation.{ModuleTranslation}
-use Rattle.init_plan.specs.Views.{initializers_of, images_of, processed_of, bytes_of, IsSegmented, IsProcessed}
+use Rattle.init_plan.specs.Views.{initializers_of, passive_bytes, data_total, images_of, processed_of, bytes_of, IsSegmented, IsProcessed}
 
 abbrev pub is_wide : IndexType → Bool
 is_wide index.I32 = false
@@ -50,6 +50,13 @@ HasWholeRanges page images ranges = (m start index : ℕ) → slice_get images m
     → IsSomeAnd (slice_get ranges index) (IsWholeRange page)
 
 -- ---- the steps
+
+-- images where the image rule holds, and none where it does not; the runtime data have fewer than 2 ^ 32 bytes
+abbrev pub AreSized : ImageOptions → ModuleTranslation → Option (Vec (Option Image)) → Type 0
+AreSized options t None = (IsStatic options t.module.num_imported_memories (image_memories t.module) (initializers_of t) → ⊥) × (data_total t < 2 ^ 32)
+AreSized options t (Some images) = IsStatic options t.module.num_imported_memories (image_memories t.module) (initializers_of t)
+    × AreImages options.page (length t.module.memories) (initializers_of t) (view_images images.items)
+    × (sum_by length (passive_bytes t) + sum_by length (image_bytes (view_images images.items)) < 2 ^ 32)
 
 -- the memories begin as images of pages of a size, which are the next runtime data
 pub record BeginsAsImages (page_size : ℕ) (images : List (Option MemoryImage)) (old new : ModuleTranslation) : Type 0 where

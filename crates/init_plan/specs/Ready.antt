@@ -1,6 +1,7 @@
 -- When a translation's memories may be planned.
-use Rattle.std.specs.Prelude.{◌≡◌, ◌⊎◌, ◌^◌, ◌<◌, ◌≤◌, [], length, map, All, nat_eq, None}
+use Rattle.std.specs.Prelude.{◌≡◌, ℕ, ◌⊎◌, ◌^◌, ◌<◌, ◌≤◌, [], length, map, All, nat_eq, None}
 use Rattle.std.specs.List.{IsDistinct}
+use Rattle.entity_map.specs.Secondary.{value_at}
 use Rattle.init_plan.specs.declared.translation.ModuleTranslation.{ModuleTranslation}
 use Rattle.init_plan.specs.Views.{initializers_of, passive_data_of, ranges_of, IsSegmented, IsUnprocessed}
 
@@ -11,7 +12,7 @@ pub record MemoryHalfIsReady (t : ModuleTranslation) : Type 0 where
   pub no_ranges : ranges_of t.module ≡ []
   pub no_runtime : t.runtime_data ≡ []
   pub no_alignment : t.data_align ≡ None
-  pub nothing_found : t.runtime_data_map ≡ record { default = None; items = [] }
+  pub nothing_found : (n : ℕ) → value_at t.runtime_data_map n ≡ None
   pub imports : t.module.num_imported_memories ≤ length t.module.memories
   pub few_memories : length t.module.memories < 2 ^ 30
   pub page_sizes : All (λ m. (m.page_size_log2 ≡ 0) ⊎ (m.page_size_log2 ≡ 16)) t.module.memories

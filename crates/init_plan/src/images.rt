@@ -1,6 +1,6 @@
 //! Whether the data segments of a translation become images of its memories.
 
-ghost use Rattle.std.specs.Prelude.{◌≡◌, ◌⊎◌, ◌+◌, ◌^◌, ◌≤◌, ◌<◌, ℕ, List, Bool, Option, All, IfOk, IfSome, IfNone, Err, length, map, drop, sum_by};
+ghost use Rattle.std.specs.Prelude.{◌≡◌, ◌≢◌, ◌⊎◌, ◌+◌, ◌^◌, ◌≤◌, ◌<◌, ℕ, List, Bool, false, Option, None, All, IfOk, IfSome, IfNone, Ok, Err, length, map, drop, sum_by};
 ghost use Rattle.std.specs.List.{AllZip};
 ghost use Rattle.std.specs.Int.{IsPowerOfTwo};
 ghost use Rattle.replay_spec.specs.Values.{const_value};
@@ -87,7 +87,8 @@ fn defined_memories(
     plain_memories(alloc, &memories[translated.num_imported_memories..])
 }
 
-// The images of all memories, imported ones first, where the segments become images. So many bytes stand beside them.
+// The images of all memories, imported ones first, where the segments become images. So many bytes stand beside them. Where images are off
+// nothing is allocated.
 pub(crate) fn memory_images_of(
     alloc: Global,
     settings: ImageSettings,
@@ -99,6 +100,7 @@ pub(crate) fn memory_images_of(
     requires page_sizes { All (λ m. (m.page_size_log2 ≡ 0) ⊎ (m.page_size_log2 ≡ 16)) translated.now.memories }
     requires imports { translated.now.num_imported_memories ≤ length translated.now.memories }
     requires few { length translated.now.memories < 2 ^ 30 }
+    ensures off { settings.enabled ≡ false → result ≡ Ok None }
     ensures none { IfOk result (λ o. IfNone o
         (IsStatic (options_of settings) translated.now.num_imported_memories (image_memories translated.now) (map active_segment_of segments.now) → ⊥)) }
     ensures holds { IfOk result (λ o. IfSome o (λ _.
@@ -109,9 +111,13 @@ pub(crate) fn memory_images_of(
     ensures too_large { result ≡ Err PlanError.TooLarge → (images : List (Option MemoryImage))
         → AreImages settings.page_size (length translated.now.memories) (map active_segment_of segments.now) images
         → 2 ^ 32 ≤ beside + sum_by length (image_bytes images) }
+    ensures never_poisoned { result ≢ Err PlanError.Poisoned }
     ensures too_large_holds { result ≡ Err PlanError.TooLarge
         → IsStatic (options_of settings) translated.now.num_imported_memories (image_memories translated.now) (map active_segment_of segments.now) }
 {
+    if !settings.enabled {
+        return Ok(None);
+    }
     let imported = translated.num_imported_memories;
     let memories = defined_memories(alloc, translated)?;
     let plain = plain_segments(alloc, segments)?;

@@ -1,12 +1,13 @@
 //! Data segments become runtime data.
 
-ghost use Rattle.std.specs.Prelude.{◌≡◌, ◌+◌, ◌^◌, ◌<◌, ◌≤◌, ℕ, [], length, map, sum_by, All, Contains, OnOk, IfSome, IfNone, Err, None};
+ghost use Rattle.std.specs.Prelude.{◌≡◌, ◌≢◌, ◌+◌, ◌^◌, ◌<◌, ◌≤◌, ℕ, [], length, map, sum_by, false, All, Contains, OnOk, OnErr, IfOk, IfSome, Err, None};
 ghost use Rattle.std.specs.Int.{IsPowerOfTwo};
 ghost use Rattle.replay_spec.specs.Plan.{MemoryPlan, AgreesOver, ranges_from};
 ghost use Rattle.replay_spec.specs.Images.{IsMemoryPlan};
 ghost use Rattle.memory_images.specs.Images.{images_of as view_images};
-ghost use Rattle.init_plan.specs.Views.{memory_plan_of, initializers_of, passive_data_of, defined_sizes, ranges_of, total_bytes, passive_bytes, FindsData, FindsInOrder, OnlyMemoriesChange, IsUnprocessed, IsProcessed, active_segment_of, SameButSegments};
-ghost use Rattle.init_plan.specs.Images.{image_options, image_memories, BeginsByRule, BeginsAsImages, KeepsSegments, Begins};
+ghost use Rattle.memory_images.specs.Views.{options_of};
+ghost use Rattle.init_plan.specs.Views.{memory_plan_of, initializers_of, passive_data_of, defined_sizes, ranges_of, passive_bytes, FindsData, FindsInOrder, OnlyMemoriesChange, IsUnprocessed, IsProcessed, active_segment_of, SameButSegments};
+ghost use Rattle.init_plan.specs.Images.{image_memories, AreSized, BeginsByRule, BeginsAsImages, KeepsSegments, Begins};
 ghost use Rattle.init_plan.specs.Ready.{MemoryHalfIsReady};
 
 use crate::error::PlanError;
@@ -21,24 +22,51 @@ use memory_images::{Image, ImageSettings};
 use std::alloc::Global;
 use std::mem;
 use wasm_module::{MemoryInitialization, MemoryInitializer};
-use wasm_types::Tunables;
 
 impl<'d> ModuleTranslation<'d> {
-    // Plans the active data segments, all but the startup that they need.
+    // The images that the memories begin as, where the image rule holds, and none where every segment is kept; the runtime data fit 32 bits.
+    // Where images are off nothing is allocated.
+    pub(crate) fn sized_images(
+        &self,
+        alloc: Global,
+        settings: ImageSettings,
+    ) -> Result<Option<Vec<Option<Image>>>, PlanError>
+        requires ready { MemoryHalfIsReady self.now }
+        requires page_size { IsPowerOfTwo settings.page_size }
+        ensures sized { IfOk result (AreSized (options_of settings) self.now) }
+        ensures too_large { result ≡ Err PlanError.TooLarge → (plan : MemoryPlan) → IsMemoryPlan (options_of settings)
+            self.now.module.num_imported_memories (image_memories self.now.module) (initializers_of self.now) (passive_bytes self.now) plan
+            → 2 ^ 32 ≤ sum_by length plan.runtime }
+        ensures off { settings.enabled ≡ false → OnErr result (result ≡ Err PlanError.TooLarge) }
+        ensures never_poisoned { result ≢ Err PlanError.Poisoned }
+    {
+        let segments = self.memory_init.unprocessed();
+        let passive = &self.private_parts.passive_data;
+        let beside = passive_length(passive)?;
+        match memory_images_of(alloc, settings, &self.module, segments, beside)? {
+            Some(images) => Ok(Some(images)),
+            None => {
+                check_total(segments, passive)?;
+                Ok(None)
+            }
+        }
+    }
+
+    // Plans the active data segments, all but the startup that they need. The memories begin as these images, where there are some.
     pub(crate) fn plan_memories(
         &mut self,
         alloc: Global,
-        tunables: &Tunables,
-        page_size: u64,
-        max_image: u64,
-    ) -> Result<(), PlanError>
+        settings: ImageSettings,
+        images: Option<Vec<Option<Image>>>,
+    ) -> Result<(), OutOfMemory>
         requires ready { MemoryHalfIsReady self.old }
-        requires page_size { IsPowerOfTwo page_size }
+        requires page_size { IsPowerOfTwo settings.page_size }
+        requires sized { AreSized (options_of settings) self.old images }
 
         // The plan is that of the definitions: images alone where the image rule holds, and else every segment, in order.
-        ensures planned { OnOk result (IsMemoryPlan (image_options tunables.now page_size max_image) self.old.module.num_imported_memories
+        ensures planned { OnOk result (IsMemoryPlan (options_of settings) self.old.module.num_imported_memories
             (image_memories self.old.module) (initializers_of self.old) (passive_bytes self.old) (memory_plan_of self.new)) }
-        ensures begins { OnOk result (BeginsByRule (image_options tunables.now page_size max_image) self.old self.new) }
+        ensures begins { OnOk result (BeginsByRule (options_of settings) self.old self.new) }
         ensures processed { OnOk result (IsProcessed self.new.memory_init) }
 
         // It leaves what the segments leave, over any globals and any contents of the imported memories.
@@ -55,22 +83,10 @@ impl<'d> ModuleTranslation<'d> {
             (memory_plan_of self.new).passive index ≡ None) }
 
         ensures same { OnOk result (OnlyMemoriesChange self.old self.new) }
-
-        // Too large exactly where the runtime data of the plan pass 4294967295 bytes.
         ensures fits { OnOk result (sum_by length (memory_plan_of self.new).runtime < 2 ^ 32) }
-        ensures too_large { result ≡ Err PlanError.TooLarge → (plan : MemoryPlan) → IsMemoryPlan (image_options tunables.now page_size max_image)
-            self.old.module.num_imported_memories (image_memories self.old.module) (initializers_of self.old) (passive_bytes self.old) plan
-            → 2 ^ 32 ≤ sum_by length plan.runtime }
     {
         let segments = self.take_segments(alloc);
-        let beside = passive_length(&self.private_parts.passive_data)?;
-        let settings = ImageSettings {
-            enabled: tunables.memory_init_cow,
-            page_size,
-            max_image,
-        };
-        let images = memory_images_of(alloc, settings, &self.module, &segments, beside)?;
-        self.begin_memories(alloc, images, segments, page_size)?;
+        self.begin_memories(alloc, settings.page_size, images, segments)?;
         keep_passive(
             &self.private_parts.passive_data,
             &mut self.runtime_data,
@@ -84,23 +100,18 @@ impl<'d> ModuleTranslation<'d> {
     fn begin_memories(
         &mut self,
         alloc: Global,
+        page_size: u64,
         images: Option<Vec<Option<Image>>>,
         segments: Vec<MemoryInitializer<'d>>,
-        page_size: u64,
-    ) -> Result<(), PlanError>
+    ) -> Result<(), OutOfMemory>
         requires empty { self.old.runtime_data ≡ [] }
         requires few_images { IfSome images (λ images. length images.items < 2 ^ 30) }
         requires few_segments { length segments.items < 2 ^ 30 }
         ensures begins { OnOk result (Begins page_size images (map active_segment_of segments.entry.items) self.old self.new) }
         ensures few { OnOk result (length self.new.runtime_data < 2 ^ 30) }
-        ensures fits { OnOk result (IfNone images (total_bytes (map active_segment_of segments.entry.items) (passive_data_of self.old) < 2 ^ 32)) }
-        ensures too_large { result ≡ Err PlanError.TooLarge → IfSome images (λ _. ⊥) × (2 ^ 32 ≤ total_bytes (map active_segment_of segments.entry.items) (passive_data_of self.old)) }
     {
         match images {
-            Some(images) => {
-                self.begin_as_images(alloc, images, page_size)?;
-                Ok(())
-            }
+            Some(images) => self.begin_as_images(alloc, images, page_size),
             None => self.keep_segments(alloc, segments),
         }
     }
@@ -130,14 +141,11 @@ impl<'d> ModuleTranslation<'d> {
         &mut self,
         alloc: Global,
         segments: Vec<MemoryInitializer<'d>>,
-    ) -> Result<(), PlanError>
+    ) -> Result<(), OutOfMemory>
         requires { length self.old.runtime_data + length segments.items < u32.MAX }
         ensures kept { OnOk result (KeepsSegments (map active_segment_of segments.entry.items) self.old self.new) }
         ensures few { OnOk result (length self.new.runtime_data ≤ length self.old.runtime_data + length segments.entry.items) }
-        ensures fits { OnOk result (total_bytes (map active_segment_of segments.entry.items) (passive_data_of self.old) < 2 ^ 32) }
-        ensures too_large { result ≡ Err PlanError.TooLarge → 2 ^ 32 ≤ total_bytes (map active_segment_of segments.entry.items) (passive_data_of self.old) }
     {
-        check_total(&segments, &self.private_parts.passive_data)?;
         let kept = keep_active(alloc, segments, &mut self.runtime_data)?;
         self.memory_init = MemoryInit::Processed(kept);
         Ok(())

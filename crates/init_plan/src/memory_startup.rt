@@ -1,6 +1,6 @@
 //! Startup, where the memories are planned.
 
-ghost use Rattle.std.specs.Prelude.{◌≡◌, ◌⊎◌, ◌↔◌, ◌<◌, ◌≤◌, ◌^◌, ℕ, length, map, sum_by, false, true, is_none, IsTrue, All, Contains, Err, None, OnOk, OnErr};
+ghost use Rattle.std.specs.Prelude.{◌≡◌, ◌≢◌, ◌⊎◌, ◌↔◌, ◌<◌, ◌≤◌, ◌^◌, ℕ, length, map, sum_by, false, true, is_none, IsTrue, All, Contains, Err, None, OnOk, OnErr};
 ghost use Rattle.std.specs.List.{list_all, filter_map};
 ghost use Rattle.module_types.specs.Builder.{builder_view, starts};
 ghost use Rattle.replay_spec.specs.Startup.{is_empty, raised_by_memories};
@@ -11,10 +11,11 @@ ghost use Rattle.replay_spec.specs.Images.{IsMemoryPlan};
 ghost use Rattle.init_plan.specs.Images.{image_options, image_memories, BeginsByRule, HasTightImages, HasWholeRanges};
 ghost use Rattle.init_plan.specs.Tables.{TableHalfIsReady};
 ghost use Rattle.init_plan.specs.Ready.{MemoryHalfIsReady};
-ghost use Rattle.init_plan.specs.Views.{memory_plan_of, images_of, processed_of, IsPlace, initializers_of, passive_data_of, passive_bytes, defined_sizes, ranges_of, FindsData, FindsInOrder, IsProcessed, OnlyMemoryInitChanges};
+ghost use Rattle.init_plan.specs.Views.{memory_plan_of, images_of, processed_of, IsPlace, initializers_of, passive_data_of, passive_bytes, data_total, defined_sizes, ranges_of, FindsData, FindsInOrder, IsProcessed, OnlyMemoryInitChanges};
 
 use crate::error::PlanError;
 use crate::translation::{MemoryInit, MemorySegmentOffset, ModuleTranslation};
+use memory_images::ImageSettings;
 use module_types::{BuildError, ModuleTypesBuilder};
 use std::alloc::Global;
 use wasm_index::{MemoryIndex, RuntimeDataIndex};
@@ -27,7 +28,8 @@ impl ModuleTranslation<'_> {
     /// is raised by what is kept and by images. After an error the translation may only be dropped.
     ///
     /// # Errors
-    /// `TooLarge` where the runtime data pass 4294967295 bytes, before an image is made; `Poisoned` where the builder is; `OutOfMemory`.
+    /// `TooLarge` where the runtime data pass 4294967295 bytes, before an image is made and whatever the builder is; `Poisoned` where the
+    /// builder is; `OutOfMemory`.
     pub fn finalize_memory_init(
         &mut self,
         alloc: Global,
@@ -85,16 +87,29 @@ impl ModuleTranslation<'_> {
         // Poisoned where the builder was, unless another refusal came before.
         ensures usable { OnOk result (types.old.is_poisoned ≡ false) }
         ensures poisoned { result ≡ Err PlanError.Poisoned → types.old.is_poisoned ≡ true }
+        ensures poisoned_alone { (plan : MemoryPlan) → IsMemoryPlan (image_options tunables.now page_size max_image)
+            self.old.module.num_imported_memories (image_memories self.old.module) (initializers_of self.old) (passive_bytes self.old) plan
+            → sum_by length plan.runtime < 2 ^ 32 → types.old.is_poisoned ≡ true → (result ≡ Err PlanError.Poisoned) ⊎ (result ≡ Err PlanError.OutOfMemory) }
+
+        // Where images are off nothing is allocated before either is told.
+        ensures too_large_without_images { tunables.now.memory_init_cow ≡ false → 2 ^ 32 ≤ data_total self.old → result ≡ Err PlanError.TooLarge }
+        ensures poisoned_without_images { tunables.now.memory_init_cow ≡ false → data_total self.old < 2 ^ 32 → types.old.is_poisoned ≡ true
+            → result ≡ Err PlanError.Poisoned }
 
         // After an error the builder is as it was, or poisoned.
         ensures refused { OnErr result ((types.new ≡ types.old) ⊎ (types.new.is_poisoned ≡ true)) }
     {
-        // The plan does not use the builder.
-        match self.plan_memories(alloc, tunables, page_size, max_image) {
-            Ok(()) => {}
-            Err(PlanError::TooLarge) => return Err(PlanError::TooLarge),
-            Err(_) => return Err(PlanError::OutOfMemory),
+        let settings = ImageSettings {
+            enabled: tunables.memory_init_cow,
+            page_size,
+            max_image,
+        };
+        // Data that are too large are reported whatever the builder is. Where images are off nothing was allocated so far.
+        let images = self.sized_images(alloc, settings)?;
+        if types.is_poisoned() {
+            return Err(PlanError::Poisoned);
         }
+        self.plan_memories(alloc, settings, images)?;
         self.raise_startup_by_memories(types)?;
         Ok(())
     }
@@ -105,23 +120,20 @@ impl ModuleTranslation<'_> {
         types: &mut ModuleTypesBuilder,
     ) -> Result<(), BuildError>
         requires room { types.old.is_poisoned ≡ false → length (starts (builder_view types.old)).built.types < u32.MAX }
+        requires usable { types.old.is_poisoned ≡ false }
         requires processed { IsProcessed self.old.memory_init }
         ensures ok { let kind = raised_by_memories (memory_plan_of self.old) (startup_kind self.old.module.startup) in
             OnOk result (self.new ≡ with_startup self.old (raised kind self.old.module.startup (builder_view types.old))) }
         ensures types { let kind = raised_by_memories (memory_plan_of self.old) (startup_kind self.old.module.startup) in
             OnOk result (builder_view types.new ≡ types_after kind self.old.module.startup (builder_view types.old)) }
-        ensures usable { OnOk result (types.old.is_poisoned ≡ false) }
-        ensures poisoned { result ≡ Err BuildError.Poisoned → types.old.is_poisoned ≡ true }
-        ensures err { OnErr result (types.new.is_poisoned ≡ true) }
+        ensures err { result ≢ Err BuildError.Poisoned }
+        ensures refused { OnErr result (types.new.is_poisoned ≡ true) }
     {
         if !keeps_none(&self.memory_init) {
             return self.require_startup_func(types);
         }
         if !has_none(&self.module.memory_initialization) {
             return self.require_startup_for_images(types);
-        }
-        if types.is_poisoned() {
-            return Err(BuildError::Poisoned);
         }
         Ok(())
     }

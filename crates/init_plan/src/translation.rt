@@ -3,7 +3,7 @@
 ghost use Rattle.std.specs.Prelude.{◌≡◌, ◌++◌, ◌∷◌, [], length, map, Some, IfOk, OnOk, OnErr, IsSome};
 ghost use Rattle.std.specs.Option.{option_map};
 ghost use Rattle.wasm_index.specs.Index.{number_of};
-ghost use Rattle.init_plan.specs.Views.{bytes_of, passive_data_of, types_of, hints_of, hint_entries_of, IsNewTranslation, SameButPassive, SameButTypes, SameButHints};
+ghost use Rattle.init_plan.specs.Views.{active_segment_of, unprocessed_of, IsUnprocessed, bytes_of, passive_data_of, types_of, hints_of, hint_entries_of, IsNewTranslation, SameButPassive, SameButTypes, SameButHints};
 
 use crate::debug_info::{BranchHint, DebugInfoData};
 use crate::private_parts::PrivateParts;
@@ -85,6 +85,19 @@ pub enum MemorySegmentOffset {
     Expr(ConstExpr),
     /// At this byte.
     Static(u64),
+}
+
+impl<'d> MemoryInit<'d> {
+    /// The segments that are not planned yet, in order.
+    pub(crate) fn unprocessed(&self) -> &[MemoryInitializer<'d>]
+        requires { IsUnprocessed self.now }
+        ensures { map active_segment_of result.now ≡ unprocessed_of self.now }
+    {
+        match self {
+            MemoryInit::Unprocessed(segments) => segments.as_slice(),
+            MemoryInit::Processed(_) => unreachable!(),
+        }
+    }
 }
 
 impl<'d> RuntimeBytes<'d> {

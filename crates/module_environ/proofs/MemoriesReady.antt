@@ -9,6 +9,7 @@ use Rattle.std.proofs.lemmas.Map.Keys.{IsDistinct-cons}
 use Rattle.wasm_spec.specs.declared.entities.MemoryType.{MemoryType}
 use Rattle.wasm_spec.specs.Module.{DataKind, Passive, Active, Segment, Module, imported_memories, defined_memories, memories, segments}
 use Rattle.wasm_spec.specs.Sizes.{HasFewEntries}
+use Rattle.entity_map.specs.Secondary.{value_at}
 use Rattle.rule_spec.specs.declared.rules.Rule.TheVariants.{L4, L9}
 use Rattle.rule_spec.specs.Lists.{Lists, lists_of_module}
 use Rattle.rule_spec.specs.Limits.{HasLimits}
@@ -113,7 +114,7 @@ memories-ready m t data' entities counts kept few =
       no_ranges = data'.no_ranges;
       no_runtime = data'.no_runtime;
       no_alignment = data'.no_alignment;
-      nothing_found = data'.nothing_found;
+      nothing_found = λ n. ap (λ x. value_at x n) data'.nothing_found;
       imports = omega (arith, counts.memories, count, length-append (imported_memories m) (defined_memories m));
       few_memories = omega (arith, count, few.memories);
       page_sizes = subst (All (λ (x : Memory). (x.page_size_log2 ≡ 0) ⊎ (x.page_size_log2 ≡ 16))) (sym entities.memories)

@@ -20,7 +20,7 @@ module _ (fields : ℕ → ℕ) (n : ℕ) (known later : List Value) (same : (g 
   same-step (op.GlobalGet g) stack h = ap (λ v. acted (record { takes = 0; makes = λ taken. v }) stack) (same g h)
   same-step _ stack h = refl
 
-  same-run : (e : Expression) (stack : List Value) → All (ReadsBelow n) e
+  pub same-run : (e : Expression) (stack : List Value) → All (ReadsBelow n) e
       → run (λ op. acted (action known fields op)) e stack ≡ run (λ op. acted (action later fields op)) e stack
   same-run [] stack all = refl
   same-run (op ∷ ops) stack all =
@@ -42,7 +42,7 @@ set-seam [] rest x v (suc n) e = absurd (omega arith)
 set-seam (p ∷ pre) rest x v zero e = absurd (omega arith)
 set-seam (p ∷ pre) rest x v (suc n) e = ap (λ xs. p ∷ xs) (set-seam pre rest x v n (omega arith))
 
-get-front : (pre rest : List Value) (g : ℕ) → g < length pre → slice_get pre g ≡ slice_get (pre ++ rest) g
+pub get-front : (pre rest : List Value) (g : ℕ) → g < length pre → slice_get pre g ≡ slice_get (pre ++ rest) g
 get-front [] rest g l = absurd (omega arith)
 get-front (p ∷ pre) rest zero l = refl
 get-front (p ∷ pre) rest (suc g) l = get-front pre rest g (omega arith)

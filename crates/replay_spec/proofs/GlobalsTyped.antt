@@ -22,7 +22,7 @@ module _ (l : Lists) (visible : List GlobalType) (n : ℕ) (few : length visible
     over (Some type) is some = let within = slice_get_within visible g type is in omega arith
   reads-step _ signed h = tt
 
-  reads-below : (e : Expression) (before after : List Class) → Leads l visible e before after → All (ReadsBelow n) e
+  pub reads-below : (e : Expression) (before after : List Class) → Leads l visible e before after → All (ReadsBelow n) e
   reads-below [] before after h = All-nil (ReadsBelow n)
   reads-below (op ∷ ops) before after h =
       let step : Step l visible op before h.0 = h.1 in

@@ -13,4 +13,7 @@ pub mod TablesJoined
 pub mod Taken
 pub mod GlobalsKnown
 pub mod GlobalsTyped
+pub mod Evaluated
+pub mod Decided
+pub mod Existing
 pub mod TablesWorked

@@ -1,10 +1,11 @@
--- A memory has one image at most.
-use Rattle.std.proofs.Common.{◌≡◌, ℕ, suc, ◌+◌, ◌*◌, ◌/◌, ◌<◌, ◌≤◌, List, [], ◌∷◌, length, get_or, Option, None, Some, refl, sym, ◌∙◌, ap, arith}
+-- A memory has one image at most, and the runtime data of a plan are determined.
+use Rattle.std.proofs.Common.{◌≡◌, ℕ, suc, ◌+◌, ◌*◌, ◌/◌, ◌<◌, ◌≤◌, List, [], ◌∷◌, ◌++◌, length, get_or, Option, None, Some, ◌⊎◌, inl, inr, refl, sym, ◌∙◌, ap, arith}
 use Rattle.std.proofs.Math.Logic.{⊎_elim}
 use Rattle.std.proofs.lemmas.Bool.{cases_lt}
 use Rattle.std.proofs.lemmas.Option.{slice_get-get_or}
 use Rattle.replay_spec.specs.Data.{ActiveSegment}
-use Rattle.replay_spec.specs.Images.{MemoryImage, IsFirst, IsLast, IsImage, ImageOf, AreImages, written_on}
+use Rattle.replay_spec.specs.Plan.{MemoryPlan}
+use Rattle.replay_spec.specs.Images.{ImageOptions, ImageMemory, MemoryImage, IsFirst, IsLast, IsImage, ImageOf, AreImages, written_on, image_bytes, PlansImages, PlansSegments, IsMemoryPlan}
 
 pub same-list : {X : Type 0} (d : X) (xs ys : List X) → length xs ≡ length ys → ((i : ℕ) → i < length xs → get_or xs i d ≡ get_or ys i d) → xs ≡ ys
 same-list d [] [] n each = refl
@@ -48,3 +49,16 @@ one-list page memories active xs ys a b =
     same-list None xs ys (omega arith)
     (λ i l. one-option page (written_on active i) (get_or xs i None) (get_or ys i None)
     (a.each i (get_or xs i None) (slice_get-get_or xs i None l)) (b.each i (get_or ys i None) (slice_get-get_or ys i None (omega arith))))
+
+module _ (options : ImageOptions) (imports : ℕ) (memories : List ImageMemory) (active : List ActiveSegment) (passive : List (List ℕ)) where
+  pub one-runtime : (p q : MemoryPlan) → IsMemoryPlan options imports memories active passive p → IsMemoryPlan options imports memories active passive q
+      → p.runtime ≡ q.runtime
+  one-runtime p q hp hq = by hp.segments hq.segments where
+    by : PlansImages options imports memories active passive p ⊎ PlansSegments options imports memories active passive p
+        → PlansImages options imports memories active passive q ⊎ PlansSegments options imports memories active passive q → p.runtime ≡ q.runtime
+    by (inl a) (inl b) = a.runtime
+        ∙ ap (λ (images : List (Option MemoryImage)). image_bytes images ++ passive) (one-list options.page (imports + length memories) active a.images b.images a.are_images b.are_images)
+        ∙ sym b.runtime
+    by (inr a) (inr b) = a.runtime ∙ sym b.runtime
+    by (inl a) (inr b) = absurd (b.not_static a.static)
+    by (inr a) (inl b) = absurd (a.not_static b.static)

@@ -1,6 +1,6 @@
 //! What follows from the plan of active data segments, and from images.
 
-ghost use Rattle.std.specs.Prelude.{◌≡◌, ℕ, ◌+◌, ◌-◌, List, length, map, slice_get, Option, Some, None};
+ghost use Rattle.std.specs.Prelude.{◌≡◌, ◌≤◌, ◌↔◌, ℕ, ◌+◌, ◌-◌, List, length, map, sum_by, slice_get, Option, Some, None};
 ghost use Rattle.std.specs.Int.{IsPowerOfTwo};
 ghost use Rattle.wasm_spec.specs.Module.{Module, imported_memories, defined_memories};
 ghost use Rattle.replay_spec.specs.Phases.{trap_of};
@@ -29,4 +29,17 @@ pub fn memory_image_laws()
         → IsTight options memory (written_on active m) (bytes_on m active) image }
     ensures one { (page memories : ℕ) (active : List ActiveSegment) (xs ys : List (Option MemoryImage))
         → AreImages page memories active xs → AreImages page memories active ys → xs ≡ ys }
+{}
+
+/// There are images of any memories, and a plan of every module. Two plans of one module have the same runtime data, so that a number of
+/// bytes is reached by those of every plan exactly where it is reached by those of some plan.
+pub fn memory_plan_exists_laws()
+    ensures images { (page memories : ℕ) (active : List ActiveSegment) → (images : List (Option MemoryImage)) × AreImages page memories active images }
+    ensures plan { (options : ImageOptions) (imports : ℕ) (memories : List ImageMemory) (active : List ActiveSegment) (passive : List (List ℕ))
+        → (plan : MemoryPlan) × IsMemoryPlan options imports memories active passive plan }
+    ensures one_runtime { (options : ImageOptions) (imports : ℕ) (memories : List ImageMemory) (active : List ActiveSegment) (passive : List (List ℕ)) (plan other : MemoryPlan)
+        → IsMemoryPlan options imports memories active passive plan → IsMemoryPlan options imports memories active passive other → plan.runtime ≡ other.runtime }
+    ensures one_size { (options : ImageOptions) (imports : ℕ) (memories : List ImageMemory) (active : List ActiveSegment) (passive : List (List ℕ)) (size : ℕ)
+        → ((plan : MemoryPlan) → IsMemoryPlan options imports memories active passive plan → size ≤ sum_by length plan.runtime)
+        ↔ ((plan : MemoryPlan) × IsMemoryPlan options imports memories active passive plan × (size ≤ sum_by length plan.runtime)) }
 {}

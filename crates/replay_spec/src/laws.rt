@@ -2,11 +2,13 @@
 
 ghost use Rattle.std.specs.Prelude.{◌≡◌, ℕ, List, Some, IsSomeAnd};
 ghost use Rattle.wasm_spec.specs.declared.entities.GlobalType.{GlobalType};
-ghost use Rattle.wasm_spec.specs.Module.{Expression};
+ghost use Rattle.wasm_spec.specs.Module.{Expression, Module};
 ghost use Rattle.replay_spec.specs.Values.{Value, eval, const_value};
 ghost use Rattle.replay_spec.specs.Classes.{IsOfClass, HaveClasses, field_count};
+ghost use Rattle.replay_spec.specs.Evaluated.{AreImported, all_globals, HaveValues};
 ghost use Rattle.rule_spec.specs.declared.classes.Class.{Class};
-ghost use Rattle.rule_spec.specs.Lists.{Lists};
+ghost use Rattle.rule_spec.specs.Lists.{Lists, lists_of_module};
+ghost use Rattle.rule_spec.specs.Rules.{Keeps};
 ghost use Rattle.rule_spec.specs.Typing.{HasClass};
 
 /// A constant value is the value of the expression, over any globals and types.
@@ -18,4 +20,13 @@ pub fn constant_value_law()
 pub fn typed_value_law()
     ensures { (l : Lists) (visible : List GlobalType) (globals : List Value) → HaveClasses globals visible → (e : Expression) (c : Class) → HasClass l visible e c
         → IsSomeAnd (eval globals (field_count l) e) (λ v. IsOfClass v c) }
+{}
+
+/// The globals of a module that keeps the listed rules have values of their classes, where the imported ones have; over these each
+/// initialiser, offset and item has a value of its class, so that nothing that it leaves is null or 0 for want of a value.
+pub fn module_value_laws()
+    ensures globals { (m : Module) (imported : List Value) → Keeps m → (let l = lists_of_module m in AreImported l imported
+        → HaveClasses (all_globals l imported) l.global_types) }
+    ensures values { (m : Module) (imported : List Value) → Keeps m → (let l = lists_of_module m in AreImported l imported
+        → HaveValues l (all_globals l imported)) }
 {}

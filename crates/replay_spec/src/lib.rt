@@ -13,10 +13,10 @@ mod worked_images;
 mod worked_tables;
 
 pub use global_laws::global_plan_law;
-pub use image_laws::{memory_image_laws, memory_plan_laws};
-pub use laws::{constant_value_law, typed_value_law};
+pub use image_laws::{memory_image_laws, memory_plan_exists_laws, memory_plan_laws};
+pub use laws::{constant_value_law, module_value_laws, typed_value_law};
 pub use startup_laws::startup_law;
-pub use table_laws::{table_plan_law, taken_law};
+pub use table_laws::{table_plan_exists_law, table_plan_law, taken_law};
 pub use worked::{
     worked_constants, worked_phases, worked_ranges, worked_references, worked_values,
 };

@@ -16,3 +16,8 @@ pub fn taken_law()
     ensures { (lazy : Bool) (imports : ℕ) (tables : List DefinedTable) (active taken kept others rest : List ActiveElements)
         → TakesPrefix lazy imports tables active taken kept → TakesPrefix lazy imports tables active others rest → taken ≡ others }
 {}
+
+/// There is a plan of any tables and active element segments.
+pub fn table_plan_exists_law()
+    ensures { (lazy : Bool) (imports : ℕ) (tables : List DefinedTable) (active : List ActiveElements) → (plan : TablePlan) × IsTablePlan lazy imports tables active plan }
+{}
