@@ -4,4 +4,6 @@
 #[cfg(test)]
 mod builders;
 #[cfg(test)]
+mod groups;
+#[cfg(test)]
 mod records;
