@@ -1,5 +1,5 @@
 -- A translation that is filled in, step by step, holds the sections of the module.
-use Rattle.std.proofs.Common.{◌≡◌, ◌∙◌, ℕ, ◌+◌, ◌-◌, ◌<◌, ◌^◌, Bool, true, false, Option, List, [], ◌∷◌, ◌++◌}
+use Rattle.std.proofs.Common.{◌≡◌, ◌∙◌, ℕ, ◌+◌, ◌-◌, ◌<◌, Bool, true, false, Option, List, [], ◌∷◌, ◌++◌}
 use Rattle.std.proofs.Common.{length, map, append_assoc, refl, sym, ap, subst, arith}
 use borrow.Pointer.Hide.{carry_now, carried_same}
 use denote.Param.Table.{Entry}

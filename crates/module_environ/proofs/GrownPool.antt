@@ -1,5 +1,5 @@
 -- A text stays where it stands in a pool that grows.
-use Rattle.std.proofs.Common.{◌≡◌, ◌≤◌, ◌<◌, ◌^◌, ◌*◌, ℕ, ◌+◌, Bool, true, false, zero, suc, List, [], ◌∷◌, ◌++◌, length, map, slice_get, unwrap_or, All, Option, None, Some, refl, sym, ap, subst, ◌∙◌, cond, append_assoc, arith}
+use Rattle.std.proofs.Common.{◌≡◌, ◌≤◌, ◌<◌, ◌^◌, ◌*◌, ℕ, ◌+◌, Bool, true, false, zero, suc, List, [], ◌∷◌, ◌++◌, length, map, slice_get, unwrap_or, All, Option, None, Some, refl, sym, ap, ◌∙◌, cond, append_assoc, arith}
 use Rattle.std.specs.List.{list_any, flat_map, cons_option}
 use Rattle.std.specs.Str.{bytes_eq}
 use Rattle.std.proofs.lemmas.List.Sums.{fold-append}
@@ -69,8 +69,11 @@ imported-few (i ∷ is) = omega (arith, imported-few is)
 -- a pool of the names of imports has at most two for each
 pub imports-pooled : (is : List Import) (texts : List (List ℕ)) → texts ≡ with_texts [] (flat_map import_names is) → length texts ≤ 2 * length is
 imports-pooled is texts whole =
-    omega (arith, length-grown (2 * length is) [] texts (grows-within (2 * length is) (flat_map import_names is) [] texts whole
-    (omega (arith, imported-few is))))
+    omega (
+      arith,
+      length-grown (2 * length is) [] texts (grows-within (2 * length is) (flat_map import_names is) [] texts whole
+          (omega (arith, imported-few is))),
+    )
 
 pub exported-few : (m : plain.Module) → HasFewEntries m → length (exported_names (lists_of_module m).exports) < 2 ^ 30
 exported-few m few = omega (arith, length-map (lists_of_module m).exports (λ (e : plain.Export). e.name), few.exports)

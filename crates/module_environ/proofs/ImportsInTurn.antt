@@ -83,17 +83,17 @@ pub imported-push : (is : List Import) (i : Import) (old new : List (List ℕ)) 
 imported-push is i old new before one c put pooled resolved h =
     let grows : GrowsBy 2 old new = grows-within 2 (import_names i) old new put (omega arith) in
     record {
-  entities = map_push (resolved_import new) before one
-      ∙ ap (λ (es : List NamedEntity). es ++ resolved_import new one ∷ []) (imports-grown 2 old new grows before h.pooled ∙ h.entities)
-      ∙ ap (λ (e : NamedEntity). imports_after [] is ++ e ∷ []) (resolved
-      ∙ ap (λ (x : EntityIndex). (let named : NamedEntity = (i.space, i.name, x) in named)) (next-brought is c h.counted i.type))
-      ∙ sym (imports_after-push [] is i);
-  pooled = All-push (HasTexts new) before one
-      (All-weaker (HasTexts old) (HasTexts new) (names-grown 2 old new grows) before h.pooled) pooled;
-  counted = counted-push is i c h.counted;
-  pool = texts-then [] old new (flat_map import_names is) (import_names i) (flat_map import_names (is ++ i ∷ []))
-      (flat_map-append import_names is (i ∷ [])) h.pool put;
-}
+      entities = map_push (resolved_import new) before one
+          ∙ ap (λ (es : List NamedEntity). es ++ resolved_import new one ∷ []) (imports-grown 2 old new grows before h.pooled ∙ h.entities)
+          ∙ ap (λ (e : NamedEntity). imports_after [] is ++ e ∷ []) (resolved
+          ∙ ap (λ (x : EntityIndex). (let named : NamedEntity = (i.space, i.name, x) in named)) (next-brought is c h.counted i.type))
+          ∙ sym (imports_after-push [] is i);
+      pooled = All-push (HasTexts new) before one
+          (All-weaker (HasTexts old) (HasTexts new) (names-grown 2 old new grows) before h.pooled) pooled;
+      counted = counted-push is i c h.counted;
+      pool = texts-then [] old new (flat_map import_names is) (import_names i) (flat_map import_names (is ++ i ∷ []))
+          (flat_map-append import_names is (i ∷ [])) h.pool put;
+    }
 
 -- one import more, converted
 pub imported-step : (before : List Import) (is : List Read) (k : ℕ) (i : Read) → k < length is → i ≡ get_or is k i

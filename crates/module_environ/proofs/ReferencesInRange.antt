@@ -1,5 +1,5 @@
 -- What a module that keeps the rules refers to are its functions.
-use Rattle.std.proofs.Common.{◌<◌, ◌≤◌, ℕ, ◌+◌, ◌-◌, Bool, true, false, List, [], ◌∷◌, ◌++◌, length, get_or, take, Option, None, Some, arith}
+use Rattle.std.proofs.Common.{◌<◌, ◌≤◌, ℕ, ◌+◌, ◌-◌, Bool, true, false, List, [], ◌∷◌, length, get_or, take, Option, None, Some, arith}
 use Rattle.std.specs.Prelude.{All, IfSome, if◌then◌else◌}
 use Rattle.std.specs.List.{flat_map, filter_map, cons_option, range_with_len}
 use Rattle.std.proofs.lemmas.List.{length-append}

@@ -1,6 +1,6 @@
-use Rattle.std.proofs.Common.{◌∙◌, ◌+◌, List, length, map, take, All, sym, ap, subst, arith}
+use Rattle.std.proofs.Common.{◌+◌, List, length, map, take, All, sym, ap, subst, arith}
 use Rattle.std.specs.List.{flat_map}
-use Rattle.std.proofs.lemmas.List.{length-map, length-append}
+use Rattle.std.proofs.lemmas.List.{length-map}
 use Rattle.wasm_spec.specs.Module.{Export, exports_of_section}
 use Rattle.form_data.specs.declared.form.Payload.{Payload}
 use Rattle.form_data.specs.Views.{export_of, payload_of}
@@ -18,18 +18,18 @@ add_exports-requires-clause-room c =
     let before = flat_map exports_of_section (map payload_of (take c.loop-payload.payload-index c.deref-payload-items.result.now)) in
     let names = exported_names before in
     omega (
-  arith,
-  c.requires.few.exports,
-  c.requires.room,
-  ap (λ (ps : List Payload). length (flat_map exports_of_section (map payload_of ps))) c.deref-payload-items.ensures.value,
-  length_more_le exports_of_section c.deref-payload-items.result.now c.loop-payload.payload-index c.payload-item.result
-      c.loop-payload-test.true c.payload-item.is,
-  ap length c.exports_of.ensures,
-  length-map c.exports_of.result.now export_of,
-  length-grown (length names) c.args.strings.now c.loop-payload.strings
-      (grows-within (length names) names c.args.strings.now c.loop-payload.strings c.loop-payload.invariant.pool (omega arith)),
-  length-map before (λ (e : Export). e.name),
-)
+      arith,
+      c.requires.few.exports,
+      c.requires.room,
+      ap (λ (ps : List Payload). length (flat_map exports_of_section (map payload_of ps))) c.deref-payload-items.ensures.value,
+      length_more_le exports_of_section c.deref-payload-items.result.now c.loop-payload.payload-index c.payload-item.result
+          c.loop-payload-test.true c.payload-item.is,
+      ap length c.exports_of.ensures,
+      length-map c.exports_of.result.now export_of,
+      length-grown (length names) c.args.strings.now c.loop-payload.strings
+          (grows-within (length names) names c.args.strings.now c.loop-payload.strings c.loop-payload.invariant.pool (omega arith)),
+      length-map before (λ (e : Export). e.name),
+    )
 
 pub add_exports-requires-clause-in_range : goal.add_exports-requires-clause-in_range
 add_exports-requires-clause-in_range c =
