@@ -2,14 +2,15 @@
 
 ghost use Rattle.std.specs.Prelude.{◌≡◌, ◌↔◌, ◌++◌, List, map, All, IsTrue, IfOk};
 ghost use Rattle.std.specs.Bool.{MatchBool};
-ghost use Rattle.std.specs.List.{flat_map};
+ghost use Rattle.std.specs.Hash.DefaultHasher as sip;
+ghost use Rattle.std.specs.List.{flat_map, fold};
 ghost use Rattle.wasm_spec.specs.Module.{exports_of_section};
 ghost use Rattle.wasm_spec.specs.Module as plain;
 ghost use Rattle.form_data.specs.Views.{export_of, module_of};
 ghost use Rattle.rule_spec.specs.Indices.{IsInSpace, space_size};
 ghost use Rattle.rule_spec.specs.Rules.{AreExported, AreDistinct};
 ghost use Rattle.form_lists.specs.Views.{lists_of};
-ghost use Rattle.form_rules.specs.Names.{HasNames};
+ghost use Rattle.form_rules.specs.Names.{names_of, HasNames};
 
 use entity_map::Seeded;
 use form_data::Export;
@@ -44,7 +45,9 @@ fn names_are_distinct(alloc: Global, lists: &Lists<'_, '_>) -> Result<bool, Allo
 }
 
 /// A digest of all names, from which hashes begin: names that are chosen to collide change it as well.
-fn seed_of_names(lists: &Lists<'_, '_>) -> u64 {
+fn seed_of_names(lists: &Lists<'_, '_>) -> u64
+    ensures { result ≡ sip.finish (fold sip.write sip.initial (names_of (flat_map exports_of_section (module_of lists.now.form.now)))) }
+{
     let mut digest = DefaultHasher::new();
     for payload in &lists.form.payloads {
         add_to_seed(&mut digest, exports_of(payload));
@@ -52,7 +55,10 @@ fn seed_of_names(lists: &Lists<'_, '_>) -> u64 {
     digest.finish()
 }
 
-fn add_to_seed(digest: &mut DefaultHasher, exports: &[Export<'_>]) {
+/// Adds the names of exports to a digest.
+fn add_to_seed(digest: &mut DefaultHasher, exports: &[Export<'_>])
+    ensures { digest.new ≡ fold sip.write digest.old (names_of (map export_of exports.now)) }
+{
     for export in exports {
         digest.write(export.name.as_bytes());
     }

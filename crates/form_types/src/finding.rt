@@ -1,7 +1,8 @@
 //! The groups that were met, by their keys.
 
 ghost use Rattle.std.specs.Prelude.{◌≡◌, ◌+◌, ◌<◌, ◌^◌, ◌++◌, IfOk, OnOk, MatchOption, Some, cond, length};
-ghost use Rattle.std.specs.List.{range_with_len};
+ghost use Rattle.std.specs.Hash.DefaultHasher as sip;
+ghost use Rattle.std.specs.List.{range_with_len, flat_map, fold};
 ghost use Rattle.form_types.specs.Types.{NamedGroup};
 ghost use Rattle.form_types.specs.Seen.{ids_of};
 ghost use Rattle.form_types.specs.Placed.{placed};
@@ -22,7 +23,9 @@ use wasm_spec::{CoreTypeId, UnpackedIndex};
 pub type FirstIds = HashMap<CanonicalGroup, u32, Seeded>;
 
 /// A digest of all groups, from which hashes begin: groups that are chosen to collide change it as well.
-pub fn seed_of(groups: &[GroupWithKey<'_>]) -> u64 {
+pub fn seed_of(groups: &[GroupWithKey<'_>]) -> u64
+    ensures { result ≡ sip.finish (fold sip.write sip.initial (flat_map (λ g. ⟦<CanonicalGroup as Hash>⟧.hash_input g.key) groups.now)) }
+{
     let mut digest = DefaultHasher::new();
     for group in groups {
         group.key.hash(&mut digest);

@@ -135,6 +135,7 @@ is_translated tunables module_index validator bytes m empty formed other b reada
         types = types-keep m formed (with_code formed other) validator refl refl refl is.types;
         sections = sections;
         customs = customs-keep m formed (with_code formed other) refl tunables is.customs;
+        strings = is.strings;
         code = record { bodies = bodies; place = place; imports = is.imports };
         startup = is.startup;
         index = is.index ∙ ap (λ r. r.module_index) is_new.record_of_module;

@@ -8,7 +8,7 @@ use Rattle.std.proofs.lemmas.List.Concat.{flat_map-append}
 use Rattle.std.proofs.lemmas.List.Elements.{All-head, All-tail, All-same, All-push, All-map, All-weaker, All-get_or, All-from_get_or, filter_map-append}
 use Rattle.indexmap.specs.IndexMap.{insert_entry}
 use Rattle.entity_map.specs.Entity.{reserved_number}
-use Rattle.entity_map.specs.Pool.{atom_number}
+use Rattle.entity_map.specs.Pool.{atom_number, with_text}
 use Rattle.entity_map.specs.declared.pool.Atom.{Atom}
 use Rattle.wasm_spec.specs.Module.{Export, exports_of_section}
 use Rattle.wasm_spec.specs.Module as plain
@@ -29,9 +29,9 @@ use Rattle.module_environ.specs.Entities.{text_at, entity_at, resolved_export}
 use Rattle.module_environ.specs.Escapes.{exported_function}
 use Rattle.module_environ.specs.Exported.{exported_functions, CanExport, AreEntered}
 use Rattle.module_environ.specs.EscapeLog.{EscapeLog, after_escapes}
-use Rattle.module_environ.specs.Pooled.{GrowsBy, HasText}
+use Rattle.module_environ.specs.Pooled.{with_texts, exported_names, HasText}
 use Rattle.module_environ.proofs.Filling.{after_escapes-then}
-use Rattle.module_environ.proofs.GrownPool.{pooled-grown, exports-grown}
+use Rattle.module_environ.proofs.GrownPool.{GrowsBy, grows-text, texts-then, pooled-grown, exports-grown}
 
 -- ---- functions that are noted
 
@@ -41,6 +41,13 @@ pub noted-then : (old now new : EscapeLog) (es fs gs : List Export) → now ≡ 
 noted-then old now new es fs gs first second both =
     after_escapes-then old now new (exported_functions es) (exported_functions fs) (exported_functions gs) first second
     (ap exported_functions both ∙ filter_map-append (λ (e : Export). exported_function e.kind e.index) es fs)
+
+-- names after others
+pub exported-then : (old now new : List (List ℕ)) (es fs gs : List Export) → now ≡ with_texts old (exported_names es)
+    → new ≡ with_texts now (exported_names fs) → gs ≡ es ++ fs → new ≡ with_texts old (exported_names gs)
+exported-then old now new es fs gs first second both =
+    texts-then old now new (exported_names es) (exported_names fs) (exported_names gs)
+    (ap exported_names both ∙ map-append (λ (e : Export). e.name) es fs) first second
 
 -- ---- one name more
 
@@ -79,11 +86,11 @@ entered-grown n es old new entries grows h = record {
 
 -- an export of a name of its own goes last
 pub entered-push : (eq : Atom → Atom → Bool) → ((x y : Atom) → eq x y ≡ true → x ≡ y) → (before : List Export) (e : Export) (old new : List (List ℕ))
-    (now after : List (Atom × EntityIndex)) (k : Atom) (v : EntityIndex) → GrowsBy 1 old new → slice_get new (atom_number k) ≡ Some e.name
+    (now after : List (Atom × EntityIndex)) (k : Atom) (v : EntityIndex) → new ≡ with_text old e.name → slice_get new (atom_number k) ≡ Some e.name
     → v ≡ entity_at e.kind e.index → after ≡ insert_entry eq now k v → AreEntered before old now → AreDistinct (before ++ e ∷ [])
     → AreEntered (before ++ e ∷ []) new after
-entered-push eq same before e old new now after k v grows stands is inserted h distinct =
-    let moved = entered-grown 1 before old new now grows h in
+entered-push eq same before e old new now after k v put stands is inserted h distinct =
+    let moved = entered-grown 1 before old new now (subst (GrowsBy 1 old) (sym put) (grows-text old e.name)) h in
     let Other : List ℕ × EntityIndex → Type 0 = λ x. x.0 ≢ e.name in
     let view : Export → List ℕ × EntityIndex = λ (x : Export). (x.name, entity_at x.kind x.index) in
     let named : text_at new k ≡ e.name = ap (λ r. unwrap_or r []) stands in

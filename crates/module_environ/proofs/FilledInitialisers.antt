@@ -21,7 +21,7 @@ use Rattle.module_environ.specs.Entities.{exported_entities, resolved_export}
 use Rattle.module_environ.specs.Filling.{module_in, IsGathered, FillsInitialisers, references_of}
 use Rattle.module_environ.specs.EscapeLog.{EscapeLog, after_escapes}
 use Rattle.module_environ.specs.Initialisers.{first_values, view_first_value, passive_data_from}
-use Rattle.module_environ.specs.Pooled.{GrowsBy, HasText}
+use Rattle.module_environ.specs.Pooled.{with_texts, exported_names, HasText}
 use Rattle.module_environ.specs.Translation.{HasGlobals, HasElements}
 use Rattle.module_environ.proofs.NotingEscapes.{after_escapes-append}
 use Rattle.module_environ.proofs.GatheredTables.{none_of_each}
@@ -54,10 +54,6 @@ noted_all s a b d e tables globals exports elements at bt dt et =
     let third = dt ∙ ap (λ f. after_escapes f exports) second ∙ after_escapes-append s (tables ++ globals) exports in
     et ∙ ap (λ f. after_escapes f elements) third ∙ after_escapes-append s (tables ++ globals ++ exports) elements
 
--- the pool grows by fewer than is allowed
-pub grows_less : (n : ℕ) (old new : List (List ℕ)) → n < 2 ^ 30 → GrowsBy n old new → GrowsBy (2 ^ 30) old new
-grows_less n old new lt g = record { added = g.added; whole = g.whole; few = omega (arith, lt, g.few) }
-
 -- as many tables as values have no image
 pub no_images_of : (look : LookUp) (tables : List TableDef) (values : List TableInitialValue) (images : List (List (Index FuncSpace)))
     → map view_first_value values ≡ first_values look tables → (n : ℕ) → n ≡ length values → images ≡ replicate n []
@@ -69,7 +65,7 @@ no_images_of look tables values images first n is none =
 -- the data segments are filled in last
 pub fills : (m : plain.Module) (before after : EscapeLog) (old mid new : ModuleTranslation)
     → map (resolved_export mid.module.strings) mid.module.exports.entries ≡ exported_entities (lists_of_module m).exports
-    → GrowsBy (2 ^ 30) old.module.strings mid.module.strings → All (λ e. HasText mid.module.strings e.0) mid.module.exports.entries
+    → mid.module.strings ≡ with_texts old.module.strings (exported_names (lists_of_module m).exports) → All (λ e. HasText mid.module.strings e.0) mid.module.exports.entries
     → HasGlobals m mid → HasElements m mid
     → after ≡ after_escapes before (references_of (lists_of_module m))
     → mid ≡ record old {
@@ -96,7 +92,7 @@ fills m before after old mid new exports texts pooled globals elements noted mad
     record {
       exports = subst (λ (t : ModuleTranslation). map (resolved_export t.module.strings) t.module.exports.entries
           ≡ exported_entities (lists_of_module m).exports) (sym same) exports;
-      texts = subst (λ (t : ModuleTranslation). GrowsBy (2 ^ 30) old.module.strings t.module.strings) (sym same) texts;
+      texts = subst (λ (t : ModuleTranslation). t.module.strings ≡ with_texts old.module.strings (exported_names (lists_of_module m).exports)) (sym same) texts;
       pooled = subst (λ (t : ModuleTranslation). All (λ e. HasText t.module.strings e.0) t.module.exports.entries) (sym same) pooled;
       globals = subst (HasGlobals m) (sym same) (let h : HasGlobals m last = record { known = globals.known; left = globals.left } in h);
       elements = subst (HasElements m) (sym same) (let h : HasElements m last = record {

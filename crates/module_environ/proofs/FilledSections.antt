@@ -1,5 +1,5 @@
 -- A translation that is filled in, step by step, holds the sections of the module.
-use Rattle.std.proofs.Common.{◌≡◌, ◌∙◌, ℕ, ◌+◌, ◌-◌, ◌<◌, ◌^◌, Bool, true, false, Option, List, [], ◌∷◌, ◌++◌}
+use Rattle.std.proofs.Common.{◌≡◌, ◌∙◌, ℕ, ◌+◌, ◌-◌, ◌<◌, Bool, true, false, Option, List, [], ◌∷◌, ◌++◌}
 use Rattle.std.proofs.Common.{length, map, append_assoc, refl, sym, ap, subst, arith}
 use borrow.Pointer.Hide.{carry_now, carried_same}
 use denote.Param.Table.{Entry}
@@ -49,12 +49,12 @@ use Rattle.module_environ.specs.Filling.{module_in, IsGathered, LooksUpTypes, Fi
 use Rattle.module_environ.specs.EscapeLog.{EscapeLog, after_escapes}
 use Rattle.module_environ.specs.LookUps.{AgreeBelow}
 use Rattle.module_environ.specs.Translation.{HasEntities, CountsImports, NeedsHeap, HasData}
-use Rattle.module_environ.specs.Pooled.{HasText, HasTexts}
+use Rattle.module_environ.specs.Pooled.{with_texts, imported_names, exported_names, HasText, HasTexts}
 use Rattle.module_environ.specs.Types.{declared, look_up_in, type_index, AreTypesOf}
 use Rattle.module_environ.proofs.DeclaredLooks.{listed-long, look-declared, agree-chained}
 use Rattle.module_environ.proofs.NotingEscapes.{after_escapes-append}
 use Rattle.module_environ.proofs.FromRules.{below-by}
-use Rattle.module_environ.proofs.GrownPool.{imports-grown, names-grown}
+use Rattle.module_environ.proofs.GrownPool.{GrowsBy, grows-within, texts-then, imports-grown, names-grown}
 
 -- ---- declared types
 
@@ -219,11 +219,23 @@ module _ (m : plain.Module) (index : Index StaticModuleSpace) (empty : ModuleTra
   }) → P entities
   begins P p = subst P (sym first.same) p
 
+  abbrev exports : ℕ
+  exports = length (exported_names (lists_of_module m).exports)
+
+  grows : GrowsBy exports entities.strings t.module.strings
+  grows = grows-within exports (exported_names (lists_of_module m).exports) entities.strings t.module.strings second.texts (omega arith)
+
+  -- the names of imports, and then of exports
+  pub texts-filled : t.module.strings ≡ with_texts [] (imported_names m ++ exported_names (lists_of_module m).exports)
+  texts-filled =
+      texts-then [] entities.strings t.module.strings (imported_names m) (exported_names (lists_of_module m).exports)
+      (imported_names m ++ exported_names (lists_of_module m).exports) refl first.texts second.texts
+
   pub entities-filled : (start : Option (Index FuncSpace)) → option_map number_of start ≡ slice_get (lists_of_module m).starts 0
       → HasEntities m (record t { start_func = start })
   entities-filled start is = record {
     imports = stays (λ x. map (resolved_import t.module.strings) x.initializers.items ≡ imported_entities m)
-        (imports-grown (2 ^ 30) entities.strings t.module.strings second.texts entities.initializers.items first.pooled ∙ first.imports);
+        (imports-grown exports entities.strings t.module.strings grows entities.initializers.items first.pooled ∙ first.imports);
     exports = second.exports;
     tables = stays (λ x. map table_of x.tables ≡ tables_data m) first.tables;
     memories = stays (λ x. x.memories ≡ map memory_of (plain.memories m)) first.memories;
@@ -231,7 +243,7 @@ module _ (m : plain.Module) (index : Index StaticModuleSpace) (empty : ModuleTra
     start = is;
     pooled = record {
       imports = stays (λ x. All (HasTexts t.module.strings) x.initializers.items)
-          (All-weaker (HasTexts entities.strings) (HasTexts t.module.strings) (names-grown (2 ^ 30) entities.strings t.module.strings second.texts)
+          (All-weaker (HasTexts entities.strings) (HasTexts t.module.strings) (names-grown exports entities.strings t.module.strings grows)
           entities.initializers.items first.pooled);
       exports = second.pooled;
       name = stays (λ x. IfSome x.name (HasText t.module.strings))

@@ -31,6 +31,29 @@ below-by Q xs i none q = by (slice_get_cases xs i).1 where
   by (inl found) = found.1
   by (inr past) = absurd (none (subst Q past.1 q))
 
+-- ---- functions to which expressions refer
+
+module _ (l : Lists) where
+  sized-below : (t : ℕ) (c : Bool) (o : Option Signature) (s : Signature) → nat_lt t (length l.functions) ≡ c → where_true c o ≡ Some s → t < length l.functions
+  sized-below t true o s e signed = ltb-true t (length l.functions) e
+  sized-below t false o s e signed = absurd (none-some _ signed)
+
+  module _ (visible : List GlobalType) where
+    -- a function to which an operator refers is one of the functions
+    abbrev InRange : ℕ → Type 0
+    InRange function = function < length l.functions
+
+    with-referred : (o : Operator) (s : Signature) (rest : List ℕ) → signature l visible o ≡ Some s → All InRange rest
+        → All InRange (cons_option (referred_by o) rest)
+    with-referred (op.RefFunc f) s rest e all =
+        All-cons InRange f rest (sized-below f (nat_lt f (length l.functions)) (refers_to []) s refl e) all
+    with-referred _ s rest e all = all
+
+    pub functions-in-range : (e : Expression) (before after : List Class) → Leads l visible e before after → All InRange (referred e)
+    functions-in-range [] before after leads = All-nil InRange
+    functions-in-range (o ∷ e) before after leads =
+        with-referred o leads.1.signed (referred e) leads.1.is_signed (functions-in-range e leads.0 after leads.2)
+
 -- over the lists of a module and what is known of its declared types
 module _ (l : Lists) (known : UnpackedIndex → Type 0) (knows : (i : ℕ) → i < length l.types → known (index.Module i)) where
   pub heap-known : (h : Heap UnpackedIndex) → HeapIsBelow (length l.types) h → Known known (heap_edges (λ i. i) h)
@@ -51,32 +74,18 @@ module _ (l : Lists) (known : UnpackedIndex → Type 0) (knows : (i : ℕ) → i
     declared-below g f t s e =
         let lt = below-by (Declares g f) l.types t (λ q. none-some _ q.1) (s, e) in omega (arith, lt, few_types)
 
-    sized-below : (t : ℕ) (c : Bool) (o : Option Signature) (s : Signature) → nat_lt t (length l.functions) ≡ c → where_true c o ≡ Some s → t < length l.functions
-    sized-below t true o s e signed = ltb-true t (length l.functions) e
-    sized-below t false o s e signed = absurd (none-some _ signed)
-
     operator-known : (o : Operator) (s : Signature) → signature l visible o ≡ Some s → OperatorRefersIn (length l.types) o → KnowsOperator known o
     operator-known (op.GlobalGet g) s e refers =
         let lt = below-by (λ x. (s : Signature) × (option_and_then global_signature x ≡ Some s)) visible g (λ q. none-some _ q.1) (s, e) in omega (arith, lt, few)
     operator-known (op.RefNull heap) s e refers = heap-known (heap_of heap) refers
     operator-known (op.RefFunc f) s e refers =
-        let lt = sized-below f (nat_lt f (length l.functions)) (refers_to []) s refl e in omega (arith, lt, few_functions)
+        let lt = sized-below l f (nat_lt f (length l.functions)) (refers_to []) s refl e in omega (arith, lt, few_functions)
     operator-known (op.StructNew t) s e refers = declared-below struct_fields _ t s e
     operator-known (op.StructNewDefault t) s e refers = declared-below struct_fields _ t s e
     operator-known (op.ArrayNew t) s e refers = declared-below array_field _ t s e
     operator-known (op.ArrayNewDefault t) s e refers = declared-below array_field _ t s e
     operator-known (op.ArrayNewFixed t n) s e refers = declared-below array_field _ t s e
     operator-known _ s e refers = tt
-
-    -- a function to which an operator refers is one of the functions
-    abbrev InRange : ℕ → Type 0
-    InRange function = function < length l.functions
-
-    with-referred : (o : Operator) (s : Signature) (rest : List ℕ) → signature l visible o ≡ Some s → All InRange rest
-        → All InRange (cons_option (referred_by o) rest)
-    with-referred (op.RefFunc f) s rest e all =
-        All-cons InRange f rest (sized-below f (nat_lt f (length l.functions)) (refers_to []) s refl e) all
-    with-referred _ s rest e all = all
 
     -- ---- expressions
 
@@ -88,11 +97,6 @@ module _ (l : Lists) (known : UnpackedIndex → Type 0) (knows : (i : ℕ) → i
         (operator-known o leads.1.signed leads.1.is_signed (All-head (OperatorRefersIn (length l.types)) o e refers))
         (operators-known e leads.0 after leads.2 (All-tail (OperatorRefersIn (length l.types)) o e refers))
 
-    functions-in-range : (e : Expression) (before after : List Class) → Leads l visible e before after → All InRange (referred e)
-    functions-in-range [] before after leads = All-nil InRange
-    functions-in-range (o ∷ e) before after leads =
-        with-referred o leads.1.signed (referred e) leads.1.is_signed (functions-in-range e leads.0 after leads.2)
-
     some-operator : (e : Expression) (c : Class) → HasClass l visible e c → 0 < length e
     some-operator [] c typed = let none : 0 ≡ 1 = ap length typed in absurd (omega (arith, none))
     some-operator (o ∷ e) c typed = omega arith
@@ -102,5 +106,5 @@ module _ (l : Lists) (known : UnpackedIndex → Type 0) (knows : (i : ℕ) → i
     convertible e c typed refers = record {
       some = some-operator e c typed;
       operators = operators-known e [] (c ∷ []) typed refers;
-      in_range = functions-in-range e [] (c ∷ []) typed;
+      in_range = functions-in-range l visible e [] (c ∷ []) typed;
     }

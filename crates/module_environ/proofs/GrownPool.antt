@@ -1,18 +1,30 @@
 -- A text stays where it stands in a pool that grows.
-use Rattle.std.proofs.Common.{◌≡◌, ◌≤◌, ◌<◌, ℕ, ◌+◌, Bool, true, false, zero, suc, List, [], ◌∷◌, ◌++◌, length, map, slice_get, unwrap_or, All, refl, sym, ap, ◌∙◌, cond, append_assoc, arith}
-use Rattle.std.specs.List.{list_any}
+use Rattle.std.proofs.Common.{◌≡◌, ◌≤◌, ◌<◌, ◌^◌, ◌*◌, ℕ, ◌+◌, Bool, true, false, zero, suc, List, [], ◌∷◌, ◌++◌, length, map, slice_get, unwrap_or, All, Option, None, Some, refl, sym, ap, ◌∙◌, cond, append_assoc, arith}
+use Rattle.std.specs.List.{list_any, flat_map, cons_option}
 use Rattle.std.specs.Str.{bytes_eq}
-use Rattle.std.proofs.lemmas.List.{append-nil, length-append}
+use Rattle.std.proofs.lemmas.List.Sums.{fold-append}
+use Rattle.std.proofs.lemmas.List.{append-nil, length-append, length-map}
 use Rattle.std.proofs.lemmas.List.Elements.{All-head, All-tail}
 use Rattle.entity_map.specs.Pool.{atom_number, with_text}
 use Rattle.entity_map.specs.declared.pool.Atom.{Atom}
+use Rattle.wasm_spec.specs.Module.{Import}
+use Rattle.wasm_spec.specs.Module as plain
+use Rattle.wasm_spec.specs.Sizes.{HasFewEntries}
+use Rattle.rule_spec.specs.Lists.{lists_of_module}
 use Rattle.wasm_types.specs.declared.entity.EntityIndex.{EntityIndex}
 use Rattle.wasm_module.specs.declared.initializer.Initializer.{Initializer}
 use Rattle.wasm_module.specs.declared.initializer.Initializer.TheVariants as initializer
+use Rattle.module_customs.specs.Names.{module_names}
 use Rattle.module_environ.specs.Entities.{text_at, resolved_import, resolved_export}
-use Rattle.module_environ.specs.Pooled.{GrowsBy, HasText, HasTexts}
+use Rattle.module_environ.specs.Pooled.{with_texts, import_names, imported_names, exported_names, own_name, pool_of, HasText, HasTexts}
 
 -- ---- growing
+
+-- at most so many texts are added, after those that were there
+pub record GrowsBy (count : ℕ) (old new : List (List ℕ)) : Type 0 where
+  pub added : List (List ℕ)
+  pub whole : new ≡ old ++ added
+  pub few : length added ≤ count
 
 pub grows-then : (m n both : ℕ) → both ≡ m + n → (old now new : List (List ℕ)) → GrowsBy m old now → GrowsBy n now new → GrowsBy both old new
 grows-then m n both sum old now new first second = record {
@@ -27,8 +39,68 @@ grows-text texts text = by (list_any (bytes_eq text) texts) where
   by true = record { added = []; whole = sym (append-nil texts); few = omega arith }
   by false = record { added = text ∷ []; whole = refl; few = omega arith }
 
+-- by at most the texts that are put in
+pub grows-texts : (more texts : List (List ℕ)) → GrowsBy (length more) texts (with_texts texts more)
+grows-texts [] texts = record { added = []; whole = sym (append-nil texts); few = omega arith }
+grows-texts (t ∷ ts) texts =
+    let now = with_text texts t in
+    grows-then 1 (length ts) (suc (length ts)) (omega arith) texts now (with_texts now ts) (grows-text texts t) (grows-texts ts now)
+
+pub grows-within : (n : ℕ) (more old new : List (List ℕ)) → new ≡ with_texts old more → length more ≤ n → GrowsBy n old new
+grows-within n more old new is le =
+    let g = grows-texts more old in
+    record { added = g.added; whole = is ∙ g.whole; few = omega (arith, g.few, le) }
+
 pub length-grown : (n : ℕ) (old new : List (List ℕ)) → GrowsBy n old new → length new ≤ length old + n
 length-grown n old new grows = omega (arith, grows.few, ap length grows.whole ∙ length-append old grows.added)
+
+-- ---- the names of a module
+
+-- texts that are put in behind others
+pub texts-then : (old now new : List (List ℕ)) (first second both : List (List ℕ)) → both ≡ first ++ second → now ≡ with_texts old first
+    → new ≡ with_texts now second → new ≡ with_texts old both
+texts-then old now new first second both whole is then =
+    then ∙ ap (λ (ts : List (List ℕ)). with_texts ts second) is ∙ sym (fold-append with_text old first second) ∙ ap (with_texts old) (sym whole)
+
+pub imported-few : (is : List Import) → length (flat_map import_names is) ≡ 2 * length is
+imported-few [] = refl
+imported-few (i ∷ is) = omega (arith, imported-few is)
+
+-- a pool of the names of imports has at most two for each
+pub imports-pooled : (is : List Import) (texts : List (List ℕ)) → texts ≡ with_texts [] (flat_map import_names is) → length texts ≤ 2 * length is
+imports-pooled is texts whole =
+    omega (
+      arith,
+      length-grown (2 * length is) [] texts (grows-within (2 * length is) (flat_map import_names is) [] texts whole
+          (omega (arith, imported-few is))),
+    )
+
+pub exported-few : (m : plain.Module) → HasFewEntries m → length (exported_names (lists_of_module m).exports) < 2 ^ 30
+exported-few m few = omega (arith, length-map (lists_of_module m).exports (λ (e : plain.Export). e.name), few.exports)
+
+-- so few are the names of imports and exports that there is room for that of the module
+pub names-pooled : (m : plain.Module) → HasFewEntries m → (texts : List (List ℕ))
+    → texts ≡ with_texts [] (imported_names m ++ exported_names (lists_of_module m).exports) → length texts < 2 ^ 31 + 2 ^ 30
+names-pooled m few texts whole =
+    let names = imported_names m ++ exported_names (lists_of_module m).exports in
+    let long : length names < 2 ^ 31 + 2 ^ 30 = omega
+    (arith, length-append (imported_names m) (exported_names (lists_of_module m).exports), imported-few (plain.imports m), few.imports, exported-few m few) in
+    omega (arith, long, length-grown (length names) [] texts (grows-within (length names) names [] texts whole (omega arith)))
+
+pub length-own : (native : Bool) (m : plain.Module) → length (own_name native m) ≤ 1
+length-own native m = by (module_names native m).module_name where
+  by : (o : Option (List ℕ)) → length (cons_option o []) ≤ 1
+  by None = omega arith
+  by (Some name) = omega arith
+
+-- all names, the module's own last
+pub pooled-all : (native : Bool) (m : plain.Module) (old new : List (List ℕ))
+    → old ≡ with_texts [] (imported_names m ++ exported_names (lists_of_module m).exports) → new ≡ with_texts old (own_name native m) → new ≡ pool_of native m
+pooled-all native m old new first second =
+    let imports = imported_names m in
+    let exports = exported_names (lists_of_module m).exports in
+    texts-then [] old new (imports ++ exports) (own_name native m) (imports ++ exports ++ own_name native m)
+    refl first second
 
 -- ---- texts
 

@@ -1,7 +1,8 @@
 -- Imports, counted and given their entities one after another.
 use Rattle.std.proofs.Common.{◌≡◌, ◌≤◌, ◌<◌, ◌^◌, ℕ, ◌+◌, List, [], ◌∷◌, ◌++◌, length, map, take, get_or, Option, None, Some, suc, refl, sym, ap, subst, ◌∙◌, append_assoc, arith}
-use Rattle.std.specs.List.{filter_map, cons_option}
+use Rattle.std.specs.List.{filter_map, flat_map, cons_option}
 use Rattle.std.proofs.lemmas.List.{append-nil, length-append, length-map, length-take-le, map_more, map_push}
+use Rattle.std.proofs.lemmas.List.Concat.{flat_map-append}
 use Rattle.std.proofs.lemmas.List.Elements.{All-push, All-weaker, filter_map-append}
 use Rattle.wasm_spec.specs.declared.entities.TypeRef.{TypeRef}
 use Rattle.wasm_spec.specs.declared.entities.TypeRef.TheVariants as imported
@@ -15,8 +16,8 @@ use Rattle.form_data.specs.Views.{import_of}
 use Rattle.module_environ.specs.declared.imports.ImportCounts.{ImportCounts}
 use Rattle.module_environ.specs.Entities.{NamedEntity, count_of, brought, imports_after, resolved_import}
 use Rattle.module_environ.specs.Imported.{AreCounted, HaveIndices, AreImported, one_if, counted, next_entity}
-use Rattle.module_environ.specs.Pooled.{GrowsBy, HasTexts}
-use Rattle.module_environ.proofs.GrownPool.{length-grown, names-grown, imports-grown}
+use Rattle.module_environ.specs.Pooled.{with_texts, import_names, HasTexts}
+use Rattle.module_environ.proofs.GrownPool.{GrowsBy, grows-within, texts-then, imports-pooled, names-grown, imports-grown}
 
 -- ---- counts
 
@@ -77,29 +78,32 @@ imports_after-push before (j ∷ is) i =
 -- ---- as they are converted
 
 pub imported-push : (is : List Import) (i : Import) (old new : List (List ℕ)) (before : List Initializer) (one : Initializer) (c : ImportCounts)
-    → GrowsBy 2 old new → HasTexts new one → resolved_import new one ≡ (i.space, i.name, next_entity c i.type)
+    → new ≡ with_texts old (import_names i) → HasTexts new one → resolved_import new one ≡ (i.space, i.name, next_entity c i.type)
     → AreImported is old before c → AreImported (is ++ i ∷ []) new (before ++ one ∷ []) (counted c i.type)
-imported-push is i old new before one c grows pooled resolved h = record {
-  entities = map_push (resolved_import new) before one
-      ∙ ap (λ (es : List NamedEntity). es ++ resolved_import new one ∷ []) (imports-grown 2 old new grows before h.pooled ∙ h.entities)
-      ∙ ap (λ (e : NamedEntity). imports_after [] is ++ e ∷ []) (resolved
-      ∙ ap (λ (x : EntityIndex). (let named : NamedEntity = (i.space, i.name, x) in named)) (next-brought is c h.counted i.type))
-      ∙ sym (imports_after-push [] is i);
-  pooled = All-push (HasTexts new) before one
-      (All-weaker (HasTexts old) (HasTexts new) (names-grown 2 old new grows) before h.pooled) pooled;
-  counted = counted-push is i c h.counted;
-  few = omega (arith, h.few, length-grown 2 old new grows, length-append is (i ∷ []));
-}
+imported-push is i old new before one c put pooled resolved h =
+    let grows : GrowsBy 2 old new = grows-within 2 (import_names i) old new put (omega arith) in
+    record {
+      entities = map_push (resolved_import new) before one
+          ∙ ap (λ (es : List NamedEntity). es ++ resolved_import new one ∷ []) (imports-grown 2 old new grows before h.pooled ∙ h.entities)
+          ∙ ap (λ (e : NamedEntity). imports_after [] is ++ e ∷ []) (resolved
+          ∙ ap (λ (x : EntityIndex). (let named : NamedEntity = (i.space, i.name, x) in named)) (next-brought is c h.counted i.type))
+          ∙ sym (imports_after-push [] is i);
+      pooled = All-push (HasTexts new) before one
+          (All-weaker (HasTexts old) (HasTexts new) (names-grown 2 old new grows) before h.pooled) pooled;
+      counted = counted-push is i c h.counted;
+      pool = texts-then [] old new (flat_map import_names is) (import_names i) (flat_map import_names (is ++ i ∷ []))
+          (flat_map-append import_names is (i ∷ [])) h.pool put;
+    }
 
 -- one import more, converted
 pub imported-step : (before : List Import) (is : List Read) (k : ℕ) (i : Read) → k < length is → i ≡ get_or is k i
     → (old new : List (List ℕ)) (now after : List Initializer) (one : Initializer) (c d : ImportCounts) → d ≡ counted c i.ty
-    → GrowsBy 2 old new → HasTexts new one → resolved_import new one ≡ (i.«module».now, i.name.now, next_entity c i.ty)
+    → new ≡ with_texts old (import_names (import_of i)) → HasTexts new one → resolved_import new one ≡ (i.«module».now, i.name.now, next_entity c i.ty)
     → after ≡ now ++ one ∷ []
     → AreImported (before ++ map import_of (take k is)) old now c → AreImported (before ++ map import_of (take (k + 1) is)) new after d
-imported-step before is k i lt at old new now after one c d counts grows pooled resolved pushed h =
+imported-step before is k i lt at old new now after one c d counts put pooled resolved pushed h =
     let so_far = before ++ map import_of (take k is) in
-    let one_more = imported-push so_far (import_of i) old new now one c grows pooled resolved h in
+    let one_more = imported-push so_far (import_of i) old new now one c put pooled resolved h in
     let there : before ++ map import_of (take (k + 1) is) ≡ so_far ++ import_of i ∷ [] =
     ap (λ (js : List Import). before ++ js)
     (map_more import_of is k i lt ∙ ap (λ (x : Read). map import_of (take k is) ++ import_of x ∷ []) (sym at))
@@ -107,6 +111,11 @@ imported-step before is k i lt at old new now after one c d counts grows pooled 
     subst (λ (js : List Import). AreImported js new after d) (sym there)
     (subst (λ (x : ImportCounts). AreImported (so_far ++ import_of i ∷ []) new after x) (sym counts)
     (subst (λ (xs : List Initializer). AreImported (so_far ++ import_of i ∷ []) new xs (counted c i.ty)) (sym pushed) one_more))
+
+-- there is room for the names of few imports
+pub room-for-imports : (is : List Import) (texts : List (List ℕ)) (before : List Initializer) (c : ImportCounts) → AreImported is texts before c
+    → length is < 2 ^ 30 → length texts < 4294967293
+room-for-imports is texts before c h few = omega (arith, few, imports-pooled is texts h.pool)
 
 -- of few imports, those so far are few
 pub few-before : (before : List Import) (is : List Read) (k : ℕ) → k < length is → length before + length is < 2 ^ 30

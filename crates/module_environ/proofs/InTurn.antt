@@ -3,6 +3,7 @@ use Rattle.std.proofs.Common.{◌≡◌, ◌∙◌, ℕ, ◌+◌, ◌<◌, Optio
 use Rattle.std.specs.Prelude.{◌^◌, slice_index, slice_get, option_and_then, IsSomeAnd, map}
 use Rattle.std.proofs.Math.Seq.{take-length}
 use Rattle.std.proofs.lemmas.List.{length-map, length-take-le, get_or-map, map-append, take_more}
+use Rattle.std.proofs.lemmas.List.Sums.{fold_more}
 use Rattle.std.proofs.lemmas.Option.{slice_get-get_or}
 use Rattle.wasm_spec.specs.Module as plain
 use Rattle.type_spec.specs.Interned.{Interned, with_group, taken}
@@ -22,6 +23,7 @@ use Rattle.module_types.proofs.Holding.{holds-kept}
 use Rattle.module_types.proofs.Taking.{number_in, whole}
 use Rattle.module_environ.specs.Types.{declared, type_index, AreTypesOf, HoldsGroupsAlone}
 use Rattle.module_environ.specs.Environment.{AreHeld}
+use Rattle.module_environ.specs.OnTheWay.{after_types}
 use Rattle.module_environ.proofs.Reaching.{Reached, reach-none, reach-next, reach-can, reach-index, reach-all, reach-few, reach-held}
 
 module _ (m : plain.Module) (t : TypesData) (of : AreTypesOf m t) where
@@ -31,6 +33,7 @@ module _ (m : plain.Module) (t : TypesData) (of : AreTypesOf m t) where
     pub holds : HoldsGroups t b
     pub listed : types ≡ map type_index (take i (declared m))
     pub alone : HoldsGroupsAlone t.validator b
+    pub after : b ≡ after_types t i
 
   pub interns-none : (b : Builder) → b ≡ new_builder t.validator → Interns b 0 []
   interns-none b new = subst (λ c. Interns c 0 []) (sym new) (record {
@@ -38,6 +41,7 @@ module _ (m : plain.Module) (t : TypesData) (of : AreTypesOf m t) where
     holds = λ k j e. absurd (let no : None ≡ Some j = e in cc);
     listed = refl;
     alone = refl;
+    after = refl;
   })
 
   module _ (b : Builder) (i : ℕ) (types : List EngineOrModuleTypeIndex) (x : Interns b i types) (lt : i < length t.declared) where
@@ -91,6 +95,8 @@ module _ (m : plain.Module) (t : TypesData) (of : AreTypesOf m t) where
                 ∙ sym (map-append type_index (take i (declared m)) (get_or (declared m) i 0 ∷ []))
                 ∙ ap (map type_index) (sym (take_more (declared m) i 0 long));
             alone = subst (HoldsGroupsAlone t.validator) (sym made') (alone-by k (interned_members t b k) (b.ids k));
+            after = made' ∙ ap (λ (d : Builder). interns_type t d id) x.after
+                ∙ sym (fold_more (interns_type t) (new_builder t.validator) t.declared i 0 lt);
           }
 
   -- in the end all are listed

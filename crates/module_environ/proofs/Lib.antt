@@ -3,6 +3,7 @@ mod Counting
 mod Reaching
 mod InTurn
 mod FromRules
+mod ReferencesInRange
 mod RuledSections
 mod FilledInitialisers
 mod FilledSections
@@ -11,6 +12,7 @@ mod BuilderAfterTags
 mod UnchangedViews
 mod Named
 mod AskedHints
+mod WayPlaces
 mod WholeTranslation
 mod Answering
 pub mod Numbering

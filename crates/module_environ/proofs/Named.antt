@@ -7,10 +7,10 @@ use Rattle.wasm_spec.specs.Module as plain
 use Rattle.wasm_types.specs.declared.entity.EntityIndex.{EntityIndex}
 use Rattle.init_plan.specs.declared.translation.ModuleTranslation.{ModuleTranslation}
 use Rattle.module_environ.specs.Filling.{LeavesRest, OnlyCustomsChange}
-use Rattle.module_environ.specs.Pooled.{GrowsBy, HasText, HasTexts}
+use Rattle.module_environ.specs.Pooled.{with_texts, own_name, HasText, HasTexts}
 use Rattle.module_environ.specs.Translation.{HasEntities, HasSections}
 use Rattle.module_environ.proofs.UnchangedViews.{Carries, sections-carry}
-use Rattle.module_environ.proofs.GrownPool.{imports-grown, exports-grown, names-grown, pooled-grown}
+use Rattle.module_environ.proofs.GrownPool.{GrowsBy, grows-within, length-own, imports-grown, exports-grown, names-grown, pooled-grown}
 
 module _ (t u : ModuleTranslation) (same : OnlyCustomsChange t u) where
   pub rest-named : (old : ModuleTranslation) → LeavesRest old t → LeavesRest old u
@@ -23,12 +23,13 @@ module _ (t u : ModuleTranslation) (same : OnlyCustomsChange t u) where
   pub imports-named : (count : ℕ) → t.debuginfo.wasm_file.imported_func_count ≡ count → u.debuginfo.wasm_file.imported_func_count ≡ count
   imports-named count is = ap (λ (x : ModuleTranslation). x.debuginfo.wasm_file.imported_func_count) same ∙ is
 
-  pub sections-named : (debugged : Bool) (m : plain.Module) → GrowsBy 1 t.module.strings u.module.strings
+  pub sections-named : (debugged native : Bool) (m : plain.Module) → u.module.strings ≡ with_texts t.module.strings (own_name native m)
       → IfSome u.module.name (HasText u.module.strings) → HasSections debugged m t → HasSections debugged m u
-  sections-named debugged m grows pooled s =
+  sections-named debugged native m put pooled s =
       let e : HasEntities m t = s.entities in
       let old : List (List ℕ) = t.module.strings in
       let new : List (List ℕ) = u.module.strings in
+      let grows : GrowsBy 1 old new = grows-within 1 (own_name native m) old new put (length-own native m) in
       let initializers = t.module.initializers.items in
       let exports = t.module.exports.entries in
       let Exported : List (List ℕ) → Atom × EntityIndex → Type 0 = λ texts e. HasText texts e.0 in

@@ -2,6 +2,8 @@
 use Rattle.std.proofs.Common.{◌≡◌, ◌∙◌, ◌≤◌, ◌<◌, ℕ, suc, ◌+◌, false, IsTrue, Option, Some, None, List, [], ◌∷◌, ◌++◌, length, get_or, map, take, drop, position, refl, sym, ap, subst, arith, length-append, drop-cons}
 use Rattle.std.specs.Prelude.{◌^◌, ◌==◌, All, IsSome, unwrap_or}
 use Rattle.std.proofs.lemmas.List.{length-map, map-append, append-nil, take-append-drop, take_more, length-take}
+use Rattle.std.specs.List.{fold}
+use Rattle.std.proofs.lemmas.List.Sums.{fold_push}
 use Rattle.std.proofs.lemmas.List.Elements.{All-get_or}
 use Rattle.std.proofs.Math.Seq.{take-length}
 use Rattle.wasm_spec.specs.Module as plain
@@ -18,6 +20,7 @@ use Rattle.module_environ.specs.Types.{interned_at, type_index, declared_type, e
 use Rattle.module_environ.specs.Environment.{interned_in, number_or_zero}
 use Rattle.module_environ.specs.Entities.{tags_of}
 use Rattle.module_environ.specs.Firsts.{firsts}
+use Rattle.module_environ.specs.OnTheWay.{after_tags}
 use Rattle.module_environ.specs.Tagged.{CanTag, GainsExceptions, function_at, tag_at}
 use Rattle.module_environ.proofs.DeclaredKinds.{declared-kind, function-is, function-below, function-declared}
 use Rattle.module_environ.proofs.DeclaredLooks.{declared-long, declared-held, listed-long, listed-at}
@@ -47,6 +50,7 @@ module _ (m : plain.Module) where
     pub asked : Excepts (taken (placed_groups m)).built (map (interned_at m) (take k tags)) b
     pub listed : out ≡ map tag_in (take k tags)
     pub gains : GainsExceptions old b
+    pub after : b ≡ after_tags m tags old k
 
   module _ (tags : List ℕ) (types : List EngineOrModuleTypeIndex) (old : Builder) (can : CanTag m tags types old) where
     pub tagging-none : IsTagging tags old old 0 []
@@ -54,6 +58,7 @@ module _ (m : plain.Module) where
       asked = excepts-none (taken (placed_groups m)).built old can.built (λ n. ap (λ (b : Builder). b.exceptions n) can.alone);
       listed = refl;
       gains = refl;
+      after = refl;
     }
 
     module _ (b : Builder) (k : ℕ) (out : List Tag) (x : IsTagging tags old b k out) where
@@ -157,6 +162,8 @@ module _ (m : plain.Module) where
               listed = (λ j. x.listed j ++ (is ∙ ap (λ e. record { signature = type_index n; exception = type_index e }) exception-is) j ∷ [])
                   ∙ sym (map-append tag_in (take k tags) (i ∷ [])) ∙ ap (map tag_in) (sym more);
               gains = subst (GainsExceptions old) (sym made) (gains-by old b n (b.exceptions n) x.gains);
+              after = made ∙ ap (λ (d : Builder). excepts d n) x.after ∙ sym (fold_push excepts old (map (interned_at m) (take k tags)) n)
+                  ∙ ap (fold excepts old) (sym (ap (map (interned_at m)) more ∙ map-append (interned_at m) (take k tags) (i ∷ [])));
             }
 
     -- ---- all were converted

@@ -15,15 +15,14 @@ use Rattle.wasm_types.specs.declared.tag.Tag.{Tag}
 use Rattle.wasm_types.specs.declared.tunables.Tunables.{Tunables}
 use Rattle.wasm_module.specs.declared.startup.ModuleStartup.TheVariants as startup
 use Rattle.wasm_module.specs.Record.{ModuleRecord}
-use Rattle.module_types.specs.declared.error.BuildError.{BuildError}
-use Rattle.module_types.specs.declared.error.BuildError.TheVariants as build
 use Rattle.module_types.specs.Builder.{Builder, BuilderState, builder_view}
 use Rattle.replay_spec.specs.Startup.{Always, is_empty}
 use Rattle.init_plan.specs.declared.translation.ModuleTranslation.{ModuleTranslation}
 use Rattle.init_plan.specs.Startup.{raised, types_after, with_startup}
 use Rattle.init_plan.specs.Views.{types_of, IsNewTranslation}
-use Rattle.module_environ.specs.Errors.{error_of_check, error_of_build}
+use Rattle.module_environ.specs.Errors.{error_of_check}
 use Rattle.module_environ.specs.Customs.{HasCustoms}
+use Rattle.module_environ.specs.Pooled.{pool_of}
 use Rattle.module_environ.specs.Entities.{count_of, tags_of}
 use Rattle.module_environ.specs.Types.{declared, type_index, interned_list, HoldsGroupsAlone}
 use Rattle.module_environ.specs.Tagged.{GainsExceptions}
@@ -43,10 +42,6 @@ pub check-cause : {A : Type 0} (m : plain.Module) (poisoned : Bool) (r : Result 
 check-cause m poisoned r (checks.Invalid rule) was broken first = (broken rule was, first rule was)
 check-cause m poisoned r checks.OutOfMemory was broken first = tt
 
-pub build-cause : (m : plain.Module) (poisoned : Bool) (e : BuildError) → (e ≡ build.Poisoned → ⊥) → FormCause m poisoned (error_of_build e)
-build-cause m poisoned build.OutOfMemory sound = tt
-build-cause m poisoned build.Poisoned sound = absurd (sound refl)
-
 -- ---- the whole
 
 pub new-startup : {index : _} (t : ModuleTranslation) → IsNewTranslation index t → t.module.startup ≡ startup.None
@@ -54,6 +49,7 @@ new-startup t new = ap (λ (r : ModuleRecord). r.startup) new.record_of_module
 
 module _ (tunables : Tunables) (validator : ℕ) (m : plain.Module) (old filled set : ModuleTranslation) (keeps : Keeps m)
     (sections : HasSections tunables.debug_guest m filled) (customs : HasCustoms tunables m filled)
+    (pooled : filled.module.strings ≡ pool_of tunables.debug_native m)
     (imports : filled.debuginfo.wasm_file.imported_func_count ≡ count_of function_import (plain.imports m)) (rest : LeavesRest old filled)
     (none : old.module.startup ≡ startup.None) (indices : List EngineOrModuleTypeIndex) (tags : List Tag) (ids : TypesData)
     (same : set ≡ record filled { «module» = record filled.module { types = indices; tags = tags }; private_parts = record filled.private_parts { types = set.private_parts.types } })
@@ -92,6 +88,7 @@ module _ (tunables : Tunables) (validator : ℕ) (m : plain.Module) (old filled 
           types = set-types;
           sections = set-sections;
           customs = set-customs;
+          strings = ap (λ (t : ModuleTranslation). t.module.strings) same ∙ pooled;
           imports = ap (λ (t : ModuleTranslation). t.debuginfo.wasm_file.imported_func_count) same ∙ imports;
           startup = set-startup ∙ ap (startup_when m) never;
           builder = subst (HoldsTypes m) (sym shows) (never-holds m validator groups tagged alone gains built few never);
@@ -112,6 +109,8 @@ module _ (tunables : Tunables) (validator : ℕ) (m : plain.Module) (old filled 
               (ap (λ (t : ModuleTranslation). t.module.tags) raises) (ap types_of raises) set-types;
           sections = sections-keep m set u (subst (CarriesNames set) (sym raises) refl) tunables.debug_guest set-sections;
           customs = customs-keep m set u (subst (CarriesNames set) (sym raises) refl) tunables set-customs;
+          strings = ap (λ (t : ModuleTranslation). t.module.strings) (raises ∙ ap (λ (t : ModuleTranslation).
+              with_startup t (raised Always set.module.startup tagged)) same) ∙ pooled;
           imports = ap (λ (t : ModuleTranslation). t.debuginfo.wasm_file.imported_func_count) (raises ∙ ap (λ (t : ModuleTranslation).
               with_startup t (raised Always set.module.startup tagged)) same) ∙ imports;
           startup = ap (λ (t : ModuleTranslation). t.module.startup) raises ∙ ap (λ s. raised Always s tagged) set-startup

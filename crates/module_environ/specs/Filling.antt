@@ -1,5 +1,5 @@
 -- What filling a translation from the lists of a module needs, and what it makes.
-use Rattle.std.specs.Prelude.{◌≡◌, ℕ, ◌<◌, ◌^◌, List, ◌++◌, length, map, drop, All}
+use Rattle.std.specs.Prelude.{◌≡◌, ℕ, ◌<◌, List, [], ◌++◌, length, map, drop, All}
 use Rattle.std.specs.List.{flat_map, list_any}
 use Rattle.wasm_spec.specs.declared.types.UnpackedIndex.{UnpackedIndex}
 use Rattle.wasm_spec.specs.declared.types.UnpackedIndex.TheVariants as index
@@ -25,7 +25,7 @@ use Rattle.module_environ.specs.LookUps.{AgreeBelow}
 use Rattle.module_environ.specs.EscapeLog.{EscapeLog, after_escapes}
 use Rattle.module_environ.specs.Escapes.{referred, referred_if_any, item_functions}
 use Rattle.module_environ.specs.Exported.{exported_functions}
-use Rattle.module_environ.specs.Pooled.{GrowsBy, HasText, HasTexts}
+use Rattle.module_environ.specs.Pooled.{with_texts, imported_names, exported_names, HasText, HasTexts}
 use Rattle.module_environ.specs.Entities.{count_of, imported_entities, exported_entities, resolved_import, resolved_export, tables_data, globals_data}
 use Rattle.module_environ.specs.Initialisers.{passive_data_from}
 use Rattle.module_environ.specs.Translation.{HasGlobals, HasElements}
@@ -49,7 +49,7 @@ pub record LooksUpTypes (m : plain.Module) (known : UnpackedIndex → Type 0) (l
 pub record FillsEntities (m : plain.Module) (old new : Module) : Type 0 where
   pub imports : map (resolved_import new.strings) new.initializers.items ≡ imported_entities m
   pub pooled : All (HasTexts new.strings) new.initializers.items
-  pub few_texts : length new.strings < 2 ^ 31
+  pub texts : new.strings ≡ with_texts [] (imported_names m)
   pub functions : new.num_imported_funcs ≡ count_of function_import (plain.imports m)
   pub imported_tables : new.num_imported_tables ≡ count_of table_import (plain.imports m)
   pub imported_memories : new.num_imported_memories ≡ count_of memory_import (plain.imports m)
@@ -84,7 +84,7 @@ references_of l =
 -- exports, first values and segments are filled in, and their references noted
 pub record FillsInitialisers (m : plain.Module) (before after : EscapeLog) (old new : ModuleTranslation) : Type 0 where
   pub exports : map (resolved_export new.module.strings) new.module.exports.entries ≡ exported_entities (lists_of_module m).exports
-  pub texts : GrowsBy (2 ^ 30) old.module.strings new.module.strings
+  pub texts : new.module.strings ≡ with_texts old.module.strings (exported_names (lists_of_module m).exports)
   pub pooled : All (λ e. HasText new.module.strings e.0) new.module.exports.entries
   pub globals : HasGlobals m new
   pub elements : HasElements m new

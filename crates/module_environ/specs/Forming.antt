@@ -11,6 +11,7 @@ use Rattle.module_environ.specs.declared.error.EnvironError.{EnvironError}
 use Rattle.module_environ.specs.declared.error.EnvironError.TheVariants as refusal
 use Rattle.module_environ.specs.Customs.{HasCustoms}
 use Rattle.module_environ.specs.Entities.{count_of}
+use Rattle.module_environ.specs.Pooled.{pool_of}
 use Rattle.module_environ.specs.Translation.{startup_when, HasTypes, HasSections}
 use Rattle.module_environ.specs.Translated.{starts_always, HoldsTypes}
 
@@ -20,6 +21,7 @@ pub record IsFormed (tunables : Tunables) (validator : ℕ) (m : plain.Module) (
   pub types : HasTypes m validator new
   pub sections : HasSections tunables.debug_guest m new
   pub customs : HasCustoms tunables m new
+  pub strings : new.module.strings ≡ pool_of tunables.debug_native m
   pub imports : new.debuginfo.wasm_file.imported_func_count ≡ count_of function_import (plain.imports m)
   pub startup : new.module.startup ≡ startup_when m (starts_always m)
   pub builder : HoldsTypes m (builder_view b)

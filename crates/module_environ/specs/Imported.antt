@@ -1,5 +1,6 @@
 -- What imports become, one after another.
-use Rattle.std.specs.Prelude.{◌≡◌, ◌≤◌, ◌<◌, ℕ, ◌+◌, ◌*◌, List, [], length, map, All, Option, None, Some}
+use Rattle.std.specs.Prelude.{◌≡◌, ◌<◌, ℕ, ◌+◌, List, [], map, All, Option, None, Some}
+use Rattle.std.specs.List.{flat_map}
 use Rattle.wasm_spec.specs.declared.entities.TypeRef.{TypeRef}
 use Rattle.wasm_spec.specs.declared.entities.TypeRef.TheVariants as imported
 use Rattle.wasm_spec.specs.Module.{Import, function_import, table_import, memory_import, global_import, tag_import}
@@ -10,7 +11,7 @@ use Rattle.wasm_types.specs.declared.entity.EntityIndex.TheVariants as entity
 use Rattle.wasm_module.specs.declared.initializer.Initializer.{Initializer}
 use Rattle.module_environ.specs.declared.imports.ImportCounts.{ImportCounts}
 use Rattle.module_environ.specs.Entities.{count_of, imports_after, resolved_import}
-use Rattle.module_environ.specs.Pooled.{HasTexts}
+use Rattle.module_environ.specs.Pooled.{with_texts, import_names, HasTexts}
 
 -- each count is that of the imports of its kind
 pub record AreCounted (is : List Import) (counts : ImportCounts) : Type 0 where
@@ -50,9 +51,9 @@ next_entity c (imported.Memory type) = entity.Memory (index_of c.memories)
 next_entity c (imported.Global type) = entity.Global (index_of c.globals)
 next_entity c (imported.Tag type) = entity.Tag (index_of c.tags)
 
--- what these imports became: their names are in the pool, which has no others
+-- what these imports became: their names are the texts of the pool
 pub record AreImported (is : List Import) (texts : List (List ℕ)) (initializers : List Initializer) (counts : ImportCounts) : Type 0 where
   pub entities : map (resolved_import texts) initializers ≡ imports_after [] is
   pub pooled : All (HasTexts texts) initializers
   pub counted : AreCounted is counts
-  pub few : length texts ≤ 2 * length is
+  pub pool : texts ≡ with_texts [] (flat_map import_names is)

@@ -16,11 +16,13 @@ pub mod Translation
 pub mod Filling
 pub mod Named
 pub mod Readable
+pub mod OnTheWay
 pub mod Translated
 pub mod Forming
 pub mod FirstGlobals
 pub mod Worked
 pub mod Pooled
+pub mod Seeds
 pub mod Imported
 pub mod Exported
 pub mod Metadata

@@ -1,15 +1,36 @@
--- How a pool of texts grows, and names that are in it.
-use Rattle.std.specs.Prelude.{◌≡◌, ◌≤◌, ◌<◌, ℕ, List, ◌++◌, length}
-use Rattle.entity_map.specs.Pool.{atom_number}
+-- The pool of a record: the texts of its names, each once.
+use Rattle.std.specs.Prelude.{◌<◌, ℕ, Bool, List, [], ◌∷◌, ◌++◌, length, map}
+use Rattle.std.specs.List.{flat_map, cons_option, fold}
+use Rattle.entity_map.specs.Pool.{atom_number, with_text}
 use Rattle.entity_map.specs.declared.pool.Atom.{Atom}
+use Rattle.wasm_spec.specs.Module.{Import, Export}
+use Rattle.wasm_spec.specs.Module as plain
+use Rattle.rule_spec.specs.Lists.{lists_of_module}
 use Rattle.wasm_module.specs.declared.initializer.Initializer.{Initializer}
 use Rattle.wasm_module.specs.declared.initializer.Initializer.TheVariants as initializer
+use Rattle.module_customs.specs.Names.{module_names}
 
--- at most `count` texts are added, after those that were there
-pub record GrowsBy (count : ℕ) (old new : List (List ℕ)) : Type 0 where
-  pub added : List (List ℕ)
-  pub whole : new ≡ old ++ added
-  pub few : length added ≤ count
+-- a pool after some texts are put in, in order
+abbrev pub with_texts : List (List ℕ) → List (List ℕ) → List (List ℕ)
+with_texts texts more = fold with_text texts more
+
+-- an import is named by the module from which it comes, and by its own name
+abbrev pub import_names : Import → List (List ℕ)
+import_names i = i.space ∷ i.name ∷ []
+
+abbrev pub imported_names : plain.Module → List (List ℕ)
+imported_names m = flat_map import_names (plain.imports m)
+
+abbrev pub exported_names : List Export → List (List ℕ)
+exported_names exports = map (λ (e : Export). e.name) exports
+
+-- the name of the module, where it has one
+abbrev pub own_name : Bool → plain.Module → List (List ℕ)
+own_name native m = cons_option (module_names native m).module_name []
+
+-- the names of imports, of exports and of the module, each at its first place
+abbrev pub pool_of : Bool → plain.Module → List (List ℕ)
+pool_of native m = with_texts [] (imported_names m ++ exported_names (lists_of_module m).exports ++ own_name native m)
 
 -- a text stands at the atom
 abbrev pub HasText : List (List ℕ) → Atom → Type 0

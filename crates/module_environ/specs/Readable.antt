@@ -36,3 +36,9 @@ HasTranslationCause bytes poisoned refusal.Poisoned = poisoned ≡ true
 abbrev pub SucceedsOrNoMemory : {A : Type 0} → Result A EnvironError → Type 0
 SucceedsOrNoMemory (Ok answer) = Unit {0}
 SucceedsOrNoMemory (Err e) = e ≡ refusal.OutOfMemory
+
+-- the builder was poisoned, or there is no memory to find that out
+abbrev pub IsPoisonedOrNoMemory : {A : Type 0} → Result A EnvironError → Type 0
+IsPoisonedOrNoMemory (Err refusal.Poisoned) = Unit {0}
+IsPoisonedOrNoMemory (Err refusal.OutOfMemory) = Unit {0}
+IsPoisonedOrNoMemory _ = ⊥

@@ -27,7 +27,7 @@ use Rattle.module_environ.specs.Types.{declared, interned_at, interned_list, typ
 use Rattle.module_environ.specs.Customs.{HasCustoms}
 use Rattle.module_environ.specs.Entities.{count_of, imported_entities, exported_entities, resolved_import, resolved_export, function_types, tables_data, globals_data, tags_of}
 use Rattle.module_environ.specs.Escapes.{escaping, AreSignatures}
-use Rattle.module_environ.specs.Pooled.{HasText, HasTexts}
+use Rattle.module_environ.specs.Pooled.{pool_of, HasText, HasTexts}
 use Rattle.module_environ.specs.Initialisers.{known_values, left_initialisers, view_value, view_initialiser, first_values, view_first_value, active_elements, view_segment, passive_items, view_items, passive_numbers, passive_data_from}
 
 -- where the code section's contents begin, and 0 without one
@@ -136,6 +136,7 @@ pub record IsTranslation (tunables : Tunables) (module_index : Index StaticModul
   pub types : HasTypes m validator t
   pub sections : HasSections tunables.debug_guest m t
   pub customs : HasCustoms tunables m t
+  pub strings : t.module.strings ≡ pool_of tunables.debug_native m
   pub code : HasCode m t
   pub startup : t.module.startup ≡ startup_when m (not (leaves_nothing (lists_of_module m)))
   pub index : t.module.module_index ≡ module_index

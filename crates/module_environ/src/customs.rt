@@ -1,6 +1,7 @@
 //! What the custom sections of a module give its translation, and the metadata of its functions.
 
-ghost use Rattle.std.specs.Prelude.{◌≡◌, ◌+◌, ◌-◌, ◌<◌, ◌^◌, length, IfOk, IfSome, OnOk};
+ghost use Rattle.std.specs.Prelude.{◌≡◌, ◌+◌, ◌-◌, ◌<◌, ◌^◌, [], length, IfOk, IfSome, OnOk};
+ghost use Rattle.std.specs.List.{cons_option};
 ghost use Rattle.std.specs.Option.{option_map};
 ghost use Rattle.wasm_spec.specs.Module.{Module};
 ghost use Rattle.form_data.specs.Views.{module_of};
@@ -10,7 +11,7 @@ ghost use Rattle.module_customs.specs.Names.{at_number, module_names, KeepsNames
 ghost use Rattle.module_environ.specs.Customs.{HasCustoms, hints_asked, names_asked};
 ghost use Rattle.module_environ.specs.Entities.{text_at};
 ghost use Rattle.module_environ.specs.Filling.{module_in, IsGathered, LooksUpTypes, OnlyCustomsChange};
-ghost use Rattle.module_environ.specs.Pooled.{GrowsBy, HasText};
+ghost use Rattle.module_environ.specs.Pooled.{with_texts, own_name, HasText};
 
 use crate::metadata::function_metadata;
 use entity_map::{Atom, OutOfMemory, StringPool};
@@ -37,7 +38,8 @@ pub(crate) fn fill_customs<'d>(
     requires looks { LooksUpTypes (module_in lists.now) (knows env.now) (look_up env.now) }
     requires few_texts { length translation.old.module.strings < 2 ^ 31 + 2 ^ 30 }
     ensures customs { OnOk result (HasCustoms tunables.now (module_in lists.now) translation.new) }
-    ensures texts { OnOk result (GrowsBy 1 translation.old.module.strings translation.new.module.strings) }
+    ensures texts { OnOk result (translation.new.module.strings
+        ≡ with_texts translation.old.module.strings (own_name tunables.now.debug_native (module_in lists.now))) }
     ensures pooled { OnOk result (IfSome translation.new.module.name (HasText translation.new.module.strings)) }
     ensures same { OnOk result (OnlyCustomsChange translation.old translation.new) }
 {
@@ -59,7 +61,7 @@ pub(crate) fn fill_customs<'d>(
 /// The atom of a name, where there is one; the name goes into the pool.
 fn pool_name(strings: &mut StringPool, name: Option<&str>) -> Result<Option<Atom>, OutOfMemory>
     requires { length strings.old < u32.MAX - 1 }
-    ensures pool { OnOk result (GrowsBy 1 strings.old strings.new) }
+    ensures pool { OnOk result (strings.new ≡ with_texts strings.old (cons_option (option_map (λ text. text.now) name.entry) [])) }
     ensures pooled { IfOk result (λ atom. IfSome atom (HasText strings.new)) }
     ensures text { IfOk result (λ atom. option_map (text_at strings.new) atom ≡ option_map (λ text. text.now) name.entry) }
 {

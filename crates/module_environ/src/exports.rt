@@ -10,7 +10,8 @@ ghost use Rattle.rule_spec.specs.Rules.{AreDistinct};
 ghost use Rattle.module_environ.specs.Entities.{entity_at, exported_entities, resolved_export};
 ghost use Rattle.module_environ.specs.Exported.{CanExport, AreEntered, exported_functions};
 ghost use Rattle.module_environ.specs.EscapeLog.{after_escapes};
-ghost use Rattle.module_environ.specs.Pooled.{GrowsBy, HasText};
+ghost use Rattle.entity_map.specs.Pool.{with_text};
+ghost use Rattle.module_environ.specs.Pooled.{with_texts, exported_names, HasText};
 
 use crate::escapes::Escaping;
 use entity_map::{Atom, EntityRef, OutOfMemory, StringPool};
@@ -37,7 +38,7 @@ pub(crate) fn convert_exports(
         ≡ exported_entities (flat_map exports_of_section (module_of form.now))) }
     ensures noted { OnOk result (escaping.new
         ≡ after_escapes escaping.old (exported_functions (flat_map exports_of_section (module_of form.now)))) }
-    ensures pool { OnOk result (GrowsBy (length (flat_map exports_of_section (module_of form.now))) strings.old strings.new) }
+    ensures pool { OnOk result (strings.new ≡ with_texts strings.old (exported_names (flat_map exports_of_section (module_of form.now)))) }
     ensures pooled { IfOk result (λ es. All (λ e. HasText strings.new e.0) es.entries) }
 {
     // An atom is a number of our own, which no name chooses: the map needs no seed.
@@ -57,7 +58,7 @@ fn add_exports(
 ) -> Result<(), OutOfMemory>
     requires room { length strings.old + length exports.now < u32.MAX - 1 }
     requires in_range { All (CanExport escaping.old.count) (map export_of exports.now) }
-    ensures pool { OnOk result (GrowsBy (length (map export_of exports.now)) strings.old strings.new) }
+    ensures pool { OnOk result (strings.new ≡ with_texts strings.old (exported_names (map export_of exports.now))) }
     ensures noted { OnOk result (escaping.new ≡ after_escapes escaping.old (exported_functions (map export_of exports.now))) }
     ensures entered { OnOk result ((before : List plain.Export) → AreEntered before strings.old entries.old.entries
         → AreDistinct (before ++ map export_of exports.now) → AreEntered (before ++ map export_of exports.now) strings.new entries.new.entries) }
@@ -77,7 +78,7 @@ fn add_export(
 ) -> Result<(), OutOfMemory>
     requires room { length strings.old < u32.MAX - 1 }
     requires in_range { export.now.index < u32.MAX }
-    ensures pool { OnOk result (GrowsBy 1 strings.old strings.new) }
+    ensures pool { OnOk result (strings.new ≡ with_text strings.old export.now.name.now) }
     ensures entered { OnOk result ((before : List plain.Export) → AreEntered before strings.old entries.old.entries
         → AreDistinct (before ++ export_of export.now ∷ []) → AreEntered (before ++ export_of export.now ∷ []) strings.new entries.new.entries) }
 {

@@ -1,13 +1,16 @@
 //! What a module imports.
 
-ghost use Rattle.std.specs.Prelude.{◌≡◌, ◌+◌, ◌-◌, ◌*◌, ◌<◌, ◌≤◌, ◌^◌, ◌++◌, [], List, length, map, All, IfOk, OnOk};
+ghost use Rattle.std.specs.Prelude.{◌≡◌, ◌+◌, ◌-◌, ◌<◌, ◌^◌, ◌++◌, [], List, length, map, All, IfOk, OnOk};
+ghost use Rattle.std.specs.Hash.DefaultHasher as sip;
+ghost use Rattle.std.specs.List.{flat_map, fold};
 ghost use Rattle.wasm_spec.specs.Module as plain;
 ghost use Rattle.wasm_spec.specs.Sizes.{HasFewEntries};
-ghost use Rattle.form_data.specs.Views.{import_of, module_of};
+ghost use Rattle.form_data.specs.Views.{import_of, export_of, module_of};
 ghost use Rattle.wasm_index.specs.Index.{index_of};
 ghost use Rattle.module_environ.specs.Entities.{imported_entities, resolved_import};
 ghost use Rattle.module_environ.specs.Imported.{AreCounted, HaveIndices, AreImported, counted, next_entity};
-ghost use Rattle.module_environ.specs.Pooled.{GrowsBy, HasTexts};
+ghost use Rattle.module_environ.specs.Pooled.{with_texts, import_names, imported_names, exported_names, HasTexts};
+ghost use Rattle.module_environ.specs.Seeds.{section_names};
 
 use entity_map::{EntityRef, OutOfMemory, StringPool};
 use form_data::{Export, Form, Import};
@@ -72,7 +75,9 @@ fn take_next<Space>(count: &mut u32) -> Index<Space>
 
 /// The seed of the pool: a digest of all names of imports and exports.
 /// Names that a stranger chose to collide would have to be chosen for the digest that they change.
-pub(crate) fn name_seed(form: &Form<'_>) -> u64 {
+pub(crate) fn name_seed(form: &Form<'_>) -> u64
+    ensures { result ≡ sip.finish (fold sip.write sip.initial (flat_map section_names (module_of form.now))) }
+{
     let mut digest = DefaultHasher::new();
     for payload in &form.payloads {
         add_import_names(&mut digest, imports_of(payload));
@@ -81,14 +86,20 @@ pub(crate) fn name_seed(form: &Form<'_>) -> u64 {
     digest.finish()
 }
 
-fn add_import_names(digest: &mut DefaultHasher, imports: &[Import<'_>]) {
+/// Adds the names of imports to a digest.
+fn add_import_names(digest: &mut DefaultHasher, imports: &[Import<'_>])
+    ensures { digest.new ≡ fold sip.write digest.old (flat_map import_names (map import_of imports.now)) }
+{
     for import in imports {
         digest.write(import.module.as_bytes());
         digest.write(import.name.as_bytes());
     }
 }
 
-fn add_export_names(digest: &mut DefaultHasher, exports: &[Export<'_>]) {
+/// Adds the names of exports to a digest.
+fn add_export_names(digest: &mut DefaultHasher, exports: &[Export<'_>])
+    ensures { digest.new ≡ fold sip.write digest.old (exported_names (map export_of exports.now)) }
+{
     for export in exports {
         digest.write(export.name.as_bytes());
     }
@@ -104,7 +115,7 @@ pub(crate) fn convert_imports(
     requires empty { strings.old ≡ [] }
     ensures imports { IfOk result (λ r. map (resolved_import strings.new) r.0.items ≡ imported_entities (module_of form.now)) }
     ensures counts { IfOk result (λ r. AreCounted (plain.imports (module_of form.now)) r.1) }
-    ensures pool { OnOk result (length strings.new ≤ 2 * length (plain.imports (module_of form.now))) }
+    ensures pool { OnOk result (strings.new ≡ with_texts [] (imported_names (module_of form.now))) }
     ensures pooled { IfOk result (λ r. All (HasTexts strings.new) r.0.items) }
 {
     let mut initializers = Vec::new(alloc);
@@ -144,7 +155,7 @@ fn convert_import(
     requires few { HaveIndices counts.old }
     requires room { length strings.old < u32.MAX - 2 }
     ensures counts { OnOk result (counts.new ≡ counted counts.old import.now.ty) }
-    ensures pool { OnOk result (GrowsBy 2 strings.old strings.new) }
+    ensures pool { OnOk result (strings.new ≡ with_texts strings.old (import_names (import_of import.now))) }
     ensures pooled { IfOk result (HasTexts strings.new) }
     ensures import { IfOk result (λ i. resolved_import strings.new i
         ≡ ((import_of import.now).space, (import_of import.now).name, next_entity counts.old import.now.ty)) }

@@ -1,13 +1,15 @@
 //! The sections of a module as a translation holds them: all but types, tags, code and custom sections.
 
-ghost use Rattle.std.specs.Prelude.{◌≡◌, ◌+◌, ◌<◌, ◌^◌, ℕ, [], length, map, OnOk};
+ghost use Rattle.std.specs.Prelude.{◌≡◌, ◌<◌, ◌^◌, ◌++◌, ℕ, [], length, map, OnOk};
 ghost use Rattle.wasm_spec.specs.Module.{imports, function_import};
+ghost use Rattle.rule_spec.specs.Lists.{lists_of_module};
 ghost use Rattle.form_types.specs.Types.{TypesData};
 ghost use Rattle.init_plan.specs.Views.{IsNewTranslation, passive_data_of};
 ghost use Rattle.module_environ.specs.Entities.{count_of};
 ghost use Rattle.module_environ.specs.Environment.{AreHeld};
 ghost use Rattle.module_environ.specs.Types.{declared, type_index, AreTypesOf};
 ghost use Rattle.module_environ.specs.Translation.{HasSections};
+ghost use Rattle.module_environ.specs.Pooled.{with_texts, imported_names, exported_names};
 ghost use Rattle.module_environ.specs.Filling.{module_in, IsGathered, LooksUpTypes, FillsEntities, FillsInitialisers, LeavesRest};
 
 use crate::data::add_segments;
@@ -47,7 +49,8 @@ pub(crate) fn fill_sections<'d>(
     ensures sections { OnOk result (HasSections debugged (module_in lists.now) translation.new) }
     ensures imports { OnOk result
         (translation.new.debuginfo.wasm_file.imported_func_count ≡ count_of function_import (imports (module_in lists.now))) }
-    ensures few_texts { OnOk result (length translation.new.module.strings < 2 ^ 31 + 2 ^ 30) }
+    ensures texts { OnOk result (translation.new.module.strings
+        ≡ with_texts [] (imported_names (module_in lists.now) ++ exported_names (lists_of_module (module_in lists.now)).exports)) }
     ensures rest { OnOk result (LeavesRest translation.old translation.new) }
 {
     fill_entities(alloc, env, lists, &mut translation.module)?;

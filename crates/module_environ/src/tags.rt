@@ -1,11 +1,12 @@
 //! The tags of a module, each with its exception type.
 
-ghost use Rattle.std.specs.Prelude.{◌≡◌, ◌<◌, ◌+◌, ◌^◌, false, length, IsTrue, IsSome, IfOk, OnOk, OnErr, Err};
+ghost use Rattle.std.specs.Prelude.{◌≡◌, ◌<◌, ◌+◌, ◌^◌, ℕ, true, false, length, IsTrue, IsSome, IfOk, OnOk, OnErr, Err};
 ghost use Rattle.wasm_spec.specs.Module.{Module};
 ghost use Rattle.type_spec.specs.Interned.{composite_at};
 ghost use Rattle.module_types.specs.Builder.{builder_view, is_function, excepts};
 ghost use Rattle.module_environ.specs.Environment.{interned_in};
 ghost use Rattle.module_environ.specs.Entities.{tags_of};
+ghost use Rattle.module_environ.specs.OnTheWay.{after_tags};
 ghost use Rattle.module_environ.specs.Tagged.{CanTag, GainsExceptions, function_at, tag_at};
 ghost use Rattle.module_environ.specs.Types.{interned_list};
 
@@ -31,7 +32,12 @@ pub(crate) fn convert_tags(
     ensures gains { OnOk result (GainsExceptions (builder_view types.old) (builder_view types.new)) }
     // There is room for one more type.
     ensures few { OnOk result (length types.new.list.types < 2 ^ 31 + 2 ^ 30) }
+    ensures whole { OnOk result ((m : Module) → CanTag m tags.now declared.now (builder_view types.old)
+        → builder_view types.new ≡ after_tags m tags.now (builder_view types.old) (length tags.now)) }
     ensures memory { OnErr result (result ≡ Err EnvironError.OutOfMemory) }
+    // Without memory it is poisoned, or it has the exception types of the tags before.
+    ensures stops { OnErr result (types.new.is_poisoned ≡ false → (m : Module) → CanTag m tags.now declared.now (builder_view types.old)
+        → (count : ℕ) × (builder_view types.new ≡ after_tags m tags.now (builder_view types.old) count)) }
 {
     let mut converted = PrimaryMap::with_capacity(alloc, tags.len())?;
     for index in tags {
@@ -57,6 +63,7 @@ fn convert_tag(
     ensures tag { IfOk result (λ tag. tag ≡ tag_at (builder_view types.old) (function_at declared.now index)) }
     ensures defined { OnOk result (builder_view types.new ≡ excepts (builder_view types.old) (function_at declared.now index)) }
     ensures memory { OnErr result (result ≡ Err EnvironError.OutOfMemory) }
+    ensures poisons { OnErr result (types.new.is_poisoned ≡ true) }
 {
     let signature = declared[TypeIndex::from_u32(index)];
     let exception = types.define_exception_type_for_tag(signature.unwrap_module_type_index())?;

@@ -1,13 +1,15 @@
 //! The translation of a module: its bytes are read and checked, and each section becomes a part of the record.
 
-ghost use Rattle.std.specs.Prelude.{◌≡◌, ◌^◌, ◌≤◌, ◌&&◌, length, false, is_none, IfOk, IfErr, OnOk, Err};
+ghost use Rattle.std.specs.Prelude.{◌≡◌, ◌≢◌, ◌⊎◌, ◌^◌, ◌≤◌, ◌&&◌, length, true, false, is_none, IfOk, IfErr, OnOk, OnErr, Err};
 ghost use Rattle.wasm_spec.specs.Module.{Module};
 ghost use Rattle.wasm_spec.specs.Sizes.{HasFewEntries, HasShortTypes};
 ghost use Rattle.rule_spec.specs.Rules.{Keeps};
 ghost use Rattle.form_data.specs.Views.{module_of};
 ghost use Rattle.module_types.specs.Builder.{builder_view, new_builder};
 ghost use Rattle.init_plan.specs.Views.{IsNewTranslation};
-ghost use Rattle.module_environ.specs.Readable.{IsReadable, HasTranslationCause, SucceedsOrNoMemory};
+ghost use Rattle.module_environ.specs.Readable.{IsReadable, HasTranslationCause, SucceedsOrNoMemory, IsPoisonedOrNoMemory};
+ghost use Rattle.module_environ.specs.OnTheWay.{IsOnTheWay, StopsOnTheWay};
+ghost use Rattle.module_environ.specs.Filling.{module_in, IsGathered};
 ghost use Rattle.replay_spec.specs.Startup.{is_empty};
 ghost use Rattle.module_environ.specs.Translated.{IsTranslated};
 ghost use Rattle.module_environ.specs.Forming.{IsFormed, FormCause};
@@ -21,6 +23,7 @@ use crate::sections::fill_sections;
 use crate::tags::convert_tags;
 use crate::types::intern_types;
 use form_data::Form;
+use form_lists::Lists;
 use form_reader::read_module;
 use form_rules::checked_lists;
 use form_types::{Types, Validator};
@@ -53,8 +56,16 @@ impl<'a, 'd> ModuleEnvironment<'a, 'd> {
         ensures cause { IfErr result (HasTranslationCause bytes.now self.entry.types.now.is_poisoned) }
         ensures too_long { 2 ^ 30 ≤ length bytes.now → result ≡ Err EnvironError.TooLarge }
 
-        // A module that keeps the rules has a translation, unless memory runs out.
+        // A module that keeps the rules has a translation, unless memory runs out; where the builder was poisoned, and only there, the answer is
+        // that it was.
         ensures complete { (m : Module) → IsReadable bytes.now m → Keeps m → self.entry.types.now.is_poisoned ≡ false → SucceedsOrNoMemory result }
+        ensures poisoned { (m : Module) → IsReadable bytes.now m → Keeps m → self.entry.types.now.is_poisoned ≡ true → IsPoisonedOrNoMemory result }
+
+        // What is left of the builder: it is as it was after each refusal but that of memory, and where it was poisoned. Where memory ran out it is
+        // poisoned, or as it was, or it holds the first of the module's types and exception types.
+        ensures refused { OnErr result (result ≢ Err EnvironError.OutOfMemory → self.exit.1.1.0.now ≡ self.entry.types.now) }
+        ensures stays_poisoned { self.entry.types.now.is_poisoned ≡ true → self.exit.1.1.0.now ≡ self.entry.types.now }
+        ensures stops { OnErr result (StopsOnTheWay self.entry.validator.now bytes.now self.entry.types.now self.exit.1.1.0.now) }
     {
         let ModuleEnvironment {
             tunables,
@@ -81,6 +92,10 @@ fn translation_of<'d>(
     ensures cause { IfErr result (HasTranslationCause bytes.now types.old.is_poisoned) }
     ensures too_long { 2 ^ 30 ≤ length bytes.now → result ≡ Err EnvironError.TooLarge }
     ensures complete { (m : Module) → IsReadable bytes.now m → Keeps m → types.old.is_poisoned ≡ false → SucceedsOrNoMemory result }
+    ensures poisoned { (m : Module) → IsReadable bytes.now m → Keeps m → types.old.is_poisoned ≡ true → IsPoisonedOrNoMemory result }
+    ensures refused { OnErr result (result ≢ Err EnvironError.OutOfMemory → types.new ≡ types.old) }
+    ensures stays_poisoned { types.old.is_poisoned ≡ true → types.new ≡ types.old }
+    ensures stops { OnErr result (StopsOnTheWay validator.now bytes.now types.old types.new) }
 {
     let form = read_module(alloc, bytes)?;
     let mut translation = ModuleTranslation::new(alloc, module_index)?;
@@ -121,23 +136,52 @@ fn translate_form<'d>(
         (IsFormed tunables.now validator.now (module_of form.now) translation.old translation.new types.new) }
     ensures cause { IfErr result (FormCause (module_of form.now) types.old.is_poisoned) }
     ensures complete { Keeps (module_of form.now) → types.old.is_poisoned ≡ false → SucceedsOrNoMemory result }
+    ensures poisoned { Keeps (module_of form.now) → types.old.is_poisoned ≡ true → IsPoisonedOrNoMemory result }
+    ensures refused { OnErr result (result ≢ Err EnvironError.OutOfMemory → types.new ≡ types.old) }
+    ensures stays_poisoned { types.old.is_poisoned ≡ true → types.new ≡ types.old }
+    ensures stops { types.new.is_poisoned ≡ false
+        → (types.new ≡ types.old) ⊎ (Keeps (module_of form.now) × IsOnTheWay (module_of form.now) validator.now (builder_view types.new)) }
 {
     let lists = checked_lists(alloc, form)?;
+    translate_lists(alloc, tunables, validator, types, &lists, translation)
+}
+
+/// Fills an empty translation with all of a module that keeps the rules, but its bytes and its code.
+fn translate_lists<'d>(
+    alloc: Global,
+    tunables: &Tunables,
+    validator: &Validator,
+    types: &mut ModuleTypesBuilder,
+    lists: &Lists<'_, 'd>,
+    translation: &mut ModuleTranslation<'d>,
+) -> Result<(), EnvironError>
+    requires gathered { IsGathered lists.now }
+    requires short { HasShortTypes (module_in lists.now) }
+    requires new { IsNewTranslation translation.old.module.module_index translation.old }
+    requires types { types.old.is_poisoned ≡ false → builder_view types.old ≡ new_builder validator.now }
+    ensures formed { OnOk result
+        (IsFormed tunables.now validator.now (module_in lists.now) translation.old translation.new types.new) }
+    // That the builder is poisoned is told before anything asks for memory, and there is no other cause.
+    ensures poisoned { types.old.is_poisoned ≡ true → (result ≡ Err EnvironError.Poisoned) × (types.new ≡ types.old) }
+    ensures complete { types.old.is_poisoned ≡ false → SucceedsOrNoMemory result }
+    ensures stops { types.old.is_poisoned ≡ false → types.new.is_poisoned ≡ false
+        → (types.new ≡ types.old) ⊎ IsOnTheWay (module_in lists.now) validator.now (builder_view types.new) }
+{
     if types.is_poisoned() {
         return Err(EnvironError::Poisoned);
     }
-    let ids = Types::build(alloc, validator, form)?;
+    let ids = Types::build(alloc, validator, lists.form)?;
     let indices = intern_types(alloc, &ids, types)?;
     let env = declared_types(alloc, types, &indices)?;
     fill_sections(
         alloc,
         tunables.debug_guest,
         &env,
-        &lists,
+        lists,
         &indices,
         translation,
     )?;
-    fill_customs(alloc, tunables, &env, &lists, translation)?;
+    fill_customs(alloc, tunables, &env, lists, translation)?;
     translation.module.tags = convert_tags(alloc, lists.spaces.tags.as_slice(), &indices, types)?;
     translation.module.types = indices;
     translation.set_types(ids);

@@ -1,11 +1,12 @@
 //! The types of a module, interned.
 
-ghost use Rattle.std.specs.Prelude.{◌≡◌, ◌<◌, ◌^◌, length, map, IfOk, OnOk, OnErr, Err};
+ghost use Rattle.std.specs.Prelude.{◌≡◌, ◌<◌, ◌^◌, ℕ, false, length, map, IfOk, OnOk, OnErr, Err};
 ghost use Rattle.wasm_spec.specs.Module.{Module};
 ghost use Rattle.type_spec.specs.Interned.{taken};
 ghost use Rattle.form_types.specs.Placed.{placed_groups};
 ghost use Rattle.module_types.specs.Builder.{builder_view, new_builder};
 ghost use Rattle.module_environ.specs.Environment.{AreHeld};
+ghost use Rattle.module_environ.specs.OnTheWay.{after_types};
 ghost use Rattle.module_environ.specs.Types.{declared, type_index, AreTypesOf, HoldsGroupsAlone};
 
 use crate::error::EnvironError;
@@ -30,7 +31,10 @@ pub fn intern_types(
     ensures held { IfOk result (λ indices. AreHeld indices (length builder.new.list.types)) }
     ensures few { OnOk result (length builder.new.list.types < 2 ^ 31) }
     ensures alone { OnOk result (HoldsGroupsAlone types.now.validator (builder_view builder.new)) }
+    ensures whole { OnOk result (builder_view builder.new ≡ after_types types.now (length types.now.declared)) }
     ensures memory { OnErr result (result ≡ Err EnvironError.OutOfMemory) }
+    // Without memory it is poisoned, or it has interned the types before.
+    ensures stops { OnErr result (builder.new.is_poisoned ≡ false → (count : ℕ) × (builder_view builder.new ≡ after_types types.now count)) }
 {
     let count = types.core_type_count_in_module();
     let mut indices = PrimaryMap::with_capacity(alloc, count as usize)?;

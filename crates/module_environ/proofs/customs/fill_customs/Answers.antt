@@ -1,4 +1,5 @@
-use Rattle.std.proofs.Common.{◌∙◌, map, sym, ap, subst}
+use Rattle.std.proofs.Common.{◌≡◌, ◌∙◌, ℕ, List, [], Option, map, sym, ap, subst}
+use Rattle.std.specs.List.{cons_option}
 use Rattle.std.specs.Global.{Vec}
 use Rattle.module_customs.specs.Names.{KeepsNames}
 use Rattle.init_plan.specs.declared.debug_info.FunctionMetadata.{FunctionMetadata}
@@ -6,8 +7,16 @@ use Rattle.init_plan.specs.declared.translation.ModuleTranslation.{ModuleTransla
 use Rattle.module_environ.specs.Customs.{HasCustoms, names_asked}
 use Rattle.module_environ.specs.Filling.{module_in}
 use Rattle.module_environ.specs.Metadata.{view_function}
+use Rattle.module_environ.specs.Pooled.{with_texts, own_name}
 use Rattle.module_environ.proofs.AskedHints.{hints-set}
 use Rattle.module_environ.proofs.customs.fill_customs.Goals as goal
+
+pub returns-clause-texts : goal.returns-clause-texts
+returns-clause-texts g c =
+    let old = c.args.translation.now.module.strings in
+    subst (λ (x : ModuleTranslation). x.module.strings ≡ with_texts old (own_name c.args.tunables.now.debug_native (module_in c.args.lists.now)))
+    (sym c.set_branch_hints.ensures.same)
+    (c.in_ok-translation.ensures.pool ∙ ap (λ (o : Option (List ℕ)). with_texts old (cons_option o [])) c.in_ok-names.ensures.module_name)
 
 pub returns-clause-customs : goal.returns-clause-customs
 returns-clause-customs g c =

@@ -1,6 +1,3 @@
-use Rattle.std.proofs.Common.{sym, subst}
-use Rattle.module_environ.specs.Pooled.{GrowsBy}
-use Rattle.module_environ.proofs.GrownPool.{grows-text}
 use Rattle.module_environ.proofs.ExportsInTurn.{same-atom, entered-push}
 use Rattle.module_environ.proofs.exports.add_export.Goals as goal
 
@@ -8,5 +5,4 @@ pub returns-clause-entered : goal.returns-clause-entered
 returns-clause-entered c = λ before had distinct.
     entered-push _ same-atom before _ c.args.strings.now c.insert.new.self c.args.entries.now.entries c.insert-2.new.self.entries
     c.in_ok-name.name c.exported_entity.result
-    (subst (GrowsBy 1 c.args.strings.now) (sym c.in_ok-name.ensures.texts) (grows-text c.args.strings.now c.args.export.now.name.now))
-    c.in_ok-name.ensures.at_atom c.exported_entity.ensures c.in_ok-insert.ensures.entries had distinct
+    c.in_ok-name.ensures.texts c.in_ok-name.ensures.at_atom c.exported_entity.ensures c.in_ok-insert.ensures.entries had distinct

@@ -40,7 +40,7 @@ returns g c =
     record {
       imports = c.in_ok-initializers.ensures.imports;
       pooled = c.in_ok-initializers.ensures.pooled;
-      few_texts = omega (arith, c.in_ok-initializers.ensures.pool, gathered.few.imports);
+      texts = c.in_ok-initializers.ensures.pool;
       functions = counts.functions;
       imported_tables = counts.tables;
       imported_memories = counts.memories;

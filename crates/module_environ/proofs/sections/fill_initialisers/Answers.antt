@@ -12,7 +12,7 @@ use Rattle.module_environ.specs.EscapeLog.{EscapeLog}
 use Rattle.module_environ.specs.Segments.{AreElementsConvertible}
 use Rattle.module_environ.specs.Translation.{HasGlobals, HasElements}
 use Rattle.module_environ.specs.Types.{look_up_in}
-use Rattle.module_environ.proofs.FilledInitialisers.{few_declared, counted_functions, on_ok, noted_all, grows_less, no_images_of, fills}
+use Rattle.module_environ.proofs.FilledInitialisers.{few_declared, counted_functions, on_ok, noted_all, no_images_of, fills}
 use Rattle.module_environ.proofs.LookedUp.{first_values_alike, left_initialisers_alike, active_elements_alike, passive_items_alike}
 use Rattle.module_environ.proofs.RuledSections.{table-initialisers, global-initialisers, elements-convert, segments-convert, exports-in-range, exports-distinct}
 use Rattle.module_environ.proofs.sections.fill_initialisers.Goals as goal
@@ -117,5 +117,4 @@ returns g c =
     c.add_segments.ensures.same
     (λ active passive unprocessed same. fills m c.args.escaping.now c.convert_elements.new.escaping old mid c.add_segments.new.translation
     c.in_ok-translation-2.ensures.exports
-    (grows_less (length l.exports) old.module.strings c.convert_exports.new.strings r.few.exports c.in_ok-translation-2.ensures.pool)
-    c.in_ok-translation-2.ensures.pooled globals elements noted refl active passive unprocessed same)
+    c.in_ok-translation-2.ensures.pool c.in_ok-translation-2.ensures.pooled globals elements noted refl active passive unprocessed same)

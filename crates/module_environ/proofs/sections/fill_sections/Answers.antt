@@ -1,4 +1,4 @@
-use Rattle.std.proofs.Common.{◌≡◌, ◌∙◌, ◌^◌, length, map, sym, ap, subst, arith}
+use Rattle.std.proofs.Common.{◌≡◌, ◌∙◌, length, map, sym, ap, subst, arith}
 use Rattle.std.specs.List.{enumerate_from, range_with_len}
 use Rattle.std.proofs.lemmas.List.{length-map}
 use Rattle.std.proofs.lemmas.List.FromFn.{length-enumerate_from}
@@ -12,8 +12,8 @@ use Rattle.module_environ.specs.EscapeLog.{EscapeLog, after_escapes}
 use Rattle.module_environ.specs.Types.{interned_at}
 use Rattle.module_environ.proofs.FilledSections.{functions-named, starts-below, functions-are, imported-are}
 use Rattle.module_environ.proofs.FilledSections.{behind, all-noted, noted-where, noted-not}
-use Rattle.module_environ.proofs.FilledSections.{entities-filled, counts-filled, heap-filled, data-filled}
-use Rattle.module_environ.proofs.GrownPool.{length-grown}
+use Rattle.module_environ.proofs.FilledSections.{entities-filled, texts-filled, counts-filled, heap-filled, data-filled}
+use Rattle.module_environ.proofs.GrownPool.{imports-pooled}
 use Rattle.module_environ.proofs.sections.fill_sections.Goals as goal
 use Rattle.module_environ.proofs.sections.fill_sections.Goals.{then-debugged+in_ok-note_escape_range-2, else-debugged}
 
@@ -26,6 +26,12 @@ pub exported_signatures-requires-clause-types : goal.exported_signatures-require
 exported_signatures-requires-clause-types g c =
     functions-named c.args.lists.now c.requires.gathered c.requires.of_module c.args.indices.now c.requires.listed c.as_slice-functions.result.now
     c.as_slice-functions.ensures.value
+
+pub fill_initialisers-requires-clause-few_texts : goal.fill_initialisers-requires-clause-few_texts
+fill_initialisers-requires-clause-few_texts g c =
+    let m = module_in c.args.lists.now in
+    let pooled = imports-pooled (plain.imports m) c.fill_entities.new.entities.strings c.in_ok-fill_entities.ensures.texts in
+    omega (arith, pooled, c.requires.gathered.few.imports)
 
 pub start_function-translation-requires : goal.start_function-translation-requires
 start_function-translation-requires g c = starts-below c.args.lists.now c.requires.gathered
@@ -120,9 +126,7 @@ returns-clause-sections g c =
       };
     }
 
-pub returns-clause-few_texts : goal.returns-clause-few_texts
-returns-clause-few_texts g c =
-    let first = c.in_ok-fill_entities.ensures in
-    let second = c.in_ok-fill_initialisers.ensures in
-    let grown = length-grown (2 ^ 30) _ _ second.texts in
-    omega (arith, first.few_texts, grown)
+pub returns-clause-texts : goal.returns-clause-texts
+returns-clause-texts g c =
+    texts-filled (module_in c.args.lists.now) _ _ c.requires.new _ c.in_ok-fill_entities.ensures _ _ c.fill_initialisers.new.translation
+    c.in_ok-fill_initialisers.ensures

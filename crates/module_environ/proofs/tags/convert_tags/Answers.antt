@@ -1,5 +1,6 @@
 use Rattle.std.proofs.Common.{◌≡◌, ◌<◌, ◌+◌, ◌^◌, length, sym, subst, arith}
 use Rattle.std.proofs.lemmas.List.{length-map}
+use Rattle.std.proofs.lemmas.Result.{err_from_is_err_and}
 use Rattle.module_types.specs.Views.{interned_of}
 use Rattle.module_types.specs.Builder.{builder_view}
 use Rattle.module_environ.proofs.Tagging as tagging
@@ -64,6 +65,17 @@ loop-index-preserved c = λ m can.
     (tagging.tagging-next m c.args.tags.now c.args.declared.now old can (builder_view c.loop-index.types) c.loop-index.index-index c.loop-index.converted
     (c.loop-index.invariant m can) c.loop-index-test.true (builder_view c.convert_tag.new.types) c.in_ok-tag.tag c.in_ok-tag.ensures.defined
     c.in_ok-tag.ensures.tag)
+
+pub returns-in_err-push-clause-stops : goal.returns-in_err-push-clause-stops
+returns-in_err-push-clause-stops c =
+    let old = builder_view c.args.types.now in
+    let p = err_from_is_err_and c.from_residual-in_err-push.result c.from_residual-in_err-push.ensures.1 in
+    rw p.1 (λ sound m can. (
+      c.loop-index.index-index + 1,
+      (tagging.tagging-next m c.args.tags.now c.args.declared.now old can (builder_view c.loop-index.types) c.loop-index.index-index
+          c.loop-index.converted (c.loop-index.invariant m can) c.loop-index-test.true (builder_view c.convert_tag.new.types) c.in_ok-tag.tag
+          c.in_ok-tag.ensures.defined c.in_ok-tag.ensures.tag).after,
+    ))
 
 pub returns-clause-built : goal.returns-clause-built
 returns-clause-built c = λ m can.

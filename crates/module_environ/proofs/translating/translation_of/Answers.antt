@@ -4,6 +4,7 @@ use Rattle.rule_spec.specs.Rules.{Keeps}
 use Rattle.form_data.specs.Views.{body_of, module_of}
 use Rattle.init_plan.specs.declared.translation.ModuleTranslation.{ModuleTranslation}
 use Rattle.module_environ.proofs.Answering.{ReadingTells, read_cause, read_complete, was_readable, read_as, form_cause, is_translated}
+use Rattle.module_environ.proofs.WayPlaces.{stops-read}
 use Rattle.module_environ.proofs.translating.translation_of.Goals as goal
 
 -- ---- the bytes are not read
@@ -34,6 +35,19 @@ returns-in_err-form-clause-complete c = λ m can kept sound.
     } in
     rw p.1 (p.2 ∙ read_complete c.args.bytes.now c.read_module.result c.in_err-form.field-0.0 m tells c.in_err-form.was can)
 
+pub returns-in_err-form-clause-poisoned : goal.returns-in_err-form-clause-poisoned
+returns-in_err-form-clause-poisoned c = λ m can kept was.
+    let p = err_from_is_err_and c.from_residual.result c.from_residual.ensures.1 in
+    let e = c.read_module.ensures in
+    let tells : ReadingTells c.args.bytes.now c.read_module.result = record {
+      complete = e.complete;
+      too_large = e.too_large;
+      unsupported = e.unsupported;
+      malformed = e.malformed;
+      stops_nowhere = e.stops_nowhere;
+    } in
+    rw (p.1, p.2, read_complete c.args.bytes.now c.read_module.result c.in_err-form.field-0.0 m tells c.in_err-form.was can) tt
+
 -- ---- its form becomes no translation
 
 pub returns-in-Err-clause-cause : goal.returns-in-Err-clause-cause
@@ -62,7 +76,46 @@ returns-in-Err-clause-complete c = λ m can kept sound.
     let same : module_of c.in_ok-form.form ≡ m = read_as c.args.bytes.now c.in_ok-form.form m tells can in
     c.in-Err.ensures.complete (subst Keeps (sym same) kept) sound
 
+pub returns-in-Err-clause-poisoned : goal.returns-in-Err-clause-poisoned
+returns-in-Err-clause-poisoned c = λ m can kept was.
+    let e = c.in_ok-form.ensures in
+    let tells : ReadingTells c.args.bytes.now (Ok c.in_ok-form.form) = record {
+      complete = e.complete;
+      too_large = e.too_large;
+      unsupported = e.unsupported;
+      malformed = e.malformed;
+      stops_nowhere = e.stops_nowhere;
+    } in
+    let same : module_of c.in_ok-form.form ≡ m = read_as c.args.bytes.now c.in_ok-form.form m tells can in
+    c.in-Err.ensures.poisoned (subst Keeps (sym same) kept) was
+
+pub returns-in-Err-clause-stops : goal.returns-in-Err-clause-stops
+returns-in-Err-clause-stops c =
+    let e = c.in_ok-form.ensures in
+    let tells : ReadingTells c.args.bytes.now (Ok c.in_ok-form.form) = record {
+      complete = e.complete;
+      too_large = e.too_large;
+      unsupported = e.unsupported;
+      malformed = e.malformed;
+      stops_nowhere = e.stops_nowhere;
+    } in
+    stops-read c.args.validator.now c.args.bytes.now (module_of c.in_ok-form.form) c.args.types.now c.translate_form.new.types
+    (was_readable c.args.bytes.now c.in_ok-form.form tells e.read e.no_interface_types) c.translate_form.ensures.stops
+
 -- ---- memory runs out for its code
+
+pub returns-in-Err-take_bodies-clause-stops : goal.returns-in-Err-take_bodies-clause-stops
+returns-in-Err-take_bodies-clause-stops c =
+    let e = c.in_ok-form.ensures in
+    let tells : ReadingTells c.args.bytes.now (Ok c.in_ok-form.form) = record {
+      complete = e.complete;
+      too_large = e.too_large;
+      unsupported = e.unsupported;
+      malformed = e.malformed;
+      stops_nowhere = e.stops_nowhere;
+    } in
+    stops-read c.args.validator.now c.args.bytes.now (module_of c.in_ok-form.form) c.args.types.now c.translate_form.new.types
+    (was_readable c.args.bytes.now c.in_ok-form.form tells e.read e.no_interface_types) c.translate_form.ensures.stops
 
 pub returns-in-Err-take_bodies-clause-cause : goal.returns-in-Err-take_bodies-clause-cause
 returns-in-Err-take_bodies-clause-cause c = rw c.into.ensures tt
@@ -70,7 +123,23 @@ returns-in-Err-take_bodies-clause-cause c = rw c.into.ensures tt
 pub returns-in-Err-take_bodies-clause-complete : goal.returns-in-Err-take_bodies-clause-complete
 returns-in-Err-take_bodies-clause-complete c = λ m can kept sound. c.into.ensures
 
+pub returns-in-Err-take_bodies-clause-poisoned : goal.returns-in-Err-take_bodies-clause-poisoned
+returns-in-Err-take_bodies-clause-poisoned c = λ m can kept was. rw c.into.ensures tt
+
 -- ---- it is translated
+
+pub returns-in-Ok-clause-poisoned : goal.returns-in-Ok-clause-poisoned
+returns-in-Ok-clause-poisoned c = λ m can kept was.
+    let e = c.in_ok-form.ensures in
+    let tells : ReadingTells c.args.bytes.now (Ok c.in_ok-form.form) = record {
+      complete = e.complete;
+      too_large = e.too_large;
+      unsupported = e.unsupported;
+      malformed = e.malformed;
+      stops_nowhere = e.stops_nowhere;
+    } in
+    let same : module_of c.in_ok-form.form ≡ m = read_as c.args.bytes.now c.in_ok-form.form m tells can in
+    absurd (c.in_default.ensures.poisoned (subst Keeps (sym same) kept) was)
 
 pub returns-in-Ok-clause-translated : goal.returns-in-Ok-clause-translated
 returns-in-Ok-clause-translated c =

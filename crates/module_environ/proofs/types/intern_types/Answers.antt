@@ -4,19 +4,12 @@ use Rattle.std.proofs.lemmas.List.{length-map}
 use Rattle.wasm_spec.specs.Module.{Module}
 use Rattle.module_types.specs.Views.{interned_of}
 use Rattle.module_types.specs.Builder.{Builder, builder_view}
-use Rattle.module_types.specs.declared.error.BuildError.{BuildError}
-use Rattle.module_types.specs.declared.error.BuildError.TheVariants as build
 use Rattle.module_environ.specs.declared.error.EnvironError.TheVariants as refusal
 use Rattle.module_environ.specs.Environment.{AreHeld}
 use Rattle.module_environ.specs.Types.{AreTypesOf}
-use Rattle.module_environ.specs.Errors.{error_of_build}
 use Rattle.module_environ.proofs.InTurn.{Interns, interns-none, interns-next, names, room, listed-long, listed-all, built-all, few-all, held-all}
+use Rattle.module_environ.proofs.WayPlaces.{build-memory}
 use Rattle.module_environ.proofs.types.intern_types.Goals as goal
-
--- a builder that is not poisoned fails only where memory runs out
-unpoisoned : (e : BuildError) → (e ≡ build.Poisoned → ⊥) → error_of_build e ≡ refusal.OutOfMemory
-unpoisoned build.OutOfMemory none = refl
-unpoisoned build.Poisoned none = absurd (none refl)
 
 pub loop-place-init : goal.loop-place-init
 loop-place-init c = λ m of.
@@ -47,10 +40,27 @@ returns-in_err-index-clause-memory c =
     let sound : c.loop-place.builder.is_poisoned ≡ false = ap (λ (b : Builder). b.is_poisoned)
     (c.loop-place.invariant c.requires.of_module.0 c.requires.of_module.1).alone in
     let p = err_from_is_err_and c.from_residual-in_err-index.result c.from_residual-in_err-index.ensures.1 in
-    let memory = unpoisoned c.in_err-index.field-0.0
+    let memory = build-memory c.in_err-index.field-0.0
     (λ same. absurd (let no : true ≡ false = sym (c.intern_type.ensures.poisoned.0 (c.in_err-index.was ∙ ap Err same)) ∙ sound in cc)) in
     let is : c.from_residual-in_err-index.result ≡ Err refusal.OutOfMemory = p.1 ∙ ap Err (p.2 ∙ memory) in
     subst (λ r. OnErr r (r ≡ Err refusal.OutOfMemory)) (sym is) refl
+
+pub returns-in_err-indices-clause-stops : goal.returns-in_err-indices-clause-stops
+returns-in_err-indices-clause-stops c =
+    let p = err_from_is_err_and c.from_residual.result c.from_residual.ensures.1 in
+    rw p.1 (λ sound. (0, c.requires.new))
+
+pub returns-in_err-push-clause-stops : goal.returns-in_err-push-clause-stops
+returns-in_err-push-clause-stops c =
+    let m = c.requires.of_module.0 in
+    let of = c.requires.of_module.1 in
+    let t = c.args.types.now in
+    let lt : c.loop-place.place < length t.declared = omega (arith, c.loop-place-test.true, c.core_type_count_in_module-count.ensures) in
+    let p = err_from_is_err_and c.from_residual-in_err-push.result c.from_residual-in_err-push.ensures.1 in
+    let next = interns-next m t of (builder_view c.loop-place.builder) c.loop-place.place c.loop-place.indices (c.loop-place.invariant m of) lt
+    c.core_type_at_in_module-id.result.0 c.core_type_at_in_module-id.ensures.id (builder_view c.intern_type.new.self) c.in_ok-index.index
+    c.in_ok-index.ensures.interned c.in_ok-index.ensures.index in
+    rw p.1 (λ sound. (c.loop-place.place + 1, next.after))
 
 pub push-requires : goal.push-requires
 push-requires c =
@@ -88,6 +98,9 @@ returns-clause-indices c = λ m of. listed-all m c.args.types.now of (builder_vi
 
 pub returns-clause-built : goal.returns-clause-built
 returns-clause-built c = λ m of. built-all m c.args.types.now of (builder_view c.loop-place.builder) c.loop-place.indices (ended c m of)
+
+pub returns-clause-whole : goal.returns-clause-whole
+returns-clause-whole c = (ended c c.requires.of_module.0 c.requires.of_module.1).after
 
 pub returns-clause-held : goal.returns-clause-held
 returns-clause-held c =

@@ -1,0 +1,118 @@
+-- Places at which a builder stands on its way through the types of a module, and what a call that stops there answers.
+use Rattle.std.proofs.Common.{◌≡◌, ◌≢◌, ◌∙◌, ◌⊎◌, inl, inr, ℕ, Bool, true, false, List, length, map, Result, Ok, Err, refl, sym, ap, subst}
+use Rattle.std.specs.Prelude.{IfErr, OnErr}
+use Rattle.wasm_spec.specs.Module as plain
+use Rattle.rule_spec.specs.declared.rules.Rule.TheVariants.{L2}
+use Rattle.rule_spec.specs.Lists as rule
+use Rattle.rule_spec.specs.Rules.{Keeps}
+use Rattle.type_spec.specs.Interned.{taken}
+use Rattle.form_types.specs.Types.{TypesData}
+use Rattle.form_types.specs.Numbered.{AreNumbered}
+use Rattle.form_types.specs.Placed.{placed_groups}
+use Rattle.form_lists.specs.declared.lists.Lists.{Lists}
+use Rattle.wasm_types.specs.declared.index.EngineOrModuleTypeIndex.{EngineOrModuleTypeIndex}
+use Rattle.module_types.specs.Builder.{Builder, BuilderState, builder_view, starts}
+use Rattle.module_types.specs.declared.error.BuildError.{BuildError}
+use Rattle.module_types.specs.declared.error.BuildError.TheVariants as build
+use Rattle.module_types.proofs.NamingEarlier.{keeps-earlier}
+use Rattle.module_environ.specs.declared.error.EnvironError.{EnvironError}
+use Rattle.module_environ.specs.declared.error.EnvironError.TheVariants as refusal
+use Rattle.module_environ.specs.Errors.{error_of_build}
+use Rattle.module_environ.specs.Filling.{module_in, IsGathered}
+use Rattle.module_environ.specs.Forming.{FormCause}
+use Rattle.module_environ.specs.OnTheWay.{after_types, after_tags, IsOnTheWay, StopsOnTheWay}
+use Rattle.module_environ.specs.Readable.{IsReadable, SucceedsOrNoMemory, IsPoisonedOrNoMemory}
+use Rattle.module_environ.specs.Tagged.{CanTag}
+use Rattle.module_environ.specs.Types.{declared, type_index, AreTypesOf, HoldsGroupsAlone}
+
+-- the types of the module whose lists were gathered
+pub types-gathered : (l : Lists) → IsGathered l → (t : TypesData) → AreNumbered (module_in l) t → AreTypesOf (module_in l) t
+types-gathered l gathered t numbered =
+    record { numbered = numbered; earlier = keeps-earlier (module_in l) gathered.keeps; few = gathered.few.types }
+
+-- and its tags
+pub can-tag : (l : Lists) → IsGathered l → {t : TypesData} → AreTypesOf (module_in l) t → (types : List EngineOrModuleTypeIndex) (b : Builder)
+    → types ≡ map type_index (declared (module_in l)) → b.built ≡ (taken (placed_groups (module_in l))).built → (validator : ℕ)
+    → HoldsGroupsAlone validator b → (tags : List ℕ) → tags ≡ l.spaces.tags.items → CanTag (module_in l) tags types b
+can-tag l gathered of types b listed built validator alone tags are = record {
+  earlier = of.earlier;
+  few = of.few;
+  listed = listed;
+  built = built;
+  validator = validator;
+  alone = alone;
+  named = are ∙ ap (λ (r : rule.Lists). r.tags) gathered.lists;
+  functions = (gathered.keeps L2).tags;
+}
+
+module _ (m : plain.Module) (validator : ℕ) (t : TypesData) (numbered : AreNumbered m t) (made : t.validator ≡ validator) where
+  pub at-type : (b : Builder) → (count : ℕ) × (b ≡ after_types t count) → IsOnTheWay m validator b
+  at-type b at = record { types = t; numbered = numbered; made = made; place = inl at }
+
+  -- all declared types were interned
+  module _ (groups : Builder) (whole : groups ≡ after_types t (length t.declared)) (tags : List ℕ) (named : tags ≡ plain.tags m) where
+    there : (count : ℕ) → after_tags m tags groups count ≡ after_tags m (plain.tags m) (after_types t (length t.declared)) count
+    there count = λ i. after_tags m (named i) (whole i) count
+
+    pub at-tag : (b : Builder) → (count : ℕ) × (b ≡ after_tags m tags groups count) → IsOnTheWay m validator b
+    at-tag b at = record { types = t; numbered = numbered; made = made; place = inr (inl (at.0, at.1 ∙ there at.0)) }
+
+    pub at-startup : (tagged b : Builder) → tagged ≡ after_tags m tags groups (length tags) → b ≡ starts tagged → IsOnTheWay m validator b
+    at-startup tagged b all is = record {
+      types = t;
+      numbered = numbered;
+      made = made;
+      place = inr (inr (is ∙ ap starts (all ∙ there (length tags)
+          ∙ ap (λ (ns : List ℕ). after_tags m (plain.tags m) (after_types t (length t.declared)) (length ns)) named)));
+    }
+
+-- ---- answers
+
+-- a builder that is not poisoned answers that there is no memory
+pub build-memory : (e : BuildError) → (e ≡ build.Poisoned → ⊥) → error_of_build e ≡ refusal.OutOfMemory
+build-memory build.OutOfMemory sound = refl
+build-memory build.Poisoned sound = absurd (sound refl)
+
+module _ {A : Type 0} (r : Result A EnvironError) where
+  pub none_else : (poisoned : Bool) → (poisoned ≡ true → r ≡ Err refusal.Poisoned) → (poisoned ≡ false → SucceedsOrNoMemory r) → (m : plain.Module)
+      → IfErr r (FormCause m poisoned)
+  none_else true told sound m = subst (λ (q : Result A EnvironError). IfErr q (FormCause m true)) (sym (told refl)) refl
+  none_else false told sound m = by r (sound refl) where
+    by : (q : Result A EnvironError) → SucceedsOrNoMemory q → IfErr q (FormCause m false)
+    by (Ok a) h = tt
+    by (Err e) h = subst (FormCause m false) (sym h) tt
+
+  pub unchanged : (old new : BuilderState) → (old.is_poisoned ≡ true → new ≡ old) → (old.is_poisoned ≡ false → SucceedsOrNoMemory r)
+      → OnErr r (r ≢ Err refusal.OutOfMemory → new ≡ old)
+  unchanged old new stays sound = by old.is_poisoned refl where
+    else_memory : (q : Result A EnvironError) → SucceedsOrNoMemory q → OnErr q (q ≢ Err refusal.OutOfMemory → new ≡ old)
+    else_memory (Ok a) h = tt
+    else_memory (Err e) h = λ other. absurd (other (ap Err h))
+
+    any : (q : Result A EnvironError) → new ≡ old → OnErr q (q ≢ Err refusal.OutOfMemory → new ≡ old)
+    any (Ok a) same = tt
+    any (Err e) same = λ other. same
+
+    by : (poisoned : Bool) → old.is_poisoned ≡ poisoned → OnErr r (r ≢ Err refusal.OutOfMemory → new ≡ old)
+    by true is = any r (stays is)
+    by false is = else_memory r (sound is)
+
+  pub told_poisoned : r ≡ Err refusal.Poisoned → IsPoisonedOrNoMemory r
+  told_poisoned is = subst (λ (q : Result A EnvironError). IsPoisonedOrNoMemory q) (sym is) tt
+
+-- where the builder was poisoned it is as it was
+pub stops-anyhow : (old new : BuilderState) (P : Type 0) → (old.is_poisoned ≡ true → new ≡ old)
+    → (old.is_poisoned ≡ false → new.is_poisoned ≡ false → (new ≡ old) ⊎ P) → new.is_poisoned ≡ false → (new ≡ old) ⊎ P
+stops-anyhow old new P stays stops sound = by old.is_poisoned refl where
+  by : (poisoned : Bool) → old.is_poisoned ≡ poisoned → (new ≡ old) ⊎ P
+  by true is = inl (stays is)
+  by false is = stops is sound
+
+-- over the bytes that spell the module
+pub stops-read : (validator : ℕ) (bytes : List ℕ) (m : plain.Module) (old new : BuilderState) → IsReadable bytes m
+    → (new.is_poisoned ≡ false → (new ≡ old) ⊎ (Keeps m × IsOnTheWay m validator (builder_view new))) → StopsOnTheWay validator bytes old new
+stops-read validator bytes m old new readable stops sound =
+    elim (stops sound) [
+      | inl unchanged ↦ inl unchanged
+      | inr way ↦ inr (m, readable, way.0, way.1)
+    ]
