@@ -73,8 +73,7 @@ fn take_next<Space>(count: &mut u32) -> Index<Space>
     index
 }
 
-/// The seed of the pool: a digest of all names of imports and exports.
-/// Names that a stranger chose to collide would have to be chosen for the digest that they change.
+/// The seed of the pool: a digest of all names of imports and exports. Names that are chosen to collide change it as well.
 pub(crate) fn name_seed(form: &Form<'_>) -> u64
     ensures { result ≡ sip.finish (fold sip.write sip.initial (flat_map section_names (module_of form.now))) }
 {
