@@ -32,12 +32,13 @@ pub fn summary_text(
     Ok(text.into_bytes())
 }
 
-// The bytes of the runtime data, which stand end to end: where the last ends.
+// The bytes of the runtime data in sum.
 fn runtime_total(plan: &Plan<'_>) -> u64
     ensures { result ≡ runtime_total plan.now }
 {
-    match plan.translation.module.runtime_data.as_slice().last() {
-        Some(range) => u64::from(range.end),
-        None => 0,
+    let mut total = 0;
+    for range in plan.translation.module.runtime_data.as_slice() {
+        total += u64::from(range.end.saturating_sub(range.start));
     }
+    total
 }
