@@ -22,7 +22,7 @@ pub enum Setting {
     GcNull,
 }
 
-/// How many kinds of options there are.
+/// How many kinds of options there are; a command has one option of a kind at most.
 pub(crate) const KINDS: usize = 9;
 
 /// What the word sets, if it is an option: the one table of the words.
@@ -64,7 +64,6 @@ fn text_after<'a>(text: &'a str, prefix: &str) -> Option<&'a str>
     text.strip_prefix(prefix)
 }
 
-/// The place of an option's kind in the table.
 pub(crate) fn kind_of(setting: Setting) -> usize
     ensures kind { result ≡ (row setting).kind }
     ensures within { result < KINDS }
@@ -82,7 +81,6 @@ pub(crate) fn kind_of(setting: Setting) -> usize
     }
 }
 
-/// The command with the setting.
 pub(crate) fn with_setting(mut command: Command, setting: Setting) -> Command
     ensures { result ≡ (row setting).sets command }
 {

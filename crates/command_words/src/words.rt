@@ -8,7 +8,7 @@ use crate::numbers::read_number;
 use crate::settings::{KINDS, kind_of, read_setting, with_setting};
 use wasm_types::Tunables;
 
-/// The command that the words name: those after the program's name.
+/// The command that the words name, which are those after the program's name; `None` where they name none.
 pub fn read_words(words: &[String]) -> Option<Command>
     ensures named { IfSome result (Names (map string_bytes words.now)) }
     // So there is none exactly where no command is named.
@@ -57,7 +57,6 @@ fn with_options(plain: Command, words: &[String]) -> Option<Command>
     Some(command)
 }
 
-/// The command without any option.
 fn plain(generate: Option<u32>) -> Command
     ensures { result ≡ plain_command generate }
 {

@@ -14,7 +14,7 @@ pub front-and-rest : (n : ℕ) (left rest buffer new : List ℕ) → n ≤ lengt
 front-and-rest n left rest buffer new within moved kept =
     rw (moved, kept, take-front n left rest within) (sym (take-append-drop n left))
 
--- the same of a read that answers how many bytes it moved
+-- the same of a read that returns how many bytes it moved
 pub front-and-rest-on-ok : {E : Type 0} (r : Result ℕ E) (count : ℕ) (left buffer filled new : List ℕ) → count ≤ length left
     → IfOk r (λ n. n ≡ count) → IfOk r (λ n. filled ≡ take n left ++ drop n buffer) → IfOk r (λ n. new ≡ drop n left)
     → IfOk r (λ n. left ≡ take n filled ++ new)

@@ -26,13 +26,13 @@ pub trait Source {
     /// The bytes left, where it tells them.
     ghost left: { Self → Option (List ℕ) };
 
-    /// How many reads failed, as a counter of 64 bits tells it, which stays at its last value.
+    /// How many reads failed, on a counter of 64 bits that stays at its last value.
     ghost faults: { Self → ℕ };
 
     /// How many reads were made since the first that moved no byte, if one did. A source that tells its bytes need not count.
     ghost since_end: { Self → Option ℕ };
 
-    /// Moves the first bytes left into the front of `buf`, and answers how many: none only at the end.
+    /// Moves the first bytes left into the front of `buf`, and returns how many: 0 only at the end.
     /// `Failed` leaves the bytes left as they were.
     fn read(&mut self, buf: &mut [u8]) -> Result<usize, Failed>
         requires { 0 < length buf.old }
@@ -54,10 +54,10 @@ pub trait Sink {
     /// The bytes held, where it tells them.
     ghost held: { Self → Option (List ℕ) };
 
-    /// How many writes failed, as a counter of 64 bits tells it, which stays at its last value.
+    /// How many writes failed, on a counter of 64 bits that stays at its last value.
     ghost faults: { Self → ℕ };
 
-    /// Appends the first bytes of `piece`, at least one, and answers how many.
+    /// Appends the first bytes of `piece`, at least one, and returns how many.
     /// `Failed` leaves the bytes held as they were.
     fn write(&mut self, piece: &[u8]) -> Result<usize, Failed>
         requires { 0 < length piece.now }

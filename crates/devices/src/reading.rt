@@ -15,7 +15,7 @@ const BUFFER: usize = 4096;
 pub enum ReadStop {
     /// A read failed.
     Failed,
-    /// Memory for the bytes was refused.
+    /// Out of memory.
     OutOfMemory,
 }
 
@@ -41,7 +41,10 @@ impl From<AllocError> for ReadStop {
     }
 }
 
-/// Reads into the empty store until the source ends, or until so many bytes were read.
+/// Reads into the empty store until the source ends, or until `most` bytes were read.
+///
+/// # Errors
+/// `Failed` where a read failed; `OutOfMemory` where the store cannot grow. What was read stands in the store.
 pub fn read_all<S: Source>(source: &mut S, store: &mut Vec<u8>, most: usize) -> Result<(), ReadStop>
     requires { store.old.items ≡ [] }
 
@@ -57,7 +60,7 @@ pub fn read_all<S: Source>(source: &mut S, store: &mut Vec<u8>, most: usize) -> 
     ensures to_the_end { OnOk result (IsNone (S.left source.old) → S.since_end source.old ≡ None → vec_len store.new < most → S.since_end source.new ≡ Some 0) }
     ensures not_past { IsNone (S.left source.old) → S.since_end source.old ≡ None → IsNotPassed (S.since_end source.new) }
 
-    // No failed read is passed over.
+    // `Failed` is returned where a read failed, and only there.
     ensures cause { result ≡ Err ReadStop.Failed → Rose (S.faults source.old) (S.faults source.new) }
     ensures no_fault { result ≢ Err ReadStop.Failed → S.faults source.new ≡ S.faults source.old }
     ensures counted { S.faults source.old ≤ S.faults source.new }

@@ -5,7 +5,7 @@ ghost use Rattle.std.specs.Prelude.{None, ◌≡◌, ◌<◌, ◌++◌, ℕ, Lis
 use crate::device::{Failed, Source};
 use std::marker::Model;
 
-/// Gives the bytes of a slice, as many as the buffer takes, and never fails. It means the bytes left.
+/// Gives the bytes of a slice, as many as the buffer takes, and never fails. A contract sees the bytes left.
 #[derive(Drop)]
 pub struct SliceSource<'a> {
     rest: &'a [u8],

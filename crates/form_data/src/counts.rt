@@ -10,7 +10,6 @@ use crate::form::{Counts, Form, Import, Payload};
 use crate::types::RecGroup;
 use wasm_spec::TypeRef;
 
-/// The counts of a module without entries.
 const NO_ENTRIES: Counts = Counts {
     types: 0,
     functions: 0,
@@ -34,7 +33,6 @@ impl Form<'_> {
     }
 }
 
-/// Adds the entries of a section.
 fn add_section(counts: &mut Counts, payload: &Payload<'_>)
     requires { HasRoom counts.old (payload_of payload.now ∷ []) }
     ensures { CountsMore counts.old counts.new (payload_of payload.now ∷ []) }

@@ -51,7 +51,6 @@ AddsImports-then a b c is js first second = record {
   tags = grown _ _ _ _ _ _ first.tags second.tags (filter_map-append (λ (i : plain.Import). tag_import i.type) is js);
 }
 
--- one import more
 pub AddsImports-more : (a b c : Spaces) (is : List Import) (k : ℕ) (i : Import) → k < length is → i ≡ get_or is k i
     → AddsImports a b (map import_of (take k is)) → AddsImports b c (import_of i ∷ []) → AddsImports a c (map import_of (take (k + 1) is))
 AddsImports-more a b c is k i lt at first second =

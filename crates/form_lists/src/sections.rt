@@ -8,6 +8,7 @@ use form_data::{
     DataSegment, Element, Export, FunctionBody, GlobalDef, Import, Payload, RecGroup, TableDef,
 };
 
+/// The groups of a type section; other sections have none.
 pub fn groups_of<'a>(payload: &'a Payload<'_>) -> &'a [RecGroup]
     ensures { map group_of result.now ≡ groups_of_section (payload_of payload.now) }
 {
@@ -17,6 +18,7 @@ pub fn groups_of<'a>(payload: &'a Payload<'_>) -> &'a [RecGroup]
     }
 }
 
+/// The imports of an import section; other sections have none.
 pub fn imports_of<'a, 'd>(payload: &'a Payload<'d>) -> &'a [Import<'d>]
     ensures { map import_of result.now ≡ imports_of_section (payload_of payload.now) }
 {
@@ -26,6 +28,7 @@ pub fn imports_of<'a, 'd>(payload: &'a Payload<'d>) -> &'a [Import<'d>]
     }
 }
 
+/// The tables of a table section; other sections have none.
 pub fn tables_of<'a>(payload: &'a Payload<'_>) -> &'a [TableDef]
     ensures { map table_of result.now ≡ tables_of_section (payload_of payload.now) }
 {
@@ -35,6 +38,7 @@ pub fn tables_of<'a>(payload: &'a Payload<'_>) -> &'a [TableDef]
     }
 }
 
+/// The globals of a global section; other sections have none.
 pub fn globals_of<'a>(payload: &'a Payload<'_>) -> &'a [GlobalDef]
     ensures { map global_of result.now ≡ globals_of_section (payload_of payload.now) }
 {
@@ -44,6 +48,7 @@ pub fn globals_of<'a>(payload: &'a Payload<'_>) -> &'a [GlobalDef]
     }
 }
 
+/// The exports of an export section; other sections have none.
 pub fn exports_of<'a, 'd>(payload: &'a Payload<'d>) -> &'a [Export<'d>]
     ensures { map export_of result.now ≡ exports_of_section (payload_of payload.now) }
 {
@@ -53,6 +58,7 @@ pub fn exports_of<'a, 'd>(payload: &'a Payload<'d>) -> &'a [Export<'d>]
     }
 }
 
+/// The segments of an element section; other sections have none.
 pub fn elements_of<'a>(payload: &'a Payload<'_>) -> &'a [Element]
     ensures { map element_of result.now ≡ elements_of_section (payload_of payload.now) }
 {
@@ -62,6 +68,7 @@ pub fn elements_of<'a>(payload: &'a Payload<'_>) -> &'a [Element]
     }
 }
 
+/// The bodies of a code section; other sections have none.
 pub fn bodies_of<'a, 'd>(payload: &'a Payload<'d>) -> &'a [FunctionBody<'d>]
     ensures { map body_of result.now ≡ bodies_of_section (payload_of payload.now) }
 {
@@ -71,6 +78,7 @@ pub fn bodies_of<'a, 'd>(payload: &'a Payload<'d>) -> &'a [FunctionBody<'d>]
     }
 }
 
+/// The segments of a data section; other sections have none.
 pub fn segments_of<'a, 'd>(payload: &'a Payload<'d>) -> &'a [DataSegment<'d>]
     ensures { map segment_of result.now ≡ segments_of_section (payload_of payload.now) }
 {

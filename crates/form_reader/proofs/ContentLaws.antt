@@ -117,7 +117,7 @@ is_interface n h = elim (Contains-push_cases (codes "webidl-bindings" ∷ []) (c
 
 -- ---- sections by what their custom ones are
 
--- a section whose custom ones are spelled otherwise behind their names
+-- a section whose custom ones are spelled otherwise after their names
 abbrev section_by : (List ℕ → Part Payload) → ℕ → ℕ → Part Payload
 section_by after place next = part.first_byte (λ id. part.choose (id == 0) (part.sized (part.◌>>=◌ name after))
     (grammar.placed_section place next id (order_of id)))

@@ -76,7 +76,7 @@ pub uncons_is : (bytes : List ℕ) (b : ℕ) (rest : List ℕ) → Some (b, rest
 uncons_is [] b rest e = absurd cc
 uncons_is (c ∷ bytes) b rest e = sym (ap (λ (p : ℕ × List ℕ). p.0 ∷ p.1) (some_is (b, rest) (c, bytes) e))
 
--- one more byte, with more behind it
+-- one more byte, with more after it
 pub step : (s w l most i b : ℕ) (bs r : List ℕ) (total : Option (Found × List ℕ)) → Some (b, r) ≡ uncons bs → i < most → 128 ≤ b
     → remaining s w l (most - i) bs ≡ total → remaining (s + b % 128 * w) (w * 128) b (most - (i + 1)) r ≡ total
 step s w l most i b bs r total e lt h so_far =

@@ -37,7 +37,7 @@ section_shortens place next bytes p rest e = by_front
       by_front (c ∷ front, parts, is) = let long : length bytes ≡ suc (length front + length rest) =
           rw parts (ap suc (length-append front rest)) in omega arith
 
--- the sections after one that was read and took so many bytes, in at most k steps
+-- the sections after one that was read and took some number of bytes, in at most k steps
 abbrev others : ℕ → ℕ → ℕ → ℕ → Payload × List ℕ → Result (List Payload) Fault
 others k place next n p = and_then (sections_at k (place + n) (next_order next p.0) p.1) (λ ps. Ok (p.0 ∷ ps))
 

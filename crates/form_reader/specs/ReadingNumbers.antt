@@ -6,7 +6,7 @@ use Rattle.form_reader.specs.declared.numbers.Sevens.{Sevens}
 use Rattle.form_reader.specs.declared.numbers.WideSevens.{WideSevens}
 use Rattle.form_reader.specs.Reading.{Fault, Bad, Reader, Filler, ◌>>=◌, and_then, elements_at, raw_bytes_at}
 
--- the bytes up to the first below 128, of at most so many, and the rest
+-- the bytes up to the first below 128, where that is among the first k, and the rest
 abbrev pub number_bytes : ℕ → List ℕ → Option (List ℕ × List ℕ)
 number_bytes zero bytes = None
 number_bytes (suc k) [] = None
@@ -21,7 +21,7 @@ pub record Found : Type 0 where
 abbrev pub found_as : List ℕ × List ℕ → Found × List ℕ
 found_as p = (record { sum = sevens p.0; weight = 128 ^ length p.0; last = last_or 0 p.0 }, p.1)
 
--- the number at the front, of at most so many bytes
+-- the number at the front, of at most `most` bytes
 unfoldable pub found_at : ℕ → List ℕ → Option (Found × List ℕ)
 found_at most bytes = option_map found_as (number_bytes most bytes)
 

@@ -1,4 +1,4 @@
--- What functions give that are generic in a reader, whatever it reads.
+-- What functions return that are generic in a reader, whatever it reads.
 use Rattle.std.specs.Prelude.{◌≡◌, ◌⊎◌, ℕ, zero, suc, List, [], ◌∷◌, ◌++◌, length, ◌==◌, Result, Ok, Err, MatchResult, if◌then◌else◌}
 use Rattle.std.specs.Borrow.{Bor}
 use Rattle.std.specs.Global.{Vec}
@@ -7,7 +7,7 @@ use Rattle.form_reader.specs.declared.error.ReadError.TheVariants.{Malformed, Ou
 use Rattle.form_reader.specs.Reading.{Fault, Fails}
 use Rattle.form_reader.specs.ReadingNumbers.{unsigned_at}
 
--- what a call returns, behind which bytes are left
+-- what a call returns: a value and the bytes after it, or an error
 abbrev pub Returned : Type 0 → Type 0
 Returned X = Result (X × Bor (List ℕ)) ReadError
 

@@ -58,7 +58,6 @@ fn number(bytes: &[u8]) -> Result<(u32, &[u8]), ReadError>
     Ok((number, rest))
 }
 
-/// A type section.
 fn types<'d>(alloc: Global, bytes: &'d [u8]) -> Result<(Payload<'d>, &'d [u8]), ReadError>
     ensures { Gives (λ x. (payload_of x.0, x.1.now)) result (entries_at group_at Types bytes.now) }
 {
@@ -66,7 +65,6 @@ fn types<'d>(alloc: Global, bytes: &'d [u8]) -> Result<(Payload<'d>, &'d [u8]), 
     Ok((Payload::Types(groups), rest))
 }
 
-/// An import section.
 fn imports<'d>(alloc: Global, bytes: &'d [u8]) -> Result<(Payload<'d>, &'d [u8]), ReadError>
     ensures { Gives (λ x. (payload_of x.0, x.1.now)) result (entries_at import_entry_at Imports bytes.now) }
 {
@@ -74,7 +72,6 @@ fn imports<'d>(alloc: Global, bytes: &'d [u8]) -> Result<(Payload<'d>, &'d [u8])
     Ok((Payload::Imports(imports), rest))
 }
 
-/// A function section.
 fn functions<'d>(alloc: Global, bytes: &'d [u8]) -> Result<(Payload<'d>, &'d [u8]), ReadError>
     ensures { Gives (λ x. (payload_of x.0, x.1.now)) result (entries_at (unsigned_at 32) FunctionTypes bytes.now) }
 {
@@ -82,7 +79,6 @@ fn functions<'d>(alloc: Global, bytes: &'d [u8]) -> Result<(Payload<'d>, &'d [u8
     Ok((Payload::Functions(types), rest))
 }
 
-/// A table section.
 fn tables<'d>(alloc: Global, bytes: &'d [u8]) -> Result<(Payload<'d>, &'d [u8]), ReadError>
     ensures { Gives (λ x. (payload_of x.0, x.1.now)) result (entries_at table_entry_at Tables bytes.now) }
 {
@@ -90,7 +86,6 @@ fn tables<'d>(alloc: Global, bytes: &'d [u8]) -> Result<(Payload<'d>, &'d [u8]),
     Ok((Payload::Tables(tables), rest))
 }
 
-/// A memory section.
 fn memories<'d>(alloc: Global, bytes: &'d [u8]) -> Result<(Payload<'d>, &'d [u8]), ReadError>
     ensures { Gives (λ x. (payload_of x.0, x.1.now)) result (entries_at memory_type_at Memories bytes.now) }
 {
@@ -98,7 +93,6 @@ fn memories<'d>(alloc: Global, bytes: &'d [u8]) -> Result<(Payload<'d>, &'d [u8]
     Ok((Payload::Memories(types), rest))
 }
 
-/// A tag section.
 fn tags<'d>(alloc: Global, bytes: &'d [u8]) -> Result<(Payload<'d>, &'d [u8]), ReadError>
     ensures { Gives (λ x. (payload_of x.0, x.1.now)) result (entries_at tag_type_at Tags bytes.now) }
 {
@@ -106,7 +100,6 @@ fn tags<'d>(alloc: Global, bytes: &'d [u8]) -> Result<(Payload<'d>, &'d [u8]), R
     Ok((Payload::Tags(types), rest))
 }
 
-/// A global section.
 fn globals<'d>(alloc: Global, bytes: &'d [u8]) -> Result<(Payload<'d>, &'d [u8]), ReadError>
     ensures { Gives (λ x. (payload_of x.0, x.1.now)) result (entries_at global_entry_at Globals bytes.now) }
 {
@@ -114,7 +107,6 @@ fn globals<'d>(alloc: Global, bytes: &'d [u8]) -> Result<(Payload<'d>, &'d [u8])
     Ok((Payload::Globals(globals), rest))
 }
 
-/// An export section.
 fn exports<'d>(alloc: Global, bytes: &'d [u8]) -> Result<(Payload<'d>, &'d [u8]), ReadError>
     ensures { Gives (λ x. (payload_of x.0, x.1.now)) result (entries_at export_entry_at Exports bytes.now) }
 {
@@ -122,7 +114,6 @@ fn exports<'d>(alloc: Global, bytes: &'d [u8]) -> Result<(Payload<'d>, &'d [u8])
     Ok((Payload::Exports(exports), rest))
 }
 
-/// A start section.
 fn start<'d>(bytes: &'d [u8]) -> Result<(Payload<'d>, &'d [u8]), ReadError>
     ensures { Gives (λ x. (payload_of x.0, x.1.now)) result (number_at Start bytes.now) }
 {
@@ -130,7 +121,6 @@ fn start<'d>(bytes: &'d [u8]) -> Result<(Payload<'d>, &'d [u8]), ReadError>
     Ok((Payload::Start(function), rest))
 }
 
-/// An element section.
 fn elements<'d>(alloc: Global, bytes: &'d [u8]) -> Result<(Payload<'d>, &'d [u8]), ReadError>
     ensures { Gives (λ x. (payload_of x.0, x.1.now)) result (entries_at element_segment_at Elements bytes.now) }
 {
@@ -138,7 +128,6 @@ fn elements<'d>(alloc: Global, bytes: &'d [u8]) -> Result<(Payload<'d>, &'d [u8]
     Ok((Payload::Elements(elements), rest))
 }
 
-/// A data count section.
 fn data_count<'d>(bytes: &'d [u8]) -> Result<(Payload<'d>, &'d [u8]), ReadError>
     ensures { Gives (λ x. (payload_of x.0, x.1.now)) result (number_at DataCount bytes.now) }
 {
@@ -146,7 +135,6 @@ fn data_count<'d>(bytes: &'d [u8]) -> Result<(Payload<'d>, &'d [u8]), ReadError>
     Ok((Payload::DataCount(count), rest))
 }
 
-/// A data section.
 fn segments<'d>(alloc: Global, bytes: &'d [u8]) -> Result<(Payload<'d>, &'d [u8]), ReadError>
     ensures { Gives (λ x. (payload_of x.0, x.1.now)) result (entries_at data_segment_at Segments bytes.now) }
 {
@@ -154,7 +142,7 @@ fn segments<'d>(alloc: Global, bytes: &'d [u8]) -> Result<(Payload<'d>, &'d [u8]
     Ok((Payload::Segments(segments), rest))
 }
 
-/// What follows the id of a section that is no custom one; it stands at `place`.
+/// What follows the id of a section that is not a custom one; it stands at `place`.
 #[tactic(auto, unfolding(crate::specs::ReadingSections::section_contents_at))]
 pub fn section_contents<'d>(
     alloc: Global,

@@ -90,7 +90,7 @@ fn active_in_table(alloc: Global, bytes: &[u8]) -> Result<(ElementKind, &[u8]), 
     active(alloc, Some(table_index), rest)
 }
 
-/// An element segment behind its flag.
+/// An element segment, after its flag.
 #[tactic(auto, unfolding(crate::specs::ReadingEntries::flagged_element_at))]
 fn flagged_element(alloc: Global, flag: u32, bytes: &[u8]) -> Result<(Element, &[u8]), ReadError>
     ensures { Gives (λ x. (element_of x.0, x.1.now)) result (flagged_element_at flag bytes.now) }
@@ -127,7 +127,6 @@ fn flagged_element(alloc: Global, flag: u32, bytes: &[u8]) -> Result<(Element, &
     }
 }
 
-/// An element segment.
 #[tactic(auto, unfolding(crate::specs::ReadingEntries::element_segment_at))]
 fn element(alloc: Global, bytes: &[u8]) -> Result<(Element, &[u8]), ReadError>
     ensures { Gives (λ x. (element_of x.0, x.1.now)) result (element_segment_at bytes.now) }

@@ -35,7 +35,7 @@ pub fn global_type(alloc: Global, bytes: &[u8]) -> Result<(GlobalType, &[u8]), R
     Ok((global_type, rest))
 }
 
-/// A tag type: the index of its function type. Readers of elements all take the allocator.
+/// A tag type: the index of its function type. `_alloc` is unused: `vector` gives the allocator to every reader of elements.
 #[tactic(auto, unfolding(crate::specs::ReadingTypes::tag_type_at))]
 pub fn tag_type(_alloc: Global, bytes: &[u8]) -> Result<(u32, &[u8]), ReadError>
     ensures { Gives (λ x. (x.0, x.1.now)) result (tag_type_at bytes.now) }

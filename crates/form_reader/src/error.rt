@@ -15,7 +15,7 @@ pub enum ReadError {
     Unsupported(What),
     /// The input has 2^30 bytes or more.
     TooLarge,
-    /// There was no memory.
+    /// Out of memory.
     OutOfMemory,
 }
 

@@ -32,7 +32,7 @@ fn external_kind(bytes: &[u8]) -> Result<(ExternalKind, &[u8]), ReadError>
     }
 }
 
-/// An export. Readers of elements all take the allocator.
+/// An export. `_alloc` is unused: `vector` gives the allocator to every reader of elements.
 #[tactic(auto, unfolding(crate::specs::ReadingEntries::export_entry_at))]
 fn export<'d>(_alloc: Global, bytes: &'d [u8]) -> Result<(Export<'d>, &'d [u8]), ReadError>
     ensures { Gives (λ x. (export_of x.0, x.1.now)) result (export_entry_at bytes.now) }

@@ -45,7 +45,7 @@ pub fn mutability(bytes: &[u8]) -> Result<(bool, &[u8]), ReadError>
     }
 }
 
-/// A field type. Readers of elements all take the allocator.
+/// A field type. `_alloc` is unused: `vector` gives the allocator to every reader of elements.
 #[tactic(auto, unfolding(crate::specs::ReadingTypes::field_type_at))]
 pub fn field_type(_alloc: Global, bytes: &[u8]) -> Result<(FieldType, &[u8]), ReadError>
     ensures { Gives (λ x. (x.0, x.1.now)) result (field_type_at bytes.now) }

@@ -13,7 +13,7 @@ use crate::vectors::entries;
 use form_data::GlobalDef;
 use std::alloc::Global;
 
-/// A global, and its first value.
+/// A global type, and the expression of its first value.
 #[tactic(auto, unfolding(crate::specs::ReadingEntries::global_entry_at))]
 fn global(alloc: Global, bytes: &[u8]) -> Result<(GlobalDef, &[u8]), ReadError>
     ensures { Gives (λ x. (global_of x.0, x.1.now)) result (global_entry_at bytes.now) }

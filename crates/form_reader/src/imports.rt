@@ -16,7 +16,7 @@ use form_data::Import;
 use std::alloc::Global;
 use wasm_spec::{TypeRef, What};
 
-/// What is imported, behind the byte of its kind.
+/// What is imported, after the byte of its kind.
 #[tactic(auto, unfolding(crate::specs::ReadingEntries::imported_after_at))]
 fn imported(kind: u8, alloc: Global, bytes: &[u8]) -> Result<(TypeRef, &[u8]), ReadError>
     ensures { Gives (λ x. (x.0, x.1.now)) result (imported_after_at kind bytes.now) }

@@ -20,7 +20,6 @@ const IS_64: u8 = 2;
 
 const HAS_PAGE_SIZE: u8 = 3;
 
-/// Whether a bit of the flags is set.
 fn is_set(flags: u8, bit: u8) -> bool
     requires { bit < 8 }
     ensures { result ≡ has_bit bit flags }
@@ -85,7 +84,7 @@ fn flagged_memory_type(flags: u8, bytes: &[u8]) -> Result<(MemoryType, &[u8]), R
     Ok((memory_type, rest))
 }
 
-/// A memory type. Readers of elements all take the allocator.
+/// A memory type. `_alloc` is unused: `vector` gives the allocator to every reader of elements.
 #[tactic(auto, unfolding(crate::specs::ReadingTypes::memory_type_at))]
 pub fn memory_type(_alloc: Global, bytes: &[u8]) -> Result<(MemoryType, &[u8]), ReadError>
     ensures { Gives (λ x. (x.0, x.1.now)) result (memory_type_at bytes.now) }

@@ -36,7 +36,7 @@ fn is_component(bytes: &[u8]) -> bool
     bytes.starts_with(&MAGIC) && bytes.len() > 6 && bytes[6..].starts_with(&COMPONENT_LAYER)
 }
 
-/// The sections behind the header.
+/// The sections after the header.
 #[tactic(auto, unfolding(crate::specs::ReadingSections::module_at))]
 fn payloads<'d>(alloc: Global, bytes: &'d [u8]) -> Result<Vec<Payload<'d>>, ReadError>
     requires { length bytes.now < 2 ^ 30 }

@@ -12,7 +12,7 @@ use wasm_spec::{Operator, What};
 /// The byte after the last operator.
 pub const END: u8 = 0x0B;
 
-/// The operator behind its first byte.
+/// The operator, after its first byte.
 #[tactic(auto, unfolding(crate::specs::ReadingExpressions::operator_after_at, crate::specs::ReadingExpressions::indexed_at))]
 pub fn operator(first: u8, bytes: &[u8]) -> Result<(Operator, &[u8]), ReadError>
     ensures { Gives (λ x. (x.0, x.1.now)) result (operator_after_at first bytes.now) }
@@ -39,7 +39,7 @@ pub fn operator(first: u8, bytes: &[u8]) -> Result<(Operator, &[u8]), ReadError>
     }
 }
 
-/// A constant, or arithmetic, behind its first byte. Of the bits of a float the lowest byte comes first.
+/// A constant, or arithmetic, after its first byte. Of the bits of a float the lowest byte comes first.
 #[tactic(auto, unfolding(crate::specs::ReadingExpressions::constant_after_at))]
 fn constant(first: u8, bytes: &[u8]) -> Result<(Operator, &[u8]), ReadError>
     ensures { Gives (λ x. (x.0, x.1.now)) result (constant_after_at first bytes.now) }
@@ -87,7 +87,7 @@ fn arithmetic(first: u8, bytes: &[u8]) -> Result<(Operator, &[u8]), ReadError>
     }
 }
 
-/// An operator on objects behind its number.
+/// An operator on objects, after its number.
 #[tactic(auto, unfolding(crate::specs::ReadingExpressions::object_operator_at, crate::specs::ReadingExpressions::indexed_at))]
 fn object_operator(number: u32, bytes: &[u8]) -> Result<(Operator, &[u8]), ReadError>
     ensures { Gives (λ x. (x.0, x.1.now)) result (object_operator_at number bytes.now) }
@@ -131,7 +131,7 @@ fn array_of_fixed_size(bytes: &[u8]) -> Result<(Operator, &[u8]), ReadError>
     Ok((operator, rest))
 }
 
-/// A vector, behind its number.
+/// A vector, after its number.
 #[tactic(auto, unfolding(crate::specs::ReadingExpressions::vector_operator_at))]
 fn vector_operator(number: u32, bytes: &[u8]) -> Result<(Operator, &[u8]), ReadError>
     ensures { Gives (λ x. (x.0, x.1.now)) result (vector_operator_at number bytes.now) }

@@ -41,7 +41,7 @@ fn passive_segment<'d>(bytes: &'d [u8]) -> Result<(DataSegment<'d>, &'d [u8]), R
     Ok((DataSegment { kind, bytes }, rest))
 }
 
-/// A data segment behind its flag.
+/// A data segment, after its flag.
 #[tactic(auto, unfolding(crate::specs::ReadingEntries::data_segment_at, crate::specs::ReadingEntries::flagged_segment_at))]
 fn data_segment<'d>(
     alloc: Global,

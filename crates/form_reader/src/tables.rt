@@ -21,7 +21,7 @@ const INITIALISED: u8 = 0x40;
 
 const RESERVED: u8 = 0x00;
 
-/// A table and what its cells hold at first, behind the first byte.
+/// A table and what its cells hold at first, after the first byte.
 #[tactic(auto, unfolding(crate::specs::ReadingEntries::initialised_table_at))]
 fn initialised_table(alloc: Global, bytes: &[u8]) -> Result<(TableDef, &[u8]), ReadError>
     ensures { Gives (λ x. (table_of x.0, x.1.now)) result (initialised_table_at bytes.now) }

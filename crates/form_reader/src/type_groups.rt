@@ -128,7 +128,6 @@ fn sub_type_after(alloc: Global, first: u8, bytes: &[u8]) -> Result<(SubType, &[
     }
 }
 
-/// A subtype.
 fn sub_type(alloc: Global, bytes: &[u8]) -> Result<(SubType, &[u8]), ReadError>
     ensures { Gives (λ x. (sub_type_of x.0, x.1.now)) result (first_byte_at sub_type_after_at bytes.now) }
 {

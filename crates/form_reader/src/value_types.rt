@@ -51,7 +51,6 @@ const NUMBER_TYPES: [ValType; 5] = [
     ValType::I32,
 ];
 
-/// The abstract heap type of a byte.
 fn abstract_heap(byte: u8) -> Option<AbstractHeapType>
     ensures { result ≡ spec_abstract_heap byte }
 {
@@ -134,7 +133,7 @@ pub fn value_after(first: u8, bytes: &[u8]) -> Result<(ValType, &[u8]), ReadErro
     Ok((ValType::Ref(reference), rest))
 }
 
-/// A value type. Readers of elements all take the allocator.
+/// A value type. `_alloc` is unused: `vector` gives the allocator to every reader of elements.
 #[tactic(auto, unfolding(crate::specs::ReadingTypes::value_type_at))]
 pub fn value_type(_alloc: Global, bytes: &[u8]) -> Result<(ValType, &[u8]), ReadError>
     ensures { Gives (λ x. (x.0, x.1.now)) result (value_type_at bytes.now) }

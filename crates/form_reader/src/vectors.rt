@@ -9,7 +9,7 @@ use crate::error::ReadError;
 use crate::numbers::u32_at;
 use std::alloc::Global;
 
-/// So many elements, one after another.
+/// `count` elements, one after another.
 ///
 /// The list grows as elements are read, since the count may be any number.
 fn counted<'d, X: Drop, F: Fn(Global, &'d [u8]) -> Result<(X, &'d [u8]), ReadError>>(
@@ -44,7 +44,7 @@ pub fn vector<'d, X: Drop, F: Fn(Global, &'d [u8]) -> Result<(X, &'d [u8]), Read
     counted(alloc, count, rest, part)
 }
 
-/// So many bytes, and the bytes after them.
+/// `count` bytes, and the bytes after them.
 #[tactic(auto, unfolding(crate::specs::Reading::raw_bytes_at))]
 pub fn raw_bytes(count: u32, bytes: &[u8]) -> Result<(&[u8], &[u8]), ReadError>
     ensures { Gives (λ x. (x.0.now, x.1.now)) result (raw_bytes_at count bytes.now) }
@@ -56,7 +56,7 @@ pub fn raw_bytes(count: u32, bytes: &[u8]) -> Result<(&[u8], &[u8]), ReadError>
     Ok(bytes.split_at(count))
 }
 
-/// As `raw_bytes`, where their number is known.
+/// As `raw_bytes`, where the number of bytes is a constant.
 #[tactic(auto, unfolding(crate::specs::Reading::raw_bytes_at))]
 pub fn byte_array<const N: usize>(bytes: &[u8]) -> Result<([u8; N], &[u8]), ReadError>
     ensures { Gives (λ x. (x.0, x.1.now)) result (raw_bytes_at N bytes.now) }
@@ -93,7 +93,7 @@ pub fn entries<'d, X: Drop, F: Fn(Global, &'d [u8]) -> Result<(X, &'d [u8]), Rea
     Ok((all, rest))
 }
 
-/// An index. Readers of elements all take the allocator.
+/// An index. `_alloc` is unused: `vector` gives the allocator to every reader of elements.
 pub fn index(_alloc: Global, bytes: &[u8]) -> Result<(u32, &[u8]), ReadError>
     ensures { Gives (λ x. (x.0, x.1.now)) result (unsigned_at 32 bytes.now) }
 {

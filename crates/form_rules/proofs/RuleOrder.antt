@@ -8,7 +8,7 @@ use Rattle.rule_spec.specs.Rules.{Satisfies, KeepsBefore, number_of}
 use Rattle.form_rules.specs.declared.error.CheckError.{CheckError}
 use Rattle.form_rules.specs.declared.error.CheckError.TheVariants.{Invalid}
 
--- the rules as they are asked
+-- the rules as they are checked
 abbrev pub in_order : List Rule
 in_order = L1 ∷ L2 ∷ L3 ∷ L4 ∷ L5 ∷ L6 ∷ L7 ∷ L8 ∷ L9 ∷ L10 ∷ []
 

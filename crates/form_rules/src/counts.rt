@@ -11,7 +11,7 @@ use form_data::{FunctionBody, Payload};
 use form_lists::{Lists, bodies_of, segments_of};
 use wasm_spec::ValType;
 
-/// Whether bodies, data segments and locals are as many as they are said or allowed to be.
+/// Whether bodies, data segments and locals are as many as is stated or allowed.
 pub fn counts_agree(lists: &Lists<'_, '_>) -> bool
     ensures { IsTrue result ↔ CountsAgree (lists_of lists.now) }
 {
@@ -28,7 +28,6 @@ fn bodies_hold(lists: &Lists<'_, '_>) -> bool
     lists.imported_functions <= functions && has_bodies(lists, functions - lists.imported_functions)
 }
 
-/// Whether there are so many bodies.
 fn has_bodies(lists: &Lists<'_, '_>, count: usize) -> bool
     ensures { IsTrue result ↔ (count ≡ length (flat_map bodies_of_section (module_of lists.now.form.now))) }
 {
@@ -43,7 +42,7 @@ fn has_bodies(lists: &Lists<'_, '_>, count: usize) -> bool
     left == 0
 }
 
-/// Whether each number of data segments that is said is the number of data segments.
+/// Whether each stated number of data segments is the number of data segments.
 fn data_counts_hold(lists: &Lists<'_, '_>) -> bool
     ensures { IsTrue result
         ↔ All (λ count. count ≡ length (segments (module_of lists.now.form.now)))
@@ -67,7 +66,6 @@ fn data_count_holds(lists: &Lists<'_, '_>, payload: &Payload<'_>) -> bool
     }
 }
 
-/// Whether there are so many data segments.
 fn has_segments(lists: &Lists<'_, '_>, count: usize) -> bool
     ensures { IsTrue result ↔ (count ≡ length (segments (module_of lists.now.form.now))) }
 {

@@ -11,7 +11,7 @@ use std::alloc::AllocError;
 pub enum CheckError {
     /// The module breaks a rule; of several, the first.
     Invalid(Rule),
-    /// There was no memory.
+    /// Out of memory.
     OutOfMemory,
 }
 

@@ -43,7 +43,7 @@ fn names_are_distinct(alloc: Global, lists: &Lists<'_, '_>) -> Result<bool, Allo
     Ok(true)
 }
 
-/// A digest of all names. Names that a stranger chose to collide would have to be chosen for the digest that they change.
+/// A digest of all names, from which hashes begin: names that are chosen to collide change it as well.
 fn seed_of_names(lists: &Lists<'_, '_>) -> u64 {
     let mut digest = DefaultHasher::new();
     for payload in &lists.form.payloads {

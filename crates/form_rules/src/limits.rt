@@ -60,7 +60,7 @@ fn has_limits(memory: &MemoryType) -> bool
     }
 }
 
-/// Whether addresses of the memory reach the last byte of so many pages, each of 2^`log2` bytes.
+/// Whether addresses of the memory reach the last byte of `pages` pages, each of 2^`log2` bytes.
 fn is_addressable(memory: &MemoryType, pages: u64, log2: u32) -> bool
     requires { log2 ≤ 16 }
     ensures { IsTrue result ↔ (pages * 2 ^ log2 ≤ address_space memory.now) }

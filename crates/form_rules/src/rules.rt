@@ -1,4 +1,4 @@
-//! The listed rules, asked one after another.
+//! The listed rules, checked one after another.
 
 ghost use Rattle.std.specs.Prelude.{◌≡◌, ◌↔◌, IsTrue, IfOk, OnOk, Err};
 ghost use Rattle.rule_spec.specs.declared.rules.Rule.{Rule};
@@ -23,7 +23,7 @@ use form_typing::expressions_hold;
 use rule_spec::Rule;
 use std::alloc::{AllocError, Global};
 
-/// The listed rules, in the order in which they are asked.
+/// The listed rules, in the order in which they are checked.
 const RULES: [Rule; 10] = [
     Rule::L1,
     Rule::L2,
@@ -74,7 +74,6 @@ pub fn checked_lists<'f, 'd>(alloc: Global, form: &'f Form<'d>) -> Result<Lists<
     Ok(lists)
 }
 
-/// Whether a rule is kept.
 fn keeps(alloc: Global, rule: Rule, lists: &Lists<'_, '_>) -> Result<bool, AllocError>
     requires { HasGlobals (lists_of lists.now) }
     ensures { IfOk result (λ kept. IsTrue kept ↔ Satisfies rule (lists_of lists.now)) }

@@ -41,6 +41,7 @@ pub fn is_below(bound: usize, index: &UnpackedIndex) -> bool
     }
 }
 
+/// Whether the index in a heap type, if it has one, is below a bound.
 #[tactic(auto, using(crate::proofs::Below::concrete_below, crate::proofs::Below::abstract_below))]
 pub fn heap_is_below(bound: usize, heap: &HeapType) -> bool
     ensures { IsTrue result ↔ HeapIsBelow bound (heap_of heap.now) }
@@ -51,6 +52,7 @@ pub fn heap_is_below(bound: usize, heap: &HeapType) -> bool
     }
 }
 
+/// Whether the index in a value type, if it has one, is below a bound.
 #[tactic(auto, using(crate::proofs::Below::ref_below, crate::proofs::Below::i32_below, crate::proofs::Below::i64_below, crate::proofs::Below::f32_below, crate::proofs::Below::f64_below, crate::proofs::Below::v128_below))]
 pub fn value_is_below(bound: usize, ty: &ValType) -> bool
     ensures { IsTrue result ↔ ValueIsBelow bound (value_of ty.now) }

@@ -156,7 +156,7 @@ item-keyed (e ∷ es) f rest (g ∷ gs) same =
     let tail : map group_and_key (es ++ f ∷ rest) ≡ map with_key gs = cc in
     item-keyed es f rest gs tail
 
--- some groups are numbered, and so many come next
+-- some groups are numbered, and `count` come next
 pub record Walks (m : plain.Module) (n : Numbering) (done rest : List GroupWithKey) (count : ℕ) : Type 0 where
   pub built : Built (lent_groups done) n
   pub all : map group_and_key (done ++ rest) ≡ map with_key (plain.groups m)

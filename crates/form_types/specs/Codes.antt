@@ -7,7 +7,7 @@ use Rattle.type_spec.specs.Same.{heap_byte}
 abbrev pub flag : Bool → ℕ
 flag b = if b then 1 else 0
 
--- a list of codes, and its end mark, which is no code of a value or a field
+-- a list of codes, and its end mark, which is not the code of a value or a field
 abbrev pub ended : List ℕ → List ℕ
 ended codes = codes ++ 0x0B ∷ []
 

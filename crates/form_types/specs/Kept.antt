@@ -19,7 +19,7 @@ data_of validator groups declared = record {
   declared = map (λ (id : CoreTypeId). id.0) declared;
 }
 
--- the number of the group of each id, and the ids of each group, are at hand
+-- the two lists hold the number of the group of each id, and the ids of each group
 pub record IsKept (t : TypesData) (numbers_kept : List ℕ) (spans_kept : List (ℕ × ℕ)) : Type 0 where
   pub numbers : numbers_kept ≡ group_numbers 0 t.groups
   pub spans : spans_kept ≡ spans 0 t.groups

@@ -31,7 +31,7 @@ pub struct Numbering {
 }
 
 impl Numbering {
-    /// Nothing.
+    /// No group is numbered yet. Hashes of keys begin from the seed.
     fn new(alloc: Global, seed: u64) -> Numbering
         ensures { HasNone result }
     {
@@ -72,7 +72,7 @@ impl Types {
     /// The types of a module that keeps the rules.
     ///
     /// # Errors
-    /// There was no memory.
+    /// `OutOfMemory`.
     pub fn build(
         alloc: Global,
         validator: &Validator,

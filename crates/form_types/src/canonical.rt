@@ -62,7 +62,7 @@ impl CanonicalGroup {
         self.references.clear();
     }
 
-    /// Another one like it, with no more room than it needs.
+    /// An equal key, with no more room than it needs.
     pub fn copied(&self, alloc: Global) -> Result<CanonicalGroup, AllocError>
         ensures { IfOk result (λ copy. key_of copy ≡ key_of self.now) }
     {

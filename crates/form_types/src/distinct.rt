@@ -50,7 +50,6 @@ impl Distinct {
     }
 }
 
-/// Adds a number so many times.
 #[tactic(auto, using(crate::proofs::Listing::replicate_none, crate::proofs::Listing::replicate_more))]
 fn push_number(numbers: &mut Vec<u32>, number: u32, count: usize) -> Result<(), AllocError>
     ensures { OnOk result (numbers.new.items ≡ numbers.old.items ++ replicate count number) }

@@ -31,7 +31,7 @@ impl Model for CoreTypeIds {
 }
 
 impl CoreTypeIds {
-    /// The ids from one up to another.
+    /// The ids from `next` up to, but not including, `end`.
     pub(crate) fn between(next: u32, end: u32) -> CoreTypeIds
         requires { next ≤ end }
         ensures { result ≡ ids_from next (end - next) }

@@ -21,7 +21,7 @@ use wasm_spec::{CoreTypeId, UnpackedIndex};
 /// The first id of each group that was met, by its key.
 pub type FirstIds = HashMap<CanonicalGroup, u32, Seeded>;
 
-/// A digest of all groups. Groups that a stranger chose to collide would have to be chosen for the digest that they change.
+/// A digest of all groups, from which hashes begin: groups that are chosen to collide change it as well.
 pub fn seed_of(groups: &[GroupWithKey<'_>]) -> u64 {
     let mut digest = DefaultHasher::new();
     for group in groups {

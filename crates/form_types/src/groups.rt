@@ -46,7 +46,7 @@ fn add_groups<'f>(
     Ok(())
 }
 
-// A group with its key, which is made in a room that is used again.
+// A group with its key, which is made in `room`: one buffer serves all groups.
 fn group_with_key<'f>(
     alloc: Global,
     room: &mut CanonicalGroup,

@@ -1,4 +1,4 @@
-//! The list of types of a module, and what can be asked of it.
+//! The list of types of a module, and look-ups in it.
 
 ghost use Rattle.std.specs.Prelude.{◌≡◌, ◌<◌, length, slice_get, slice_index, Some};
 ghost use Rattle.form_data.specs.Views.{sub_type_of};
@@ -13,8 +13,8 @@ use wasm_spec::CoreTypeId;
 
 /// The types of a module, each once, and the id of each declared type.
 ///
-/// The distinct groups stand in the order of their first occurrence; an id numbers their members through, from 0 on. Types name each other
-/// by ids.
+/// The distinct groups stand in the order of their first occurrence; ids number their members from 0 on, through all groups. Types name
+/// each other by ids.
 #[derive(Drop)]
 pub struct Types {
     pub(crate) validator: ValidatorId,

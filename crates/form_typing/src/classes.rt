@@ -57,7 +57,6 @@ pub fn has_default(field: &FieldType) -> bool
     }
 }
 
-/// Whether all fields have a default.
 fn all_have_defaults(fields: &[FieldType]) -> bool
     ensures { IsTrue result ↔ All (λ f. IsTrue (has_default (field_of f))) fields.now }
 {
@@ -77,7 +76,7 @@ fn kind_has_defaults(kind: &CompositeInnerType) -> bool
 
 /// Of each declared type, whether it is a struct type of which each field has a default.
 ///
-/// Each type is gone over once, however many expressions name it.
+/// Each type is looked at once, however many expressions name it.
 pub fn struct_defaults(alloc: Global, lists: &Lists<'_, '_>) -> Result<Vec<bool>, AllocError>
     ensures { IfOk result (λ defaults. defaults.items ≡ defaults_of_types (lists_of lists.now)) }
 {

@@ -40,7 +40,6 @@ pub fn expressions_hold(alloc: Global, lists: &Lists<'_, '_>) -> Result<bool, Al
     segments_hold(lists, &defaults, &mut stack)
 }
 
-/// The globals of lower index.
 fn globals_below<'a>(lists: &'a Lists<'_, '_>, index: usize) -> &'a [GlobalType]
     requires { index ≤ length lists.now.spaces.global_types.items }
     ensures { result.now ≡ take index lists.now.spaces.global_types.items }

@@ -116,7 +116,7 @@ fn refer_to_many(stack: &mut Vec<Class>, count: u32, class: Class) -> Option<Cla
 
 // ---- operators that name something
 
-/// The value of a visible global, which is to be immutable.
+/// The value of a visible global, which must be immutable.
 fn global_get(visible: &[GlobalType], index: u32) -> Option<Class>
     ensures { option_and_then gives result ≡ option_and_then global_signature (slice_get visible.now index) }
 {
@@ -200,7 +200,7 @@ fn array_new_fixed(
     }
 }
 
-/// `defaults` says of each type whether it is a struct type of which each field has a default: the fields are not gone over again.
+/// `defaults` says of each type whether it is a struct type of which each field has a default: the fields are not looked at again.
 fn struct_new_default(lists: &Lists<'_, '_>, defaults: &[bool], ty: u32) -> Option<Class>
     requires { defaults.now ≡ defaults_of_types (lists_of lists.now) }
     ensures { option_and_then gives result ≡ default_signature (kind_at (lists_of lists.now) ty) }

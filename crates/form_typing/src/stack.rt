@@ -9,7 +9,7 @@ use crate::classes::field_class;
 use rule_spec::Class;
 use wasm_spec::FieldType;
 
-/// Takes the top value, which is to have this class.
+/// Takes the top value, which must have this class.
 pub fn pop(stack: &mut Vec<Class>, class: Class) -> bool
     ensures { Popped (class ∷ []) stack.old.items stack.new.items result }
 {
@@ -40,7 +40,7 @@ pub fn pop_fields(stack: &mut Vec<Class>, fields: &[FieldType]) -> bool
     true
 }
 
-/// Takes so many values of one class. A stack that has fewer is refused at its end.
+/// Takes `count` values of one class. The loop ends with the stack, however large the count is.
 pub fn pop_many(stack: &mut Vec<Class>, count: u32, class: Class) -> bool
     ensures { Popped (replicate count class) stack.old.items stack.new.items result }
 {

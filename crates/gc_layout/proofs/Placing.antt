@@ -46,7 +46,6 @@ scan-append next out a (x ∷ xs) ys = ap (λ rest. out a x ∷ rest) (scan-appe
 fields_align-append : (xs ys : List WasmFieldType) → fields_align (xs ++ ys) ≡ fold max (fields_align xs) (map field_size ys)
 fields_align-append xs ys = ap (fold max 8) (map-append field_size xs ys) ∙ fold-append max 8 (map field_size xs) (map field_size ys)
 
--- one field more
 pub placed_more : (header : ℕ) (fields : List WasmFieldType) (n : ℕ) (d : WasmFieldType) (end align : ℕ) (placed : List GcStructLayoutField)
     → n < length fields → ArePlaced header (take n fields) end align placed
     → ArePlaced header (take (n + 1) fields) (end_after end (get_or fields n d)) (max align (field_size (get_or fields n d)))

@@ -31,7 +31,7 @@ placed_after end field = record {
   is_gc_ref = storage_is_object field.element_type;
 }
 
--- fields one after another, behind a header that ends at `header`
+-- fields one after another, after a header that ends at `header`
 abbrev pub placed_fields : ℕ → List WasmFieldType → List GcStructLayoutField
 placed_fields header fields = scan end_after placed_after header fields
 
@@ -52,11 +52,11 @@ fields_layout header fields is_exception = record {
   is_exception = is_exception;
 }
 
--- the fields of a struct stand behind the header
+-- the fields of a struct stand after the header
 abbrev pub struct_layout_of : ℕ → WasmStructType → FieldsLayout
 struct_layout_of header fields = fields_layout header fields false
 
--- those of an exception stand behind the header and two indices of 4 bytes, which name its tag
+-- those of an exception stand after the header and two indices of 4 bytes, which name its tag
 abbrev pub exn_layout_of : ℕ → WasmExnType → FieldsLayout
 exn_layout_of header exn = fields_layout (header + 8) exn.fields true
 

@@ -28,7 +28,7 @@ abbrev pub struct_in : GcLayout → Option FieldsLayout
 struct_in (layout.Array _) = None
 struct_in (layout.Struct s) = Some s.value
 
--- the layout of the objects of a composite type; functions and continuations are no objects of the collector
+-- the layout of the objects of a composite type; functions and continuations are not objects of the collector
 abbrev pub gc_layout_of : ℕ → WasmCompositeInnerType → Option ObjectLayout
 gc_layout_of header (Array t) = Some (OfArray (array_layout_of header t))
 gc_layout_of header (Func _) = None

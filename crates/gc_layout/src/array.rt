@@ -10,7 +10,7 @@ use crate::layout::Layout;
 use crate::sizes::byte_size_of_wasm_ty_in_gc_heap;
 use wasm_types::WasmArrayType;
 
-/// Where the elements of an array stand: behind the header and the length, one after another. Offsets count from the
+/// Where the elements of an array stand: after the header and the length, one after another. Offsets count from the
 /// start of the object.
 #[derive(Clone, Copy, Debug)]
 pub struct GcArrayLayout {
@@ -25,7 +25,7 @@ pub struct GcArrayLayout {
 }
 
 impl GcArrayLayout {
-    // The layout behind a header of some bytes.
+    // The layout after a header of `header_size` bytes.
     pub(crate) fn new(header_size: u32, ty: &WasmArrayType) -> Self
         requires { (array_layout_of header_size ty.now).base_size < 2 ^ 32 }
         ensures { result ≡ array_layout_of header_size ty.now }
@@ -39,22 +39,22 @@ impl GcArrayLayout {
         }
     }
 
-    /// The bytes of an array of some length; None exactly where they pass `u32::MAX`.
+    /// The bytes of an array of `len` elements; `None` exactly where they pass `u32::MAX`.
     pub fn size_for_len(&self, len: u32) -> Option<u32>
         ensures { let size = self.now.base_size + len * self.now.elem_size in SomeIff result (size < 2 ^ 32) size }
     {
         self.elem_offset(len)
     }
 
-    /// The offset of the element at a place; None exactly where it passes `u32::MAX`.
+    /// The offset of the element at a place, in bytes; `None` exactly where it passes `u32::MAX`.
     pub fn elem_offset(&self, i: u32) -> Option<u32>
         ensures { let offset = self.now.base_size + i * self.now.elem_size in SomeIff result (offset < 2 ^ 32) offset }
     {
         self.base_size.checked_add(i.checked_mul(self.elem_size)?)
     }
 
-    /// The size and the alignment of an array of some length; None exactly where the size passes `u32::MAX`, or the
-    /// alignment is no power of two.
+    /// The size and the alignment of an array of `len` elements; `None` exactly where the size passes `u32::MAX`, or the
+    /// alignment is not a power of two.
     pub fn layout(&self, len: u32) -> Option<Layout>
         ensures { let size = self.now.base_size + len * self.now.elem_size in
             SomeIff result ((size < 2 ^ 32) × IsPowerOfTwo self.now.align) (record { size = size; align = self.now.align }) }

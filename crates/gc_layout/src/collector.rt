@@ -33,11 +33,11 @@ pub trait GcTypeLayouts {
     fn exception_tag_defined_offset(&self) -> u32
         ensures { result ≡ header_size + 4 };
 
-    /// The layout of the objects of a type, shared or not; None exactly for function types and continuation types, which have no objects
+    /// The layout of the objects of a type, shared or not; `None` exactly for function types and continuation types, which have no objects
     /// in the heap.
     ///
     /// # Errors
-    /// `OffsetOverflow` exactly where the size passes `u32::MAX`, unless memory ends first.
+    /// `OffsetOverflow` exactly where the size passes `u32::MAX`, unless memory runs out first.
     fn gc_layout(
         &self,
         alloc: Global,
@@ -66,7 +66,7 @@ pub trait GcTypeLayouts {
     /// The layout of the structs of a type.
     ///
     /// # Errors
-    /// `OffsetOverflow` exactly where the size passes `u32::MAX`, unless memory ends first.
+    /// `OffsetOverflow` exactly where the size passes `u32::MAX`, unless memory runs out first.
     fn struct_layout(
         &self,
         alloc: Global,
@@ -76,7 +76,7 @@ pub trait GcTypeLayouts {
         ensures fits { OnOk result ((struct_layout_of header_size ty.now).size ≤ 4294967295) }
         ensures overflow { result ≡ Err LayoutError.OffsetOverflow → 4294967295 < (struct_layout_of header_size ty.now).size }
     {
-        // The fields of a struct begin where the length of an array does, behind the header.
+        // The fields of a struct begin where the length of an array does, after the header.
         let header_size = self.array_length_field_offset();
         GcStructLayout::new(alloc, header_size, ty.fields.as_slice(), false)
     }
@@ -84,13 +84,13 @@ pub trait GcTypeLayouts {
     /// The layout of the exceptions of a type.
     ///
     /// # Errors
-    /// `OffsetOverflow` exactly where the size passes `u32::MAX`, unless memory ends first.
+    /// `OffsetOverflow` exactly where the size passes `u32::MAX`, unless memory runs out first.
     fn exn_layout(&self, alloc: Global, ty: &WasmExnType) -> Result<GcStructLayout, LayoutError>
         ensures exact { IfOk result (λ layout. layout ≡ exn_layout_of header_size ty.now) }
         ensures fits { OnOk result ((exn_layout_of header_size ty.now).size ≤ 4294967295) }
         ensures overflow { result ≡ Err LayoutError.OffsetOverflow → 4294967295 < (exn_layout_of header_size ty.now).size }
     {
-        // The fields of an exception begin behind the second index of its tag.
+        // The fields of an exception begin after the second index of its tag.
         let tag_end = self.exception_tag_defined_offset() + INDEX_SIZE;
         GcStructLayout::new(alloc, tag_end, ty.fields.as_slice(), true)
     }

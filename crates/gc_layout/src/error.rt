@@ -12,7 +12,7 @@ pub enum LayoutError {
     /// The size of its objects passes 4294967295 bytes.
     #[error("size overflow calculating object layout")]
     OffsetOverflow,
-    /// There was no memory.
+    /// Out of memory.
     #[error("out of memory")]
     OutOfMemory,
 }

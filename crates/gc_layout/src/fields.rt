@@ -32,7 +32,7 @@ pub struct GcStructLayout {
     pub align: u32,
     /// Each field, in order.
     pub fields: Vec<GcStructLayoutField>,
-    /// Whether the object is an exception, whose tag stands behind the header.
+    /// Whether the object is an exception, whose tag stands after the header.
     pub is_exception: bool,
 }
 
@@ -46,7 +46,7 @@ impl Model for GcStructLayout {
 }
 
 impl GcStructLayout {
-    // The layout of fields behind a header of some bytes. No number wraps: the first that passes 32 bits is refused.
+    // The layout of fields after a header of `header_size` bytes. No number wraps: the first that passes 32 bits is refused.
     pub(crate) fn new(
         alloc: Global,
         header_size: u32,

@@ -53,7 +53,7 @@ impl VMGcKind {
         value <= Self::UNUSED_MASK
     }
 
-    /// The kind in the high six bits of a number; None exactly where no kind has these bits.
+    /// The kind in the high six bits of a number; `None` exactly where no kind has these bits.
     pub fn from_high_bits_of_u32(val: u32) -> Option<VMGcKind>
         ensures { (kind : VMGcKind) → (result ≡ Some kind) ↔ (kind_number kind ≡ bit_and val 0xFC000000) }
     {
@@ -75,7 +75,7 @@ impl VMGcKind {
         self as u32
     }
 
-    /// The kind of a number; None exactly where no kind has it.
+    /// The kind of a number; `None` exactly where no kind has it.
     pub fn try_from_u32(x: u32) -> Option<VMGcKind>
         ensures { (kind : VMGcKind) → (result ≡ Some kind) ↔ (kind_number kind ≡ x) }
     {

@@ -22,7 +22,7 @@ pub fn offsets_are_least_multiples()
         → IsLeastMultiple (field_size array.0) (header + 4) (array_layout_of header array).base_size }
 {}
 
-/// Fields stand behind the header, end before a later field begins, and end within the object.
+/// Fields stand after the header, end before a later field begins, and end within the object.
 pub fn fields_never_overlap()
     ensures behind { (header : ℕ) (fields : List WasmFieldType) (is_exception : Bool) (i : ℕ) → i < length fields
         → header ≤ offset_at (fields_layout header fields is_exception) i }
@@ -34,7 +34,7 @@ pub fn fields_never_overlap()
         ≤ (fields_layout header fields is_exception).size }
 {}
 
-/// Behind one header, lists of fields whose first sizes are the same have the same first offsets: so a subtype has the
+/// After one header, lists of fields whose first sizes are the same have the same first offsets: so a subtype has the
 /// fields of its supertype where the supertype has them.
 pub fn prefixes_agree()
     ensures { (header : ℕ) (fields others : List WasmFieldType) (is_exception : Bool) (n : ℕ)

@@ -103,7 +103,6 @@ pub tables-hold : (n : ℕ) (tables : List DefinedTable) → n < 4294967295 → 
 tables-hold n tables l h = All-weaker (λ (d : DefinedTable). IsAmong n (initial_function d.initial)) (λ (d : DefinedTable). IsCell (initial_function d.initial))
     (λ d among. cells-hold n l (initial_function d.initial) among) tables h
 
--- whether a list is empty, by its length
 pub empty-by_length : (xs : List TableSegment) (n : ℕ) (b : Bool) → n ≡ length xs → b ≡ (n == 0) → b ≡ is_empty xs
 empty-by_length [] n b e h = h ∙ eq-eqb n 0 e
 empty-by_length (x ∷ xs) n b e h = h ∙ ne_eqb n 0 (λ none. absurd (omega (arith, none, e)))

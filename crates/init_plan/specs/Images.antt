@@ -28,7 +28,7 @@ image_memories m = map image_memory (drop m.num_imported_memories m.memories)
 abbrev pub image_options : Tunables → ℕ → ℕ → ImageOptions
 image_options tunables page_size max_image = record { enabled = tunables.memory_init_cow; page = page_size; max_image = max_image }
 
--- memories begin as images exactly where the image rule holds; the alignment is then the size of their pages, and else there is none
+-- memories begin as images exactly where the image rule holds; the alignment is then the size of their pages, and otherwise there is none
 pub record BeginsByRule (options : ImageOptions) (old new : ModuleTranslation) : Type 0 where
   pub segmented : IsSegmented new.module.memory_initialization → (IsStatic options old.module.num_imported_memories (image_memories old.module) (initializers_of old) → ⊥) × (new.data_align ≡ None)
   pub images : (IsSegmented new.module.memory_initialization → ⊥) → IsStatic options old.module.num_imported_memories (image_memories old.module) (initializers_of old) × (new.data_align ≡ Some options.page)

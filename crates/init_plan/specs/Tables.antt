@@ -26,7 +26,7 @@ abbrev pub plan_of_tables : ModuleTranslation → TablePlan
 plan_of_tables t = table_plan_of (own_tables t) t.table_initialization.initial_values t.table_initialization.segments.items
     (images_of t.module.table_initialization)
 
--- a cell that is a function names one of so many
+-- a cell that is a function names one below the number of functions
 abbrev pub IsAmong : ℕ → Option ℕ → Type 0
 IsAmong functions cell = IfSome cell (λ function. function < functions)
 

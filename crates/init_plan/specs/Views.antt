@@ -64,11 +64,11 @@ passive_data_of t = map passive_segment_of t.private_parts.passive_data.items
 abbrev pub types_of : ModuleTranslation → Option TypesData
 types_of t = t.private_parts.types
 
--- the hints of each function that has an entry, by its index
+-- the branch hints of each function that has an entry, by its index
 abbrev pub hint_entries_of : ModuleTranslation → List (ℕ × List BranchHint)
 hint_entries_of t = map (λ e. (number_of e.0, e.1.items)) t.private_parts.branch_hints.entries
 
--- the hints of a function
+-- the branch hints of a function
 abbrev pub hints_of : ModuleTranslation → ℕ → Option (List BranchHint)
 hints_of t function = option_map (λ hints. hints.items) (lookup (λ index. nat_eq function (number_of index)) t.private_parts.branch_hints.entries)
 
@@ -142,12 +142,12 @@ FindsRuntime runtime (Some index) bytes = slice_get runtime index ≡ Some bytes
 abbrev pub FindsData : MemoryPlan → ℕ × List ℕ → Type 0
 FindsData plan p = FindsRuntime plan.runtime (plan.passive p.0) p.1
 
--- the first passive segment is found at a number, and each other one at the number behind that of the one before
+-- the first passive segment is found at a number, and each other one at the number after that of the one before
 abbrev pub FindsFrom : (ℕ → Option ℕ) → ℕ → List (ℕ × List ℕ) → Type 0
 FindsFrom found start [] = Unit {0}
 FindsFrom found start (p ∷ ps) = (found p.0 ≡ Some start) × FindsFrom found (start + 1) ps
 
--- passive segments are found at the last runtime data, in order: behind those of active segments or of images
+-- passive segments are found at the last runtime data, in order: after those of active segments or of images
 abbrev pub FindsInOrder : MemoryPlan → List (ℕ × List ℕ) → Type 0
 FindsInOrder plan ps = FindsFrom plan.passive (length plan.runtime - length ps) ps
 
@@ -194,7 +194,7 @@ SameButHints old new = new ≡ record old { private_parts = record old.private_p
 abbrev pub SameButSegments : ModuleTranslation → ModuleTranslation → Type 0
 SameButSegments old new = new ≡ record old { memory_init = new.memory_init }
 
--- no name, and nothing of the functions' source
+-- no name, and no metadata of functions
 pub record TellsNothing (d : DebugInfoData) : Type 0 where
   pub no_name : d.name_section.module_name ≡ None
   pub no_functions : d.name_section.func_names.entries ≡ []

@@ -1,4 +1,4 @@
-//! Names of a module, and what tells how its functions were written.
+//! The names of a module, and the metadata of its functions.
 
 ghost use Rattle.init_plan.specs.Views.{TellsNothing};
 
@@ -7,7 +7,7 @@ use std::collections::BTreeMap;
 use wasm_index::FuncIndex;
 use wasm_types::WasmValType;
 
-/// What is known of the source of a module.
+/// The names of a module, and the metadata of its functions.
 pub struct DebugInfoData<'d> {
     pub name_section: NameSection<'d>,
     pub wasm_file: WasmFileInfo,
@@ -22,7 +22,7 @@ pub struct NameSection<'d> {
     pub locals_names: BTreeMap<FuncIndex, BTreeMap<u32, &'d str>>,
 }
 
-/// What is known of the functions of a file.
+/// Where the code of a module stands in its file, and the metadata of its functions.
 #[derive(Drop)]
 pub struct WasmFileInfo {
     /// Where the contents of the code section begin in the file, in bytes, or 0 without a code section.
@@ -33,7 +33,7 @@ pub struct WasmFileInfo {
     pub funcs: Vec<FunctionMetadata>,
 }
 
-/// The types of a function's parameters and locals.
+/// The metadata of a function: the types of its parameters and locals.
 #[derive(Drop)]
 pub struct FunctionMetadata {
     pub params: Vec<WasmValType>,

@@ -15,10 +15,10 @@ pub enum PlanError {
     /// The runtime data pass 4294967295 bytes.
     #[error("the data pass 4294967295 bytes")]
     TooLarge,
-    /// There was no memory.
+    /// Out of memory.
     #[error("out of memory")]
     OutOfMemory,
-    /// The builder of types had answered an error before.
+    /// The builder of types had returned an error before.
     #[error("an earlier call of the builder failed")]
     Poisoned,
 }

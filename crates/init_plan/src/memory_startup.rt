@@ -40,7 +40,7 @@ impl ModuleTranslation<'_> {
         requires page_size { IsPowerOfTwo page_size }
         requires room { types.old.is_poisoned ≡ false → length (starts (builder_view types.old)).built.types < u32.MAX }
 
-        // The plan is that of the definitions: images alone where the image rule holds, and else every segment, in order.
+        // The plan is that of the definitions: images alone where the image rule holds, and otherwise every segment, in order.
         ensures planned { OnOk result (IsMemoryPlan (image_options tunables.now page_size max_image) self.old.module.num_imported_memories
             (image_memories self.old.module) (initializers_of self.old) (passive_bytes self.old) (memory_plan_of self.new)) }
         ensures begins { OnOk result (BeginsByRule (image_options tunables.now page_size max_image) self.old self.new) }
@@ -58,7 +58,7 @@ impl ModuleTranslation<'_> {
         ensures ranges { OnOk result (ranges_of self.new.module ≡ ranges_from 0 (map length (memory_plan_of self.new).runtime)) }
         ensures whole_ranges { OnOk result (HasWholeRanges page_size (memory_plan_of self.new).images (ranges_of self.new.module)) }
 
-        // Each passive segment is found with its bytes, in order behind the other runtime data, and no other is found.
+        // Each passive segment is found with its bytes, in order after the other runtime data, and no other is found.
         ensures found { OnOk result (All (FindsData (memory_plan_of self.new)) (passive_data_of self.old)) }
         ensures in_order { OnOk result (FindsInOrder (memory_plan_of self.new) (passive_data_of self.old)) }
         ensures others { OnOk result ((index : ℕ) → ¬ Contains (map (λ p. p.0) (passive_data_of self.old)) index →
@@ -89,7 +89,7 @@ impl ModuleTranslation<'_> {
         // After an error the builder is as it was, or poisoned.
         ensures refused { OnErr result ((types.new ≡ types.old) ⊎ (types.new.is_poisoned ≡ true)) }
     {
-        // The plan asks nothing of the builder.
+        // The plan does not use the builder.
         match self.plan_memories(alloc, tunables, page_size, max_image) {
             Ok(()) => {}
             Err(PlanError::TooLarge) => return Err(PlanError::TooLarge),
@@ -127,7 +127,6 @@ impl ModuleTranslation<'_> {
     }
 }
 
-// Whether each planned segment is an image.
 fn are_images(segments: &[(MemoryIndex, MemorySegmentOffset, RuntimeDataIndex)]) -> bool
     ensures { IsTrue result ↔ All (λ s. IsPlace s.1) segments.now }
 {
@@ -145,7 +144,6 @@ fn keeps_none(init: &MemoryInit<'_>) -> bool
     }
 }
 
-// Whether no memory has an image.
 fn are_none(images: &[Option<(u64, RuntimeDataIndex)>]) -> bool
     ensures { IsTrue result ↔ All (λ image. image ≡ None) images.now }
 {

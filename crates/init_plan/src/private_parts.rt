@@ -8,7 +8,7 @@ use std::alloc::Global;
 use std::collections::BTreeMap;
 use wasm_index::{DataIndex, FuncIndex};
 
-/// The passive data segments, the types by ids, and the hints of each function's branches.
+/// The passive data segments, the types by ids, and the branch hints of each function.
 pub struct PrivateParts<'d> {
     pub passive_data: Vec<(DataIndex, &'d [u8])>,
     pub types: Option<Types>,

@@ -1,4 +1,4 @@
-//! Startup: what is left to be done when a module is instantiated asks for a function, and so for its type.
+//! Startup: what is left to be done when a module is instantiated needs a function, and so its type.
 
 ghost use Rattle.std.specs.Prelude.{◌≡◌, ◌↔◌, ◌<◌, length, true, false, Err, IfOk, OnOk, OnErr};
 ghost use Rattle.wasm_index.specs.Index.{index_of};
@@ -13,7 +13,7 @@ use wasm_module::ModuleStartup;
 use wasm_types::EngineOrModuleTypeIndex;
 
 impl ModuleTranslation<'_> {
-    /// The module needs a startup function that always runs. A type of startup that stands is kept; else the builder gives it.
+    /// The module needs a startup function that always runs. A type of startup that stands is kept; otherwise the builder gives it.
     ///
     /// # Errors
     /// `Poisoned` where the builder is, and `OutOfMemory`, after which it is.

@@ -165,7 +165,7 @@ impl<'d> ModuleTranslation<'d> {
         self.private_parts.types = Some(types);
     }
 
-    /// The hints of a function's branches, in order; none where no entry of it stands.
+    /// The branch hints of a function, in order; `None` where it has no entry.
     pub fn branch_hints(&self, func: FuncIndex) -> Option<&[BranchHint]>
         ensures { option_map (λ hints. hints.now) result ≡ hints_of self.now (number_of func) }
     {
@@ -175,7 +175,7 @@ impl<'d> ModuleTranslation<'d> {
             .map(|hints| hints.as_slice())
     }
 
-    /// Puts these hints in the place of all that stood.
+    /// Replaces all hints by these.
     pub fn set_branch_hints(&mut self, hints: BTreeMap<FuncIndex, Vec<BranchHint>>)
         ensures set { hint_entries_of self.new ≡ map (λ e. (number_of e.0, e.1.items)) hints.entries }
         ensures same { SameButHints self.old self.new }

@@ -75,7 +75,6 @@ module _ (laid : List Laid) (ranges : List Written) (written : AreWritten (map p
           omega arith;
     }
 
-    -- a place of a part
     at_part : (place : ℕ) → InPart parts place → contents_of parts place ≡ contents_of laid place
     at_part place i =
         let w = range_of i.index i.part i.is_part in
@@ -113,7 +112,6 @@ module _ (laid : List Laid) (ranges : List Written) (written : AreWritten (map p
     pub are_parts : AreParts laid parts
     are_parts = record { same = same; in_order = in_order; bound = bound }
 
--- one more part
 pub cut_more : (laid : List Laid) (ranges : List Written) (parts : List Laid) (k : ℕ) (w : Written) (x : Laid) → length parts ≡ k → slice_get ranges k ≡ Some w → IsCut laid w x
     → ((i : ℕ) (v : Written) (y : Laid) → slice_get ranges i ≡ Some v → slice_get parts i ≡ Some y → IsCut laid v y)
     → (i : ℕ) (v : Written) (y : Laid) → slice_get ranges i ≡ Some v → slice_get (parts ++ x ∷ []) i ≡ Some y → IsCut laid v y

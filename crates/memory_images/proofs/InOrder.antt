@@ -56,7 +56,6 @@ part_or_zero laid place = over (last_cover_from 0 place (map pair_of laid)) refl
   over None e = inl (uncovered laid place e)
   over (Some s) e = let c = covered laid place s e in inr (record { index = s; part = c.part; is_part = c.is_part; from = c.from; upto = c.upto })
 
--- the byte at a place of a part
 pub byte_of_part : (laid : List Laid) (place : ℕ) → AreInOrder laid → (i : InPart laid place) → contents_of laid place ≡ byte_in i.part place
 byte_of_part laid place ordered i = over (last_cover_from 0 place (map pair_of laid)) refl where
   over : (o : Option ℕ) → last_cover_from 0 place (map pair_of laid) ≡ o → contents_of laid place ≡ byte_in i.part place

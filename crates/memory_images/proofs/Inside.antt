@@ -133,7 +133,6 @@ pub static : (options : ImageOptions) (imports : ℕ) (memories : List ImageMemo
     → AreLaid imports memories active all → MayBeImages options imports memories active → IsStatic options imports memories active
 static options imports memories active all on laid may = record { enabled = on; placed = laid.placed; images = may }
 
--- one more memory
 pub may_more : (options : ImageOptions) (imports : ℕ) (memories : List ImageMemory) (active : List ActiveSegment) (m : ℕ) (first : ImageMemory) → slice_get memories m ≡ Some first
     → (bytes_on (imports + m) active ≢ [] → MayBeImage options first (bytes_on (imports + m) active))
     → ((k : ℕ) (memory : ImageMemory) → k < m → slice_get memories k ≡ Some memory → bytes_on (imports + k) active ≢ [] → MayBeImage options memory (bytes_on (imports + k) active))

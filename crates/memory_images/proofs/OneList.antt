@@ -23,7 +23,7 @@ ranges_behind w ws h = record { some = All-tail (λ (v : Written). v.start < v.e
 first_some : (w : Written) (ws : List Written) → AreRanges (w ∷ ws) → w.start < w.end
 first_some w ws h = All-head (λ (v : Written). v.start < v.end) w ws h.some
 
--- no range behind the first holds a place below its end
+-- no range after the first holds a place below its end
 none_below : (place : ℕ) (ws : List Written) → All (λ (w : Written). place < w.start) ws → segment_at ws place ≡ None
 none_below place [] all = refl
 none_below place (w ∷ ws) all =
@@ -65,7 +65,7 @@ module _ (x y : Written) (xs ys : List Written) (hx : AreRanges (x ∷ xs)) (hy 
       let f = r.from in
       b.differ (omega (arith, a, f)) (segment ∙ sym r.owner)
 
--- the ranges behind a first one that both lists share
+-- the ranges after a first one that both lists share
 same_behind : (w : Written) (xs ys : List Written) → AreRanges (w ∷ xs) → AreRanges (w ∷ ys)
     → ((place : ℕ) → segment_at (w ∷ xs) place ≡ segment_at (w ∷ ys) place) → (place : ℕ) → segment_at xs place ≡ segment_at ys place
 same_behind w xs ys hx hy same place = ⊎_elim

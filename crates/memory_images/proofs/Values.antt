@@ -40,12 +40,12 @@ first_is e es = rw (at_same e.0) refl
 other_is : (e : ℕ × Written) (es : Pieces) (q : ℕ) → e.0 ≢ q → piece_of (e ∷ es) q ≡ piece_of es q
 other_is e es q ne = rw (at_other q e.0 ne) refl
 
--- a key behind the first is above it
+-- a key after the first is above it
 above_first : (k : ℕ) (es : Pieces) → AllByRecursion (λ y. nat_cmp k y ≡ Less) (keys_of es) → (q : ℕ) (w : Written) → piece_of es q ≡ Some w → k < q
 above_first k [] a q w h = absurd cc
 above_first k (e ∷ es) a q w h = ⊎_elim (λ (is : e.0 ≡ q). rw (← is) (lt-from_less k e.0 a.0)) (λ ne. above_first k es a.1 q w (sym (other_is e es q ne) ∙ h)) (cases_eq e.0 q)
 
--- in a sorted map a later entry is found behind the first
+-- in a sorted map a later entry is found after the first
 found_behind : (e : ℕ × Written) (es : Pieces) → AllByRecursion (λ y. nat_cmp e.0 y ≡ Less) (keys_of es) → (q : ℕ) (w : Written) → piece_of es q ≡ Some w → piece_of (e ∷ es) q ≡ Some w
 found_behind e es a q w h = other_is e es q (λ is. let l : e.0 < q = above_first e.0 es a q w h in absurd (omega arith)) ∙ h
 

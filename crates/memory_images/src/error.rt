@@ -11,7 +11,7 @@ use std::alloc::{AllocError, AllocFailed};
 pub enum ImageError {
     /// The images and the bytes beside them pass 4294967295 bytes.
     TooLarge,
-    /// There was no memory.
+    /// Out of memory.
     OutOfMemory,
 }
 

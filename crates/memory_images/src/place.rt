@@ -17,7 +17,7 @@ fn index(memory64: bool, constant: Constant) -> Option<u64>
     }
 }
 
-// The size of a memory's pages.
+// The size of a memory's pages, in bytes.
 pub(crate) fn page_size(memory: Memory) -> u64
     requires { memory.page_size_log2 ≤ 16 }
     ensures { result ≡ 2 ^ memory.page_size_log2 }

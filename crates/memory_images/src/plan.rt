@@ -12,8 +12,8 @@ use crate::rule::static_layout;
 use crate::segment::{Active, ImageSettings, Memory};
 use std::alloc::Global;
 
-/// The images of all memories, imported ones first, where all active segments become images, and `None` where they do not. So many bytes
-/// stand beside them.
+/// The images of all memories, imported ones first, where all active segments become images, and `None` where they do not. `beside` is the
+/// number of bytes that stand beside them.
 ///
 /// # Errors
 /// `TooLarge` where the images and the bytes beside them pass 4294967295 bytes together, before an image is made.

@@ -1,4 +1,4 @@
-//! Memories, the active segments on them, and what is asked of their images.
+//! Memories, the active segments on them, and the settings of their images.
 
 /// The constant value of an offset.
 #[derive(Clone, Copy, Debug, PartialEq, Eq)]

@@ -1,4 +1,4 @@
--- The hints at branches that the sections of hints of a module give (branch hinting, binary format).
+-- The branch hints that the sections of hints of a module give (branch hinting, binary format).
 use Rattle.std.specs.Prelude.{◌≡◌, ℕ, List, [], ◌∷◌, map, codes, Option}
 use Rattle.std.specs.Global.{Vec}
 use Rattle.std.specs.List.{filter_map}

@@ -40,7 +40,7 @@ below bound entries = filter (λ e. nat_lt e.0 bound) entries
 abbrev pub names_below : ℕ → NameLists → NameLists
 names_below bound names = record names { functions = below bound names.functions; locals = below bound names.locals }
 
--- what a section says behind others: it names the functions that these declare
+-- what a section says after others: it names the functions that these declare
 abbrev pub names_behind : Bool → List plain.Payload → plain.Payload → NameLists
 names_behind locals before p = names_below (length (plain.functions before)) (names_in locals (contents_of (codes "name") p))
 

@@ -1,4 +1,4 @@
-//! The hints at branches that a module's sections of hints give.
+//! The branch hints that a module's sections of hints give.
 
 ghost use Rattle.std.specs.Prelude.{◌≡◌, ◌++◌, ◌∷◌, [], map, unwrap_or, IfOk, OnOk};
 ghost use Rattle.std.specs.Option.{option_map};
@@ -80,7 +80,7 @@ fn by_function(
     Ok(kept)
 }
 
-/// Adds the hints of a function that has none yet; the largest number is no function's index.
+/// Adds the hints of a function that has none yet; the largest number is not a function's index.
 fn add_entry(
     alloc: Global,
     kept: &mut BTreeMap<FuncIndex, Vec<BranchHint>>,

@@ -1,4 +1,4 @@
-//! What the custom sections of a module give: names, hints at branches, and whether there is debug information.
+//! What the custom sections of a module give: names, branch hints, and whether there is debug information.
 #![tactic(auto)]
 
 mod debug;

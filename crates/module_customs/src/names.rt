@@ -43,7 +43,7 @@ pub fn kept_names<'d>(
     Ok(kept)
 }
 
-/// Adds the names of a section before which so many functions are declared.
+/// Adds the names of a section before which `declared` functions are declared.
 fn add_section<'d>(
     alloc: Global,
     kept: &mut NameSection<'d>,
@@ -83,7 +83,6 @@ fn declared_functions(payload: &Payload<'_>) -> usize
     }
 }
 
-/// How many of some imports are functions.
 fn imported_functions(imports: &[Import<'_>]) -> usize
     ensures { result ≡ functions_among (map import_of imports.now) }
 {
@@ -104,7 +103,7 @@ fn imported_function(import: &Import<'_>) -> usize
     }
 }
 
-/// Adds names to those of the sections before, where so many functions are declared.
+/// Adds names to those of the sections before, where `declared` functions are declared.
 fn add_names<'d>(
     alloc: Global,
     kept: &mut NameSection<'d>,

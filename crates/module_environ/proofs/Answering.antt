@@ -37,7 +37,7 @@ use Rattle.module_environ.proofs.TablesReady.{tables-ready}
 
 -- ---- why there is none
 
--- what reading promises of an answer
+-- what reading promises of its result
 pub record ReadingTells (bytes : List ℕ) (r : Result Form ReadError) : Type 0 where
   pub complete : length bytes < 2 ^ 30 → (m : Module) → Spells bytes m → HasNoInterfaceTypes m → ReadsAs r m
   pub too_large : (r ≡ Err read.TooLarge) ↔ (2 ^ 30 ≤ length bytes)

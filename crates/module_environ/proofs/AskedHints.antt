@@ -1,4 +1,4 @@
--- Hints of branches, as they are asked for.
+-- Branch hints, as they are asked for.
 use Rattle.std.proofs.Common.{◌≡◌, ◌∙◌, ℕ, Bool, true, false, List, [], ◌∷◌, map, cond, Option, Some, None, refl, sym, ap}
 use Rattle.std.specs.Prelude.{nat_eq, ◌==◌}
 use Rattle.std.specs.Global.{Vec}

@@ -15,7 +15,6 @@ first-of : (o : Option ℕ) → o ≡ slice_get (option_to_list o) 0
 first-of None = refl
 first-of (Some n) = refl
 
--- the first of more
 pub first-more : (xs ys : List ℕ) (o : Option ℕ) → option_to_list o ≡ ys → option_or (slice_get xs 0) o ≡ slice_get (xs ++ ys) 0
 first-more [] ys o e = first-of o ∙ ap (λ (l : List ℕ). slice_get l 0) e
 first-more (x ∷ xs) ys o e = refl

@@ -22,7 +22,6 @@ pub at-item : {X Y : Type 0} (P : Y → Type 0) (view : X → Y) (xs : List X) (
 at-item P view xs i x lt is all =
     subst P (get_or-map view xs i x (view x) lt ∙ ap view (sym is)) (all i (view x) (let long = length-map xs view in omega (arith, long)))
 
--- one item more
 pub item-more : {X Y : Type 0} (view : X → Y) (xs : List X) (i : ℕ) (x : X) → i < length xs → x ≡ get_or xs i x
     → map view (take (i + 1) xs) ≡ map view (take i xs) ++ view x ∷ []
 item-more {X} view xs i x lt is = map_more view xs i x lt ∙ ap (λ (y : X). map view (take i xs) ++ view y ∷ []) (sym is)

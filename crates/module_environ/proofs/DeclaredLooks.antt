@@ -42,7 +42,7 @@ module _ (m : plain.Module) (near : NameEarlier 0 (placed_groups m)) where
         ∙ ap (option_and_then module_index) (slice_get-get_or (map type_index d) i (type_index 0) (omega (arith, inside, length-map d type_index))
         ∙ ap Some (get_or-map type_index d i 0 (type_index 0) inside))
 
-    -- also where more types come behind
+    -- also where more types are appended
     pub look-declared : (b : BuilderState) (more : List Interned) → (builder_view b).built.types ≡ (taken (placed_groups m)).built.types ++ more
         → AgreeBelow (look_type types b) (look_up_in m) (length (plain.types m))
     look-declared b more is i lt =

@@ -27,7 +27,7 @@ longer (n ∷ ns) known = by (list_any (λ k. k == n) known) (longer ns) where
       let r = rest (known ++ n ∷ []) in
       record { more = n ∷ r.more; is = r.is ∙ append_assoc known (n ∷ []) r.more }
 
--- ---- types come behind
+-- ---- types are appended
 
 pub record TypesBehind (b c : Built) : Type 0 where
   pub more : List Interned

@@ -162,7 +162,7 @@ can-convert m few e within = let both = by e.kind e.index within in record { ind
   by kind.Global index lt = (omega (arith, lt, few.globals), tt)
   by kind.Tag index lt = (omega (arith, lt, few.tags), tt)
 
--- what exports of entries that there are want of a caller
+-- exports of entries that there are can be converted
 pub exports-can : (m : plain.Module) → HasFewEntries m → All (IsInSpace (lists_of_module m)) (flat_map exports_of_section m)
     → All (CanExport (length (plain.functions m))) (flat_map exports_of_section m)
 exports-can m few within =

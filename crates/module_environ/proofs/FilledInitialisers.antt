@@ -36,7 +36,7 @@ few_declared m few =
       ap length (declared-types 0 (plain.groups m)),
     )
 
--- so many functions as the lists have, the module has
+-- the module has as many functions as the lists
 pub counted_functions : (l : Gathered) → IsGathered l → (n : ℕ) → n ≡ length l.spaces.functions.items
     → length (lists_of_module (module_in l)).functions ≡ n
 counted_functions l g n is = sym (is ∙ ap (λ (x : Lists). length x.functions) g.lists)

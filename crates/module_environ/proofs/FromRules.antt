@@ -24,7 +24,7 @@ use Rattle.module_environ.specs.Escapes.{referred_by, referred}
 use Rattle.module_environ.specs.Convertible.{IsConvertible}
 use Rattle.module_environ.proofs.Agreeing.{known-edges}
 
--- what holds of an entry and not of its want stands at an index of the list
+-- where a fact fails without an entry, an index of which it holds is one of the list
 pub below-by : {A : Type 0} (Q : Option A → Type 0) (xs : List A) (i : ℕ) → (Q None → ⊥) → Q (slice_get xs i) → i < length xs
 below-by Q xs i none q = by (slice_get_cases xs i).1 where
   by : ((x : _) × (i < length xs) × (slice_get xs i ≡ Some x) × (get_or xs i x ≡ x)) ⊎ ((length xs ≤ i) × (slice_get xs i ≡ None)) → i < length xs

@@ -37,7 +37,7 @@ few_more look values qs ps read k p ts lt at same before few =
       sym (length-map values view_first_value) ∙ ap length before ∙ length-map before_tables init_of,
     )
 
--- no image of each of so many tables is none of each table
+-- images without cells, as many as there are tables, are one for each table
 pub none_of_each : (tables : List TableDef) (images : List Image) → images ≡ replicate (length tables) [] → images ≡ map (λ table. []) tables
 none_of_each tables images none = none ∙ each tables where
   each : (tables : List TableDef) → replicate {A = Image} (length tables) [] ≡ map (λ table. []) tables

@@ -191,7 +191,7 @@ module _ (look : LookUp) where
   adds-both a b c xs ys first second before h = subst (λ es. HoldsElements look es c) (append_assoc before xs ys)
       (second (before ++ xs) (first before h))
 
-  -- room for what comes behind
+  -- room for what comes after
   pub room-after : (a b : ElementSegments) (n k : ℕ) (es : List Element) → HasRoom look a n → AddsElements look a b es → length es + k ≤ n
       → HasRoom look b k
   room-after a b n k es room added le = (room.0 ++ es, added room.0 room.1, omega (arith, length-append room.0 es, room.2, le))

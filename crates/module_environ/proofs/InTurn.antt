@@ -25,7 +25,7 @@ use Rattle.module_environ.specs.Environment.{AreHeld}
 use Rattle.module_environ.proofs.Reaching.{Reached, reach-none, reach-next, reach-can, reach-index, reach-all, reach-few, reach-held}
 
 module _ (m : plain.Module) (t : TypesData) (of : AreTypesOf m t) where
-  -- so many of the module's types were interned, and listed by their indices
+  -- the module's types before number i were interned, and listed by their indices
   pub record Interns (b : Builder) (i : ℕ) (types : List EngineOrModuleTypeIndex) : Type 0 where
     pub reached : Reached m t of.numbered of.earlier b i
     pub holds : HoldsGroups t b

@@ -44,7 +44,6 @@ converted look g = (g.0, const_ops_of look g.1)
 module _ (look other : LookUp) (count : ℕ) (agree : AgreeBelow look other count) where
   -- ---- types
 
-  -- a reference type
   pub reference_alike : (t : RefType) → RefersIn count t → map_reference look (reference_of t) ≡ map_reference other (reference_of t)
   reference_alike t below =
       ap (λ (h : Heap Name). (let r : Reference Name = record { nullable = t.nullable; heap = h } in r))

@@ -14,7 +14,7 @@ use Rattle.module_types.specs.Converter.{interned_name, look_index, answered, an
 use Rattle.module_environ.specs.Environment.{interned_in, number_or_zero, AreHeld, look_type}
 
 module _ (types : List EngineOrModuleTypeIndex) where
-  -- what the record answers at an index
+  -- what the record gives at an index
   abbrev pub Gives : Index TypeSpace → TypeIndex → Type 0
   Gives i r = interned_in types (number_of i) ≡ Some r
 
@@ -30,7 +30,7 @@ module _ (types : List EngineOrModuleTypeIndex) where
   pub answers-of : (count bound : ℕ) → bound ≡ length types → AreHeld types count → AnswersBelow Gives count bound
   answers-of count bound e held n h = answer-of count n (interned_in types n) refl (held n (subst (λ m. n < m) e h))
 
-  -- so a converter whose look-up gives what the record answers looks up the types of the record
+  -- so a converter whose look-up gives what the record gives looks up the types of the record
   module _ (given : Index TypeSpace → TypeIndex → Type 0) (gives : (i : Index TypeSpace) (r : TypeIndex) → Gives i r → given i r)
       (c : BuilderState) (bound : ℕ)
       (answers : AnswersBelow given (length c.list.types) bound) (ids : Option TypesData) (b : BuilderState) (same : c ≡ b) (e : bound ≡ length types) where

@@ -26,7 +26,6 @@ firsts-append known (x ∷ xs) ys =
 pub after_escapes-append : (s : EscapeLog) (xs ys : List ℕ) → after_escapes (after_escapes s xs) ys ≡ after_escapes s (xs ++ ys)
 after_escapes-append s xs ys = λ i. record { count = s.count; order = firsts-append s.order xs ys i }
 
--- one more of a list
 pub after_escapes-more : {A : Type 0} (number : A → ℕ) (s t u : EscapeLog) (xs : List A) (i : ℕ) (x : A) → i < length xs → x ≡ get_or xs i x
     → t ≡ after_escapes s (map number (take i xs)) → u ≡ after_escapes t (number x ∷ []) → u ≡ after_escapes s (map number (take (i + 1) xs))
 after_escapes-more number s t u xs i x lt is before now =

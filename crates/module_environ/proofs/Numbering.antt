@@ -36,7 +36,7 @@ place-old order f g lt = position_or_len_push (λ k. k == g) order f ∙ grind (
 pub place-other : (order : List ℕ) (f g : ℕ) → (f ≡ g → ⊥) → place order g ≡ length order → place (order ++ f ∷ []) g ≡ length order + 1
 place-other order f g apart e = position_or_len_push (λ k. k == g) order f ∙ grind (arith, nat_tests)
 
--- a list of numbers below a bound, each once, has at most so many
+-- a list of numbers below a bound, each once, is no longer than the bound
 distinct : (order : List ℕ) → StandOnce order → AllPairs (λ x y. x ≢ y) order
 distinct order once i j d lt in' same =
     let at-i : get_or order i d ≡ get_or order i 0 = get_or_default order i d 0 (omega arith) in

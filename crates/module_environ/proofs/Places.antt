@@ -5,7 +5,7 @@ use Rattle.std.specs.List.{list_any, position_from}
 use Rattle.std.proofs.lemmas.Iterator.Adapters.{position_from-zero}
 
 module _ (t : ℕ → Bool) where
-  -- behind some that fail
+  -- after some that fail
   pub from-behind : (xs ys : List ℕ) (i : ℕ) → list_any t xs ≡ false → position_from t i (xs ++ ys) ≡ position_from t (i + length xs) ys
   from-behind [] ys i none = let same : i ≡ i + 0 = omega arith in ap (λ n. position_from t n ys) same
   from-behind (x ∷ xs) ys i none = by (t x) (from-behind xs ys (i + 1)) none where
@@ -17,7 +17,7 @@ module _ (t : ℕ → Bool) where
         let same : i + 1 + length xs ≡ i + length (x ∷ xs) = omega arith in
         rest none ∙ ap (λ n. position_from t n ys) same
 
-  -- where one passes, those behind do not count
+  -- where one passes, those after it do not count
   pub from-front : (xs ys : List ℕ) (i : ℕ) → list_any t xs ≡ true → position_from t i (xs ++ ys) ≡ position_from t i xs
   from-front [] ys i some = absurd (let no : false ≡ true = some in cc)
   from-front (x ∷ xs) ys i some = by (t x) (from-front xs ys (i + 1)) some where

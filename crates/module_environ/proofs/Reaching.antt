@@ -192,7 +192,7 @@ module _ (m : plain.Module) (t : TypesData) (are : AreNumbered m t) (near : Name
               (group_edges (λ j. j) (home all i).members) (near-from all 0 i (omega arith) (omega (arith, lt)) near))));
         }
 
-  -- and what a call answers is the definition's index
+  -- and what a call returns is the definition's index
   pub reach-index : (b : Builder) (i : ℕ) → i < size all → Reached (interns_type t b (id i)) (i + 1)
       → interned_index t (interns_type t b (id i)) (id i) ≡ number i
   reach-index b i lt r = index-held m t are near (interns_type t b (id i)) i lt (r.has.held i (omega (arith, r.le)))

@@ -42,7 +42,7 @@ module _ (m : plain.Module) where
   abbrev pub tag_in : ℕ → Tag
   tag_in i = record { signature = declared_type m i; exception = type_index (exception_at m i) }
 
-  -- so many of the tags were converted
+  -- the first k tags were converted
   pub record IsTagging (tags : List ℕ) (old b : Builder) (k : ℕ) (out : List Tag) : Type 0 where
     pub asked : Excepts (taken (placed_groups m)).built (map (interned_at m) (take k tags)) b
     pub listed : out ≡ map tag_in (take k tags)

@@ -34,7 +34,6 @@ enumerate-push n (y ∷ ys) x =
     let e : n + 1 + length ys ≡ n + length (y ∷ ys) = omega arith in
     ap (λ l. (n, y) ∷ l) (enumerate-push (n + 1) ys x ∙ ap (λ k. enumerate_from (n + 1) ys ++ (k, x) ∷ []) e)
 
--- one more function
 pub typed-more : (indices : List EngineOrModuleTypeIndex) (order functions : List ℕ) (i : ℕ) (types after : List FunctionType) (x : FunctionType)
     → i < length functions → types ≡ map (typed indices order) (enumerate_from 0 (take i functions))
     → x ≡ typed indices order (i, get_or functions i 0) → after ≡ types ++ x ∷ []

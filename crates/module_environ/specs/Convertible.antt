@@ -5,7 +5,7 @@ use Rattle.wasm_spec.specs.Module.{Expression}
 use Rattle.wasm_convert.specs.Operators.{KnowsOperator}
 use Rattle.module_environ.specs.Escapes.{referred}
 
--- it has an operator, what these name is known, and each function is one of so many
+-- it has an operator, what its operators name is known, and each function is below the number of functions
 pub record IsConvertible (known : UnpackedIndex → Type 0) (functions : ℕ) (e : Expression) : Type 0 where
   pub some : 0 < length e
   pub operators : All (KnowsOperator known) e

@@ -17,7 +17,7 @@ abbrev pub number_or_zero : Option TypeIndex → ℕ
 number_or_zero None = 0
 number_or_zero (Some k) = number_of k
 
--- each is an interned type, of so many
+-- each is an interned type, whose number is below a count
 abbrev pub AreHeld : List EngineOrModuleTypeIndex → ℕ → Type 0
 AreHeld types count = (i : ℕ) → i < length types → IsSomeAnd (interned_in types i) (λ k. number_of k < count)
 

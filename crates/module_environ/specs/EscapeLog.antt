@@ -2,7 +2,7 @@
 use Rattle.std.specs.Prelude.{ℕ, List}
 use Rattle.module_environ.specs.Firsts.{firsts_after}
 
--- of so many functions, those that were met, in the order of the first cause
+-- how many functions there are, and those that were met, in the order of the first cause
 pub record EscapeLog : Type 0 where
   pub count : ℕ
   pub order : List ℕ

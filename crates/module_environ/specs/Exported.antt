@@ -13,7 +13,7 @@ use Rattle.module_environ.specs.Pooled.{HasText}
 abbrev pub exported_functions : List Export → List ℕ
 exported_functions exports = filter_map (λ (e : Export). exported_function e.kind e.index) exports
 
--- an export of an index, and where it is a function, of one of so many
+-- its index is not the reserved one, and that of a function is below the number of functions
 pub record CanExport (functions : ℕ) (e : Export) : Type 0 where
   pub index : e.index < reserved_number
   pub function : IfSome (exported_function e.kind e.index) (λ f. f < functions)

@@ -12,7 +12,7 @@ use Rattle.module_environ.specs.declared.imports.ImportCounts.{ImportCounts}
 use Rattle.module_environ.specs.Entities.{count_of, imports_after, resolved_import}
 use Rattle.module_environ.specs.Pooled.{HasTexts}
 
--- so many imports are there of each kind
+-- each count is that of the imports of its kind
 pub record AreCounted (is : List Import) (counts : ImportCounts) : Type 0 where
   pub functions : counts.functions ≡ count_of function_import is
   pub tables : counts.tables ≡ count_of table_import is

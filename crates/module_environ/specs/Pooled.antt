@@ -5,7 +5,7 @@ use Rattle.entity_map.specs.declared.pool.Atom.{Atom}
 use Rattle.wasm_module.specs.declared.initializer.Initializer.{Initializer}
 use Rattle.wasm_module.specs.declared.initializer.Initializer.TheVariants as initializer
 
--- at most so many texts are added, after those that were there
+-- at most `count` texts are added, after those that were there
 pub record GrowsBy (count : ℕ) (old new : List (List ℕ)) : Type 0 where
   pub added : List (List ℕ)
   pub whole : new ≡ old ++ added

@@ -32,7 +32,7 @@ HasTranslationCause bytes poisoned refusal.TooLarge = 2 ^ 30 ≤ length bytes
 HasTranslationCause bytes poisoned refusal.OutOfMemory = Unit {0}
 HasTranslationCause bytes poisoned refusal.Poisoned = poisoned ≡ true
 
--- there is an answer, or no memory for it
+-- there is a translation, or memory ran out
 abbrev pub SucceedsOrNoMemory : {A : Type 0} → Result A EnvironError → Type 0
 SucceedsOrNoMemory (Ok answer) = Unit {0}
 SucceedsOrNoMemory (Err e) = e ≡ refusal.OutOfMemory

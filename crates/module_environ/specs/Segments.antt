@@ -35,7 +35,7 @@ module _ (known : UnpackedIndex → Type 0) where
   IsKindConvertible (ActiveElement table offset) = (unwrap_or table 0 < 4294967295) × IsOffset offset
   IsKindConvertible _ = Unit {0}
 
-  -- each function is one of so many
+  -- each function is below the number of functions
   abbrev pub AreItemsConvertible : ℕ → ElementItems → Type 0
   AreItemsConvertible functions (Functions indices) = All (λ f. (f < functions) × (f < 4294967295)) indices
   AreItemsConvertible functions (Expressions type items) =
@@ -60,6 +60,6 @@ pub record HoldsElements (look : LookUp) (elements : List Element) (s : ElementS
 abbrev pub AddsElements : LookUp → ElementSegments → ElementSegments → List Element → Type 0
 AddsElements look old new elements = (before : List Element) → HoldsElements look before old → HoldsElements look (before ++ elements) new
 
--- so many more can be held
+-- more segments can be held, with fewer than 2 ^ 30 in all
 abbrev pub HasRoom : LookUp → ElementSegments → ℕ → Type 0
 HasRoom look s more = (before : List Element) × HoldsElements look before s × (length before + more < 2 ^ 30)

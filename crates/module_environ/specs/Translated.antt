@@ -1,4 +1,4 @@
--- What a translation answers: the translation of the module that the bytes spell, ready to be planned, and the builder with its types.
+-- What `translate` returns: the translation of the module that the bytes spell, ready to be planned, and the builder with its types.
 use Rattle.std.specs.Prelude.{◌≡◌, ℕ, ◌+◌, ◌<◌, Bool, true, false, List, length, not, Option, Some, None}
 use Rattle.wasm_spec.specs.Module as plain
 use Rattle.rule_spec.specs.Lists.{lists_of_module}

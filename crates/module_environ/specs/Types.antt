@@ -36,7 +36,7 @@ look_up_in m i = record { kind = kind_at (placed_groups m) (place_of i); index =
 abbrev pub interned_list : plain.Module → Bool → Built
 interned_list m startup = interned (placed_groups m) (tags m) startup
 
--- ---- exception types: behind the groups, one for each function type of the tags
+-- ---- exception types: after the groups, one for each function type of the tags
 
 -- the function types of tags, each once, in the order of the first
 abbrev pub exception_functions : plain.Module → List ℕ

@@ -21,7 +21,7 @@ global_of_functions function = record { type = record { content_type = value.Ref
 abbrev pub declared_functions : List ℕ → Element
 declared_functions functions = record { kind = DeclaredElement; items = Functions functions }
 
--- one type of functions; one imported function; six functions behind it, of which an initialiser of a table names one, that of a global one, an
+-- one type of functions; one imported function; six functions after it, of which an initialiser of a table names one, that of a global one, an
 -- export one, and a segment that is only declared two, one of them again
 abbrev pub escaping_module : Module
 escaping_module =
@@ -34,7 +34,7 @@ escaping_module =
     ∷ Elements (declared_functions (1 ∷ 4 ∷ []) ∷ [])
     ∷ []
 
--- a function of two numbers that is defined, with three locals of a kind, behind one that is imported
+-- a function of two numbers that is defined, with three locals of a kind, after one that is imported
 abbrev pub defining_module : Module
 defining_module =
     Types ((record {

@@ -42,7 +42,6 @@ pub(crate) fn add_segments<'d>(
     add_passive(form, translation)
 }
 
-/// The active segments, in order.
 fn convert_active<'d>(
     alloc: Global,
     env: &dyn TypeConvert,

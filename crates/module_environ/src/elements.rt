@@ -25,7 +25,7 @@ use wasm_index::{ElemIndex, PassiveElemIndex, TableIndex};
 use wasm_module::{TableSegment, TableSegmentElements};
 use wasm_types::WasmRefType;
 
-/// The element segments of a module.
+/// The element segments of a module, active and passive ones apart.
 #[derive(Drop)]
 pub(crate) struct ElementSegments {
     /// Those that are written when the module is instantiated, in order.

@@ -26,10 +26,10 @@ pub enum EnvironError {
     /// The input has 2^30 bytes or more.
     #[error("the input has 2^30 bytes or more")]
     TooLarge,
-    /// There was no memory.
+    /// Out of memory.
     #[error("out of memory")]
     OutOfMemory,
-    /// The builder of types had answered an error before.
+    /// The builder of types had returned an error before.
     #[error("an earlier call of the builder failed")]
     Poisoned,
 }

@@ -33,7 +33,7 @@ impl Model for Escaping {
 }
 
 impl Escaping {
-    /// So many functions, to which no reference is made yet.
+    /// `count` functions, to which no reference is made yet.
     pub(crate) fn new(alloc: Global, count: usize) -> Result<Self, OutOfMemory>
         requires { count < u32.MAX }
         ensures { IfOk result (λ e. e ≡ record { count = count; order = [] }) }
@@ -44,7 +44,7 @@ impl Escaping {
         })
     }
 
-    /// Notes a reference to a function.
+    /// Notes a reference to a function, of which only the first counts.
     pub(crate) fn note_escape(&mut self, function: FuncIndex) -> Result<(), OutOfMemory>
         requires { number_of function < self.old.count }
         ensures { OnOk result (self.new ≡ after_escapes self.old (number_of function ∷ [])) }

@@ -81,7 +81,7 @@ fn first_value(
     }
 }
 
-/// No image yet of each of so many tables.
+/// An image without cells for each of `count` tables.
 pub(crate) fn no_images(
     alloc: Global,
     count: usize,

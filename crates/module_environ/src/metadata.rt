@@ -91,7 +91,6 @@ fn kind_params(kind: &CompositeInnerType) -> &[ValType]
     }
 }
 
-/// Value types.
 fn convert_types(
     alloc: Global,
     env: &dyn TypeConvert,

@@ -16,7 +16,6 @@ use wasm_index::{GlobalIndex, MemoryIndex, TableIndex};
 use wasm_spec::{GlobalType, MemoryType, TableType};
 use wasm_types::{Global, Memory, Table};
 
-/// The tables of these types.
 pub(crate) fn convert_tables(
     alloc: Heap,
     env: &dyn TypeConvert,
@@ -33,7 +32,6 @@ pub(crate) fn convert_tables(
     Ok(tables)
 }
 
-/// The memories of these types.
 pub(crate) fn convert_memories(
     alloc: Heap,
     types: &[MemoryType],
@@ -49,7 +47,6 @@ pub(crate) fn convert_memories(
     Ok(memories)
 }
 
-/// The globals of these types.
 pub(crate) fn convert_globals(
     alloc: Heap,
     env: &dyn TypeConvert,

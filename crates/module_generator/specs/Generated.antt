@@ -3,7 +3,7 @@ use Rattle.std.specs.Prelude.{ℕ, ◌+◌, ◌*◌, ◌/◌, ◌%◌, ◌^◌, 
 use Rattle.std.specs.List.{range_with_len}
 use Rattle.module_generator.specs.Spelling.{unsigned, signed, vector, section}
 
--- i64 where digit j of half of k is 1, and else i32
+-- i64 where binary digit j of half of k is 1, and otherwise i32
 unfoldable pub parameter : ℕ → ℕ → ℕ
 parameter k j = if k / 2 / 2 ^ j % 2 == 1 then 0x7E else 0x7F
 

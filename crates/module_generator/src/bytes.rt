@@ -20,7 +20,6 @@ fn push_groups(bytes: &mut Vec<u8>, number: u64, top: u64) -> Result<(), OutOfMe
     Ok(())
 }
 
-/// Appends a number without sign.
 #[tactic(auto, unfolding(crate::specs::Spelling::unsigned))]
 pub(crate) fn push_unsigned(bytes: &mut Vec<u8>, number: u64) -> Result<(), OutOfMemory>
     ensures { OnOk result (bytes.new.items ≡ bytes.old.items ++ unsigned number) }
@@ -36,7 +35,6 @@ pub(crate) fn push_signed(bytes: &mut Vec<u8>, number: u64) -> Result<(), OutOfM
     push_groups(bytes, number, 64)
 }
 
-/// Appends a section.
 #[tactic(auto, unfolding(crate::specs::Spelling::section))]
 pub(crate) fn push_section(bytes: &mut Vec<u8>, id: u8, contents: &[u8]) -> Result<(), OutOfMemory>
     ensures { OnOk result (bytes.new.items ≡ bytes.old.items ++ section id contents.now) }

@@ -8,7 +8,6 @@ use crate::bytes::{push_signed, push_unsigned};
 use entity_map::OutOfMemory;
 use std::alloc::Global;
 
-/// The contents of the type section.
 #[tactic(auto, using(crate::proofs::Places::one_more), unfolding(crate::specs::Spelling::vector))]
 pub(crate) fn type_section(alloc: Global, n: u32) -> Result<Vec<u8>, OutOfMemory>
     ensures { IfOk result (λ contents. contents.items ≡ vector n function_type) }
@@ -34,7 +33,7 @@ fn push_type(bytes: &mut Vec<u8>, k: u32) -> Result<(), OutOfMemory>
     Ok(())
 }
 
-/// The type of a parameter: `i64` where the digit of half of `k` is 1, else `i32`.
+/// The type of a parameter: `i64` where binary digit `j` of half of `k` is 1, otherwise `i32`.
 #[tactic(auto, unfolding(crate::specs::Generated::parameter))]
 fn parameter_type(k: u32, j: u32) -> u8
     requires { j < 16 }
@@ -68,7 +67,6 @@ pub(crate) fn element_section(alloc: Global, n: u32) -> Result<Vec<u8>, OutOfMem
     Ok(contents)
 }
 
-/// The contents of the data section.
 #[tactic(auto, using(crate::proofs::Places::one_more), unfolding(crate::specs::Spelling::vector))]
 pub(crate) fn data_section(alloc: Global, n: u32) -> Result<Vec<u8>, OutOfMemory>
     requires { n ≤ 100000 }

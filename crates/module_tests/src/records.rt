@@ -140,7 +140,6 @@ fn push_each(small: &mut Module, first: u32, memory: Memory) -> Result<(), OutOf
     Ok(())
 }
 
-// Puts two texts in.
 fn insert_texts(
     strings: &mut StringPool,
     first: &str,

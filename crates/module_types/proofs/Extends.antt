@@ -8,7 +8,7 @@ use Rattle.type_spec.specs.Interned.{Interned, Called, Built, mapped, same_mappe
 use Rattle.module_types.specs.Runs.{with_groups}
 use Rattle.module_types.proofs.GroupMembers.{no-more, append-again}
 
--- more types and groups behind the others
+-- more types and groups after the others
 pub record Extends (b c : Built) : Type 0 where
   pub types_more : List Interned
   pub types : c.types ≡ b.types ++ types_more
@@ -65,7 +65,7 @@ extends-groups b (ts ∷ tss) =
     (extends-both b (opened b ts) (with_group b ts) (extends-opened b ts) (extends-group b ts))
     (extends-groups (with_group b ts) tss)
 
--- the first group, and what comes behind it
+-- the first group, and what comes after it
 pub first-group : (b : Built) (ts : List Interned) (tss : List (List Interned)) → Extends (opened b ts) (with_groups b (ts ∷ tss))
 first-group b ts tss =
     extends-both (opened b ts) (with_group b ts) (with_groups b (ts ∷ tss)) (extends-group b ts) (extends-groups (with_group b ts) tss)

@@ -19,7 +19,7 @@ pub no-more : {A : Type 0} (xs : List A) → xs ≡ xs ++ []
 no-more [] = refl
 no-more (x ∷ xs) = λ i. x ∷ no-more xs i
 
--- a group behind the others
+-- a group after the others
 pub orderly-more : (b : Built) (t : Interned) (ts : List Interned) → IsOrderly b
     → IsOrderly (record b { types = b.types ++ t ∷ ts; groups = b.groups ++ next_span b (length (t ∷ ts)) ∷ [] })
 orderly-more b t ts orderly =
@@ -147,7 +147,7 @@ orderly-group b ts h o = orderly-all (opened b ts) (length b.types) ts (orderly-
 pub group-long : (b : Built) (ts : List Interned) → length b.types + length ts ≤ length (with_group b ts).types
 group-long b ts = omega (arith, all-long (opened b ts) (length b.types) ts, length-append b.types ts)
 
--- a group's members are what stands behind the others
+-- a group's members are what stands after the others
 pub behind : (xs ys : List Interned) → drop (length xs) (xs ++ ys) ≡ ys
 behind [] ys = refl
 behind (x ∷ xs) ys = behind xs ys

@@ -20,7 +20,7 @@ use Rattle.module_types.proofs.TakingBoth.{next-home, next-place, next-number}
 use Rattle.module_types.proofs.WellNamed.{kind-mapped, AllBelow, Well, kind-before}
 use Rattle.module_types.proofs.NamedSteps.{group-steps, steps-exceptions, steps-startup}
 
--- the kinds of types that come behind
+-- the kinds of types that are appended
 kind-behind : (ts us : List Interned) (p : ℕ) → kind_in (ts ++ us) (length ts + p) ≡ kind_in us p
 kind-behind [] us p = let at : 0 + p ≡ p = omega arith in ap (kind_in us) at
 kind-behind (t ∷ ts) us p = let at : length (t ∷ ts) + p ≡ suc (length ts + p) = omega arith in ap (kind_in (t ∷ (ts ++ us))) at ∙ kind-behind ts us p

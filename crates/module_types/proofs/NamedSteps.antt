@@ -49,7 +49,7 @@ module _ (kind : ℕ → NameKind) where
 
 -- ---- trampolines
 
--- types come behind the others, and the list stays well named
+-- types are appended, and the list stays well named
 pub record Steps (b c : Built) : Type 0 where
   pub more : List Interned
   pub types : c.types ≡ b.types ++ more

@@ -1,4 +1,4 @@
--- Steps leave the groups behind one another.
+-- Steps leave the groups one after another.
 use Rattle.std.proofs.Common.{◌≡◌, ◌≤◌, ◌<◌, ℕ, ◌+◌, List, [], ◌∷◌, ◌++◌, length, refl, sym, arith}
 use Rattle.type_spec.specs.Interned.{Span, Built}
 use Rattle.module_types.specs.Orderly.{LieBetween, IsOrderly}

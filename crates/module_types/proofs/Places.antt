@@ -75,7 +75,6 @@ ids-are gs k ids h e =
     let both : Some ids ≡ Some (ids_from (first_id gs k) (length (get_or gs k []))) = sym e ∙ ids-of 0 gs k h ∙ ap (λ f. Some (ids_from f (length (get_or gs k [])))) same in
     cc
 
--- the first of some ids
 pub head-of : (first count : ℕ) (x : CoreTypeId) (rest : List CoreTypeId) → 0 < count → x ∷ rest ≡ ids_from first count → x.0 ≡ first
 head-of first zero x rest h e = absurd (omega arith)
 head-of first (suc m) x rest h e = let same : x ≡ record { 0 = first } = cc in ap (λ (y : CoreTypeId). y.0) same

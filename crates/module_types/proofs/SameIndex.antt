@@ -24,7 +24,7 @@ use Rattle.module_types.proofs.WellNamed.{types-before, types-last}
 use Rattle.module_types.proofs.NamedLists.{well-named}
 use Rattle.module_types.proofs.Standing.{list-size, stands-at}
 
--- ---- exception types and the startup type come behind
+-- ---- exception types and the startup type come after
 
 extends-alone : (b : Built) (t : Interned) → Extends b (alone b t None)
 extends-alone b t = record { types_more = t ∷ []; types = refl; groups_more = next_span b 1 ∷ []; groups = refl }

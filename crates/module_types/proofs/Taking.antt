@@ -107,7 +107,7 @@ module _ (all : List (Group ℕ ℕ)) where
     abbrev pub form : Home → List Interned
     form h = by_names (kind_at all) number h.members
 
-    -- a group of the list comes next, behind the types that were interned
+    -- a group of the list comes next, after the types that were interned
     pub record Next (b : Built) (h : Home) : Type 0 where
       pub some : 0 < length h.members
       pub at : home all h.start ≡ h
@@ -408,7 +408,7 @@ module _ (all : List (Group ℕ ℕ)) where
               ];
         }
 
-        -- what follows behind the group's interned form
+        -- what follows the group's interned form
         whole-new : (end : Taken) (hs : List Home) → Whole end (take_group all b start g None).built (here ∷ done) hs
             → Whole end b.built done (here ∷ hs)
         whole-new end hs w = record {

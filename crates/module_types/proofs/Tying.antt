@@ -69,7 +69,7 @@ func-same f g c x y = let e : Func f ≡ Func g = sym x ∙ y in cc
 -- ---- steps
 
 module _ (b : Built) (tied : IsTied b) where
-  -- a type behind the others, which has no trampoline
+  -- a type after the others, which has no trampoline
   pub tied-alone : (t : Interned) → IsTied (alone b t None)
   tied-alone t = record {
     sized = length-append b.trampolines (None ∷ []) ∙ ap (λ n. n + 1) tied.sized ∙ sym (length-append b.types (t ∷ []));

@@ -1,4 +1,4 @@
--- A group that comes behind a well named list leaves it well named.
+-- A group that is appended to a well named list leaves it well named.
 use Rattle.std.proofs.Common.{◌≡◌, ◌∙◌, ◌<◌, ◌≤◌, ℕ, ◌+◌, ◌-◌, List, [], ◌∷◌, ◌++◌, length, take, drop, map, refl, sym, ap, subst, arith, length-append}
 use Rattle.std.specs.List.{All}
 use Rattle.std.proofs.lemmas.List.{length-map, map-append, drop-append-le, take-append-le, length-drop, length-take-le}
@@ -84,7 +84,7 @@ kind-mapped h f (Struct ts) = refl
 kind-mapped h f (Cont t) = refl
 kind-mapped h f (Exn t) = refl
 
--- kinds stay where types come behind
+-- kinds stay where types are appended
 pub kind-before : (ts us : List Interned) (i : ℕ) → i < length ts → kind_in (ts ++ us) i ≡ kind_in ts i
 kind-before ts us i lt = ap (λ c. kind_of_type c) (composite-before ts us i lt)
 

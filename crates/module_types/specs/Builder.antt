@@ -26,7 +26,7 @@ pub record BuilderState : Type 0 where
   pub is_poisoned : Bool
 
 -- what was built; the group that was interned under each id, the exception type of each function type, and the startup type; and whether
--- a growing call answered an error
+-- a growing call returned an error
 pub record Builder : Type 0 where
   pub validator : ℕ
   pub built : Built
@@ -77,7 +77,7 @@ abbrev pub interns_by : Builder → ℕ → List Interned → Option ℕ → Bui
 interns_by b id ts (Some k) = b
 interns_by b id ts None = record b { built = with_group b.built ts; ids = noted b.ids id (length b.built.groups) }
 
--- where the id is held nothing changes, and else the group is appended with its missing trampolines
+-- where the id is held nothing changes, and otherwise the group is appended with its missing trampolines
 abbrev pub interns : Builder → ℕ → List Interned → Builder
 interns b id ts = interns_by b id ts (b.ids id)
 

@@ -1,4 +1,4 @@
--- What a look-up closure answers for the types of a module.
+-- What a look-up closure returns for the types of a module.
 use Rattle.std.specs.Prelude.{◌≡◌, ◌<◌, ℕ}
 use Rattle.std.proofs.Common.{sym, subst}
 use Rattle.std.proofs.Math.Logic.{∥∥₁_prop, ∥∥₁_elim}
@@ -9,7 +9,7 @@ use Rattle.wasm_index.specs.declared.spaces.TypeSpace.{TypeSpace}
 use Rattle.wasm_index.specs.Index.{number_of, index_of}
 use Rattle.module_types.specs.Views.{TypeIndex}
 
--- what a closure may answer at an index, and how many types are interned
+-- what a closure may return at an index, and how many types are interned
 module _ (Gives : Index TypeSpace → TypeIndex → Type 0) (count : ℕ) where
   -- its one answer for a type of the module: an interned type
   pub record Answer (i : ℕ) : Type 0 where

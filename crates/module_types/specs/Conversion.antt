@@ -11,7 +11,6 @@ use Rattle.wasm_types.specs.ValueViews.{Name}
 use Rattle.module_types.specs.Views.{index_at}
 use Rattle.module_types.specs.Builder.{Builder}
 
--- the number of an id
 abbrev pub id_number : UnpackedIndex → ℕ
 id_number (index.Id i) = i.0
 id_number _ = 0

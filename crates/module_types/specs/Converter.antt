@@ -43,7 +43,7 @@ module _ (Gives : Index TypeSpace → TypeIndex → Type 0) (b : BuilderState) (
   number_by i true e = (answers i (ltb-true i bound e)).number
   number_by i false e = 0
 
-  -- the interned index that the closure answers
+  -- the interned index that the closure returns
   unfoldable pub answered : ℕ → ℕ
   answered i = number_by i (nat_lt i bound) refl
 

@@ -12,7 +12,6 @@ use Rattle.module_types.specs.Views.{TypeIndex}
 abbrev pub part_at : {T : Type 0} → (WasmCompositeInnerType → Option T) → List WasmSubType → TypeIndex → Option T
 part_at part types i = option_and_then (λ (t : WasmSubType). part t.composite_type.inner) (slice_get types (number_of i))
 
--- one `i32`
 abbrev pub is_one_i32 : List WasmValType → Bool
 is_one_i32 (val.I32 ∷ []) = true
 is_one_i32 _ = false

@@ -5,13 +5,13 @@ ghost use Rattle.std.specs.Prelude.{◌≡◌};
 use entity_map::OutOfMemory;
 use thiserror::Error;
 
-/// Why a growing call of a builder answers an error.
+/// Why a growing call of a builder returns an error.
 #[derive(Clone, Copy, Debug, Drop, PartialEq, Eq, Error)]
 pub enum BuildError {
-    /// A list or a map found no memory.
+    /// Out of memory.
     #[error("out of memory")]
     OutOfMemory,
-    /// An earlier growing call answered an error.
+    /// An earlier growing call returned an error.
     #[error("an earlier call of the builder failed")]
     Poisoned,
 }

@@ -1,4 +1,4 @@
-//! Groups behind one another, with the trampolines of their functions.
+//! Groups one after another, with the trampolines of their functions.
 
 ghost use Rattle.std.specs.Prelude.{◌≡◌, ◌+◌, ◌-◌, ◌<◌, ◌≤◌, length, map, drop, IfOk, OnOk, IsTrue, true};
 ghost use Rattle.std.specs.Option.{option_map};

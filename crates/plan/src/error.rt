@@ -24,7 +24,7 @@ pub enum TranslateError {
     TooLarge,
     /// An object's size or the context's passes 4294967295 bytes.
     OffsetOverflow,
-    /// There was no memory.
+    /// Out of memory.
     OutOfMemory,
 }
 

@@ -1,8 +1,8 @@
-//! A case: what is given to a run, and what it is to give.
+//! A case: what is given to a run, and what it must give.
 
 use std::alloc::{AllocError, Global};
 
-/// Why lines are no case.
+/// Why lines are not a case.
 #[derive(Clone, Copy)]
 pub enum CaseError {
     OutOfMemory,
@@ -10,13 +10,13 @@ pub enum CaseError {
     UnknownLine,
     /// A line stands before the name, or there is a second name.
     Name,
-    /// A piece is no byte of two digits, no text in quotes and no run of bytes.
+    /// A piece is neither bytes of two hexadecimal digits each, nor text in quotes, nor a run of bytes.
     UnknownPiece,
-    /// A number is missing, is none, or is out of its range.
+    /// A number is missing, is not a number, or is out of its range.
     NoNumber,
 }
 
-/// What is printed of an error.
+/// The words that are printed for an error.
 pub fn words_of_error(error: CaseError) -> &'static str {
     match error {
         CaseError::OutOfMemory => "out of memory",
@@ -65,11 +65,11 @@ pub struct DataBytes {
     pub bytes: Vec<u8>,
 }
 
-/// What a run is to give.
+/// What a run must give.
 #[derive(Drop)]
 pub struct Expected {
     pub status: u64,
-    /// The text that is written, and whether the whole of it is said.
+    /// The text that is written, and whether the case gives the whole of it.
     pub text: String,
     pub is_text_said: bool,
     /// Lines that the text has.
@@ -78,7 +78,7 @@ pub struct Expected {
     pub counts: Vec<LineCount>,
     /// What the plan's runtime data are.
     pub data: Vec<DataBytes>,
-    /// How many bytes are read, where that is said.
+    /// How many bytes are read, where the case says.
     pub read: Option<u64>,
 }
 
@@ -117,7 +117,7 @@ fn plain_expected(alloc: Global) -> Expected {
     }
 }
 
-/// The case of no line.
+/// The case without lines.
 pub fn empty_case(alloc: Global) -> Result<Box<Case>, AllocError> {
     let case = Case {
         name: String::new(alloc),

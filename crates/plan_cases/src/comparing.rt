@@ -1,19 +1,19 @@
-//! What a run gave beside what it was to give.
+//! What a run gave, compared with what it must give.
 
 use crate::case::{Case, DataBytes, Expected, LineCount};
 use crate::running::Outcome;
 
-/// What is not as it was to be.
+/// What differs from what is expected.
 #[derive(Clone, Copy)]
 pub enum Difference<'a> {
     Status(u64),
     Read,
     Text,
-    /// There is no such line.
+    /// The text lacks this line.
     Line(&'a str),
-    /// Another number of lines begins so.
+    /// Another number of lines begins with these words.
     Count(&'a LineCount),
-    /// The runtime data of this number are others.
+    /// The runtime data of this number differ.
     Data(u64),
 }
 
@@ -36,7 +36,6 @@ fn count_lines(text: &str, words: &str) -> u64 {
     count
 }
 
-/// Whether the text has this line.
 fn has_line(text: &str, wanted: &str) -> bool {
     for line in text.lines() {
         if line == wanted {
@@ -46,7 +45,7 @@ fn has_line(text: &str, wanted: &str) -> bool {
     false
 }
 
-/// The first of the lines that the text has not.
+/// The first of the lines that the text lacks.
 fn missing_line<'a>(lines: &'a [String], text: &str) -> Option<Difference<'a>> {
     for line in lines {
         if !has_line(text, line.as_str()) {
@@ -66,7 +65,7 @@ fn wrong_count<'a>(counts: &'a [LineCount], text: &str) -> Option<Difference<'a>
     None
 }
 
-/// The first of the data that are others.
+/// The first of the runtime data that differ.
 fn wrong_data<'a>(wanted: &'a [DataBytes], data: &[Vec<u8>]) -> Option<Difference<'a>> {
     for one in wanted {
         match data.get(one.place as usize) {
@@ -77,7 +76,7 @@ fn wrong_data<'a>(wanted: &'a [DataBytes], data: &[Vec<u8>]) -> Option<Differenc
     None
 }
 
-/// What differs of the status, of the bytes that were read and of the whole text.
+/// The difference in the status, in how many bytes were read or in the whole text.
 fn wrong_end<'a>(expected: &'a Expected, outcome: &Outcome) -> Option<Difference<'a>> {
     if u64::from(outcome.status) != expected.status {
         return Some(Difference::Status(expected.status));
@@ -93,12 +92,12 @@ fn wrong_end<'a>(expected: &'a Expected, outcome: &Outcome) -> Option<Difference
     None
 }
 
-/// What the text holds; nothing where it is no text.
+/// The text that was written; empty where the bytes are not text.
 pub fn text_of(outcome: &Outcome) -> &str {
     str::from_utf8(outcome.text.as_slice()).unwrap_or("")
 }
 
-/// The first thing that the run gave and was not to give.
+/// The first difference between what the run gave and what it must give.
 pub fn difference_of<'a>(case: &'a Case, outcome: &Outcome) -> Option<Difference<'a>> {
     let expected = &case.expected;
     let text = text_of(outcome);

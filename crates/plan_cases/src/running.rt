@@ -17,7 +17,6 @@ pub struct Outcome {
     pub data: Vec<Vec<u8>>,
 }
 
-/// The bytes of runtime data.
 fn slice_of<'a>(data: &'a RuntimeBytes<'_>) -> &'a [u8] {
     match data {
         RuntimeBytes::Borrowed(bytes) => bytes,
@@ -59,13 +58,13 @@ fn outcome_over(
     })
 }
 
-/// The first bytes that are given, up to so many.
+/// The first `length` bytes that are given, or all where there are fewer.
 fn first_bytes(given: &Given, length: u64) -> &[u8] {
     let end = given.bytes.len().min(length as usize);
     &given.bytes[..end]
 }
 
-/// What a run of the case over so many of its bytes gives.
+/// What a run of the case gives over the first `length` of its bytes.
 pub fn outcome_of(alloc: Global, case: &Case, length: u64) -> Result<Outcome, CaseError> {
     let given = &case.given;
     if given.piece == 0 || given.most == 0 {

@@ -5,7 +5,7 @@ use crate::comparing::{Difference, text_of};
 use crate::running::Outcome;
 use std::io;
 
-/// Tells what differs.
+/// Prints what differs.
 fn tell_difference(rt: &HostRuntime, difference: Difference<'_>) -> io::Result<()> {
     match difference {
         Difference::Status(status) => println!(rt; "the status is not {status}"),
@@ -19,7 +19,7 @@ fn tell_difference(rt: &HostRuntime, difference: Difference<'_>) -> io::Result<(
     }
 }
 
-/// Tells the bytes of runtime data, as a line of a case.
+/// Prints the bytes of runtime data, as a line of a case.
 fn tell_bytes(rt: &HostRuntime, place: usize, bytes: &[u8]) -> io::Result<()> {
     print!(rt; "data {place}")?;
     for byte in bytes {
@@ -28,7 +28,7 @@ fn tell_bytes(rt: &HostRuntime, place: usize, bytes: &[u8]) -> io::Result<()> {
     println!(rt)
 }
 
-/// Tells how a case failed, and what it gave.
+/// Prints how a case failed, and what it gave.
 pub fn tell_outcome(
     rt: &HostRuntime,
     path: &str,
@@ -48,7 +48,7 @@ pub fn tell_outcome(
     Ok(())
 }
 
-/// Tells why a block is no case, or why its case could not be run.
+/// Prints why a block is not a case, or why its case could not be run.
 pub fn tell_fault(rt: &HostRuntime, path: &str, block: &str, fault: CaseError) -> io::Result<()> {
     println!(rt; "FAILED {path}: {}", words_of_error(fault))?;
     println!(rt; "{block}")

@@ -12,7 +12,7 @@ unfoldable pub hexadecimal : ℕ → ℕ → List ℕ
 hexadecimal zero n = []
 hexadecimal (suc others) n = hexadecimal others (n / 16) ++ digit_glyph false (n % 16) ∷ []
 
--- the name of an operator
+-- the name of an operator in the text format (core specification, 6.5, instructions)
 abbrev pub name_of_operator : ConstOp → List ℕ
 name_of_operator (ops.I32Const value) = codes "i32.const"
 name_of_operator (ops.I64Const value) = codes "i64.const"

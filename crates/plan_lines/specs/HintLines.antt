@@ -1,4 +1,4 @@
--- The lines of the hints of branches.
+-- The lines of branch hints.
 use Rattle.std.specs.Prelude.{ℕ, List, [], ◌∷◌, length, Option, Some, None, codes}
 use Rattle.wasm_index.specs.declared.index.Index.{Index}
 use Rattle.wasm_index.specs.declared.spaces.FuncSpace.{FuncSpace}

@@ -15,7 +15,6 @@ use Rattle.plan_lines.specs.Numbers.{named_number}
 abbrev pub refs_text : Bool → List ℕ
 refs_text refs = if refs then codes " refs yes\n" else codes " refs no\n"
 
--- the layout of an array
 unfoldable pub array_layout_line : Index ModuleInternedTypeSpace → GcArrayLayout → List ℕ
 array_layout_line index a =
     named_number (codes "layout") (number_of index) ++ named_number (codes " array base") a.base_size

@@ -23,6 +23,6 @@ abbrev pub passive_lines : Index DataSpace → Option (Index RuntimeDataSpace) �
 passive_lines segment None = []
 passive_lines segment (Some index) = numbers_line (codes "passive-data") (number_of segment ∷ number_of index ∷ [])
 
--- the range of a runtime data
+-- the range of one byte string of the runtime data
 abbrev pub runtime_line : Index RuntimeDataSpace → Range ℕ → List ℕ
 runtime_line index range = numbers_line (codes "runtime") (number_of index ∷ range.start ∷ range.end ∷ [])

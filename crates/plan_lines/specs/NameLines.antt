@@ -45,7 +45,6 @@ import_line pool place name field e =
 unfoldable pub export_line : List (List ℕ) → Atom → EntityIndex → List ℕ
 export_line pool name e = codes "export " ++ quoted_atom pool name ++ codes " " ++ entity_text e ++ codes "\n"
 
--- the name of the module
 unfoldable pub module_name_line : List (List ℕ) → Atom → List ℕ
 module_name_line pool name = codes "name " ++ quoted_atom pool name ++ codes "\n"
 
@@ -58,6 +57,5 @@ abbrev pub HasName : List (List ℕ) → Option Atom → Type 0
 HasName pool None = Unit {0}
 HasName pool (Some name) = IsInPool pool name
 
--- the name of a function
 unfoldable pub function_name_line : Index FuncSpace → List ℕ → List ℕ
 function_name_line index name = codes "func-name " ++ decimal (number_of index) ++ codes " " ++ quoted_text name ++ codes "\n"

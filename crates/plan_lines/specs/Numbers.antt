@@ -14,7 +14,7 @@ numbers_line word numbers = word ++ spaced decimal numbers ++ codes "\n"
 unfoldable pub named_number : List ℕ → ℕ → List ℕ
 named_number words number = words ++ codes " " ++ decimal number
 
--- a line for each item of a list, which is told its index
+-- a line for each item of a list, made of the index and the item
 abbrev pub keyed_lines : {Space X : Type 0} → (Index Space → X → List ℕ) → List X → List ℕ
 keyed_lines line xs = flat_map (λ p. line p.0 p.1) (keyed index_of xs)
 

@@ -15,7 +15,6 @@ use Rattle.plan_lines.specs.Numbers.{named_number}
 abbrev pub cell_text : Index FuncSpace → List ℕ
 cell_text f = if number_of f == reserved_number then codes " null" else codes " " ++ decimal (number_of f)
 
--- the image of a table
 unfoldable pub table_image_line : Index DefinedTableSpace → List (Index FuncSpace) → List ℕ
 table_image_line table cells =
     named_number (codes "table-image") (number_of table) ++ codes " " ++ decimal (length cells) ++ flat_map cell_text cells ++ codes "\n"

@@ -15,7 +15,6 @@ abbrev pub trampoline_text : Option (Index ModuleInternedTypeSpace) → List ℕ
 trampoline_text None = []
 trampoline_text (Some trampoline) = named_number (codes " trampoline") (number_of trampoline)
 
--- an interned type
 unfoldable pub type_line : Index ModuleInternedTypeSpace → WasmSubType → Option (Index ModuleInternedTypeSpace) → List ℕ
 type_line index type trampoline =
     codes "type " ++ decimal (number_of index) ++ codes " " ++ sub_text type ++ trampoline_text trampoline ++ codes "\n"

@@ -1,4 +1,4 @@
-//! The lines of the hints of branches.
+//! The lines of branch hints.
 
 ghost use Rattle.std.specs.Prelude.{◌≡◌, ◌++◌, OnOk};
 ghost use Rattle.std.specs.Option.{option_map};

@@ -68,7 +68,7 @@ impl Text {
         self.push_str(buffer.format(number))
     }
 
-    /// Appends the last digits of a number in base 16, so many of them, with zeros in front where it has fewer.
+    /// Appends the last `digits` digits of a number in base 16, with zeros in front where it has fewer.
     pub fn push_hexadecimal(&mut self, number: u128, digits: usize) -> Result<(), OutOfMemory>
         requires { digits ≤ 32 }
         ensures { OnOk result (self.new ≡ self.old ++ hexadecimal digits number) }

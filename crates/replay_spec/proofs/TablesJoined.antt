@@ -200,7 +200,7 @@ keeps-some lazy t x h = over (is_imaged_from_start lazy t) h where
   over true e = absurd (none-some x e)
   over false e = e
 
--- nothing is left behind the end of an image
+-- nothing is left past the end of an image
 pub past-image : (lazy : Bool) (taken : List ActiveElements) (m place : ℕ) (t : DefinedTable) → kept_initial lazy t ≡ None → place < t.minimum
     → image_length lazy taken m t ≤ place → last_item m place (initial_function t.initial) (map image_piece taken) ≡ None
 past-image lazy taken m place t keeps within le = ⊎_elim

@@ -235,7 +235,6 @@ module _ (l : Lists) (visible : List GlobalType) (globals : List Value) (have : 
       let more = leads ops way.0 after here.0 way.2 (subst (AreOfClasses here.0) (sym step.has_pushed) here.2) in
       (more.0, ap (option_and_then (run (λ op. acted (action globals (field_count l) op)) ops)) here.1 ∙ more.1, more.2)
 
-  -- the value of an expression of a class
   pub value-of-class : (e : Expression) (c : Class) → HasClass l visible e c → IsSomeAnd (eval globals (field_count l) e) (λ v. IsOfClass v c)
   value-of-class e c h =
       let all = leads e [] (c ∷ []) [] h tt in

@@ -64,7 +64,7 @@ pub record IsGlobalPlan (initialisers : List Expression) (plan : GlobalPlan) : T
   pub simple : plan.simple ≡ filter_map simple_of (enumerate_from 0 initialisers)
   pub kept : plan.kept ≡ filter_map kept_of (enumerate_from 0 initialisers)
 
--- over any struct types and any values of so many imported globals, the plan gives each global the value that the module gives it
+-- over any struct types and any values of a given number of imported globals, the plan gives each global the value that the module gives it
 abbrev pub AgreesOnGlobals : ℕ → List Expression → GlobalPlan → Type 0
 AgreesOnGlobals imports initialisers plan = (fields : ℕ → ℕ) (imported : List Value) → length imported ≡ imports
     → planned_globals fields imported plan ≡ values_after fields imported initialisers

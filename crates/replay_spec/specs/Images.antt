@@ -129,7 +129,7 @@ abbrev pub ImageOf : ℕ → (ℕ → ℕ) → Option MemoryImage → Type 0
 ImageOf page contents None = (place : ℕ) → contents place ≡ 0
 ImageOf page contents (Some image) = IsImage page contents image
 
--- the images of so many memories, imported ones first
+-- the images of a given number of memories, imported ones first
 pub record AreImages (page memories : ℕ) (active : List ActiveSegment) (images : List (Option MemoryImage)) : Type 0 where
   pub count : length images ≡ memories
   pub each : (m : ℕ) (image : Option MemoryImage) → slice_get images m ≡ Some image → ImageOf page (written_on active m) image
@@ -149,7 +149,7 @@ entries_of memory (None ∷ images) = entries_of (memory + 1) images
 entries_of memory (Some image ∷ images) =
     record { memory = memory; offset = Static image.0; index = image.1 } ∷ entries_of (memory + 1) images
 
--- the bytes of the images
+-- the bytes of each image that there is, in the order of the memories
 abbrev pub image_bytes : List (Option MemoryImage) → List (List ℕ)
 image_bytes [] = []
 image_bytes (None ∷ images) = image_bytes images
@@ -173,7 +173,7 @@ pub record PlansSegments (options : ImageOptions) (imports : ℕ) (memories : Li
   pub in_list : plan.segments ≡ planned_from 0 active
   pub runtime : plan.runtime ≡ map (λ s. s.bytes) active ++ passive
 
--- the plan of the active segments of a module with so many imported memories and these defined ones
+-- the plan of the active segments of a module with a given number of imported memories and these defined ones
 pub record IsMemoryPlan (options : ImageOptions) (imports : ℕ) (memories : List ImageMemory) (active : List ActiveSegment)
     (passive : List (List ℕ)) (plan : MemoryPlan) : Type 0 where
   pub sizes : plan.sizes ≡ map size_of memories

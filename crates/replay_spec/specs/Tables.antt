@@ -117,7 +117,7 @@ pub record TablePlan : Type 0 where
   pub tables : List PlannedTable
   pub segments : List ActiveElements
 
--- the plan of the tables and active element segments of a module with so many imported tables
+-- the plan of the tables and active element segments of a module with a given number of imported tables
 pub record IsTablePlan (lazy : Bool) (imports : ℕ) (tables : List DefinedTable) (active : List ActiveElements) (plan : TablePlan) : Type 0 where
   pub taken : List ActiveElements
   pub prefix : TakesPrefix lazy imports tables active taken plan.segments
@@ -148,7 +148,7 @@ module _ (globals : List Value) (fields : ℕ → ℕ) where
     pieces = map (elements_piece globals fields) plan.segments;
   }
 
--- over any values of globals, any struct types, and any contents of so many imported tables, the plan leaves what the segments leave,
+-- over any values of globals, any struct types, and any contents of a given number of imported tables, the plan leaves what the segments leave,
 -- and traps where they trap
 abbrev pub AgreesOnTables : ℕ → List DefinedTable → List ActiveElements → TablePlan → Type 0
 AgreesOnTables imports tables active plan = (globals : List Value) (fields : ℕ → ℕ) (imported : List (List Value)) → length imported ≡ imports

@@ -87,7 +87,7 @@ converted f _ = None
 abbrev pub converts : (Term → Term) → Action
 converts f = record { takes = 1; makes = converted f }
 
--- an operator that allocates takes so many values
+-- an operator that allocates takes a given number of values
 abbrev pub allocates : Operator → ℕ → Action
 allocates operator n = record { takes = n; makes = λ taken. Some (Ref (Allocated operator (arguments_of taken))) }
 

@@ -10,7 +10,7 @@ use Rattle.wasm_spec.specs.Module.{Expression, Active, Segment, Memories, Segmen
 abbrev pub any_heap : HeapType
 any_heap = Abstract Any
 
--- so many ones, and then the additions that leave their sum
+-- n ones, and then the additions that leave their sum
 abbrev pub ones_added : ℕ → Expression
 ones_added n = replicate n (I32Const (pos 1)) ++ replicate (n - 1) I32Add
 

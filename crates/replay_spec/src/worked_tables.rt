@@ -1,4 +1,4 @@
-//! Worked examples of tables, globals and startup: each clause computes, or is answered by its parts.
+//! Worked examples of tables, globals and startup: each clause computes, or is proved from its parts.
 
 ghost use Rattle.std.specs.Prelude.{◌≡◌, [], ◌∷◌, Some, None, pos, true};
 ghost use Rattle.wasm_spec.specs.declared.operators.Operator.TheVariants as op;
@@ -27,7 +27,7 @@ pub fn worked_element_phases()
 /// Which segments are taken into the image of a table.
 pub fn worked_table_images()
     ensures functions_and_null { IsTablePlan true 0 (four_cells ∷ []) (three_cells ∷ []) (imaged (None ∷ Some 0 ∷ None ∷ Some 0 ∷ [])) }
-    // Nothing behind a segment that is kept is taken.
+    // Nothing after a segment that is kept is taken.
     ensures prefix { TakesPrefix true 0 (four_cells ∷ []) (three_cells ∷ from_a_global ∷ three_cells ∷ []) (three_cells ∷ []) (from_a_global ∷ three_cells ∷ []) }
     // An offset is a constant of an integer class.
     ensures sum { constant_place (op.I32Const (pos 1) ∷ op.I32Const (pos 2) ∷ op.I32Add ∷ []) ≡ Some 3 }

@@ -20,7 +20,7 @@ pub record TypesAreNamed (l : Lists) : Type 0 where
 abbrev pub locals : Body → ℕ
 locals b = sum_by (λ (run : ℕ × ValType). run.0) b.locals
 
--- as many bodies as functions, as many data segments as are said, and locals of 32 bits (5.5, code section and modules)
+-- as many bodies as functions, as many data segments as stated, and locals of 32 bits (5.5, code section and modules)
 pub record CountsAgree (l : Lists) : Type 0 where
   pub bodies : length l.functions ≡ l.imported_functions + length l.bodies
   pub data_segments : All (λ count. count ≡ length l.segments) l.data_counts
@@ -66,7 +66,7 @@ Satisfies rule.L10 l = AllReferIn (length l.types) l
 abbrev pub Keeps : Module → Type 0
 Keeps m = (r : Rule) → Satisfies r (lists_of_module m)
 
--- the number of a rule, in the order of which rules are asked
+-- the number of a rule: rules are checked in the order of their numbers
 abbrev pub number_of : Rule → ℕ
 number_of rule.L1 = 1
 number_of rule.L2 = 2

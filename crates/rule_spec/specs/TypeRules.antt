@@ -7,7 +7,7 @@ use Rattle.rule_spec.specs.Lists.{Declared, Lists, kind_at}
 
 -- ---- indices below a bound
 
--- the index is below a bound; what is no index of the module is below none
+-- the index is below a bound; what is not an index of the module is below none
 abbrev pub IsBelow : ℕ → UnpackedIndex → Type 0
 IsBelow bound (Module index) = index < bound
 IsBelow bound _ = ⊥

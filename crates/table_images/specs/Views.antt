@@ -27,7 +27,7 @@ cell_of index = if number_of index == 4294967295 then None else Some (number_of 
 abbrev pub image_of : List (Index FuncSpace) → List (Option ℕ)
 image_of indices = map cell_of indices
 
--- the items of a segment; of their type only that they are references is told
+-- the items of a segment; of their type only that they are references is kept
 abbrev pub items_of : TableSegmentElements → ElementItems
 items_of (elements.Functions functions) = plain.Functions (map number_of functions.items)
 items_of (elements.Expressions ty expressions) =

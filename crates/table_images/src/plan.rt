@@ -16,7 +16,7 @@ use wasm_index::{DefinedTableIndex, FuncIndex};
 use wasm_module::{TableInitialValue, TableInitialization, TableSegment};
 use wasm_types::Table;
 
-// Lays the segments into the images up to the first that may not be taken, and tells how many are taken.
+// Lays the segments into the images up to the first that may not be taken, and returns how many are taken.
 fn take_segments(
     images: &mut [Vec<FuncIndex>],
     imported: usize,

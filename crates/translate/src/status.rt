@@ -15,7 +15,7 @@ pub const READ_FAILED: u8 = 3;
 /// A write failed.
 pub const WRITE_FAILED: u8 = 4;
 
-/// There was no memory.
+/// Out of memory.
 pub const NO_MEMORY: u8 = 5;
 
 const _: () = prove!(SUCCESS == 0);

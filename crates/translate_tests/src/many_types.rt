@@ -25,7 +25,7 @@ const PLAIN: Tunables = Tunables {
     signals_based_traps: false,
 };
 
-/// A function type of 64 parameters, the last 17 of which tell its number: an i64 for each binary digit 1, the lowest first, and else an i32.
+/// A function type of 64 parameters, the last 17 of which tell its number: an i64 for each binary digit 1, the lowest first, an i32 for 0.
 fn push_type(bytes: &mut Vec<u8>, number: u32) -> Result<(), AllocError> {
     bytes.extend_from_slice(&[0x60, 0x40])?;
     for _ in 0..47 {
@@ -40,7 +40,7 @@ fn push_type(bytes: &mut Vec<u8>, number: u32) -> Result<(), AllocError> {
     Ok(())
 }
 
-/// The module of so many types, no two of which are equal.
+/// The module of `COUNT` types, no two of which are equal.
 fn many_types(alloc: Global) -> Result<Vec<u8>, AllocError> {
     let mut bytes = Vec::with_capacity(alloc, 6_700_016)?;
     bytes.extend_from_slice(&HEAD)?;
@@ -50,7 +50,7 @@ fn many_types(alloc: Global) -> Result<Vec<u8>, AllocError> {
     Ok(bytes)
 }
 
-/// What of the plan is looked at.
+/// The numbers of the plan that the test looks at.
 #[derive(Debug, PartialEq, Eq, Clone, Copy)]
 struct PlanNumbers {
     bytes: usize,

@@ -17,7 +17,6 @@ const EXCEPTION: [u8; 21] = [
     0x0D, 0x03, 0x01, 0x00, 0x00,
 ];
 
-/// The words of a line.
 fn words_of(alloc: Global, line: &str) -> Result<Vec<String>, AllocError> {
     let mut words = Vec::new(alloc);
     for word in line.split(' ') {
@@ -38,7 +37,7 @@ fn run_over(alloc: Global, line: &str, bytes: &[u8]) -> Result<(u8, Vec<u8>), Ou
     Ok((status, Vec::from_slice(alloc, sink.held())?))
 }
 
-/// Each run ends with a text, or with no memory and nothing written.
+/// Each run ends with a text, or out of memory with nothing written.
 #[test]
 fn running_out_of_memory_writes_nothing(rt: HostRuntime) -> Result<(), Fail> {
     let runs: [(&str, &[u8], &str); 3] = [

@@ -116,7 +116,7 @@ assign_trampolines b i (t ∷ ts) = assign_trampolines (assign_trampoline b i t.
 
 -- ---- groups
 
--- a group behind the others, whose functions have no trampolines yet
+-- a group after the others, whose functions have no trampolines yet
 abbrev pub opened : Built → List Interned → Built
 opened b ts = record b {
   types = b.types ++ ts;
@@ -124,11 +124,10 @@ opened b ts = record b {
   trampolines = b.trampolines ++ replicate (length ts) None;
 }
 
--- a group behind the others, and then the trampolines that are missing
+-- a group after the others, and then the trampolines that are missing
 abbrev pub with_group : Built → List Interned → Built
 with_group b ts = assign_trampolines (opened b ts) (length b.types) ts
 
--- the kind of a type
 abbrev pub kind_of_type : {H R : Type 0} → Composite H R → NameKind
 kind_of_type (Func f) = FuncName
 kind_of_type (Array f) = ArrayName

@@ -17,7 +17,7 @@ use crate::part::ContextPart;
 use std::marker::Model;
 use vm_structs::PtrSize;
 
-/// Gives the description and the size, in bytes, of each region of a context. It means the list of those that are left.
+/// Gives the description and the size, in bytes, of each region of a context. A contract sees the list of those that are left.
 #[derive(Drop)]
 pub struct RegionSizes {
     parts: [ContextPart; 15],

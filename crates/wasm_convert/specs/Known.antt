@@ -8,7 +8,7 @@ use Rattle.type_data.specs.Names.{FuncName}
 use Rattle.wasm_convert.specs.Conversion.{LookUp}
 
 module _ (known : UnpackedIndex → Type 0) where
-  -- an index that is known, and that is no place in a group
+  -- an index that is known, and that is not a place in a group
   abbrev pub CanLookUp : UnpackedIndex → Type 0
   CanLookUp (index.Module i) = known (index.Module i)
   CanLookUp (index.Id i) = known (index.Id i)

@@ -1,4 +1,4 @@
--- Operators of constant expressions (core specification, 3.4.15) in a translated module, and the operators that were read.
+-- Operators of constant expressions (core specification, 3.4, constant expressions) in a translated module, and the operators that were read.
 use Rattle.std.specs.Prelude.{◌<◌, ⊤}
 use Rattle.wasm_spec.specs.declared.types.UnpackedIndex.{UnpackedIndex}
 use Rattle.wasm_spec.specs.declared.types.HeapType.TheVariants.{Abstract}

@@ -51,7 +51,7 @@ impl ConstExpr {
     /// The expression of these operators.
     ///
     /// # Errors
-    /// `OutOfMemory` where more than two operators find no memory.
+    /// `OutOfMemory`, only for more than two operators.
     pub fn new(alloc: Global, ops: &[ConstOp]) -> Result<Self, OutOfMemory>
         requires { 0 < length ops.now }
         ensures listed { IfOk result (λ e. e ≡ ops.now) }
@@ -66,7 +66,7 @@ impl ConstExpr {
     /// in order: those escape. Of the expression each heap type must be known, and each index below `u32::MAX`.
     ///
     /// # Errors
-    /// `OutOfMemory` where more than two operators, or more than one function, find no memory.
+    /// `OutOfMemory`, only for more than two operators or more than one function.
     pub fn from_wasmparser(
         alloc: Global,
         env: &dyn TypeConvert,
@@ -119,7 +119,7 @@ impl ConstExpr {
     /// An equal expression.
     ///
     /// # Errors
-    /// `OutOfMemory` where more than two operators find no memory.
+    /// `OutOfMemory`, only for more than two operators.
     pub fn try_clone(&self, alloc: Global) -> Result<Self, OutOfMemory>
         ensures equal { IfOk result (λ e. e ≡ self.now) }
         ensures without_memory { length self.now ≤ 2 → IsOk result }

@@ -67,10 +67,10 @@ pub trait TypeConvert {
         }
     }
 
-    /// A subtype with its supertype and its composite type converted.
+    /// Converts a subtype, with its supertype and its composite type.
     ///
     /// # Errors
-    /// `OutOfMemory` where the lists of a composite type find no memory.
+    /// `OutOfMemory` where the lists of a composite type cannot be allocated.
     fn convert_sub_type(&self, alloc: Heap, ty: &SubType) -> Result<WasmSubType, OutOfMemory>
         requires known { Known (knows self.now) (sub_type_edges (λ i. i) (form.sub_type_of ty.now)) }
         requires can { CanConvert (look_up self.now) (form.composite_of ty.now.composite) }
@@ -83,10 +83,10 @@ pub trait TypeConvert {
         })
     }
 
-    /// A composite type. None that was read is shared.
+    /// Converts a composite type. None that was read is shared.
     ///
     /// # Errors
-    /// `OutOfMemory` where the lists of a function or struct type find no memory.
+    /// `OutOfMemory` where the lists of a function or struct type cannot be allocated.
     fn convert_composite_type(
         &self,
         alloc: Heap,
@@ -131,7 +131,7 @@ pub trait TypeConvert {
     /// The struct type of some fields.
     ///
     /// # Errors
-    /// `OutOfMemory` where the list of fields finds no memory.
+    /// `OutOfMemory` where the list of fields cannot be allocated.
     fn convert_struct_type(
         &self,
         alloc: Heap,
@@ -155,7 +155,7 @@ pub trait TypeConvert {
         WasmArrayType(self.convert_field_type(ty))
     }
 
-    /// A field type.
+    /// Converts a field type.
     fn convert_field_type(&self, ty: &FieldType) -> WasmFieldType
         requires { Known (knows self.now) (field_edges (λ i. i) (read.field_of ty.now)) }
         ensures { field_of result ≡ map_field (look_up self.now) (read.field_of ty.now) }
@@ -166,7 +166,7 @@ pub trait TypeConvert {
         }
     }
 
-    /// A storage type.
+    /// Converts a storage type.
     fn convert_storage_type(&self, ty: &StorageType) -> WasmStorageType
         requires { Known (knows self.now) (storage_edges (λ i. i) (read.storage_of ty.now)) }
         ensures { storage_of result ≡ map_storage (look_up self.now) (read.storage_of ty.now) }
@@ -178,10 +178,10 @@ pub trait TypeConvert {
         }
     }
 
-    /// A function type.
+    /// Converts a function type.
     ///
     /// # Errors
-    /// `OutOfMemory` where the lists of parameters and results find no memory.
+    /// `OutOfMemory` where the lists of parameters and results cannot be allocated.
     fn convert_func_type(&self, alloc: Heap, ty: &FuncType) -> Result<WasmFuncType, OutOfMemory>
         requires known { Known (knows self.now) (function_edges (λ i. i) (form.function_of ty.now)) }
         requires few { IsFew (form.function_of ty.now) }
@@ -197,7 +197,7 @@ pub trait TypeConvert {
         Ok(WasmFuncType::from_types(types, ty.params.len() as u32))
     }
 
-    /// A value type.
+    /// Converts a value type.
     fn convert_valtype(&self, ty: ValType) -> WasmValType
         requires { Known (knows self.now) (value_edges (λ i. i) (read.value_of ty)) }
         ensures { value_of result ≡ map_value (look_up self.now) (read.value_of ty) }
@@ -212,7 +212,7 @@ pub trait TypeConvert {
         }
     }
 
-    /// A reference type.
+    /// Converts a reference type.
     fn convert_ref_type(&self, ty: RefType) -> WasmRefType
         requires { Known (knows self.now) (reference_edges (λ i. i) (read.reference_of ty)) }
         ensures { reference_of result ≡ map_reference (look_up self.now) (read.reference_of ty) }
@@ -223,7 +223,7 @@ pub trait TypeConvert {
         }
     }
 
-    /// A heap type.
+    /// Converts a heap type.
     fn convert_heap_type(&self, ty: HeapType) -> WasmHeapType
         requires { Known (knows self.now) (heap_edges (λ i. i) (read.heap_of ty)) }
         ensures { heap_of result ≡ map_heap (look_up self.now) (read.heap_of ty) }

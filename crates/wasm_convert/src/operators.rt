@@ -10,7 +10,7 @@ use wasm_index::{FuncIndex, GlobalIndex, TypeIndex};
 use wasm_spec::{AbstractHeapType, HeapType, Operator};
 use wasm_types::WasmHeapType;
 
-/// An operator of a constant expression (core specification, 3.4.15). Floats and vectors are their bits.
+/// An operator of a constant expression (core specification, 3.4, constant expressions). Floats and vectors are their bits.
 #[derive(Clone, Copy, Debug, PartialEq, Eq, Hash)]
 pub enum ConstOp {
     I32Const(i32),

@@ -41,6 +41,6 @@ IsImported m e = entity_number e < imported_count m e
 abbrev pub IsExported : ModuleRecord → EntityIndex → Type 0
 IsExported m e = Contains (map (λ export. export.1) m.exports) e
 
--- how many of the first defined memories, so many, are not shared
+-- how many of the first `count` defined memories are not shared
 abbrev pub owned_memories : ModuleRecord → ℕ → ℕ
 owned_memories m count = length (filter (λ memory. not memory.shared) (take count (drop m.num_imported_memories m.memories)))

@@ -12,7 +12,7 @@ use Rattle.wasm_module.specs.declared.initializer.Initializer.TheVariants as ini
 use Rattle.wasm_module.specs.Record.{ModuleRecord}
 use Rattle.wasm_module.specs.Entities.{entity_type, IsImported}
 
--- the text of an atom
+-- the text of an atom, if it is in the pool
 abbrev pub text_of : ModuleRecord → Atom → Option (List ℕ)
 text_of m atom = slice_get m.strings (atom_number atom)
 

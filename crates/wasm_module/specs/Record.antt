@@ -78,7 +78,7 @@ record_of m = record {
   tags = m.tags;
 }
 
--- the record of no entity and no name
+-- the record without entities and names
 abbrev pub empty_record : Index StaticModuleSpace → ModuleRecord
 empty_record module_index = record {
   module_index = module_index;

@@ -5,7 +5,7 @@ use Rattle.std.specs.List.{range_with_len}
 use Rattle.wasm_index.specs.Index.{number_of, index_of}
 use Rattle.wasm_index.specs.declared.index.Index.{Index}
 
--- the index of a defined entity, after so many imported ones
+-- the index of a defined entity, after `imported` imported ones
 abbrev pub index_after : {Space Defined : Type 0} → ℕ → Index Defined → Index Space
 index_after imported defined = index_of (imported + number_of defined)
 
@@ -13,7 +13,7 @@ index_after imported defined = index_of (imported + number_of defined)
 abbrev pub defined_at : {Space Defined : Type 0} → ℕ → Index Space → Option (Index Defined)
 defined_at imported index = if nat_lt (number_of index) imported then None else Some (index_of (number_of index - imported))
 
--- the first indices, so many, in order
+-- the first `count` indices, in order
 abbrev pub first_indices : {Space : Type 0} → ℕ → List (Index Space)
 first_indices count = map index_of (range_with_len 0 count)
 

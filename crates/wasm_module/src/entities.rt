@@ -85,28 +85,27 @@ impl Module {
         }
     }
 
-    /// Whether some export is a table.
+    /// Whether a table is exported.
     pub fn is_exported_table(&self, i: TableIndex) -> bool
         ensures { IsTrue result ↔ IsExported (record_of self.now) (EntityIndex.Table i) }
     {
         self.exports_entity(i.into())
     }
 
-    /// Whether some export is a memory.
+    /// Whether a memory is exported.
     pub fn is_exported_memory(&self, i: MemoryIndex) -> bool
         ensures { IsTrue result ↔ IsExported (record_of self.now) (EntityIndex.Memory i) }
     {
         self.exports_entity(i.into())
     }
 
-    /// Whether some export is a global.
+    /// Whether a global is exported.
     pub fn is_exported_global(&self, i: GlobalIndex) -> bool
         ensures { IsTrue result ↔ IsExported (record_of self.now) (EntityIndex.Global i) }
     {
         self.exports_entity(i.into())
     }
 
-    // Whether some export is an entity.
     fn exports_entity(&self, e: EntityIndex) -> bool
         ensures { IsTrue result ↔ IsExported (record_of self.now) e }
     {

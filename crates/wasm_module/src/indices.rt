@@ -15,7 +15,7 @@ use wasm_index::{
 };
 use wasm_types::Memory;
 
-// The index of a defined entity, after so many imported ones.
+// The index of a defined entity, after `imported` imported ones.
 fn after_imports<Defined, Space>(imported: usize, defined: Index<Defined>) -> Index<Space>
     requires { imported + number_of defined < u32.MAX }
     ensures { result ≡ index_after imported defined }

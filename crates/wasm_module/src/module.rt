@@ -73,7 +73,7 @@ pub struct Module {
 }
 
 impl Module {
-    /// The record of no entity and no name.
+    /// The record without entities and names.
     pub fn new(alloc: Heap, module_index: StaticModuleIndex) -> Result<Self, OutOfMemory>
         ensures { IfOk result (λ m. record_of m ≡ empty_record module_index) }
     {

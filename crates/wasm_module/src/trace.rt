@@ -98,7 +98,7 @@ where
     trace_all_mut(list.as_mut_slice(), func)
 }
 
-/// The types of passive elements are no edges.
+/// The types of passive elements are not edges.
 impl TypeTrace for Module {
     ghost Data = { λ R. ModuleData (Named R) R };
 

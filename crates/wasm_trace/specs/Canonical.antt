@@ -38,13 +38,13 @@ module _ (table : Index ModuleInternedTypeSpace → Index VMSharedTypeSpace → 
   IsConsedEdge start (RecGroup i) new = ⊥
 
 module _ (may : Index ModuleInternedTypeSpace → Type 0) where
-  -- an edge that can become so: none is into a group, and the table may be asked for each module index
+  -- an edge that can become so: none is into a group, and the table may be called at each module index
   abbrev pub CanBeRuntimeEdge : EngineOrModuleTypeIndex → Type 0
   CanBeRuntimeEdge (Engine i) = ⊤
   CanBeRuntimeEdge (Module i) = may i
   CanBeRuntimeEdge (RecGroup i) = ⊥
 
-  -- an edge that can become so: none is into a group, the table may be asked below the range, and none is past it
+  -- an edge that can become so: none is into a group, the table may be called below the range, and none is past it
   abbrev pub CanBeConsedEdge : ℕ → ℕ → EngineOrModuleTypeIndex → Type 0
   CanBeConsedEdge start end (Engine i) = ⊤
   CanBeConsedEdge start end (Module i) = (number_of i < start → may i) × (start ≤ number_of i → number_of i < end)

@@ -12,7 +12,7 @@ ghost use Rattle.wasm_trace.specs.Runs.{Run, RunBoth, RunMut, RunBothMut, Change
 use crate::trace::TypeTrace;
 use wasm_types::EngineOrModuleTypeIndex;
 
-/// A run over two joined lists is the run over the first and, where that answers Ok, the run over the second.
+/// A run over two joined lists is the run over the first and, where that returns `Ok`, the run over the second.
 pub fn run_laws<F, E>()
 where
     F: FnMut(EngineOrModuleTypeIndex) -> Result<(), E>,

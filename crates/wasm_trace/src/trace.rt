@@ -27,14 +27,14 @@ pub trait TypeTrace {
     /// A value as data.
     ghost view: { Self → Data EngineOrModuleTypeIndex };
 
-    /// Visits each edge, in order. It stops at the first `Err` that a visit answers.
+    /// Visits each edge, in order. It stops at the first `Err` that a visit returns.
     fn trace<F, E>(&self, func: &mut F) -> Result<(), E>
     where
         F: FnMut(EngineOrModuleTypeIndex) -> Result<(), E>,
         requires { MayRun F.FnMut func.old (shape.edges (view self.now)) }
         ensures { Run F.FnMut func.old (shape.edges (view self.now)) result func.new };
 
-    /// Visits each edge, in order, for writing. It stops at the first `Err` that a visit answers, and what
+    /// Visits each edge, in order, for writing. It stops at the first `Err` that a visit returns, and what
     /// was written until then stays.
     fn trace_mut<F, E>(&mut self, func: &mut F) -> Result<(), E>
     where
@@ -43,7 +43,7 @@ pub trait TypeTrace {
         ensures kept { frame shape (view self.new) ≡ frame shape (view self.old) }
         ensures run { RunMut F.FnMut func.old (shape.edges (view self.old)) result func.new (shape.edges (view self.new)) };
 
-    /// Visits each edge that is an engine's, in order. It stops at the first `Err` that a visit answers.
+    /// Visits each edge that is an engine's, in order. It stops at the first `Err` that a visit returns.
     final fn trace_engine_indices<F, E>(&self, func: &mut F) -> Result<(), E>
     where
         F: FnMut(VMSharedTypeIndex) -> Result<(), E>,

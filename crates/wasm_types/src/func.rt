@@ -73,7 +73,7 @@ impl WasmFuncType {
     /// The function type of these parameters and results.
     ///
     /// # Errors
-    /// `OutOfMemory` where the lists find no memory.
+    /// `OutOfMemory` where the lists cannot be allocated.
     pub fn new(
         alloc: Global,
         params: &[WasmValType],
@@ -174,7 +174,7 @@ impl WasmFuncType {
     /// and points to the top of its hierarchy. Where that changes nothing, it is borrowed.
     ///
     /// # Errors
-    /// `OutOfMemory` where a changed type finds no memory; a borrowed one needs none.
+    /// `OutOfMemory` where a changed type cannot be allocated; a borrowed one needs no memory.
     #[tactic(auto, using(crate::proofs::Trampolined::mapped_parts))]
     pub fn trampoline_type(&self, alloc: Global) -> Result<TryCow<'_, Self>, OutOfMemory>
         ensures value { IfOk result (λ t. value_of t ≡ trampoline_of self.now) }

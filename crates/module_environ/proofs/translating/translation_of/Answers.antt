@@ -62,7 +62,7 @@ returns-in-Err-clause-complete c = λ m can kept sound.
     let same : module_of c.in_ok-form.form ≡ m = read_as c.args.bytes.now c.in_ok-form.form m tells can in
     c.in-Err.ensures.complete (subst Keeps (sym same) kept) sound
 
--- ---- there is no memory for its code
+-- ---- memory runs out for its code
 
 pub returns-in-Err-take_bodies-clause-cause : goal.returns-in-Err-take_bodies-clause-cause
 returns-in-Err-take_bodies-clause-cause c = rw c.into.ensures tt

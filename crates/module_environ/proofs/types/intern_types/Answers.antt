@@ -13,7 +13,7 @@ use Rattle.module_environ.specs.Errors.{error_of_build}
 use Rattle.module_environ.proofs.InTurn.{Interns, interns-none, interns-next, names, room, listed-long, listed-all, built-all, few-all, held-all}
 use Rattle.module_environ.proofs.types.intern_types.Goals as goal
 
--- a builder that is not poisoned answers that there is no memory
+-- a builder that is not poisoned fails only where memory runs out
 unpoisoned : (e : BuildError) → (e ≡ build.Poisoned → ⊥) → error_of_build e ≡ refusal.OutOfMemory
 unpoisoned build.OutOfMemory none = refl
 unpoisoned build.Poisoned none = absurd (none refl)

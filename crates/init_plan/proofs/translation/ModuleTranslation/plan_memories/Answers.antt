@@ -68,7 +68,7 @@ ranges_end_to_end-requires-clause-few c =
     let few_passive : length (passive_bytes old) ≡ length (passive_data_of old) = length-map (passive_data_of old) (λ p. p.1) in
     omega (arith, long, few, few_passive, c.in_ok-begin_memories.ensures.few, c.requires.ready.few_passive)
 
--- so many runtime data stand before those of the passive segments as the memories have
+-- as many runtime data stand before those of the passive segments as the memories have
 pub returns-clause-in_order : goal.returns-clause-in_order
 returns-clause-in_order c =
     let old : ModuleTranslation = c.args.self.now in
