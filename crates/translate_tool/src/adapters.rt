@@ -9,7 +9,7 @@ use devices::{Failed, Sink, Source};
 use std::io::{self, Read, Write};
 use std::marker::Model;
 
-/// A source over a reader. Where the reader tells its bytes, each read moves them as they come.
+/// A source over a reader. A contract sees the reader, how many reads failed, and how many came after the end.
 #[derive(Drop)]
 pub struct StdSource<R: Read + Drop> {
     reader: R,
@@ -91,7 +91,7 @@ fn one_more_read(since_end: Option<u64>, moved: usize) -> Option<u64>
     }
 }
 
-/// A sink over a writer. Where the writer tells its bytes, each write appends to them.
+/// A sink over a writer. A contract sees the writer, and how many writes failed.
 #[derive(Drop)]
 pub struct StdSink<W: Write + Drop> {
     writer: W,
