@@ -1,5 +1,6 @@
 use Rattle.std.proofs.Common.{◌≡◌, ◌≢◌, ◌⊎◌, ◌≤◌, ◌<◌, ℕ, List, length, Some, IsNone, IsSome, sym, subst, ap, ◌∙◌, arith}
 use Rattle.std.specs.Prelude.{◌^◌}
+use Rattle.std.proofs.lemmas.Result.{IfErr-at_err}
 use Rattle.command_words.specs.declared.command.Command.{Command}
 use Rattle.devices.specs.Device.{TellsFront}
 use Rattle.translate.specs.Options.{options_of}
@@ -95,7 +96,7 @@ returns-in-Err-Failed-clause-within g c = λ command names none.
 pub returns-in-Err-Failed-clause-too_long : goal.returns-in-Err-Failed-clause-too_long
 returns-in-Err-Failed-clause-too_long g c = λ command names none long.
     let read = same c.in-Some.command command (c.in-Some.ensures.complete command names) in
-    let cut = c.in-Err-Failed.ensures.stopped (subst (λ (d : Command). IsNone d.generate) read none) in
+    let cut = IfErr-at_err _ c.in-Err-Failed.is c.fill_store-outcome.ensures.stopped (subst (λ (d : Command). IsNone d.generate) read none) in
     absurd (omega (arith, cut, long, ap (λ r. length r.bytes.now) c.empty_report-in-Err-Failed.ensures, ap length c.as_slice-bytes.ensures.value))
 
 pub returns-in-Err-Failed-clause-made : goal.returns-in-Err-Failed-clause-made
@@ -119,7 +120,7 @@ returns-in-Err-OutOfMemory-clause-within g c = λ command names none.
 pub returns-in-Err-OutOfMemory-clause-too_long : goal.returns-in-Err-OutOfMemory-clause-too_long
 returns-in-Err-OutOfMemory-clause-too_long g c = λ command names none long.
     let read = same c.in-Some.command command (c.in-Some.ensures.complete command names) in
-    let cut = c.in-Err-OutOfMemory.ensures.stopped (subst (λ (d : Command). IsNone d.generate) read none) in
+    let cut = IfErr-at_err _ c.in-Err-OutOfMemory.is c.fill_store-outcome.ensures.stopped (subst (λ (d : Command). IsNone d.generate) read none) in
     absurd (omega (arith, cut, long, ap (λ r. length r.bytes.now) c.empty_report-in-Err-OutOfMemory.ensures, ap length c.as_slice-bytes.ensures.value))
 
 pub returns-in-Err-OutOfMemory-clause-made : goal.returns-in-Err-OutOfMemory-clause-made
