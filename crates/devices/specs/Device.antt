@@ -1,5 +1,6 @@
 -- How bytes move out of a source and into a sink, each of which may tell its bytes or not.
-use Rattle.std.specs.Prelude.{◌≡◌, ◌<◌, ℕ, List, [], ◌++◌, Option, Some, None, length, take}
+use Rattle.std.specs.Prelude.{◌≡◌, ◌<◌, ◌⊎◌, ℕ, zero, suc, List, [], ◌++◌, Option, Some, None, length, take}
+use Rattle.devices.specs.Counter.{raised_by}
 
 -- the front went out of a source's bytes, and the rest is left, where they are told
 abbrev pub TellsFront : Option (List ℕ) → List ℕ → Option (List ℕ) → Type 0
@@ -21,3 +22,19 @@ AppendsFront None front new = new ≡ None
 -- some of the text was appended to a sink's bytes, and not the whole
 abbrev pub AppendsPart : Option (List ℕ) → List ℕ → Option (List ℕ) → Type 0
 AppendsPart old text new = (n : ℕ) × (n < length text) × AppendsFront old (take n text) new
+
+-- ---- the end of a source that does not tell its bytes
+
+-- how many reads were made since the first that moved no byte, if one did, after a read that moved n bytes
+abbrev pub since_end_after : ℕ → Option ℕ → Option ℕ
+since_end_after zero None = Some 0
+since_end_after (suc n) None = None
+since_end_after n (Some reads) = Some (raised_by 1 reads)
+
+-- a read that failed comes before the end like one that moved some bytes
+abbrev pub since_end_after_fault : Option ℕ → Option ℕ
+since_end_after_fault = since_end_after 1
+
+-- no read was made after the first that moved no byte
+abbrev pub IsNotPassed : Option ℕ → Type 0
+IsNotPassed since_end = (since_end ≡ None) ⊎ (since_end ≡ Some 0)

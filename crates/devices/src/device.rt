@@ -1,7 +1,7 @@
 //! What a source and a sink promise.
 
-ghost use Rattle.std.specs.Prelude.{◌≡◌, ◌<◌, ◌≤◌, ℕ, List, Option, IfOk, OnOk, OnErr, length, take};
-ghost use Rattle.devices.specs.Device.{TellsFront, AppendsFront, NothingLeft};
+ghost use Rattle.std.specs.Prelude.{◌≡◌, ◌<◌, ◌≤◌, ℕ, List, Option, IfOk, OnOk, OnErr, IsNone, length, take};
+ghost use Rattle.devices.specs.Device.{TellsFront, AppendsFront, NothingLeft, since_end_after, since_end_after_fault};
 ghost use Rattle.devices.specs.Counter.{Rose};
 
 use std::alloc::AllocError;
@@ -29,6 +29,9 @@ pub trait Source {
     /// How many reads failed, on a counter of 64 bits that stays at its last value.
     ghost faults: { Self → ℕ };
 
+    /// How many reads were made since the first that moved no byte, if one did. A source that tells its bytes need not count.
+    ghost since_end: { Self → Option ℕ };
+
     /// Moves the first bytes left into the front of `buf`, and returns how many: 0 only at the end.
     /// `Failed` leaves the bytes left as they were.
     fn read(&mut self, buf: &mut [u8]) -> Result<usize, Failed>
@@ -36,10 +39,12 @@ pub trait Source {
         ensures within { IfOk result (λ n. n ≤ length buf.old) }
         ensures moves { IfOk result (λ n. TellsFront (left self.old) (take n buf.new) (left self.new)) }
         ensures ends { IfOk result (λ n. n ≡ 0 → NothingLeft (left self.old)) }
+        ensures end_noted { IfOk result (λ n. IsNone (left self.old) → since_end self.new ≡ since_end_after n (since_end self.old)) }
         ensures no_fault { OnOk result (faults self.new ≡ faults self.old) }
 
         // A failed read moves nothing, and is counted.
         ensures stays { OnErr result (left self.new ≡ left self.old) }
+        ensures no_end { OnErr result (IsNone (left self.old) → since_end self.new ≡ since_end_after_fault (since_end self.old)) }
         ensures counted { faults self.old ≤ faults self.new }
         ensures cause { OnErr result (Rose (faults self.old) (faults self.new)) };
 }

@@ -1,6 +1,6 @@
 //! A source that gives a list of bytes piece by piece, and fails where it was told to.
 
-ghost use Rattle.std.specs.Prelude.{◌≡◌, ◌<◌, ◌≤◌, ◌↔◌, ◌++◌, [], Some, IsErr, IfOk, OnErr, length, take, drop, min};
+ghost use Rattle.std.specs.Prelude.{None, ◌≡◌, ◌<◌, ◌≤◌, ◌↔◌, ◌++◌, [], Some, IsErr, IfOk, OnErr, length, take, drop, min};
 ghost use Rattle.devices.specs.Calls.{no_calls, FailsNext, after_success, after_fault};
 
 use crate::calls::Calls;
@@ -46,6 +46,8 @@ impl<'a> Source for ListSource<'a> {
     ghost left = { λ s. Some s.left };
 
     ghost faults = { λ s. s.calls.faults };
+
+    ghost since_end = { λ _. None };
 
     fn read(&mut self, buf: &mut [u8]) -> Result<usize, Failed>
         requires { 0 < length buf.old }

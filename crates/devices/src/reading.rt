@@ -1,7 +1,7 @@
 //! Reads a source to its end.
 
-ghost use Rattle.std.specs.Prelude.{◌≡◌, ◌≢◌, ◌<◌, ◌≤◌, ◌⊎◌, [], OnOk, vec_len};
-ghost use Rattle.devices.specs.Device.{TellsFront, NothingLeft};
+ghost use Rattle.std.specs.Prelude.{◌≡◌, ◌≢◌, ◌<◌, ◌≤◌, ◌⊎◌, [], None, Some, IsNone, OnOk, OnErr, vec_len};
+ghost use Rattle.devices.specs.Device.{TellsFront, NothingLeft, IsNotPassed};
 ghost use Rattle.devices.specs.Counter.{Rose};
 
 use crate::device::{Failed, Source};
@@ -54,6 +54,11 @@ pub fn read_all<S: Source>(source: &mut S, store: &mut Vec<u8>, most: usize) -> 
 
     ensures ended { OnOk result (NothingLeft (S.left source.new) ⊎ (vec_len store.new ≡ most)) }
     ensures short { OnOk result (vec_len store.new < most → NothingLeft (S.left source.new)) }
+    ensures stopped { OnErr result (vec_len store.new < most) }
+
+    // A source that does not tell its bytes is read to its end as well, and not past it.
+    ensures to_the_end { OnOk result (IsNone (S.left source.old) → S.since_end source.old ≡ None → vec_len store.new < most → S.since_end source.new ≡ Some 0) }
+    ensures not_past { IsNone (S.left source.old) → S.since_end source.old ≡ None → IsNotPassed (S.since_end source.new) }
 
     // `Failed` is returned where a read failed, and only there.
     ensures cause { result ≡ Err ReadStop.Failed → Rose (S.faults source.old) (S.faults source.new) }

@@ -1,6 +1,6 @@
 //! A source that gives the bytes of a slice.
 
-ghost use Rattle.std.specs.Prelude.{◌≡◌, ◌<◌, ◌++◌, ℕ, List, Some, IfOk, length, take, drop, min};
+ghost use Rattle.std.specs.Prelude.{None, ◌≡◌, ◌<◌, ◌++◌, ℕ, List, Some, IfOk, length, take, drop, min};
 
 use crate::device::{Failed, Source};
 use std::marker::Model;
@@ -30,6 +30,8 @@ impl Source for SliceSource<'_> {
     ghost left = { λ s. Some s };
 
     ghost faults = { λ _. 0 };
+
+    ghost since_end = { λ _. None };
 
     fn read(&mut self, buf: &mut [u8]) -> Result<usize, Failed>
         requires { 0 < length buf.old }

@@ -3,7 +3,7 @@
 ghost use Rattle.std.specs.Prelude.{◌≡◌, ◌-◌, ◌^◌, [], ◌∷◌};
 ghost use Rattle.devices.specs.Calls.{no_calls, FailsNext, after_success, after_fault};
 ghost use Rattle.devices.specs.Counter.{raised_by, Rose};
-ghost use Rattle.devices.specs.Device.{TellsFront, NothingLeft, AppendsFront, AppendsPart};
+ghost use Rattle.devices.specs.Device.{TellsFront, NothingLeft, since_end_after, since_end_after_fault, IsNotPassed, AppendsFront, AppendsPart};
 
 /// Bytes that move out of a source.
 pub fn worked_reads()
@@ -14,6 +14,11 @@ pub fn worked_reads()
     ensures falls_silent { ¬ TellsFront (Some (7 ∷ [])) (7 ∷ []) None }
     ensures end { NothingLeft (Some []) }
     ensures no_end { ¬ NothingLeft (Some (9 ∷ [])) }
+    ensures before_end { since_end_after 2 (since_end_after_fault None) ≡ None }
+    ensures at_end { since_end_after 0 None ≡ Some 0 }
+    ensures past_end { since_end_after 0 (since_end_after_fault (Some 0)) ≡ Some 2 }
+    ensures not_past { IsNotPassed (since_end_after 0 None) }
+    ensures passed { ¬ IsNotPassed (since_end_after 2 (Some 0)) }
 {}
 
 /// Bytes that move into a sink.

@@ -1,19 +1,13 @@
 -- The summary of a module that was made.
-use Rattle.std.specs.Prelude.{ℕ, List, [], ◌∷◌, ◌++◌, length, codes}
-use Rattle.init_plan.specs.Views.{ranges_of}
+use Rattle.std.specs.Prelude.{ℕ, ◌-◌, List, [], ◌∷◌, ◌++◌, length, sum_by, codes}
 use Rattle.vm_offsets.specs.Layouts.{size_of_context}
 use Rattle.plan.specs.declared.plan.Plan.{Plan}
 use Rattle.plan_lines.specs.ModuleLines.{startup_line}
 use Rattle.plan_lines.specs.Numbers.{numbers_line}
 
--- where the last runtime data end: they stand end to end from 0
-abbrev pub last_end : List (ℕ × ℕ) → ℕ
-last_end [] = 0
-last_end (range ∷ []) = range.1
-last_end (range ∷ next ∷ ranges) = last_end (next ∷ ranges)
-
+-- the bytes of the runtime data in sum
 abbrev pub runtime_total : Plan → ℕ
-runtime_total plan = last_end (ranges_of plan.translation.module)
+runtime_total plan = sum_by (λ range. range.end - range.start) plan.translation.module.runtime_data
 
 -- its number, its bytes, its types, the bytes of its runtime data, and the lines of startup and of the context
 unfoldable pub summary_of : ℕ → ℕ → Plan → List ℕ

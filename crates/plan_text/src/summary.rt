@@ -3,10 +3,11 @@
 ghost use Rattle.std.specs.Prelude.{◌≡◌, IfOk};
 ghost use Rattle.plan_text.specs.Summary.{summary_of, runtime_total};
 
-use entity_map::OutOfMemory;
+use entity_map::{EntityRef, OutOfMemory};
 use plan::Plan;
 use plan_lines::{Text, append_context, append_numbers, append_startup};
 use std::alloc::Global;
+use wasm_index::RuntimeDataIndex;
 
 /// The summary of the plan of a module that was made: its number, its size in bytes, how many types it has, the bytes of its runtime data,
 /// and the lines of startup and of the context.
@@ -32,12 +33,15 @@ pub fn summary_text(
     Ok(text.into_bytes())
 }
 
-// The bytes of the runtime data, which stand end to end: where the last ends.
+// The bytes of the runtime data in sum.
 fn runtime_total(plan: &Plan<'_>) -> u64
     ensures { result ≡ runtime_total plan.now }
 {
-    match plan.translation.module.runtime_data.as_slice().last() {
-        Some(range) => u64::from(range.end),
-        None => 0,
+    let ranges = &plan.translation.module.runtime_data;
+    let mut total = 0;
+    for number in 0..ranges.len() as u32 {
+        let range = &ranges[RuntimeDataIndex::from_u32(number)];
+        total += u64::from(range.end.saturating_sub(range.start));
     }
+    total
 }

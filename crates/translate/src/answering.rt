@@ -40,6 +40,7 @@ pub(crate) fn answer<'d, K: Sink>(
     ensures no_write_failed { result.status ≢ 4 → K.faults sink.new ≡ K.faults sink.old }
     ensures nothing { result.status ≡ 5 → IsNone result.plan × IsNone result.refusal × (sink.new ≡ sink.old) }
     ensures counted { K.faults sink.old ≤ K.faults sink.new }
+    ensures too_long { 2 ^ 30 ≤ length bytes.now → (result.status ≡ 1) ⊎ (result.status ≡ 4) }
     ensures complete { IsValid (options_of command.now) bytes.now → result.status ≢ 1 }
 {
     match planned_text(alloc, command, bytes) {

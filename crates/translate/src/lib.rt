@@ -9,9 +9,11 @@ mod status;
 mod translating;
 
 pub use command_words::{Collector, Command, read_words};
+pub use devices::{CountSink, Failed, ListSink, ListSource, Sink, SliceSource, Source};
 pub use module_generator::generate;
 pub use plan::{Plan, TranslateError};
 pub use plan_text::{plan_text, refusal_line, summary_text};
 pub use running::{Report, run};
 pub use status::{NO_MEMORY, READ_FAILED, REFUSED, SUCCESS, USAGE, WRITE_FAILED};
 pub use translating::translate_module;
+pub use wasm_types::Tunables;

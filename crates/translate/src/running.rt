@@ -1,8 +1,8 @@
 //! The run: words, source and sink.
 
-ghost use Rattle.std.specs.Prelude.{◌≡◌, ◌≢◌, ◌≤◌, ◌^◌, ◌⊎◌, ◌↔◌, [], List, ℕ, None, Err, length, map, string_bytes, IsNone, IsSome, IfSome, OnOk};
+ghost use Rattle.std.specs.Prelude.{◌≡◌, ◌≢◌, ◌<◌, ◌≤◌, ◌^◌, ◌⊎◌, ◌↔◌, [], List, ℕ, None, Some, Err, length, map, string_bytes, IsNone, IsSome, IfSome, OnOk, OnErr};
 ghost use Rattle.devices.specs.Counter.{Rose};
-ghost use Rattle.devices.specs.Device.{TellsFront};
+ghost use Rattle.devices.specs.Device.{TellsFront, IsNotPassed};
 ghost use Rattle.translate.specs.Options.{options_of};
 ghost use Rattle.translate.specs.Valid.{IsValid};
 ghost use Rattle.translate.specs.Runs.{Commands, IsInput, HasEnoughInput, IsSuccess, IsRefusal, IsCutShort};
@@ -66,8 +66,15 @@ pub fn run<'d, S: Source, K: Sink>(
     ensures bytes { (command : Command) → Names (map string_bytes words.now) command → IsNone command.generate
         → TellsFront (S.left source.old) result.bytes.now (S.left source.new) }
     ensures made { (command : Command) → Names (map string_bytes words.now) command → IsSome command.generate → source.new ≡ source.old }
-    // Reading ends at 2^30 bytes.
+    // A source that does not tell its bytes is read to its end as well, and not past it.
+    ensures to_the_end { result.status ≡ 0 → IsNone (S.left source.old) → S.since_end source.old ≡ None →
+        Commands (map string_bytes words.now) (λ c. IsNone c.generate → S.since_end source.new ≡ Some 0) }
+    ensures not_past { IsNone (S.left source.old) → S.since_end source.old ≡ None → IsNotPassed (S.since_end source.new) }
+
+    // Reading ends at 2^30 bytes, which are refused.
     ensures within { (command : Command) → Names (map string_bytes words.now) command → IsNone command.generate → length result.bytes.now ≤ 2 ^ 30 }
+    ensures too_long { (command : Command) → Names (map string_bytes words.now) command → IsNone command.generate → length result.bytes.now ≡ 2 ^ 30
+        → (result.status ≡ 1) ⊎ (result.status ≡ 4) }
 
     // The words name no command, exactly; then nothing was touched.
     ensures usage { (result.status ≡ 2) ↔ ((command : Command) → ¬ Names (map string_bytes words.now) command) }
@@ -119,6 +126,10 @@ fn fill_store<S: Source>(
     ensures enough { OnOk result (HasEnoughInput command.now.generate store.new.items (S.left source.new)) }
     ensures bytes { IsNone command.now.generate → TellsFront (S.left source.old) store.new.items (S.left source.new) }
     ensures within { IsNone command.now.generate → length store.new.items ≤ 2 ^ 30 }
+    ensures to_the_end { OnOk result (IsNone command.now.generate → IsNone (S.left source.old) → S.since_end source.old ≡ None
+        → length store.new.items < 2 ^ 30 → S.since_end source.new ≡ Some 0) }
+    ensures not_past { IsNone (S.left source.old) → S.since_end source.old ≡ None → IsNotPassed (S.since_end source.new) }
+    ensures stopped { OnErr result (IsNone command.now.generate → length store.new.items < 2 ^ 30) }
     ensures made { IsSome command.now.generate → source.new ≡ source.old }
     ensures cause { result ≡ Err ReadStop.Failed → Rose (S.faults source.old) (S.faults source.new) × (command.now.generate ≡ None) }
     ensures no_fault { result ≢ Err ReadStop.Failed → S.faults source.new ≡ S.faults source.old }

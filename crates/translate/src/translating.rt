@@ -2,6 +2,7 @@
 
 ghost use Rattle.std.specs.Prelude.{◌≡◌, ◌⊎◌, ◌^◌, ◌≤◌, length, Err, IfOk, IfErr};
 ghost use Rattle.std.specs.Int.{IsPowerOfTwo};
+ghost use Rattle.plan_text.specs.PlanText.{IsPrintable};
 ghost use Rattle.translate.specs.Options.{with_options};
 ghost use Rattle.translate.specs.Valid.{IsValid};
 ghost use Rattle.translate.specs.Planned.{IsPlanned, HasCause, SucceedsOrNoMemory};
@@ -36,6 +37,8 @@ pub fn translate_module<'d>(
 
     // The bytes spell a module that keeps the listed rules, and the plan is its plan.
     ensures planned { IfOk result (IsPlanned (with_options tunables.now collector ptr page_size max_image) bytes.now) }
+    // So the text of the plan can be made.
+    ensures printable { IfOk result (λ plan. IsPrintable plan.translation) }
 
     // Each refusal has its cause; length goes first.
     ensures cause { IfErr result (HasCause (with_options tunables.now collector ptr page_size max_image) bytes.now) }

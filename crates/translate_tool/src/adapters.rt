@@ -1,52 +1,97 @@
 //! Standard input as a source, and standard output as a sink.
 
-ghost use Rattle.std.specs.Prelude.{◌≡◌, None};
+ghost use Rattle.std.specs.Prelude.{◌≡◌, ◌<◌, ◌≤◌, None, Ok, IsErr, IfOk, OnOk, OnErr, MatchResult, length, take};
+ghost use Rattle.std.specs.Io.KnownBytes.{Consumes, Keeps, Appends};
+ghost use Rattle.devices.specs.Counter.{raised_by};
+ghost use Rattle.devices.specs.Device.{since_end_after, since_end_after_fault};
 
 use devices::{Failed, Sink, Source};
-use std::io::{Read, Write};
+use std::io::{self, Read, Write};
 use std::marker::Model;
 
-/// A source over a reader. It tells nothing of the bytes; a contract sees how many reads failed.
+/// A source over a reader. A contract sees the reader, how many reads failed, and how many came after the end.
 #[derive(Drop)]
 pub struct StdSource<R: Read + Drop> {
     reader: R,
     faults: u64,
+    since_end: Option<u64>,
 }
 
 impl<R: Read + Drop> Model for StdSource<R> {
-    ghost use Rattle.std.specs.Prelude.{ℕ};
+    ghost use Rattle.translate_tool.specs.Adapters.{Reading};
 
-    ghost Value = { ℕ };
+    ghost Value = { Reading R };
 
-    ghost view = { λ s. s.faults };
+    ghost view = { λ s. record { reader = s.reader; faults = s.faults; since_end = s.since_end } };
 }
 
 impl<R: Read + Drop> StdSource<R> {
-    /// A source over a reader that has not failed yet.
+    /// A source over a reader that has not failed yet, and has not come to its end.
     pub fn new(reader: R) -> Self
-        ensures { result ≡ 0 }
+        ensures { result ≡ record { reader = reader; faults = 0; since_end = None } }
     {
-        StdSource { reader, faults: 0 }
-    }
-}
-
-impl<R: Read + Drop> Source for StdSource<R> {
-    ghost left = { λ s. None };
-
-    ghost faults = { λ s. s };
-
-    fn read(&mut self, buf: &mut [u8]) -> Result<usize, Failed> {
-        match self.reader.read(buf) {
-            Ok(count) => Ok(count),
-            Err(_) => {
-                self.faults = self.faults.saturating_add(1);
-                Err(Failed)
-            }
+        StdSource {
+            reader,
+            faults: 0,
+            since_end: None,
         }
     }
 }
 
-/// A sink over a writer. It tells nothing of the bytes; a contract sees how many writes failed.
+impl<R: Read + Drop> Source for StdSource<R> {
+    ghost left = { λ _. None };
+
+    ghost faults = { λ s. s.faults };
+
+    ghost since_end = { λ s. s.since_end };
+
+    fn read(&mut self, buf: &mut [u8]) -> Result<usize, Failed>
+        requires { 0 < length buf.old }
+        ensures within { IfOk result (λ n. n ≤ length buf.old) }
+
+        // What the reader tells of its bytes moved, or stayed where the read failed.
+        ensures moves { IfOk result (λ n. Consumes (R.remaining self.old.reader) (R.remaining self.new.reader) (take n buf.new)) }
+        ensures stays { OnErr result (Keeps (R.remaining self.old.reader) (R.remaining self.new.reader)) }
+
+        ensures no_fault { OnOk result (self.new.faults ≡ self.old.faults) }
+        ensures fault { OnErr result (self.new.faults ≡ raised_by 1 self.old.faults) }
+        ensures counted { self.old.faults ≤ self.new.faults }
+        ensures end { IfOk result (λ n. self.new.since_end ≡ since_end_after n self.old.since_end) }
+        ensures no_end { OnErr result (self.new.since_end ≡ since_end_after_fault self.old.since_end) }
+    {
+        let moved = outcome_of(self.reader.read(buf), &mut self.faults);
+        self.since_end = one_more_read(self.since_end, moved.unwrap_or(1));
+        moved
+    }
+}
+
+/// What a call of the system answered; a call that failed is counted.
+fn outcome_of(answer: io::Result<usize>, faults: &mut u64) -> Result<usize, Failed>
+    ensures ok { IfOk result (λ n. (answer ≡ Ok n) × (faults.new ≡ faults.old)) }
+    ensures err { OnErr result (IsErr answer × (faults.new ≡ raised_by 1 faults.old)) }
+    ensures counted { faults.old ≤ faults.new }
+{
+    match answer {
+        Ok(count) => Ok(count),
+        Err(_) => {
+            *faults = faults.saturating_add(1);
+            Err(Failed)
+        }
+    }
+}
+
+/// How many reads were made since the end, after one more that moved so many bytes.
+fn one_more_read(since_end: Option<u64>, moved: usize) -> Option<u64>
+    ensures { result ≡ since_end_after moved since_end }
+{
+    match since_end {
+        Some(reads) => Some(reads.saturating_add(1)),
+        None if moved == 0 => Some(0),
+        None => None,
+    }
+}
+
+/// A sink over a writer. A contract sees the writer, and how many writes failed.
 #[derive(Drop)]
 pub struct StdSink<W: Write + Drop> {
     writer: W,
@@ -54,35 +99,48 @@ pub struct StdSink<W: Write + Drop> {
 }
 
 impl<W: Write + Drop> Model for StdSink<W> {
-    ghost use Rattle.std.specs.Prelude.{ℕ};
+    ghost use Rattle.translate_tool.specs.Adapters.{Writing};
 
-    ghost Value = { ℕ };
+    ghost Value = { Writing W };
 
-    ghost view = { λ s. s.faults };
+    ghost view = { λ s. record { writer = s.writer; faults = s.faults } };
 }
 
 impl<W: Write + Drop> StdSink<W> {
     /// A sink over a writer that has not failed yet.
     pub fn new(writer: W) -> Self
-        ensures { result ≡ 0 }
+        ensures { result ≡ record { writer = writer; faults = 0 } }
     {
         StdSink { writer, faults: 0 }
     }
 }
 
 impl<W: Write + Drop> Sink for StdSink<W> {
-    ghost held = { λ s. None };
+    ghost held = { λ _. None };
 
-    ghost faults = { λ s. s };
+    ghost faults = { λ s. s.faults };
 
-    fn write(&mut self, piece: &[u8]) -> Result<usize, Failed> {
-        match self.writer.write(piece) {
-            Ok(count) if count > 0 => Ok(count),
-            // A writer that takes nothing has failed.
-            _ => {
-                self.faults = self.faults.saturating_add(1);
-                Err(Failed)
-            }
-        }
+    fn write(&mut self, piece: &[u8]) -> Result<usize, Failed>
+        requires { 0 < length piece.now }
+        ensures takes { IfOk result (λ n. (0 < n) × (n ≤ length piece.now)) }
+
+        // What the writer tells of its bytes grows by what is taken.
+        ensures appends { IfOk result (λ n. Appends (W.contents self.old.writer) (W.contents self.new.writer) (take n piece.now)) }
+        ensures no_fault { OnOk result (self.new.faults ≡ self.old.faults) }
+        ensures fault { OnErr result (self.new.faults ≡ raised_by 1 self.old.faults) }
+        ensures counted { self.old.faults ≤ self.new.faults }
+    {
+        let answer = self.writer.write(piece).and_then(some_taken);
+        outcome_of(answer, &mut self.faults)
     }
+}
+
+/// A writer that takes nothing has failed.
+fn some_taken(count: usize) -> io::Result<usize>
+    ensures { MatchResult result (λ n. (n ≡ count) × (0 < n)) (λ _. count ≡ 0) }
+{
+    if count == 0 {
+        return Err(io::Error::from(io::ErrorKind::WriteZero));
+    }
+    Ok(count)
 }

@@ -1,16 +1,22 @@
 //! The program: real words, standard input and standard output.
 #![tactic(auto)]
 
-ghost use Rattle.std.specs.Prelude.{◌≡◌};
+ghost use Rattle.std.specs.Prelude.{◌≡◌, ◌≤◌, ◌↔◌, None, map, string_bytes};
 ghost use Rattle.std.specs.Process.{exit_status};
+ghost use Rattle.command_words.specs.declared.command.Command.{Command};
+ghost use Rattle.command_words.specs.Commands.{Names};
+ghost use Rattle.translate.specs.Runs.{Commands};
+ghost use Rattle.translate_tool.specs.Ends.{HasPlanned, HasRefused};
 
 mod adapters;
+mod words;
 
 use adapters::{StdSink, StdSource};
 use std::alloc::AllocError;
 use std::process::ExitCode;
 use std::{env, io};
 use translate::{NO_MEMORY, Report, run};
+use words::without_name;
 
 /// The status where the system does not give the words, which a run never answers.
 const NO_WORDS: u8 = 6;
@@ -18,7 +24,7 @@ const NO_WORDS: u8 = 6;
 /// The words after the program's name; none where the system does not give them.
 fn words_of(rt: &HostRuntime) -> Option<Result<Vec<String>, AllocError>> {
     match env::args(rt) {
-        Ok(words) => Some(words.skip(1).collect(rt.alloc())),
+        Ok(words) => Some(words.collect(rt.alloc()).map(without_name)),
         Err(error) if error.kind() == io::ErrorKind::OutOfMemory => Some(Err(AllocError)),
         Err(_) => None,
     }
@@ -31,8 +37,14 @@ fn end_of(report: Report<'_>) -> ExitCode
     ExitCode::from(report.into_status())
 }
 
-/// Runs from standard input to standard output.
-fn run_over_standard(rt: &HostRuntime, words: &[String]) -> ExitCode {
+/// Runs from standard input to standard output, and ends with the status of the run.
+fn run_over_standard(rt: &HostRuntime, words: &[String]) -> ExitCode
+    ensures statuses { exit_status result ≤ 5 }
+    ensures success { exit_status result ≡ 0 → Commands (map string_bytes words.now) HasPlanned }
+    ensures refused { exit_status result ≡ 1 → Commands (map string_bytes words.now) HasRefused }
+    ensures usage { (exit_status result ≡ 2) ↔ ((command : Command) → ¬ Names (map string_bytes words.now) command) }
+    ensures read_failed { exit_status result ≡ 3 → Commands (map string_bytes words.now) (λ c. c.generate ≡ None) }
+{
     let mut source = StdSource::new(rt.reader());
     let mut store = Vec::new(rt.alloc());
     let mut sink = StdSink::new(io::writer(rt));

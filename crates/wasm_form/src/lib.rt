@@ -1,6 +1,7 @@
 //! Modules in the binary format: what reads them, what checks them, and what they are as they were read.
 #![tactic(auto)]
 
+pub use entity_map::OutOfMemory;
 pub use form_data::{
     CompositeInnerType, ConstExpr, Counts, Custom, DataKind, DataSegment, Element, ElementItems,
     ElementKind, Export, Form, FuncType, FunctionBody, GlobalDef, Import, Payload, RecGroup,

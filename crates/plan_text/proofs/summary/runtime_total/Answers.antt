@@ -1,22 +1,32 @@
-use Rattle.std.proofs.Common.{◌≡◌, ℕ, ◌-◌, ◌<◌, zero, suc, List, [], ◌∷◌, length, map, Some, sym, arith}
+use Rattle.std.proofs.Common.{◌≡◌, ◌+◌, ◌-◌, ◌<◌, ℕ, List, take, length, Some, get_or, sum_by, subst, ap, ◌∙◌, arith}
 use Rattle.std.specs.Prelude.{slice_get}
 use Rattle.std.specs.declared.ops.Range.{Range}
-use Rattle.std.proofs.lemmas.Option.{slice_get_within}
-use Rattle.plan_text.specs.Summary.{last_end}
+use Rattle.std.proofs.lemmas.List.{take_all}
+use Rattle.std.proofs.lemmas.List.Sums.{sum_by_more}
+use Rattle.std.proofs.lemmas.Option.{get_or_from_slice_get}
 use Rattle.plan_text.proofs.summary.runtime_total.Goals as goal
 
--- ranges end where the last one does
-last_end-at : (ranges : List (Range ℕ)) (n : ℕ) (range : Range ℕ) → length ranges ≡ suc n → slice_get ranges n ≡ Some range
-    → last_end (map (λ r. (r.start, r.end)) ranges) ≡ range.end
-last_end-at [] n range count found = absurd (omega arith)
-last_end-at (r ∷ []) zero range count found = grind arith
-last_end-at (r ∷ []) (suc n) range count found = absurd (omega arith)
-last_end-at (r ∷ next ∷ ranges) zero range count found = absurd (omega arith)
-last_end-at (r ∷ next ∷ ranges) (suc n) range count found = last_end-at (next ∷ ranges) n range (omega arith) found
+abbrev size : Range ℕ → ℕ
+size range = range.end - range.start
 
-pub returns-in-Some : goal.returns-in-Some
-returns-in-Some c =
+pub returns : goal.returns
+returns c = c.loop-number.invariant.sum ∙ ap (sum_by size) (take_all c.loop-number.number c.args.plan.now.translation.module.runtime_data (omega (arith, c.loop-number-test.false, c.len-number-end.ensures.length)))
+
+pub overflow_add-total : goal.overflow_add-total
+overflow_add-total c = omega (arith, c.loop-number.invariant.bound, c.from-total.ensures, c.saturating_sub.type_inv, c.loop-number-test.true, c.len-number-end.ensures.below)
+
+pub loop-number-preserved : goal.loop-number-preserved
+loop-number-preserved c =
     let ranges = c.args.plan.now.translation.module.runtime_data in
-    let found = rw c.as_slice.ensures at (sym c.in-Some.ensures.value) in
-    let within : length ranges - 1 < length ranges = slice_get_within ranges (length ranges - 1) c.in-Some.range.now found in
-    cc (last_end-at ranges (length ranges - 1) c.in-Some.range.now (omega (arith, within)) found)
+    let range = c.index-range.result.now in
+    let below : c.loop-number.number < length ranges = omega (arith, c.loop-number-test.true, c.len-number-end.ensures.length) in
+    let found : get_or ranges c.loop-number.number range ≡ range =
+    get_or_from_slice_get ranges c.loop-number.number range range (subst (λ n. slice_get ranges n ≡ Some range) (ap (λ i. i.number) c.from_u32.ensures) c.index-range.ensures) in
+    let more : sum_by size (take (c.loop-number.number + 1) ranges) ≡ sum_by size (take c.loop-number.number ranges) + size range =
+    subst (λ (r : Range ℕ). sum_by size (take (c.loop-number.number + 1) ranges) ≡ sum_by size (take c.loop-number.number ranges) + size r) found
+    (sum_by_more size ranges c.loop-number.number range below) in
+    record {
+      within = omega (arith, below);
+      sum = omega (arith, c.loop-number.invariant.sum, more, c.from-total.ensures, c.saturating_sub.ensures);
+      bound = omega (arith, c.loop-number.invariant.bound, c.from-total.ensures, c.saturating_sub.type_inv);
+    }

@@ -12,5 +12,6 @@ returns-in-Err g c = record {
   no_write_failed = search rules;
   nothing = search rules;
   counted = search rules;
+  too_long = search rules;
   complete = search rules;
 }

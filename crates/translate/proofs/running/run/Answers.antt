@@ -1,5 +1,6 @@
-use Rattle.std.proofs.Common.{◌≡◌, ◌≢◌, ◌⊎◌, ◌≤◌, ℕ, List, length, Some, IsNone, IsSome, sym, subst, ap, ◌∙◌, arith}
+use Rattle.std.proofs.Common.{◌≡◌, ◌≢◌, ◌⊎◌, ◌≤◌, ◌<◌, ℕ, List, length, Some, IsNone, IsSome, sym, subst, ap, ◌∙◌, arith}
 use Rattle.std.specs.Prelude.{◌^◌}
+use Rattle.std.proofs.lemmas.Result.{IfErr-at_err}
 use Rattle.command_words.specs.declared.command.Command.{Command}
 use Rattle.devices.specs.Device.{TellsFront}
 use Rattle.translate.specs.Options.{options_of}
@@ -20,6 +21,10 @@ same read command e = cc
 ends_well : (status : ℕ) → IsAnswer status → status ≢ 1 → status ≢ 4 → (status ≡ 0) ⊎ (status ≡ 5)
 ends_well status answer no_refusal written = grind arith
 
+-- bytes of a success are short, as 2 ^ 30 of them are refused
+short : (status n : ℕ) → status ≡ 0 → (2 ^ 30 ≤ n → (status ≡ 1) ⊎ (status ≡ 4)) → n < 2 ^ 30
+short status n success refused = grind (arith, refused)
+
 pub returns-in_default-clause-usage : goal.returns-in_default-clause-usage
 returns-in_default-clause-usage g c = (
   λ wrong command names. let e = c.in_default.ensures.complete command names in absurd (cc),
@@ -32,6 +37,9 @@ returns-in_default-clause-complete g c = λ command input names is valid read wr
 
 pub returns-in_default-clause-within : goal.returns-in_default-clause-within
 returns-in_default-clause-within g c = λ command names none. let e = c.in_default.ensures.complete command names in absurd (cc)
+
+pub returns-in_default-clause-too_long : goal.returns-in_default-clause-too_long
+returns-in_default-clause-too_long g c = λ command names none long. let e = c.in_default.ensures.complete command names in absurd (cc)
 
 pub returns-in-Ok-clause-usage : goal.returns-in-Ok-clause-usage
 returns-in-Ok-clause-usage g c = (
@@ -51,6 +59,17 @@ returns-in-Ok-clause-within g c = λ command names none.
     let read = same c.in-Some.command command (c.in-Some.ensures.complete command names) in
     subst (λ (bytes : List ℕ). length bytes ≤ 2 ^ 30) (sym (c.answer.ensures.bytes ∙ c.as_slice-bytes.ensures.value))
     (c.fill_store-outcome.ensures.within (subst (λ (d : Command). IsNone d.generate) read none))
+
+pub returns-in-Ok-clause-too_long : goal.returns-in-Ok-clause-too_long
+returns-in-Ok-clause-too_long g c = λ command names none long. c.answer.ensures.too_long (omega (arith, ap length c.answer.ensures.bytes, long))
+
+pub returns-in-Ok-clause-to_the_end : goal.returns-in-Ok-clause-to_the_end
+returns-in-Ok-clause-to_the_end g c = λ success untold fresh. record {
+  command = c.in-Some.command;
+  named = c.in-Some.ensures.named;
+  holds = λ none. c.in-Ok.ensures.to_the_end none untold fresh
+      (omega (arith, ap length c.as_slice-bytes.ensures.value, short c.answer.result.status (length c.as_slice-bytes.result.now) success c.answer.ensures.too_long));
+}
 
 pub returns-in-Ok-clause-made : goal.returns-in-Ok-clause-made
 returns-in-Ok-clause-made g c = λ command names some.
@@ -74,6 +93,12 @@ returns-in-Err-Failed-clause-within g c = λ command names none.
     subst (λ (bytes : List ℕ). length bytes ≤ 2 ^ 30) (sym (ap (λ r. r.bytes.now) c.empty_report-in-Err-Failed.ensures ∙ c.as_slice-bytes.ensures.value))
     (c.fill_store-outcome.ensures.within (subst (λ (d : Command). IsNone d.generate) read none))
 
+pub returns-in-Err-Failed-clause-too_long : goal.returns-in-Err-Failed-clause-too_long
+returns-in-Err-Failed-clause-too_long g c = λ command names none long.
+    let read = same c.in-Some.command command (c.in-Some.ensures.complete command names) in
+    let cut = IfErr-at_err _ c.in-Err-Failed.is c.fill_store-outcome.ensures.stopped (subst (λ (d : Command). IsNone d.generate) read none) in
+    absurd (omega (arith, cut, long, ap (λ r. length r.bytes.now) c.empty_report-in-Err-Failed.ensures, ap length c.as_slice-bytes.ensures.value))
+
 pub returns-in-Err-Failed-clause-made : goal.returns-in-Err-Failed-clause-made
 returns-in-Err-Failed-clause-made g c = λ command names some.
     let read = same c.in-Some.command command (c.in-Some.ensures.complete command names) in
@@ -91,6 +116,12 @@ returns-in-Err-OutOfMemory-clause-within g c = λ command names none.
     let read = same c.in-Some.command command (c.in-Some.ensures.complete command names) in
     subst (λ (bytes : List ℕ). length bytes ≤ 2 ^ 30) (sym (ap (λ r. r.bytes.now) c.empty_report-in-Err-OutOfMemory.ensures ∙ c.as_slice-bytes.ensures.value))
     (c.fill_store-outcome.ensures.within (subst (λ (d : Command). IsNone d.generate) read none))
+
+pub returns-in-Err-OutOfMemory-clause-too_long : goal.returns-in-Err-OutOfMemory-clause-too_long
+returns-in-Err-OutOfMemory-clause-too_long g c = λ command names none long.
+    let read = same c.in-Some.command command (c.in-Some.ensures.complete command names) in
+    let cut = IfErr-at_err _ c.in-Err-OutOfMemory.is c.fill_store-outcome.ensures.stopped (subst (λ (d : Command). IsNone d.generate) read none) in
+    absurd (omega (arith, cut, long, ap (λ r. length r.bytes.now) c.empty_report-in-Err-OutOfMemory.ensures, ap length c.as_slice-bytes.ensures.value))
 
 pub returns-in-Err-OutOfMemory-clause-made : goal.returns-in-Err-OutOfMemory-clause-made
 returns-in-Err-OutOfMemory-clause-made g c = λ command names some.

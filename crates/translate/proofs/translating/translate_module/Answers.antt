@@ -7,6 +7,7 @@ use Rattle.vm_offsets.specs.Modules.{module_counts}
 use Rattle.translate.specs.Options.{with_options}
 use Rattle.translate.proofs.Counts.{holds_imports, counts_same, few_escape}
 use Rattle.translate.proofs.PlansFit.{valid-begins}
+use Rattle.translate.proofs.Printable.{is_printable}
 use Rattle.translate.proofs.Planning.{told-apart, same-lists, layout-cause, layout-complete, context-cause, context-fits, sizes-fit}
 use Rattle.translate.proofs.translating.translate_module.Goals as goal
 
@@ -91,6 +92,12 @@ returns-in-Ok-new-clause-planned c =
             (λ (large : 4294967295 < context_size o.pointer (module_counts o.pointer (record_of t.module))). let e : false ≡ true = c.in-Ok-new.ensures.overflow.1 large in cc);
       };
     }
+
+pub returns-in-Ok-new-clause-printable : goal.returns-in-Ok-new-clause-printable
+returns-in-Ok-new-clause-printable c =
+    let o = with_options c.args.tunables.now c.args.collector c.args.ptr c.args.page_size c.args.max_image in
+    let init = c.in_ok-translation.ensures.initialised in
+    is_printable o.init c.args.bytes.now init.meaning c.in_ok-translation.translation init.initialised
 
 pub new-requires-clause-escapes : goal.new-requires-clause-escapes
 new-requires-clause-escapes c =

@@ -13,8 +13,10 @@ read-tells g c =
       within = omega arith;
       moves = front-and-rest count left _ c.new.buf.now _ within (rw c.ensures.count at c.ensures.bytes) (rw c.ensures.count at c.ensures.rest);
       ends = λ none. nil_from_length left (omega arith);
+      end_noted = λ untold. cc;
       no_fault = refl;
       stays = tt;
+      no_end = tt;
       counted = omega arith;
       cause = tt;
     })
