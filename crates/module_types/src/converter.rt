@@ -41,7 +41,7 @@ fn reference_to_interned(ty: &WasmSubType, index: ModuleInternedTypeIndex) -> Wa
     }
 }
 
-/// What answers the interned index of each type of a module. A closure does, as `FnLookUp`.
+/// What gives the interned index of each type of a module.
 pub trait TypeLookUp {
     /// It may be asked at an index.
     ghost callable: { Self → Index TypeSpace → Type 0 };
@@ -53,20 +53,6 @@ pub trait TypeLookUp {
     fn interned_index(&self, index: TypeIndex) -> ModuleInternedTypeIndex
         requires { callable self.now index }
         ensures { gives self.now index result };
-}
-
-/// A closure that is asked for each index.
-#[derive(Drop)]
-pub struct FnLookUp<F>(pub F);
-
-impl<F: Fn(TypeIndex) -> ModuleInternedTypeIndex> TypeLookUp for FnLookUp<F> {
-    ghost callable = { λ f i. F.pre f.0 i };
-
-    ghost gives = { λ f i r. F.post f.0 i r };
-
-    fn interned_index(&self, index: TypeIndex) -> ModuleInternedTypeIndex {
-        (self.0)(index)
-    }
 }
 
 /// Converts types that name the types of a module by a look-up, and those of a list of types by their ids.

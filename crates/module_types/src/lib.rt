@@ -14,7 +14,7 @@ mod trace;
 mod unwrap;
 
 pub use builder::ModuleTypesBuilder;
-pub use converter::{FnLookUp, TypeLookUp, WasmparserTypeConverter};
+pub use converter::{TypeLookUp, WasmparserTypeConverter};
 pub use error::BuildError;
 pub use iterators::{RecGroupElements, RecGroups, TrampolineTypes};
 pub use laws::{
