@@ -1,0 +1,4 @@
+pub mod Counts
+pub mod Paged
+pub mod Lists
+pub mod Place
