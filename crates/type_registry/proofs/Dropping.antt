@@ -1,0 +1,181 @@
+-- What is kept stays so where a group is kept no longer, or is counted otherwise.
+use Rattle.std.proofs.Common.{if◌then◌else◌, ◌≡◌, ◌∙◌, ◌↔◌, ℕ, ◌+◌, Bool, true, false, nat_eq, List, [], length, map, set, slice_get, Option, Some, None, refl, sym, ap, arith, length-set}
+use Rattle.std.specs.Prelude.{cond}
+use Rattle.std.specs.List.{list_any}
+use Rattle.std.proofs.lemmas.Bool.{eqb-true, eqb-false}
+use Rattle.wasm_types.specs.declared.sub.WasmSubType.{WasmSubType}
+use Rattle.wasm_types.specs.contracts.equal_groups.WasmRecGroupPartialEq.TheImpl as groups_equal
+use Rattle.type_registry.specs.declared.owners.Owner.{Owner}
+use Rattle.type_registry.specs.Registry.{Group}
+use Rattle.type_registry.specs.Owners.{owner_at, free_count, emptied}
+use Rattle.type_registry.specs.Keeping.{group_in, IsOwned, HasCanonical, AreKept}
+use Rattle.type_registry.proofs.FirstIndices.{set-other, set-here, set-none, length-removed, length-counted}
+use Rattle.type_registry.proofs.OwnerLists.{emptied-at, emptied-length, any-place, place-any}
+
+no_group : Group
+no_group = record { canonical = []; indices = []; count = 0 }
+
+pub group-is : (g h : Group) → Some g ≡ Some h → g ≡ h
+group-is g h e = ap (by no_group) e where
+  by : Group → Option Group → Group
+  by d None = d
+  by d (Some x) = x
+
+no_owner : Owner
+no_owner = record { first = 0; place = 0 }
+
+pub owner-is : (o p : Owner) → Some o ≡ Some p → o ≡ p
+owner-is o p e = ap (by no_owner) e where
+  by : Owner → Option Owner → Owner
+  by d None = d
+  by d (Some x) = x
+
+pub number-is : (m n : ℕ) → Some m ≡ Some n → m ≡ n
+number-is m n e = ap (by 0) e where
+  by : ℕ → Option ℕ → ℕ
+  by d None = d
+  by d (Some x) = x
+
+pub some-none : {A : Type 0} (x : A) → None ≡ Some x → ⊥
+some-none x e = let no-way : None ≡ Some x = e in cc
+
+abbrev Eq : List WasmSubType → List WasmSubType → Bool
+Eq = groups_equal.ghosts.eq
+
+module _ {Key : Type 0} (content : Key → List WasmSubType) (live live' : ℕ) (known known' : Key → Option ℕ) (gs : List (Option Group)) (os : List (Option Owner)) (free free' : List ℕ)
+    (k : AreKept content live known gs os free) (f : ℕ) (g : Group) (at : group_in gs f ≡ Some g)
+    (equal : (x y : List WasmSubType) → (Eq x y ≡ true) ↔ (x ≡ y))
+    (forgets : (q : Key) → known' q ≡ cond (Eq g.canonical (content q)) None (known q))
+    (less : live' + length g.indices ≡ live) (frees : free' ≡ map free_count (emptied os g.indices)) where
+  abbrev gs' : List (Option Group)
+  gs' = set gs f None
+
+  abbrev os' : List (Option Owner)
+  os' = emptied os g.indices
+
+  -- what is there now was there, elsewhere
+  stays : (n : ℕ) (h : Group) → group_in gs' n ≡ Some h → (n ≡ f → ⊥) × (group_in gs n ≡ Some h)
+  stays n h here =
+      let apart : n ≡ f → ⊥ = λ e. some-none h (sym (ap (group_in gs') e ∙ set-none gs f) ∙ here) in
+      (apart, sym (set-other gs f n None apart) ∙ here)
+
+  -- an index of another group is no index of this one
+  elsewhere : (n p i : ℕ) (h : Group) → (n ≡ f → ⊥) → group_in gs n ≡ Some h → slice_get h.indices p ≡ Some i → list_any (nat_eq i) g.indices ≡ false
+  elsewhere n p i h apart here is = by (list_any (nat_eq i) g.indices) refl where
+    by : (c : Bool) → list_any (nat_eq i) g.indices ≡ c → c ≡ false
+    by false e = refl
+    by true e =
+        let q = place-any g.indices i e in
+        let one = k.owned f q.place i g at q.at in
+        let two = k.owned n p i h here is in
+        absurd (apart (ap (λ (o : Owner). o.first) (owner-is (record { first = n; place = p }) (record { first = f; place = q.place }) (sym two ∙ one))))
+
+  owned : (n p i : ℕ) (h : Group) → group_in gs' n ≡ Some h → slice_get h.indices p ≡ Some i → owner_at os' i ≡ Some (record { first = n; place = p })
+  owned n p i h here is =
+      let s = stays n h here in
+      emptied-at os g.indices i
+      ∙ ap (λ c. if c then None else owner_at os i) (elsewhere n p i h s.0 s.1 is) ∙ k.owned n p i h s.1 is
+
+  owns : (i : ℕ) (o : Owner) → owner_at os' i ≡ Some o → IsOwned gs' i o
+  owns i o is = by (list_any (nat_eq i) g.indices) refl (sym (emptied-at os g.indices i) ∙ is) where
+    by : (c : Bool) → list_any (nat_eq i) g.indices ≡ c → (if c then None else owner_at os i) ≡ Some o → IsOwned gs' i o
+    by true e now = absurd (some-none o now)
+    by false e now =
+        let w = k.owns i o now in
+        let apart : o.first ≡ f → ⊥ = λ same.
+        let here : w.group ≡ g = group-is w.group g (sym w.kept ∙ ap (group_in gs) same ∙ at) in
+        let any : list_any (nat_eq i) g.indices ≡ true = ap (λ (h : Group). list_any (nat_eq i) h.indices) (sym here) ∙ any-place w.group.indices i o.place w.at in
+        let no-way : false ≡ true = sym e ∙ any in cc in
+        record { group = w.group; kept = set-other gs f o.first None apart ∙ w.kept; at = w.at }
+
+  known-still : (n : ℕ) (h : Group) → group_in gs' n ≡ Some h → (key : Key) → content key ≡ h.canonical → known' key ≡ Some n
+  known-still n h here key is = by (Eq g.canonical (content key)) refl where
+    s : (n ≡ f → ⊥) × (group_in gs n ≡ Some h)
+    s = stays n h here
+
+    by : (c : Bool) → Eq g.canonical (content key) ≡ c → known' key ≡ Some n
+    by true e =
+        let same : g.canonical ≡ content key = (equal g.canonical (content key)).0 e in
+        absurd (s.0 (number-is n f (sym (k.found n h s.1 key is) ∙ k.found f g at key (sym same))))
+    by false e = forgets key ∙ ap (λ c. cond c None (known key)) e ∙ k.found n h s.1 key is
+
+  knows-still : (key : Key) (n : ℕ) → known' key ≡ Some n → HasCanonical gs' n (content key)
+  knows-still key n is = by (Eq g.canonical (content key)) refl (sym (forgets key) ∙ is) where
+    by : (b : Bool) → Eq g.canonical (content key) ≡ b → cond b None (known key) ≡ Some n → HasCanonical gs' n (content key)
+    by true e now = absurd (some-none n now)
+    by false e now =
+        let w = k.knows key n now in
+        let apart : n ≡ f → ⊥ = λ same.
+        let here : w.group ≡ g = group-is w.group g (sym w.kept ∙ ap (group_in gs) same ∙ at) in
+        let yes : Eq g.canonical (content key) ≡ true = (equal g.canonical (content key)).1 (ap (λ (h : Group). h.canonical) (sym here) ∙ w.same) in
+        let no-way : false ≡ true = sym e ∙ yes in cc in
+        record { group = w.group; kept = set-other gs f n None apart ∙ w.kept; same = w.same }
+
+  pub kept-without : AreKept content live' known' gs' os' free'
+  kept-without = record {
+    few = omega (arith, k.few, length-set gs f None);
+    owners = emptied-length os g.indices ∙ k.owners ∙ sym (length-set gs f None);
+    counted = omega (arith, k.counted, less, length-removed gs 0 f g at);
+    first = λ n h here. k.first n h (stays n h here).1;
+    owned = owned;
+    owns = owns;
+    unowned = frees;
+    found = known-still;
+    knows = knows-still;
+  }
+
+-- ---- a group is counted otherwise
+
+module _ {Key : Type 0} (content : Key → List WasmSubType) (live : ℕ) (known : Key → Option ℕ) (gs : List (Option Group)) (os : List (Option Owner)) (free : List ℕ)
+    (k : AreKept content live known gs os free) (f count : ℕ) (g : Group) (at : group_in gs f ≡ Some g) where
+  abbrev g' : Group
+  g' = record g { count = count }
+
+  abbrev counted : List (Option Group)
+  counted = set gs f (Some g')
+
+  -- a group that is there now was there with another count
+  record Was (n : ℕ) (h : Group) : Type 0 where
+    pub group : Group
+    pub kept : group_in gs n ≡ Some group
+    pub indices : h.indices ≡ group.indices
+    pub canonical : h.canonical ≡ group.canonical
+
+  was : (n : ℕ) (h : Group) → group_in counted n ≡ Some h → Was n h
+  was n h here = by (nat_eq n f) refl where
+    by : (c : Bool) → nat_eq n f ≡ c → Was n h
+    by true e =
+        let same : n ≡ f = eqb-true n f e in
+        let is : h ≡ g' = group-is h g' (sym here ∙ ap (group_in counted) same ∙ set-here gs f g g' at) in
+        record { group = g; kept = ap (group_in gs) same ∙ at; indices = ap (λ (x : Group). x.indices) is; canonical = ap (λ (x : Group). x.canonical) is }
+    by false e = record { group = h; kept = sym (set-other gs f n (Some g') (eqb-false n f e)) ∙ here; indices = refl; canonical = refl }
+
+  -- and the other way round
+  record Is (n : ℕ) (h : Group) : Type 0 where
+    pub group : Group
+    pub kept : group_in counted n ≡ Some group
+    pub indices : group.indices ≡ h.indices
+    pub canonical : group.canonical ≡ h.canonical
+
+  still : (n : ℕ) (h : Group) → group_in gs n ≡ Some h → Is n h
+  still n h here = by (nat_eq n f) refl where
+    by : (c : Bool) → nat_eq n f ≡ c → Is n h
+    by true e =
+        let same : n ≡ f = eqb-true n f e in
+        let is : g ≡ h = group-is g h (sym at ∙ ap (group_in gs) (sym same) ∙ here) in
+        record { group = g'; kept = ap (group_in counted) same ∙ set-here gs f g g' at; indices = ap (λ (x : Group). x.indices) is; canonical = ap (λ (x : Group). x.canonical) is }
+    by false e = record { group = h; kept = set-other gs f n (Some g') (eqb-false n f e) ∙ here; indices = refl; canonical = refl }
+
+  pub kept-counted : AreKept content live known counted os free
+  kept-counted = record {
+    few = omega (arith, k.few, length-set gs f (Some g'));
+    owners = k.owners ∙ sym (length-set gs f (Some g'));
+    counted = k.counted ∙ sym (length-counted gs 0 f count g at);
+    first = λ n h here. let w = was n h here in ap (λ is. slice_get is 0) w.indices ∙ k.first n w.group w.kept;
+    owned = λ n p i h here is. let w = was n h here in k.owned n p i w.group w.kept (ap (λ is. slice_get is p) (sym w.indices) ∙ is);
+    owns = λ i o is. let w = k.owns i o is in let s = still o.first w.group w.kept in
+        record { group = s.group; kept = s.kept; at = ap (λ is. slice_get is o.place) s.indices ∙ w.at };
+    unowned = k.unowned;
+    found = λ n h here key is. let w = was n h here in k.found n w.group w.kept key (is ∙ w.canonical);
+    knows = λ key n is. let w = k.knows key n is in let s = still n w.group w.kept in record { group = s.group; kept = s.kept; same = s.canonical ∙ w.same };
+  }

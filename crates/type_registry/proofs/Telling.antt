@@ -1,0 +1,149 @@
+-- Registered types have one index exactly where they are equal.
+use Rattle.std.proofs.Common.{◌≡◌, ◌∙◌, ℕ, zero, suc, ◌+◌, ◌-◌, ◌<◌, ◌≤◌, List, [], ◌∷◌, length, take, drop, get_or, slice_get, Option, Some, None, option_and_then, refl, sym, ap, arith}
+use Rattle.std.proofs.lemmas.List.{take-map, drop-map, length-map}
+use Rattle.std.proofs.lemmas.Option.{slice_get-get_or}
+use Rattle.wasm_spec.specs.TypeData.{map_group, map_sub_type}
+use Rattle.type_data.specs.Names.{named}
+use Rattle.type_spec.specs.Interned.{Span}
+use Rattle.wasm_index.specs.Index.{number_of, index_of}
+use Rattle.wasm_types.specs.declared.sub.WasmRecGroup.{WasmRecGroup}
+use Rattle.wasm_types.specs.TypeViews.{sub_type_of, group_of}
+use Rattle.module_types.specs.Views.{index_at, interned_of}
+use Rattle.module_types.specs.TypeList.{TypeList}
+use Rattle.module_types.specs.Conversion.{no_span}
+use Rattle.module_types.specs.ListGroups.{types_in, span_at, EngineMap, TellTypes, OneIndex, AreCompared}
+use Rattle.module_types.proofs.Standing.{stands-at}
+use Rattle.module_types.proofs.ToldByForms.{told-by-forms}
+use Rattle.type_registry.specs.Registry as registry
+use Rattle.type_registry.specs.Registry.{Registry, Group}
+use Rattle.type_registry.specs.Listed.{Listed, list_of}
+use Rattle.type_registry.specs.Changes.{given, members_of}
+use Rattle.type_registry.specs.Standing.{kept_at, GroupStands, Stands, TellsTypes}
+
+-- ---- parts of lists
+
+take-get : {A : Type 0} (xs : List A) (n p : ℕ) → p < n → slice_get (take n xs) p ≡ slice_get xs p
+take-get xs zero p h = absurd (omega (arith, h))
+take-get [] (suc n) p h = refl
+take-get (x ∷ xs) (suc n) zero h = refl
+take-get (x ∷ xs) (suc n) (suc p) h = take-get xs n p (omega (arith, h))
+
+drop-get : {A : Type 0} (xs : List A) (s p : ℕ) → slice_get (drop s xs) p ≡ slice_get xs (s + p)
+drop-get xs zero p = let at : p ≡ 0 + p = omega arith in ap (slice_get xs) at
+drop-get [] (suc s) p = refl
+drop-get (x ∷ xs) (suc s) p = let at : suc (s + p) ≡ suc s + p = omega arith in drop-get xs s p ∙ ap (slice_get (x ∷ xs)) at
+
+some-is : {A : Type 0} (d x y : A) → Some x ≡ Some y → x ≡ y
+some-is d x y e = ap (λ o. by d o) e where
+  by : {A : Type 0} → A → Option A → A
+  by d None = d
+  by d (Some z) = z
+
+no_group : Group
+no_group = record { canonical = []; indices = []; count = 0 }
+
+abbrev canonical_in : Option Group → WasmRecGroup
+canonical_in None = []
+canonical_in (Some g) = g.canonical
+
+-- ---- a module that stands
+
+module _ (r : Registry) (a : ℕ) (l : TypeList) (listed : Listed l) (st : Stands r a l) where
+  abbrev pub indices : List ℕ
+  indices = st.listed.indices
+
+  abbrev pub engine : EngineMap
+  engine = given indices
+
+  abbrev span : ℕ → Span
+  span k = span_at (list_of l) k
+
+  abbrev pub canonicals : ℕ → WasmRecGroup
+  canonicals k = canonical_in (kept_at r (get_or indices (span k).start 0))
+
+  abbrev pub olds : ℕ → WasmRecGroup
+  olds k = members_of l (span k)
+
+  pub group-at : (k : ℕ) → k < length (list_of l).groups → GroupStands r indices l (span k)
+  group-at k lt = st.groups k (span k) (slice_get-get_or (list_of l).groups k no_span lt)
+
+  pub canonical-at : (k : ℕ) (lt : k < length (list_of l).groups) → canonicals k ≡ (group-at k lt).group.canonical
+  canonical-at k lt = ap canonical_in (group-at k lt).kept
+
+  old-is : (s : Span) → group_of (members_of l s) ≡ map_group (named index_at) index_at (types_in (list_of l).types s)
+  old-is s =
+      let f = map_sub_type (named index_at) index_at in
+      let n = s.end - s.start in
+      sym (take-map sub_type_of n (drop s.start l.types)) ∙ ap (take n) (sym (drop-map sub_type_of s.start l.types))
+      ∙ ap (λ ts. take n (drop s.start ts)) (sym listed.indexed)
+      ∙ ap (take n) (drop-map f s.start (list_of l).types) ∙ take-map f n (drop s.start (list_of l).types)
+
+  pub are : AreCompared (list_of l) engine olds canonicals
+  are k lt = record {
+    within = lt;
+    stands = old-is (span k);
+    mapped = ap group_of (canonical-at k lt) ∙ (group-at k lt).canonical;
+  }
+
+  -- the index of a member
+  pub member : (k : ℕ) (lt : k < length (list_of l).groups) (i : ℕ) → (span k).start ≤ i → i < (span k).end → i < length l.types
+      → slice_get (group-at k lt).group.indices (i - (span k).start) ≡ Some (get_or indices i 0)
+  member k lt i low high short =
+      let s = span k in
+      let at : s.start + (i - s.start) ≡ i = omega (arith, low) in
+      ap (λ is. slice_get is (i - s.start)) (group-at k lt).at
+      ∙ take-get (drop s.start indices) (s.end - s.start) (i - s.start) (omega (arith, low, high))
+      ∙ drop-get indices s.start (i - s.start) ∙ ap (slice_get indices) at
+      ∙ slice_get-get_or indices i 0 (omega (arith, short, st.count))
+
+  pub index-is : (i : ℕ) → i < length l.types → registry.index_at r a i ≡ Some (get_or indices i 0)
+  index-is i lt =
+      ap (λ m. option_and_then (λ (m : registry.Module). slice_get m.indices i) m) st.held ∙ slice_get-get_or indices i 0 (omega (arith, lt, st.count))
+
+  pub short : (k : ℕ) → k < length (list_of l).groups → (i : ℕ) → i < (span k).end → i < length l.types
+  short k lt i high =
+      let s = stands-at (list_of l) listed.well_named k lt in
+      omega (arith, s.high, high, length-map l.types interned_of)
+
+module _ (r : Registry) (a b : ℕ) (l m : TypeList) (listed : Listed l) (listed' : Listed m) (st : Stands r a l) (st' : Stands r b m) where
+  abbrev is : List ℕ
+  is = indices r a l listed st
+
+  abbrev js : List ℕ
+  js = indices r b m listed' st'
+
+  one : OneIndex (list_of l) (list_of m) (engine r a l listed st) (engine r b m listed' st') (canonicals r a l listed st) (canonicals r b m listed' st')
+  one k o i j lt lt' low high low' high' =
+      let x = group-at r a l listed st k lt in
+      let y = group-at r b m listed' st' o lt' in
+      let first = get_or is (span_at (list_of l) k).start 0 in
+      let first' = get_or js (span_at (list_of m) o).start 0 in
+      let at = member r a l listed st k lt i low high (short r a l listed st k lt i high) in
+      let at' = member r b m listed' st' o lt' j low' high' (short r b m listed' st' o lt' j high') in
+      let canonical = canonical-at r a l listed st k lt in
+      let canonical' = canonical-at r b m listed' st' o lt' in (
+        (λ e.
+            let same : get_or is i 0 ≡ get_or js j 0 = ap number_of e in
+            let both = st.sound.owned first first' (i - (span_at (list_of l) k).start) (j - (span_at (list_of m) o).start) (get_or js j 0) x.group y.group
+            x.kept y.kept (at ∙ ap Some same) at' in
+            (both.1, ap (λ n. canonical_in (kept_at r n)) both.0)),
+        (λ both.
+            let firsts : first ≡ first' = st.sound.groups first first' x.group y.group x.kept y.kept (sym canonical ∙ both.1 ∙ canonical') in
+            let groups : x.group ≡ y.group = some-is no_group x.group y.group (sym x.kept ∙ ap (kept_at r) firsts ∙ y.kept) in
+            let numbers : get_or is i 0 ≡ get_or js j 0 =
+            some-is 0 (get_or is i 0) (get_or js j 0) (sym at ∙ (λ t. slice_get (groups t).indices (both.0 t)) ∙ at') in
+            ap index_of numbers),
+      )
+
+  told : TellTypes (list_of l) (list_of m) (engine r a l listed st) (engine r b m listed' st')
+  told = told-by-forms (list_of l) (list_of m) listed.well_named listed'.well_named (engine r a l listed st) (engine r b m listed' st')
+      (olds r a l listed st) (canonicals r a l listed st) (olds r b m listed' st') (canonicals r b m listed' st') (are r a l listed st) (are r b m listed' st') one
+
+  pub tells : TellsTypes r a l b m
+  tells i j lt lt' =
+      let t = told i j (omega (arith, lt, length-map l.types interned_of)) (omega (arith, lt', length-map m.types interned_of)) in
+      let at = index-is r a l listed st i lt in
+      let at' = index-is r b m listed' st' j lt' in (
+        (λ e. t.0 (ap index_of (some-is 0 (get_or is i 0) (get_or js j 0) (sym at ∙ e ∙ at')))),
+        (λ same. at ∙ ap Some (ap number_of (t.1 same)) ∙ sym at'),
+      )

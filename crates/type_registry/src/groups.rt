@@ -1,0 +1,125 @@
+//! The groups that are kept.
+
+ghost use Rattle.std.specs.Prelude.{◌≡◌, ◌+◌, ◌≤◌, ◌<◌, [], length, nat_eq, IsSome};
+ghost use Rattle.std.specs.Map.{lookup, remove_entry};
+ghost use Rattle.std.specs.Option.{option_copied, option_map};
+ghost use Rattle.wasm_types.specs.TypeViews.{sub_type_of};
+ghost use Rattle.wasm_index.specs.Index.{number_of};
+ghost use Rattle.type_registry.specs.Registry.{Group, indices_of, used_types};
+ghost use Rattle.type_registry.specs.Changes.{leave_group, with_count};
+
+use crate::kept::Kept;
+use crate::owners::{Owner, give_back, group_at, owner_of, take_at};
+use entity_map::{EntityRef, Seeded};
+use free_numbers::FreeNumbers;
+use std::alloc::Global;
+use std::collections::HashMap;
+use std::marker::Model;
+use std::rc::Rc;
+use wasm_index::VMSharedTypeIndex;
+use wasm_types::{WasmRecGroup, WasmSubType, equality_law};
+
+/// The first index of each group, by its canonical members.
+type Known = HashMap<Rc<WasmRecGroup>, u32, Seeded>;
+
+/// The groups that are kept, each once.
+#[derive(Drop)]
+pub(crate) struct Groups {
+    live: u32,
+    known: Known,
+    /// Each group, at its first index.
+    kept: Vec<Option<Kept>>,
+    /// What has each index, where it is live.
+    owners: Vec<Option<Owner>>,
+    /// The indices that are not live.
+    free: FreeNumbers,
+}
+
+/// A contract sees the groups by their first indices, in order.
+impl Model for Groups {
+    ghost use Rattle.type_registry.specs.Registry.{Groups};
+    ghost use Rattle.type_registry.specs.Keeping.{kept_from, IsKept};
+
+    ghost Value = { Groups };
+
+    ghost view = { λ m. kept_from 0 m.kept.items };
+
+    ghost invariant = { λ m. IsKept m.live m.known m.kept.items m.owners.items m.free };
+}
+
+impl Groups {
+    /// No groups.
+    pub(crate) fn new(alloc: Global) -> Groups
+        ensures { result ≡ [] }
+    {
+        Groups {
+            live: 0,
+            known: HashMap::with_hasher(alloc, Seeded::new(0)),
+            kept: Vec::new(alloc),
+            owners: Vec::new(alloc),
+            free: FreeNumbers::new(alloc),
+        }
+    }
+
+    /// How many indices are live.
+    pub(crate) fn live_types(&self) -> u32
+        ensures { result ≡ length (indices_of self.now) }
+    {
+        self.live
+    }
+
+    /// The live type at an index, whose references are all the engine's.
+    pub(crate) fn get(&self, index: VMSharedTypeIndex) -> Option<&WasmSubType>
+        ensures { option_map sub_type_of (option_copied result) ≡ lookup (nat_eq (number_of index)) (used_types self.now) }
+    {
+        let owner = owner_of(&self.owners, index.index())?;
+        let kept = group_at(&self.kept, owner.first as usize)?;
+        kept.type_at(owner.place as usize)
+    }
+
+    /// How often held modules have the group at a first index, if one is kept there.
+    fn count_of(&self, first: u32) -> Option<u128>
+        ensures { result ≡ option_map (λ (g : Group). g.count) (lookup (nat_eq first) self.now) }
+    {
+        let group = group_at(&self.kept, first as usize)?;
+        Some(group.count())
+    }
+
+    /// Changes how often held modules have the group at a first index.
+    fn set_count(&mut self, first: u32, count: u128)
+        ensures { self.new ≡ with_count self.old first count (lookup (nat_eq first) self.old) }
+    {
+        let Some(mut group) = take_at(&mut self.kept, first as usize) else {
+            return;
+        };
+        group.count = count;
+        self.kept[first as usize] = Some(group);
+    }
+
+    /// Keeps the group at a first index no longer.
+    fn drop_group(&mut self, first: u32)
+        ensures { self.new ≡ remove_entry (nat_eq first) self.old }
+    {
+        let Some(group) = take_at(&mut self.kept, first as usize) else {
+            return;
+        };
+        equality_law();
+        self.known.remove(&group.canonical);
+        self.live -= group.indices.len() as u32;
+        give_back(&mut self.owners, &mut self.free, &group.indices);
+    }
+
+    /// Counts a group once less. One that no module has any more is kept no longer.
+    pub(crate) fn leave(&mut self, first: u32)
+        ensures { self.new ≡ leave_group self.old first (lookup (nat_eq first) self.old) }
+    {
+        let Some(count) = self.count_of(first) else {
+            return;
+        };
+        if count > 1 {
+            self.set_count(first, count - 1);
+            return;
+        }
+        self.drop_group(first);
+    }
+}

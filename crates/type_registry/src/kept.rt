@@ -1,0 +1,89 @@
+//! What a registry keeps of groups and of modules.
+
+ghost use Rattle.std.specs.Prelude.{◌≡◌, length, map, slice_get};
+ghost use Rattle.std.specs.Option.{option_copied, option_map};
+ghost use Rattle.wasm_types.specs.TypeViews.{sub_type_of};
+ghost use Rattle.type_registry.specs.Registry.{used_type};
+ghost use Rattle.wasm_index.specs.Index.{number_of};
+
+use entity_map::EntityRef;
+use std::alloc::Global;
+use std::marker::Model;
+use std::rc::Rc;
+use wasm_index::VMSharedTypeIndex;
+use wasm_types::{WasmRecGroup, WasmSubType};
+
+/// A kept group: its members as they are compared and as they are used, the index of each, and how often held modules have it.
+#[derive(Drop)]
+pub(crate) struct Kept {
+    pub(crate) canonical: Rc<WasmRecGroup>,
+    pub(crate) types: Vec<WasmSubType>,
+    pub(crate) indices: Vec<VMSharedTypeIndex>,
+    pub(crate) count: u128,
+}
+
+impl Model for Kept {
+    ghost use Rattle.std.specs.Prelude.{◌≡◌, ◌<◌, length, map};
+    ghost use Rattle.wasm_index.specs.Index.{number_of};
+    ghost use Rattle.wasm_types.specs.TypeViews.{sub_type_of};
+    ghost use Rattle.type_registry.specs.Registry.{Group, used_type};
+
+    ghost Value = { Group };
+
+    ghost view = { λ k. record { canonical = k.canonical.value; indices = map number_of k.indices.items; count = k.count } };
+
+    ghost invariant = { λ k. (0 < length k.indices.items)
+        × (map sub_type_of k.types.items ≡ map (used_type (map number_of k.indices.items)) k.canonical.value)
+        × (length k.types.items ≡ length k.indices.items) };
+}
+
+impl Kept {
+    /// How often held modules have it.
+    pub(crate) fn count(&self) -> u128
+        ensures { result ≡ self.now.count }
+    {
+        self.count
+    }
+
+    /// The type of the member at a place as it is used.
+    pub(crate) fn type_at(&self, place: usize) -> Option<&WasmSubType>
+        ensures { option_map sub_type_of (option_copied result) ≡ slice_get (map (used_type self.now.indices) self.now.canonical) place }
+    {
+        self.types.get(place)
+    }
+}
+
+/// The engine's index of each type of a module, and the first index of each of its groups.
+#[derive(Drop)]
+pub(crate) struct Held {
+    pub(crate) indices: Vec<VMSharedTypeIndex>,
+    pub(crate) groups: Vec<u32>,
+}
+
+impl Model for Held {
+    ghost use Rattle.std.specs.Prelude.{◌<◌, length, map};
+    ghost use Rattle.wasm_index.specs.Index.{number_of};
+    ghost use Rattle.type_registry.specs.Registry.{Module};
+
+    ghost Value = { Module };
+
+    ghost view = { λ m. record { indices = map number_of m.indices.items; groups = m.groups.items } };
+
+    ghost invariant = { λ m. length m.indices.items < 4294967295 };
+}
+
+impl Held {
+    /// How many types there are.
+    pub(crate) fn len(&self) -> u32
+        ensures { result ≡ length self.now.indices }
+    {
+        self.indices.len() as u32
+    }
+
+    /// The index of the type at a place.
+    pub(crate) fn index_at(&self, place: usize) -> Option<VMSharedTypeIndex>
+        ensures { option_map number_of result ≡ slice_get self.now.indices place }
+    {
+        self.indices.get(place).copied()
+    }
+}

@@ -1,0 +1,15 @@
+//! One number for each type over many modules: equal types of held modules have one engine index.
+#![tactic(auto)]
+
+mod error;
+mod groups;
+mod kept;
+mod key;
+mod laws;
+mod owners;
+mod registry;
+
+pub use error::RegistryError;
+pub use key::ModuleKey;
+pub use laws::{listed_law, same_law};
+pub use registry::TypeRegistry;

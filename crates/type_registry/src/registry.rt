@@ -1,0 +1,151 @@
+//! The registry.
+
+ghost use Rattle.std.specs.Prelude.{◌≡◌, ◌↔◌, ◌<◌, ℕ, length, IsTrue, IsSome, IsOk, IfOk, OnOk, OnErr, IsErrOf};
+ghost use Rattle.std.specs.Option.{option_copied, option_map};
+ghost use Rattle.wasm_types.specs.TypeViews.{sub_type_of};
+ghost use Rattle.wasm_index.specs.Index.{number_of};
+ghost use Rattle.type_registry.specs.declared.error.RegistryError.TheVariants as refused;
+ghost use Rattle.type_registry.specs.Keys.{key_number};
+ghost use Rattle.type_registry.specs.Registry.{registry_of, empty, index_at, count_of, live, type_at};
+ghost use Rattle.type_registry.specs.Changes.{released, leave_groups};
+
+use crate::error::RegistryError;
+use crate::groups::Groups;
+use crate::kept::Held;
+use crate::key::ModuleKey;
+use entity_map::EntityRef;
+use std::alloc::Global;
+use std::collections::HashMap;
+use std::marker::Model;
+use wasm_index::{ModuleInternedTypeIndex, VMSharedTypeIndex};
+use wasm_types::WasmSubType;
+
+/// The types of held modules, each group once. Equal types have one index.
+#[derive(Drop)]
+pub struct TypeRegistry {
+    alloc: Global,
+    max_types: u32,
+    registrations: u64,
+    /// A digest of what was registered, for the maps of canonical groups.
+    seed: u64,
+    modules: HashMap<u64, Held>,
+    groups: Groups,
+}
+
+/// A contract sees the held modules and the kept groups, by `registry_of`.
+impl Model for TypeRegistry {
+    ghost use Rattle.std.specs.Prelude.{◌≤◌, ◌<◌, length};
+    ghost use Rattle.type_registry.specs.Registry.{RegistryState, indices_of};
+
+    ghost Value = { RegistryState };
+
+    ghost view = { λ m. record {
+      max_types = m.max_types;
+      registrations = m.registrations;
+      modules = m.modules.entries;
+      groups = m.groups;
+    } };
+
+    ghost invariant = { λ m. (length (indices_of m.groups) ≤ m.max_types) × (m.max_types < 4294967295) };
+}
+
+/// Counts the groups of a module once less.
+fn leave_all(groups: &mut Groups, firsts: &[u32])
+    ensures { groups.new ≡ leave_groups groups.old firsts.now }
+{
+    for first in firsts {
+        groups.leave(*first);
+    }
+}
+
+impl TypeRegistry {
+    /// A registry that holds nothing, in which at most `max_types` types may be live.
+    pub fn new(alloc: Global, max_types: u32) -> Self
+        requires { max_types < u32.MAX }
+        ensures { registry_of result ≡ empty max_types }
+    {
+        TypeRegistry {
+            alloc,
+            max_types,
+            registrations: 0,
+            seed: 0,
+            modules: HashMap::new(alloc),
+            groups: Groups::new(alloc),
+        }
+    }
+
+    /// How many indices are live.
+    pub fn live_types(&self) -> u32
+        ensures { result ≡ length (live (registry_of self.now)) }
+    {
+        self.groups.live_types()
+    }
+
+    /// How many modules were registered, whether they are still held or not.
+    pub fn registrations(&self) -> u64
+        ensures { result ≡ self.now.registrations }
+    {
+        self.registrations
+    }
+
+    /// The module that is held under a key.
+    fn held(&self, key: ModuleKey) -> Option<&Held>
+        ensures { option_copied result ≡ (registry_of self.now).held (key_number key) }
+    {
+        self.modules.get(&key.0)
+    }
+
+    /// How many types the module has that is held under a key: none where the key is not held.
+    pub fn type_count(&self, key: ModuleKey) -> Option<u32>
+        ensures { result ≡ count_of (registry_of self.now) (key_number key) }
+    {
+        Some(self.held(key)?.len())
+    }
+
+    /// The engine's index of a type of a held module: none where the key is not held, or where the module has no such type.
+    pub fn index_of(&self, key: ModuleKey, ty: ModuleInternedTypeIndex) -> Option<VMSharedTypeIndex>
+        ensures { option_map number_of result ≡ index_at (registry_of self.now) (key_number key) (number_of ty) }
+    {
+        self.held(key)?.index_at(ty.index())
+    }
+
+    /// The live type at an index, whose references are all the engine's: none where the index is not live.
+    pub fn get(&self, index: VMSharedTypeIndex) -> Option<&WasmSubType>
+        ensures { option_map sub_type_of (option_copied result) ≡ type_at (registry_of self.now) (number_of index) }
+    {
+        self.groups.get(index)
+    }
+
+    /// Whether two types of held modules have one index, which is where they are equal by group and place.
+    pub fn same(
+        &self,
+        a: ModuleKey,
+        i: ModuleInternedTypeIndex,
+        b: ModuleKey,
+        j: ModuleInternedTypeIndex,
+    ) -> bool
+        requires first { IsSome (index_at (registry_of self.now) (key_number a) (number_of i)) }
+        requires second { IsSome (index_at (registry_of self.now) (key_number b) (number_of j)) }
+        ensures { IsTrue result ↔ (index_at (registry_of self.now) (key_number a) (number_of i) ≡ index_at (registry_of self.now) (key_number b) (number_of j)) }
+    {
+        self.index_of(a, i) == self.index_of(b, j)
+    }
+
+    /// Lets a module go. Groups that no held module has any more are kept no longer, and their indices are free. It takes no memory.
+    ///
+    /// # Errors
+    /// `NotHeld` where no module is held under the key; the registry is as it was then.
+    #[tactic(auto, using(crate::proofs::Leaving::left_short))]
+    pub fn release(&mut self, key: ModuleKey) -> Result<(), RegistryError>
+        ensures ok { OnOk result (registry_of self.new ≡ released (registry_of self.old) (key_number key)) }
+        ensures held { IsOk result ↔ IsSome ((registry_of self.old).held (key_number key)) }
+        ensures not_held { OnErr result (IsErrOf result refused.NotHeld) }
+        ensures err { OnErr result (registry_of self.new ≡ registry_of self.old) }
+    {
+        let Some(held) = self.modules.remove(&key.0) else {
+            return Err(RegistryError::NotHeld);
+        };
+        leave_all(&mut self.groups, &held.groups);
+        Ok(())
+    }
+}
