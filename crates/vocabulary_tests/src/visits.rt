@@ -1,11 +1,17 @@
 //! Visits of a few types.
 
-ghost use Rattle.std.specs.Prelude.{◌≡◌, ◌<◌};
+ghost use Rattle.std.specs.Prelude.{◌≡◌, ◌<◌, ◌+◌, [], ◌∷◌, IfOk};
+ghost use Rattle.type_data.specs.Names.{index_of as index_in};
 ghost use Rattle.wasm_index.specs.Index.{index_of};
+ghost use Rattle.wasm_spec.specs.TypeData.{value_edges, sub_type_edges, group_edges};
+ghost use Rattle.wasm_types.specs.TypeViews.{sub_type_of, group_of};
+ghost use Rattle.wasm_types.specs.ValueViews.{value_of};
+ghost use Rattle.wasm_types.specs.declared.heap.WasmHeapType.TheVariants.{ConcreteStruct};
 ghost use Rattle.wasm_types.specs.declared.index.EngineOrModuleTypeIndex.TheVariants.{Module};
 
 use entity_map::EntityRef;
 use std::alloc::{AllocError, Global as Heap};
+use std::ops::Range;
 use std::process::Abort;
 use std::test::Fail;
 use wasm_index::{ModuleInternedTypeIndex, RecGroupRelativeTypeIndex, VMSharedTypeIndex};
@@ -13,7 +19,7 @@ use wasm_trace::TypeTrace;
 use wasm_types::{
     EngineOrModuleTypeIndex, Tag, WasmCompositeInnerType, WasmCompositeType, WasmExnType,
     WasmFieldType, WasmFuncType, WasmHeapType, WasmRecGroup, WasmRefType, WasmStorageType,
-    WasmSubType, WasmValType,
+    WasmStructType, WasmSubType, WasmValType,
 };
 
 fn module_type(number: u32) -> EngineOrModuleTypeIndex
@@ -25,6 +31,7 @@ fn module_type(number: u32) -> EngineOrModuleTypeIndex
 
 fn reference_type(number: u32) -> WasmRefType
     requires { number < u32.MAX }
+    ensures { result.heap_type ≡ ConcreteStruct (Module (index_of number)) }
 {
     WasmRefType {
         nullable: true,
@@ -34,6 +41,7 @@ fn reference_type(number: u32) -> WasmRefType
 
 fn reference(number: u32) -> WasmValType
     requires { number < u32.MAX }
+    ensures { value_edges index_in (value_of result) ≡ Module (index_of number) ∷ [] }
 {
     WasmValType::Ref(reference_type(number))
 }
@@ -136,14 +144,21 @@ fn engine_type(index: ModuleInternedTypeIndex) -> VMSharedTypeIndex {
     VMSharedTypeIndex::new(index.as_u32().min(99) + 100)
 }
 
+// The range of a group of two types.
+fn two_from(start: u32) -> Range<ModuleInternedTypeIndex>
+    requires { start + 2 < u32.MAX }
+    ensures { result ≡ record { start = index_of start; end = index_of (start + 2) } }
+{
+    ModuleInternedTypeIndex::from_u32(start)..ModuleInternedTypeIndex::from_u32(start + 2)
+}
+
 #[test]
 fn group_of_a_range_becomes_relative(rt: HostRuntime) -> Result<(), Fail> {
     let mut tag = Tag {
         signature: module_type(4),
         exception: module_type(5),
     };
-    let range = ModuleInternedTypeIndex::from_u32(5)..ModuleInternedTypeIndex::from_u32(7);
-    tag.canonicalize_for_hash_consing(range, &engine_type);
+    tag.canonicalize_for_hash_consing(two_from(5), &engine_type);
     assert_eq!(rt;
         tag.signature,
         EngineOrModuleTypeIndex::Engine(VMSharedTypeIndex::new(104))
@@ -154,6 +169,52 @@ fn group_of_a_range_becomes_relative(rt: HostRuntime) -> Result<(), Fail> {
     );
     assert!(rt; tag.is_canonicalized_for_hash_consing());
     assert!(rt; !tag.is_canonicalized_for_runtime_usage());
+    Ok(())
+}
+
+// A struct type under the type 2, with a field of the struct type of this number.
+fn struct_of_one(alloc: Heap, number: u32) -> Result<WasmSubType, AllocError>
+    requires { number < u32.MAX }
+    ensures { IfOk result (λ t. sub_type_edges index_in (sub_type_of t) ≡ Module (index_of 2) ∷ Module (index_of number) ∷ []) }
+{
+    let mut fields = Vec::new(alloc);
+    fields.push(WasmFieldType {
+        element_type: WasmStorageType::Val(reference(number)),
+        mutable: true,
+    })?;
+    Ok(WasmSubType {
+        is_final: true,
+        supertype: Some(module_type(2)),
+        composite_type: WasmCompositeType {
+            inner: WasmCompositeInnerType::Struct(WasmStructType { fields }),
+            shared: false,
+        },
+    })
+}
+
+// The group of two struct types from `start` on, each with a field of the other.
+fn mutual_structs(alloc: Heap, start: u32) -> Result<WasmRecGroup, AllocError>
+    requires { start + 1 < u32.MAX }
+    ensures { IfOk result (λ g. group_edges index_in (group_of g) ≡ Module (index_of 2) ∷ Module (index_of (start + 1))
+        ∷ Module (index_of 2) ∷ Module (index_of start) ∷ []) }
+{
+    let mut types = Vec::new(alloc);
+    types.push(struct_of_one(alloc, start + 1)?)?;
+    types.push(struct_of_one(alloc, start)?)?;
+    Ok(WasmRecGroup { types })
+}
+
+#[test]
+fn group_at_two_places_becomes_one(rt: HostRuntime) -> Result<(), Fail> {
+    let alloc = rt.alloc();
+    let mut first = mutual_structs(alloc, 5)?;
+    let mut second = mutual_structs(alloc, 8)?;
+    assert!(rt; first != second);
+    first.canonicalize_for_hash_consing(two_from(5), &engine_type);
+    second.canonicalize_for_hash_consing(two_from(8), &engine_type);
+    assert!(rt; first == second);
+    assert!(rt; first.is_canonicalized_for_hash_consing());
+    assert!(rt; second.is_canonicalized_for_hash_consing());
     Ok(())
 }
 
