@@ -1,7 +1,12 @@
 pub mod FirstIndices
 pub mod OwnerLists
 pub mod Dropping
+pub mod Keeping
 pub mod Leaving
 pub mod Telling
 pub mod UsedTypes
 pub mod ListedLists
+pub mod Counting
+pub mod NewGroups
+pub mod KeepingAll
+pub mod Copies

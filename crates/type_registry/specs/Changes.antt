@@ -3,8 +3,8 @@ use Rattle.std.specs.Prelude.{◌≡◌, ◌<◌, ℕ, zero, suc, ◌+◌, ◌-�
 use Rattle.std.specs.List.{list_any}
 use Rattle.std.specs.Map.{lookup, set_value, remove_entry}
 use Rattle.wasm_spec.specs.TypeData as types
-use Rattle.wasm_spec.specs.TypeData.{map_group}
-use Rattle.type_data.specs.Names.{named}
+use Rattle.wasm_spec.specs.TypeData.{map_group, group_edges}
+use Rattle.type_data.specs.Names.{named, index_of as index_in}
 use Rattle.type_spec.specs.Interned.{Span}
 use Rattle.wasm_index.specs.Index.{number_of, index_of}
 use Rattle.wasm_types.specs.declared.index.EngineOrModuleTypeIndex.{EngineOrModuleTypeIndex}
@@ -14,7 +14,7 @@ use Rattle.wasm_types.specs.ValueViews.{Name}
 use Rattle.wasm_types.specs.TypeViews.{group_of}
 use Rattle.wasm_types.specs.ViewsTell.{group_back}
 use Rattle.wasm_trace.specs.Canonical.{consed_edge}
-use Rattle.module_types.specs.Views.{span_of}
+use Rattle.module_types.specs.Views.{TypeIndex, span_of}
 use Rattle.module_types.specs.TypeList.{TypeList}
 use Rattle.module_types.specs.ListGroups.{EngineMap}
 use Rattle.type_registry.specs.Registry.{Registry, Groups, Group, Module, indices_of, live}
@@ -49,6 +49,14 @@ given indices i = index_of (get_or indices (number_of i) 0)
 abbrev pub members_of : TypeList → Span → List WasmSubType
 members_of l s = take (s.end - s.start) (drop s.start l.types)
 
+-- the references of types, in order
+abbrev pub edges_of : List WasmSubType → List EngineOrModuleTypeIndex
+edges_of ts = group_edges index_in (group_of ts)
+
+-- a type of a module of which so many have an index
+abbrev pub IsGiven : ℕ → TypeIndex → Type 0
+IsGiven n i = number_of i < n
+
 -- references inside the group by their places, and all others by the engine's indices
 abbrev pub canonical_data : TypeList → List ℕ → Span → types.Group Name EngineOrModuleTypeIndex
 canonical_data l indices s =
@@ -67,21 +75,25 @@ pub record Plan : Type 0 where
 abbrev pub begun : Plan
 begun = record { listed = record { indices = []; groups = [] }; fresh = [] }
 
-abbrev pub find_group : List WasmSubType → Groups → Option (ℕ × Group)
+abbrev pub find_group : List WasmSubType → Groups → Option Group
 find_group canonical [] = None
-find_group canonical (e ∷ es) = if groups_equal.ghosts.eq e.1.canonical canonical then Some e else find_group canonical es
+find_group canonical (e ∷ es) = if groups_equal.ghosts.eq e.1.canonical canonical then Some e.1 else find_group canonical es
 
--- one more group of the module, with its first index and all its indices
-abbrev pub with_group : Module → ℕ → List ℕ → Module
-with_group m first indices = record { indices = m.indices ++ indices; groups = m.groups ++ first ∷ [] }
+abbrev pub first_index : Group → ℕ
+first_index g = get_or g.indices 0 0
+
+-- one more group of the module
+abbrev pub with_group : Module → Group → Module
+with_group m g = record { indices = m.indices ++ g.indices; groups = m.groups ++ first_index g ∷ [] }
+
+-- a group that no module has yet
+abbrev pub new_group : List WasmSubType → List ℕ → Group
+new_group canonical free = record { canonical = canonical; indices = free; count = 0 }
 
 -- a group that is known takes its indices; the types of a new one take in turn the least indices that are not live
-abbrev pub take_group : Plan → List WasmSubType → List ℕ → Option (ℕ × Group) → Plan
-take_group p canonical free (Some e) = record p { listed = with_group p.listed e.0 e.1.indices }
-take_group p canonical free None = record {
-  listed = with_group p.listed (get_or free 0 0) free;
-  fresh = p.fresh ++ (get_or free 0 0, record { canonical = canonical; indices = free; count = 0 }) ∷ [];
-}
+abbrev pub take_group : Plan → Group → Option Group → Plan
+take_group p new (Some g) = record p { listed = with_group p.listed g }
+take_group p new None = record { listed = with_group p.listed new; fresh = p.fresh ++ (first_index new, new) ∷ [] }
 
 abbrev pub size_of : Span → ℕ
 size_of s = s.end - s.start
@@ -89,7 +101,7 @@ size_of s = s.end - s.start
 abbrev pub plan_group : Groups → TypeList → Plan → Span → Plan
 plan_group gs l p s =
     let canonical = canonical_of l p.listed.indices s in
-    take_group p canonical (free_indices (indices_of (gs ++ p.fresh)) (size_of s)) (find_group canonical (gs ++ p.fresh))
+    take_group p (new_group canonical (free_indices (indices_of (gs ++ p.fresh)) (size_of s))) (find_group canonical (gs ++ p.fresh))
 
 abbrev pub plan_groups : Groups → TypeList → Plan → List Span → Plan
 plan_groups gs l p [] = p

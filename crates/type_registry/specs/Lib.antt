@@ -5,3 +5,5 @@ pub mod Keeping
 pub mod Listed
 pub mod Changes
 pub mod Standing
+pub mod Counted
+pub mod Fresh

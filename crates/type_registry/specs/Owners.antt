@@ -1,5 +1,5 @@
 -- What has each index, and which indices have no owner.
-use Rattle.std.specs.Prelude.{ℕ, List, [], ◌∷◌, set, slice_get, Option, Some, None, option_and_then}
+use Rattle.std.specs.Prelude.{ℕ, ◌+◌, List, [], ◌∷◌, set, slice_get, Option, Some, None, option_and_then}
 use Rattle.type_registry.specs.declared.owners.Owner.{Owner}
 
 abbrev pub owner_at : List (Option Owner) → ℕ → Option Owner
@@ -13,3 +13,8 @@ free_count (Some o) = 0
 abbrev pub emptied : List (Option Owner) → List ℕ → List (Option Owner)
 emptied os [] = os
 emptied os (n ∷ ns) = emptied (set os n None) ns
+
+-- the members of a group have its indices, from a place on
+abbrev pub owned_by : ℕ → ℕ → List (Option Owner) → List ℕ → List (Option Owner)
+owned_by first place os [] = os
+owned_by first place os (n ∷ ns) = owned_by first (place + 1) (set os n (Some (record { first = first; place = place }))) ns

@@ -28,6 +28,12 @@ pub record Module : Type 0 where
 abbrev pub Groups : Type 0
 Groups = List (ℕ × Group)
 
+-- kept groups, the number of indices that there is room for, and how many more groups there is room for
+pub record GroupsState : Type 0 where
+  pub groups : Groups
+  pub room : ℕ
+  pub spare : ℕ
+
 -- the most types that may be live, how many registrations there were, the module that is held under each key, and the kept groups
 pub record Registry : Type 0 where
   pub max_types : ℕ

@@ -6,10 +6,12 @@ ghost use Rattle.std.specs.Option.{option_copied, option_map};
 ghost use Rattle.wasm_types.specs.TypeViews.{sub_type_of};
 ghost use Rattle.wasm_index.specs.Index.{number_of};
 ghost use Rattle.type_registry.specs.Registry.{Group, indices_of, used_types};
-ghost use Rattle.type_registry.specs.Changes.{leave_group, with_count};
+ghost use Rattle.type_registry.specs.Changes.{leave_group, count_group, keep_group, with_count, find_group, first_index};
+ghost use Rattle.type_registry.specs.Fresh.{MayBeKept};
+ghost use Rattle.type_registry.specs.Counted.{counted};
 
 use crate::kept::Kept;
-use crate::owners::{Owner, give_back, group_at, owner_of, take_at};
+use crate::owners::{Owner, give_back, group_at, owner_of, take_all, take_at};
 use entity_map::{EntityRef, Seeded};
 use free_numbers::FreeNumbers;
 use std::alloc::Global;
@@ -35,14 +37,16 @@ pub(crate) struct Groups {
     free: FreeNumbers,
 }
 
-/// A contract sees the groups by their first indices, in order.
+/// A contract sees the groups by their first indices, in order, and the room for more.
 impl Model for Groups {
-    ghost use Rattle.type_registry.specs.Registry.{Groups};
+    ghost use Rattle.std.specs.Prelude.{length};
+    ghost use Rattle.std.specs.HashMap.{spare};
+    ghost use Rattle.type_registry.specs.Registry.{GroupsState};
     ghost use Rattle.type_registry.specs.Keeping.{kept_from, IsKept};
 
-    ghost Value = { Groups };
+    ghost Value = { GroupsState };
 
-    ghost view = { λ m. kept_from 0 m.kept.items };
+    ghost view = { λ m. record { groups = kept_from 0 m.kept.items; room = length m.kept.items; spare = spare m.known } };
 
     ghost invariant = { λ m. IsKept m.live m.known m.kept.items m.owners.items m.free };
 }
@@ -50,7 +54,7 @@ impl Model for Groups {
 impl Groups {
     /// No groups.
     pub(crate) fn new(alloc: Global) -> Groups
-        ensures { result ≡ [] }
+        ensures { result.groups ≡ [] }
     {
         Groups {
             live: 0,
@@ -63,14 +67,14 @@ impl Groups {
 
     /// How many indices are live.
     pub(crate) fn live_types(&self) -> u32
-        ensures { result ≡ length (indices_of self.now) }
+        ensures { result ≡ length (indices_of self.now.groups) }
     {
         self.live
     }
 
     /// The live type at an index, whose references are all the engine's.
     pub(crate) fn get(&self, index: VMSharedTypeIndex) -> Option<&WasmSubType>
-        ensures { option_map sub_type_of (option_copied result) ≡ lookup (nat_eq (number_of index)) (used_types self.now) }
+        ensures { option_map sub_type_of (option_copied result) ≡ lookup (nat_eq (number_of index)) (used_types self.now.groups) }
     {
         let owner = owner_of(&self.owners, index.index())?;
         let kept = group_at(&self.kept, owner.first as usize)?;
@@ -79,7 +83,7 @@ impl Groups {
 
     /// How often held modules have the group at a first index, if one is kept there.
     fn count_of(&self, first: u32) -> Option<u128>
-        ensures { result ≡ option_map (λ (g : Group). g.count) (lookup (nat_eq first) self.now) }
+        ensures { result ≡ option_map (λ (g : Group). g.count) (lookup (nat_eq first) self.now.groups) }
     {
         let group = group_at(&self.kept, first as usize)?;
         Some(group.count())
@@ -87,7 +91,7 @@ impl Groups {
 
     /// Changes how often held modules have the group at a first index.
     fn set_count(&mut self, first: u32, count: u128)
-        ensures { self.new ≡ with_count self.old first count (lookup (nat_eq first) self.old) }
+        ensures { self.new.groups ≡ with_count self.old.groups first count (lookup (nat_eq first) self.old.groups) }
     {
         let Some(mut group) = take_at(&mut self.kept, first as usize) else {
             return;
@@ -98,7 +102,7 @@ impl Groups {
 
     /// Keeps the group at a first index no longer.
     fn drop_group(&mut self, first: u32)
-        ensures { self.new ≡ remove_entry (nat_eq first) self.old }
+        ensures { self.new.groups ≡ remove_entry (nat_eq first) self.old.groups }
     {
         let Some(group) = take_at(&mut self.kept, first as usize) else {
             return;
@@ -111,7 +115,7 @@ impl Groups {
 
     /// Counts a group once less. One that no module has any more is kept no longer.
     pub(crate) fn leave(&mut self, first: u32)
-        ensures { self.new ≡ leave_group self.old first (lookup (nat_eq first) self.old) }
+        ensures { self.new.groups ≡ leave_group self.old.groups first (lookup (nat_eq first) self.old.groups) }
     {
         let Some(count) = self.count_of(first) else {
             return;
@@ -121,5 +125,41 @@ impl Groups {
             return;
         }
         self.drop_group(first);
+    }
+
+    /// Counts a group once more.
+    pub(crate) fn count(&mut self, first: u32)
+        requires { counted self.old.groups < u128.MAX }
+        ensures { self.new.groups ≡ count_group self.old.groups first (lookup (nat_eq first) self.old.groups) }
+    {
+        let Some(count) = self.count_of(first) else {
+            return;
+        };
+        self.set_count(first, count + 1);
+    }
+
+    /// The kept group of these canonical members.
+    pub(crate) fn find(&self, canonical: &Rc<WasmRecGroup>) -> Option<&Kept>
+        ensures { option_copied result ≡ find_group canonical.now.value self.now.groups }
+    {
+        equality_law();
+        let first = *self.known.get(canonical)?;
+        group_at(&self.kept, first as usize)
+    }
+
+    /// Keeps a new group, which no module has yet, by its name: its canonical members once more.
+    pub(crate) fn keep(&mut self, group: Kept, name: Rc<WasmRecGroup>)
+        requires new { MayBeKept self.old group }
+        requires name { name.value ≡ group.canonical }
+        ensures groups { self.new.groups ≡ keep_group self.old.groups (first_index group) group }
+        ensures room { self.new.room ≡ self.old.room }
+        ensures spare { self.old.spare ≤ self.new.spare + 1 }
+    {
+        let first = group.first();
+        equality_law();
+        self.known.insert(name, first).ok();
+        self.live += group.indices.len() as u32;
+        take_all(&mut self.owners, &mut self.free, first, &group.indices);
+        self.kept[first as usize] = Some(group);
     }
 }

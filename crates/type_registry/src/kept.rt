@@ -1,6 +1,6 @@
 //! What a registry keeps of groups and of modules.
 
-ghost use Rattle.std.specs.Prelude.{◌≡◌, length, map, slice_get};
+ghost use Rattle.std.specs.Prelude.{◌≡◌, Some, length, map, slice_get};
 ghost use Rattle.std.specs.Option.{option_copied, option_map};
 ghost use Rattle.wasm_types.specs.TypeViews.{sub_type_of};
 ghost use Rattle.type_registry.specs.Registry.{used_type};
@@ -43,6 +43,13 @@ impl Kept {
         ensures { result ≡ self.now.count }
     {
         self.count
+    }
+
+    /// The index of its first member.
+    pub(crate) fn first(&self) -> u32
+        ensures { slice_get self.now.indices 0 ≡ Some result }
+    {
+        self.indices[0].as_u32()
     }
 
     /// The type of the member at a place as it is used.

@@ -7,6 +7,7 @@ mod kept;
 mod key;
 mod laws;
 mod owners;
+mod plan;
 mod registry;
 
 pub use error::RegistryError;

@@ -1,9 +1,9 @@
 //! What has each index.
 
-ghost use Rattle.std.specs.Prelude.{◌≡◌, None, map, set};
+ghost use Rattle.std.specs.Prelude.{◌≡◌, ◌<◌, None, map, set, length};
 ghost use Rattle.wasm_index.specs.Index.{number_of};
 ghost use Rattle.std.specs.Option.{option_copied};
-ghost use Rattle.type_registry.specs.Owners.{owner_at, free_count, emptied};
+ghost use Rattle.type_registry.specs.Owners.{owner_at, free_count, emptied, owned_by};
 ghost use Rattle.type_registry.specs.Keeping.{group_in};
 
 use crate::kept::Kept;
@@ -52,6 +52,27 @@ pub(crate) fn give_back(
 {
     for index in indices {
         set_owner(owners, free, index.index(), None);
+    }
+}
+
+/// The members of a group have its indices.
+pub(crate) fn take_all(
+    owners: &mut Vec<Option<Owner>>,
+    free: &mut FreeNumbers,
+    first: u32,
+    indices: &[VMSharedTypeIndex],
+)
+    requires free { free.old ≡ map free_count owners.old.items }
+    requires few { length indices.now < 4294967296 }
+    ensures owners { owners.new.items ≡ owned_by first 0 owners.old.items (map number_of indices.now) }
+    ensures free { free.new ≡ map free_count owners.new.items }
+{
+    for (place, index) in indices.iter().enumerate() {
+        let owner = Owner {
+            first,
+            place: place as u32,
+        };
+        set_owner(owners, free, index.index(), Some(owner));
     }
 }
 

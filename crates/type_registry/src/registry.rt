@@ -1,18 +1,21 @@
 //! The registry.
 
-ghost use Rattle.std.specs.Prelude.{◌≡◌, ◌↔◌, ◌<◌, ℕ, length, IsTrue, IsSome, IsOk, IfOk, OnOk, OnErr, IsErrOf};
+ghost use Rattle.std.specs.Prelude.{◌≡◌, ◌↔◌, ◌<◌, ◌+◌, ℕ, length, IsTrue, IsSome, IsOk, IfOk, OnOk, OnErr, IsErrOf};
 ghost use Rattle.std.specs.Option.{option_copied, option_map};
 ghost use Rattle.wasm_types.specs.TypeViews.{sub_type_of};
 ghost use Rattle.wasm_index.specs.Index.{number_of};
 ghost use Rattle.type_registry.specs.declared.error.RegistryError.TheVariants as refused;
 ghost use Rattle.type_registry.specs.Keys.{key_number};
 ghost use Rattle.type_registry.specs.Registry.{registry_of, empty, index_at, count_of, live, type_at};
-ghost use Rattle.type_registry.specs.Changes.{released, leave_groups};
+ghost use Rattle.type_registry.specs.Changes.{released, leave_groups, count_groups, keep_groups};
+ghost use Rattle.type_registry.specs.Counted.{counted};
+ghost use Rattle.type_registry.specs.Fresh.{MayKeepAll};
 
 use crate::error::RegistryError;
 use crate::groups::Groups;
 use crate::kept::Held;
 use crate::key::ModuleKey;
+use crate::plan::Fresh;
 use entity_map::EntityRef;
 use std::alloc::Global;
 use std::collections::HashMap;
@@ -43,18 +46,39 @@ impl Model for TypeRegistry {
       max_types = m.max_types;
       registrations = m.registrations;
       modules = m.modules.entries;
-      groups = m.groups;
+      groups = m.groups.groups;
     } };
 
-    ghost invariant = { λ m. (length (indices_of m.groups) ≤ m.max_types) × (m.max_types < 4294967295) };
+    ghost invariant = { λ m. (length (indices_of m.groups.groups) ≤ m.max_types) × (m.max_types < 4294967295) };
 }
 
 /// Counts the groups of a module once less.
 fn leave_all(groups: &mut Groups, firsts: &[u32])
-    ensures { groups.new ≡ leave_groups groups.old firsts.now }
+    ensures { groups.new.groups ≡ leave_groups groups.old.groups firsts.now }
 {
     for first in firsts {
         groups.leave(*first);
+    }
+}
+
+/// Keeps the new groups of a module.
+fn keep_all(groups: &mut Groups, fresh: Vec<Fresh>)
+    requires { MayKeepAll groups.old fresh.items }
+    ensures { groups.new.groups ≡ keep_groups groups.old.groups fresh.items }
+{
+    for group in fresh {
+        let Fresh { kept, name } = group;
+        groups.keep(kept, name);
+    }
+}
+
+/// Counts the groups of a module once more.
+fn count_all(groups: &mut Groups, firsts: &[u32])
+    requires { counted groups.old.groups + length firsts.now < u128.MAX }
+    ensures { groups.new.groups ≡ count_groups groups.old.groups firsts.now }
+{
+    for first in firsts {
+        groups.count(*first);
     }
 }
 

@@ -10,4 +10,4 @@ loop-first-preserved c =
     let fs = c.args.firsts.now in
     let k = c.loop-first.first-index in
     c.leave.ensures ∙ ap (λ gs. leave_group gs (get_or fs k 0) (lookup (nat_eq (get_or fs k 0)) gs)) c.loop-first.invariant
-    ∙ sym (left_push c.args.groups.now (take k fs) (get_or fs k 0)) ∙ ap (leave_groups c.args.groups.now) (sym (take_more fs k 0 c.loop-first-test.true))
+    ∙ sym (left_push c.args.groups.now.groups (take k fs) (get_or fs k 0)) ∙ ap (leave_groups c.args.groups.now.groups) (sym (take_more fs k 0 c.loop-first-test.true))

@@ -16,7 +16,7 @@ returns-in_err-group c =
     let none : option_copied c.group_at.result ≡ None = search rules in
     let at : group_in gs f ≡ None = sym (c.group_at.ensures ∙ ap (λ l. group_in l f) c.deref.ensures.value) ∙ none in
     let res : c.from_residual.result ≡ None = search rules in
-    res ∙ ap count (sym (group-seen gs c.args.self.now f c.self.view_is ∙ at))
+    res ∙ ap count (sym (group-seen gs c.args.self.now.groups f (ap (λ s. s.groups) c.self.view_is) ∙ at))
 
 pub returns : goal.returns
 unfolding count
@@ -25,4 +25,4 @@ returns c =
     let f = c.args.first in
     let some : option_copied c.group_at.result ≡ Some c.in_ok-group.group.now = search rules in
     let at : group_in gs f ≡ Some c.in_ok-group.group.now = sym (c.group_at.ensures ∙ ap (λ l. group_in l f) c.deref.ensures.value) ∙ some in
-    ap Some c.count.ensures ∙ ap count (sym (group-seen gs c.args.self.now f c.self.view_is ∙ at))
+    ap Some c.count.ensures ∙ ap count (sym (group-seen gs c.args.self.now.groups f (ap (λ s. s.groups) c.self.view_is) ∙ at))

@@ -26,7 +26,7 @@ returns-in_default c =
     let f = c.args.first in
     let taken : c.take_at.result ≡ None = search rules in
     let none : group_in gs f ≡ None = sym c.take_at.ensures.taken ∙ taken in
-    ap (kept_from 0) (c.take_at.ensures.left ∙ set-nothing gs f none) ∙ remove-none gs 0 f f (omega arith) none ∙ ap (remove_entry (nat_eq f)) c.self.view_is
+    ap (kept_from 0) (c.take_at.ensures.left ∙ set-nothing gs f none) ∙ remove-none gs 0 f f (omega arith) none ∙ ap (remove_entry (nat_eq f)) (ap (λ s. s.groups) c.self.view_is)
 
 pub overflow_cast-self : goal.overflow_cast-self
 overflow_cast-self c =
@@ -70,4 +70,4 @@ returns c =
     let f = c.args.first in
     let g = kept.the_view c.group.inside in
     let at : group_in gs f ≡ Some g = sym c.take_at.ensures.taken ∙ c.in-Some.is ∙ ap Some (sym c.group.view_is) in
-    ap (kept_from 0) c.take_at.ensures.left ∙ remove-at gs 0 f f g (omega arith) at ∙ ap (remove_entry (nat_eq f)) c.self.view_is
+    ap (kept_from 0) c.take_at.ensures.left ∙ remove-at gs 0 f f g (omega arith) at ∙ ap (remove_entry (nat_eq f)) (ap (λ s. s.groups) c.self.view_is)

@@ -16,7 +16,7 @@ returns-in_err-owner c =
     c.owner_of.ensures ∙ ap (λ l. owner_at l c.index.result) c.deref.ensures.value ∙ ap (owner_at os) c.index.ensures.number in
     let none : c.owner_of.result ≡ None = search rules in
     let shown : option_map sub_type_of (option_copied c.from_residual.result) ≡ None = search rules in
-    shown ∙ sym (no-type shared_content c.self.inside.live (first_of c.self.inside.known) gs os c.self.inside.free c.self.invariant c.args.self.now c.self.view_is n (sym is ∙ none))
+    shown ∙ sym (no-type shared_content c.self.inside.live (first_of c.self.inside.known) gs os c.self.inside.free c.self.invariant c.args.self.now.groups (ap (λ s. s.groups) c.self.view_is) n (sym is ∙ none))
 
 pub returns-in_err-kept : goal.returns-in_err-kept
 returns-in_err-kept c =
@@ -29,7 +29,7 @@ returns-in_err-kept c =
     let some : c.owner_of.result ≡ Some o = search rules in
     let none : option_copied c.group_at.result ≡ None = search rules in
     let at : group_in gs o.first ≡ None = sym (c.group_at.ensures ∙ ap (λ l. group_in l o.first) c.deref-2.ensures.value) ∙ none in
-    absurd (no-group shared_content c.self.inside.live (first_of c.self.inside.known) gs os c.self.inside.free c.self.invariant c.args.self.now c.self.view_is n o
+    absurd (no-group shared_content c.self.inside.live (first_of c.self.inside.known) gs os c.self.inside.free c.self.invariant c.args.self.now.groups (ap (λ s. s.groups) c.self.view_is) n o
     (sym is ∙ some) at)
 
 pub returns : goal.returns
@@ -45,5 +45,5 @@ returns c =
     let one : option_copied c.group_at.result ≡ Some g = search rules in
     let at : group_in gs o.first ≡ Some g = sym (c.group_at.ensures ∙ ap (λ l. group_in l o.first) c.deref-2.ensures.value) ∙ one in
     c.type_at.ensures
-    ∙ sym (some-type shared_content c.self.inside.live (first_of c.self.inside.known) gs os c.self.inside.free c.self.invariant c.args.self.now c.self.view_is n o g
+    ∙ sym (some-type shared_content c.self.inside.live (first_of c.self.inside.known) gs os c.self.inside.free c.self.invariant c.args.self.now.groups (ap (λ s. s.groups) c.self.view_is) n o g
     (sym is ∙ some) at)

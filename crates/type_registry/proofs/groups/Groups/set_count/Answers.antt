@@ -24,7 +24,7 @@ returns-in_default c =
     let taken : c.take_at.result ≡ None = search rules in
     let none : group_in gs f ≡ None = sym c.take_at.ensures.taken ∙ taken in
     ap (kept_from 0) (c.take_at.ensures.left ∙ set-nothing gs f none) ∙ count-none gs f c.args.count none
-    ∙ ap (λ (es : Groups). with_count es f c.args.count (lookup (nat_eq f) es)) c.self.view_is
+    ∙ ap (λ (es : Groups). with_count es f c.args.count (lookup (nat_eq f) es)) (ap (λ s. s.groups) c.self.view_is)
 
 pub index_mut-requires : goal.index_mut-requires
 index_mut-requires c =
@@ -58,4 +58,4 @@ returns c =
     let now : set c.take_at.new.kept.items f (Some h) ≡ set gs f (Some h) =
     ap (λ (l : List (Option Group)). set l f (Some h)) c.take_at.ensures.left ∙ set-twice gs f None (Some h) in
     ap (kept_from 0) now ∙ count-at gs f c.args.count g at
-    ∙ ap (λ (es : Groups). with_count es f c.args.count (lookup (nat_eq f) es)) c.self.view_is
+    ∙ ap (λ (es : Groups). with_count es f c.args.count (lookup (nat_eq f) es)) (ap (λ s. s.groups) c.self.view_is)

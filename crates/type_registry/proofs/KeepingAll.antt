@@ -1,0 +1,172 @@
+-- Groups that may be kept one after another.
+use Rattle.std.specs.Prelude.{◌||◌, ⊤}
+use Rattle.std.proofs.Common.{if◌then◌else◌, ◌≡◌, ◌∙◌, ◌<◌, ◌≤◌, ◌+◌, ℕ, zero, suc, Bool, true, false, nat_eq, nat_le, List, [], ◌∷◌, ◌++◌, length, slice_get, Some, None, refl, sym, ap, subst, arith}
+use Rattle.std.specs.List.{list_any}
+use Rattle.std.proofs.lemmas.List.{length-append}
+use Rattle.std.proofs.lemmas.Bool.{eqb-true}
+use Rattle.wasm_types.specs.declared.sub.WasmSubType.{WasmSubType}
+use Rattle.type_registry.specs.Registry.{Group, Groups, GroupsState, indices_of}
+use Rattle.type_registry.specs.Changes.{find_group, keep_group, keep_groups}
+use Rattle.type_registry.specs.Fresh.{MayBeKept, IsKeptIn, MayKeepAll}
+use Rattle.type_registry.proofs.OwnerLists.{any-place}
+use Rattle.type_registry.proofs.Keeping.{Eq}
+use Rattle.type_registry.proofs.NewGroups.{any-left, any-right}
+use Rattle.type_registry.proofs.Dropping.{number-is, some-none}
+
+-- ---- numbers that a list has once
+
+abbrev pub IsOnce : List ℕ → Type 0
+IsOnce [] = ⊤
+IsOnce (n ∷ ns) = (list_any (nat_eq n) ns ≡ false) × IsOnce ns
+
+true-false : (c : Bool) → c ≡ true → c ≡ false → ⊥
+true-false c holds fails = let no-way : true ≡ false = sym holds ∙ fails in cc
+
+any-second : (xs ys : List ℕ) (n : ℕ) → list_any (nat_eq n) xs ≡ false → list_any (nat_eq n) (xs ++ ys) ≡ list_any (nat_eq n) ys
+any-second [] ys n fails = refl
+any-second (x ∷ xs) ys n fails = by (nat_eq n x) fails (any-second xs ys n) where
+  by : (c : Bool) → (c || list_any (nat_eq n) xs) ≡ false → (list_any (nat_eq n) xs ≡ false → list_any (nat_eq n) (xs ++ ys) ≡ list_any (nat_eq n) ys)
+      → (c || list_any (nat_eq n) (xs ++ ys)) ≡ list_any (nat_eq n) ys
+  by true fails rest = let no-way : true ≡ false = fails in cc
+  by false fails rest = rest fails
+
+pub any-both : (xs ys : List ℕ) (n : ℕ) → list_any (nat_eq n) xs ≡ false → list_any (nat_eq n) ys ≡ false → list_any (nat_eq n) (xs ++ ys) ≡ false
+any-both xs ys n a b = any-second xs ys n a ∙ b
+
+pub not-left : (xs ys : List ℕ) (n : ℕ) → list_any (nat_eq n) (xs ++ ys) ≡ false → list_any (nat_eq n) xs ≡ false
+not-left xs ys n fails = by (list_any (nat_eq n) xs) refl where
+  by : (c : Bool) → list_any (nat_eq n) xs ≡ c → list_any (nat_eq n) xs ≡ false
+  by true e = absurd (true-false (list_any (nat_eq n) (xs ++ ys)) (any-left xs ys n e) fails)
+  by false e = e
+
+pub not-right : (xs ys : List ℕ) (n : ℕ) → list_any (nat_eq n) (xs ++ ys) ≡ false → list_any (nat_eq n) ys ≡ false
+not-right xs ys n fails = by (list_any (nat_eq n) ys) refl where
+  by : (c : Bool) → list_any (nat_eq n) ys ≡ c → list_any (nat_eq n) ys ≡ false
+  by true e = absurd (true-false (list_any (nat_eq n) (xs ++ ys)) (any-right xs ys n e) fails)
+  by false e = e
+
+once-left : (xs ys : List ℕ) → IsOnce (xs ++ ys) → IsOnce xs
+once-left [] ys o = tt
+once-left (x ∷ xs) ys o = (not-left xs ys x o.0, once-left xs ys o.1)
+
+once-right : (xs ys : List ℕ) → IsOnce (xs ++ ys) → IsOnce ys
+once-right [] ys o = o
+once-right (x ∷ xs) ys o = once-right xs ys o.1
+
+-- what the second has the first has not
+once-apart : (xs ys : List ℕ) (n : ℕ) → IsOnce (xs ++ ys) → list_any (nat_eq n) ys ≡ true → list_any (nat_eq n) xs ≡ false
+once-apart [] ys n o has = refl
+once-apart (x ∷ xs) ys n o has = by (nat_eq n x) refl (once-apart xs ys n o.1 has) where
+  by : (c : Bool) → nat_eq n x ≡ c → list_any (nat_eq n) xs ≡ false → (c || list_any (nat_eq n) xs) ≡ false
+  by true e rest =
+      absurd (true-false (list_any (nat_eq x) ys) (ap (λ m. list_any (nat_eq m) ys) (sym (eqb-true n x e)) ∙ has) (not-right xs ys x o.0))
+  by false e rest = rest
+
+once-at : (ns : List ℕ) (p q n : ℕ) → IsOnce ns → slice_get ns p ≡ Some n → slice_get ns q ≡ Some n → p ≡ q
+once-at [] p q n o at at' = absurd (some-none n at)
+once-at (m ∷ ns) zero zero n o at at' = refl
+once-at (m ∷ ns) zero (suc q) n o at at' =
+    absurd (true-false (list_any (nat_eq m) ns) (ap (λ i. list_any (nat_eq i) ns) (number-is m n at) ∙ any-place ns n q at') o.0)
+once-at (m ∷ ns) (suc p) zero n o at at' =
+    absurd (true-false (list_any (nat_eq m) ns) (ap (λ i. list_any (nat_eq i) ns) (number-is m n at') ∙ any-place ns n p at) o.0)
+once-at (m ∷ ns) (suc p) (suc q) n o at at' = ap suc (once-at ns p q n o.1 at at')
+
+-- ---- what is kept once one more group is
+
+keep-without : (gs : Groups) (f n : ℕ) (g : Group) → list_any (nat_eq n) g.indices ≡ false → list_any (nat_eq n) (indices_of gs) ≡ false
+    → list_any (nat_eq n) (indices_of (keep_group gs f g)) ≡ false
+keep-without [] f n g a b = any-both g.indices [] n a refl
+keep-without (e ∷ gs) f n g a b =
+    by (nat_le f e.0) (keep-without gs f n g a (not-right e.1.indices (indices_of gs) n b)) where
+      by : (c : Bool) → list_any (nat_eq n) (indices_of (keep_group gs f g)) ≡ false
+          → list_any (nat_eq n) (indices_of (if c then (f, g) ∷ e ∷ gs else e ∷ keep_group gs f g)) ≡ false
+      by true rest = any-both g.indices (indices_of (e ∷ gs)) n a b
+      by false rest = any-both e.1.indices (indices_of (keep_group gs f g)) n (not-left e.1.indices (indices_of gs) n b) rest
+
+keep-length : (gs : Groups) (f : ℕ) (g : Group) → length (indices_of (keep_group gs f g)) ≡ length (indices_of gs) + length g.indices
+keep-length [] f g = omega (arith, length-append g.indices (indices_of []))
+keep-length (e ∷ gs) f g = by (nat_le f e.0) (keep-length gs f g) where
+  by : (c : Bool) → length (indices_of (keep_group gs f g)) ≡ length (indices_of gs) + length g.indices
+      → length (indices_of (if c then (f, g) ∷ e ∷ gs else e ∷ keep_group gs f g)) ≡ length (indices_of (e ∷ gs)) + length g.indices
+  by true rest = omega (arith, length-append g.indices (indices_of (e ∷ gs)))
+  by false rest = omega (arith, rest, length-append e.1.indices (indices_of gs), length-append e.1.indices (indices_of (keep_group gs f g)))
+
+keep-unknown : (gs : Groups) (f : ℕ) (g : Group) (c : List WasmSubType) → Eq g.canonical c ≡ false → find_group c gs ≡ None → find_group c (keep_group gs f g) ≡ None
+keep-unknown [] f g c unlike none = ap (λ b. if b then Some g else None) unlike
+keep-unknown (e ∷ gs) f g c unlike none = by (nat_le f e.0) (keep-unknown gs f g c unlike) where
+  last : (b : Bool) → (if b then Some e.1 else find_group c gs) ≡ None → (find_group c gs ≡ None → find_group c (keep_group gs f g) ≡ None)
+      → (if b then Some e.1 else find_group c (keep_group gs f g)) ≡ None
+  last true fails rest = absurd (some-none e.1 (sym fails))
+  last false fails rest = rest fails
+
+  by : (b : Bool) → (find_group c gs ≡ None → find_group c (keep_group gs f g) ≡ None)
+      → find_group c (if b then (f, g) ∷ e ∷ gs else e ∷ keep_group gs f g) ≡ None
+  by true rest = ap (λ b. if b then Some g else find_group c (e ∷ gs)) unlike ∙ none
+  by false rest = last (Eq e.1.canonical c) none rest
+
+-- ---- one after another
+
+-- no group is kept
+abbrev pub AllUnknown : Groups → Groups → Type 0
+AllUnknown gs [] = ⊤
+AllUnknown gs (e ∷ es) = (find_group e.1.canonical gs ≡ None) × AllUnknown gs es
+
+abbrev pub AllUnlike : Group → Groups → Type 0
+AllUnlike g [] = ⊤
+AllUnlike g (e ∷ es) = (Eq g.canonical e.1.canonical ≡ false) × AllUnlike g es
+
+-- no two groups are equal
+abbrev pub AllApart : Groups → Type 0
+AllApart [] = ⊤
+AllApart (e ∷ es) = AllUnlike e.1 es × AllApart es
+
+-- groups that may all be kept: there is room, their indices are distinct and not live, and no two are equal, nor one and a kept one
+pub record MayKeep (s : GroupsState) (es : Groups) : Type 0 where
+  pub few : length (indices_of s.groups) + length (indices_of es) < 4294967296
+  pub spare : length es ≤ s.spare
+  pub room : (n : ℕ) → list_any (nat_eq n) (indices_of es) ≡ true → n < s.room
+  pub free : (n : ℕ) → list_any (nat_eq n) (indices_of es) ≡ true → list_any (nat_eq n) (indices_of s.groups) ≡ false
+  pub once : IsOnce (indices_of es)
+  pub unknown : AllUnknown s.groups es
+  pub apart : AllApart es
+
+unknown-still : (gs : Groups) (f : ℕ) (g : Group) (es : Groups) → AllUnlike g es → AllUnknown gs es → AllUnknown (keep_group gs f g) es
+unknown-still gs f g [] unlike unknown = tt
+unknown-still gs f g (e ∷ es) unlike unknown =
+    (keep-unknown gs f g e.1.canonical unlike.0 unknown.0, unknown-still gs f g es unlike.1 unknown.1)
+
+one-may : (s : GroupsState) (e : ℕ × Group) (es : Groups) → MayKeep s (e ∷ es) → MayBeKept s e.1
+one-may s e es m =
+    let has : (p n : ℕ) → slice_get e.1.indices p ≡ Some n → list_any (nat_eq n) (indices_of (e ∷ es)) ≡ true =
+    λ p n at. any-left e.1.indices (indices_of es) n (any-place e.1.indices n p at) in
+    record {
+      few = omega (arith, m.few, length-append e.1.indices (indices_of es));
+      spare = omega (arith, m.spare);
+      room = λ p n at. m.room n (has p n at);
+      free = λ p n at. m.free n (has p n at);
+      once = λ p q n at at'. once-at e.1.indices p q n (once-left e.1.indices (indices_of es) m.once) at at';
+      unknown = m.unknown.0;
+    }
+
+rest-may : (s t : GroupsState) (e : ℕ × Group) (es : Groups) → MayKeep s (e ∷ es) → IsKeptIn s e t → MayKeep t es
+rest-may s t e es m is =
+    let size : length (indices_of t.groups) ≡ length (indices_of s.groups) + length e.1.indices =
+    ap (λ gs. length (indices_of gs)) is.0 ∙ keep-length s.groups e.0 e.1 in
+    record {
+      few = omega (arith, m.few, size, length-append e.1.indices (indices_of es));
+      spare = omega (arith, m.spare, is.2);
+      room = λ n has. omega (arith, is.1, m.room n (any-right e.1.indices (indices_of es) n has));
+      free = λ n has. ap (λ gs. list_any (nat_eq n) (indices_of gs)) is.0
+          ∙ keep-without s.groups e.0 n e.1 (once-apart e.1.indices (indices_of es) n m.once has) (m.free n (any-right e.1.indices (indices_of es) n has));
+      once = once-right e.1.indices (indices_of es) m.once;
+      unknown = subst (λ (gs : Groups). AllUnknown gs es) (sym is.0) (unknown-still s.groups e.0 e.1 es m.apart.0 m.unknown.1);
+      apart = m.apart.1;
+    }
+
+pub may-keep-all : (es : Groups) (s : GroupsState) → MayKeep s es → MayKeepAll s es
+may-keep-all [] s m = tt
+may-keep-all (e ∷ es) s m = (one-may s e es m, λ t is. may-keep-all es t (rest-may s t e es m is))
+
+pub kept_push : (gs es : Groups) (f : ℕ) (g : Group) → keep_groups gs (es ++ (f, g) ∷ []) ≡ keep_group (keep_groups gs es) f g
+kept_push gs [] f g = refl
+kept_push gs (e ∷ es) f g = kept_push (keep_group gs e.0 e.1) es f g
