@@ -9,7 +9,9 @@ mod status;
 mod translating;
 
 pub use command_words::{Collector, Command, read_words};
-pub use devices::{CountSink, Failed, ListSink, ListSource, Sink, SliceSource, Source};
+pub use devices::{
+    CountSink, Failed, ListSink, ListSource, OutOfMemory, Sink, SliceSource, Source,
+};
 pub use module_generator::generate;
 pub use plan::{Plan, TranslateError};
 pub use plan_text::{plan_text, refusal_line, summary_text};
