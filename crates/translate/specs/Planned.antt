@@ -60,7 +60,7 @@ pub record KeepsAnd (bytes : List ℕ) (P : Module → Type 0) : Type 0 where
 
 -- the runtime data of the module pass 4294967295 bytes
 abbrev pub HasMuchData : InitOptions → Module → Type 0
-HasMuchData i m = (plan : MemoryPlan) → PlansMemories i m plan → 2 ^ 32 ≤ sum_by length plan.runtime
+HasMuchData i m = HasDataSize i m (λ size. 2 ^ 32 ≤ size)
 
 -- why the bytes are refused
 abbrev pub HasCause : Options → List ℕ → TranslateError → Type 0
