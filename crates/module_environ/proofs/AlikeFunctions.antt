@@ -126,18 +126,25 @@ module _ (look : LookUp) (l : rule.Lists) where
   past-types t None e at = rw e refl
   past-types t (Some d) e at = absurd (none-some (looked-up d) (sym at ∙ by-type t (Some d) e))
 
-  -- what is listed for the type of a function, and where nothing is
-  pub params-some : (f d : ℕ) (ps : List (Value Name)) → f < length l.functions → slice_get (params_of_types look l) (get_or l.functions f d) ≡ Some ps
-      → ps ≡ map (map_value look) (params_at l f)
-  params-some f d ps lt at =
-      let t = get_or l.functions f d in
-      at-type t (slice_get l.types t) refl ps at ∙ ap (map (map_value look)) (params-found l f d lt)
+  -- of a list that has what is looked up, the entry at the type of a function
+  module _ {X : Type 0} (see : X → List (Value Name)) (xs : List X) (listed : map see xs ≡ params_of_types look l) (f t d : ℕ)
+      (lt : f < length l.functions) (is : t ≡ get_or l.functions f d) where
+    found-at : (o : Option X) → slice_get xs t ≡ o → slice_get (params_of_types look l) t ≡ option_map see o
+    found-at o e = ap (λ ys. slice_get ys t) (sym listed) ∙ slice_get-map see xs t ∙ ap (option_map see) e
 
-  pub params-none : (f d : ℕ) → f < length l.functions → slice_get (params_of_types look l) (get_or l.functions f d) ≡ None
-      → [] ≡ map (map_value look) (params_at l f)
-  params-none f d lt at =
-      let t = get_or l.functions f d in
-      past-types t (slice_get l.types t) refl at ∙ ap (map (map_value look)) (params-found l f d lt)
+    of-function : map (map_value look) (params-at-type t) ≡ map (map_value look) (params_at l f)
+    of-function = ap (λ n. map (map_value look) (params-at-type n)) is ∙ ap (map (map_value look)) (params-found l f d lt)
+
+    pub params-some : (x : X) → t < length xs → x ≡ get_or xs t x → see x ≡ map (map_value look) (params_at l f)
+    params-some x within at =
+        at-type t (slice_get l.types t) refl (see x) (found-at (Some x) (slice_get-get_or xs t x within ∙ ap Some (sym at))) ∙ of-function
+
+    pub params-none : length xs ≤ t → [] ≡ map (map_value look) (params_at l f)
+    params-none past = by (slice_get_cases xs t).1 where
+      by : ((x : X) × (t < length xs) × (slice_get xs t ≡ Some x) × (get_or xs t x ≡ x)) ⊎ ((length xs ≤ t) × (slice_get xs t ≡ None))
+          → [] ≡ map (map_value look) (params_at l f)
+      by (inl here) = let lower = here.1 in absurd (omega (arith, lower, past))
+      by (inr none) = past-types t (slice_get l.types t) refl (found-at None none.1) ∙ of-function
 
 -- ---- what was gathered
 
@@ -177,12 +184,12 @@ module _ (lists : Lists) (gathered : IsGathered lists) where
 
     -- ---- parameters and locals can be converted
 
-    module _ (k : ℕ) (d : types.Declared) (params : List ValType) (lt : k < length lists.types.items) (at : d ≡ get_or lists.types.items k d)
-        (are : map value_of params ≡ params_of (declared_of d).type.composite.inner) where
+    module _ (ds : List types.Declared) (read : ds ≡ lists.types.items) (k : ℕ) (d : types.Declared) (params : List ValType) (lt : k < length ds)
+        (at : d ≡ get_or ds k d) (are : map value_of params ≡ params_of (declared_of d).type.composite.inner) where
       found : slice_get all.types k ≡ Some (declared_of d)
       found = ap (λ (r : rule.Lists). slice_get r.types k) (sym gathered.lists)
           ∙ slice_get-map declared_of lists.types.items k
-          ∙ ap (option_map declared_of) (slice_get-get_or lists.types.items k d lt ∙ ap Some (sym at))
+          ∙ ap (option_map declared_of) (ap (λ (xs : List types.Declared). slice_get xs k) (sym read) ∙ slice_get-get_or ds k d lt ∙ ap Some (sym at))
 
       below : All (ValueIsBelow count) (params_of (declared_of d).type.composite.inner)
       below = subst (λ o. All (ValueIsBelow count) (unwrap_or (option_map params_of (option_map (λ (x : Declared). x.type.composite.inner) o)) [])) found

@@ -66,10 +66,7 @@ fn params_by_type(
 }
 
 /// The list, which may have several owners now.
-fn shared(
-    alloc: Global,
-    params: Vec<WasmValType>,
-) -> Result<Rc<Vec<WasmValType>>, OutOfMemory>
+fn shared(alloc: Global, params: Vec<WasmValType>) -> Result<Rc<Vec<WasmValType>>, OutOfMemory>
     ensures { IfOk result (λ list. list.value ≡ params) }
 {
     match Rc::new(alloc, params) {

@@ -12,7 +12,7 @@ use Rattle.init_plan.specs.Images.{image_memories, BeginsByRule, HasTightImages,
 use Rattle.init_plan.specs.Held.{HoldsMemories}
 use Rattle.init_plan.specs.Tables.{OnlyTableInitChanges}
 use Rattle.module_environ.specs.Initialisers.{passive_data_from}
-use Rattle.translate.specs.Options.{InitOptions, images, passive_bytes, BecomesImages, HasDataSize, PlansMemories}
+use Rattle.translate.specs.Options.{InitOptions, images, passive_bytes, BecomesImages, HasDataSize}
 use Rattle.translate.specs.Initialised.{InitialisesMemories}
 use Rattle.translate.proofs.Segments.{finds}
 use Rattle.translate.proofs.Unchanged.{with_tables}

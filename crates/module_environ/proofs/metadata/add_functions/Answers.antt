@@ -30,7 +30,7 @@ loop-body-preserved g c =
     let before = c.args.all.now.items in
     let z : FunctionMetadata = record { params = c.in_ok-function_params.field-0; locals = c.in_ok-convert_locals.field-0 } in
     let one = metadata lists c.requires.gathered (look.knows c.args.env.now.1) (look.look_up c.args.env.now.1) c.requires.looks
-    (length before + k) c.function.function (body_of body) c.deref.result.now z
+    (length before + k) (lists.imported_functions + c.len.result) (body_of body) c.deref.result.now z
     (at-item refers body_of c.args.bodies.now k body c.loop-body-test.true c.body-item.is c.requires.refer)
     (omega (arith, c.loop-body.invariant.counted, c.len.ensures)) c.deref.ensures.value
     c.in_ok-function_params.ensures c.in_ok-convert_locals.ensures in
