@@ -10,3 +10,4 @@ pub mod Counting
 pub mod NewGroups
 pub mod KeepingAll
 pub mod Copies
+pub mod FreeIndices

@@ -7,3 +7,4 @@ pub mod Changes
 pub mod Standing
 pub mod Counted
 pub mod Fresh
+pub mod FreeIndices
