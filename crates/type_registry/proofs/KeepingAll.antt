@@ -19,10 +19,10 @@ abbrev pub IsOnce : List ℕ → Type 0
 IsOnce [] = ⊤
 IsOnce (n ∷ ns) = (list_any (nat_eq n) ns ≡ false) × IsOnce ns
 
-true-false : (c : Bool) → c ≡ true → c ≡ false → ⊥
+pub true-false : (c : Bool) → c ≡ true → c ≡ false → ⊥
 true-false c holds fails = let no-way : true ≡ false = sym holds ∙ fails in cc
 
-any-second : (xs ys : List ℕ) (n : ℕ) → list_any (nat_eq n) xs ≡ false → list_any (nat_eq n) (xs ++ ys) ≡ list_any (nat_eq n) ys
+pub any-second : (xs ys : List ℕ) (n : ℕ) → list_any (nat_eq n) xs ≡ false → list_any (nat_eq n) (xs ++ ys) ≡ list_any (nat_eq n) ys
 any-second [] ys n fails = refl
 any-second (x ∷ xs) ys n fails = by (nat_eq n x) fails (any-second xs ys n) where
   by : (c : Bool) → (c || list_any (nat_eq n) xs) ≡ false → (list_any (nat_eq n) xs ≡ false → list_any (nat_eq n) (xs ++ ys) ≡ list_any (nat_eq n) ys)

@@ -11,3 +11,5 @@ pub mod NewGroups
 pub mod KeepingAll
 pub mod Copies
 pub mod FreeIndices
+pub mod FreeOwners
+pub mod UsedEdges

@@ -1,6 +1,7 @@
 //! The groups that are kept.
 
-ghost use Rattle.std.specs.Prelude.{◌≡◌, ◌+◌, ◌≤◌, ◌<◌, [], length, nat_eq, IsSome};
+ghost use Rattle.std.specs.Prelude.{◌≡◌, ◌+◌, ◌≤◌, ◌<◌, [], false, length, nat_eq, IsSome};
+ghost use Rattle.std.specs.List.{list_any};
 ghost use Rattle.std.specs.Map.{lookup, remove_entry};
 ghost use Rattle.std.specs.Option.{option_copied, option_map};
 ghost use Rattle.wasm_types.specs.TypeViews.{sub_type_of};
@@ -9,6 +10,7 @@ ghost use Rattle.type_registry.specs.Registry.{Group, indices_of, used_types};
 ghost use Rattle.type_registry.specs.Changes.{leave_group, count_group, keep_group, with_count, find_group, first_index};
 ghost use Rattle.type_registry.specs.Fresh.{MayBeKept};
 ghost use Rattle.type_registry.specs.Counted.{counted};
+ghost use Rattle.type_registry.specs.FreeIndices.{free_below};
 
 use crate::kept::Kept;
 use crate::owners::{Owner, give_back, group_at, owner_of, take_all, take_at};
@@ -136,6 +138,19 @@ impl Groups {
             return;
         };
         self.set_count(first, count + 1);
+    }
+
+    /// The index that is not live before which so many are not.
+    pub(crate) fn free_at(&self, rank: u32) -> VMSharedTypeIndex
+        requires { length (indices_of self.now.groups) + rank < u32.MAX }
+        ensures free { list_any (nat_eq (number_of result)) (indices_of self.now.groups) ≡ false }
+        ensures rank { free_below (indices_of self.now.groups) (number_of result) ≡ rank }
+    {
+        if let Some(number) = self.free.nth(rank) {
+            return VMSharedTypeIndex::from_u32(number);
+        }
+        let further = rank - self.free.len_free();
+        VMSharedTypeIndex::from_u32(self.owners.len() as u32 + further)
     }
 
     /// The kept group of these canonical members.
