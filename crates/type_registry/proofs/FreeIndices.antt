@@ -188,7 +188,7 @@ free-at taken n k x at =
     (f.free, omega (arith, f.rank))
 
 -- what was free in turn is taken meanwhile
-free-split : (taken : List ℕ) (m n : ℕ) → free_indices taken (m + n) ≡ free_indices taken m ++ free_indices (taken ++ free_indices taken m) n
+pub free-split : (taken : List ℕ) (m n : ℕ) → free_indices taken (m + n) ≡ free_indices taken m ++ free_indices (taken ++ free_indices taken m) n
 free-split taken zero n =
     let none : 0 + n ≡ n = omega arith in
     ap (free_indices taken) none ∙ free-same taken (taken ++ []) n (λ x. sym (none-more taken x)) where

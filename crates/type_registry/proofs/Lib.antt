@@ -13,3 +13,5 @@ pub mod Copies
 pub mod FreeIndices
 pub mod FreeOwners
 pub mod UsedEdges
+pub mod FreshGroups
+pub mod PlanGroups

@@ -2,12 +2,14 @@
 #![tactic(auto)]
 
 mod error;
+mod fresh;
 mod groups;
 mod kept;
 mod key;
 mod laws;
 mod owners;
 mod plan;
+mod planning;
 mod registry;
 
 pub use error::RegistryError;
