@@ -15,3 +15,4 @@ pub mod FreeOwners
 pub mod UsedEdges
 pub mod FreshGroups
 pub mod PlanGroups
+pub mod Roomier

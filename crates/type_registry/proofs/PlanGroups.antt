@@ -1,11 +1,15 @@
 -- The groups of a module are planned one after another.
 use Rattle.std.specs.Prelude.{◌||◌, ⊤}
-use Rattle.std.proofs.Common.{if◌then◌else◌, ◌≡◌, ◌∙◌, ◌↔◌, ◌<◌, ◌≤◌, ℕ, zero, suc, ◌+◌, ◌-◌, Bool, true, false, nat_eq, List, [], ◌∷◌, ◌++◌, length, map, get_or, take, Option, Some, None, refl, sym, ap, subst, arith}
+use Rattle.std.proofs.Common.{if◌then◌else◌, ◌≡◌, ◌∙◌, ◌↔◌, ◌<◌, ◌≤◌, ℕ, zero, suc, ◌+◌, ◌-◌, Bool, true, false, nat_eq, List, [], ◌∷◌, ◌++◌, length, map, get_or, drop, Option, Some, None, refl, sym, ap, subst, arith}
 use Rattle.std.specs.List.{list_any, flat_map}
-use Rattle.std.proofs.lemmas.List.{length-append, length-map}
+use Rattle.std.proofs.lemmas.List.{length-append, length-map, length-take-le, length-drop}
 use Rattle.std.proofs.lemmas.Grind.{flat_map-append}
+use Rattle.wasm_spec.specs.TypeData.{map_sub_type}
+use Rattle.type_data.specs.Names.{named}
 use Rattle.type_spec.specs.Interned.{Span}
 use Rattle.wasm_types.specs.declared.sub.WasmSubType.{WasmSubType}
+use Rattle.wasm_types.specs.TypeViews.{sub_type_of, group_of}
+use Rattle.wasm_trace.specs.Canonical.{consed_edge}
 use Rattle.module_types.specs.Views.{span_of, interned_of}
 use Rattle.module_types.specs.TypeList.{TypeList}
 use Rattle.module_types.specs.Orderly.{LieBetween}
@@ -13,9 +17,9 @@ use Rattle.module_types.specs.Conversion.{no_span}
 use Rattle.module_types.specs.ListGroups.{span_at}
 use Rattle.module_types.proofs.Standing.{stands-at}
 use Rattle.type_registry.specs.Registry.{Group, Groups, GroupsState, Module, indices_of}
-use Rattle.type_registry.specs.Changes.{Plan, begun, find_group, first_index, at_first, free_indices, new_group, next_group, canonical_of, take_group, plan_group, plan_groups, size_of}
+use Rattle.type_registry.specs.Changes.{Plan, begun, find_group, given, members_of, at_first, free_indices, next_group, canonical_data, canonical_of, take_group, plan_group, plan_groups, size_of, with_group}
 use Rattle.type_registry.specs.Listed.{Listed, list_of}
-use Rattle.type_registry.specs.Planning.{MayBePlanned, MayBePlannedFrom, HaveFirstFree}
+use Rattle.type_registry.specs.Planning.{MayBePlanned, MayBePlannedFrom, HaveFirstFree, plan}
 use Rattle.type_registry.proofs.Copies.{may-cons, may-use}
 use Rattle.type_registry.proofs.Dropping.{some-none, group-is}
 use Rattle.type_registry.proofs.Keeping.{Eq}
@@ -198,3 +202,30 @@ group-grows gs l p s = by (find_group (canonical_of l p.listed.indices s) (gs ++
 pub groups-grow : (gs : Groups) (l : TypeList) (p : Plan) (ss : List Span) → members p ≤ members (plan_groups gs l p ss)
 groups-grow gs l p [] = omega arith
 groups-grow gs l p (s ∷ ss) = omega (arith, group-grows gs l p s, groups-grow gs l (plan_group gs l p s) ss)
+
+-- ---- one group
+
+pub canonical-long : (l : TypeList) (s : Span) (before : List ℕ) (c : List WasmSubType) → s.end ≤ length l.types → group_of c ≡ canonical_data l before s
+    → length c ≡ s.end - s.start
+canonical-long l s before c within is =
+    omega (
+      arith,
+      length-map c sub_type_of,
+      ap length is,
+      length-map (group_of (members_of l s)) (map_sub_type (named (consed_edge (given before) s.start)) (consed_edge (given before) s.start)),
+      length-map (members_of l s) sub_type_of,
+      length-take-le (s.end - s.start) (drop s.start l.types) (omega (arith, length-drop s.start l.types, within)),
+    )
+
+module _ (gs : Groups) (l : TypeList) (p : Plan) (s : Span) (c : List WasmSubType) (is : c ≡ canonical_of l p.listed.indices s) where
+  abbrev next : List WasmSubType → Group
+  next x = next_group gs p.fresh x (size_of s)
+
+  pub known-group : (g : Group) → find_group c (gs ++ p.fresh) ≡ Some g → plan_group gs l p s ≡ plan (with_group p.listed g) p.fresh
+  known-group g found = ap (take_group p (next (canonical_of l p.listed.indices s))) (ap (λ x. find_group x (gs ++ p.fresh)) (sym is) ∙ found)
+
+  pub unknown-group : find_group c (gs ++ p.fresh) ≡ None
+      → plan_group gs l p s ≡ plan (with_group p.listed (next c)) (p.fresh ++ at_first (next c) ∷ [])
+  unknown-group none =
+      ap (take_group p (next (canonical_of l p.listed.indices s))) (ap (λ x. find_group x (gs ++ p.fresh)) (sym is) ∙ none)
+      ∙ ap (λ x. plan (with_group p.listed (next x)) (p.fresh ++ at_first (next x) ∷ [])) (sym is)

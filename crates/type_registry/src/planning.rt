@@ -22,7 +22,7 @@ use std::alloc::Global;
 use std::marker::Model;
 use std::rc::Rc;
 use wasm_index::VMSharedTypeIndex;
-use wasm_types::WasmRecGroup;
+use wasm_types::{WasmRecGroup, equality_law};
 
 /// What a registration reads.
 #[derive(Clone, Copy)]
@@ -143,7 +143,7 @@ fn shared_canonical(
     requires may { MayBePlanned source.types.now (record { start = start; end = end }) }
     requires long { length given.now ≡ start }
     ensures canonical { IfOk result (λ c. c.value ≡ canonical_of source.entry.types.now (map number_of given.now) (record { start = start; end = end })) }
-    ensures data { IfOk result (λ c. group_of c.value ≡ canonical_data source.entry.types.now (map number_of given.now) (record { start = start; end = end })) }
+    ensures form { IfOk result (λ c. group_of c.value ≡ canonical_data source.entry.types.now (map number_of given.now) (record { start = start; end = end })) }
 {
     let members = canonical(source.alloc, source.types, start, end, given)?;
     Ok(Rc::new(source.alloc, members)?)
@@ -171,6 +171,7 @@ fn take_group(
     ensures held { IsErrOf result refused.NotHeld → ⊥ }
 {
     let canonical = shared_canonical(source, start, end, &listed.indices)?;
+    equality_law();
     if let Some(group) = find_equal(source.groups, fresh, &canonical) {
         group.join(listed)?;
         return Ok(());

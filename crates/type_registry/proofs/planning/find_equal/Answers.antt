@@ -16,4 +16,4 @@ returns-in-None c =
     let gs = c.args.groups.now.groups in
     let m = c.args.canonical.now.value in
     let none : find_group m gs ≡ None = sym c.find.ensures ∙ ap option_copied c.in-None.is in
-    c.find-2.ensures ∙ sym (find-none gs c.args.fresh.now m none)
+    c.find-in-None.ensures ∙ sym (find-none gs c.args.fresh.now m none)
