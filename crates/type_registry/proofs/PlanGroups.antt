@@ -7,10 +7,15 @@ use Rattle.std.proofs.lemmas.Grind.{flat_map-append}
 use Rattle.wasm_spec.specs.TypeData.{map_sub_type}
 use Rattle.type_data.specs.Names.{named}
 use Rattle.type_spec.specs.Interned.{Span}
+use Rattle.std.specs.declared.ops.Range.{Range}
+use Rattle.entity_map.specs.Keyed.{keyed, keyed_from}
+use Rattle.wasm_index.specs.declared.index.Index.{Index}
+use Rattle.wasm_index.specs.declared.spaces.ModuleInternedRecGroupSpace.{ModuleInternedRecGroupSpace}
+use Rattle.wasm_index.specs.Index.{index_of}
 use Rattle.wasm_types.specs.declared.sub.WasmSubType.{WasmSubType}
 use Rattle.wasm_types.specs.TypeViews.{sub_type_of, group_of}
 use Rattle.wasm_trace.specs.Canonical.{consed_edge}
-use Rattle.module_types.specs.Views.{span_of, interned_of}
+use Rattle.module_types.specs.Views.{TypeIndex, span_of, interned_of}
 use Rattle.module_types.specs.TypeList.{TypeList}
 use Rattle.module_types.specs.Orderly.{LieBetween}
 use Rattle.module_types.specs.Conversion.{no_span}
@@ -229,3 +234,18 @@ module _ (gs : Groups) (l : TypeList) (p : Plan) (s : Span) (c : List WasmSubTyp
   unknown-group none =
       ap (take_group p (next (canonical_of l p.listed.indices s))) (ap (λ x. find_group x (gs ++ p.fresh)) (sym is) ∙ none)
       ∙ ap (λ x. plan (with_group p.listed (next x)) (p.fresh ++ at_first (next x) ∷ [])) (sym is)
+
+-- ---- the groups that are left
+
+abbrev pub Numbered : Type 0
+Numbered = Index ModuleInternedRecGroupSpace × Range TypeIndex
+
+abbrev pub spans_left : List Numbered → List Span
+spans_left es = map (λ (e : Numbered). span_of e.1) es
+
+spans-from : (n : ℕ) (rs : List (Range TypeIndex)) → spans_left (keyed_from index_of n rs) ≡ map span_of rs
+spans-from n [] = refl
+spans-from n (r ∷ rs) = ap (λ l. span_of r ∷ l) (spans-from (n + 1) rs)
+
+pub spans-keyed : (rs : List (Range TypeIndex)) → spans_left (keyed index_of rs) ≡ map span_of rs
+spans-keyed rs = spans-from 0 rs
