@@ -143,6 +143,14 @@ unknown-last : (gs es : Groups) (e : ℕ × Group) → find_group e.1.canonical 
 unknown-last gs [] e none all = (none, tt)
 unknown-last gs (x ∷ es) e none all = (all.0, unknown-last gs es e none all.1)
 
+pub group-first : (gs : Groups) (l : TypeList) (p : Plan) (s : Span) → HaveFirstFree (indices_of gs) p.fresh
+    → HaveFirstFree (indices_of gs) (plan_group gs l p s).fresh
+group-first gs l p s first = by (find_group (canonical_of l p.listed.indices s) (gs ++ p.fresh)) where
+  by : (o : Option Group)
+      → HaveFirstFree (indices_of gs) (take_group p (next_group gs p.fresh (canonical_of l p.listed.indices s) (size_of s)) o).fresh
+  by (Some g) = first
+  by None = first-more gs p.fresh (canonical_of l p.listed.indices s) (size_of s) first
+
 -- new groups have the least indices that were free, are not kept, and no two are equal
 pub record AreNew (gs es : Groups) : Type 0 where
   pub first : HaveFirstFree (indices_of gs) es

@@ -1,6 +1,6 @@
 //! The groups that are kept.
 
-ghost use Rattle.std.specs.Prelude.{◌≡◌, ◌+◌, ◌≤◌, ◌<◌, [], false, length, nat_eq, IsSome};
+ghost use Rattle.std.specs.Prelude.{◌≡◌, ◌+◌, ◌≤◌, ◌<◌, [], false, length, nat_eq, IsSome, OnOk};
 ghost use Rattle.std.specs.List.{list_any};
 ghost use Rattle.std.specs.Map.{lookup, remove_entry};
 ghost use Rattle.std.specs.Option.{option_copied, option_map};
@@ -14,7 +14,8 @@ ghost use Rattle.type_registry.specs.FreeIndices.{free_below};
 
 use crate::kept::Kept;
 use crate::owners::{Owner, give_back, group_at, owner_of, take_all, take_at};
-use entity_map::{EntityRef, Seeded};
+use crate::room::{fill, free_again, room_for};
+use entity_map::{EntityRef, OutOfMemory, Seeded};
 use free_numbers::FreeNumbers;
 use std::alloc::Global;
 use std::collections::HashMap;
@@ -176,5 +177,44 @@ impl Groups {
         self.live += group.indices.len() as u32;
         take_all(&mut self.owners, &mut self.free, first, &group.indices);
         self.kept[first as usize] = Some(group);
+    }
+
+    /// Makes room for indices up to `room`.
+    fn lengthen(&mut self, alloc: Global, room: usize) -> Result<(), OutOfMemory>
+        requires longer { self.old.room ≤ room }
+        requires few { room < 4294967296 }
+        ensures groups { self.new.groups ≡ self.old.groups }
+        ensures room { OnOk result (self.new.room ≡ room) }
+        ensures spare { self.new.spare ≡ self.old.spare }
+    {
+        let more = room - self.kept.len();
+        let free = free_again(alloc, &self.owners, room)?;
+        self.kept.reserve(more)?;
+        self.owners.resize(room, None)?;
+        fill(&mut self.kept, room);
+        self.free = free;
+        Ok(())
+    }
+
+    /// Makes room for so many indices, and for more groups.
+    ///
+    /// # Errors
+    /// `OutOfMemory`. The groups stay.
+    pub(crate) fn make_room(
+        &mut self,
+        alloc: Global,
+        indices: u32,
+        more: usize,
+    ) -> Result<(), OutOfMemory>
+        ensures groups { self.new.groups ≡ self.old.groups }
+        ensures room { OnOk result (indices ≤ self.new.room) }
+        ensures spare { OnOk result (more ≤ self.new.spare) }
+    {
+        self.known.reserve(more)?;
+        let len = self.kept.len();
+        if indices as usize <= len {
+            return Ok(());
+        }
+        self.lengthen(alloc, room_for(indices, len))
     }
 }

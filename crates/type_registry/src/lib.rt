@@ -11,6 +11,7 @@ mod owners;
 mod plan;
 mod planning;
 mod registry;
+mod room;
 
 pub use error::RegistryError;
 pub use key::ModuleKey;
