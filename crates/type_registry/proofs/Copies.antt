@@ -90,3 +90,9 @@ take-front [] ys zero e = refl
 take-front [] ys (suc n) e = absurd (omega (arith, e))
 take-front (x ∷ xs) ys zero e = absurd (omega (arith, e))
 take-front (x ∷ xs) ys (suc n) e = ap (λ l. x ∷ l) (take-front xs ys n (omega (arith, e)))
+
+pub take-enough : {A : Type 0} (xs : List A) (n : ℕ) → length xs ≤ n → take n xs ≡ xs
+take-enough [] zero le = refl
+take-enough [] (suc n) le = refl
+take-enough (x ∷ xs) zero le = absurd (omega (arith, le))
+take-enough (x ∷ xs) (suc n) le = ap (λ l. x ∷ l) (take-enough xs n (omega (arith, le)))

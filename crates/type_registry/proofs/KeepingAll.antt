@@ -83,7 +83,7 @@ keep-without (e ∷ gs) f n g a b =
       by true rest = any-both g.indices (indices_of (e ∷ gs)) n a b
       by false rest = any-both e.1.indices (indices_of (keep_group gs f g)) n (not-left e.1.indices (indices_of gs) n b) rest
 
-keep-length : (gs : Groups) (f : ℕ) (g : Group) → length (indices_of (keep_group gs f g)) ≡ length (indices_of gs) + length g.indices
+pub keep-length : (gs : Groups) (f : ℕ) (g : Group) → length (indices_of (keep_group gs f g)) ≡ length (indices_of gs) + length g.indices
 keep-length [] f g = omega (arith, length-append g.indices (indices_of []))
 keep-length (e ∷ gs) f g = by (nat_le f e.0) (keep-length gs f g) where
   by : (c : Bool) → length (indices_of (keep_group gs f g)) ≡ length (indices_of gs) + length g.indices

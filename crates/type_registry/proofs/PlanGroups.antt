@@ -22,14 +22,16 @@ use Rattle.module_types.specs.Conversion.{no_span}
 use Rattle.module_types.specs.ListGroups.{span_at}
 use Rattle.module_types.proofs.Standing.{stands-at}
 use Rattle.type_registry.specs.Registry.{Group, Groups, GroupsState, Module, indices_of}
-use Rattle.type_registry.specs.Changes.{Plan, begun, find_group, given, members_of, at_first, free_indices, next_group, canonical_data, canonical_of, take_group, plan_group, plan_groups, size_of, with_group}
+use Rattle.type_registry.specs.Changes.{Plan, begun, find_group, first_index, keep_group, keep_groups, given, members_of, at_first, free_indices, next_group, canonical_data, canonical_of, take_group, plan_group, plan_groups, size_of, with_group}
 use Rattle.type_registry.specs.Listed.{Listed, list_of}
 use Rattle.type_registry.specs.Planning.{MayBePlanned, MayBePlannedFrom, HaveFirstFree, plan}
+use Rattle.type_registry.specs.Counted.{counted}
+use Rattle.type_registry.proofs.Counting.{counted-keep}
 use Rattle.type_registry.proofs.Copies.{may-cons, may-use}
 use Rattle.type_registry.proofs.Dropping.{some-none, group-is}
 use Rattle.type_registry.proofs.Keeping.{Eq}
 use Rattle.type_registry.proofs.FreeIndices.{free-split, free-length, free-low, free-once, not-taken}
-use Rattle.type_registry.proofs.KeepingAll.{IsOnce, AllUnknown, AllUnlike, AllApart, MayKeep}
+use Rattle.type_registry.proofs.KeepingAll.{keep-length, IsOnce, AllUnknown, AllUnlike, AllApart, MayKeep}
 
 -- ---- the groups of a list may be planned
 
@@ -257,3 +259,50 @@ spans-from n (r ∷ rs) = ap (λ l. span_of r ∷ l) (spans-from (n + 1) rs)
 
 pub spans-keyed : (rs : List (Range TypeIndex)) → spans_left (keyed index_of rs) ≡ map span_of rs
 spans-keyed rs = spans-from 0 rs
+
+-- ---- how many groups there are, and how often modules have the new ones
+
+count-group : (gs : Groups) (l : TypeList) (p : Plan) (s : Span) → length (plan_group gs l p s).listed.groups ≡ length p.listed.groups + 1
+count-group gs l p s = by (find_group (canonical_of l p.listed.indices s) (gs ++ p.fresh)) where
+  by : (o : Option Group)
+      → length (take_group p (next_group gs p.fresh (canonical_of l p.listed.indices s) (size_of s)) o).listed.groups ≡ length p.listed.groups + 1
+  by (Some g) = length-append p.listed.groups (first_index g ∷ [])
+  by None = length-append p.listed.groups (first_index (next_group gs p.fresh (canonical_of l p.listed.indices s) (size_of s)) ∷ [])
+
+count-groups : (gs : Groups) (l : TypeList) (p : Plan) (ss : List Span) → length (plan_groups gs l p ss).listed.groups ≡ length p.listed.groups + length ss
+count-groups gs l p [] = omega arith
+count-groups gs l p (s ∷ ss) = omega (arith, count-group gs l p s, count-groups gs l (plan_group gs l p s) ss)
+
+-- as each group has members, there are no more groups than types
+few-spans : (ss : List Span) (first end : ℕ) → LieBetween first ss end → first + length ss ≤ end
+few-spans [] first end lie = omega (arith, lie)
+few-spans (s ∷ ss) first end lie = omega (arith, few-spans ss s.end end lie.2, lie.0, lie.1)
+
+pub few-groups : (gs : Groups) (l : TypeList) → Listed l → length l.types < 4294967295
+    → length (plan_groups gs l begun (map span_of l.groups)).listed.groups < 4294967296
+few-groups gs l listed few =
+    let spans = few-spans (map span_of l.groups) 0 (length (list_of l).types) listed.well_named.orderly in
+    omega (arith, count-groups gs l begun (map span_of l.groups), spans, length-map l.types interned_of, few)
+
+counted-last : (es : Groups) (e : ℕ × Group) → counted (es ++ e ∷ []) ≡ counted es + e.1.count
+counted-last [] e = omega arith
+counted-last (x ∷ es) e = omega (arith, counted-last es e)
+
+none-counted : (gs : Groups) (l : TypeList) (p : Plan) (s : Span) → counted p.fresh ≡ 0 → counted (plan_group gs l p s).fresh ≡ 0
+none-counted gs l p s none = by (find_group (canonical_of l p.listed.indices s) (gs ++ p.fresh)) where
+  by : (o : Option Group) → counted (take_group p (next_group gs p.fresh (canonical_of l p.listed.indices s) (size_of s)) o).fresh ≡ 0
+  by (Some g) = none
+  by None = omega (arith, counted-last p.fresh (at_first (next_group gs p.fresh (canonical_of l p.listed.indices s) (size_of s))), none)
+
+pub fresh-counted : (gs : Groups) (l : TypeList) (p : Plan) (ss : List Span) → counted p.fresh ≡ 0 → counted (plan_groups gs l p ss).fresh ≡ 0
+fresh-counted gs l p [] none = none
+fresh-counted gs l p (s ∷ ss) none = fresh-counted gs l (plan_group gs l p s) ss (none-counted gs l p s none)
+
+pub counted-both : (gs es : Groups) → counted (keep_groups gs es) ≡ counted gs + counted es
+counted-both gs [] = omega arith
+counted-both gs (e ∷ es) = omega (arith, counted-both (keep_group gs e.0 e.1) es, counted-keep gs e.0 e.1)
+
+pub length-both : (gs es : Groups) → length (indices_of (keep_groups gs es)) ≡ length (indices_of gs) + length (indices_of es)
+length-both gs [] = omega arith
+length-both gs (e ∷ es) =
+    omega (arith, length-both (keep_group gs e.0 e.1) es, keep-length gs e.0 e.1, length-append e.1.indices (indices_of es))

@@ -17,7 +17,7 @@ use wasm_types::{WasmRecGroup, equality_law};
 /// Groups that are not kept yet, each once, in order.
 #[derive(Drop)]
 pub(crate) struct FreshGroups {
-    pub(crate) groups: Vec<Fresh>,
+    groups: Vec<Fresh>,
     /// The place of each, by its canonical members.
     places: HashMap<Rc<WasmRecGroup>, usize, Seeded>,
     /// How many members they have in sum.
@@ -62,6 +62,20 @@ impl FreshGroups {
         ensures { result ≡ length (indices_of self.now) }
     {
         self.members
+    }
+
+    /// How many groups there are.
+    pub(crate) fn len(&self) -> usize
+        ensures { result ≡ length self.now }
+    {
+        self.groups.len()
+    }
+
+    /// The groups, in order.
+    pub(crate) fn into_groups(self) -> Vec<Fresh>
+        ensures { result.items ≡ self }
+    {
+        self.groups
     }
 
     /// The group of these canonical members.

@@ -6,7 +6,7 @@ use Rattle.module_types.specs.Views.{span_of}
 use Rattle.type_registry.specs.Registry.{Groups, Module, indices_of}
 use Rattle.type_registry.specs.Changes.{Plan, begun, plan_group, plan_groups}
 use Rattle.type_registry.specs.Planning.{HaveFirstFree, MayBePlanned, MayBePlannedFrom, plan}
-use Rattle.type_registry.proofs.PlanGroups.{spans_left, spans-keyed, may-plan, group-first, groups-grow}
+use Rattle.type_registry.proofs.PlanGroups.{spans_left, spans-keyed, may-plan, group-first, groups-grow, few-groups}
 use Rattle.type_registry.proofs.planning.plan_groups.Goals as goal
 
 pub loop-group-init : goal.loop-group-init
@@ -70,3 +70,13 @@ returns-in_err-take_group-clause-full c =
           groups-grow gs l (plan_group gs l old s) left,
           ap (λ (p : Plan). length (indices_of p.fresh)) all,
         )
+
+pub returns-clause-few : goal.returns-clause-few
+returns-clause-few c =
+    let l = c.args.source.types.now in
+    let gs = c.args.source.groups.now.groups in
+    let few : length l.types < 4294967295 = omega (arith, c.len_types.ensures.count, c.len_types.ensures.below) in
+    let none : spans_left c.loop-group._group-iterator ≡ [] = ap spans_left c.in-None.ensures.steps.0 in
+    let all : plan c.loop-group.listed c.loop-group.fresh ≡ plan_groups gs l begun (map span_of l.groups) =
+    ap (plan_groups gs l (plan c.loop-group.listed c.loop-group.fresh)) (sym none) ∙ c.loop-group.invariant.rest in
+    omega (arith, ap (λ (p : Plan). length p.listed.groups) all, few-groups gs l c.requires.listed few)
