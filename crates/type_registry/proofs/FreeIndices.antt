@@ -13,7 +13,7 @@ use Rattle.type_registry.specs.Changes.{past, least_from, least_free, free_indic
 abbrev has : List ℕ → ℕ → Bool
 has taken n = list_any (nat_eq n) taken
 
-apart : (m n : ℕ) → (m ≡ n → ⊥) → nat_eq m n ≡ false
+pub apart : (m n : ℕ) → (m ≡ n → ⊥) → nat_eq m n ≡ false
 apart m n differ = by (nat_eq m n) refl where
   by : (c : Bool) → nat_eq m n ≡ c → c ≡ false
   by true e = absurd (differ (eqb-true m n e))
