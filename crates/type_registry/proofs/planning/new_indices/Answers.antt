@@ -1,4 +1,4 @@
-use Rattle.std.proofs.Common.{arith, ◌≡◌, ◌∙◌, ◌<◌, ◌++◌, ◌∷◌, [], suc, ◌+◌, ℕ, List, map, take, length, sym, ap}
+use Rattle.std.proofs.Common.{arith, ◌≡◌, ◌∙◌, ◌<◌, ◌++◌, ◌∷◌, [], suc, ◌+◌, map, take, length, sym, ap}
 use Rattle.std.proofs.lemmas.List.{map-append}
 use Rattle.wasm_index.specs.Index.{number_of}
 use Rattle.type_registry.specs.Registry.{indices_of}

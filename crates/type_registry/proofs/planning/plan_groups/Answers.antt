@@ -1,11 +1,11 @@
-use Rattle.std.proofs.Common.{arith, rules, ◌≡◌, ◌∙◌, ◌<◌, ◌∷◌, [], List, length, map, refl, sym, ap, subst}
+use Rattle.std.proofs.Common.{arith, rules, ◌≡◌, ◌∙◌, ◌<◌, ◌∷◌, [], length, map, refl, sym, ap, subst}
 use Rattle.std.specs.Prelude.{IsErrOf}
 use Rattle.type_registry.specs.declared.error.RegistryError.TheVariants as refused
 use Rattle.type_spec.specs.Interned.{Span}
 use Rattle.module_types.specs.Views.{span_of}
 use Rattle.type_registry.specs.Registry.{Groups, Module, indices_of}
 use Rattle.type_registry.specs.Changes.{Plan, begun, plan_group, plan_groups}
-use Rattle.type_registry.specs.Planning.{HaveFirstFree, MayBePlanned, MayBePlannedFrom, plan}
+use Rattle.type_registry.specs.Planning.{HaveFirstFree, MayBePlannedFrom, plan}
 use Rattle.type_registry.proofs.PlanGroups.{spans_left, spans-keyed, may-plan, group-first, groups-grow, few-groups}
 use Rattle.type_registry.proofs.planning.plan_groups.Goals as goal
 
@@ -63,13 +63,13 @@ returns-in_err-take_group-clause-full c =
     let full : IsErrOf c.from_residual-in_err-take_group.result refused.Full → c.args.source.room < length (indices_of (plan_group gs l old s').fresh) = search rules in
     let all = sym c.loop-group.invariant.rest ∙ ap (plan_groups gs l old) first in
     λ is.
-        omega (
-          arith,
-          full is,
-          ap (λ x. length (indices_of (plan_group gs l old x).fresh)) same,
-          groups-grow gs l (plan_group gs l old s) left,
-          ap (λ (p : Plan). length (indices_of p.fresh)) all,
-        )
+    omega (
+      arith,
+      full is,
+      ap (λ x. length (indices_of (plan_group gs l old x).fresh)) same,
+      groups-grow gs l (plan_group gs l old s) left,
+      ap (λ (p : Plan). length (indices_of p.fresh)) all,
+    )
 
 pub returns-clause-few : goal.returns-clause-few
 returns-clause-few c =

@@ -1,6 +1,4 @@
-use Rattle.std.proofs.Common.{arith, ◌≡◌, ◌∙◌, ◌+◌, ◌++◌, ◌∷◌, [], ℕ, length, map, cond, Some, None, sym, ap, subst}
-use Rattle.std.proofs.lemmas.List.{length-map}
-use Rattle.wasm_index.specs.Index.{number_of}
+use Rattle.std.proofs.Common.{arith, ◌≡◌, ◌∙◌, ◌+◌, ℕ, length, cond, Some, None, sym, ap, subst}
 use Rattle.type_registry.specs.Registry.{Group, Groups}
 use Rattle.type_registry.specs.Changes.{find_group}
 use Rattle.type_registry.specs.Keeping.{Shared, shared_content, first_of}

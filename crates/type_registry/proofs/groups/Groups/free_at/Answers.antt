@@ -1,7 +1,6 @@
-use Rattle.std.proofs.Common.{rules, arith, ◌≡◌, ◌∙◌, ◌≤◌, ◌+◌, ◌-◌, nat_eq, length, false, sym, ap}
+use Rattle.std.proofs.Common.{rules, arith, ◌≡◌, ◌∙◌, ◌≤◌, ◌+◌, ◌-◌, nat_eq, length, ap}
 use Rattle.std.specs.List.{list_any}
 use Rattle.wasm_index.specs.Index.{number_of}
-use Rattle.free_numbers.specs.Counts.{total}
 use Rattle.type_registry.specs.Registry.{indices_of}
 use Rattle.type_registry.specs.Keeping.{shared_content, first_of}
 use Rattle.type_registry.specs.FreeIndices.{free_below}

@@ -1,7 +1,7 @@
-use Rattle.std.proofs.Common.{if◌then◌else◌, arith, ◌≡◌, ◌∙◌, ◌<◌, ◌≤◌, ◌+◌, ℕ, nat_eq, false, List, length, map, Option, Some, None, cond, refl, sym, ap, subst}
+use Rattle.std.proofs.Common.{if◌then◌else◌, arith, ◌≡◌, ◌∙◌, ◌≤◌, ◌+◌, ℕ, nat_eq, length, map, Option, Some, None, cond, refl, sym, ap, subst}
 use Rattle.std.specs.Map.{lookup}
 use Rattle.module_types.specs.Views.{span_of}
-use Rattle.type_registry.specs.Registry.{Group, Groups, GroupsState, Module, RegistryState, registry_of, indices_of}
+use Rattle.type_registry.specs.Registry.{Groups, Module, RegistryState, registry_of, indices_of}
 use Rattle.type_registry.specs.Changes.{Plan, begun, planned, with_module, keep_groups, count_groups}
 use Rattle.type_registry.specs.Planning.{plan}
 use Rattle.type_registry.specs.Counted.{counted}
@@ -30,8 +30,16 @@ keep_planned-requires-clause-may c =
     may-keep-all es st
     (new-may-keep st es new (omega (arith, fits, live, more, most, c.self.invariant.1))
     (omega (arith, ap length c.into_groups.ensures, c.len.ensures, c.in_ok-make_room.ensures.spare))
-    (omega (arith, live, more, c.live_types.ensures, c.members.ensures, c.in_ok-make_room.ensures.room,
-    ap (λ (fs : Groups). length (indices_of fs)) c.into_groups.ensures, ap (λ (gs : Groups). length (indices_of gs)) c.make_room.ensures.groups)))
+    (omega (
+      arith,
+      live,
+      more,
+      c.live_types.ensures,
+      c.members.ensures,
+      c.in_ok-make_room.ensures.room,
+      ap (λ (fs : Groups). length (indices_of fs)) c.into_groups.ensures,
+      ap (λ (gs : Groups). length (indices_of gs)) c.make_room.ensures.groups,
+    )))
 
 pub keep_planned-requires-clause-few : goal.keep_planned-requires-clause-few
 keep_planned-requires-clause-few c =
@@ -66,8 +74,7 @@ invariant_of-self-2 c =
     let none : (k : ℕ) → s.registrations + 1 ≤ k → lookup (nat_eq k) c.insert.new.self.entries ≡ None =
     λ k le. done.0 k
     ∙ ap (λ b. cond b (Some c.listed.inside.listed) (lookup (nat_eq k) c.reserve.new.self.entries)) (apart s.registrations k (λ e. absurd (omega (arith, e, le))))
-    ∙ c.reserve.ensures.entries.2 k ∙ c.self.invariant.2 k (omega (arith, le)) in
-    (
+    ∙ c.reserve.ensures.entries.2 k ∙ c.self.invariant.2 k (omega (arith, le)) in (
       omega (
         arith,
         ap (λ (x : Groups). length (indices_of x)) c.keep_planned.ensures,
