@@ -78,3 +78,21 @@ module _ (l : TypeList) (listed : Listed l) where
   pub may-use : (k : ℕ) → k < length (list_of l).groups
       → All (CanBeRuntimeEdge (IsGiven (span_at (list_of l) k).end)) (edges_of (members_of l (span_at (list_of l) k)))
   may-use k lt = each-edge (CanBeRuntimeEdge (IsGiven (span_at (list_of l) k).end)) k lt (λ r below. below)
+
+-- ---- whole lists
+
+pub take-whole : {A : Type 0} (xs : List A) → take (length xs) xs ≡ xs
+take-whole [] = refl
+take-whole (x ∷ xs) = ap (λ l. x ∷ l) (take-whole xs)
+
+pub take-front : {A : Type 0} (xs ys : List A) (n : ℕ) → length xs ≡ n → take n (xs ++ ys) ≡ xs
+take-front [] ys zero e = refl
+take-front [] ys (suc n) e = absurd (omega (arith, e))
+take-front (x ∷ xs) ys zero e = absurd (omega (arith, e))
+take-front (x ∷ xs) ys (suc n) e = ap (λ l. x ∷ l) (take-front xs ys n (omega (arith, e)))
+
+pub take-enough : {A : Type 0} (xs : List A) (n : ℕ) → length xs ≤ n → take n xs ≡ xs
+take-enough [] zero le = refl
+take-enough [] (suc n) le = refl
+take-enough (x ∷ xs) zero le = absurd (omega (arith, le))
+take-enough (x ∷ xs) (suc n) le = ap (λ l. x ∷ l) (take-enough xs n (omega (arith, le)))

@@ -19,10 +19,10 @@ abbrev pub IsOnce : List ℕ → Type 0
 IsOnce [] = ⊤
 IsOnce (n ∷ ns) = (list_any (nat_eq n) ns ≡ false) × IsOnce ns
 
-true-false : (c : Bool) → c ≡ true → c ≡ false → ⊥
+pub true-false : (c : Bool) → c ≡ true → c ≡ false → ⊥
 true-false c holds fails = let no-way : true ≡ false = sym holds ∙ fails in cc
 
-any-second : (xs ys : List ℕ) (n : ℕ) → list_any (nat_eq n) xs ≡ false → list_any (nat_eq n) (xs ++ ys) ≡ list_any (nat_eq n) ys
+pub any-second : (xs ys : List ℕ) (n : ℕ) → list_any (nat_eq n) xs ≡ false → list_any (nat_eq n) (xs ++ ys) ≡ list_any (nat_eq n) ys
 any-second [] ys n fails = refl
 any-second (x ∷ xs) ys n fails = by (nat_eq n x) fails (any-second xs ys n) where
   by : (c : Bool) → (c || list_any (nat_eq n) xs) ≡ false → (list_any (nat_eq n) xs ≡ false → list_any (nat_eq n) (xs ++ ys) ≡ list_any (nat_eq n) ys)
@@ -83,7 +83,7 @@ keep-without (e ∷ gs) f n g a b =
       by true rest = any-both g.indices (indices_of (e ∷ gs)) n a b
       by false rest = any-both e.1.indices (indices_of (keep_group gs f g)) n (not-left e.1.indices (indices_of gs) n b) rest
 
-keep-length : (gs : Groups) (f : ℕ) (g : Group) → length (indices_of (keep_group gs f g)) ≡ length (indices_of gs) + length g.indices
+pub keep-length : (gs : Groups) (f : ℕ) (g : Group) → length (indices_of (keep_group gs f g)) ≡ length (indices_of gs) + length g.indices
 keep-length [] f g = omega (arith, length-append g.indices (indices_of []))
 keep-length (e ∷ gs) f g = by (nat_le f e.0) (keep-length gs f g) where
   by : (c : Bool) → length (indices_of (keep_group gs f g)) ≡ length (indices_of gs) + length g.indices

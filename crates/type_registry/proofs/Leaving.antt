@@ -1,9 +1,9 @@
 -- Groups that modules leave.
-use Rattle.std.proofs.Common.{if◌then◌else◌, ◌≡◌, ◌≤◌, ℕ, ◌-◌, Bool, true, false, nat_eq, nat_le, List, [], ◌∷◌, ◌++◌, length, Option, Some, None, refl, sym, ap, arith}
+use Rattle.std.proofs.Common.{if◌then◌else◌, ◌≡◌, ◌∙◌, ◌≤◌, ℕ, ◌+◌, ◌-◌, Bool, true, false, nat_eq, nat_le, List, [], ◌∷◌, ◌++◌, length, Option, Some, None, refl, sym, ap, arith}
 use Rattle.std.proofs.lemmas.List.{length-append}
 use Rattle.std.specs.Map.{lookup, set_value, remove_entry}
 use Rattle.type_registry.specs.Registry.{Group, indices_of}
-use Rattle.type_registry.specs.Changes.{leave_group, leave_groups}
+use Rattle.type_registry.specs.Changes.{leave_group, leave_groups, count_group, count_groups}
 
 pub left_push : (gs : List (ℕ × Group)) (fs : List ℕ) (f : ℕ)
     → leave_groups gs (fs ++ f ∷ []) ≡ leave_group (leave_groups gs fs) f (lookup (nat_eq f) (leave_groups gs fs))
@@ -43,3 +43,12 @@ left_short gs [] = omega arith
 left_short gs (f ∷ fs) =
     let rest = left_short (leave_group gs f (lookup (nat_eq f) gs)) fs in
     omega (arith, rest, one-short f gs (lookup (nat_eq f) gs) refl)
+
+count-short : (gs : List (ℕ × Group)) (f : ℕ) (o : Option Group) → lookup (nat_eq f) gs ≡ o → length (indices_of (count_group gs f o)) ≡ length (indices_of gs)
+count-short gs f None e = refl
+count-short gs f (Some g) e = set-short f (g.count + 1) gs g e
+
+-- groups that are counted have as many indices
+pub counted-long : (gs : List (ℕ × Group)) (fs : List ℕ) → length (indices_of (count_groups gs fs)) ≡ length (indices_of gs)
+counted-long gs [] = refl
+counted-long gs (f ∷ fs) = counted-long (count_group gs f (lookup (nat_eq f) gs)) fs ∙ count-short gs f (lookup (nat_eq f) gs) refl

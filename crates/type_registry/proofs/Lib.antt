@@ -10,3 +10,9 @@ pub mod Counting
 pub mod NewGroups
 pub mod KeepingAll
 pub mod Copies
+pub mod FreeIndices
+pub mod FreeOwners
+pub mod UsedEdges
+pub mod FreshGroups
+pub mod PlanGroups
+pub mod Roomier

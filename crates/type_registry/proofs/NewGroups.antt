@@ -32,7 +32,7 @@ any-right (x ∷ xs) ys n e = by (nat_eq n x) (any-right xs ys n e) where
 
 -- ---- what kept groups have
 
-has-index : (gs : List (Option Group)) (k f p n : ℕ) (g : Group) → group_in gs f ≡ Some g → slice_get g.indices p ≡ Some n
+pub has-index : (gs : List (Option Group)) (k f p n : ℕ) (g : Group) → group_in gs f ≡ Some g → slice_get g.indices p ≡ Some n
     → list_any (nat_eq n) (indices_of (kept_from k gs)) ≡ true
 has-index [] k f p n g at is = absurd (some-none g at)
 has-index (None ∷ gs) k zero p n g at is = absurd (some-none g at)

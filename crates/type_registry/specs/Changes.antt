@@ -82,18 +82,28 @@ find_group canonical (e ∷ es) = if groups_equal.ghosts.eq e.1.canonical canoni
 abbrev pub first_index : Group → ℕ
 first_index g = get_or g.indices 0 0
 
--- one more group of the module
+-- one more group of the module, whose members have these indices
+abbrev pub with_indices : Module → List ℕ → Module
+with_indices m is = record { indices = m.indices ++ is; groups = m.groups ++ get_or is 0 0 ∷ [] }
+
 abbrev pub with_group : Module → Group → Module
-with_group m g = record { indices = m.indices ++ g.indices; groups = m.groups ++ first_index g ∷ [] }
+with_group m g = with_indices m g.indices
 
 -- a group that no module has yet
 abbrev pub new_group : List WasmSubType → List ℕ → Group
 new_group canonical free = record { canonical = canonical; indices = free; count = 0 }
 
--- a group that is known takes its indices; the types of a new one take in turn the least indices that are not live
+abbrev pub at_first : Group → ℕ × Group
+at_first g = (first_index g, g)
+
+-- a new group whose types take in turn the least indices that are not live
+abbrev pub next_group : Groups → Groups → List WasmSubType → ℕ → Group
+next_group gs fresh canonical n = new_group canonical (free_indices (indices_of (gs ++ fresh)) n)
+
+-- a group that is known takes its indices
 abbrev pub take_group : Plan → Group → Option Group → Plan
 take_group p new (Some g) = record p { listed = with_group p.listed g }
-take_group p new None = record { listed = with_group p.listed new; fresh = p.fresh ++ (first_index new, new) ∷ [] }
+take_group p new None = record { listed = with_group p.listed new; fresh = p.fresh ++ at_first new ∷ [] }
 
 abbrev pub size_of : Span → ℕ
 size_of s = s.end - s.start
@@ -101,7 +111,7 @@ size_of s = s.end - s.start
 abbrev pub plan_group : Groups → TypeList → Plan → Span → Plan
 plan_group gs l p s =
     let canonical = canonical_of l p.listed.indices s in
-    take_group p (new_group canonical (free_indices (indices_of (gs ++ p.fresh)) (size_of s))) (find_group canonical (gs ++ p.fresh))
+    take_group p (next_group gs p.fresh canonical (size_of s)) (find_group canonical (gs ++ p.fresh))
 
 abbrev pub plan_groups : Groups → TypeList → Plan → List Span → Plan
 plan_groups gs l p [] = p

@@ -7,3 +7,5 @@ pub mod Changes
 pub mod Standing
 pub mod Counted
 pub mod Fresh
+pub mod Planning
+pub mod FreeIndices

@@ -1,6 +1,7 @@
 //! The groups that are kept.
 
-ghost use Rattle.std.specs.Prelude.{◌≡◌, ◌+◌, ◌≤◌, ◌<◌, [], length, nat_eq, IsSome};
+ghost use Rattle.std.specs.Prelude.{◌≡◌, ◌+◌, ◌≤◌, ◌<◌, [], false, length, nat_eq, IsSome, OnOk};
+ghost use Rattle.std.specs.List.{list_any};
 ghost use Rattle.std.specs.Map.{lookup, remove_entry};
 ghost use Rattle.std.specs.Option.{option_copied, option_map};
 ghost use Rattle.wasm_types.specs.TypeViews.{sub_type_of};
@@ -9,10 +10,12 @@ ghost use Rattle.type_registry.specs.Registry.{Group, indices_of, used_types};
 ghost use Rattle.type_registry.specs.Changes.{leave_group, count_group, keep_group, with_count, find_group, first_index};
 ghost use Rattle.type_registry.specs.Fresh.{MayBeKept};
 ghost use Rattle.type_registry.specs.Counted.{counted};
+ghost use Rattle.type_registry.specs.FreeIndices.{free_below};
 
 use crate::kept::Kept;
 use crate::owners::{Owner, give_back, group_at, owner_of, take_all, take_at};
-use entity_map::{EntityRef, Seeded};
+use crate::room::{fill, free_again, room_for};
+use entity_map::{EntityRef, OutOfMemory, Seeded};
 use free_numbers::FreeNumbers;
 use std::alloc::Global;
 use std::collections::HashMap;
@@ -138,6 +141,19 @@ impl Groups {
         self.set_count(first, count + 1);
     }
 
+    /// The index that is not live before which so many are not.
+    pub(crate) fn free_at(&self, rank: u32) -> VMSharedTypeIndex
+        requires { length (indices_of self.now.groups) + rank < u32.MAX }
+        ensures free { list_any (nat_eq (number_of result)) (indices_of self.now.groups) ≡ false }
+        ensures rank { free_below (indices_of self.now.groups) (number_of result) ≡ rank }
+    {
+        if let Some(number) = self.free.nth(rank) {
+            return VMSharedTypeIndex::from_u32(number);
+        }
+        let further = rank - self.free.len_free();
+        VMSharedTypeIndex::from_u32(self.owners.len() as u32 + further)
+    }
+
     /// The kept group of these canonical members.
     pub(crate) fn find(&self, canonical: &Rc<WasmRecGroup>) -> Option<&Kept>
         ensures { option_copied result ≡ find_group canonical.now.value self.now.groups }
@@ -161,5 +177,44 @@ impl Groups {
         self.live += group.indices.len() as u32;
         take_all(&mut self.owners, &mut self.free, first, &group.indices);
         self.kept[first as usize] = Some(group);
+    }
+
+    /// Makes room for indices up to `room`.
+    fn lengthen(&mut self, alloc: Global, room: usize) -> Result<(), OutOfMemory>
+        requires longer { self.old.room ≤ room }
+        requires few { room < 4294967296 }
+        ensures groups { self.new.groups ≡ self.old.groups }
+        ensures room { OnOk result (self.new.room ≡ room) }
+        ensures spare { self.new.spare ≡ self.old.spare }
+    {
+        let more = room - self.kept.len();
+        let free = free_again(alloc, &self.owners, room)?;
+        self.kept.reserve(more)?;
+        self.owners.resize(room, None)?;
+        fill(&mut self.kept, room);
+        self.free = free;
+        Ok(())
+    }
+
+    /// Makes room for so many indices, and for more groups.
+    ///
+    /// # Errors
+    /// `OutOfMemory`. The groups stay.
+    pub(crate) fn make_room(
+        &mut self,
+        alloc: Global,
+        indices: u32,
+        more: usize,
+    ) -> Result<(), OutOfMemory>
+        ensures groups { self.new.groups ≡ self.old.groups }
+        ensures room { OnOk result (indices ≤ self.new.room) }
+        ensures spare { OnOk result (more ≤ self.new.spare) }
+    {
+        self.known.reserve(more)?;
+        let len = self.kept.len();
+        if indices as usize <= len {
+            return Ok(());
+        }
+        self.lengthen(alloc, room_for(indices, len))
     }
 }

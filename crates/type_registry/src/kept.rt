@@ -1,12 +1,13 @@
 //! What a registry keeps of groups and of modules.
 
-ghost use Rattle.std.specs.Prelude.{◌≡◌, Some, length, map, slice_get};
+ghost use Rattle.std.specs.Prelude.{◌≡◌, ◌<◌, ◌+◌, Some, IfOk, OnOk, length, map, slice_get};
 ghost use Rattle.std.specs.Option.{option_copied, option_map};
 ghost use Rattle.wasm_types.specs.TypeViews.{sub_type_of};
+ghost use Rattle.type_registry.specs.Changes.{begun, with_indices, with_group};
 ghost use Rattle.type_registry.specs.Registry.{used_type};
 ghost use Rattle.wasm_index.specs.Index.{number_of};
 
-use entity_map::EntityRef;
+use entity_map::{EntityRef, OutOfMemory};
 use std::alloc::Global;
 use std::marker::Model;
 use std::rc::Rc;
@@ -45,11 +46,27 @@ impl Kept {
         self.count
     }
 
+    /// How many members it has.
+    pub(crate) fn len(&self) -> usize
+        ensures { result ≡ length self.now.indices }
+    {
+        self.indices.len()
+    }
+
     /// The index of its first member.
     pub(crate) fn first(&self) -> u32
         ensures { slice_get self.now.indices 0 ≡ Some result }
     {
         self.indices[0].as_u32()
+    }
+
+    /// A module has the group once more.
+    pub(crate) fn join(&self, held: &mut Held) -> Result<(), OutOfMemory>
+        requires { length held.old.indices + length self.now.canonical < 4294967295 }
+        ensures taken { OnOk result (held.new ≡ with_group held.old self.now) }
+        ensures long { OnOk result (length held.new.indices ≡ length held.old.indices + length self.now.canonical) }
+    {
+        held.take(&self.indices)
     }
 
     /// The type of the member at a place as it is used.
@@ -80,6 +97,27 @@ impl Model for Held {
 }
 
 impl Held {
+    /// No types, with room for so many.
+    pub(crate) fn with_capacity(alloc: Global, count: usize) -> Result<Held, OutOfMemory>
+        ensures { IfOk result (λ m. m ≡ begun.listed) }
+    {
+        Ok(Held {
+            indices: Vec::with_capacity(alloc, count)?,
+            groups: Vec::new(alloc),
+        })
+    }
+
+    /// One more group, whose members have these indices.
+    pub(crate) fn take(&mut self, indices: &[VMSharedTypeIndex]) -> Result<(), OutOfMemory>
+        requires some { 0 < length indices.now }
+        requires few { length self.old.indices + length indices.now < 4294967295 }
+        ensures { OnOk result (self.new ≡ with_indices self.old (map number_of indices.now)) }
+    {
+        self.groups.push(indices[0].as_u32())?;
+        self.indices.extend_from_slice(indices)?;
+        Ok(())
+    }
+
     /// How many types there are.
     pub(crate) fn len(&self) -> u32
         ensures { result ≡ length self.now.indices }

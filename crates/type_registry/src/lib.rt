@@ -2,13 +2,16 @@
 #![tactic(auto)]
 
 mod error;
+mod fresh;
 mod groups;
 mod kept;
 mod key;
 mod laws;
 mod owners;
 mod plan;
+mod planning;
 mod registry;
+mod room;
 
 pub use error::RegistryError;
 pub use key::ModuleKey;

@@ -7,16 +7,19 @@ ghost use Rattle.wasm_index.specs.Index.{number_of};
 ghost use Rattle.type_registry.specs.declared.error.RegistryError.TheVariants as refused;
 ghost use Rattle.type_registry.specs.Keys.{key_number};
 ghost use Rattle.type_registry.specs.Registry.{registry_of, empty, index_at, count_of, live, type_at};
-ghost use Rattle.type_registry.specs.Changes.{released, leave_groups, count_groups, keep_groups};
+ghost use Rattle.type_registry.specs.Changes.{registered, released, planned, fresh, IsFull, leave_groups, count_groups, keep_groups};
 ghost use Rattle.type_registry.specs.Counted.{counted};
 ghost use Rattle.type_registry.specs.Fresh.{MayKeepAll};
+ghost use Rattle.type_registry.specs.Listed.{Listed};
 
 use crate::error::RegistryError;
 use crate::groups::Groups;
 use crate::kept::Held;
 use crate::key::ModuleKey;
 use crate::plan::Fresh;
+use crate::planning::{Planned, Source, plan_groups};
 use entity_map::EntityRef;
+use module_types::ModuleTypes;
 use std::alloc::Global;
 use std::collections::HashMap;
 use std::marker::Model;
@@ -37,8 +40,10 @@ pub struct TypeRegistry {
 
 /// A contract sees the held modules and the kept groups, by `registry_of`.
 impl Model for TypeRegistry {
-    ghost use Rattle.std.specs.Prelude.{◌≤◌, ◌<◌, length};
+    ghost use Rattle.std.specs.Prelude.{◌≡◌, ◌≤◌, ◌<◌, ◌*◌, ℕ, None, nat_eq, length};
+    ghost use Rattle.std.specs.Map.{lookup};
     ghost use Rattle.type_registry.specs.Registry.{RegistryState, indices_of};
+    ghost use Rattle.type_registry.specs.Counted.{counted};
 
     ghost Value = { RegistryState };
 
@@ -49,7 +54,10 @@ impl Model for TypeRegistry {
       groups = m.groups.groups;
     } };
 
-    ghost invariant = { λ m. (length (indices_of m.groups.groups) ≤ m.max_types) × (m.max_types < 4294967295) };
+    // No key is used twice, and counts of groups do not run over.
+    ghost invariant = { λ m. (length (indices_of m.groups.groups) ≤ m.max_types) × (m.max_types < 4294967295)
+        × ((k : ℕ) → m.registrations ≤ k → lookup (nat_eq k) m.modules.entries ≡ None)
+        × (counted m.groups.groups ≤ m.registrations * 4294967296) };
 }
 
 /// Counts the groups of a module once less.
@@ -80,6 +88,16 @@ fn count_all(groups: &mut Groups, firsts: &[u32])
     for first in firsts {
         groups.count(*first);
     }
+}
+
+/// Keeps the new groups of a module, and counts each of its groups once more.
+fn keep_planned(groups: &mut Groups, listed: &Held, fresh: Vec<Fresh>)
+    requires may { MayKeepAll groups.old fresh.items }
+    requires few { counted groups.old.groups + counted fresh.items + length listed.now.groups < u128.MAX }
+    ensures { groups.new.groups ≡ count_groups (keep_groups groups.old.groups fresh.items) listed.now.groups }
+{
+    keep_all(groups, fresh);
+    count_all(groups, &listed.groups);
 }
 
 impl TypeRegistry {
@@ -153,6 +171,57 @@ impl TypeRegistry {
         ensures { IsTrue result ↔ (index_at (registry_of self.now) (key_number a) (number_of i) ≡ index_at (registry_of self.now) (key_number b) (number_of j)) }
     {
         self.index_of(a, i) == self.index_of(b, j)
+    }
+
+    /// What the registration of a list finds.
+    ///
+    /// # Errors
+    /// `Full` where there would be more types than may be live, and `OutOfMemory`.
+    fn plan(&self, types: &ModuleTypes) -> Result<Planned, RegistryError>
+        requires { Listed types.now }
+        ensures ok { IfOk result (λ p. p ≡ planned (registry_of self.now) types.now) }
+        ensures fits { OnOk result (self.now.max_types < length (live (registry_of self.now)) + fresh (registry_of self.now) types.now → ⊥) }
+        ensures few { IfOk result (λ p. length p.listed.groups < 4294967296) }
+        ensures full { IsErrOf result refused.Full → self.now.max_types < length (live (registry_of self.now)) + fresh (registry_of self.now) types.now }
+        ensures held { IsErrOf result refused.NotHeld → ⊥ }
+    {
+        let source = Source {
+            alloc: self.alloc,
+            types,
+            groups: &self.groups,
+            room: self.max_types - self.groups.live_types(),
+        };
+        plan_groups(source, self.seed)
+    }
+
+    /// Holds a module of these types: each group that no held module has takes the least indices that are not live, and each other group
+    /// has the indices that it has already. The key's number is how many modules were registered before.
+    ///
+    /// # Errors
+    /// `Full` where there would be more types than may be live, or where no number is left for the key; and `OutOfMemory`. The registry is
+    /// as it was then.
+    pub fn register(&mut self, types: &ModuleTypes) -> Result<ModuleKey, RegistryError>
+        requires { Listed types.now }
+        ensures key { IfOk result (λ key. key_number key ≡ self.old.registrations) }
+        ensures lower { OnOk result ((k : ℕ) → IsSome ((registry_of self.old).held k) → k < self.old.registrations) }
+        ensures ok { OnOk result (registry_of self.new ≡ registered (registry_of self.old) types.now) }
+        ensures fits { OnOk result (IsFull (registry_of self.old) types.now → ⊥) }
+        ensures full { IsErrOf result refused.Full → IsFull (registry_of self.old) types.now }
+        ensures held { IsErrOf result refused.NotHeld → ⊥ }
+        ensures err { OnErr result (registry_of self.new ≡ registry_of self.old) }
+    {
+        if self.registrations == u64::MAX {
+            return Err(RegistryError::Full);
+        }
+        let Planned { listed, fresh } = self.plan(types)?;
+        let indices = self.groups.live_types() + fresh.members();
+        self.groups.make_room(self.alloc, indices, fresh.len())?;
+        self.modules.reserve(1)?;
+        let key = self.registrations;
+        keep_planned(&mut self.groups, &listed, fresh.into_groups());
+        self.modules.insert(key, listed).ok();
+        self.registrations += 1;
+        Ok(ModuleKey(key))
     }
 
     /// Lets a module go. Groups that no held module has any more are kept no longer, and their indices are free. It takes no memory.

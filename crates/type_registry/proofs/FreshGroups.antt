@@ -1,0 +1,137 @@
+-- Groups that are not kept yet, found by their canonical members.
+use Rattle.std.specs.Prelude.{cond}
+use Rattle.std.proofs.Common.{if◌then◌else◌, ◌≡◌, ◌∙◌, ◌↔◌, ◌<◌, ◌≤◌, ℕ, zero, suc, ◌+◌, Bool, true, false, List, [], ◌∷◌, ◌++◌, length, slice_get, Option, Some, None, refl, sym, ap, arith}
+use Rattle.std.proofs.lemmas.List.{length-append}
+use Rattle.std.specs.Option.{option_map}
+use Rattle.wasm_types.specs.declared.sub.WasmSubType.{WasmSubType}
+use Rattle.type_registry.specs.Registry.{Group, Groups, indices_of}
+use Rattle.type_registry.specs.Changes.{find_group}
+use Rattle.type_registry.specs.Planning.{HasMembers, AreFresh}
+use Rattle.type_registry.proofs.Dropping.{number-is, some-none}
+use Rattle.type_registry.proofs.Keeping.{Eq}
+
+abbrev Entry : Type 0
+Entry = ℕ × Group
+
+entry-is : (e f : Entry) → Some e ≡ Some f → e ≡ f
+entry-is e f is = ap (by e) is where
+  by : Entry → Option Entry → Entry
+  by d None = d
+  by d (Some x) = x
+
+abbrev group_of : Entry → Group
+group_of e = e.1
+
+-- the one group that is equal is found
+find-one : (es : Groups) (p : ℕ) (e : Entry) (c : List WasmSubType) → slice_get es p ≡ Some e → Eq e.1.canonical c ≡ true
+    → ((q : ℕ) (f : Entry) → slice_get es q ≡ Some f → Eq f.1.canonical c ≡ true → q ≡ p) → find_group c es ≡ Some e.1
+find-one [] p e c at holds only = absurd (some-none e at)
+find-one (x ∷ es) zero e c at holds only =
+    let same = entry-is x e at in
+    ap (λ b. if b then Some x.1 else find_group c es) (ap (λ (f : Entry). Eq f.1.canonical c) same ∙ holds) ∙ ap (λ (f : Entry). Some f.1) same
+find-one (x ∷ es) (suc p) e c at holds only =
+    by (Eq x.1.canonical c) refl (find-one es p e c at holds (λ q f here is. let n : suc q ≡ suc p = only (suc q) f here is in omega (arith, n))) where
+      by : (b : Bool) → Eq x.1.canonical c ≡ b → find_group c es ≡ Some e.1 → (if b then Some x.1 else find_group c es) ≡ Some e.1
+      by true is rest = let fails : 0 ≡ suc p = only 0 x refl is in absurd (omega (arith, fails))
+      by false is rest = rest
+
+find-no-one : (es : Groups) (c : List WasmSubType) → ((q : ℕ) (f : Entry) → slice_get es q ≡ Some f → Eq f.1.canonical c ≡ true → ⊥) → find_group c es ≡ None
+find-no-one [] c none = refl
+find-no-one (x ∷ es) c none = by (Eq x.1.canonical c) refl (find-no-one es c (λ q f here is. none (suc q) f here is)) where
+  by : (b : Bool) → Eq x.1.canonical c ≡ b → find_group c es ≡ None → (if b then Some x.1 else find_group c es) ≡ None
+  by true is rest = absurd (none 0 x refl is)
+  by false is rest = rest
+
+-- an equal one would be found
+none-there : (es : Groups) (c : List WasmSubType) (q : ℕ) (f : Entry) → find_group c es ≡ None → slice_get es q ≡ Some f → Eq f.1.canonical c ≡ true → ⊥
+none-there [] c q f none at is = some-none f at
+none-there (x ∷ es) c zero f none at is =
+    some-none x.1 (sym none ∙ ap (λ b. if b then Some x.1 else find_group c es) (ap (λ (e : Entry). Eq e.1.canonical c) (entry-is x f at) ∙ is))
+none-there (x ∷ es) c (suc q) f none at is = by (Eq x.1.canonical c) none (λ n. none-there es c q f n at is) where
+  by : (b : Bool) → (if b then Some x.1 else find_group c es) ≡ None → (find_group c es ≡ None → ⊥) → ⊥
+  by true none rest = some-none x.1 (sym none)
+  by false none rest = rest none
+
+-- ---- one more group
+
+-- a group of a longer list is the last or was there
+data Where (es : Groups) (p : ℕ) (e f : Entry) : Type 0 where
+  Last : p ≡ length es → f ≡ e → Where es p e f
+  Earlier : p < length es → slice_get es p ≡ Some f → Where es p e f
+
+pushed-at : (es : Groups) (e f : Entry) (p : ℕ) → slice_get (es ++ e ∷ []) p ≡ Some f → Where es p e f
+pushed-at [] e f zero at = Last refl (entry-is f e (sym at))
+pushed-at [] e f (suc p) at = absurd (some-none f at)
+pushed-at (x ∷ es) e f zero at = Earlier (omega arith) at
+pushed-at (x ∷ es) e f (suc p) at = by (pushed-at es e f p at) where
+  by : Where es p e f → Where (x ∷ es) (suc p) e f
+  by (Last n is) = Last (ap suc n) is
+  by (Earlier lt was) = Earlier (omega (arith, lt)) was
+
+at-last : (es : Groups) (e : Entry) → slice_get (es ++ e ∷ []) (length es) ≡ Some e
+at-last [] e = refl
+at-last (x ∷ es) e = at-last es e
+
+at-earlier : (es : Groups) (e f : Entry) (p : ℕ) → slice_get es p ≡ Some f → slice_get (es ++ e ∷ []) p ≡ Some f
+at-earlier [] e f p at = absurd (some-none f at)
+at-earlier (x ∷ es) e f zero at = at
+at-earlier (x ∷ es) e f (suc p) at = at-earlier es e f p at
+
+indices-pushed : (es : Groups) (e : Entry) → length (indices_of (es ++ e ∷ [])) ≡ length (indices_of es) + length e.1.indices
+indices-pushed [] e = omega (arith, length-append e.1.indices (indices_of []))
+indices-pushed (x ∷ es) e =
+    omega (arith, indices-pushed es e, length-append x.1.indices (indices_of es), length-append x.1.indices (indices_of (es ++ e ∷ [])))
+
+module _ {Key : Type 0} (content : Key → List WasmSubType) (places : Key → Option ℕ) (members : ℕ) (es : Groups) (k : AreFresh content places members es) where
+  -- the map may be another that has the same
+  pub fresh-same : (places' : Key → Option ℕ) → ((key : Key) → places' key ≡ places key) → AreFresh content places' members es
+  fresh-same places' same = record {
+    counted = k.counted;
+    found = λ p e at key is. same key ∙ k.found p e at key is;
+    knows = λ key p is. k.knows key p (sym (same key) ∙ is);
+  }
+
+  module _ (equal : (x y : List WasmSubType) → (Eq x y ≡ true) ↔ (x ≡ y)) where
+    pub found-fresh : (key : Key) (p : ℕ) → places key ≡ Some p → find_group (content key) es ≡ option_map group_of (slice_get es p)
+    found-fresh key p is =
+        let w = k.knows key p is in
+        find-one es p w.entry (content key) w.at ((equal w.entry.1.canonical (content key)).1 w.same)
+        (λ q f here holds. number-is q p (sym (k.found q f here key (sym ((equal f.1.canonical (content key)).0 holds))) ∙ is))
+        ∙ ap (option_map group_of) (sym w.at)
+
+    pub not-fresh : (key : Key) → places key ≡ None → find_group (content key) es ≡ None
+    not-fresh key none =
+        find-no-one es (content key) (λ q f here holds. some-none q (sym none ∙ k.found q f here key (sym ((equal f.1.canonical (content key)).0 holds))))
+
+    module _ (places' : Key → Option ℕ) (members' : ℕ) (e : Entry) (unknown : find_group e.1.canonical es ≡ None)
+        (learns : (q : Key) → places' q ≡ cond (Eq e.1.canonical (content q)) (Some (length es)) (places q)) (more : members' ≡ members + length e.1.indices) where
+      abbrev es' : Groups
+      es' = es ++ e ∷ []
+
+      found' : (p : ℕ) (f : Entry) → slice_get es' p ≡ Some f → (key : Key) → content key ≡ f.1.canonical → places' key ≡ Some p
+      found' p f at key has = by (pushed-at es e f p at) where
+        by : Where es p e f → places' key ≡ Some p
+        by (Last n is) =
+            let yes = (equal e.1.canonical (content key)).1 (sym (has ∙ ap (λ (x : Entry). x.1.canonical) is)) in
+            learns key ∙ ap (λ c. cond c (Some (length es)) (places key)) yes ∙ ap Some (sym n)
+        by (Earlier lt was) = other (Eq e.1.canonical (content key)) refl where
+          other : (c : Bool) → Eq e.1.canonical (content key) ≡ c → places' key ≡ Some p
+          other true is =
+              let same : f.1.canonical ≡ e.1.canonical = sym has ∙ sym ((equal e.1.canonical (content key)).0 is) in
+              absurd (none-there es e.1.canonical p f unknown was ((equal f.1.canonical e.1.canonical).1 same))
+          other false is = learns key ∙ ap (λ c. cond c (Some (length es)) (places key)) is ∙ k.found p f was key has
+
+      knows' : (key : Key) (p : ℕ) → places' key ≡ Some p → HasMembers es' p (content key)
+      knows' key p is = by (Eq e.1.canonical (content key)) refl (sym (learns key) ∙ is) where
+        by : (c : Bool) → Eq e.1.canonical (content key) ≡ c → cond c (Some (length es)) (places key) ≡ Some p → HasMembers es' p (content key)
+        by true holds now =
+            let n : length es ≡ p = number-is (length es) p now in
+            record { entry = e; at = ap (slice_get es') (sym n) ∙ at-last es e; same = (equal e.1.canonical (content key)).0 holds }
+        by false holds now = let w = k.knows key p now in record { entry = w.entry; at = at-earlier es e w.entry p w.at; same = w.same }
+
+      pub fresh-pushed : AreFresh content places' members' es'
+      fresh-pushed = record {
+        counted = omega (arith, more, k.counted, indices-pushed es e);
+        found = found';
+        knows = knows';
+      }

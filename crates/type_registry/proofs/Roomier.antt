@@ -1,0 +1,88 @@
+-- What is kept stays so where there is room for more.
+use Rattle.std.specs.Prelude.{replicate, ⊤}
+use Rattle.std.proofs.Common.{◌≡◌, ◌∙◌, ◌<◌, ◌≤◌, ℕ, zero, suc, ◌+◌, List, [], ◌∷◌, ◌++◌, length, map, slice_get, Option, Some, None, option_and_then, refl, sym, ap, arith}
+use Rattle.std.proofs.lemmas.List.{length-append}
+use Rattle.wasm_types.specs.declared.sub.WasmSubType.{WasmSubType}
+use Rattle.free_numbers.specs.Counts.{IsCounts}
+use Rattle.type_registry.specs.declared.owners.Owner.{Owner}
+use Rattle.type_registry.specs.Registry.{Group, indices_of}
+use Rattle.type_registry.specs.Owners.{owner_at, free_count}
+use Rattle.type_registry.specs.Keeping.{kept_from, group_in, AreKept}
+
+abbrev nothing : {A : Type 0} → Option A
+nothing = None
+
+-- nothing is at places that are only room
+room-at : {A : Type 0} (n f : ℕ) → option_and_then (λ (o : Option A). o) (slice_get (replicate n (nothing {A = A})) f) ≡ None
+room-at zero f = refl
+room-at (suc n) zero = refl
+room-at {A = A} (suc n) (suc f) = room-at {A = A} n f
+
+at-more : {A : Type 0} (xs : List (Option A)) (n f : ℕ)
+    → option_and_then (λ (o : Option A). o) (slice_get (xs ++ replicate n nothing) f) ≡ option_and_then (λ (o : Option A). o) (slice_get xs f)
+at-more {A = A} [] n f = room-at {A = A} n f
+at-more (x ∷ xs) n zero = refl
+at-more (x ∷ xs) n (suc f) = at-more xs n f
+
+none-kept : (k n : ℕ) → kept_from k (replicate n nothing) ≡ []
+none-kept k zero = refl
+none-kept k (suc n) = none-kept (k + 1) n
+
+pub kept-more : (gs : List (Option Group)) (k n : ℕ) → kept_from k (gs ++ replicate n None) ≡ kept_from k gs
+kept-more [] k n = none-kept k n
+kept-more (None ∷ gs) k n = kept-more gs (k + 1) n
+kept-more (Some g ∷ gs) k n = ap (λ es. (k, g) ∷ es) (kept-more gs (k + 1) n)
+
+pub long : {A : Type 0} (n : ℕ) (x : A) → length (replicate n x) ≡ n
+long zero x = refl
+long (suc n) x = ap suc (long n x)
+
+all-free : (n : ℕ) → map free_count (replicate n nothing) ≡ replicate n 1
+all-free zero = refl
+all-free (suc n) = ap (λ l. 1 ∷ l) (all-free n)
+
+pub free-more : (os : List (Option Owner)) (n : ℕ) → map free_count (os ++ replicate n None) ≡ map free_count os ++ replicate n 1
+free-more [] n = all-free n
+free-more (o ∷ os) n = ap (λ l. free_count o ∷ l) (free-more os n)
+
+one-each : (n : ℕ) → IsCounts (replicate n 1)
+one-each zero = tt
+one-each (suc n) = (omega arith, one-each n)
+
+pub are-counts : (os : List (Option Owner)) (n : ℕ) → IsCounts (map free_count os ++ replicate n 1)
+are-counts [] n = one-each n
+are-counts (None ∷ os) n = (omega arith, are-counts os n)
+are-counts (Some o ∷ os) n = (omega arith, are-counts os n)
+
+module _ {Key : Type 0} (content : Key → List WasmSubType) (live : ℕ) (known : Key → Option ℕ) (gs : List (Option Group)) (os : List (Option Owner)) (free : List ℕ)
+    (k : AreKept content live known gs os free) where
+  -- the map may be another that has the same
+  pub kept-known : (known' : Key → Option ℕ) → ((key : Key) → known' key ≡ known key) → AreKept content live known' gs os free
+  kept-known known' same = record {
+    few = k.few;
+    owners = k.owners;
+    counted = k.counted;
+    first = k.first;
+    owned = k.owned;
+    owns = k.owns;
+    unowned = k.unowned;
+    found = λ f g at key is. same key ∙ k.found f g at key is;
+    knows = λ key f is. k.knows key f (sym (same key) ∙ is);
+  }
+
+  pub kept-roomier : (n : ℕ) → length gs + n < 4294967296
+      → AreKept content live known (gs ++ replicate n None) (os ++ replicate n None) (map free_count os ++ replicate n 1)
+  kept-roomier n few =
+      let more = long n (nothing {A = Group}) in
+      let more' = long n (nothing {A = Owner}) in
+      record {
+        few = omega (arith, few, length-append gs (replicate n None), more);
+        owners = omega (arith, k.owners, length-append gs (replicate n None), length-append os (replicate n None), more, more');
+        counted = k.counted ∙ ap (λ es. length (indices_of es)) (sym (kept-more gs 0 n));
+        first = λ f g at. k.first f g (sym (at-more gs n f) ∙ at);
+        owned = λ f p i g at is. at-more os n i ∙ k.owned f p i g (sym (at-more gs n f) ∙ at) is;
+        owns = λ i o is. let w = k.owns i o (sym (at-more os n i) ∙ is) in record { group = w.group; kept = at-more gs n o.first ∙ w.kept; at = w.at };
+        unowned = sym (free-more os n);
+        found = λ f g at key is. k.found f g (sym (at-more gs n f) ∙ at) key is;
+        knows = λ key f is. let w = k.knows key f is in record { group = w.group; kept = at-more gs n f ∙ w.kept; same = w.same };
+      }

@@ -1,0 +1,77 @@
+-- The types of a new group as they are used.
+use Rattle.std.proofs.Common.{if◌then◌else◌, ◌≡◌, ◌∙◌, ◌<◌, ◌≤◌, ℕ, zero, suc, ◌+◌, ◌-◌, Bool, true, false, List, [], ◌∷◌, ◌++◌, length, map, get_or, refl, sym, ap, subst, arith}
+use Rattle.std.specs.Prelude.{nat_lt}
+use Rattle.std.specs.List.{All, AllZip}
+use Rattle.std.proofs.lemmas.List.Elements.{All-head, All-tail}
+use Rattle.std.proofs.lemmas.Bool.{ltb-true, ltb-false}
+use Rattle.wasm_spec.specs.TypeData.{map_group, map_sub_type}
+use Rattle.type_data.specs.Names.{named, by_name, alike-mapped, index_of as index_in}
+use Rattle.type_data.specs.Shapes.{erased}
+use Rattle.type_data.specs.ListLaws.{map-twice}
+use Rattle.type_data.specs.TypeShapes.{group_shape}
+use Rattle.type_spec.specs.Interned.{Span}
+use Rattle.wasm_index.specs.Index.{number_of, index_of}
+use Rattle.wasm_types.specs.declared.index.EngineOrModuleTypeIndex.{EngineOrModuleTypeIndex}
+use Rattle.wasm_types.specs.declared.index.EngineOrModuleTypeIndex.TheVariants as index
+use Rattle.wasm_types.specs.declared.sub.WasmSubType.{WasmSubType}
+use Rattle.wasm_types.specs.TypeViews.{sub_type_of, group_of}
+use Rattle.wasm_trace.specs.Canonical.{CanBeConsedEdge, consed_edge, runtime_edge}
+use Rattle.module_types.specs.TypeList.{TypeList}
+use Rattle.type_registry.specs.Registry.{used_edge, used_type}
+use Rattle.type_registry.specs.Changes.{members_of, edges_of, given, canonical_data, IsGiven}
+
+get-left : (xs ys : List ℕ) (n : ℕ) → n < length xs → get_or (xs ++ ys) n 0 ≡ get_or xs n 0
+get-left [] ys n lt = absurd (omega (arith, lt))
+get-left (x ∷ xs) ys zero lt = refl
+get-left (x ∷ xs) ys (suc n) lt = get-left xs ys n (omega (arith, lt))
+
+get-right : (xs ys : List ℕ) (n : ℕ) → length xs ≤ n → get_or (xs ++ ys) n 0 ≡ get_or ys (n - length xs) 0
+get-right [] ys n le = let same : n ≡ n - 0 = omega arith in ap (λ k. get_or ys k 0) same
+get-right (x ∷ xs) ys zero le = absurd (omega (arith, le))
+get-right (x ∷ xs) ys (suc n) le =
+    let same : n - length xs ≡ suc n - suc (length xs) = omega arith in
+    get-right xs ys n (omega (arith, le)) ∙ ap (λ k. get_or ys k 0) same
+
+module _ (before new : List ℕ) (start end : ℕ) (at : length before ≡ start) where
+  abbrev used : EngineOrModuleTypeIndex → EngineOrModuleTypeIndex
+  used e = runtime_edge (given (before ++ new)) e
+
+  abbrev consed : EngineOrModuleTypeIndex → EngineOrModuleTypeIndex
+  consed e = consed_edge (given before) start e
+
+  abbrev Can : EngineOrModuleTypeIndex → Type 0
+  Can e = CanBeConsedEdge (IsGiven (length before)) start end e
+
+  -- a reference is used as its canonical form says
+  each : (e : EngineOrModuleTypeIndex) → Can e → used e ≡ used_edge new (consed e)
+  each (index.Engine i) can = refl
+  each (index.RecGroup i) can = absurd can
+  each (index.Module i) can = by (nat_lt (number_of i) start) refl where
+    by : (c : Bool) → nat_lt (number_of i) start ≡ c
+        → used (index.Module i) ≡ used_edge new (if c then index.Engine (given before i) else index.RecGroup (index_of (number_of i - start)))
+    by true e =
+        ap (λ n. index.Engine (index_of n)) (get-left before new (number_of i) (omega (arith, ltb-true (number_of i) start e, at)))
+    by false e =
+        ap (λ n. index.Engine (index_of n))
+        (get-right before new (number_of i) (omega (arith, ltb-false (number_of i) start e, at)) ∙ ap (λ k. get_or new (number_of i - k) 0) at)
+
+  all-each : (es : List EngineOrModuleTypeIndex) → All Can es → AllZip (λ a b. used a ≡ used_edge new b) es (map consed es)
+  all-each [] all = tt
+  all-each (e ∷ es) all = (each e (All-head Can e es all), all-each es (All-tail Can e es all))
+
+  pub used-types : (l : TypeList) (s : Span) → s.start ≡ start → All Can (edges_of (members_of l s)) → (types canonical : List WasmSubType)
+      → group_of types ≡ map_group (named used) used (group_of (members_of l s))
+      → group_of canonical ≡ canonical_data l before s → map sub_type_of types ≡ map (used_type new) canonical
+  used-types l s from can types canonical is canon =
+      let x = group_of (members_of l s) in
+      let y = map_group (named consed) consed x in
+      let t = by_name group_shape in
+      let same : map_group (named used) used x ≡ map_group (named (used_edge new)) (used_edge new) y =
+      alike-mapped t used (used_edge new) x y (record {
+        frames = sym (t.map_twice consed (erased {R = EngineOrModuleTypeIndex}) x);
+        edges = subst (λ es. AllZip (λ a b. used a ≡ used_edge new b) (t.edges x) es) (sym (t.edges_map consed x)) (all-each (t.edges x) can);
+      }) in
+      let canonical-is : group_of canonical ≡ y =
+      canon ∙ ap (λ n. map_group (named (consed_edge (given before) n)) (consed_edge (given before) n) x) from in
+      is ∙ same ∙ ap (map_group (named (used_edge new)) (used_edge new)) (sym canonical-is)
+      ∙ map-twice sub_type_of (map_sub_type (named (used_edge new)) (used_edge new)) (used_type new) (λ t. refl) canonical
