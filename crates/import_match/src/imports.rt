@@ -1,0 +1,72 @@
+//! The definitions that the imports of a module are given.
+
+ghost use Rattle.std.specs.Prelude.{◌≡◌, ◌⊎◌, ℕ, [], ◌∷◌, All, IfOk, IfErr, Ok, Err};
+ghost use Rattle.type_registry.specs.Keys.{key_number};
+ghost use Rattle.type_registry.specs.Registry.{registry_of};
+ghost use Rattle.wasm_module.specs.Imports.{IsResolved};
+ghost use Rattle.wasm_module.specs.Record.{record_of};
+ghost use Rattle.import_match.specs.declared.error.LinkError.TheVariants as refused;
+ghost use Rattle.import_match.specs.Rules.{types_in, HasEngineTypes};
+ghost use Rattle.import_match.specs.Definitions.{Definition, names_of, found};
+ghost use Rattle.import_match.specs.Kept.{definitions_of};
+ghost use Rattle.import_match.specs.Linking.{wants_of, engine_definitions};
+ghost use Rattle.import_match.specs.Resolving.{answer_at, resolved};
+ghost use Rattle.import_match.specs.Held.{IsTypeOf};
+
+use crate::definitions::{Definitions, find};
+use crate::engine_types::with_engine_types;
+use crate::error::LinkError;
+use crate::names::Names;
+use crate::rules::match_entity;
+use std::alloc::Global;
+use type_registry::{ModuleKey, TypeRegistry};
+use wasm_module::Module;
+use wasm_types::EntityType;
+
+/// The number of the definition under the names of the import at a place, if it matches the type.
+fn resolve_import(
+    definitions: &Definitions,
+    names: &Names,
+    place: usize,
+    want: &EntityType,
+) -> Result<usize, LinkError>
+    requires definitions { All (λ (d : Definition). HasEngineTypes d.1) (definitions_of definitions.now) }
+    requires want { HasEngineTypes want.now }
+    ensures { result ≡ answer_at place want.now (found (definitions_of definitions.now) (names_of names.now)) }
+{
+    let Some((number, have)) = find(definitions, names) else {
+        return Err(LinkError::Missing(place));
+    };
+    match match_entity(&have, want) {
+        None => Ok(number),
+        Some(rule) => Err(LinkError::Mismatch(place, rule)),
+    }
+}
+
+/// The number of the definition of each import of a held module, in order.
+pub(crate) fn resolve_imports(
+    alloc: Global,
+    definitions: &Definitions,
+    registry: &TypeRegistry,
+    key: ModuleKey,
+    module: &Module,
+) -> Result<Vec<usize>, LinkError>
+    requires definitions { All (λ (d : Definition). HasEngineTypes d.1) (definitions_of definitions.now) }
+    requires resolved { All (IsResolved (record_of module.now)) (record_of module.now).initializers }
+    requires types { All (λ (d : Definition). All (IsTypeOf (registry_of registry.now) (key_number key)) (types_in d.1)) (wants_of (record_of module.now)) }
+    ensures ok { IfOk result (λ numbers. resolved (definitions_of definitions.now)
+        (engine_definitions (registry_of registry.now) (key_number key) (wants_of (record_of module.now))) ≡ Ok numbers.items) }
+    ensures err { IfErr result (λ e. (e ≡ refused.OutOfMemory) ⊎ (resolved (definitions_of definitions.now)
+        (engine_definitions (registry_of registry.now) (key_number key) (wants_of (record_of module.now))) ≡ Err e)) }
+{
+    let count = module.initializers.len();
+    let mut numbers = Vec::with_capacity(alloc, count)?;
+    let mut names = Names::new(alloc);
+    for place in 0..count {
+        let (from, own, ty) = module.import(place).unwrap();
+        names.set(from, own)?;
+        let want = with_engine_types(registry, key, ty);
+        numbers.push(resolve_import(definitions, &names, place, &want)?)?;
+    }
+    Ok(numbers)
+}

@@ -1,0 +1,15 @@
+//! Which definition each import of a module is given, or which import fails first and by which rule.
+#![tactic(auto)]
+
+mod definitions;
+mod engine_types;
+mod error;
+mod exports;
+mod imports;
+mod linker;
+mod names;
+mod rules;
+
+pub use error::{ImportRefused, LinkError, Mismatch};
+pub use linker::Linker;
+pub use rules::match_entity;
