@@ -1,5 +1,5 @@
 -- What a held module exports and imports: definitions, with the engine's types.
-use Rattle.std.specs.Prelude.{◌<◌, ℕ, List, map, All, Option, IsSome, IfSome, option_and_then, unwrap_or}
+use Rattle.std.specs.Prelude.{◌≡◌, ◌<◌, ℕ, List, map, All, Option, None, IsSome, IfSome, option_and_then, unwrap_or}
 use Rattle.std.specs.List.{filter_map}
 use Rattle.std.specs.Option.{option_map}
 use Rattle.type_data.specs.Names.{named}
@@ -15,10 +15,13 @@ use Rattle.wasm_types.specs.declared.index.EngineOrModuleTypeIndex.TheVariants.{
 use Rattle.wasm_types.specs.EntityData.{map_entity}
 use Rattle.wasm_types.specs.EntityViews.{entity_of, entity_back}
 use Rattle.wasm_trace.specs.Canonical.{runtime_edge}
-use Rattle.wasm_module.specs.Record.{ModuleRecord}
+use Rattle.wasm_module.specs.Record.{ModuleRecord, record_of}
 use Rattle.wasm_module.specs.Entities.{entity_type}
-use Rattle.wasm_module.specs.Imports.{text_of, imports_of}
-use Rattle.type_registry.specs.Registry.{Registry, index_at, count_of}
+use Rattle.wasm_module.specs.Imports.{text_of, imports_of, IsResolved}
+use Rattle.wasm_module.specs.declared.module.Module.{Module as Record}
+use Rattle.type_registry.specs.Keys.{key_number}
+use Rattle.type_registry.specs.Registry.{Registry, RegistryState, registry_of, index_at, count_of}
+use Rattle.type_registry.specs.declared.key.ModuleKey.{ModuleKey}
 use Rattle.import_match.specs.Rules.{types_in}
 use Rattle.import_match.specs.Definitions.{Definition}
 
@@ -64,3 +67,31 @@ exports_of m from = filter_map (export_of m from) m.exports
 -- the definitions that a module wants, import by import
 abbrev pub wants_of : ModuleRecord → List Definition
 wants_of m = map (λ (i : List ℕ × List ℕ × EntityType). ((i.0, i.1), i.2)) (imports_of m m.initializers)
+
+-- ---- of a module, its key and a registry
+
+-- what a module exports under a name, with the engine's types
+abbrev pub exported : RegistryState → ModuleKey → Record → List ℕ → List Definition
+exported registry key m from = engine_definitions (registry_of registry) (key_number key) (exports_of (record_of m) from)
+
+-- what it imports, with the engine's types
+abbrev pub wanted : RegistryState → ModuleKey → Record → List Definition
+wanted registry key m = engine_definitions (registry_of registry) (key_number key) (wants_of (record_of m))
+
+-- names of exports are in the pool, the module has their entities, and where the key is held these name types of the module alone
+pub record CanExport (registry : RegistryState) (key : ModuleKey) (m : Record) (from : List ℕ) : Type 0 where
+  pub resolved : All (IsExportResolved (record_of m)) (record_of m).exports
+  pub types : HaveTypesOf (registry_of registry) (key_number key) (exports_of (record_of m) from)
+
+-- the same of imports
+pub record CanImport (registry : RegistryState) (key : ModuleKey) (m : Record) : Type 0 where
+  pub resolved : All (IsResolved (record_of m)) (record_of m).initializers
+  pub types : HaveTypesOf (registry_of registry) (key_number key) (wants_of (record_of m))
+
+-- a module is held under the key
+abbrev pub IsHeld : RegistryState → ModuleKey → Type 0
+IsHeld registry key = IsSome (count_of (registry_of registry) (key_number key))
+
+-- none is
+abbrev pub IsNotHeld : RegistryState → ModuleKey → Type 0
+IsNotHeld registry key = count_of (registry_of registry) (key_number key) ≡ None

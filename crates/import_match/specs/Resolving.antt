@@ -1,7 +1,6 @@
 -- Which definition each import is given, or which import fails first, and why (core specification, 4.7, instantiation).
 use Rattle.std.specs.Prelude.{◌≡◌, ◌<◌, ℕ, List, [], ◌∷◌, map, slice_get, Option, Some, None, Result, Ok, Err, IsSomeAnd}
 use Rattle.std.specs.List.{enumerate_from, AllZip}
-use Rattle.std.specs.Result.{result_map}
 use Rattle.wasm_types.specs.declared.entity.EntityType.{EntityType}
 use Rattle.import_match.specs.declared.error.LinkError.{LinkError}
 use Rattle.import_match.specs.declared.error.LinkError.TheVariants as error

@@ -1,6 +1,6 @@
 //! Definitions in order, found by their names.
 
-ghost use Rattle.std.specs.Prelude.{◌≡◌, ◌<◌, ◌≤◌, ◌+◌, ◌⊎◌, ℕ, [], ◌∷◌, ◌++◌, length, map, slice_get, None, Some, IfOk, IfErr, OnOk, OnErr, IsOk};
+ghost use Rattle.std.specs.Prelude.{◌≡◌, ◌<◌, ◌≤◌, ◌+◌, ◌⊎◌, [], ◌∷◌, ◌++◌, length, map, All, None, IfOk, IfErr, OnOk, OnErr, IsOk};
 ghost use Rattle.indexmap.specs.IndexMap.{spare};
 ghost use Rattle.import_match.specs.declared.error.LinkError.TheVariants as refused;
 ghost use Rattle.import_match.specs.Definitions.{Definition, names_of, found, IsDefined, AreOnce};
@@ -53,6 +53,7 @@ pub(crate) fn append(
     requires { found (definitions_of definitions.old) (names_of names) ≡ None }
     ensures ok { OnOk result (definitions_of definitions.new ≡ definitions_of definitions.old ++ (names_of names, ty) ∷ []) }
     ensures err { OnErr result (definitions_of definitions.new ≡ definitions_of definitions.old) }
+    ensures once { AreOnce (definitions_of definitions.new) }
     ensures succeeds { 0 < spare definitions.old → IsOk result }
     ensures spare { spare definitions.old ≤ spare definitions.new + 1 }
 {
@@ -63,9 +64,11 @@ pub(crate) fn append(
 /// Appends definitions under names that are new, for which there is room.
 pub(crate) fn append_all(definitions: &mut Definitions, planned: Vec<(Names, EntityType)>)
     requires room { length planned.items ≤ spare definitions.old }
-    requires new { (i : ℕ) (d : Definition) → slice_get (map definition_of planned.items) i ≡ Some d → found (definitions_of definitions.old) d.0 ≡ None }
+    requires new { All (λ (d : Definition). found (definitions_of definitions.old) d.0 ≡ None) (map definition_of planned.items) }
     requires once { AreOnce (map definition_of planned.items) }
-    ensures { definitions_of definitions.new ≡ definitions_of definitions.old ++ map definition_of planned.items }
+    requires kept { AreOnce (definitions_of definitions.old) }
+    ensures once { AreOnce (definitions_of definitions.new) }
+    ensures listed { definitions_of definitions.new ≡ definitions_of definitions.old ++ map definition_of planned.items }
 {
     for (names, ty) in planned {
         append(definitions, names, ty).unwrap();

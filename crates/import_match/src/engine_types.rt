@@ -26,7 +26,7 @@ pub(crate) fn with_engine_types(
     let mut ty = ty;
     let engine = |index: ModuleInternedTypeIndex| -> VMSharedTypeIndex
         requires { IsSome (index_at (registry_of registry.now) (key_number key) (number_of index)) }
-        ensures { result ≡ engine_index (registry_of registry.now) (key_number key) index }
+        ensures { result ≡ engine_index (registry_of registry.entry.now) (key_number key) index }
     { registry.index_of(key, index).unwrap() };
     ty.canonicalize_for_runtime_usage(&engine);
     ty

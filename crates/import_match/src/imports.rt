@@ -1,17 +1,12 @@
 //! The definitions that the imports of a module are given.
 
-ghost use Rattle.std.specs.Prelude.{◌≡◌, ◌⊎◌, ℕ, [], ◌∷◌, All, IfOk, IfErr, Ok, Err};
-ghost use Rattle.type_registry.specs.Keys.{key_number};
-ghost use Rattle.type_registry.specs.Registry.{registry_of};
-ghost use Rattle.wasm_module.specs.Imports.{IsResolved};
-ghost use Rattle.wasm_module.specs.Record.{record_of};
+ghost use Rattle.std.specs.Prelude.{◌≡◌, ◌⊎◌, All, IfOk, IfErr, Ok, Err};
 ghost use Rattle.import_match.specs.declared.error.LinkError.TheVariants as refused;
-ghost use Rattle.import_match.specs.Rules.{types_in, HasEngineTypes};
+ghost use Rattle.import_match.specs.Rules.{HasEngineTypes};
 ghost use Rattle.import_match.specs.Definitions.{Definition, names_of, found};
 ghost use Rattle.import_match.specs.Kept.{definitions_of};
-ghost use Rattle.import_match.specs.Linking.{wants_of, engine_definitions};
+ghost use Rattle.import_match.specs.Linking.{wanted, CanImport, IsHeld};
 ghost use Rattle.import_match.specs.Resolving.{answer_at, resolved};
-ghost use Rattle.import_match.specs.Held.{IsTypeOf};
 
 use crate::definitions::{Definitions, find};
 use crate::engine_types::with_engine_types;
@@ -52,12 +47,11 @@ pub(crate) fn resolve_imports(
     module: &Module,
 ) -> Result<Vec<usize>, LinkError>
     requires definitions { All (λ (d : Definition). HasEngineTypes d.1) (definitions_of definitions.now) }
-    requires resolved { All (IsResolved (record_of module.now)) (record_of module.now).initializers }
-    requires types { All (λ (d : Definition). All (IsTypeOf (registry_of registry.now) (key_number key)) (types_in d.1)) (wants_of (record_of module.now)) }
-    ensures ok { IfOk result (λ numbers. resolved (definitions_of definitions.now)
-        (engine_definitions (registry_of registry.now) (key_number key) (wants_of (record_of module.now))) ≡ Ok numbers.items) }
-    ensures err { IfErr result (λ e. (e ≡ refused.OutOfMemory) ⊎ (resolved (definitions_of definitions.now)
-        (engine_definitions (registry_of registry.now) (key_number key) (wants_of (record_of module.now))) ≡ Err e)) }
+    requires held { IsHeld registry.now key }
+    requires can { CanImport registry.now key «module».now }
+    ensures ok { IfOk result (λ numbers. resolved (definitions_of definitions.now) (wanted registry.now key «module».now) ≡ Ok numbers.items) }
+    ensures err { IfErr result (λ e. (e ≡ refused.OutOfMemory)
+        ⊎ (resolved (definitions_of definitions.now) (wanted registry.now key «module».now) ≡ Err e)) }
 {
     let count = module.initializers.len();
     let mut numbers = Vec::with_capacity(alloc, count)?;

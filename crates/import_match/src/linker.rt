@@ -1,17 +1,13 @@
 //! The linker.
 
-ghost use Rattle.std.specs.Prelude.{◌≡◌, ◌↔◌, ◌⊎◌, ◌++◌, ◌∷◌, [], ℕ, length, All, None, IsOk, IfOk, OnOk, OnErr, IfErr, IsErrOf, Contains};
-ghost use Rattle.type_registry.specs.Keys.{key_number};
-ghost use Rattle.type_registry.specs.Registry.{registry_of};
-ghost use Rattle.wasm_module.specs.Imports.{IsResolved};
-ghost use Rattle.wasm_module.specs.Record.{record_of};
+ghost use Rattle.std.specs.Prelude.{◌≡◌, ◌↔◌, ◌⊎◌, ◌++◌, ◌∷◌, [], ℕ, length, All, Any, None, IsOk, IfOk, OnOk, OnErr, IfErr, IsErrOf};
 ghost use Rattle.import_match.specs.declared.error.LinkError.TheVariants as refused;
 ghost use Rattle.import_match.specs.declared.error.Mismatch.{Mismatch};
 ghost use Rattle.import_match.specs.Rules.{HasEngineTypes};
-ghost use Rattle.import_match.specs.Definitions.{IsDefined, AreOnce};
-ghost use Rattle.import_match.specs.Linking.{exports_of, wants_of, engine_definitions, HaveTypesOf, IsExportResolved};
+ghost use Rattle.import_match.specs.Definitions.{Definition, IsDefined, AreOnce};
+ghost use Rattle.import_match.specs.Linking.{exported, wanted, CanExport, CanImport, IsHeld, IsNotHeld};
 ghost use Rattle.import_match.specs.Resolving.{AreGiven, AreMatched, IsMissing, IsMismatched};
-ghost use Rattle.import_match.specs.Refusals.{ComesExactly, IsHeld, IsNotHeld, IsOneDefined, IsOutOfMemory};
+ghost use Rattle.import_match.specs.Refusals.{ComesExactly, IsOutOfMemory};
 
 use crate::definitions::{Definitions, append, append_all, new_names};
 use crate::error::LinkError;
@@ -36,14 +32,14 @@ pub struct Linker {
 impl Model for Linker {
     ghost use Rattle.std.specs.Prelude.{List, All};
     ghost use Rattle.import_match.specs.Rules.{HasEngineTypes};
-    ghost use Rattle.import_match.specs.Definitions.{Definition};
+    ghost use Rattle.import_match.specs.Definitions.{Definition, AreOnce};
     ghost use Rattle.import_match.specs.Kept.{definitions_of};
 
     ghost Value = { List Definition };
 
     ghost view = { λ l. definitions_of l.definitions };
 
-    ghost invariant = { λ l. All (λ (d : Definition). HasEngineTypes d.1) (definitions_of l.definitions) };
+    ghost invariant = { λ l. All (λ (d : Definition). HasEngineTypes d.1) (definitions_of l.definitions) × AreOnce (definitions_of l.definitions) };
 }
 
 impl Linker {
@@ -78,10 +74,10 @@ impl Linker {
     ) -> Result<usize, LinkError>
         requires { HasEngineTypes ty }
         ensures number { IfOk result (λ number. number ≡ length self.old) }
-        ensures ok { OnOk result (self.new ≡ self.old ++ ((module.now, name.now), ty) ∷ []) }
+        ensures ok { OnOk result (self.new ≡ self.old ++ ((«module».now, name.now), ty) ∷ []) }
         ensures err { OnErr result (self.new ≡ self.old) }
-        ensures duplicate { ComesExactly result refused.Duplicate (IsDefined self.old (module.now, name.now)) }
-        ensures others { IfErr result (λ e. Contains (refused.Duplicate ∷ refused.OutOfMemory ∷ []) e) }
+        ensures duplicate { ComesExactly result refused.Duplicate (IsDefined self.old («module».now, name.now)) }
+        ensures others { IfErr result (λ e. (e ≡ refused.Duplicate) ⊎ (e ≡ refused.OutOfMemory)) }
     {
         let names = new_names(self.alloc, &self.definitions, module, name)?;
         let number = self.definitions.len();
@@ -101,15 +97,13 @@ impl Linker {
         as_module: &str,
         module: &Module,
     ) -> Result<(), LinkError>
-        requires resolved { All (IsExportResolved (record_of module.now)) (record_of module.now).exports }
-        requires types { HaveTypesOf (registry_of registry.now) (key_number key) (exports_of (record_of module.now) as_module.now) }
-        ensures ok { OnOk result (self.new
-            ≡ self.old ++ engine_definitions (registry_of registry.now) (key_number key) (exports_of (record_of module.now) as_module.now)) }
+        requires { CanExport registry.now key «module».now as_module.now }
+        ensures ok { OnOk result (self.new ≡ self.old ++ exported registry.now key «module».now as_module.now) }
         ensures err { OnErr result (self.new ≡ self.old) }
-        ensures not_held { IsErrOf result refused.NotHeld ↔ IsNotHeld (registry_of registry.now) (key_number key) }
+        ensures not_held { IsErrOf result refused.NotHeld ↔ IsNotHeld registry.now key }
         ensures duplicate { ComesExactly result refused.Duplicate
-            (IsHeld (registry_of registry.now) (key_number key) × IsOneDefined self.old (exports_of (record_of module.now) as_module.now)) }
-        ensures others { IfErr result (λ e. Contains (refused.NotHeld ∷ refused.Duplicate ∷ refused.OutOfMemory ∷ []) e) }
+            (IsHeld registry.now key × Any (λ (d : Definition). IsDefined self.old d.0) (exported registry.now key «module».now as_module.now)) }
+        ensures others { IfErr result (λ e. (e ≡ refused.NotHeld) ⊎ ((e ≡ refused.Duplicate) ⊎ (e ≡ refused.OutOfMemory))) }
     {
         if registry.type_count(key).is_none() {
             return Err(LinkError::NotHeld);
@@ -139,16 +133,15 @@ impl Linker {
         key: ModuleKey,
         module: &Module,
     ) -> Result<Vec<usize>, LinkError>
-        requires resolved { All (IsResolved (record_of module.now)) (record_of module.now).initializers }
-        requires types { HaveTypesOf (registry_of registry.now) (key_number key) (wants_of (record_of module.now)) }
-        ensures given { IfOk result (λ numbers. AreGiven self.now (engine_definitions (registry_of registry.now) (key_number key) (wants_of (record_of module.now))) numbers.items) }
-        ensures complete { IsHeld (registry_of registry.now) (key_number key) → AreMatched self.now (engine_definitions (registry_of registry.now) (key_number key) (wants_of (record_of module.now)))
+        requires { CanImport registry.now key «module».now }
+        ensures given { IfOk result (λ numbers. AreGiven self.now (wanted registry.now key «module».now) numbers.items) }
+        ensures complete { IsHeld registry.now key → AreMatched self.now (wanted registry.now key «module».now)
             → IsOk result ⊎ IsOutOfMemory result }
-        ensures not_held { IsErrOf result refused.NotHeld ↔ IsNotHeld (registry_of registry.now) (key_number key) }
+        ensures not_held { IsErrOf result refused.NotHeld ↔ IsNotHeld registry.now key }
         ensures missing { (i : ℕ) → ComesExactly result (refused.Missing i)
-            (IsHeld (registry_of registry.now) (key_number key) × IsMissing self.now (engine_definitions (registry_of registry.now) (key_number key) (wants_of (record_of module.now))) i) }
+            (IsHeld registry.now key × IsMissing self.now (wanted registry.now key «module».now) i) }
         ensures mismatch { (i : ℕ) (rule : Mismatch) → ComesExactly result (refused.Mismatch i rule)
-            (IsHeld (registry_of registry.now) (key_number key) × IsMismatched self.now (engine_definitions (registry_of registry.now) (key_number key) (wants_of (record_of module.now))) i rule) }
+            (IsHeld registry.now key × IsMismatched self.now (wanted registry.now key «module».now) i rule) }
         ensures others { ¬ IsErrOf result refused.Duplicate }
         ensures once { AreOnce self.now }
     {
