@@ -1,16 +1,17 @@
 -- What is answered to imports, one after another.
-use Rattle.std.proofs.Common.{◌≡◌, ◌<◌, ◌+◌, ℕ, zero, suc, List, [], ◌∷◌, ◌++◌, map, drop, slice_get, Option, Some, None, Result, Ok, Err, refl, sym, ap, subst, ◌∙◌, arith}
-use Rattle.std.specs.Prelude.{IsSomeAnd}
+use Rattle.std.proofs.Common.{◌≡◌, ◌<◌, ◌≤◌, ◌+◌, ℕ, zero, suc, List, [], ◌∷◌, ◌++◌, length, map, drop, slice_get, Option, Some, None, Result, Ok, Err, refl, sym, ap, subst, ◌∙◌, inl, inr, arith}
+use Rattle.std.specs.Prelude.{◌⊎◌, IsSomeAnd, IsOk, IfOk, IfErr}
 use Rattle.std.specs.List.{enumerate_from, AllZip}
 use Rattle.std.proofs.lemmas.Option.{none-some, same_Some, slice_get_within, get_or_from_slice_get}
-use Rattle.std.proofs.lemmas.List.{append_assoc, drop_more}
+use Rattle.std.proofs.lemmas.List.{append-nil, append_assoc, drop_more, drop_all}
 use Rattle.wasm_types.specs.declared.entity.EntityType.{EntityType}
 use Rattle.import_match.specs.declared.error.LinkError.{LinkError}
 use Rattle.import_match.specs.declared.error.LinkError.TheVariants as error
 use Rattle.import_match.specs.declared.error.Mismatch.{Mismatch}
 use Rattle.import_match.specs.Rules.{mismatch}
-use Rattle.import_match.specs.Definitions.{Definition, found}
-use Rattle.import_match.specs.Resolving.{judged, answer_at, answer_to, with_value, all_values, IsMatched, IsGiven, IsReached, IsMissing, IsMismatched, AreMatched}
+use Rattle.import_match.specs.Definitions.{Definition, TwoNames, found}
+use Rattle.import_match.specs.Resolving.{judged, answer_at, answer_to, with_value, all_values, resolved, IsMatched, IsGiven, IsReached, IsMissing, IsMismatched, AreMatched, AreGiven}
+use Rattle.import_match.specs.Refusals.{ComesExactly, IsOutOfMemory}
 
 abbrev pub Answer : Type 0
 Answer = Result ℕ LinkError
@@ -73,15 +74,28 @@ error-of_import i want (Some have) e is = by (mismatch have.1 want) is
 
 -- ---- imports in order
 
+-- the answer to a first import and to those after it
+abbrev pub after : Answer → Answers → Answers
+after (Ok k) rest = with_value k rest
+after (Err e) rest = Err e
+
+-- with what was answered before
+abbrev pub before_all : List ℕ → Answers → Answers
+before_all ks (Ok others) = Ok (ks ++ others)
+before_all ks (Err e) = Err e
+
+one-more : (ks : List ℕ) (k : ℕ) (r : Answers) → before_all (ks ++ k ∷ []) r ≡ before_all ks (with_value k r)
+one-more ks k (Ok others) = ap (λ m. Ok m) (append_assoc ks (k ∷ []) others)
+one-more ks k (Err e) = refl
+
+-- what is left of imports, from one on
+left : (ws : List Definition) (i : ℕ) (w : Definition) → slice_get ws i ≡ Some w → drop i ws ≡ w ∷ drop (i + 1) ws
+left ws i w at = drop_more ws i w (slice_get_within ws i w at) ∙ ap (λ y. y ∷ drop (i + 1) ws) (get_or_from_slice_get ws i w w at)
+
 module _ (ds : List Definition) where
   -- the answer to imports whose places begin at a number
   abbrev pub run : ℕ → List Definition → Answers
   run n ws = all_values (map (answer_to ds) (enumerate_from n ws))
-
-  -- the answer to a first import and to those after it
-  abbrev pub after : Answer → Answers → Answers
-  after (Ok k) rest = with_value k rest
-  after (Err e) rest = Err e
 
   pub run-cons : (n : ℕ) (w : Definition) (ws : List Definition) → run n (w ∷ ws) ≡ after (answer_to ds (n, w)) (run (n + 1) ws)
   run-cons n w ws = by (answer_to ds (n, w)) (map (answer_to ds) (enumerate_from (n + 1) ws))
@@ -173,22 +187,103 @@ module _ (ds : List Definition) where
       let rest = all-matched (n + 1) ws (λ i want at. all (suc i) want at) in
       (ok.0 ∷ rest.0, run-cons n w ws ∙ ap (λ a. after a (run (n + 1) ws)) ok.1 ∙ ap (with_value ok.0) rest.1)
 
-  -- ---- with what was answered before
+  -- ---- the import at a place, once those before it were answered
+  module _ (ws : List Definition) (i : ℕ) (ks : List ℕ) (is : before_all ks (run i (drop i ws)) ≡ run 0 ws) where
+    here : (w : Definition) → slice_get ws i ≡ Some w → before_all ks (after (answer_to ds (i, w)) (run (i + 1) (drop (i + 1) ws))) ≡ run 0 ws
+    here w at = ap (before_all ks) (sym (run-cons i w (drop (i + 1) ws)) ∙ ap (run i) (sym (left ws i w at))) ∙ is
 
-  abbrev pub before_all : List ℕ → Answers → Answers
-  before_all ks (Ok others) = Ok (ks ++ others)
-  before_all ks (Err e) = Err e
+    pub stops : (w : Definition) (e : LinkError) → slice_get ws i ≡ Some w → answer_to ds (i, w) ≡ Err e → run 0 ws ≡ Err e
+    stops w e at answer = sym (here w at) ∙ ap (λ a. before_all ks (after a (run (i + 1) (drop (i + 1) ws)))) answer
 
-  pub one-more : (ks : List ℕ) (k : ℕ) (r : Answers) → before_all (ks ++ k ∷ []) r ≡ before_all ks (with_value k r)
-  one-more ks k (Ok others) = ap (λ m. Ok m) (append_assoc ks (k ∷ []) others)
-  one-more ks k (Err e) = refl
+    pub goes-on : (w : Definition) (k : ℕ) → slice_get ws i ≡ Some w → answer_to ds (i, w) ≡ Ok k
+        → before_all (ks ++ k ∷ []) (run (i + 1) (drop (i + 1) ws)) ≡ run 0 ws
+    goes-on w k at answer =
+        let rest = run (i + 1) (drop (i + 1) ws) in
+        one-more ks k rest ∙ ap (λ a. before_all ks (after a rest)) (sym answer) ∙ here w at
 
-  -- what is left of imports, from one on
-  pub left : (ws : List Definition) (i : ℕ) (w : Definition) → slice_get ws i ≡ Some w → drop i ws ≡ w ∷ drop (i + 1) ws
-  left ws i w at = drop_more ws i w (slice_get_within ws i w at) ∙ ap (λ y. y ∷ drop (i + 1) ws) (get_or_from_slice_get ws i w w at)
+    pub ends : length ws ≤ i → run 0 ws ≡ Ok ks
+    ends past = sym is ∙ ap (λ l. before_all ks (run i l)) (drop_all i ws past) ∙ ap (λ m. Ok m) (append-nil ks)
 
-  -- the import at a place, once those before it were answered
-  pub here : (ws : List Definition) (i : ℕ) (w : Definition) (ks : List ℕ) (all : Answers) → slice_get ws i ≡ Some w
-      → before_all ks (run i (drop i ws)) ≡ all → before_all ks (after (answer_to ds (i, w)) (run (i + 1) (drop (i + 1) ws))) ≡ all
-  here ws i w ks all at is =
-      ap (before_all ks) (sym (run-cons i w (drop (i + 1) ws)) ∙ ap (run i) (sym (left ws i w at))) ∙ is
+  pub answer-is : (i : ℕ) (names n : TwoNames) (want t : EntityType) → names ≡ n → want ≡ t
+      → answer_at i want (found ds names) ≡ answer_to ds (i, (n, t))
+  answer-is i names n want t same alike = λ j. answer_at i (alike j) (found ds (same j))
+
+-- ---- what a call answers that gives the numbers, or the first error, or has no memory
+
+module _ {V : Type 0} (items : V → List ℕ) (ds wants : List Definition) where
+  pub record IsAnswer (r : Result V LinkError) : Type 0 where
+    pub ok : IfOk r (λ v. resolved ds wants ≡ Ok (items v))
+    pub err : IfErr r (λ e. (e ≡ error.OutOfMemory) ⊎ (resolved ds wants ≡ Err e))
+
+  pub answer-given : (r : Result V LinkError) → IsAnswer r → IfOk r (λ v. AreGiven ds wants (items v))
+  answer-given (Ok v) a = given ds 0 wants (items v) a.ok
+  answer-given (Err e) a = tt
+
+  pub answer-complete : (r : Result V LinkError) → IsAnswer r → AreMatched ds wants → IsOk r ⊎ IsOutOfMemory r
+  answer-complete (Ok v) a matched = inl refl
+  answer-complete (Err e) a matched =
+      elim a.err [
+        | inl none ↦ inr (ap (λ x. Err x) none)
+        | inr is ↦ let ok = (all-matched ds 0 wants matched).1 in absurd cc
+      ]
+
+  -- an error is told exactly where it is the answer, unless there is no memory
+  told : (r : Result V LinkError) → IsAnswer r → (e : LinkError) → (e ≡ error.OutOfMemory → ⊥) → r ≡ Err e → resolved ds wants ≡ Err e
+  told (Ok v) a e other is = absurd cc
+  told (Err x) a e other is =
+      let same : x ≡ e = cc in
+      elim a.err [
+        | inl none ↦ absurd (other (sym same ∙ none))
+        | inr h ↦ h ∙ ap (λ y. Err y) same
+      ]
+
+  tells : (r : Result V LinkError) → IsAnswer r → (e : LinkError) → resolved ds wants ≡ Err e → (r ≡ Err e) ⊎ (r ≡ Err error.OutOfMemory)
+  tells (Ok v) a e is = let ok = a.ok in absurd cc
+  tells (Err x) a e is =
+      elim a.err [
+        | inl none ↦ inr (ap (λ y. Err y) none)
+        | inr h ↦ let same : x ≡ e = cc in inl (ap (λ y. Err y) same)
+      ]
+
+  missing-is : (i : ℕ) → resolved ds wants ≡ Err (error.Missing i) → IsMissing ds wants i
+  missing-is i is =
+      let f = failed ds 0 wants (error.Missing i) is in
+      let at = missing-found (0 + f.0) f.1.1 (found ds f.1.0) i f.3 in
+      let place : f.0 ≡ i = omega (arith, at.0) in
+      record { want = f.1; reached = subst (λ m. IsReached ds wants m f.1) place f.2; missing = at.1 }
+
+  is-missing : (i : ℕ) → IsMissing ds wants i → resolved ds wants ≡ Err (error.Missing i)
+  is-missing i m =
+      let place : 0 + i ≡ i = omega arith in
+      fails ds 0 wants (error.Missing i) i m.want m.reached
+      (ap (answer_at (0 + i) m.want.1) m.missing ∙ ap (λ k. Err (error.Missing k)) place)
+
+  mismatch-is : (i : ℕ) (x : Mismatch) → resolved ds wants ≡ Err (error.Mismatch i x) → IsMismatched ds wants i x
+  mismatch-is i x is =
+      let f = failed ds 0 wants (error.Mismatch i x) is in
+      let at = mismatch-found (0 + f.0) f.1.1 (found ds f.1.0) i x f.3 in
+      let place : f.0 ≡ i = omega (arith, at.0) in
+      record { want = f.1; reached = subst (λ m. IsReached ds wants m f.1) place f.2; broken = at.1 }
+
+  is-mismatch : (i : ℕ) (x : Mismatch) → IsMismatched ds wants i x → resolved ds wants ≡ Err (error.Mismatch i x)
+  is-mismatch i x m =
+      let place : 0 + i ≡ i = omega arith in
+      fails ds 0 wants (error.Mismatch i x) i m.want m.reached
+      (found-mismatch (0 + i) m.want.1 (found ds m.want.0) x m.broken ∙ ap (λ k. Err (error.Mismatch k x)) place)
+
+  pub answer-missing : (r : Result V LinkError) → IsAnswer r → (i : ℕ) → ComesExactly r (error.Missing i) (IsMissing ds wants i)
+  answer-missing r a i = record {
+    caused = λ is. missing-is i (told r a (error.Missing i) (λ h. absurd cc) is);
+    comes = λ m. tells r a (error.Missing i) (is-missing i m);
+  }
+
+  pub answer-mismatch : (r : Result V LinkError) → IsAnswer r → (i : ℕ) (x : Mismatch) → ComesExactly r (error.Mismatch i x) (IsMismatched ds wants i x)
+  answer-mismatch r a i x = record {
+    caused = λ is. mismatch-is i x (told r a (error.Mismatch i x) (λ h. absurd cc) is);
+    comes = λ m. tells r a (error.Mismatch i x) (is-mismatch i x m);
+  }
+
+  pub answer-of_import : (r : Result V LinkError) → IsAnswer r → (e : LinkError) → (e ≡ error.OutOfMemory → ⊥) → r ≡ Err e → IsOfImport e
+  answer-of_import r a e other is =
+      let f = failed ds 0 wants e (told r a e other is) in
+      error-of_import (0 + f.0) f.1.1 (found ds f.1.0) e f.3

@@ -5,3 +5,5 @@ pub mod Exporting
 pub mod Finding
 pub mod Linked
 pub mod Listing
+pub mod Matched
+pub mod FunctionTypes

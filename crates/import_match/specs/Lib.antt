@@ -5,3 +5,5 @@ pub mod Linking
 pub mod Resolving
 pub mod Refusals
 pub mod Held
+pub mod Matching
+pub mod FunctionTypes

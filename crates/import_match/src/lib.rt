@@ -6,10 +6,12 @@ mod engine_types;
 mod error;
 mod exports;
 mod imports;
+mod laws;
 mod linker;
 mod names;
 mod rules;
 
 pub use error::{ImportRefused, LinkError, Mismatch};
+pub use laws::{function_law, matching_law};
 pub use linker::Linker;
 pub use rules::match_entity;

@@ -145,9 +145,10 @@ impl Linker {
         ensures others { ¬ IsErrOf result refused.Duplicate }
         ensures once { AreOnce self.now }
     {
+        let definitions = &self.definitions;
         if registry.type_count(key).is_none() {
             return Err(LinkError::NotHeld);
         }
-        resolve_imports(alloc, &self.definitions, registry, key, module)
+        resolve_imports(alloc, definitions, registry, key, module)
     }
 }

@@ -2,10 +2,17 @@ use Rattle.std.proofs.Common.{◌≡◌, ◌∙◌, ◌∷◌, ◌++◌, [], len
 use Rattle.std.specs.Prelude.{OnOk}
 use Rattle.std.specs.Vec.Iter.{into_iter_items}
 use Rattle.std.proofs.lemmas.List.{append_assoc}
+use Rattle.std.proofs.lemmas.List.Elements.{All-head}
 use Rattle.import_match.specs.Definitions.{AreOnce}
 use Rattle.import_match.specs.Kept.{definition_of, definitions_of}
 use Rattle.import_match.proofs.Appending.{IsNew, once-rest, new-rest}
 use Rattle.import_match.proofs.definitions.append_all.Goals as goal
+
+pub append-requires : goal.append-requires
+append-requires c =
+    let ds = definitions_of c.loop-names.definitions in
+    All-head (IsNew ds) (definition_of (c.in-Some.names, c.in-Some.ty)) (map definition_of (into_iter_items c.next.new.self))
+    (subst (λ es. All (IsNew ds) (map definition_of es)) c.in-Some.ensures.steps.0 c.loop-names.invariant.new)
 
 pub loop-names-preserved : goal.loop-names-preserved
 loop-names-preserved c =
