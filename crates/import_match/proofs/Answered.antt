@@ -139,6 +139,7 @@ module _ (ds : List Definition) where
       rest : (r : Answers) (k : ℕ) → with_value k r ≡ Err e → r ≡ Err e
       rest (Ok ks) k h = absurd cc
       rest (Err x) k h = cc
+
       by : (a : Answer) → answer_to ds (n, w) ≡ a → after a (run (n + 1) ws) ≡ Err e
           → (run (n + 1) ws ≡ Err e → (j : ℕ) × (want : Definition) × IsReached ds ws j want × (answer_to ds (n + 1 + j, want) ≡ Err e))
           → (j : ℕ) × (want : Definition) × IsReached ds (w ∷ ws) j want × (answer_to ds (n + j, want) ≡ Err e)
@@ -162,7 +163,7 @@ module _ (ds : List Definition) where
       let ok = ok-matched n w (r.before 0 w (omega arith) refl) in
       let more : n + 1 + j ≡ n + suc j = omega arith in
       let rest = fails (n + 1) ws e j want (record { at = r.at; before = λ i other less at. r.before (suc i) other (omega (arith, less)) at })
-          (ap (λ m. answer_to ds (m, want)) more ∙ is) in
+      (ap (λ m. answer_to ds (m, want)) more ∙ is) in
       run-cons n w ws ∙ ap (λ a. after a (run (n + 1) ws)) ok.1 ∙ ap (with_value ok.0) rest
 
   pub given : (n : ℕ) (ws : List Definition) (ks : List ℕ) → run n ws ≡ Ok ks → AllZip (IsGiven ds) ws ks

@@ -1,8 +1,8 @@
 -- Definitions that are appended one by one.
-use Rattle.std.proofs.Common.{◌≡◌, ◌≢◌, ◌∙◌, ℕ, zero, suc, Bool, true, false, List, [], ◌∷◌, ◌++◌, slice_get, All, None, Some, refl, sym, ap, arith}
+use Rattle.std.proofs.Common.{◌≡◌, ◌∙◌, ℕ, zero, suc, Bool, true, false, List, [], ◌∷◌, ◌++◌, slice_get, All, None, Some, refl, sym, ap, arith}
 use Rattle.std.proofs.lemmas.Option.{none-some, same_Some}
 use Rattle.std.proofs.lemmas.List.Elements.{All-tail}
-use Rattle.import_match.specs.Definitions.{Definition, TwoNames, names_eq, found, AreOnce}
+use Rattle.import_match.specs.Definitions.{Definition, names_eq, found, AreOnce}
 use Rattle.import_match.proofs.Finding.{none-append}
 use Rattle.import_match.proofs.Linked.{equal-names}
 use Rattle.import_match.proofs.Listing.{All-slice_get, All-from_slice_get}

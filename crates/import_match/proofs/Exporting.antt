@@ -1,5 +1,5 @@
 -- Exports that are planned one by one.
-use Rattle.std.proofs.Common.{◌≡◌, ◌<◌, ◌+◌, ℕ, suc, List, [], ◌∷◌, ◌++◌, length, map, get_or, All, Option, Some, None, refl, sym, ap, subst, ◌∙◌, arith, length-append}
+use Rattle.std.proofs.Common.{◌≡◌, ◌<◌, ℕ, List, [], ◌∷◌, ◌++◌, length, map, get_or, All, Some, refl, sym, ap, subst, ◌∙◌, arith, length-append}
 use Rattle.std.specs.Prelude.{Any}
 use Rattle.std.specs.List.{filter_map, cons_option}
 use Rattle.std.proofs.lemmas.List.{append_assoc, get_or_at, map_push}
@@ -8,18 +8,16 @@ use Rattle.entity_map.specs.declared.pool.Atom.{Atom}
 use Rattle.wasm_types.specs.declared.entity.EntityIndex.{EntityIndex}
 use Rattle.wasm_types.specs.declared.entity.EntityType.{EntityType}
 use Rattle.wasm_module.specs.declared.module.Module.{Module as Record}
-use Rattle.wasm_module.specs.Record.{ModuleRecord, record_of}
+use Rattle.wasm_module.specs.Record.{record_of}
 use Rattle.wasm_module.specs.Entities.{entity_type}
 use Rattle.wasm_module.specs.Imports.{text_of}
 use Rattle.type_registry.specs.Keys.{key_number}
 use Rattle.type_registry.specs.Registry.{RegistryState, registry_of}
 use Rattle.type_registry.specs.declared.key.ModuleKey.{ModuleKey}
 use Rattle.import_match.specs.declared.names.Names.{Names}
-use Rattle.import_match.specs.Rules.{types_in}
-use Rattle.import_match.specs.Definitions.{Definition, TwoNames, names_of, IsDefined}
+use Rattle.import_match.specs.Definitions.{Definition, names_of}
 use Rattle.import_match.specs.Kept.{definition_of}
-use Rattle.import_match.specs.Held.{IsTypeOf}
-use Rattle.import_match.specs.Linking.{engine_definition, engine_definitions, engine_type, export_of, exported}
+use Rattle.import_match.specs.Linking.{engine_definitions, engine_type, export_of, exported}
 use Rattle.import_match.proofs.Linked.{export-is}
 
 -- some item, between others

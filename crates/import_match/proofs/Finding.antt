@@ -1,5 +1,5 @@
 -- The first definition under two names, and what a map finds by its keys.
-use Rattle.std.proofs.Common.{◌≡◌, ◌<◌, ◌+◌, ℕ, zero, suc, Bool, true, false, List, [], ◌∷◌, ◌++◌, map, position, slice_get, get_or, All, Option, Some, None, refl, sym, ap, subst, ◌∙◌, arith, if◌then◌else◌}
+use Rattle.std.proofs.Common.{◌≡◌, ◌<◌, ◌+◌, ℕ, zero, suc, Bool, true, false, List, [], ◌∷◌, ◌++◌, map, position, slice_get, get_or, All, Some, None, refl, sym, ap, subst, ◌∙◌, arith, if◌then◌else◌}
 use Rattle.std.specs.Map.{keys_of, lookup}
 use Rattle.std.specs.Option.{option_map}
 use Rattle.std.proofs.lemmas.List.Quantifiers.{position-Some}
@@ -36,8 +36,8 @@ pub found-full : (es : List (Names × EntityType)) (n : TwoNames) (i : ℕ) (k :
 found-full es n i k v place at =
     let there = position-Some (has n) (keys_of es) i k place in
     let key : get_or (keys_of es) i k ≡ k =
-        get_or_from_slice_get (keys_of es) i k k
-        (slice_get-map (λ (e : Names × EntityType). e.0) es i ∙ ap (option_map (λ (e : Names × EntityType). e.0)) at)
+    get_or_from_slice_get (keys_of es) i k k
+    (slice_get-map (λ (e : Names × EntityType). e.0) es i ∙ ap (option_map (λ (e : Names × EntityType). e.0)) at)
     in
     let plus : 0 + i ≡ i = omega arith in
     found-first 0 es n i (k, v) k at (ap (has n) (sym key) ∙ there.1) there.2 ∙ ap (λ m. Some (m, v)) plus

@@ -1,5 +1,5 @@
 -- Function types of held modules.
-use Rattle.std.proofs.Common.{◌≡◌, ◌↔◌, ◌<◌, ◌∙◌, ℕ, List, length, slice_get, Option, Some, None, refl, sym, ap, subst}
+use Rattle.std.proofs.Common.{◌≡◌, ◌↔◌, ◌<◌, ◌∙◌, ℕ, length, slice_get, Option, Some, None, refl, sym, ap, subst}
 use Rattle.std.specs.Prelude.{option_and_then, unwrap_or}
 use Rattle.std.proofs.lemmas.Option.{same_Some, slice_get-get_or}
 use Rattle.wasm_index.specs.Index.{number_of, index_of}
@@ -40,16 +40,15 @@ same-indices r a b l k st st' i j less less' =
     let g = engine_index r b (index_of j) in
     let fn : EngineOrModuleTypeIndex → EntityType = λ e. entity.Function e in
     let is : mismatch (engine_type r a (function_of_type i)) (engine_type r b (function_of_type j)) ≡ mismatch (fn (Engine f)) (fn (Engine g)) =
-        λ t. mismatch (engine-function r a i t) (engine-function r b j t)
+    λ t. mismatch (engine-function r a i t) (engine-function r b j t)
     in
     let first = held-index r a l st i less in
-    let second = held-index r b k st' j less' in
-    (
+    let second = held-index r b k st' j less' in (
       λ none.
-        let same : Engine f ≡ Engine g = (matching (fn (Engine f)) (fn (Engine g))).0 (sym is ∙ none) in
-        let numbers : number_of f ≡ number_of g = ap number_of (same_Some f g (ap engine_in same)) in
-        first ∙ ap (λ n. Some n) numbers ∙ sym second,
+          let same : Engine f ≡ Engine g = (matching (fn (Engine f)) (fn (Engine g))).0 (sym is ∙ none) in
+          let numbers : number_of f ≡ number_of g = ap number_of (same_Some f g (ap engine_in same)) in
+          first ∙ ap (λ n. Some n) numbers ∙ sym second,
       λ same.
-        let numbers : f ≡ g = ap (λ (o : Option ℕ). index_of (unwrap_or o 0)) same in
-        is ∙ (matching (fn (Engine f)) (fn (Engine g))).1 (ap Engine numbers),
+          let numbers : f ≡ g = ap (λ (o : Option ℕ). index_of (unwrap_or o 0)) same in
+          is ∙ (matching (fn (Engine f)) (fn (Engine g))).1 (ap Engine numbers),
     )

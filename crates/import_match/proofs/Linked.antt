@@ -1,7 +1,7 @@
 -- What a module exports and imports, item by item.
 use Rattle.std.proofs.Common.{◌≡◌, ◌<◌, ℕ, zero, suc, true, List, [], ◌∷◌, length, map, slice_get, All, Option, Some, None, refl, sym, ap, subst, ◌∙◌, arith, eq-eqb}
 use Rattle.std.specs.Prelude.{IsSome, is_some, option_and_then}
-use Rattle.std.specs.List.{filter_map, IsDistinct}
+use Rattle.std.specs.List.{IsDistinct}
 use Rattle.std.specs.Map.{keys_of}
 use Rattle.std.specs.Option.{option_map}
 use Rattle.std.specs.Str.{bytes_eq}
@@ -28,7 +28,7 @@ use Rattle.import_match.specs.declared.names.Names.{Names}
 use Rattle.import_match.specs.contracts.names.NamesPartialEq.TheImpl as named
 use Rattle.import_match.specs.Definitions.{Definition, TwoNames, names_of, names_eq, AreOnce}
 use Rattle.import_match.specs.Kept.{definition_of}
-use Rattle.import_match.specs.Linking.{engine_definition, export_of, exports_of, wants_of, exported, wanted, IsExportResolved}
+use Rattle.import_match.specs.Linking.{engine_definition, export_of, exports_of, wants_of, exported, IsExportResolved}
 use Rattle.import_match.proofs.Listing.{value_of, slice_get-filter_map, length-filter_map, slice_get-from_map, one-place}
 
 -- ---- names
@@ -51,7 +51,7 @@ kept-once es distinct i j d e at_i at_j same =
     let x = slice_get-from_map definition_of es i d at_i in
     let y = slice_get-from_map definition_of es j e at_j in
     let names : names_of x.0.0 ≡ names_of y.0.0 =
-        ap (λ (c : Definition). c.0) x.2 ∙ same ∙ ap (λ (c : Definition). c.0) (sym y.2)
+    ap (λ (c : Definition). c.0) x.2 ∙ same ∙ ap (λ (c : Definition). c.0) (sym y.2)
     in
     one-place named.ghosts.eq (keys_of es) distinct i j x.0.0 y.0.0
     (slice_get-map (λ (c : Names × EntityType). c.0) es i ∙ ap (option_map (λ (c : Names × EntityType). c.0)) x.1)
@@ -108,10 +108,10 @@ exported-once registry key m from all once distinct i j d e at_i at_j same =
     let a = export-at (record_of m) from all i x.0 x.1 in
     let b = export-at (record_of m) from all j y.0 y.1 in
     let own : x.0.0.1 ≡ y.0.0.1 =
-        ap (λ (c : Definition). c.0.1) x.2 ∙ ap (λ (n : TwoNames). n.1) same ∙ ap (λ (c : Definition). c.0.1) (sym y.2)
+    ap (λ (c : Definition). c.0.1) x.2 ∙ ap (λ (n : TwoNames). n.1) same ∙ ap (λ (c : Definition). c.0.1) (sym y.2)
     in
     let number : atom_number a.entry.0 ≡ atom_number b.entry.0 =
-        once (atom_number a.entry.0) (atom_number b.entry.0) y.0.0.1 (a.text ∙ ap (λ (t : List ℕ). Some t) own) b.text
+    once (atom_number a.entry.0) (atom_number b.entry.0) y.0.0.1 (a.text ∙ ap (λ (t : List ℕ). Some t) own) b.text
     in
     one-place atoms.ghosts.eq (keys_of (record_of m).exports) distinct i j a.entry.0 b.entry.0
     (slice_get-map (λ (c : Atom × EntityIndex). c.0) (record_of m).exports i ∙ ap (option_map (λ (c : Atom × EntityIndex). c.0)) a.at)
@@ -126,9 +126,9 @@ import-some m (initializer.Import name field index) h =
     let own = value_of (text_of m field) h.1 in
     let t = value_of (entity_type m index) h.2 in
     ap is_some (
-      ap (option_and_then (λ (f : List ℕ). option_and_then (λ (o : List ℕ). option_map (λ (u : EntityType). (f, o, u)) (entity_type m index)) (text_of m field))) from.1
-      ∙ ap (option_and_then (λ (o : List ℕ). option_map (λ (u : EntityType). (from.0, o, u)) (entity_type m index))) own.1
-      ∙ ap (option_map (λ (u : EntityType). (from.0, own.0, u))) t.1
+    ap (option_and_then (λ (f : List ℕ). option_and_then (λ (o : List ℕ). option_map (λ (u : EntityType). (f, o, u)) (entity_type m index)) (text_of m field))) from.1
+    ∙ ap (option_and_then (λ (o : List ℕ). option_map (λ (u : EntityType). (from.0, o, u)) (entity_type m index))) own.1
+    ∙ ap (option_map (λ (u : EntityType). (from.0, own.0, u))) t.1
     )
 
 abbrev pub Import : Type 0

@@ -1,5 +1,5 @@
 -- Definitions that are read off the lists of a module.
-use Rattle.std.proofs.Common.{◌≡◌, ◌<◌, ◌≤◌, ◌+◌, ℕ, zero, suc, Bool, true, false, List, [], ◌∷◌, ◌++◌, length, map, slice_get, get_or, All, Option, Some, None, refl, sym, ap, subst, ◌∙◌, inl, inr, true≢false}
+use Rattle.std.proofs.Common.{◌≡◌, ◌<◌, ℕ, zero, suc, Bool, true, List, [], ◌∷◌, length, map, slice_get, get_or, All, Option, Some, None, refl, sym, ap, subst, ◌∙◌, inl, inr, true≢false}
 use Rattle.std.specs.Prelude.{IsSome, option_and_then}
 use Rattle.std.specs.List.{filter_map, cons_option, IsDistinct}
 use Rattle.std.specs.Option.{option_map}

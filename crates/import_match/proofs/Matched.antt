@@ -1,5 +1,5 @@
 -- Rules that all hold, and what the types are like then.
-use Rattle.std.proofs.Common.{◌≡◌, ◌↔◌, ◌≤◌, ◌∙◌, ℕ, Bool, true, false, List, [], ◌∷◌, Option, Some, None, refl, sym, ap, subst, true≢false, eq-eqb}
+use Rattle.std.proofs.Common.{◌≡◌, ◌↔◌, ◌∙◌, ℕ, Bool, true, false, List, [], ◌∷◌, Option, Some, None, refl, sym, ap, true≢false, eq-eqb}
 use Rattle.std.specs.List.{AllByRecursion}
 use Rattle.std.specs.Cmp.{booleans_Decides}
 use Rattle.std.proofs.lemmas.Bool.{eqb-true, leb-true, le-leb}
@@ -9,7 +9,6 @@ use Rattle.wasm_types.specs.declared.entity.EntityType.TheVariants as entity
 use Rattle.wasm_types.specs.declared.index.EngineOrModuleTypeIndex.{EngineOrModuleTypeIndex}
 use Rattle.wasm_types.specs.declared.limits.IndexType.{IndexType}
 use Rattle.wasm_types.specs.declared.limits.IndexType.TheVariants.{I32, I64}
-use Rattle.wasm_types.specs.declared.limits.Limits.{Limits}
 use Rattle.wasm_types.specs.declared.value.WasmRefType.{WasmRefType}
 use Rattle.wasm_types.specs.declared.value.WasmValType.{WasmValType}
 use Rattle.wasm_types.specs.declared.value.WasmValType.TheVariants.{Ref}
@@ -27,10 +26,9 @@ use Rattle.wasm_types.specs.contracts.value.WasmValTypePartialEq.TheImpl as valu
 use Rattle.wasm_types.specs.contracts.value.WasmValTypeEq.TheImpl.Laws as values_equal
 use Rattle.wasm_types.specs.Views.{ref_in}
 use Rattle.wasm_types.proofs.Sound.{Sound, decides, index-sound, value-sound}
-use Rattle.import_match.specs.declared.error.Mismatch.{Mismatch}
 use Rattle.import_match.specs.declared.error.Mismatch.TheVariants as rule
 use Rattle.import_match.specs.Rules.{Rule, is_within, first_broken, function_rules, table_rules, memory_rules, global_rules, tag_rules, mismatch}
-use Rattle.import_match.specs.Matching.{IsWithin, AreWithin, TableMatches, MemoryMatches, GlobalMatches, Matches}
+use Rattle.import_match.specs.Matching.{IsWithin, TableMatches, MemoryMatches, GlobalMatches, Matches}
 
 -- ---- rules one after another
 
@@ -103,8 +101,10 @@ table-matches : (a b : Table) → TableMatches a b → first_broken (table_rules
 table-matches a b m =
     unbroken (table_rules a b) (
       (same-reference a.ref_type b.ref_type).1 m.element,
-      ((same-index_type a.idx_type b.idx_type).1 m.index_type,
-        (le-leb b.limits.min a.limits.min m.sizes.min, ((within a.limits.max b.limits.max).1 m.sizes.max, tt))),
+      (
+        (same-index_type a.idx_type b.idx_type).1 m.index_type,
+        (le-leb b.limits.min a.limits.min m.sizes.min, ((within a.limits.max b.limits.max).1 m.sizes.max, tt)),
+      ),
     )
 
 memory-holds : (a b : Memory) → first_broken (memory_rules a b) ≡ None → MemoryMatches a b
@@ -121,9 +121,13 @@ memory-matches : (a b : Memory) → MemoryMatches a b → first_broken (memory_r
 memory-matches a b m =
     unbroken (memory_rules a b) (
       (same-index_type a.idx_type b.idx_type).1 m.index_type,
-      ((booleans_Decides a.shared b.shared).1 m.shared,
-        (eq-eqb a.page_size_log2 b.page_size_log2 m.page,
-          (le-leb b.limits.min a.limits.min m.sizes.min, ((within a.limits.max b.limits.max).1 m.sizes.max, tt)))),
+      (
+        (booleans_Decides a.shared b.shared).1 m.shared,
+        (
+          eq-eqb a.page_size_log2 b.page_size_log2 m.page,
+          (le-leb b.limits.min a.limits.min m.sizes.min, ((within a.limits.max b.limits.max).1 m.sizes.max, tt)),
+        ),
+      ),
     )
 
 global-holds : (a b : Global) → first_broken (global_rules a b) ≡ None → GlobalMatches a b

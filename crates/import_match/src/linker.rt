@@ -66,12 +66,7 @@ impl Linker {
     ///
     /// # Errors
     /// `Duplicate` where something is defined under these names; `OutOfMemory`. The linker is unchanged then.
-    pub fn define(
-        &mut self,
-        module: &str,
-        name: &str,
-        ty: EntityType,
-    ) -> Result<usize, LinkError>
+    pub fn define(&mut self, module: &str, name: &str, ty: EntityType) -> Result<usize, LinkError>
         requires { HasEngineTypes ty }
         ensures number { IfOk result (λ number. number ≡ length self.old) }
         ensures ok { OnOk result (self.new ≡ self.old ++ ((«module».now, name.now), ty) ∷ []) }

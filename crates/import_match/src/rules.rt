@@ -37,35 +37,43 @@ pub fn match_entity(have: &EntityType, want: &EntityType) -> Option<Mismatch>
     ensures { result ≡ mismatch have.now want.now }
 {
     match (have, want) {
-        (EntityType::Function(have), EntityType::Function(want)) => first_broken(
-            &[(have == want, Mismatch::FuncType)],
-        ),
-        (EntityType::Table(have), EntityType::Table(want)) => first_broken(
-            &[
-                (have.ref_type == want.ref_type, Mismatch::TableElement),
-                (have.idx_type == want.idx_type, Mismatch::TableIndexType),
-                (have.limits.min >= want.limits.min, Mismatch::TableMin),
-                (is_within(have.limits.max, want.limits.max), Mismatch::TableMax),
-            ],
-        ),
-        (EntityType::Memory(have), EntityType::Memory(want)) => first_broken(
-            &[
-                (have.idx_type == want.idx_type, Mismatch::MemoryIndexType),
-                (have.shared == want.shared, Mismatch::MemoryShared),
-                (have.page_size_log2 == want.page_size_log2, Mismatch::MemoryPage),
-                (have.limits.min >= want.limits.min, Mismatch::MemoryMin),
-                (is_within(have.limits.max, want.limits.max), Mismatch::MemoryMax),
-            ],
-        ),
-        (EntityType::Global(have), EntityType::Global(want)) => first_broken(
-            &[
-                (have.mutability == want.mutability, Mismatch::GlobalMutability),
-                (have.wasm_ty == want.wasm_ty, Mismatch::GlobalType),
-            ],
-        ),
-        (EntityType::Tag(have), EntityType::Tag(want)) => first_broken(
-            &[(have.signature == want.signature, Mismatch::TagType)],
-        ),
+        (EntityType::Function(have), EntityType::Function(want)) => first_broken(&[(
+            have == want,
+            Mismatch::FuncType,
+        )]),
+        (EntityType::Table(have), EntityType::Table(want)) => first_broken(&[
+            (have.ref_type == want.ref_type, Mismatch::TableElement),
+            (have.idx_type == want.idx_type, Mismatch::TableIndexType),
+            (have.limits.min >= want.limits.min, Mismatch::TableMin),
+            (
+                is_within(have.limits.max, want.limits.max),
+                Mismatch::TableMax,
+            ),
+        ]),
+        (EntityType::Memory(have), EntityType::Memory(want)) => first_broken(&[
+            (have.idx_type == want.idx_type, Mismatch::MemoryIndexType),
+            (have.shared == want.shared, Mismatch::MemoryShared),
+            (
+                have.page_size_log2 == want.page_size_log2,
+                Mismatch::MemoryPage,
+            ),
+            (have.limits.min >= want.limits.min, Mismatch::MemoryMin),
+            (
+                is_within(have.limits.max, want.limits.max),
+                Mismatch::MemoryMax,
+            ),
+        ]),
+        (EntityType::Global(have), EntityType::Global(want)) => first_broken(&[
+            (
+                have.mutability == want.mutability,
+                Mismatch::GlobalMutability,
+            ),
+            (have.wasm_ty == want.wasm_ty, Mismatch::GlobalType),
+        ]),
+        (EntityType::Tag(have), EntityType::Tag(want)) => first_broken(&[(
+            have.signature == want.signature,
+            Mismatch::TagType,
+        )]),
         _ => Some(Mismatch::Kind),
     }
 }

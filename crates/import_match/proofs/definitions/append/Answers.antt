@@ -12,8 +12,8 @@ pub returns-clause-ok : goal.returns-clause-ok
 returns-clause-ok c =
     let es = c.args.definitions.now.entries in
     ap (map definition_of) (
-      c.in_ok-insert.ensures.entries
-      ∙ insert_entry-new named.ghosts.eq c.args.definitions.now c.args.names c.args.ty (lookup-none 0 es (names_of c.args.names) c.requires)
+    c.in_ok-insert.ensures.entries
+    ∙ insert_entry-new named.ghosts.eq c.args.definitions.now c.args.names c.args.ty (lookup-none 0 es (names_of c.args.names) c.requires)
     ) ∙ map_push definition_of es (c.args.names, c.args.ty)
 
 pub returns-clause-once : goal.returns-clause-once

@@ -22,7 +22,7 @@ loop-names-preserved c =
     let left = map definition_of (into_iter_items c.next.new.self) in
     let steps = c.in-Some.ensures.steps.0 in
     let grown : definitions_of c.append.new.definitions ≡ ds ++ x ∷ [] =
-        subst (λ r. OnOk r (definitions_of c.append.new.definitions ≡ ds ++ x ∷ [])) c.unwrap.ensures c.append.ensures.ok
+    subst (λ r. OnOk r (definitions_of c.append.new.definitions ≡ ds ++ x ∷ [])) c.unwrap.ensures c.append.ensures.ok
     in
     let once = subst (λ es. AreOnce (map definition_of es)) steps before.once in
     let new = subst (λ es. All (IsNew ds) (map definition_of es)) steps before.new in

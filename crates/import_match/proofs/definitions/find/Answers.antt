@@ -10,4 +10,4 @@ returns-in_err-number c =
 pub returns : goal.returns
 returns c =
     sym (found-full c.args.definitions.now.entries (names_of c.args.names.now) c.in_ok-number.number c.in_ok-number.field-0-1.now c.in_ok-number.ty.now
-      (sym c.in_ok-number.ensures.index) c.in_ok-number.ensures.entry)
+    (sym c.in_ok-number.ensures.index) c.in_ok-number.ensures.entry)

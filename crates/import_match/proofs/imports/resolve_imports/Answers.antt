@@ -41,11 +41,11 @@ returns-in_err-resolve_import-clause-err c =
     let w : Definition = engine_definition r k (want_of i) in
     let is = sym c.import.ensures ∙ ap (option_map lent_import) c.unwrap-ty.ensures in
     let at = slice_get-map (engine_definition r k) (wants_of m) place
-        ∙ ap (option_map (engine_definition r k)) (want-at m c.requires.can.resolved place i is)
+    ∙ ap (option_map (engine_definition r k)) (want-at m c.requires.can.resolved place i is)
     in
     let answer = answer-is ds place (names_of c.set.new.self) w.0 c.with_engine_types-want.result w.1 c.in_ok-set.ensures c.with_engine_types-want.ensures.value in
     rw (p.1, p.2) (inr (stops ds ws place c.loop-place.numbers.items c.loop-place.invariant w c.in_err-resolve_import.field-0.0 at
-      (sym answer ∙ sym c.in_err-resolve_import.ensures)))
+    (sym answer ∙ sym c.in_err-resolve_import.ensures)))
 
 pub loop-place-preserved : goal.loop-place-preserved
 loop-place-preserved c =
@@ -60,7 +60,7 @@ loop-place-preserved c =
     let w : Definition = engine_definition r k (want_of i) in
     let is = sym c.import.ensures ∙ ap (option_map lent_import) c.unwrap-ty.ensures in
     let at = slice_get-map (engine_definition r k) (wants_of m) place
-        ∙ ap (option_map (engine_definition r k)) (want-at m c.requires.can.resolved place i is)
+    ∙ ap (option_map (engine_definition r k)) (want-at m c.requires.can.resolved place i is)
     in
     let answer = answer-is ds place (names_of c.set.new.self) w.0 c.with_engine_types-want.result w.1 c.in_ok-set.ensures c.with_engine_types-want.ensures.value in
     let rest = run ds (place + 1) (drop (place + 1) ws) in
@@ -72,7 +72,7 @@ returns-clause-ok c =
     let m = record_of c.args.module.now in
     let ws = wanted c.args.registry.now c.args.key c.args.module.now in
     let size : length ws ≡ length m.initializers =
-        length-map (wants_of m) (engine_definition (registry_of c.args.registry.now) (key_number c.args.key)) ∙ wants-length m c.requires.can.resolved
+    length-map (wants_of m) (engine_definition (registry_of c.args.registry.now) (key_number c.args.key)) ∙ wants-length m c.requires.can.resolved
     in
     ends (definitions_of c.args.definitions.now) ws c.loop-place.place c.loop-place.numbers.items c.loop-place.invariant
     (omega (arith, size, c.loop-place-test.false, c.len-count.ensures))
