@@ -1,5 +1,5 @@
 -- What is answered to imports, one after another.
-use Rattle.std.proofs.Common.{◌≡◌, ◌<◌, ◌≤◌, ◌+◌, ℕ, zero, suc, List, [], ◌∷◌, ◌++◌, length, map, drop, slice_get, Option, Some, None, Result, Ok, Err, refl, sym, ap, subst, ◌∙◌, inl, inr, arith}
+use Rattle.std.proofs.Common.{◌≡◌, ◌<◌, ◌≤◌, ◌+◌, ℕ, zero, suc, List, [], ◌∷◌, ◌++◌, length, map, drop, slice_get, Option, Some, None, Result, Ok, Err, Vec, Global, refl, sym, ap, subst, ◌∙◌, inl, inr, arith}
 use Rattle.std.specs.Prelude.{◌⊎◌, IsSomeAnd, IsOk, IfOk, IfErr}
 use Rattle.std.specs.List.{enumerate_from, AllZip}
 use Rattle.std.proofs.lemmas.Option.{none-some, same_Some, slice_get_within, get_or_from_slice_get}
@@ -10,7 +10,7 @@ use Rattle.import_match.specs.declared.error.LinkError.TheVariants as error
 use Rattle.import_match.specs.declared.error.Mismatch.{Mismatch}
 use Rattle.import_match.specs.Rules.{mismatch}
 use Rattle.import_match.specs.Definitions.{Definition, TwoNames, found}
-use Rattle.import_match.specs.Resolving.{judged, answer_at, answer_to, with_value, all_values, resolved, IsMatched, IsGiven, IsReached, IsMissing, IsMismatched, AreMatched, AreGiven}
+use Rattle.import_match.specs.Resolving.{IsAnswer, numbers_of, judged, answer_at, answer_to, with_value, all_values, resolved, IsMatched, IsGiven, IsReached, IsMissing, IsMismatched, AreMatched, AreGiven}
 use Rattle.import_match.specs.Refusals.{ComesExactly, IsOutOfMemory}
 
 abbrev pub Answer : Type 0
@@ -211,40 +211,32 @@ module _ (ds : List Definition) where
 
 -- ---- what a call answers that gives the numbers, or the first error, or has no memory
 
-module _ {V : Type 0} (items : V → List ℕ) (ds wants : List Definition) where
-  pub record IsAnswer (r : Result V LinkError) : Type 0 where
-    pub ok : IfOk r (λ v. resolved ds wants ≡ Ok (items v))
-    pub err : IfErr r (λ e. (e ≡ error.OutOfMemory) ⊎ (resolved ds wants ≡ Err e))
+abbrev pub Found : Type 0
+Found = Result (Vec ℕ Global) LinkError
 
-  pub answer-given : (r : Result V LinkError) → IsAnswer r → IfOk r (λ v. AreGiven ds wants (items v))
-  answer-given (Ok v) a = given ds 0 wants (items v) a.ok
+module _ (ds wants : List Definition) where
+  pub answer-given : (r : Found) → IsAnswer r (resolved ds wants) → IfOk r (λ v. AreGiven ds wants v.items)
+  answer-given (Ok v) (inl none) = absurd cc
+  answer-given (Ok v) (inr is) = given ds 0 wants v.items (sym is)
   answer-given (Err e) a = tt
 
-  pub answer-complete : (r : Result V LinkError) → IsAnswer r → AreMatched ds wants → IsOk r ⊎ IsOutOfMemory r
+  pub answer-complete : (r : Found) → IsAnswer r (resolved ds wants) → AreMatched ds wants → IsOk r ⊎ IsOutOfMemory r
   answer-complete (Ok v) a matched = inl refl
-  answer-complete (Err e) a matched =
-      elim a.err [
-        | inl none ↦ inr (ap (λ x. Err x) none)
-        | inr is ↦ let ok = (all-matched ds 0 wants matched).1 in absurd cc
-      ]
+  answer-complete (Err e) (inl none) matched = inr none
+  answer-complete (Err e) (inr is) matched = let ok = (all-matched ds 0 wants matched).1 in absurd cc
 
   -- an error is told exactly where it is the answer, unless there is no memory
-  told : (r : Result V LinkError) → IsAnswer r → (e : LinkError) → (e ≡ error.OutOfMemory → ⊥) → r ≡ Err e → resolved ds wants ≡ Err e
-  told (Ok v) a e other is = absurd cc
-  told (Err x) a e other is =
-      let same : x ≡ e = cc in
-      elim a.err [
-        | inl none ↦ absurd (other (sym same ∙ none))
-        | inr h ↦ h ∙ ap (λ y. Err y) same
-      ]
+  told : (r : Found) → IsAnswer r (resolved ds wants) → (e : LinkError) → (e ≡ error.OutOfMemory → ⊥) → r ≡ Err e → resolved ds wants ≡ Err e
+  told r (inl none) e other is = let same : e ≡ error.OutOfMemory = same_error (sym is ∙ none) in absurd (other same)
+    where
+      same_error : ◌≡◌ {A = Found} (Err e) (Err error.OutOfMemory) → e ≡ error.OutOfMemory
+      same_error h = cc
+  told r (inr found) e other is = sym found ∙ ap numbers_of is
 
-  tells : (r : Result V LinkError) → IsAnswer r → (e : LinkError) → resolved ds wants ≡ Err e → (r ≡ Err e) ⊎ (r ≡ Err error.OutOfMemory)
-  tells (Ok v) a e is = let ok = a.ok in absurd cc
-  tells (Err x) a e is =
-      elim a.err [
-        | inl none ↦ inr (ap (λ y. Err y) none)
-        | inr h ↦ let same : x ≡ e = cc in inl (ap (λ y. Err y) same)
-      ]
+  tells : (r : Found) → IsAnswer r (resolved ds wants) → (e : LinkError) → resolved ds wants ≡ Err e → (r ≡ Err e) ⊎ (r ≡ Err error.OutOfMemory)
+  tells r (inl none) e is = inr none
+  tells (Ok v) (inr found) e is = absurd cc
+  tells (Err x) (inr found) e is = let same : x ≡ e = cc in inl (ap (λ y. Err y) same)
 
   missing-is : (i : ℕ) → resolved ds wants ≡ Err (error.Missing i) → IsMissing ds wants i
   missing-is i is =
@@ -272,19 +264,19 @@ module _ {V : Type 0} (items : V → List ℕ) (ds wants : List Definition) wher
       fails ds 0 wants (error.Mismatch i x) i m.want m.reached
       (found-mismatch (0 + i) m.want.1 (found ds m.want.0) x m.broken ∙ ap (λ k. Err (error.Mismatch k x)) place)
 
-  pub answer-missing : (r : Result V LinkError) → IsAnswer r → (i : ℕ) → ComesExactly r (error.Missing i) (IsMissing ds wants i)
+  pub answer-missing : (r : Found) → IsAnswer r (resolved ds wants) → (i : ℕ) → ComesExactly r (error.Missing i) (IsMissing ds wants i)
   answer-missing r a i = record {
     caused = λ is. missing-is i (told r a (error.Missing i) (λ h. absurd cc) is);
     comes = λ m. tells r a (error.Missing i) (is-missing i m);
   }
 
-  pub answer-mismatch : (r : Result V LinkError) → IsAnswer r → (i : ℕ) (x : Mismatch) → ComesExactly r (error.Mismatch i x) (IsMismatched ds wants i x)
+  pub answer-mismatch : (r : Found) → IsAnswer r (resolved ds wants) → (i : ℕ) (x : Mismatch) → ComesExactly r (error.Mismatch i x) (IsMismatched ds wants i x)
   answer-mismatch r a i x = record {
     caused = λ is. mismatch-is i x (told r a (error.Mismatch i x) (λ h. absurd cc) is);
     comes = λ m. tells r a (error.Mismatch i x) (is-mismatch i x m);
   }
 
-  pub answer-of_import : (r : Result V LinkError) → IsAnswer r → (e : LinkError) → (e ≡ error.OutOfMemory → ⊥) → r ≡ Err e → IsOfImport e
+  pub answer-of_import : (r : Found) → IsAnswer r (resolved ds wants) → (e : LinkError) → (e ≡ error.OutOfMemory → ⊥) → r ≡ Err e → IsOfImport e
   answer-of_import r a e other is =
       let f = failed ds 0 wants e (told r a e other is) in
       error-of_import (0 + f.0) f.1.1 (found ds f.1.0) e f.3

@@ -7,3 +7,4 @@ pub mod Refusals
 pub mod Held
 pub mod Matching
 pub mod FunctionTypes
+pub mod Worked

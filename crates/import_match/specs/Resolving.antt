@@ -1,10 +1,13 @@
 -- Which definition each import is given, or which import fails first, and why (core specification, 4.7, instantiation).
-use Rattle.std.specs.Prelude.{◌≡◌, ◌<◌, ℕ, List, [], ◌∷◌, map, slice_get, Option, Some, None, Result, Ok, Err, IsSomeAnd}
+use Rattle.std.specs.Prelude.{◌≡◌, ◌<◌, ◌⊎◌, ℕ, List, [], ◌∷◌, map, slice_get, Option, Some, None, Result, Ok, Err, IsSomeAnd}
+use Rattle.std.specs.Global.{Global}
 use Rattle.std.specs.List.{enumerate_from, AllZip}
+use Rattle.std.specs.declared.vec.Vec.{Vec}
 use Rattle.wasm_types.specs.declared.entity.EntityType.{EntityType}
 use Rattle.import_match.specs.declared.error.LinkError.{LinkError}
 use Rattle.import_match.specs.declared.error.LinkError.TheVariants as error
 use Rattle.import_match.specs.declared.error.Mismatch.{Mismatch}
+use Rattle.import_match.specs.Refusals.{IsOutOfMemory}
 use Rattle.import_match.specs.Rules.{mismatch}
 use Rattle.import_match.specs.Definitions.{Definition, found}
 
@@ -42,6 +45,15 @@ all_values (Err e ∷ rs) = Err e
 -- the number of the definition of each import, or why the first fails that fails
 abbrev pub resolved : List Definition → List Definition → Result (List ℕ) LinkError
 resolved ds wants = all_values (answers ds wants)
+
+-- the answer of a call, as such a value
+abbrev pub numbers_of : Result (Vec ℕ Global) LinkError → Result (List ℕ) LinkError
+numbers_of (Ok numbers) = Ok numbers.items
+numbers_of (Err e) = Err e
+
+-- it is the answer, unless there is no memory
+abbrev pub IsAnswer : Result (Vec ℕ Global) LinkError → Result (List ℕ) LinkError → Type 0
+IsAnswer r answer = IsOutOfMemory r ⊎ (numbers_of r ≡ answer)
 
 -- ---- why an import fails
 

@@ -13,8 +13,8 @@ use std::alloc::{AllocFailed, Global};
 use std::hash::{BuildHasherDefault, DefaultHasher};
 use wasm_types::EntityType;
 
-/// The type of each definition by its names. Names come one by one and strangers choose them, so a seed that stands before they come is no help: each pair is
-/// hashed whole by SipHash, which leaves no text to choose that meets another.
+/// The type of each definition by its names. Names come one by one, and strangers choose them who know those that stand before, so no seed helps that is taken
+/// before they come: each pair is hashed whole by SipHash, of which no names with one digest are known.
 pub(crate) type Definitions = IndexMap<Names, EntityType, BuildHasherDefault<DefaultHasher>>;
 
 /// The definition under two names: its number and its type.

@@ -1,12 +1,11 @@
 //! The definitions that the imports of a module are given.
 
-ghost use Rattle.std.specs.Prelude.{◌≡◌, ◌⊎◌, All, IfOk, IfErr, Ok, Err};
-ghost use Rattle.import_match.specs.declared.error.LinkError.TheVariants as refused;
+ghost use Rattle.std.specs.Prelude.{◌≡◌, All};
 ghost use Rattle.import_match.specs.Rules.{HasEngineTypes};
 ghost use Rattle.import_match.specs.Definitions.{Definition, names_of, found};
 ghost use Rattle.import_match.specs.Kept.{definitions_of};
 ghost use Rattle.import_match.specs.Linking.{wanted, CanImport, IsHeld};
-ghost use Rattle.import_match.specs.Resolving.{answer_at, resolved};
+ghost use Rattle.import_match.specs.Resolving.{answer_at, resolved, IsAnswer};
 
 use crate::definitions::{Definitions, find};
 use crate::engine_types::with_engine_types;
@@ -49,9 +48,7 @@ pub(crate) fn resolve_imports(
     requires definitions { All (λ (d : Definition). HasEngineTypes d.1) (definitions_of definitions.now) }
     requires held { IsHeld registry.now key }
     requires can { CanImport registry.now key «module».now }
-    ensures ok { IfOk result (λ numbers. resolved (definitions_of definitions.now) (wanted registry.now key «module».now) ≡ Ok numbers.items) }
-    ensures err { IfErr result (λ e. (e ≡ refused.OutOfMemory)
-        ⊎ (resolved (definitions_of definitions.now) (wanted registry.now key «module».now) ≡ Err e)) }
+    ensures { IsAnswer result (resolved (definitions_of definitions.now) (wanted registry.now key «module».now)) }
 {
     let count = module.initializers.len();
     let mut numbers = Vec::with_capacity(alloc, count)?;

@@ -10,8 +10,10 @@ mod laws;
 mod linker;
 mod names;
 mod rules;
+mod worked;
 
 pub use error::{ImportRefused, LinkError, Mismatch};
 pub use laws::{function_law, matching_law};
 pub use linker::Linker;
 pub use rules::match_entity;
+pub use worked::{worked_imports, worked_memories};

@@ -6,7 +6,7 @@ ghost use Rattle.import_match.specs.declared.error.Mismatch.{Mismatch};
 ghost use Rattle.import_match.specs.Rules.{HasEngineTypes};
 ghost use Rattle.import_match.specs.Definitions.{Definition, IsDefined, AreOnce};
 ghost use Rattle.import_match.specs.Linking.{exported, wanted, CanExport, CanImport, IsHeld, IsNotHeld};
-ghost use Rattle.import_match.specs.Resolving.{AreGiven, AreMatched, IsMissing, IsMismatched};
+ghost use Rattle.import_match.specs.Resolving.{resolved, IsAnswer, AreGiven, AreMatched, IsMissing, IsMismatched};
 ghost use Rattle.import_match.specs.Refusals.{ComesExactly, IsOutOfMemory};
 
 use crate::definitions::{Definitions, append, append_all, new_names};
@@ -129,6 +129,9 @@ impl Linker {
         module: &Module,
     ) -> Result<Vec<usize>, LinkError>
         requires { CanImport registry.now key «module».now }
+        ensures answer { IsHeld registry.now key → IsAnswer result (resolved self.now (wanted registry.now key «module».now)) }
+
+        // What the answer says, each cause both ways.
         ensures given { IfOk result (λ numbers. AreGiven self.now (wanted registry.now key «module».now) numbers.items) }
         ensures complete { IsHeld registry.now key → AreMatched self.now (wanted registry.now key «module».now)
             → IsOk result ⊎ IsOutOfMemory result }

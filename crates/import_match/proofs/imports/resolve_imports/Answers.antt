@@ -28,8 +28,8 @@ with_engine_types-want-requires c =
     All-slice_get (λ (d : Definition). All (IsTypeOf r k) (types_in d.1)) (wants_of m) c.loop-place.place (want_of i)
     (types-of r k (wants_of m) c.requires.held c.requires.can.types) (want-at m c.requires.can.resolved c.loop-place.place i is)
 
-pub returns-in_err-resolve_import-clause-err : goal.returns-in_err-resolve_import-clause-err
-returns-in_err-resolve_import-clause-err c =
+pub returns-in_err-resolve_import : goal.returns-in_err-resolve_import
+returns-in_err-resolve_import c =
     let p = err_from_is_err_and c.from_residual-in_err-resolve_import.result c.from_residual-in_err-resolve_import.ensures.1 in
     let m = record_of c.args.module.now in
     let r = registry_of c.args.registry.now in
@@ -44,8 +44,8 @@ returns-in_err-resolve_import-clause-err c =
     ∙ ap (option_map (engine_definition r k)) (want-at m c.requires.can.resolved place i is)
     in
     let answer = answer-is ds place (names_of c.set.new.self) w.0 c.with_engine_types-want.result w.1 c.in_ok-set.ensures c.with_engine_types-want.ensures.value in
-    rw (p.1, p.2) (inr (stops ds ws place c.loop-place.numbers.items c.loop-place.invariant w c.in_err-resolve_import.field-0.0 at
-    (sym answer ∙ sym c.in_err-resolve_import.ensures)))
+    rw (p.1, p.2) (inr (sym (stops ds ws place c.loop-place.numbers.items c.loop-place.invariant w c.in_err-resolve_import.field-0.0 at
+    (sym answer ∙ sym c.in_err-resolve_import.ensures))))
 
 pub loop-place-preserved : goal.loop-place-preserved
 loop-place-preserved c =
@@ -67,12 +67,12 @@ loop-place-preserved c =
     ap (λ l. before_all l rest) c.in_ok-push.ensures.items
     ∙ goes-on ds ws place ks c.loop-place.invariant w c.in_ok-resolve_import.field-0 at (sym answer ∙ sym c.in_ok-resolve_import.ensures)
 
-pub returns-clause-ok : goal.returns-clause-ok
-returns-clause-ok c =
+pub returns : goal.returns
+returns c =
     let m = record_of c.args.module.now in
     let ws = wanted c.args.registry.now c.args.key c.args.module.now in
     let size : length ws ≡ length m.initializers =
     length-map (wants_of m) (engine_definition (registry_of c.args.registry.now) (key_number c.args.key)) ∙ wants-length m c.requires.can.resolved
     in
-    ends (definitions_of c.args.definitions.now) ws c.loop-place.place c.loop-place.numbers.items c.loop-place.invariant
-    (omega (arith, size, c.loop-place-test.false, c.len-count.ensures))
+    inr (sym (ends (definitions_of c.args.definitions.now) ws c.loop-place.place c.loop-place.numbers.items c.loop-place.invariant
+    (omega (arith, size, c.loop-place-test.false, c.len-count.ensures))))
