@@ -40,6 +40,9 @@ fn a_refused_import_is_named(rt: HostRuntime) -> Result<(), Fail> {
         own: "memory",
         cause: LinkError::Mismatch(3, Mismatch::MemoryMax),
     };
-    assert_eq!(rt; format!(in rt.alloc(); "{refused}")?.as_str(), "env.memory: import 3 does not match its definition: the memory may grow too large");
+    assert_eq!(rt;
+        format!(in rt.alloc(); "{refused}")?.as_str(),
+        "env.memory: import 3 does not match its definition: the memory may grow too large"
+    );
     Ok(())
 }

@@ -9,8 +9,8 @@ use import_match::{Mismatch, match_entity};
 use std::process::Abort;
 use wasm_index::VMSharedTypeIndex;
 use wasm_types::{
-    EngineOrModuleTypeIndex, EntityType, Global, IndexType, Limits, Memory, Table, Tag, WasmHeapType,
-    WasmRefType, WasmValType,
+    EngineOrModuleTypeIndex, EntityType, Global, IndexType, Limits, Memory, Table, Tag,
+    WasmHeapType, WasmRefType, WasmValType,
 };
 
 const SIZES: Limits = Limits {
@@ -51,13 +51,28 @@ fn expect(rt: &impl Abort, have: EntityType, want: EntityType, expected: Option<
     assert_eq!(rt; match_entity(&have, &want), expected);
 }
 
-fn expect_sizes(rt: &impl Abort, have: (u64, Option<u64>), memory: Option<Mismatch>, table: Option<Mismatch>) {
+fn expect_sizes(
+    rt: &impl Abort,
+    have: (u64, Option<u64>),
+    memory: Option<Mismatch>,
+    table: Option<Mismatch>,
+) {
     let limits = Limits {
         min: have.0,
         max: have.1,
     };
-    expect(rt, EntityType::Memory(Memory { limits, ..MEMORY }), EntityType::Memory(MEMORY), memory);
-    expect(rt, EntityType::Table(Table { limits, ..TABLE }), EntityType::Table(TABLE), table);
+    expect(
+        rt,
+        EntityType::Memory(Memory { limits, ..MEMORY }),
+        EntityType::Memory(MEMORY),
+        memory,
+    );
+    expect(
+        rt,
+        EntityType::Table(Table { limits, ..TABLE }),
+        EntityType::Table(TABLE),
+        table,
+    );
 }
 
 #[test]
@@ -65,21 +80,38 @@ fn sizes_are_within_those_that_are_asked_for(rt: HostRuntime) {
     // A least size that is equal, one more and one less.
     expect_sizes(&rt, (2, Some(4)), None, None);
     expect_sizes(&rt, (3, Some(4)), None, None);
-    expect_sizes(&rt, (1, Some(4)), Some(Mismatch::MemoryMin), Some(Mismatch::TableMin));
+    expect_sizes(
+        &rt,
+        (1, Some(4)),
+        Some(Mismatch::MemoryMin),
+        Some(Mismatch::TableMin),
+    );
     // A greatest size that is one less, one more and none.
     expect_sizes(&rt, (2, Some(3)), None, None);
-    expect_sizes(&rt, (2, Some(5)), Some(Mismatch::MemoryMax), Some(Mismatch::TableMax));
-    expect_sizes(&rt, (2, None), Some(Mismatch::MemoryMax), Some(Mismatch::TableMax));
+    expect_sizes(
+        &rt,
+        (2, Some(5)),
+        Some(Mismatch::MemoryMax),
+        Some(Mismatch::TableMax),
+    );
+    expect_sizes(
+        &rt,
+        (2, None),
+        Some(Mismatch::MemoryMax),
+        Some(Mismatch::TableMax),
+    );
     // Both fail: the first rule is told.
-    expect_sizes(&rt, (1, None), Some(Mismatch::MemoryMin), Some(Mismatch::TableMin));
+    expect_sizes(
+        &rt,
+        (1, None),
+        Some(Mismatch::MemoryMin),
+        Some(Mismatch::TableMin),
+    );
 }
 
 #[test]
 fn any_size_is_within_none(rt: HostRuntime) {
-    let open = Limits {
-        min: 2,
-        max: None,
-    };
+    let open = Limits { min: 2, max: None };
     let memory = EntityType::Memory(Memory {
         limits: open,
         ..MEMORY
@@ -109,14 +141,54 @@ fn memories_are_alike(rt: HostRuntime) {
         ..MEMORY
     };
     let want = EntityType::Memory(MEMORY);
-    expect(&rt, EntityType::Memory(wide), want, Some(Mismatch::MemoryIndexType));
-    expect(&rt, want, EntityType::Memory(wide), Some(Mismatch::MemoryIndexType));
-    expect(&rt, EntityType::Memory(shared), want, Some(Mismatch::MemoryShared));
-    expect(&rt, want, EntityType::Memory(shared), Some(Mismatch::MemoryShared));
-    expect(&rt, EntityType::Memory(bytes), want, Some(Mismatch::MemoryPage));
-    expect(&rt, EntityType::Memory(wide), EntityType::Memory(wide), None);
-    expect(&rt, EntityType::Memory(shared), EntityType::Memory(shared), None);
-    expect(&rt, EntityType::Memory(bytes), EntityType::Memory(bytes), None);
+    expect(
+        &rt,
+        EntityType::Memory(wide),
+        want,
+        Some(Mismatch::MemoryIndexType),
+    );
+    expect(
+        &rt,
+        want,
+        EntityType::Memory(wide),
+        Some(Mismatch::MemoryIndexType),
+    );
+    expect(
+        &rt,
+        EntityType::Memory(shared),
+        want,
+        Some(Mismatch::MemoryShared),
+    );
+    expect(
+        &rt,
+        want,
+        EntityType::Memory(shared),
+        Some(Mismatch::MemoryShared),
+    );
+    expect(
+        &rt,
+        EntityType::Memory(bytes),
+        want,
+        Some(Mismatch::MemoryPage),
+    );
+    expect(
+        &rt,
+        EntityType::Memory(wide),
+        EntityType::Memory(wide),
+        None,
+    );
+    expect(
+        &rt,
+        EntityType::Memory(shared),
+        EntityType::Memory(shared),
+        None,
+    );
+    expect(
+        &rt,
+        EntityType::Memory(bytes),
+        EntityType::Memory(bytes),
+        None,
+    );
 }
 
 #[test]
@@ -137,9 +209,24 @@ fn tables_are_alike(rt: HostRuntime) {
         ..TABLE
     };
     let want = EntityType::Table(TABLE);
-    expect(&rt, EntityType::Table(wide), want, Some(Mismatch::TableIndexType));
-    expect(&rt, EntityType::Table(others), want, Some(Mismatch::TableElement));
-    expect(&rt, EntityType::Table(never_null), want, Some(Mismatch::TableElement));
+    expect(
+        &rt,
+        EntityType::Table(wide),
+        want,
+        Some(Mismatch::TableIndexType),
+    );
+    expect(
+        &rt,
+        EntityType::Table(others),
+        want,
+        Some(Mismatch::TableElement),
+    );
+    expect(
+        &rt,
+        EntityType::Table(never_null),
+        want,
+        Some(Mismatch::TableElement),
+    );
     expect(&rt, EntityType::Table(wide), EntityType::Table(wide), None);
 }
 
@@ -155,10 +242,30 @@ fn globals_are_alike(rt: HostRuntime) {
     };
     let want = EntityType::Global(GLOBAL);
     expect(&rt, want, want, None);
-    expect(&rt, EntityType::Global(mutable), want, Some(Mismatch::GlobalMutability));
-    expect(&rt, want, EntityType::Global(mutable), Some(Mismatch::GlobalMutability));
-    expect(&rt, EntityType::Global(wide), want, Some(Mismatch::GlobalType));
-    expect(&rt, EntityType::Global(mutable), EntityType::Global(wide), Some(Mismatch::GlobalMutability));
+    expect(
+        &rt,
+        EntityType::Global(mutable),
+        want,
+        Some(Mismatch::GlobalMutability),
+    );
+    expect(
+        &rt,
+        want,
+        EntityType::Global(mutable),
+        Some(Mismatch::GlobalMutability),
+    );
+    expect(
+        &rt,
+        EntityType::Global(wide),
+        want,
+        Some(Mismatch::GlobalType),
+    );
+    expect(
+        &rt,
+        EntityType::Global(mutable),
+        EntityType::Global(wide),
+        Some(Mismatch::GlobalMutability),
+    );
 }
 
 #[test]
@@ -178,8 +285,18 @@ fn functions_and_tags_have_one_index(rt: HostRuntime) {
         signature: second,
         exception: first,
     });
-    expect(&rt, EntityType::Function(first), EntityType::Function(first), None);
-    expect(&rt, EntityType::Function(second), EntityType::Function(first), Some(Mismatch::FuncType));
+    expect(
+        &rt,
+        EntityType::Function(first),
+        EntityType::Function(first),
+        None,
+    );
+    expect(
+        &rt,
+        EntityType::Function(second),
+        EntityType::Function(first),
+        Some(Mismatch::FuncType),
+    );
     expect(&rt, tag, tag, None);
     expect(&rt, carried, tag, None);
     expect(&rt, other, tag, Some(Mismatch::TagType));
