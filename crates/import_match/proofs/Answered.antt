@@ -1,6 +1,6 @@
 -- What is answered to imports, one after another.
 use Rattle.std.proofs.Common.{◌≡◌, ◌<◌, ◌≤◌, ◌+◌, ℕ, zero, suc, List, [], ◌∷◌, ◌++◌, length, map, drop, slice_get, Option, Some, None, Result, Ok, Err, Vec, Global, refl, sym, ap, subst, ◌∙◌, inl, inr, arith}
-use Rattle.std.specs.Prelude.{◌⊎◌, IsSomeAnd, IsOk, IfOk, IfErr}
+use Rattle.std.specs.Prelude.{◌⊎◌, IsSomeAnd, IsOk, IfOk}
 use Rattle.std.specs.List.{enumerate_from, AllZip}
 use Rattle.std.proofs.lemmas.Option.{none-some, same_Some, slice_get_within, get_or_from_slice_get}
 use Rattle.std.proofs.lemmas.List.{append-nil, append_assoc, drop_more, drop_all}

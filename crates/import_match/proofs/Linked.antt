@@ -2,6 +2,7 @@
 use Rattle.std.proofs.Common.{◌≡◌, ◌<◌, ℕ, zero, suc, true, List, [], ◌∷◌, length, map, slice_get, All, Option, Some, None, refl, sym, ap, subst, ◌∙◌, arith, eq-eqb}
 use Rattle.std.specs.Prelude.{IsSome, is_some, option_and_then}
 use Rattle.std.specs.List.{IsDistinct}
+use Rattle.std.specs.Borrow.{Bor}
 use Rattle.std.specs.Map.{keys_of}
 use Rattle.std.specs.Option.{option_map}
 use Rattle.std.specs.Str.{bytes_eq}
@@ -20,7 +21,7 @@ use Rattle.wasm_module.specs.declared.initializer.Initializer.TheVariants as ini
 use Rattle.wasm_module.specs.declared.module.Module.{Module as Record}
 use Rattle.wasm_module.specs.Record.{ModuleRecord, record_of}
 use Rattle.wasm_module.specs.Entities.{entity_type}
-use Rattle.wasm_module.specs.Imports.{text_of, import_of, imports_of, IsResolved}
+use Rattle.wasm_module.specs.Imports.{text_of, import_of, imports_of, lent_import, IsResolved}
 use Rattle.type_registry.specs.Keys.{key_number}
 use Rattle.type_registry.specs.Registry.{RegistryState, registry_of}
 use Rattle.type_registry.specs.declared.key.ModuleKey.{ModuleKey}
@@ -28,7 +29,7 @@ use Rattle.import_match.specs.declared.names.Names.{Names}
 use Rattle.import_match.specs.contracts.names.NamesPartialEq.TheImpl as named
 use Rattle.import_match.specs.Definitions.{Definition, TwoNames, names_of, names_eq, AreOnce}
 use Rattle.import_match.specs.Kept.{definition_of}
-use Rattle.import_match.specs.Linking.{engine_definition, export_of, exports_of, wants_of, exported, IsExportResolved}
+use Rattle.import_match.specs.Linking.{engine_definition, export_of, exports_of, wants_of, exported, IsExportResolved, wanted}
 use Rattle.import_match.proofs.Listing.{value_of, slice_get-filter_map, length-filter_map, slice_get-from_map, one-place}
 
 -- ---- names
@@ -159,3 +160,22 @@ module _ (m : ModuleRecord) (all : All (IsResolved m) m.initializers) where
 
   pub wants-length : length (wants_of m) ≡ length m.initializers
   wants-length = length-map (imports_of m m.initializers) want_of ∙ length-filter_map (import_of m) m.initializers some
+
+-- an import as it is lent
+abbrev pub Lent : Type 0
+Lent = Bor (List ℕ) × Bor (List ℕ) × EntityType
+
+abbrev pub lent_want : Lent → Definition
+lent_want x = want_of (lent_import x)
+
+module _ (registry : RegistryState) (key : ModuleKey) (m : Record) (all : All (IsResolved (record_of m)) (record_of m).initializers) (k : ℕ) (o : Option Lent)
+    (x : Lent) (read : option_map lent_import o ≡ option_and_then (import_of (record_of m)) (slice_get (record_of m).initializers k)) (is : o ≡ Some x) where
+  -- the import that was read at a place, as the module wants it
+  pub read-at : slice_get (wants_of (record_of m)) k ≡ Some (lent_want x)
+  read-at = want-at (record_of m) all k (lent_import x) (sym read ∙ ap (option_map lent_import) is)
+
+  -- and with the engine's types
+  pub wanted-at : slice_get (wanted registry key m) k ≡ Some (engine_definition (registry_of registry) (key_number key) (lent_want x))
+  wanted-at =
+      let engine = engine_definition (registry_of registry) (key_number key) in
+      slice_get-map engine (wants_of (record_of m)) k ∙ ap (option_map engine) read-at

@@ -1,9 +1,6 @@
 use Rattle.std.proofs.Common.{◌≡◌, ◌+◌, ◌∙◌, All, inr, length, drop, sym, ap, arith}
-use Rattle.std.specs.Option.{option_map}
 use Rattle.std.proofs.lemmas.List.{length-map}
-use Rattle.std.proofs.lemmas.Option.{slice_get-map}
 use Rattle.std.proofs.lemmas.Result.{err_from_is_err_and}
-use Rattle.wasm_module.specs.Imports.{lent_import}
 use Rattle.wasm_module.specs.Record.{record_of}
 use Rattle.type_registry.specs.Keys.{key_number}
 use Rattle.type_registry.specs.Registry.{registry_of}
@@ -14,58 +11,47 @@ use Rattle.import_match.specs.Linking.{engine_definition, wants_of, wanted}
 use Rattle.import_match.specs.Held.{IsTypeOf}
 use Rattle.import_match.proofs.Answered.{before_all, run, stops, goes-on, ends, answer-is}
 use Rattle.import_match.proofs.Engine.{types-of}
-use Rattle.import_match.proofs.Linked.{Import, want_of, want-at, wants-length}
+use Rattle.import_match.proofs.Linked.{lent_want, read-at, wanted-at, wants-length}
 use Rattle.import_match.proofs.Listing.{All-slice_get}
 use Rattle.import_match.proofs.imports.resolve_imports.Goals as goal
 
 pub with_engine_types-want-requires : goal.with_engine_types-want-requires
 with_engine_types-want-requires c =
-    let m = record_of c.args.module.now in
+    let wants = wants_of (record_of c.args.module.now) in
     let r = registry_of c.args.registry.now in
     let k = key_number c.args.key in
-    let i : Import = lent_import c.unwrap-ty.result in
-    let is = sym c.import.ensures ∙ ap (option_map lent_import) c.unwrap-ty.ensures in
-    All-slice_get (λ (d : Definition). All (IsTypeOf r k) (types_in d.1)) (wants_of m) c.loop-place.place (want_of i)
-    (types-of r k (wants_of m) c.requires.held c.requires.can.types) (want-at m c.requires.can.resolved c.loop-place.place i is)
+    let read = read-at c.args.registry.now c.args.key c.args.module.now c.requires.can.resolved c.loop-place.place c.import.result c.unwrap-ty.result
+    c.import.ensures c.unwrap-ty.ensures
+    in
+    All-slice_get (λ (d : Definition). All (IsTypeOf r k) (types_in d.1)) wants c.loop-place.place (lent_want c.unwrap-ty.result)
+    (types-of r k wants c.requires.held c.requires.can.types) read
 
 pub returns-in_err-resolve_import : goal.returns-in_err-resolve_import
 returns-in_err-resolve_import c =
     let p = err_from_is_err_and c.from_residual-in_err-resolve_import.result c.from_residual-in_err-resolve_import.ensures.1 in
-    let m = record_of c.args.module.now in
-    let r = registry_of c.args.registry.now in
-    let k = key_number c.args.key in
     let ds = definitions_of c.args.definitions.now in
-    let ws = wanted c.args.registry.now c.args.key c.args.module.now in
     let place = c.loop-place.place in
-    let i : Import = lent_import c.unwrap-ty.result in
-    let w : Definition = engine_definition r k (want_of i) in
-    let is = sym c.import.ensures ∙ ap (option_map lent_import) c.unwrap-ty.ensures in
-    let at = slice_get-map (engine_definition r k) (wants_of m) place
-    ∙ ap (option_map (engine_definition r k)) (want-at m c.requires.can.resolved place i is)
+    let w : Definition = engine_definition (registry_of c.args.registry.now) (key_number c.args.key) (lent_want c.unwrap-ty.result) in
+    let at = wanted-at c.args.registry.now c.args.key c.args.module.now c.requires.can.resolved place c.import.result c.unwrap-ty.result
+    c.import.ensures c.unwrap-ty.ensures
     in
     let answer = answer-is ds place (names_of c.set.new.self) w.0 c.with_engine_types-want.result w.1 c.in_ok-set.ensures c.with_engine_types-want.ensures.value in
-    rw (p.1, p.2) (inr (sym (stops ds ws place c.loop-place.numbers.items c.loop-place.invariant w c.in_err-resolve_import.field-0.0 at
-    (sym answer ∙ sym c.in_err-resolve_import.ensures))))
+    rw (p.1, p.2) (inr (sym (stops ds (wanted c.args.registry.now c.args.key c.args.module.now) place c.loop-place.numbers.items c.loop-place.invariant w
+    c.in_err-resolve_import.field-0.0 at (sym answer ∙ sym c.in_err-resolve_import.ensures))))
 
 pub loop-place-preserved : goal.loop-place-preserved
 loop-place-preserved c =
-    let m = record_of c.args.module.now in
-    let r = registry_of c.args.registry.now in
-    let k = key_number c.args.key in
     let ds = definitions_of c.args.definitions.now in
     let ws = wanted c.args.registry.now c.args.key c.args.module.now in
     let place = c.loop-place.place in
-    let ks = c.loop-place.numbers.items in
-    let i : Import = lent_import c.unwrap-ty.result in
-    let w : Definition = engine_definition r k (want_of i) in
-    let is = sym c.import.ensures ∙ ap (option_map lent_import) c.unwrap-ty.ensures in
-    let at = slice_get-map (engine_definition r k) (wants_of m) place
-    ∙ ap (option_map (engine_definition r k)) (want-at m c.requires.can.resolved place i is)
+    let w : Definition = engine_definition (registry_of c.args.registry.now) (key_number c.args.key) (lent_want c.unwrap-ty.result) in
+    let at = wanted-at c.args.registry.now c.args.key c.args.module.now c.requires.can.resolved place c.import.result c.unwrap-ty.result
+    c.import.ensures c.unwrap-ty.ensures
     in
     let answer = answer-is ds place (names_of c.set.new.self) w.0 c.with_engine_types-want.result w.1 c.in_ok-set.ensures c.with_engine_types-want.ensures.value in
-    let rest = run ds (place + 1) (drop (place + 1) ws) in
-    ap (λ l. before_all l rest) c.in_ok-push.ensures.items
-    ∙ goes-on ds ws place ks c.loop-place.invariant w c.in_ok-resolve_import.field-0 at (sym answer ∙ sym c.in_ok-resolve_import.ensures)
+    ap (λ l. before_all l (run ds (place + 1) (drop (place + 1) ws))) c.in_ok-push.ensures.items
+    ∙ goes-on ds ws place c.loop-place.numbers.items c.loop-place.invariant w c.in_ok-resolve_import.field-0 at
+    (sym answer ∙ sym c.in_ok-resolve_import.ensures)
 
 pub returns : goal.returns
 returns c =
