@@ -7,3 +7,4 @@ pub mod Linked
 pub mod Listing
 pub mod Matched
 pub mod FunctionTypes
+pub mod ModuleTypes

@@ -8,3 +8,4 @@ pub mod Held
 pub mod Matching
 pub mod FunctionTypes
 pub mod Worked
+pub mod ModuleTypes

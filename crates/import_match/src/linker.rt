@@ -21,7 +21,8 @@ use type_registry::{ModuleKey, TypeRegistry};
 use wasm_module::Module;
 use wasm_types::EntityType;
 
-/// Named definitions, in order, from which the imports of modules are resolved. Their types are an engine's: the caller gives one registry throughout.
+/// Named definitions, in order, from which the imports of modules are resolved. Their types are those of one engine: the caller gives one registry throughout, and keeps
+/// the modules held whose types stand here, so that equal indices are equal types.
 #[derive(Drop)]
 pub struct Linker {
     alloc: Global,
