@@ -27,7 +27,7 @@ use Rattle.import_match.specs.Definitions.{Definition}
 
 -- ---- the engine's types
 
--- the engine's index of a type of the module that is held under a key
+-- the engine's index of a type of the module that is held under a key; 0 where it has no such type
 abbrev pub engine_index : Registry → ℕ → Index ModuleInternedTypeSpace → Index VMSharedTypeSpace
 engine_index r key i = index_of (unwrap_or (index_at r key (number_of i)) 0)
 

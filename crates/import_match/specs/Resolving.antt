@@ -65,7 +65,7 @@ IsMatched ds want = IsSomeAnd (found ds want.0) (λ (have : ℕ × EntityType). 
 abbrev pub IsGiven : List Definition → Definition → ℕ → Type 0
 IsGiven ds want number = IsSomeAnd (found ds want.0) (λ (have : ℕ × EntityType). (have.0 ≡ number) × (mismatch have.1 want.1 ≡ None))
 
--- all imports before a place are matched
+-- the import at a place, where all before it are matched
 pub record IsReached (ds wants : List Definition) (i : ℕ) (want : Definition) : Type 0 where
   pub at : slice_get wants i ≡ Some want
   pub before : (j : ℕ) (other : Definition) → j < i → slice_get wants j ≡ Some other → IsMatched ds other

@@ -36,7 +36,7 @@ HasEngineTypes t = All (λ e. IsSome (engine_index e)) (types_in t)
 abbrev pub Rule : Type 0
 Rule = Bool × Mismatch
 
--- whether a greatest size is within the one that is asked for: any is within none, and none is within no other
+-- whether a greatest size is within the one that is asked for: where none is asked for, any is; where one is, none is not
 abbrev pub is_within : Option ℕ → Option ℕ → Bool
 is_within have None = true
 is_within None (Some want) = false
