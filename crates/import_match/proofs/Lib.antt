@@ -1,0 +1,10 @@
+pub mod Answered
+pub mod Appending
+pub mod Engine
+pub mod Exporting
+pub mod Finding
+pub mod Linked
+pub mod Listing
+pub mod Matched
+pub mod FunctionTypes
+pub mod ModuleTypes

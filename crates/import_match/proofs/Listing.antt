@@ -1,0 +1,72 @@
+-- Definitions that are read off the lists of a module.
+use Rattle.std.proofs.Common.{◌≡◌, ◌<◌, ℕ, zero, suc, Bool, true, List, [], ◌∷◌, length, map, slice_get, get_or, All, Option, Some, None, refl, sym, ap, subst, ◌∙◌, inl, inr, true≢false}
+use Rattle.std.specs.Prelude.{IsSome, option_and_then}
+use Rattle.std.specs.List.{filter_map, cons_option, IsDistinct}
+use Rattle.std.specs.Option.{option_map}
+use Rattle.std.proofs.lemmas.Bool.{cases_order}
+use Rattle.std.proofs.lemmas.Option.{none-some, same_Some, slice_get-map, slice_get-get_or, slice_get_within, get_or_from_slice_get}
+use Rattle.std.proofs.lemmas.List.Elements.{All-head, All-tail}
+use Rattle.std.proofs.lemmas.Map.Keys.{apart_from_distinct}
+
+-- an option that has a value
+pub value_of : {A : Type 0} (o : Option A) → IsSome o → (x : A) × (o ≡ Some x)
+value_of None h = absurd (true≢false (sym h))
+value_of (Some x) h = (x, refl)
+
+module _ {X Y : Type 0} (f : X → Option Y) where
+  -- where all items give one, each gives the one at its place
+  pub slice_get-filter_map : (xs : List X) → All (λ x. IsSome (f x)) xs → (k : ℕ) → slice_get (filter_map f xs) k ≡ option_and_then f (slice_get xs k)
+  slice_get-filter_map [] all k = refl
+  slice_get-filter_map (x ∷ xs) all k =
+      by (f x) (All-head (λ y. IsSome (f y)) x xs all) k refl (slice_get-filter_map xs (All-tail (λ y. IsSome (f y)) x xs all))
+    where
+      by : (o : Option Y) → IsSome o → (i : ℕ) → f x ≡ o → ((j : ℕ) → slice_get (filter_map f xs) j ≡ option_and_then f (slice_get xs j))
+          → slice_get (cons_option o (filter_map f xs)) i ≡ option_and_then f (slice_get (x ∷ xs) i)
+      by None h i is rest = absurd (true≢false (sym h))
+      by (Some y) h zero is rest = sym is
+      by (Some y) h (suc i) is rest = rest i
+
+  pub length-filter_map : (xs : List X) → All (λ x. IsSome (f x)) xs → length (filter_map f xs) ≡ length xs
+  length-filter_map [] all = refl
+  length-filter_map (x ∷ xs) all =
+      by (f x) (All-head (λ y. IsSome (f y)) x xs all) (length-filter_map xs (All-tail (λ y. IsSome (f y)) x xs all))
+    where
+      by : (o : Option Y) → IsSome o → length (filter_map f xs) ≡ length xs → length (cons_option o (filter_map f xs)) ≡ suc (length xs)
+      by None h rest = absurd (true≢false (sym h))
+      by (Some y) h rest = ap suc rest
+
+-- what holds of each item holds of the one at a place
+pub All-slice_get : {X : Type 0} (P : X → Type 0) (xs : List X) (i : ℕ) (x : X) → All P xs → slice_get xs i ≡ Some x → P x
+All-slice_get P xs i x all at = subst P (get_or_from_slice_get xs i x x at) (all i x (slice_get_within xs i x at))
+
+-- what holds of the item at each place holds of all
+pub All-from_slice_get : {X : Type 0} (P : X → Type 0) (xs : List X) → ((i : ℕ) (x : X) → slice_get xs i ≡ Some x → P x) → All P xs
+All-from_slice_get P xs each = λ k d less. each k (get_or xs k d) (slice_get-get_or xs k d less)
+
+-- the item at a place of a mapped list comes from the item there
+pub slice_get-from_map : {X Y : Type 0} (f : X → Y) (xs : List X) (i : ℕ) (y : Y) → slice_get (map f xs) i ≡ Some y
+    → (x : X) × (slice_get xs i ≡ Some x) × (f x ≡ y)
+slice_get-from_map {X = X} {Y = Y} f xs i y at = by (slice_get xs i) refl (sym (slice_get-map f xs i) ∙ at)
+  where
+    by : (o : Option X) → slice_get xs i ≡ o → option_map f o ≡ Some y → (x : X) × (slice_get xs i ≡ Some x) × (f x ≡ y)
+    by None is h = absurd (none-some y h)
+    by (Some x) is h = (x, is, same_Some (f x) y h)
+
+-- equal keys stand at one place
+pub one-place : {K : Type 0} (eq : K → K → Bool) (ks : List K) → IsDistinct eq ks → (i j : ℕ) (a b : K) → slice_get ks i ≡ Some a
+    → slice_get ks j ≡ Some b → eq a b ≡ true → eq b a ≡ true → i ≡ j
+one-place {K = K} eq ks distinct i j a b at_i at_j same same' =
+    elim (cases_order i j) [
+      | inl is ↦ is
+      | inr other ↦ elim other [
+        | inl less ↦ absurd (apart i j a b at_i at_j less same)
+        | inr more ↦ absurd (apart j i b a at_j at_i more same')
+      ]
+    ]
+  where
+    apart : (p q : ℕ) (x y : K) → slice_get ks p ≡ Some x → slice_get ks q ≡ Some y → p < q → eq x y ≡ true → ⊥
+    apart p q x y at_p at_q less e =
+        let differ = apart_from_distinct eq ks p q x distinct less (slice_get_within ks q y at_q) in
+        let first : get_or ks p x ≡ x = get_or_from_slice_get ks p x x at_p in
+        let second : get_or ks q x ≡ y = get_or_from_slice_get ks q y x at_q in
+        true≢false (sym e ∙ sym (λ t. eq (first t) (second t)) ∙ differ)

@@ -1,0 +1,160 @@
+-- The types that what a module exports and imports names are among those that the module names.
+use Rattle.std.proofs.Common.{◌≡◌, ◌∙◌, ℕ, zero, suc, List, [], ◌∷◌, ◌++◌, map, slice_get, All, Option, Some, None, refl, ap, subst}
+use Rattle.std.specs.Prelude.{option_and_then}
+use Rattle.std.specs.List.{filter_map, flat_map, cons_option}
+use Rattle.std.specs.Option.{option_map}
+use Rattle.std.proofs.lemmas.Option.{none-some, same_Some, slice_get-map}
+use Rattle.std.proofs.lemmas.List.Elements.{All-nil, All-cons, All-head, All-tail, All-map}
+use Rattle.type_data.specs.Names.{index_of as index_in}
+use Rattle.wasm_index.specs.Index.{number_of}
+use Rattle.entity_map.specs.declared.pool.Atom.{Atom}
+use Rattle.wasm_types.specs.declared.index.EngineOrModuleTypeIndex.{EngineOrModuleTypeIndex}
+use Rattle.wasm_types.specs.declared.entity.EntityIndex.{EntityIndex}
+use Rattle.wasm_types.specs.declared.entity.EntityIndex.TheVariants as index
+use Rattle.wasm_types.specs.declared.entity.EntityType.{EntityType}
+use Rattle.wasm_types.specs.declared.entity.EntityType.TheVariants as entity
+use Rattle.wasm_types.specs.declared.table.Table.{Table}
+use Rattle.wasm_types.specs.declared.global.Global.{Global}
+use Rattle.wasm_types.specs.declared.tag.Tag.{Tag}
+use Rattle.wasm_types.specs.declared.memory.Memory.{Memory}
+use Rattle.wasm_types.specs.EntityData.{table_edges, global_edges, tag_edges}
+use Rattle.wasm_types.specs.EntityViews.{table_of, global_of, tag_of}
+use Rattle.wasm_module.specs.declared.function.FunctionType.{FunctionType}
+use Rattle.wasm_module.specs.declared.initializer.Initializer.{Initializer}
+use Rattle.wasm_module.specs.declared.initializer.Initializer.TheVariants as initializer
+use Rattle.wasm_module.specs.declared.module.Module.{Module as Record}
+use Rattle.wasm_module.specs.Record.{record_of}
+use Rattle.wasm_module.specs.Entities.{entity_type}
+use Rattle.wasm_module.specs.Imports.{text_of, import_of, imports_of}
+use Rattle.wasm_module.specs.ModuleData.{FunctionData, type_of_space, function_of, startup_of}
+use Rattle.wasm_module.specs.ModuleShapes.{startup_edges}
+use Rattle.import_match.specs.Rules.{types_in}
+use Rattle.import_match.specs.Definitions.{Definition}
+use Rattle.import_match.specs.Linking.{export_of, exports_of, wants_of}
+use Rattle.import_match.specs.ModuleTypes.{types_of}
+use Rattle.import_match.proofs.Linked.{Import, want_of}
+
+all-left : {X : Type 0} (P : X → Type 0) (xs ys : List X) → All P (xs ++ ys) → All P xs
+all-left P [] ys all = All-nil P
+all-left P (x ∷ xs) ys all = All-cons P x xs (All-head P x (xs ++ ys) all) (all-left P xs ys (All-tail P x (xs ++ ys) all))
+
+all-right : {X : Type 0} (P : X → Type 0) (xs ys : List X) → All P (xs ++ ys) → All P ys
+all-right P [] ys all = all
+all-right P (x ∷ xs) ys all = all-right P xs ys (All-tail P x (xs ++ ys) all)
+
+-- what holds of all that items give holds of what the item at a place gives
+all-at : {X Y : Type 0} (P : Y → Type 0) (f : X → List Y) (xs : List X) (i : ℕ) (x : X) → All P (flat_map f xs) → slice_get xs i ≡ Some x → All P (f x)
+all-at P f [] i x all at = absurd (none-some x at)
+all-at P f (y ∷ xs) zero x all at = subst (λ z. All P (f z)) (same_Some y x at) (all-left P (f y) (flat_map f xs) all)
+all-at P f (y ∷ xs) (suc i) x all at = all-at P f xs i x (all-right P (f y) (flat_map f xs) all) at
+
+-- what holds of each value that an item gives holds of all
+all-given : {X Y : Type 0} (P : Y → Type 0) (f : X → Option Y) → ((x : X) (y : Y) → f x ≡ Some y → P y) → (xs : List X) → All P (filter_map f xs)
+all-given P f each [] = All-nil P
+all-given {Y = Y} P f each (x ∷ xs) = by (f x) refl (all-given P f each xs)
+  where
+    by : (o : Option Y) → f x ≡ o → All P (filter_map f xs) → All P (cons_option o (filter_map f xs))
+    by None is rest = rest
+    by (Some y) is rest = All-cons P y (filter_map f xs) (each x y is) rest
+
+-- an option that is mapped to a value
+mapped : {X Y : Type 0} (f : X → Y) (o : Option X) (y : Y) → option_map f o ≡ Some y → (x : X) × (o ≡ Some x) × (f x ≡ y)
+mapped f None y is = absurd (none-some y is)
+mapped f (Some x) y is = (x, refl, same_Some (f x) y is)
+
+abbrev Types : Type 0
+Types = List EngineOrModuleTypeIndex
+
+-- the types of the lists of a module, one list after another
+module _ (m : Record) where
+  abbrev spaces : Types
+  spaces = flat_map (λ (x : EngineOrModuleTypeIndex). x ∷ []) (map type_of_space m.types)
+
+  abbrev functions : Types
+  functions = flat_map (λ (f : FunctionData EngineOrModuleTypeIndex). f.signature ∷ []) (map function_of m.functions)
+
+  abbrev tables : Types
+  tables = flat_map (table_edges index_in) (map table_of m.tables)
+
+  abbrev globals : Types
+  globals = flat_map (global_edges index_in) (map global_of m.globals)
+
+  abbrev tags : Types
+  tags = flat_map tag_edges (map tag_of m.tags)
+
+  abbrev after_tags : Types
+  after_tags = startup_edges (startup_of m.startup)
+
+module _ (P : EngineOrModuleTypeIndex → Type 0) (m : Record) (all : All P (types_of m)) where
+  after_spaces : All P (functions m ++ (tables m ++ (globals m ++ (tags m ++ after_tags m))))
+  after_spaces = all-right P (spaces m) (functions m ++ (tables m ++ (globals m ++ (tags m ++ after_tags m)))) all
+
+  after_functions : All P (tables m ++ (globals m ++ (tags m ++ after_tags m)))
+  after_functions = all-right P (functions m) (tables m ++ (globals m ++ (tags m ++ after_tags m))) after_spaces
+
+  after_tables : All P (globals m ++ (tags m ++ after_tags m))
+  after_tables = all-right P (tables m) (globals m ++ (tags m ++ after_tags m)) after_functions
+
+  after_globals : All P (tags m ++ after_tags m)
+  after_globals = all-right P (globals m) (tags m ++ after_tags m) after_tables
+
+  -- the types that an entity of the module names
+  pub entity-types : (e : EntityIndex) (t : EntityType) → entity_type (record_of m) e ≡ Some t → All P (types_in t)
+  entity-types (index.Function i) t is =
+      let x = mapped (λ (f : FunctionType). entity.Function f.signature) (slice_get m.functions (number_of i)) t is in
+      subst (λ u. All P (types_in u)) x.2
+      (all-at P (λ (f : FunctionData EngineOrModuleTypeIndex). f.signature ∷ []) (map function_of m.functions) (number_of i) (function_of x.0)
+      (all-left P (functions m) (tables m ++ (globals m ++ (tags m ++ after_tags m))) after_spaces)
+      (slice_get-map function_of m.functions (number_of i) ∙ ap (option_map function_of) x.1))
+  entity-types (index.Table i) t is =
+      let x = mapped (λ (y : Table). entity.Table y) (slice_get m.tables (number_of i)) t is in
+      subst (λ u. All P (types_in u)) x.2
+      (all-at P (table_edges index_in) (map table_of m.tables) (number_of i) (table_of x.0)
+      (all-left P (tables m) (globals m ++ (tags m ++ after_tags m)) after_functions)
+      (slice_get-map table_of m.tables (number_of i) ∙ ap (option_map table_of) x.1))
+  entity-types (index.Memory i) t is =
+      let x = mapped (λ (y : Memory). entity.Memory y) (slice_get m.memories (number_of i)) t is in
+      subst (λ u. All P (types_in u)) x.2 (All-nil P)
+  entity-types (index.Global i) t is =
+      let x = mapped (λ (y : Global). entity.Global y) (slice_get m.globals (number_of i)) t is in
+      subst (λ u. All P (types_in u)) x.2
+      (all-at P (global_edges index_in) (map global_of m.globals) (number_of i) (global_of x.0)
+      (all-left P (globals m) (tags m ++ after_tags m) after_tables)
+      (slice_get-map global_of m.globals (number_of i) ∙ ap (option_map global_of) x.1))
+  entity-types (index.Tag i) t is =
+      let x = mapped (λ (y : Tag). entity.Tag y) (slice_get m.tags (number_of i)) t is in
+      subst (λ u. All P (types_in u)) x.2
+      (all-at P tag_edges (map tag_of m.tags) (number_of i) (tag_of x.0) (all-left P (tags m) (after_tags m) after_globals)
+      (slice_get-map tag_of m.tags (number_of i) ∙ ap (option_map tag_of) x.1))
+
+  abbrev NamesOwn : Definition → Type 0
+  NamesOwn d = All P (types_in d.1)
+
+  export-types : (from : List ℕ) (x : Atom × EntityIndex) (d : Definition) → export_of (record_of m) from x ≡ Some d → NamesOwn d
+  export-types from x d is = by (text_of (record_of m) x.0) (entity_type (record_of m) x.1) refl is
+    where
+      by : (o : Option (List ℕ)) (t : Option EntityType) → entity_type (record_of m) x.1 ≡ t
+          → option_and_then (λ (own : List ℕ). option_map (λ (u : EntityType). ((from, own), u)) t) o ≡ Some d → NamesOwn d
+      by None t at h = absurd (none-some d h)
+      by (Some own) None at h = absurd (none-some d h)
+      by (Some own) (Some u) at h = subst NamesOwn (same_Some ((from, own), u) d h) (entity-types x.1 u at)
+
+  pub exported-types : (from : List ℕ) → All NamesOwn (exports_of (record_of m) from)
+  exported-types from = all-given NamesOwn (export_of (record_of m) from) (export-types from) m.exports.entries
+
+  import-types : (x : Initializer) (i : Import) → import_of (record_of m) x ≡ Some i → NamesOwn (want_of i)
+  import-types (initializer.Import name field e) i is =
+      by (text_of (record_of m) name) (text_of (record_of m) field) (entity_type (record_of m) e) refl is
+    where
+      by : (f o : Option (List ℕ)) (t : Option EntityType) → entity_type (record_of m) e ≡ t
+          → option_and_then (λ (from : List ℕ). option_and_then (λ (own : List ℕ). option_map (λ (u : EntityType). (from, own, u)) t) o) f ≡ Some i
+          → NamesOwn (want_of i)
+      by None o t at h = absurd (none-some i h)
+      by (Some from) None t at h = absurd (none-some i h)
+      by (Some from) (Some own) None at h = absurd (none-some i h)
+      by (Some from) (Some own) (Some u) at h = subst (λ j. NamesOwn (want_of j)) (same_Some (from, own, u) i h) (entity-types e u at)
+
+  pub wanted-types : All NamesOwn (wants_of (record_of m))
+  wanted-types =
+      All-map NamesOwn want_of (imports_of (record_of m) m.initializers.items)
+      (all-given (λ i. NamesOwn (want_of i)) (import_of (record_of m)) import-types m.initializers.items)

@@ -1,0 +1,11 @@
+pub mod Rules
+pub mod Definitions
+pub mod Kept
+pub mod Linking
+pub mod Resolving
+pub mod Refusals
+pub mod Held
+pub mod Matching
+pub mod FunctionTypes
+pub mod Worked
+pub mod ModuleTypes

@@ -1,0 +1,117 @@
+//! Why a definition does not match an import, and why a call of a linker is refused.
+
+ghost use Rattle.std.specs.Prelude.{◌≡◌};
+
+use entity_map::OutOfMemory;
+use std::alloc::{AllocError, AllocFailed};
+use thiserror::Error;
+
+/// The rule of matching that a definition breaks: one variant a rule, in the order in which the rules are asked (core specification, 3.3, external types).
+#[derive(Clone, Copy, Debug, Drop, PartialEq, Eq, Error)]
+pub enum Mismatch {
+    /// A definition of another kind.
+    #[error("the kinds differ")]
+    Kind,
+    /// A function of another type.
+    #[error("the function types differ")]
+    FuncType,
+    /// A table of other elements.
+    #[error("the element types of the tables differ")]
+    TableElement,
+    /// A table with indices of another type.
+    #[error("the index types of the tables differ")]
+    TableIndexType,
+    /// A table that may be smaller than the least size that is asked for.
+    #[error("the table is too small")]
+    TableMin,
+    /// A table that may grow past the greatest size that is asked for.
+    #[error("the table may grow too large")]
+    TableMax,
+    /// A memory with indices of another type.
+    #[error("the index types of the memories differ")]
+    MemoryIndexType,
+    /// One of the memories is shared, the other not.
+    #[error("one memory is shared, the other is not")]
+    MemoryShared,
+    /// A memory with pages of another size.
+    #[error("the page sizes differ")]
+    MemoryPage,
+    /// A memory that may be smaller than the least size that is asked for.
+    #[error("the memory is too small")]
+    MemoryMin,
+    /// A memory that may grow past the greatest size that is asked for.
+    #[error("the memory may grow too large")]
+    MemoryMax,
+    /// One of the globals can be written, the other not.
+    #[error("one global can be written, the other cannot")]
+    GlobalMutability,
+    /// A global of another value type.
+    #[error("the value types of the globals differ")]
+    GlobalType,
+    /// A tag of another function type.
+    #[error("the types of the tags differ")]
+    TagType,
+}
+
+/// Why a call of a linker is refused. The linker is as it was before.
+#[derive(Clone, Copy, Debug, Drop, PartialEq, Eq, Error)]
+pub enum LinkError {
+    /// Something is defined under the two names already.
+    #[error("defined already")]
+    Duplicate,
+    /// The registry holds no module under the key.
+    #[error("no such module is held")]
+    NotHeld,
+    /// Nothing is defined under the names of the import at this place, counted from 0.
+    #[error("import {0} is not defined")]
+    Missing(usize),
+    /// What is defined under the names of the import at this place does not match it.
+    #[error("import {0} does not match its definition: {1}")]
+    Mismatch(usize, Mismatch),
+    /// A list or a map found no memory.
+    #[error("out of memory")]
+    OutOfMemory,
+}
+
+/// Why an import is refused, with its two names: for the text of an error.
+#[derive(Clone, Copy, Debug, Drop, Error)]
+#[error("{from}.{own}: {cause}")]
+pub struct ImportRefused<'a> {
+    /// The name of the module from which it comes.
+    pub from: &'a str,
+    /// Its own name there.
+    pub own: &'a str,
+    /// What the linker answered.
+    pub cause: LinkError,
+}
+
+impl From<OutOfMemory> for LinkError {
+    ghost use Rattle.import_match.specs.declared.error.LinkError.TheVariants as errors;
+
+    ghost from_gives = { λ _ e. e ≡ errors.OutOfMemory };
+
+    fn from(_refused: OutOfMemory) -> LinkError {
+        LinkError::OutOfMemory
+    }
+}
+
+impl From<AllocError> for LinkError {
+    ghost use Rattle.import_match.specs.declared.error.LinkError.TheVariants as errors;
+
+    ghost from_gives = { λ _ e. e ≡ errors.OutOfMemory };
+
+    fn from(_refused: AllocError) -> LinkError {
+        LinkError::OutOfMemory
+    }
+}
+
+/// The value that found no room is dropped.
+impl<T: Drop> From<AllocFailed<T>> for LinkError {
+    ghost use Rattle.import_match.specs.declared.error.LinkError.TheVariants as errors;
+
+    ghost from_gives = { λ _ e. e ≡ errors.OutOfMemory };
+
+    fn from(_refused: AllocFailed<T>) -> LinkError {
+        LinkError::OutOfMemory
+    }
+}
