@@ -17,7 +17,8 @@ use std::alloc::Global;
 pub fn expression(alloc: Global, bytes: &[u8]) -> Result<(ConstExpr, &[u8]), ReadError>
     ensures { Gives (λ x. (expression_of x.0, x.1.now)) result (expression_at bytes.now) }
 {
-    let mut ops = Vec::new(alloc);
+    // Most expressions are one operator.
+    let mut ops = Vec::with_capacity(alloc, 1)?;
     let mut rest = bytes;
     while let Some((first, after)) = first_byte(rest) {
         if first == END {

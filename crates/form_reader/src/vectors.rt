@@ -9,9 +9,12 @@ use crate::error::ReadError;
 use crate::numbers::u32_at;
 use std::alloc::Global;
 
+/// The most elements that a list has room for before they are read.
+const MOST_ROOM: usize = 1024;
+
 /// `count` elements, one after another.
 ///
-/// The list grows as elements are read, since the count may be any number.
+/// The list begins with room for no more elements than there are bytes, since the count may be any number.
 fn counted<'d, X: Drop, F: Fn(Global, &'d [u8]) -> Result<(X, &'d [u8]), ReadError>>(
     alloc: Global,
     count: u32,
@@ -21,7 +24,8 @@ fn counted<'d, X: Drop, F: Fn(Global, &'d [u8]) -> Result<(X, &'d [u8]), ReadErr
     requires { F.IsAlwaysCallable part }
     ensures { Counted (λ at one. F.post part alloc at one) count bytes.now [] result }
 {
-    let mut all = Vec::new(alloc);
+    let room = (count as usize).min(bytes.len()).min(MOST_ROOM);
+    let mut all = Vec::with_capacity(alloc, room)?;
     let mut rest = bytes;
     'parts: for _ in 0..count {
         let (one, after) = part(alloc, rest)?;

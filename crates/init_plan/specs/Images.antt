@@ -10,7 +10,7 @@ use Rattle.wasm_types.specs.declared.tunables.Tunables.{Tunables}
 use Rattle.wasm_module.specs.declared.module.Module.{Module}
 use Rattle.replay_spec.specs.Data.{ActiveSegment}
 use Rattle.replay_spec.specs.Plan.{MemoryPlan, planned_from}
-use Rattle.replay_spec.specs.Images.{ImageOptions, ImageMemory, IsStatic, MemoryImage, AreImages, written_on, bytes_on, image_map, entries_of, image_bytes, PlansImages, IsTight}
+use Rattle.replay_spec.specs.Images.{ImageOptions, ImageMemory, IsStatic, MemoryImage, AreImages, written_on, bytes_on, image_map, entries_of, image_bytes, PlansImages, IsMemoryPlan, IsTight}
 use Rattle.init_plan.specs.declared.translation.ModuleTranslation.{ModuleTranslation}
 use Rattle.init_plan.specs.Views.{initializers_of, passive_bytes, data_total, images_of, processed_of, bytes_of, IsSegmented, IsProcessed}
 
@@ -48,6 +48,20 @@ IsWholeRange page range = (range.0 % page ≡ 0) × (range.1 % page ≡ 0)
 abbrev pub HasWholeRanges : ℕ → List (Option (ℕ × ℕ)) → List (ℕ × ℕ) → Type 0
 HasWholeRanges page images ranges = (m start index : ℕ) → slice_get images m ≡ Some (Some (start, index))
     → IsSomeAnd (slice_get ranges index) (IsWholeRange page)
+
+-- ---- how many bytes the runtime data have
+
+-- a plan of memories has runtime data of so many bytes as a fact says; there is such a plan, and all have the same runtime data
+pub record HasRuntimeSize (options : ImageOptions) (imports : ℕ) (memories : List ImageMemory) (active : List ActiveSegment)
+    (passive : List (List ℕ)) (P : ℕ → Type 0) : Type 0 where
+  pub plan : MemoryPlan
+  pub is_plan : IsMemoryPlan options imports memories active passive plan
+  pub size : P (sum_by length plan.runtime)
+
+-- a plan of a translation's memories does
+abbrev pub WillHaveRuntimeSize : ImageOptions → ModuleTranslation → (ℕ → Type 0) → Type 0
+WillHaveRuntimeSize options t P =
+    HasRuntimeSize options t.module.num_imported_memories (image_memories t.module) (initializers_of t) (passive_bytes t) P
 
 -- ---- the steps
 

@@ -4,6 +4,7 @@ ghost use Rattle.init_plan.specs.Views.{TellsNothing};
 
 use std::alloc::Global;
 use std::collections::BTreeMap;
+use std::rc::Rc;
 use wasm_index::FuncIndex;
 use wasm_types::WasmValType;
 
@@ -36,7 +37,8 @@ pub struct WasmFileInfo {
 /// The metadata of a function: the types of its parameters and locals.
 #[derive(Drop)]
 pub struct FunctionMetadata {
-    pub params: Vec<WasmValType>,
+    /// One list for all functions of a type: many functions may have a wide one.
+    pub params: Rc<Vec<WasmValType>>,
     /// Runs of locals of one type, with their lengths.
     pub locals: Vec<(u32, WasmValType)>,
 }

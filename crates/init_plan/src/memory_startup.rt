@@ -8,7 +8,7 @@ ghost use Rattle.init_plan.specs.Startup.{raised, types_after, startup_kind, wit
 ghost use Rattle.std.specs.Int.{IsPowerOfTwo};
 ghost use Rattle.replay_spec.specs.Plan.{MemoryPlan, AgreesOver, left_to_write, ranges_from};
 ghost use Rattle.replay_spec.specs.Images.{IsMemoryPlan};
-ghost use Rattle.init_plan.specs.Images.{image_options, image_memories, BeginsByRule, HasTightImages, HasWholeRanges};
+ghost use Rattle.init_plan.specs.Images.{image_options, image_memories, BeginsByRule, HasTightImages, HasWholeRanges, WillHaveRuntimeSize};
 ghost use Rattle.init_plan.specs.Tables.{TableHalfIsReady};
 ghost use Rattle.init_plan.specs.Ready.{MemoryHalfIsReady};
 ghost use Rattle.init_plan.specs.Views.{memory_plan_of, images_of, processed_of, IsPlace, initializers_of, passive_data_of, passive_bytes, data_total, defined_sizes, ranges_of, FindsData, FindsInOrder, IsProcessed, OnlyMemoryInitChanges};
@@ -17,6 +17,7 @@ use crate::error::PlanError;
 use crate::translation::{MemoryInit, MemorySegmentOffset, ModuleTranslation};
 use memory_images::ImageSettings;
 use module_types::{BuildError, ModuleTypesBuilder};
+use replay_spec::memory_plan_exists_laws;
 use std::alloc::Global;
 use wasm_index::{MemoryIndex, RuntimeDataIndex};
 use wasm_module::MemoryInitialization;
@@ -77,19 +78,15 @@ impl ModuleTranslation<'_> {
 
         // Too large exactly where the runtime data of the plan pass 4294967295 bytes, whatever the builder is.
         ensures fits { OnOk result (sum_by length (memory_plan_of self.new).runtime < 2 ^ 32) }
-        ensures too_large { result ≡ Err PlanError.TooLarge → (plan : MemoryPlan) → IsMemoryPlan (image_options tunables.now page_size max_image)
-            self.old.module.num_imported_memories (image_memories self.old.module) (initializers_of self.old) (passive_bytes self.old) plan
-            → 2 ^ 32 ≤ sum_by length plan.runtime }
-        ensures large { (plan : MemoryPlan) → IsMemoryPlan (image_options tunables.now page_size max_image)
-            self.old.module.num_imported_memories (image_memories self.old.module) (initializers_of self.old) (passive_bytes self.old) plan
-            → 2 ^ 32 ≤ sum_by length plan.runtime → (result ≡ Err PlanError.TooLarge) ⊎ (result ≡ Err PlanError.OutOfMemory) }
+        ensures too_large { result ≡ Err PlanError.TooLarge → WillHaveRuntimeSize (image_options tunables.now page_size max_image) self.old (λ size. 2 ^ 32 ≤ size) }
+        ensures large { WillHaveRuntimeSize (image_options tunables.now page_size max_image) self.old (λ size. 2 ^ 32 ≤ size)
+            → (result ≡ Err PlanError.TooLarge) ⊎ (result ≡ Err PlanError.OutOfMemory) }
 
         // Poisoned where the builder was, unless another refusal came before.
         ensures usable { OnOk result (types.old.is_poisoned ≡ false) }
         ensures poisoned { result ≡ Err PlanError.Poisoned → types.old.is_poisoned ≡ true }
-        ensures poisoned_alone { (plan : MemoryPlan) → IsMemoryPlan (image_options tunables.now page_size max_image)
-            self.old.module.num_imported_memories (image_memories self.old.module) (initializers_of self.old) (passive_bytes self.old) plan
-            → sum_by length plan.runtime < 2 ^ 32 → types.old.is_poisoned ≡ true → (result ≡ Err PlanError.Poisoned) ⊎ (result ≡ Err PlanError.OutOfMemory) }
+        ensures poisoned_alone { WillHaveRuntimeSize (image_options tunables.now page_size max_image) self.old (λ size. size < 2 ^ 32)
+            → types.old.is_poisoned ≡ true → (result ≡ Err PlanError.Poisoned) ⊎ (result ≡ Err PlanError.OutOfMemory) }
 
         // Where images are off nothing is allocated before either is told.
         ensures too_large_without_images { tunables.now.memory_init_cow ≡ false → 2 ^ 32 ≤ data_total self.old → result ≡ Err PlanError.TooLarge }
@@ -99,6 +96,8 @@ impl ModuleTranslation<'_> {
         // After an error the builder is as it was, or poisoned.
         ensures refused { OnErr result ((types.new ≡ types.old) ⊎ (types.new.is_poisoned ≡ true)) }
     {
+        // What the proof rests on: it does nothing when it is run.
+        memory_plan_exists_laws();
         let settings = ImageSettings {
             enabled: tunables.memory_init_cow,
             page_size,

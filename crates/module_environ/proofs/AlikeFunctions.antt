@@ -6,7 +6,7 @@ use Rattle.std.specs.Option.{option_map}
 use Rattle.std.proofs.lemmas.List.{length-map, length-take-le, map-append, map_push}
 use Rattle.std.proofs.lemmas.List.Elements.{All-nil, All-cons, All-append, All-weaker}
 use Rattle.std.proofs.lemmas.List.FromFn.{length-enumerate_from}
-use Rattle.std.proofs.lemmas.Option.{slice_get_cases, slice_get-get_or}
+use Rattle.std.proofs.lemmas.Option.{none-some, same_Some, slice_get_cases, slice_get-get_or, slice_get-map}
 use Rattle.std.proofs.lemmas.Simd.{map-map}
 use Rattle.wasm_spec.specs.declared.types.UnpackedIndex.{UnpackedIndex}
 use Rattle.wasm_spec.specs.declared.types.UnpackedIndex.TheVariants.{Module, RecGroup, Id}
@@ -22,8 +22,9 @@ use Rattle.rule_spec.specs.TypeRules.{IsBelow, KindIsBelow, ValueIsBelow, IsDecl
 use Rattle.form_data.specs.declared.form.FunctionBody.{FunctionBody}
 use Rattle.form_data.specs.declared.form.Payload.{Payload}
 use Rattle.form_data.specs.Views.{body_of, payload_of}
+use Rattle.form_lists.specs.declared.lists.Declared as types
 use Rattle.form_lists.specs.declared.lists.Lists.{Lists}
-use Rattle.form_lists.specs.Views.{lists_of}
+use Rattle.form_lists.specs.Views.{declared_of, lists_of}
 use Rattle.form_lists.proofs.AllSections.{All-joined, All-parts, All-from_map, length_more_le}
 use Rattle.form_lists.proofs.DeclaredLists.{length-declared_from}
 use Rattle.wasm_types.specs.ValueViews.{Name, value_of as view_value}
@@ -31,7 +32,7 @@ use Rattle.wasm_convert.specs.Conversion.{LookUp}
 use Rattle.wasm_convert.specs.Known.{Known}
 use Rattle.init_plan.specs.declared.debug_info.FunctionMetadata.{FunctionMetadata}
 use Rattle.module_environ.specs.Filling.{module_in, IsGathered, LooksUpTypes}
-use Rattle.module_environ.specs.Metadata.{FunctionData, params_of, params_at, function_data, view_function}
+use Rattle.module_environ.specs.Metadata.{FunctionData, params_of, params_at, params_of_types, function_data, view_function}
 use Rattle.module_environ.specs.Types.{look_up_in}
 use Rattle.module_environ.proofs.Agreeing.{known-edges, value-alike}
 use Rattle.module_environ.proofs.BySection.{section-all}
@@ -100,16 +101,50 @@ module _ (m : plain.Module) (well : All (IsDeclaredWell (lists_of_module m)) (li
     by (inr past) =
         subst (λ o. HasParams (option_map (λ (x : Declared). x.type.composite.inner) o)) (sym past.1) (All-nil (ValueIsBelow (length l.types)))
 
-  params-declared : (f : ℕ) → All (ValueIsBelow (length l.types)) (params_at l f)
-  params-declared f = by (slice_get l.functions f) refl where
-    by : (o : Option ℕ) → slice_get l.functions f ≡ o → All (ValueIsBelow (length l.types)) (params_at l f)
-    by None e = rw e (All-nil (ValueIsBelow (length l.types)))
-    by (Some i) e = rw e (kind-params i)
-
 -- the parameters of a function are those of the kind of its type
 pub params-found : (l : rule.Lists) (f d : ℕ) → f < length l.functions
     → unwrap_or (option_map params_of (kind_at l (get_or l.functions f d))) [] ≡ params_at l f
 params-found l f d lt = rw (slice_get-get_or l.functions f d lt) refl
+
+module _ (look : LookUp) (l : rule.Lists) where
+  abbrev looked-up : Declared → List (Value Name)
+  looked-up d = map (map_value look) (params_of d.type.composite.inner)
+
+  abbrev params-at-type : ℕ → List (Value UnpackedIndex)
+  params-at-type t = unwrap_or (option_map params_of (kind_at l t)) []
+
+  by-type : (t : ℕ) (o : Option Declared) → slice_get l.types t ≡ o → slice_get (params_of_types look l) t ≡ option_map looked-up o
+  by-type t o e = slice_get-map looked-up l.types t ∙ ap (option_map looked-up) e
+
+  at-type : (t : ℕ) (o : Option Declared) → slice_get l.types t ≡ o → (ps : List (Value Name)) → slice_get (params_of_types look l) t ≡ Some ps
+      → ps ≡ map (map_value look) (params-at-type t)
+  at-type t None e ps at = absurd (none-some ps (sym (by-type t None e) ∙ at))
+  at-type t (Some d) e ps at = rw e (sym (same_Some (looked-up d) ps (sym (by-type t (Some d) e) ∙ at)))
+
+  past-types : (t : ℕ) (o : Option Declared) → slice_get l.types t ≡ o → slice_get (params_of_types look l) t ≡ None
+      → [] ≡ map (map_value look) (params-at-type t)
+  past-types t None e at = rw e refl
+  past-types t (Some d) e at = absurd (none-some (looked-up d) (sym at ∙ by-type t (Some d) e))
+
+  -- of a list that has what is looked up, the entry at the type of a function
+  module _ {X : Type 0} (see : X → List (Value Name)) (xs : List X) (listed : map see xs ≡ params_of_types look l) (f t d : ℕ)
+      (lt : f < length l.functions) (is : t ≡ get_or l.functions f d) where
+    found-at : (o : Option X) → slice_get xs t ≡ o → slice_get (params_of_types look l) t ≡ option_map see o
+    found-at o e = ap (λ ys. slice_get ys t) (sym listed) ∙ slice_get-map see xs t ∙ ap (option_map see) e
+
+    of-function : map (map_value look) (params-at-type t) ≡ map (map_value look) (params_at l f)
+    of-function = ap (λ n. map (map_value look) (params-at-type n)) is ∙ ap (map (map_value look)) (params-found l f d lt)
+
+    pub params-some : (x : X) → t < length xs → x ≡ get_or xs t x → see x ≡ map (map_value look) (params_at l f)
+    params-some x within at =
+        at-type t (slice_get l.types t) refl (see x) (found-at (Some x) (slice_get-get_or xs t x within ∙ ap Some (sym at))) ∙ of-function
+
+    pub params-none : length xs ≤ t → [] ≡ map (map_value look) (params_at l f)
+    params-none past = by (slice_get_cases xs t).1 where
+      by : ((x : X) × (t < length xs) × (slice_get xs t ≡ Some x) × (get_or xs t x ≡ x)) ⊎ ((length xs ≤ t) × (slice_get xs t ≡ None))
+          → [] ≡ map (map_value look) (params_at l f)
+      by (inl here) = let lower = here.1 in absurd (omega (arith, lower, past))
+      by (inr none) = past-types t (slice_get l.types t) refl (found-at None none.1) ∙ of-function
 
 -- ---- what was gathered
 
@@ -139,10 +174,6 @@ module _ (lists : Lists) (gathered : IsGathered lists) where
       (section-all bodies_of_section payload_of ps k p lt at P
       (subst (λ qs. All P (flat_map bodies_of_section (map payload_of qs))) (sym read) (gathered.keeps L10).bodies))
 
-  -- the parameters of a function, as they stand in what was read
-  params-read : (f : ℕ) (params : List ValType) → map value_of params ≡ params_at (lists_of lists) f → map value_of params ≡ params_at all f
-  params-read f params are = are ∙ ap (λ (r : rule.Lists). params_at r f) gathered.lists
-
   module _ (known : UnpackedIndex → Type 0) (look : LookUp) (looks : LooksUpTypes m known look) where
     abbrev KnowsValue : Value UnpackedIndex → Type 0
     KnowsValue v = Known known (value_edges (λ i. i) v)
@@ -153,12 +184,29 @@ module _ (lists : Lists) (gathered : IsGathered lists) where
 
     -- ---- parameters and locals can be converted
 
-    pub params-known : (f : ℕ) (params : List ValType) → map value_of params ≡ params_at (lists_of lists) f
-        → All (λ (ty : ValType). KnowsValue (value_of ty)) params
-    params-known f params are =
-        All-from_map KnowsValue value_of params
-        (subst (All KnowsValue) (sym (params-read f params are))
-        (All-weaker (ValueIsBelow count) KnowsValue known-value (params_at all f) (params-declared m (gathered.keeps L1) f)))
+    module _ (ds : List types.Declared) (read : ds ≡ lists.types.items) (k : ℕ) (d : types.Declared) (params : List ValType) (lt : k < length ds)
+        (at : d ≡ get_or ds k d) (are : map value_of params ≡ params_of (declared_of d).type.composite.inner) where
+      found : slice_get all.types k ≡ Some (declared_of d)
+      found = ap (λ (r : rule.Lists). slice_get r.types k) (sym gathered.lists)
+          ∙ slice_get-map declared_of lists.types.items k
+          ∙ ap (option_map declared_of) (ap (λ (xs : List types.Declared). slice_get xs k) (sym read) ∙ slice_get-get_or ds k d lt ∙ ap Some (sym at))
+
+      below : All (ValueIsBelow count) (params_of (declared_of d).type.composite.inner)
+      below = subst (λ o. All (ValueIsBelow count) (unwrap_or (option_map params_of (option_map (λ (x : Declared). x.type.composite.inner) o)) [])) found
+          (kind-params m (gathered.keeps L1) k)
+
+      pub params-known : All (λ (ty : ValType). KnowsValue (value_of ty)) params
+      params-known =
+          All-from_map KnowsValue value_of params
+          (subst (All KnowsValue) (sym are) (All-weaker (ValueIsBelow count) KnowsValue known-value (params_of (declared_of d).type.composite.inner) below))
+
+      -- what they are converted to
+      pub params-alike : map (λ (ty : ValType). map_value look (value_of ty)) params ≡ map (map_value (look_up_in m)) (params_of (declared_of d).type.composite.inner)
+      params-alike =
+          sym (map-map (map_value look) value_of params)
+          ∙ ap (map (map_value look)) are
+          ∙ map_alike (ValueIsBelow count) (map_value look) (map_value (look_up_in m)) (value-alike look (look_up_in m) count looks.same)
+          (params_of (declared_of d).type.composite.inner) below
 
     pub locals-known : (body : Body) → BodyRefersIn count body → (runs : List (ℕ × ValType)) → runs ≡ body.locals
         → All (λ (run : ℕ × ValType). KnowsValue (value_of run.1)) runs
@@ -167,15 +215,7 @@ module _ (lists : Lists) (gathered : IsGathered lists) where
         (λ run below. known-value (value_of run.1) below) runs
         (subst (All (λ (run : ℕ × ValType). ValueRefersIn count run.1)) (sym are) refers)
 
-    -- ---- what they are converted to
-
-    params-alike : (f : ℕ) (params : List ValType) → map value_of params ≡ params_at (lists_of lists) f
-        → map (λ (ty : ValType). map_value look (value_of ty)) params ≡ map (map_value (look_up_in m)) (params_at all f)
-    params-alike f params are =
-        sym (map-map (map_value look) value_of params)
-        ∙ ap (map (map_value look)) (params-read f params are)
-        ∙ map_alike (ValueIsBelow count) (map_value look) (map_value (look_up_in m)) (value-alike look (look_up_in m) count looks.same)
-        (params_at all f) (params-declared m (gathered.keeps L1) f)
+    -- ---- what locals are converted to
 
     abbrev run_of : LookUp → ℕ × ValType → ℕ × Value Name
     run_of to run = (run.0, map_value to (value_of run.1))
@@ -186,14 +226,15 @@ module _ (lists : Lists) (gathered : IsGathered lists) where
         (λ run below i. (run.0, value-alike look (look_up_in m) count looks.same (value_of run.1) below i)) body.locals refers
 
     -- so the metadata of a function is as the definition has it
-    pub metadata : (n f : ℕ) (body : Body) (params : List ValType) (runs : List (ℕ × ValType)) (z : FunctionMetadata) → BodyRefersIn count body
-        → f ≡ lists.imported_functions + n → map value_of params ≡ params_at (lists_of lists) f → runs ≡ body.locals
-        → map view_value z.params.items ≡ map (λ (ty : ValType). map_value look (value_of ty)) params
+    pub metadata : (n f : ℕ) (body : Body) (runs : List (ℕ × ValType)) (z : FunctionMetadata) → BodyRefersIn count body
+        → f ≡ lists.imported_functions + n → runs ≡ body.locals
+        → map view_value z.params.value.items ≡ map (map_value (look_up_in m)) (params_at (lists_of lists) f)
         → map {B = ℕ × Value Name} (λ run. (run.0, view_value run.1)) z.locals.items ≡ map (run_of look) runs
         → view_function z ≡ function_data (look_up_in m) all (n, body)
-    metadata n f body params runs z refers at are listed first second =
+    metadata n f body runs z refers at listed first second =
         let place : f ≡ all.imported_functions + n = at ∙ ap (λ (r : rule.Lists). r.imported_functions + n) gathered.lists in
-        let ps = first ∙ params-alike f params are ∙ ap (λ (k : ℕ). map (map_value (look_up_in m)) (params_at all k)) place in
+        let ps = first ∙ ap (λ (r : rule.Lists). map (map_value (look_up_in m)) (params_at r f)) gathered.lists
+        ∙ ap (λ (k : ℕ). map (map_value (look_up_in m)) (params_at all k)) place in
         let ls = second ∙ ap (map (run_of look)) listed ∙ locals-alike body refers in
         λ i. record { params = ps i; locals = ls i }
 

@@ -5,7 +5,7 @@ use Rattle.std.specs.Option.{option_map}
 use Rattle.wasm_spec.specs.declared.types.UnpackedIndex.{UnpackedIndex}
 use Rattle.wasm_spec.specs.TypeData.{Value, Composite, Func, value_of, map_value}
 use Rattle.wasm_spec.specs.Module.{Body}
-use Rattle.rule_spec.specs.Lists.{Lists}
+use Rattle.rule_spec.specs.Lists.{Lists, Declared}
 use Rattle.rule_spec.specs.Indices.{kind_of_function}
 use Rattle.wasm_types.specs.ValueViews.{Name, value_of as view_value}
 use Rattle.wasm_convert.specs.Conversion.{LookUp}
@@ -27,6 +27,10 @@ params_at l function = unwrap_or (option_map params_of (kind_of_function l funct
 
 -- over the lists of a module, and what its types are looked up to
 module _ (look : LookUp) (l : Lists) where
+  -- the parameters of each declared type
+  abbrev pub params_of_types : List (List (Value Name))
+  params_of_types = map (λ (d : Declared). map (map_value look) (params_of d.type.composite.inner)) l.types
+
   -- of a defined function, by its number among those, and its body
   abbrev pub function_data : ℕ × Body → FunctionData
   function_data f = record {
@@ -44,4 +48,4 @@ module _ (look : LookUp) (l : Lists) where
 
 -- as a translation has it
 abbrev pub view_function : FunctionMetadata → FunctionData
-view_function f = record { params = map view_value f.params.items; locals = map (λ run. (run.0, view_value run.1)) f.locals.items }
+view_function f = record { params = map view_value f.params.value.items; locals = map (λ run. (run.0, view_value run.1)) f.locals.items }

@@ -10,7 +10,7 @@ ghost use Rattle.form_lists.specs.Views.{lists_of};
 ghost use Rattle.wasm_types.specs.ValueViews.{Name, value_of as view_value};
 ghost use Rattle.wasm_convert.specs.Known.{Known};
 ghost use Rattle.module_environ.specs.Filling.{module_in, IsGathered, LooksUpTypes};
-ghost use Rattle.module_environ.specs.Metadata.{params_of, params_at, function_data, view_function, functions_asked};
+ghost use Rattle.module_environ.specs.Metadata.{params_of, params_at, params_of_types, function_data, view_function, functions_asked};
 ghost use Rattle.module_environ.specs.Types.{look_up_in};
 
 use entity_map::OutOfMemory;
@@ -18,6 +18,7 @@ use form_data::{CompositeInnerType, FunctionBody};
 use form_lists::{Lists, bodies_of};
 use init_plan::FunctionMetadata;
 use std::alloc::Global;
+use std::rc::Rc;
 use wasm_convert::TypeConvert;
 use wasm_spec::ValType;
 use wasm_types::WasmValType;
@@ -38,10 +39,40 @@ pub(crate) fn function_metadata(
     if !asked {
         return Ok(all);
     }
+    let by_type = params_by_type(alloc, env, lists)?;
     for payload in &lists.form.payloads {
-        add_functions(alloc, env, lists, bodies_of(payload), &mut all)?;
+        add_functions(alloc, env, lists, &by_type, bodies_of(payload), &mut all)?;
     }
     Ok(all)
+}
+
+/// The parameters of each declared type, which its functions share: a copy for each function could take the square of the input.
+fn params_by_type(
+    alloc: Global,
+    env: &dyn TypeConvert,
+    lists: &Lists<'_, '_>,
+) -> Result<Vec<Rc<Vec<WasmValType>>>, OutOfMemory>
+    requires gathered { IsGathered lists.now }
+    requires looks { LooksUpTypes (module_in lists.now) (knows env.now) (look_up env.now) }
+    ensures { IfOk result (λ all. map (λ params. map view_value params.value.items) all.items
+        ≡ params_of_types (look_up_in (module_in lists.now)) (lists_of lists.now)) }
+{
+    let mut all = Vec::with_capacity(alloc, lists.types.len())?;
+    for declared in &lists.types {
+        let params = convert_types(alloc, env, kind_params(&declared.ty.composite))?;
+        all.push(shared(alloc, params)?)?;
+    }
+    Ok(all)
+}
+
+/// The list, which may have several owners now.
+fn shared(alloc: Global, params: Vec<WasmValType>) -> Result<Rc<Vec<WasmValType>>, OutOfMemory>
+    ensures { IfOk result (λ list. list.value ≡ params) }
+{
+    match Rc::new(alloc, params) {
+        Ok(list) => Ok(list),
+        Err(_) => Err(OutOfMemory),
+    }
 }
 
 /// Adds the metadata of the functions of these bodies, which follow on those before.
@@ -49,11 +80,14 @@ fn add_functions(
     alloc: Global,
     env: &dyn TypeConvert,
     lists: &Lists<'_, '_>,
+    by_type: &[Rc<Vec<WasmValType>>],
     bodies: &[FunctionBody<'_>],
     all: &mut Vec<FunctionMetadata>,
 ) -> Result<(), OutOfMemory>
     requires gathered { IsGathered lists.now }
     requires looks { LooksUpTypes (module_in lists.now) (knows env.now) (look_up env.now) }
+    requires by_type { map (λ params. map view_value params.value.items) by_type.now
+        ≡ params_of_types (look_up_in (module_in lists.now)) (lists_of lists.now) }
     requires refer { All (BodyRefersIn (length (lists_of_module (module_in lists.now)).types)) (map body_of bodies.now) }
     requires counted { lists.now.imported_functions + length all.old.items + length bodies.now ≤ length lists.now.spaces.functions.items }
     ensures { OnOk result (map view_function all.new.items ≡ map view_function all.old.items
@@ -61,23 +95,31 @@ fn add_functions(
         (enumerate_from (length all.old.items) (map body_of bodies.now))) }
 {
     for body in bodies {
-        let params = function_params(lists, lists.imported_functions + all.len());
+        let function = lists.imported_functions + all.len();
         all.push(FunctionMetadata {
-            params: convert_types(alloc, env, params)?,
+            params: function_params(alloc, lists, by_type, function)?,
             locals: convert_locals(alloc, env, &body.locals)?,
         })?;
     }
     Ok(())
 }
 
-/// The parameters of a function of the index space.
-fn function_params<'l>(lists: &'l Lists<'_, '_>, function: usize) -> &'l [ValType]
-    requires { function < length lists.now.spaces.functions.items }
-    ensures { map value_of result.now ≡ params_at (lists_of lists.now) function }
+/// The parameters of a function of the index space, which are those of its type.
+fn function_params(
+    alloc: Global,
+    lists: &Lists<'_, '_>,
+    by_type: &[Rc<Vec<WasmValType>>],
+    function: usize,
+) -> Result<Rc<Vec<WasmValType>>, OutOfMemory>
+    requires there { function < length lists.now.spaces.functions.items }
+    requires by_type { map (λ params. map view_value params.value.items) by_type.now
+        ≡ params_of_types (look_up_in (module_in lists.now)) (lists_of lists.now) }
+    ensures { IfOk result (λ params. map view_value params.value.items
+        ≡ map (map_value (look_up_in (module_in lists.now))) (params_at (lists_of lists.now) function)) }
 {
-    match lists.kind_at(lists.spaces.functions[function]) {
-        Some(kind) => kind_params(kind),
-        None => &[],
+    match by_type.get(lists.spaces.functions[function] as usize) {
+        Some(params) => Ok(params.clone()?),
+        None => shared(alloc, Vec::new(alloc)),
     }
 }
 

@@ -8,11 +8,11 @@ use Rattle.replay_spec.specs.Plan.{MemoryPlan, ranges_from}
 use Rattle.init_plan.specs.declared.translation.ModuleTranslation.{ModuleTranslation}
 use Rattle.init_plan.specs.Views.{initializers_of, passive_data_of, memory_plan_of, ranges_of, FindsData, FindsInOrder, IsProcessed}
 use Rattle.init_plan.specs.Views as held
-use Rattle.init_plan.specs.Images.{image_memories, BeginsByRule, HasTightImages, HasWholeRanges}
+use Rattle.init_plan.specs.Images.{image_memories, BeginsByRule, HasTightImages, HasWholeRanges, HasRuntimeSize, WillHaveRuntimeSize}
 use Rattle.init_plan.specs.Held.{HoldsMemories}
 use Rattle.init_plan.specs.Tables.{OnlyTableInitChanges}
 use Rattle.module_environ.specs.Initialisers.{passive_data_from}
-use Rattle.translate.specs.Options.{InitOptions, images, passive_bytes, BecomesImages, PlansMemories}
+use Rattle.translate.specs.Options.{InitOptions, images, passive_bytes, BecomesImages, HasDataSize}
 use Rattle.translate.specs.Initialised.{InitialisesMemories}
 use Rattle.translate.proofs.Segments.{finds}
 use Rattle.translate.proofs.Unchanged.{with_tables}
@@ -57,10 +57,9 @@ module _ (i : InitOptions) (m : Module) (old : ModuleTranslation) (has : HoldsDa
       → P old.module.num_imported_memories (image_memories old.module) (initializers_of old) (held.passive_bytes old)
   from_module P h = moved P _ _ _ _ _ _ _ _ (sym has.holds.imports) (sym has.memories) (sym has.holds.active) (sym passive_same) h
 
-  -- a plan of the module is one of the translation
-  pub plans_held : (plan : MemoryPlan) → PlansMemories i m plan
-      → IsMemoryPlan (images i) old.module.num_imported_memories (image_memories old.module) (initializers_of old) (held.passive_bytes old) plan
-  plans_held plan h = from_module (λ n ms ss ps. IsMemoryPlan (images i) n ms ss ps plan) h
+  -- the runtime data of both have the same sizes
+  pub data_size : (P : ℕ → Type 0) → WillHaveRuntimeSize (images i) old P → HasDataSize i m P
+  data_size P h = to_module (λ n ms active passive. HasRuntimeSize (images i) n ms active passive P) h
 
   module _ (mid new : ModuleTranslation) (tell : MemoriesTell i old mid) where
     becomes : IsStatic (images i) old.module.num_imported_memories (image_memories old.module) (initializers_of old) → BecomesImages i m

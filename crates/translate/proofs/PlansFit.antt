@@ -18,13 +18,13 @@ use Rattle.translate.proofs.OnePlan.{SameMemories, same-memories, same-tables, s
 
 module _ (o : Options) (m : Module) (p q : MemoryPlan) (s t : TablePlan) (is_p : PlansMemories o.init m p) (is_q : PlansMemories o.init m q)
     (is_s : PlansTables o.init m s) (is_t : PlansTables o.init m t) where
-  one-memories : SameMemories p q
+  pub one-memories : SameMemories p q
   one-memories = same-memories _ _ _ _ _ p q is_p is_q
 
-  one-startup : startup_by m p s ≡ startup_by m q t
+  pub one-startup : startup_by m p s ≡ startup_by m q t
   one-startup = same-startup (lists_of_module m) p q s t one-memories (same-tables _ _ _ _ s t is_s is_t)
 
-  one-context : context_of o m p s ≡ context_of o m q t
+  pub one-context : context_of o m p s ≡ context_of o m q t
   one-context = λ i. record (context_of o m p s) { num_runtime_data = length (one-memories.runtime i); has_startup_func = runs (one-startup i) }
 
   interned-too : (type : WasmSubType) → IsInterned o m p s type → IsInterned o m q t type

@@ -1,5 +1,5 @@
 -- Why the plans of memories and tables fail, as why the whole does.
-use Rattle.std.proofs.Common.{◌≡◌, ◌≤◌, ◌^◌, ℕ, List, length, refl, sym, subst, inr, arith}
+use Rattle.std.proofs.Common.{◌≡◌, ℕ, List, length, refl, sym, ap, subst, inr, arith}
 use Rattle.std.specs.Prelude.{sum_by}
 use Rattle.wasm_spec.specs.Module.{Module}
 use Rattle.rule_spec.specs.Rules.{Keeps}
@@ -11,6 +11,7 @@ use Rattle.plan.specs.declared.error.TranslateError.TheVariants as refusal
 use Rattle.translate.specs.Options.{InitOptions, Options}
 use Rattle.translate.specs.Planned.{HasMuchData, HasCause}
 use Rattle.translate.specs.Valid.{CanBeInitialised}
+use Rattle.translate.proofs.OnePlan.{same-memories}
 
 -- the memories have no plan
 pub memories_cause : (i : InitOptions) (o : Options) (bytes : List ℕ) (m : Module) (e : PlanError) → o.init ≡ i → IsReadable bytes m → Keeps m
@@ -24,9 +25,9 @@ memories_cause i o bytes m plan.Poisoned is read keeps much = tt
 pub memories_complete : (i : InitOptions) (bytes : List ℕ) (m : Module) (e : PlanError) (can : CanBeInitialised i bytes) → can.meaning ≡ m
     → (e ≡ plan.TooLarge → HasMuchData i m) → error_of_plan e ≡ refusal.OutOfMemory
 memories_complete i bytes m plan.TooLarge can same much =
-    let large : 2 ^ 32 ≤ sum_by length can.memories.runtime =
-    (subst (HasMuchData i) (sym same) (much refl)) can.memories can.memory_plan in
-    absurd (omega (arith, large, can.runtime))
+    let large = subst (HasMuchData i) (sym same) (much refl) in
+    let one = ap (sum_by length) (same-memories _ _ _ _ _ large.plan can.memories large.is_plan can.memory_plan).runtime in
+    absurd (omega (arith, large.size, one, can.runtime))
 memories_complete i bytes m plan.OutOfMemory can same much = refl
 memories_complete i bytes m plan.Poisoned can same much = refl
 

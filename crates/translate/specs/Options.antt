@@ -10,7 +10,7 @@ use Rattle.replay_spec.specs.Plan.{MemoryPlan}
 use Rattle.replay_spec.specs.Startup.{Startup, Never, Always, IfMemoriesNeedInit, startup_of}
 use Rattle.replay_spec.specs.Tables.{TablePlan, IsTablePlan}
 use Rattle.init_plan.specs.Held.{erased_table, erased_elements}
-use Rattle.init_plan.specs.Images.{image_options}
+use Rattle.init_plan.specs.Images.{image_options, HasRuntimeSize}
 use Rattle.module_environ.specs.Initialisers.{passive_data_from}
 use Rattle.command_words.specs.declared.command.Collector.{Collector}
 use Rattle.command_words.specs.declared.command.Collector.TheVariants.{Drc, Null}
@@ -59,6 +59,11 @@ module _ (i : InitOptions) (m : Module) where
   -- a plan of its memories
   abbrev pub PlansMemories : MemoryPlan → Type 0
   PlansMemories plan = IsMemoryPlan (images i) (length (imported_memories m)) (map image_memory_of (defined_memories m)) (active_segments m) (passive_bytes m) plan
+
+  -- its runtime data have so many bytes as a fact says
+  abbrev pub HasDataSize : (ℕ → Type 0) → Type 0
+  HasDataSize P =
+      HasRuntimeSize (images i) (length (imported_memories m)) (map image_memory_of (defined_memories m)) (active_segments m) (passive_bytes m) P
 
   -- a plan of its tables; of an expression that is kept, the heap type of a null reference is not
   abbrev pub PlansTables : TablePlan → Type 0

@@ -1,5 +1,5 @@
 -- What a plan says of a module, and why there is none.
-use Rattle.std.specs.Prelude.{◌≡◌, ◌⊎◌, ◌↔◌, ℕ, ◌^◌, ◌<◌, ◌≤◌, List, length, map, sum_by, Option, None, option_map, Result, Ok, Err}
+use Rattle.std.specs.Prelude.{◌≡◌, ◌⊎◌, ◌↔◌, ℕ, ◌^◌, ◌<◌, ◌≤◌, List, length, map, Option, None, option_map, Result, Ok, Err}
 use Rattle.wasm_spec.specs.Module as plain
 use Rattle.wasm_spec.specs.Module.{Module}
 use Rattle.wasm_spec.specs.Grammar.{Spells, Stops}
@@ -7,7 +7,6 @@ use Rattle.wasm_spec.specs.declared.operators.What.{What}
 use Rattle.type_spec.specs.Equality.{SameType}
 use Rattle.type_spec.specs.Taken.{SameLists}
 use Rattle.rule_spec.specs.Rules.{Keeps}
-use Rattle.replay_spec.specs.Plan.{MemoryPlan}
 use Rattle.form_types.specs.Placed.{placed_groups}
 use Rattle.wasm_types.specs.declared.func.WasmFuncType.{WasmFuncType}
 use Rattle.module_types.specs.Views.{TypeIndex}
@@ -21,7 +20,7 @@ use Rattle.module_environ.specs.Types.{interned_list, interned_at}
 use Rattle.plan.specs.declared.plan.Plan.{Plan}
 use Rattle.plan.specs.declared.error.TranslateError.{TranslateError}
 use Rattle.plan.specs.declared.error.TranslateError.TheVariants as refusal
-use Rattle.translate.specs.Options.{InitOptions, Options, header_size, startup_by, runs, PlansMemories}
+use Rattle.translate.specs.Options.{InitOptions, Options, header_size, startup_by, runs, HasDataSize}
 use Rattle.translate.specs.Contexts.{context_of, HasSizes, Overflows}
 use Rattle.translate.specs.Initialised.{IsInitialised}
 
@@ -60,7 +59,7 @@ pub record KeepsAnd (bytes : List ℕ) (P : Module → Type 0) : Type 0 where
 
 -- the runtime data of the module pass 4294967295 bytes
 abbrev pub HasMuchData : InitOptions → Module → Type 0
-HasMuchData i m = (plan : MemoryPlan) → PlansMemories i m plan → 2 ^ 32 ≤ sum_by length plan.runtime
+HasMuchData i m = HasDataSize i m (λ size. 2 ^ 32 ≤ size)
 
 -- why the bytes are refused
 abbrev pub HasCause : Options → List ℕ → TranslateError → Type 0

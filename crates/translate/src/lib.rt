@@ -3,6 +3,7 @@
 
 mod answering;
 mod initialising;
+mod laws;
 mod layouts;
 mod running;
 mod status;
@@ -12,6 +13,7 @@ pub use command_words::{Collector, Command, read_words};
 pub use devices::{
     CountSink, Failed, ListSink, ListSource, OutOfMemory, Sink, SliceSource, Source,
 };
+pub use laws::sizes_law;
 pub use module_generator::generate;
 pub use plan::{Plan, TranslateError};
 pub use plan_text::{plan_text, refusal_line, summary_text};

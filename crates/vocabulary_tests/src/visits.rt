@@ -73,6 +73,29 @@ fn visited<T: TypeTrace>(
     Ok(edges)
 }
 
+// How many edges of a type are visited up to one at which the visit stops.
+fn visits_up_to(func: &WasmFuncType, last: EngineOrModuleTypeIndex) -> Option<u32> {
+    let mut visits = 0u32;
+    let answer = func.trace(&mut |edge: EngineOrModuleTypeIndex| -> Result<(), ()> {
+        visits = visits.saturating_add(1);
+        if edge == last {
+            return Err(());
+        }
+        Ok(())
+    });
+    answer.is_err().then_some(visits)
+}
+
+#[test]
+fn stop_ends_the_visits(rt: HostRuntime) -> Result<(), Fail> {
+    let two = WasmFuncType::new(rt.alloc(), &two_functions(), &[])?;
+    assert_eq!(rt; visits_up_to(&two, module_type(1)), Some(2));
+    assert_eq!(rt; visits_up_to(&two, module_type(2)), None);
+    let three = WasmFuncType::new(rt.alloc(), &two_functions(), &[function_reference(2)])?;
+    assert_eq!(rt; visits_up_to(&three, module_type(1)), Some(2));
+    Ok(())
+}
+
 #[test]
 fn stop_leaves_the_first_rewritten(rt: HostRuntime) -> Result<(), Fail> {
     let mut func = WasmFuncType::new(rt.alloc(), &two_functions(), &[])?;

@@ -5,7 +5,7 @@ use Rattle.form_reader.proofs.OperatorList.{op_more, op_end, op_fails, op_shorte
 use Rattle.form_reader.proofs.expressions.expression.Goals as goal
 
 pub loop-first-init : goal.loop-first-init
-loop-first-init c = rw c.new-ops.ensures.items (all_so_far (expression_at c.args.bytes.now))
+loop-first-init c = rw c.in_ok-ops.ensures.items (all_so_far (expression_at c.args.bytes.now))
 
 pub returns-then-first-eq-END : goal.returns-then-first-eq-END
 returns-then-first-eq-END c = op_end c.loop-first.ops.items c.loop-first.rest.now _ c.loop-first.invariant c.in-Some.first
@@ -13,7 +13,7 @@ returns-then-first-eq-END c = op_end c.loop-first.ops.items c.loop-first.rest.no
 
 pub returns-in_err-op : goal.returns-in_err-op
 returns-in_err-op c =
-    let p = err_from_is_err_and c.from_residual.result c.from_residual.ensures.1 in
+    let p = err_from_is_err_and c.from_residual-in_err-op.result c.from_residual-in_err-op.ensures.1 in
     rw (p.1, p.2) (op_fails c.loop-first.ops.items c.loop-first.rest.now
     (expression_at c.args.bytes.now) c.loop-first.invariant c.in-Some.first c.in-Some.after.now c.in-Some.ensures c.in_err-op.field-0.0
     c.if-first-eq-END.false c.in_err-op.ensures)

@@ -4,11 +4,11 @@ use Rattle.form_reader.proofs.CountedSteps.{at_start, fails, no_memory, more, is
 use Rattle.form_reader.proofs.vectors.counted.Goals as goal
 
 pub parts-init : goal.parts-init
-parts-init g c = λ r h. at_start _ c.args.count c.args.bytes.now [] r (rw (← c.new-all.ensures.items) h)
+parts-init g c = λ r h. at_start _ c.args.count c.args.bytes.now [] r (rw (← c.in_ok-all.ensures.items) h)
 
 pub returns-in_err-one : goal.returns-in_err-one
 returns-in_err-one g c =
-    let p = err_from_is_err_and c.from_residual.result c.from_residual.ensures.1 in
+    let p = err_from_is_err_and c.from_residual-in_err-one.result c.from_residual-in_err-one.ensures.1 in
     c.parts.invariant _ (fails _ c.args.count c.parts.counter c.parts.rest c.parts.all.items c.in_err-one.field-0.0 _ c.parts-test.true
     c.in_err-one.ensures (p.1 ∙ ap Err p.2))
 

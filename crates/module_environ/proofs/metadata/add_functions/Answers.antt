@@ -7,15 +7,9 @@ use Rattle.init_plan.specs.declared.debug_info.FunctionMetadata.{FunctionMetadat
 use Rattle.module_environ.specs.Filling.{module_in}
 use Rattle.module_environ.specs.Metadata.{function_data, view_function}
 use Rattle.module_environ.specs.Types.{look_up_in}
-use Rattle.module_environ.proofs.AlikeFunctions.{params-known, locals-known, metadata, metadata_more}
+use Rattle.module_environ.proofs.AlikeFunctions.{locals-known, metadata, metadata_more}
 use Rattle.module_environ.proofs.BySection.{at-item}
 use Rattle.module_environ.proofs.metadata.add_functions.Goals as goal
-
-pub convert_types-requires : goal.convert_types-requires
-convert_types-requires g c =
-    let look = goal.TypeConvert-dyn g c.args.env.now in
-    params-known c.args.lists.now c.requires.gathered (look.knows c.args.env.now.1) (look.look_up c.args.env.now.1) c.requires.looks
-    _ c.function_params-params.result.now c.function_params-params.ensures
 
 pub convert_locals-requires : goal.convert_locals-requires
 convert_locals-requires g c =
@@ -34,12 +28,12 @@ loop-body-preserved g c =
     let body = c.body-item.result in
     let k = c.loop-body.body-index in
     let before = c.args.all.now.items in
-    let z : FunctionMetadata = record { params = c.in_ok-convert_types.field-0; locals = c.in_ok-convert_locals.field-0 } in
+    let z : FunctionMetadata = record { params = c.in_ok-function_params.field-0; locals = c.in_ok-convert_locals.field-0 } in
     let one = metadata lists c.requires.gathered (look.knows c.args.env.now.1) (look.look_up c.args.env.now.1) c.requires.looks
-    (length before + k) (lists.imported_functions + c.len.result) (body_of body) c.function_params-params.result.now c.deref.result.now z
+    (length before + k) (lists.imported_functions + c.len.result) (body_of body) c.deref.result.now z
     (at-item refers body_of c.args.bodies.now k body c.loop-body-test.true c.body-item.is c.requires.refer)
-    (omega (arith, c.loop-body.invariant.counted, c.len.ensures)) c.function_params-params.ensures c.deref.ensures.value
-    c.in_ok-convert_types.ensures c.in_ok-convert_locals.ensures in
+    (omega (arith, c.loop-body.invariant.counted, c.len.ensures)) c.deref.ensures.value
+    c.in_ok-function_params.ensures c.in_ok-convert_locals.ensures in
     record {
       metadata = metadata_more view_function (function_data (look_up_in (module_in lists)) (lists_of_module (module_in lists))) before
           c.loop-body.all.items c.push.new.self.items z c.args.bodies.now k body c.loop-body-test.true c.body-item.is one

@@ -1,17 +1,16 @@
-use Rattle.std.proofs.Common.{◌≡◌, ap, ◌∙◌, refl, Bor, Err, rules}
+use Rattle.std.proofs.Common.{◌≡◌, ◌≤◌, ◌^◌, ap, ◌∙◌, refl, Bor, Err, rules}
 use Rattle.std.proofs.lemmas.Result.{err_from_is_err_and}
 use Rattle.rule_spec.specs.declared.rules.Rule.TheVariants.{L6}
 use Rattle.wasm_index.specs.Index.{index_of}
 use Rattle.wasm_types.specs.declared.tunables.Tunables.{Tunables}
-use Rattle.replay_spec.specs.Plan.{MemoryPlan}
 use Rattle.module_types.specs.Builder.{Builder, BuilderState}
 use Rattle.init_plan.specs.Views.{memory_plan_of}
 use Rattle.init_plan.specs.Tables.{plan_of_tables}
 use Rattle.init_plan.specs.declared.error.PlanError.TheVariants as plan
 use Rattle.plan.specs.Errors.{error_of_translation}
-use Rattle.translate.specs.Options.{init_options, PlansMemories}
+use Rattle.translate.specs.Options.{init_options}
 use Rattle.translate.proofs.AllPlanned.{translated_with, started, room, started_memories, holds_data, all_planned}
-use Rattle.translate.proofs.PlannedMemories.{plans_held}
+use Rattle.translate.proofs.PlannedMemories.{data_size}
 use Rattle.translate.proofs.PlannedTables.{holds_still}
 use Rattle.translate.proofs.Refusals.{memories_cause, memories_complete, tables_error}
 use Rattle.translate.proofs.Started.{has_room}
@@ -49,8 +48,8 @@ returns-in-Err-clause-cause c =
     (ap (λ r. r.now) c.in_ok-environment.ensures.validator ∙ c.requires.number) refl c.in_ok-translation.ensures.translated in
     let held = c.held_agreement_laws.ensures.memories told.meaning old told.ready.holds_memories in
     let e = c.in-Err in
-    let much = λ (is : e.error ≡ plan.TooLarge) (planned : MemoryPlan) (h : PlansMemories i told.meaning planned).
-    c.finalize_memory_init.ensures.too_large (e.is ∙ ap Err is) planned (plans_held i told.meaning old (holds_data i bytes old _ told held) planned h) in
+    let much = λ (is : e.error ≡ plan.TooLarge). data_size i told.meaning old (holds_data i bytes old _ told held) (λ size. 2 ^ 32 ≤ size)
+    (c.finalize_memory_init.ensures.too_large (e.is ∙ ap Err is)) in
     rw c.into.ensures (λ o same. memories_cause i o bytes told.meaning e.error same told.read told.keeps much)
 
 pub returns-in-Err-clause-complete : goal.returns-in-Err-clause-complete
@@ -63,8 +62,8 @@ returns-in-Err-clause-complete c = λ can.
     (ap (λ r. r.now) c.in_ok-environment.ensures.validator ∙ c.requires.number) refl c.in_ok-translation.ensures.translated in
     let held = c.held_agreement_laws.ensures.memories told.meaning old told.ready.holds_memories in
     let e = c.in-Err in
-    let much = λ (is : e.error ≡ plan.TooLarge) (planned : MemoryPlan) (h : PlansMemories i told.meaning planned).
-    c.finalize_memory_init.ensures.too_large (e.is ∙ ap Err is) planned (plans_held i told.meaning old (holds_data i bytes old _ told held) planned h) in
+    let much = λ (is : e.error ≡ plan.TooLarge). data_size i told.meaning old (holds_data i bytes old _ told held) (λ size. 2 ^ 32 ≤ size)
+    (c.finalize_memory_init.ensures.too_large (e.is ∙ ap Err is)) in
     let one = c.spelling_is_unique.ensures.one_module bytes can.meaning told.meaning can.read.spelled told.read.spelled in
     c.into.ensures ∙ memories_complete i bytes told.meaning e.error can one much
 

@@ -1,5 +1,7 @@
-use Rattle.std.proofs.Common.{sym, subst, arith}
+use Rattle.std.proofs.Common.{◌≡◌, ◌∙◌, Err, sym, ap, subst, arith}
+use Rattle.std.proofs.lemmas.Result.{err_from_is_err_and}
 use Rattle.replay_spec.specs.Plan.{AgreesOver}
+use Rattle.init_plan.specs.declared.error.PlanError.TheVariants as plan
 use Rattle.init_plan.specs.declared.translation.ModuleTranslation.{ModuleTranslation}
 use Rattle.init_plan.specs.Images.{image_options, image_memories, BeginsByRule, HasWholeRanges}
 use Rattle.init_plan.specs.Views.{memory_plan_of, ranges_of, initializers_of, passive_bytes, defined_sizes, FindsInOrder, passive_data_of}
@@ -40,14 +42,26 @@ returns-clause-in_order c =
 
 -- the runtime data of every plan fit, once there are images
 pub returns-then-is_poisoned-clause-large : goal.returns-then-is_poisoned-clause-large
-returns-then-is_poisoned-clause-large c = λ plan is large.
+returns-then-is_poisoned-clause-large c = λ much.
     let fits = fits_sized (image_options c.args.tunables.now c.args.page_size c.args.max_image) c.args.self.now c.requires.ready c.in_ok-images.images
-    c.in_ok-images.ensures.sized plan is in absurd (omega (arith, fits, large))
+    c.in_ok-images.ensures.sized much.plan much.is_plan in absurd (omega (arith, fits, much.size))
 
 pub returns-clause-large : goal.returns-clause-large
-returns-clause-large c = λ plan is large.
+returns-clause-large c = λ much.
     let fits = fits_sized (image_options c.args.tunables.now c.args.page_size c.args.max_image) c.args.self.now c.requires.ready c.in_ok-images.images
-    c.in_ok-images.ensures.sized plan is in absurd (omega (arith, fits, large))
+    c.in_ok-images.ensures.sized much.plan much.is_plan in absurd (omega (arith, fits, much.size))
+
+-- there is a plan, and its runtime data are too large as those of each are
+pub returns-in_err-images-clause-too_large : goal.returns-in_err-images-clause-too_large
+returns-in_err-images-clause-too_large c = λ is.
+    let old = c.args.self.now in
+    let some = c.memory_plan_exists_laws.ensures.plan (image_options c.args.tunables.now c.args.page_size c.args.max_image) old.module.num_imported_memories
+    (image_memories old.module) (initializers_of old) (passive_bytes old) in
+    let p = err_from_is_err_and c.from_residual.result c.from_residual.ensures.1 in
+    let whole = sym p.1 ∙ is in
+    let part = p.2 in
+    let same : c.in_err-images.field-0.0 ≡ plan.TooLarge = cc in
+    record { plan = some.0; is_plan = some.1; size = c.in_err-images.ensures.too_large (ap Err same) some.0 some.1 }
 
 -- where images are off only the size is refused
 pub returns-in_err-images-clause-poisoned_without_images : goal.returns-in_err-images-clause-poisoned_without_images
