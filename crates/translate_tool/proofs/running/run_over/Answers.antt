@@ -1,0 +1,23 @@
+use Rattle.std.proofs.Common.{sym, ap, ◌∙◌}
+use Rattle.translate_tool.proofs.Reports.{has_refused, has_printed_part}
+use Rattle.translate_tool.proofs.running.run_over.Goals as goal
+
+pub returns-clause-refused : goal.returns-clause-refused
+returns-clause-refused g c = λ ended.
+    let done = c.run.ensures.refused (sym c.end_of-exit.ensures ∙ ended) in
+    rw (← ap (λ s. s.told) c.new-source.ensures, ← ap (λ s. s.told) c.new-sink.ensures) (record {
+      command = done.command;
+      named = done.named;
+      holds = has_refused done.command c.new-source.result.told c.run.new.source.told c.new-sink.result.told c.run.new.sink.told c.run.result.bytes.now
+      (c.run.ensures.bytes done.command done.named) c.run.result.plan c.run.result.refusal (c.run.ensures.within done.command done.named) done.holds;
+    })
+
+pub returns-clause-cut_short : goal.returns-clause-cut_short
+returns-clause-cut_short g c = λ ended.
+    let done = c.run.ensures.cut_short (sym c.end_of-exit.ensures ∙ ended) in
+    rw (← ap (λ s. s.told) c.new-source.ensures, ← ap (λ s. s.told) c.new-sink.ensures) (record {
+      command = done.command;
+      named = done.named;
+      holds = has_printed_part done.command c.new-source.result.told c.run.new.source.told c.new-sink.result.told c.run.new.sink.told c.run.result.bytes.now
+      (c.run.ensures.bytes done.command done.named) c.run.result.plan c.run.result.refusal (c.run.ensures.within done.command done.named) done.holds;
+    })
