@@ -1,11 +1,14 @@
-use Rattle.std.proofs.Common.{sym, ap, ◌∙◌}
+use Rattle.std.proofs.Common.{◌≡◌, refl, sym, ◌∙◌}
+use Rattle.translate_tool.specs.Telling.{told_if}
 use Rattle.translate_tool.proofs.Reports.{has_refused, has_printed_part}
 use Rattle.translate_tool.proofs.running.run_over.Goals as goal
 
 pub returns-clause-refused : goal.returns-clause-refused
 returns-clause-refused g c = λ ended.
     let done = c.run.ensures.refused (sym c.end_of-exit.ensures ∙ ended) in
-    rw (← ap (λ s. s.told) c.new-source.ensures, ← ap (λ s. s.told) c.new-sink.ensures) (record {
+    let reads : c.new-source.result.told ≡ told_if g.T.Telling.reads (g.R.Read.remaining c.args.reader) = rw c.new-source.ensures refl in
+    let writes : c.new-sink.result.told ≡ told_if g.T.Telling.writes (g.W.Write.contents c.args.writer) = rw c.new-sink.ensures refl in
+    rw (← reads, ← writes) (record {
       command = done.command;
       named = done.named;
       holds = has_refused done.command c.new-source.result.told c.run.new.source.told c.new-sink.result.told c.run.new.sink.told c.run.result.bytes.now
@@ -15,7 +18,9 @@ returns-clause-refused g c = λ ended.
 pub returns-clause-cut_short : goal.returns-clause-cut_short
 returns-clause-cut_short g c = λ ended.
     let done = c.run.ensures.cut_short (sym c.end_of-exit.ensures ∙ ended) in
-    rw (← ap (λ s. s.told) c.new-source.ensures, ← ap (λ s. s.told) c.new-sink.ensures) (record {
+    let reads : c.new-source.result.told ≡ told_if g.T.Telling.reads (g.R.Read.remaining c.args.reader) = rw c.new-source.ensures refl in
+    let writes : c.new-sink.result.told ≡ told_if g.T.Telling.writes (g.W.Write.contents c.args.writer) = rw c.new-sink.ensures refl in
+    rw (← reads, ← writes) (record {
       command = done.command;
       named = done.named;
       holds = has_printed_part done.command c.new-source.result.told c.run.new.source.told c.new-sink.result.told c.run.new.sink.told c.run.result.bytes.now
