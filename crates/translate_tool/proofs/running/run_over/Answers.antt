@@ -12,7 +12,7 @@ returns-clause-success g c = λ ended.
       command = done.command;
       named = done.named;
       holds = has_planned done.command c.new-source.result.told c.run.new.source.told c.new-sink.result.told c.run.new.sink.told c.run.result.bytes.now
-      (c.run.ensures.bytes done.command done.named) c.run.result.plan c.run.result.refusal done.holds;
+          (c.run.ensures.bytes done.command done.named) c.run.result.plan c.run.result.refusal done.holds;
     })
 
 pub returns-clause-refused : goal.returns-clause-refused
@@ -24,7 +24,7 @@ returns-clause-refused g c = λ ended.
       command = done.command;
       named = done.named;
       holds = has_refused done.command c.new-source.result.told c.run.new.source.told c.new-sink.result.told c.run.new.sink.told c.run.result.bytes.now
-      (c.run.ensures.bytes done.command done.named) c.run.result.plan c.run.result.refusal (c.run.ensures.within done.command done.named) done.holds;
+          (c.run.ensures.bytes done.command done.named) c.run.result.plan c.run.result.refusal (c.run.ensures.within done.command done.named) done.holds;
     })
 
 pub returns-clause-cut_short : goal.returns-clause-cut_short
@@ -36,7 +36,7 @@ returns-clause-cut_short g c = λ ended.
       command = done.command;
       named = done.named;
       holds = has_printed_part done.command c.new-source.result.told c.run.new.source.told c.new-sink.result.told c.run.new.sink.told c.run.result.bytes.now
-      (c.run.ensures.bytes done.command done.named) c.run.result.plan c.run.result.refusal (c.run.ensures.within done.command done.named) done.holds;
+          (c.run.ensures.bytes done.command done.named) c.run.result.plan c.run.result.refusal (c.run.ensures.within done.command done.named) done.holds;
     })
 
 pub returns-clause-usage : goal.returns-clause-usage
