@@ -1,45 +1,83 @@
 //! Standard input as a source, and standard output as a sink.
 
 ghost use Rattle.std.specs.Prelude.{◌≡◌, ◌<◌, ◌≤◌, None, Ok, IsErr, IfOk, OnOk, OnErr, MatchResult, length, take};
-ghost use Rattle.std.specs.Io.KnownBytes.{Consumes, Keeps, Appends};
 ghost use Rattle.devices.specs.Counter.{raised_by};
-ghost use Rattle.devices.specs.Device.{since_end_after, since_end_after_fault};
+ghost use Rattle.devices.specs.Device.{TellsFront, NothingLeft, AppendsFront, since_end_after, since_end_after_fault};
+ghost use Rattle.translate_tool.specs.Telling.{Tells, told_if};
 
 use devices::{Failed, Sink, Source};
 use std::io::{self, Read, Write};
-use std::marker::Model;
+use std::marker::{Model, PhantomData};
 
-/// A source over a reader. A contract sees the reader, how many reads failed, and how many came after the end.
+/// Whether the reader of a source, and the writer of a sink, tell their bytes from the first to the last.
+// A reader that tells nothing may begin to tell, and a source may not. So a source is told what it may say.
+pub trait Telling {
+    ghost use Rattle.std.specs.Prelude.{Bool};
+
+    ghost reads: { Bool };
+
+    ghost writes: { Bool };
+}
+
+/// Neither tells its bytes: the system's reader and writer.
 #[derive(Drop)]
-pub struct StdSource<R: Read + Drop> {
+pub struct Untold;
+
+impl Telling for Untold {
+    ghost use Rattle.std.specs.Prelude.{false};
+
+    ghost reads = { false };
+
+    ghost writes = { false };
+}
+
+/// A source over a reader. A contract sees the reader, what it tells, how many reads failed, and how many came after the end.
+#[derive(Drop)]
+pub struct StdSource<R: Read + Drop, T: Telling> {
     reader: R,
     faults: u64,
     since_end: Option<u64>,
+    telling: PhantomData<T>,
 }
 
-impl<R: Read + Drop> Model for StdSource<R> {
+impl<R: Read + Drop, T: Telling> Model for StdSource<R, T> {
     ghost use Rattle.translate_tool.specs.Adapters.{Reading};
+    ghost use Rattle.translate_tool.specs.Telling.{Tells, told_if};
 
     ghost Value = { Reading R };
 
-    ghost view = { λ s. record { reader = s.reader; faults = s.faults; since_end = s.since_end } };
+    ghost view = { λ s. record {
+      reader = s.reader;
+      told = told_if T.reads (R.remaining s.reader);
+      faults = s.faults;
+      since_end = s.since_end;
+    } };
+
+    ghost invariant = { λ s. Tells T.reads (R.remaining s.reader) };
 }
 
-impl<R: Read + Drop> StdSource<R> {
+impl<R: Read + Drop, T: Telling> StdSource<R, T> {
     /// A source over a reader that has not failed yet, and has not come to its end.
     pub fn new(reader: R) -> Self
-        ensures { result ≡ record { reader = reader; faults = 0; since_end = None } }
+        requires { Tells T.reads (R.remaining reader) }
+        ensures { result ≡ record {
+          reader = reader;
+          told = told_if T.reads (R.remaining reader);
+          faults = 0;
+          since_end = None;
+        } }
     {
         StdSource {
             reader,
             faults: 0,
             since_end: None,
+            telling: PhantomData,
         }
     }
 }
 
-impl<R: Read + Drop> Source for StdSource<R> {
-    ghost left = { λ _. None };
+impl<R: Read + Drop, T: Telling> Source for StdSource<R, T> {
+    ghost left = { λ s. s.told };
 
     ghost faults = { λ s. s.faults };
 
@@ -50,8 +88,9 @@ impl<R: Read + Drop> Source for StdSource<R> {
         ensures within { IfOk result (λ n. n ≤ length buf.old) }
 
         // What the reader tells of its bytes moved, or stayed where the read failed.
-        ensures moves { IfOk result (λ n. Consumes (R.remaining self.old.reader) (R.remaining self.new.reader) (take n buf.new)) }
-        ensures stays { OnErr result (Keeps (R.remaining self.old.reader) (R.remaining self.new.reader)) }
+        ensures moves { IfOk result (λ n. TellsFront self.old.told (take n buf.new) self.new.told) }
+        ensures ends { IfOk result (λ n. n ≡ 0 → NothingLeft self.old.told) }
+        ensures stays { OnErr result (self.new.told ≡ self.old.told) }
 
         ensures no_fault { OnOk result (self.new.faults ≡ self.old.faults) }
         ensures fault { OnErr result (self.new.faults ≡ raised_by 1 self.old.faults) }
@@ -91,32 +130,41 @@ fn one_more_read(since_end: Option<u64>, moved: usize) -> Option<u64>
     }
 }
 
-/// A sink over a writer. A contract sees the writer, and how many writes failed.
+/// A sink over a writer. A contract sees the writer, what it tells, and how many writes failed.
 #[derive(Drop)]
-pub struct StdSink<W: Write + Drop> {
+pub struct StdSink<W: Write + Drop, T: Telling> {
     writer: W,
     faults: u64,
+    telling: PhantomData<T>,
 }
 
-impl<W: Write + Drop> Model for StdSink<W> {
+impl<W: Write + Drop, T: Telling> Model for StdSink<W, T> {
     ghost use Rattle.translate_tool.specs.Adapters.{Writing};
+    ghost use Rattle.translate_tool.specs.Telling.{Tells, told_if};
 
     ghost Value = { Writing W };
 
-    ghost view = { λ s. record { writer = s.writer; faults = s.faults } };
+    ghost view = { λ s. record { writer = s.writer; told = told_if T.writes (W.contents s.writer); faults = s.faults } };
+
+    ghost invariant = { λ s. Tells T.writes (W.contents s.writer) };
 }
 
-impl<W: Write + Drop> StdSink<W> {
+impl<W: Write + Drop, T: Telling> StdSink<W, T> {
     /// A sink over a writer that has not failed yet.
     pub fn new(writer: W) -> Self
-        ensures { result ≡ record { writer = writer; faults = 0 } }
+        requires { Tells T.writes (W.contents writer) }
+        ensures { result ≡ record { writer = writer; told = told_if T.writes (W.contents writer); faults = 0 } }
     {
-        StdSink { writer, faults: 0 }
+        StdSink {
+            writer,
+            faults: 0,
+            telling: PhantomData,
+        }
     }
 }
 
-impl<W: Write + Drop> Sink for StdSink<W> {
-    ghost held = { λ _. None };
+impl<W: Write + Drop, T: Telling> Sink for StdSink<W, T> {
+    ghost held = { λ s. s.told };
 
     ghost faults = { λ s. s.faults };
 
@@ -124,8 +172,10 @@ impl<W: Write + Drop> Sink for StdSink<W> {
         requires { 0 < length piece.now }
         ensures takes { IfOk result (λ n. (0 < n) × (n ≤ length piece.now)) }
 
-        // What the writer tells of its bytes grows by what is taken.
-        ensures appends { IfOk result (λ n. Appends (W.contents self.old.writer) (W.contents self.new.writer) (take n piece.now)) }
+        // What the writer tells of its bytes grows by what is taken, and stays where the write failed.
+        ensures appends { IfOk result (λ n. AppendsFront self.old.told (take n piece.now) self.new.told) }
+        ensures stays { OnErr result (self.new.told ≡ self.old.told) }
+
         ensures no_fault { OnOk result (self.new.faults ≡ self.old.faults) }
         ensures fault { OnErr result (self.new.faults ≡ raised_by 1 self.old.faults) }
         ensures counted { self.old.faults ≤ self.new.faults }

@@ -6,16 +6,18 @@ ghost use Rattle.std.specs.Process.{exit_status};
 ghost use Rattle.command_words.specs.declared.command.Command.{Command};
 ghost use Rattle.command_words.specs.Commands.{Names};
 ghost use Rattle.translate.specs.Runs.{Commands};
-ghost use Rattle.translate_tool.specs.Ends.{HasPlanned, HasRefused};
+ghost use Rattle.translate_tool.specs.Ends.{HasPlanned, HasRefused, HasPrintedPart, Gains};
 
 mod adapters;
+mod running;
 mod words;
 
-use adapters::{StdSink, StdSource};
+use adapters::Untold;
+use running::run_over;
 use std::alloc::AllocError;
 use std::process::ExitCode;
 use std::{env, io};
-use translate::{NO_MEMORY, Report, run};
+use translate::NO_MEMORY;
 use words::without_name;
 
 /// The status where the system does not give the words, which a run never answers.
@@ -30,25 +32,16 @@ fn words_of(rt: &HostRuntime) -> Option<Result<Vec<String>, AllocError>> {
     }
 }
 
-/// What the program ends with after a run: its status.
-fn end_of(report: Report<'_>) -> ExitCode
-    ensures { exit_status result ≡ report.entry.status }
-{
-    ExitCode::from(report.into_status())
-}
-
-/// Runs from standard input to standard output, and ends with the status of the run.
+/// Runs from standard input to standard output, neither of which tells its bytes, and ends with the status of the run.
 fn run_over_standard(rt: &HostRuntime, words: &[String]) -> ExitCode
     ensures statuses { exit_status result ≤ 5 }
-    ensures success { exit_status result ≡ 0 → Commands (map string_bytes words.now) HasPlanned }
-    ensures refused { exit_status result ≡ 1 → Commands (map string_bytes words.now) HasRefused }
+    ensures success { exit_status result ≡ 0 → Commands (map string_bytes words.now) (HasPlanned None (Gains None None)) }
+    ensures refused { exit_status result ≡ 1 → Commands (map string_bytes words.now) (HasRefused None (Gains None None)) }
     ensures usage { (exit_status result ≡ 2) ↔ ((command : Command) → ¬ Names (map string_bytes words.now) command) }
     ensures read_failed { exit_status result ≡ 3 → Commands (map string_bytes words.now) (λ c. c.generate ≡ None) }
+    ensures cut_short { exit_status result ≡ 4 → Commands (map string_bytes words.now) (HasPrintedPart None None None) }
 {
-    let mut source = StdSource::new(rt.reader());
-    let mut store = Vec::new(rt.alloc());
-    let mut sink = StdSink::new(io::writer(rt));
-    end_of(run(rt.alloc(), words, &mut source, &mut store, &mut sink))
+    run_over::<_, _, Untold>(rt.alloc(), words, rt.reader(), io::writer(rt)).exit
 }
 
 fn main(rt: HostRuntime) -> ExitCode {

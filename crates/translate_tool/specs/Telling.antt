@@ -1,0 +1,12 @@
+-- Whether a reader or a writer tells its bytes from the first, and what it tells.
+use Rattle.std.specs.Prelude.{⊤, Bool, true, false, ℕ, List, Option, None, IsSome}
+
+-- one that is said to tell its bytes does
+abbrev pub Tells : Bool → Option (List ℕ) → Type 0
+Tells true told = IsSome told
+Tells false told = ⊤
+
+-- what is told by one that is said to tell its bytes; any other counts as one that tells nothing, though it may begin to
+abbrev pub told_if : Bool → Option (List ℕ) → Option (List ℕ)
+told_if true told = told
+told_if false told = None
