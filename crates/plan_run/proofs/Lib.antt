@@ -1,0 +1,5 @@
+pub mod Lists
+pub mod Writing
+pub mod Terms
+pub mod Conversions
+pub mod Machine

@@ -1,0 +1,5 @@
+pub mod Fields
+pub mod Kinds
+pub mod Lays
+pub mod Nodes
+pub mod Values
