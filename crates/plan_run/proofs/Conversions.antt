@@ -1,9 +1,10 @@
 -- Conversions that are undone, and those that are kept in nodes.
 use Rattle.std.proofs.Common.{◌≡◌, ℕ, ◌+◌, ◌<◌, ◌≤◌, Bool, true, false, List, [], ◌∷◌, ◌++◌, length, map, get_or, Option, None, Some, refl, sym, ◌∙◌, ap, subst, arith}
-use Rattle.std.specs.Prelude.{slice_get, unwrap_or, All}
+use Rattle.std.specs.Prelude.{slice_get, unwrap_or, All, IfSome, IfNone}
 use Rattle.std.proofs.Math.Logic.{⊎_elim}
 use Rattle.std.proofs.lemmas.Bool.{false≢true}
 use Rattle.std.proofs.lemmas.List.Elements.{All-head}
+use Rattle.std.proofs.lemmas.Option.{none-some}
 use Rattle.wasm_spec.specs.declared.operators.Operator.{Operator}
 use Rattle.wasm_spec.specs.declared.operators.Operator.TheVariants as op
 use Rattle.replay_spec.specs.Values as plain
@@ -158,6 +159,23 @@ module _ (nodes : List Node) (ordered : AreOrdered nodes) (a : Operator) (is : k
           subst (NamesBelow k) same (All-head (NamesBelow k) w [] below),
           ap (λ x. converted (conversion a) (x ∷ [])) made ∙ ap (λ x. Some (plain.Ref x)) (back a (operator_of n.op) t.0 does) ∙ ap Some (sym t.1) ∙ ap (λ x. Some (value_in (terms_of nodes) x)) same,
         )
+
+  module _ (does : undoes a (operator_of n.op) ≡ true) where
+    pub given-below : (o : Option Value) → o ≡ slice_get n.args.items 0 → IfSome o (NamesBelow k)
+    given-below None is = tt
+    given-below (Some v) is = (converts-back does v (sym is)).0
+
+    pub given-some : (o : Option Value) → o ≡ slice_get n.args.items 0
+        → IfSome o (λ v. converted (conversion a) (value_in (terms_of nodes) (value.Term k) ∷ []) ≡ Some (value_in (terms_of nodes) v))
+    given-some None is = tt
+    given-some (Some v) is = (converts-back does v (sym is)).1
+
+    pub given-none : (P : Type 0) (o : Option Value) → o ≡ slice_get n.args.items 0 → IfNone o P
+    given-none P None is = over n.args.items (has-one a (operator_of n.op) n.args.items does (ordered k n at).converts) is where
+      over : (vs : List Value) → IsOneReference vs → None ≡ slice_get vs 0 → P
+      over [] one e = absurd one
+      over (v ∷ vs) one e = absurd (none-some v e)
+    given-none P (Some v) is = tt
 
   -- or it is kept in a node of its own
   pub converts-kept : undoes a (operator_of n.op) ≡ false

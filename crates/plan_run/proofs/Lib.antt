@@ -1,5 +1,8 @@
-pub mod Lists
-pub mod Writing
-pub mod Terms
+pub mod Begun
 pub mod Conversions
+pub mod FirstCells
+pub mod Lists
 pub mod Machine
+pub mod Pieces
+pub mod Terms
+pub mod Writing

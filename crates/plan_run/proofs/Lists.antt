@@ -1,8 +1,11 @@
 -- Items of lists.
 use Rattle.std.proofs.Common.{◌≡◌, ◌≢◌, ℕ, zero, suc, ◌+◌, ◌<◌, ◌≤◌, List, [], ◌∷◌, ◌++◌, length, get_or, set, take, drop, replicate, Option, None, Some, refl, sym, ◌∙◌, ap, subst, arith}
-use Rattle.std.specs.Prelude.{slice_get, All}
+use Rattle.std.specs.Prelude.{slice_get, All, MatchOption}
+use Rattle.std.specs.Borrow.{Bor}
+use Rattle.std.specs.List.{HoldsAt}
+use Rattle.std.specs.Option.{option_copied}
 use Rattle.std.proofs.lemmas.List.Elements.{All-get_or}
-use Rattle.std.proofs.lemmas.Option.{get_or_from_slice_get, slice_get_within, same_Some}
+use Rattle.std.proofs.lemmas.Option.{get_or_from_slice_get, slice_get_within, slice_get_past, slice_get-get_or, same_Some}
 
 -- ---- lists
 
@@ -46,18 +49,25 @@ get-drop (suc n) (x ∷ xs) k = rw (sucs n k) (get-drop n xs k) where
 pub all-at : {X : Type 0} (P : X → Type 0) (xs : List X) (i : ℕ) (x : X) → All P xs → slice_get xs i ≡ Some x → P x
 all-at P xs i x all at = subst P (get_or_from_slice_get xs i x x at) (All-get_or P xs i x (slice_get_within xs i x at) all)
 
-pub one-of : {A : Type 0} (xs : List A) (x : A) → length xs ≡ 1 → x ≡ get_or xs 0 x → xs ≡ x ∷ []
-one-of [] x n is = absurd (omega arith)
-one-of (y ∷ []) x n is = ap (λ z. z ∷ []) (sym is)
-one-of (y ∷ z ∷ zs) x n is = absurd (omega arith)
-
-pub two-of : {A : Type 0} (xs : List A) (x y : A) → length xs ≡ 2 → x ≡ get_or xs 0 x → y ≡ get_or xs 1 y → xs ≡ x ∷ y ∷ []
-two-of [] x y n one two = absurd (omega arith)
-two-of (a ∷ []) x y n one two = absurd (omega arith)
-two-of (a ∷ b ∷ []) x y n one two = ap (λ z. z ∷ b ∷ []) (sym one) ∙ ap (λ z. x ∷ z ∷ []) (sym two)
-two-of (a ∷ b ∷ c ∷ cs) x y n one two = absurd (omega arith)
-
 pub get-replicate : {A : Type 0} (x : A) (n p : ℕ) → p < n → slice_get (replicate n x) p ≡ Some x
 get-replicate x zero p l = absurd (omega arith)
 get-replicate x (suc n) zero l = refl
 get-replicate x (suc n) (suc p) l = get-replicate x n p (omega arith)
+
+-- a list of two is of its two items
+pub two-is : {A : Type 0} (xs : List A) (d : A) → 2 ≤ length xs → length xs < 3 → xs ≡ get_or xs 0 d ∷ get_or xs 1 d ∷ []
+two-is [] d low high = absurd (omega arith)
+two-is (x ∷ []) d low high = absurd (omega arith)
+two-is (x ∷ y ∷ []) d low high = refl
+two-is (x ∷ y ∷ z ∷ zs) d low high = absurd (omega arith)
+
+pub one-is : {A : Type 0} (xs : List A) (d : A) → 1 ≤ length xs → length xs < 2 → xs ≡ get_or xs 0 d ∷ []
+one-is [] d low high = absurd (omega arith)
+one-is (x ∷ []) d low high = refl
+one-is (x ∷ y ∷ zs) d low high = absurd (omega arith)
+
+-- what `get` copies out of a slice
+pub copied-is : {A : Type 0} (xs : List A) (i : ℕ) (o : Option (Bor A)) → MatchOption o (length xs ≤ i) (λ x. (i < length xs) × HoldsAt (λ y. x.now ≡ y) xs i)
+    → option_copied o ≡ slice_get xs i
+copied-is xs i None h = sym (slice_get_past xs i h)
+copied-is xs i (Some x) h = ap Some (h.1 x.now) ∙ sym (slice_get-get_or xs i x.now h.0)

@@ -1,6 +1,6 @@
 -- Operators on a stack of values, and expressions.
 use Rattle.std.proofs.Common.{◌≡◌, ℕ, suc, ◌+◌, ◌-◌, ◌<◌, ◌≤◌, Bool, true, false, List, [], ◌∷◌, ◌++◌, length, map, get_or, take, drop, Option, None, Some, refl, sym, ◌∙◌, ap, subst, arith}
-use Rattle.std.specs.Prelude.{nat_le, if◌then◌else◌, All}
+use Rattle.std.specs.Prelude.{nat_le, if◌then◌else◌, All, IfSome}
 use Rattle.std.specs.Option.{option_map, option_and_then}
 use Rattle.std.proofs.lemmas.Bool.{le-leb, lt-leb, cond-true, cond-false}
 use Rattle.std.proofs.lemmas.List.{length-map, map-append, take-map, drop-map, drop_more}
@@ -70,9 +70,9 @@ module _ (a : Action) (nodes : List Node) (stack args : List Value) (takes rest 
 abbrev pub Step : Type 0
 Step = Operator → List plain.Value → Option (List plain.Value)
 
-module _ (step : Step) (ops : List ConstOp) (i : ℕ) (op : ConstOp) (l : i < length ops) (is : op ≡ get_or ops i op) (stack : List plain.Value) where
+module _ (step : Step) (ops : List ConstOp) (i : ℕ) (op d : ConstOp) (l : i < length ops) (is : op ≡ get_or ops i d) (stack : List plain.Value) where
   runs-on : run step (expression_of (drop i ops)) stack ≡ option_and_then (run step (expression_of (drop (i + 1) ops))) (step (operator_of op) stack)
-  runs-on = ap (λ xs. run step (expression_of xs) stack) (drop_more ops i op l ∙ ap (λ o. o ∷ drop (i + 1) ops) (sym is))
+  runs-on = ap (λ xs. run step (expression_of xs) stack) (drop_more ops i d l ∙ ap (λ o. o ∷ drop (i + 1) ops) (sym is))
 
   pub runs-more : (after : List plain.Value) → step (operator_of op) stack ≡ Some after
       → run step (expression_of (drop (i + 1) ops)) after ≡ run step (expression_of (drop i ops)) stack
@@ -80,3 +80,16 @@ module _ (step : Step) (ops : List ConstOp) (i : ℕ) (op : ConstOp) (l : i < le
 
   pub runs-none : step (operator_of op) stack ≡ None → run step (expression_of (drop i ops)) stack ≡ None
   runs-none e = runs-on ∙ ap (option_and_then (run step (expression_of (drop (i + 1) ops)))) e
+
+-- an expression without a value is null
+pub no-value : (step : Step) (e : List Operator) → run step e [] ≡ None → value_or_null (plain.evaluated step e) ≡ plain.Ref plain.Null
+no-value step e none = ap (λ o. value_or_null (option_and_then only_value o)) none
+
+pub the-value : (step : Step) (e : List Operator) (stack : List plain.Value) → run step e [] ≡ Some stack → value_or_null (plain.evaluated step e) ≡ value_or_null (only_value stack)
+the-value step e stack some = ap (λ o. value_or_null (option_and_then only_value o)) some
+
+-- what may be a value, by the values that it stands for
+pub option-means : (nodes : List Node) (o : Option Value) (meant : Option plain.Value) → option_map (value_in (terms_of nodes)) o ≡ meant → IfSome o (NamesBelow (length nodes))
+    → MeansOption nodes o meant
+option-means nodes None meant is below = sym is
+option-means nodes (Some v) meant is below = (below, sym is)

@@ -166,6 +166,11 @@ push-ordered nodes n ordered is k m at = ⊎_elim
 pub push-grows : (nodes : List Node) (n : Node) → AreOrdered nodes → IsNodeAt (length nodes) n → Grows nodes (nodes ++ n ∷ [])
 push-grows nodes n ordered is = record { extends = record { more = n ∷ []; is = refl }; ordered = push-ordered nodes n ordered is }
 
+pub pushed-means : (old new : List Node) (n : Node) (k : ℕ) → new ≡ old ++ n ∷ [] → k ≡ length old → Means new (value.Term k) (plain.Ref (term_of (terms_of old) n))
+pushed-means old new n k is at =
+    subst (λ j. Means new (value.Term j) (plain.Ref (term_of (terms_of old) n))) (sym at)
+    (subst (λ ns. Means ns (value.Term (length old)) (plain.Ref (term_of (terms_of old) n))) (sym is) (push-means old n))
+
 -- ---- values that name no node
 
 pub plain-means : (nodes : List Node) (v : Value) → IsPlain v → Means nodes v (imported_value v)

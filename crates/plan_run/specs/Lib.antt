@@ -1,5 +1,9 @@
 pub mod Fields
 pub mod Kinds
 pub mod Lays
+pub mod Limits
+pub mod Memories
 pub mod Nodes
+pub mod Segments
+pub mod Tables
 pub mod Values

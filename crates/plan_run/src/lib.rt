@@ -1,10 +1,19 @@
 //! Lays the plan of a module over memories and tables.
 #![tactic(auto)]
 
+mod elements;
 mod evaluation;
+mod globals;
 mod kinds;
+mod laid;
+mod limits;
+mod memories;
 mod nodes;
+mod segments;
 mod simple;
+mod tables;
 mod value;
 
+pub use laid::{Imports, Laid, LayError, Way};
+pub use paged_memory::PagedMemory;
 pub use value::{Node, Value};
