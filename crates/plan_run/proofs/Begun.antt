@@ -76,7 +76,7 @@ length-first : (page size : ℕ) (image : Option (ℕ × List ℕ)) → ImageIsW
 length-first page size None within = length-replicate size 0
 length-first page size (Some image) within =
     let zeros = length-replicate size 0 in
-    let fits = within.2 in
+    let fits : image.0 + length image.1 ≤ size = within.2 in
     length-written image.0 image.1 (replicate size 0) (omega arith) ∙ zeros
 
 first-item : (page size object place : ℕ) (image : Option (ℕ × List ℕ)) → ImageIsWithin page size image → place < size
@@ -84,7 +84,7 @@ first-item : (page size object place : ℕ) (image : Option (ℕ × List ℕ)) �
 first-item page size object place None within l = get-replicate 0 size place l
 first-item page size object place (Some image) within l =
     let zeros = length-replicate size 0 in
-    let fits = within.2 in
+    let fits : image.0 + length image.1 ≤ size = within.2 in
     written-item object place (image_piece object image) (replicate size 0) 0 refl (omega arith) (get-replicate 0 size place l)
 
 -- ---- all
@@ -101,7 +101,7 @@ module _ (w : Way) (plan : MemoryPlan) (page : ℕ) where
       let rest = begun-at (n + 1) j ms p at in
       (rest.0, rest.1, rest.2 ∙ ap (λ k. (first_bytes (minimum_bytes rest.0) (image_in w plan k), image_pages page (image_in w plan k))) there)
 
-  within-at : (n j : ℕ) (ms : List Memory) (m : Memory) → slice_get ms j ≡ Some m → ImagesAreWithin w plan page n ms → ImageIsWithin page (minimum_bytes m) (image_in w plan (n + j))
+  pub within-at : (n j : ℕ) (ms : List Memory) (m : Memory) → slice_get ms j ≡ Some m → ImagesAreWithin w plan page n ms → ImageIsWithin page (minimum_bytes m) (image_in w plan (n + j))
   within-at n j [] m at within = absurd (none-some m at)
   within-at n zero (one ∷ ms) m at within =
       let here : n ≡ n + 0 = omega arith in
@@ -127,9 +127,9 @@ module _ (w : Way) (plan : MemoryPlan) (page : ℕ) where
     low-bytes : (i : ℕ) (memory : Contents) → i < length imported → slice_get memories i ≡ Some memory → slice_get (bytes_in imported) i ≡ Some memory.bytes
     low-bytes i memory low at =
         slice_get-map (λ (m : Contents). m.bytes) imported i ∙ over (slice_get imported i) (sym (slice_get-map seen imported i) ∙ seen-low i memory low at) where
-      over : (o : Option Contents) → option_map seen o ≡ Some (seen memory) → option_map (λ (m : Contents). m.bytes) o ≡ Some memory.bytes
-      over None e = absurd (none-some (seen memory) e)
-      over (Some m) e = ap (λ p. Some p.0) (same_Some (seen m) (seen memory) e)
+          over : (o : Option Contents) → option_map seen o ≡ Some (seen memory) → option_map (λ (m : Contents). m.bytes) o ≡ Some memory.bytes
+          over None e = absurd (none-some (seen memory) e)
+          over (Some m) e = ap (λ p. Some p.0) (same_Some (seen m) (seen memory) e)
 
     memory-at : (i : ℕ) (object : List ℕ) → slice_get (bytes_in memories) i ≡ Some object → (memory : Contents) × (slice_get memories i ≡ Some memory) × (memory.bytes ≡ object)
     memory-at i object at = over (slice_get memories i) refl (sym (slice_get-map (λ (m : Contents). m.bytes) memories i) ∙ at) where

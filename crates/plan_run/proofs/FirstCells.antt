@@ -18,7 +18,9 @@ use Rattle.plan_run.proofs.Lists.{get-append-low, get-append-high, get-replicate
 
 image-at : (minimum : ℕ) (image : List (Option ℕ)) (place : ℕ) → place < minimum
     → slice_get (image_cells minimum image) place ≡ Some (reference_of (unwrap_or (slice_get image place) None))
-image-at minimum [] place l = get-replicate (reference_of None) minimum place l
+image-at minimum [] place l =
+    let all : minimum - 0 ≡ minimum = omega arith in
+    ap (λ k. slice_get (replicate k (reference_of None)) place) all ∙ get-replicate (reference_of None) minimum place l
 image-at zero (c ∷ cs) place l = absurd (omega arith)
 image-at (suc minimum) (c ∷ cs) zero l = refl
 image-at (suc minimum) (c ∷ cs) (suc place) l =
@@ -28,8 +30,12 @@ image-at (suc minimum) (c ∷ cs) (suc place) l =
 module _ (globals : List plain.Value) (fields : ℕ → ℕ) where
   length-cells : (minimum : ℕ) (initial : Option Expression) (image : List (Option ℕ)) → length image ≤ minimum → length (cells_from globals fields minimum initial image) ≡ minimum
   length-cells minimum None image l =
-      omega (arith, length-append (map reference_of image) (replicate (minimum - length image) (reference_of None)), length-map image reference_of,
-      length-replicate (minimum - length image) (reference_of None))
+      omega (
+        arith,
+        length-append (map reference_of image) (replicate (minimum - length image) (reference_of None)),
+        length-map image reference_of,
+        length-replicate (minimum - length image) (reference_of None),
+      )
   length-cells minimum (Some e) image l = length-replicate minimum (cell_of globals fields e)
 
   cell-at : (minimum : ℕ) (initial : Option Expression) (image : List (Option ℕ)) (place : ℕ) → place < minimum
@@ -78,10 +84,10 @@ module _ (globals : List plain.Value) (fields : ℕ → ℕ) where
     high-at j object at = over (slice_get plan.tables j) refl
         (sym (get-append-high imported (map (first_cells globals fields) plan.tables) j ∙ slice_get-map (first_cells globals fields) plan.tables j)
         ∙ ap (λ xs. slice_get xs (length imported + j)) (sym are) ∙ at) where
-      over : (o : Option PlannedTable) → slice_get plan.tables j ≡ o → option_map (first_cells globals fields) o ≡ Some object
-          → (t : PlannedTable) × (slice_get plan.tables j ≡ Some t) × (object ≡ first_cells globals fields t)
-      over None e f = absurd (none-some object f)
-      over (Some t) e f = (t, e, sym (same_Some (first_cells globals fields t) object f))
+          over : (o : Option PlannedTable) → slice_get plan.tables j ≡ o → option_map (first_cells globals fields) o ≡ Some object
+              → (t : PlannedTable) × (slice_get plan.tables j ≡ Some t) × (object ≡ first_cells globals fields t)
+          over None e f = absurd (none-some object f)
+          over (Some t) e f = (t, e, sym (same_Some (first_cells globals fields t) object f))
 
     high-size : (j : ℕ) (object : List plain.Value) → slice_get objects (length imported + j) ≡ Some object → length object ≡ size_at (length imported + j)
     high-size j object at =

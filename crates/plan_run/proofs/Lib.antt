@@ -1,8 +1,13 @@
+pub mod Agreement
 pub mod Begun
 pub mod Conversions
 pub mod FirstCells
+pub mod LeftSteps
 pub mod Lists
 pub mod Machine
+pub mod OneMore
 pub mod Pieces
 pub mod Terms
+pub mod Given
 pub mod Writing
+pub mod Written

@@ -59,10 +59,10 @@ module _ (a : Action) (nodes : List Node) (stack args : List Value) (takes rest 
         let below_front : All (NamesBelow (length nodes)) front = All-take (NamesBelow (length nodes)) rest stack below in
         let same : values_in (terms_of nodes) front ≡ values_in (terms_of new) front = sym (kept-values nodes new extends front below_front) in (
           subst (λ xs. All (NamesBelow (length new)) xs) (sym all)
-          (All-push (NamesBelow (length new)) front v (all-names-more (length nodes) (length new) front (longer nodes new extends) below_front) made.0),
+              (All-push (NamesBelow (length new)) front v (all-names-more (length nodes) (length new) front (longer nodes new extends) below_front) made.0),
           acts-on ∙ ap (option_map (λ x. values_in (terms_of nodes) front ++ x ∷ [])) made.1
-          ∙ ap (λ xs. Some (xs ++ value_in (terms_of new) v ∷ [])) same
-          ∙ ap Some (sym (map-append (value_in (terms_of new)) front (v ∷ [])) ∙ ap (values_in (terms_of new)) (sym all)),
+              ∙ ap (λ xs. Some (xs ++ value_in (terms_of new) v ∷ [])) same
+              ∙ ap Some (sym (map-append (value_in (terms_of new)) front (v ∷ [])) ∙ ap (values_in (terms_of new)) (sym all)),
         )
 
 -- ---- an expression

@@ -28,12 +28,3 @@ length_or_zero (Some fields) = length fields
 -- how many fields the struct type of an index has, and 0 where there is none
 abbrev pub field_count_in : ModuleTranslation → TypeList → ℕ → ℕ
 field_count_in t types index = length_or_zero (option_and_then (unshared struct_in) (type_at t types index))
-
-
-abbrev pub class_of : WasmValType → Class
-class_of type.I32 = class.I32
-class_of type.I64 = class.I64
-class_of type.F32 = class.F32
-class_of type.F64 = class.F64
-class_of type.V128 = class.V128
-class_of (type.Ref reference) = class.Ref

@@ -1,5 +1,8 @@
+pub mod Agreement
 pub mod Fields
+pub mod Finished
 pub mod Kinds
+pub mod Laid
 pub mod Lays
 pub mod Limits
 pub mod Memories

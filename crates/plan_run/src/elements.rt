@@ -105,7 +105,7 @@ pub(crate) fn pieces_kept(
     ensures grows { OnOk result (Grows nodes.old.items nodes.new.items) }
     ensures means { IfOk result (λ pieces. PiecesMean nodes.new.items pieces.items
         (map (elements_piece (values_in (terms_of nodes.old.items) globals.now) (field_count_in translation.now types.now))
-            (map active_elements_of translation.now.table_initialization.segments.items))) }
+        (map active_elements_of translation.now.table_initialization.segments.items))) }
 {
     let mut pieces = Vec::new(alloc);
     for segment in &translation.table_initialization.segments {
@@ -138,10 +138,7 @@ fn write_cells(tables: &mut Vec<Vec<Value>>, piece: &ElementPiece) -> bool
 }
 
 /// Writes pieces in order, up to the first that does not fit: its number, counted from the last.
-pub(crate) fn write_elements(
-    tables: &mut Vec<Vec<Value>>,
-    pieces: &[ElementPiece],
-) -> Option<u64>
+pub(crate) fn write_elements(tables: &mut Vec<Vec<Value>>, pieces: &[ElementPiece]) -> Option<u64>
     requires { All (λ p. p.table < length tables.old.items) pieces.now }
     ensures writes { (terms : List Term) (phase : Phase plain.Value) → phase.pieces ≡ map (element_piece terms) pieces.now
         → Hold phase.sizes phase.base (cells_in terms tables.old.items) → Lays phase (length tables.old.items) (cells_in terms tables.new.items) result }

@@ -65,7 +65,7 @@ fn write_kept(
     ensures grows { OnOk result (Grows nodes.old.items nodes.new.items) }
     ensures means { OnOk result (AllMean nodes.new.items globals.new.items
         (kept_written (field_count_in translation.now types.now) imports (values_in (terms_of nodes.old.items) globals.old.items)
-            (map kept_global_of translation.now.global_initializers.items))) }
+        (map kept_global_of translation.now.global_initializers.items))) }
 {
     for (index, initializer) in &translation.global_initializers {
         let value = evaluate(
@@ -93,8 +93,8 @@ pub(crate) fn lay_globals(
     requires plain { All IsPlain imported.items }
     requires imports { length imported.items ≡ translation.now.module.num_imported_globals }
     requires count { translation.now.module.num_imported_globals ≤ length translation.now.module.globals }
-    requires simple { All (λ g. number_of g.0 < (plan_of_globals translation.now).count) translation.now.module.global_initializers.items }
-    requires kept { All (λ g. number_of g.0 < (plan_of_globals translation.now).count) translation.now.global_initializers.items }
+    requires simple { All (λ g. number_of g.0 < length translation.now.module.globals - translation.now.module.num_imported_globals) translation.now.module.global_initializers.items }
+    requires kept { All (λ g. number_of g.0 < length translation.now.module.globals - translation.now.module.num_imported_globals) translation.now.global_initializers.items }
     ensures grows { OnOk result (Grows nodes.old.items nodes.new.items) }
     ensures means { IfOk result (λ globals. AllMean nodes.new.items globals.items
         (planned_globals (field_count_in translation.now types.now) (map imported_value imported.items) (plan_of_globals translation.now))) }

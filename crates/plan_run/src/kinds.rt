@@ -66,11 +66,7 @@ pub(crate) fn undoes(op: ConstOp, other: ConstOp) -> bool
 }
 
 /// How many fields the struct type of an index has, and 0 where there is none.
-fn field_count(
-    translation: &ModuleTranslation<'_>,
-    types: &ModuleTypes,
-    index: TypeIndex,
-) -> usize
+fn field_count(translation: &ModuleTranslation<'_>, types: &ModuleTypes, index: TypeIndex) -> usize
     ensures { result ≡ field_count_in translation.now types.now (number_of index) }
 {
     let Some(EngineOrModuleTypeIndex::Module(interned)) = translation.module.types.get(index) else {
@@ -86,11 +82,7 @@ fn field_count(
 }
 
 /// How many values an operator takes from the stack.
-pub(crate) fn taken(
-    translation: &ModuleTranslation<'_>,
-    types: &ModuleTypes,
-    op: ConstOp,
-) -> usize
+pub(crate) fn taken(translation: &ModuleTranslation<'_>, types: &ModuleTypes, op: ConstOp) -> usize
     ensures { (globals : List plain.Value) → result ≡ (action globals (field_count_in translation.now types.now) (operator_of op)).takes }
 {
     match op {

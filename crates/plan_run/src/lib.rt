@@ -6,6 +6,7 @@ mod evaluation;
 mod globals;
 mod kinds;
 mod laid;
+mod laws;
 mod limits;
 mod memories;
 mod nodes;
@@ -13,7 +14,10 @@ mod segments;
 mod simple;
 mod tables;
 mod value;
+mod whole;
 
 pub use laid::{Imports, Laid, LayError, Way};
+pub use laws::agreement_law;
 pub use paged_memory::PagedMemory;
 pub use value::{Node, Value};
+pub use whole::lay;

@@ -1,6 +1,6 @@
 //! How large defined memories and tables may be.
 
-ghost use Rattle.std.specs.Prelude.{◌≡◌, ◌⊎◌, ◌↔◌, ◌≤◌, ◌<◌, length, map, drop, sum_by, All, IsTrue};
+ghost use Rattle.std.specs.Prelude.{◌≡◌, ◌⊎◌, ◌↔◌, ◌≤◌, ◌<◌, ◌^◌, length, map, drop, sum_by, All, IsTrue};
 ghost use Rattle.std.specs.List.{sum};
 ghost use Rattle.wasm_types.specs.Memories.{minimum_bytes};
 ghost use Rattle.paged_memory.specs.Memory.{page_count};
@@ -26,7 +26,8 @@ pub(crate) fn page_size(translation: &ModuleTranslation<'_>) -> u64
 /// The minimum size of a memory, in bytes.
 pub(crate) fn minimum_size(memory: &Memory) -> u128
     requires { (memory.now.page_size_log2 ≡ 0) ⊎ (memory.now.page_size_log2 ≡ 16) }
-    ensures { result ≡ minimum_bytes memory.now }
+    ensures size { result ≡ minimum_bytes memory.now }
+    ensures below { result < 2 ^ 80 }
 {
     if memory.page_size_log2 == 0 {
         return u128::from(memory.limits.min);
@@ -50,6 +51,15 @@ fn have_too_many_bytes(memories: &[Memory]) -> bool
     false
 }
 
+/// How many pages of so many bytes hold a memory's minimum size.
+fn minimum_pages(memory: &Memory, page: u64) -> u128
+    requires log2 { (memory.now.page_size_log2 ≡ 0) ⊎ (memory.now.page_size_log2 ≡ 16) }
+    requires page { 0 < page }
+    ensures { result ≡ page_count page (minimum_bytes memory.now) }
+{
+    (minimum_size(memory) + u128::from(page - 1)) / u128::from(page)
+}
+
 /// Whether the memories have more pages than they may, of so many bytes each.
 fn have_too_many_pages(memories: &[Memory], page: u64) -> bool
     requires sizes { All (λ m. (m.page_size_log2 ≡ 0) ⊎ (m.page_size_log2 ≡ 16)) memories.now }
@@ -58,7 +68,7 @@ fn have_too_many_pages(memories: &[Memory], page: u64) -> bool
 {
     let mut left = MOST_PAGES;
     for memory in memories {
-        let pages = (minimum_size(memory) + u128::from(page - 1)) / u128::from(page);
+        let pages = minimum_pages(memory, page);
         if left < pages {
             return true;
         }
@@ -90,9 +100,19 @@ pub(crate) fn is_too_large(translation: &ModuleTranslation<'_>) -> bool
     ensures { IsTrue result ↔ IsTooLarge translation.now }
 {
     let module = &translation.module;
-    let (_, memories) = module.memories.as_slice().split_at(module.num_imported_memories);
-    let (_, tables) = module.tables.as_slice().split_at(module.num_imported_tables);
-    have_too_many_bytes(memories)
-        || have_too_many_pages(memories, page_size(translation))
-        || have_too_many_cells(tables)
+    let (_, memories) = module
+        .memories
+        .as_slice()
+        .split_at(module.num_imported_memories);
+    let (_, tables) = module
+        .tables
+        .as_slice()
+        .split_at(module.num_imported_tables);
+    if have_too_many_bytes(memories) {
+        return true;
+    }
+    if have_too_many_pages(memories, page_size(translation)) {
+        return true;
+    }
+    have_too_many_cells(tables)
 }

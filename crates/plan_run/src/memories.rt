@@ -13,11 +13,11 @@ ghost use Rattle.paged_memory.specs.Memory.{count_lent};
 
 use crate::laid::Way;
 use crate::limits::{minimum_size, page_size};
-use entity_map::{EntityRef, OutOfMemory};
+use entity_map::OutOfMemory;
 use init_plan::{ModuleTranslation, RuntimeBytes};
 use paged_memory::PagedMemory;
 use std::alloc::Global;
-use wasm_index::{MemoryIndex, RuntimeDataIndex};
+use wasm_index::RuntimeDataIndex;
 use wasm_module::MemoryInitialization;
 use wasm_types::Memory;
 
@@ -40,16 +40,18 @@ fn mapped_image<'t>(
     translation: &'t ModuleTranslation<'_>,
     memory: usize,
 ) -> Option<(u64, &'t [u8])>
-    requires { memory < length translation.now.module.memories }
     ensures { option_map (λ image. (image.0, image.1.now)) result ≡ image_in Map (memory_plan_of translation.now) memory }
 {
-    match &translation.module.memory_initialization {
-        MemoryInitialization::Segmented => None,
-        MemoryInitialization::Static { map } => match map.get(MemoryIndex::new(memory)) {
-            Some(Some((start, index))) => Some((*start, bytes_of(translation, *index))),
-            Some(None) => None,
-            None => None,
-        },
+    let MemoryInitialization::Static { map } = &translation.module.memory_initialization else {
+        return None;
+    };
+    let images = map.as_slice();
+    if images.len() <= memory {
+        return None;
+    }
+    match images[memory] {
+        Some((start, index)) => Some((start, bytes_of(translation, index))),
+        None => None,
     }
 }
 
@@ -59,7 +61,6 @@ fn image_of<'t>(
     way: Way,
     memory: usize,
 ) -> Option<(u64, &'t [u8])>
-    requires { memory < length translation.now.module.memories }
     ensures { option_map (λ image. (image.0, image.1.now)) result ≡ image_in way (memory_plan_of translation.now) memory }
 {
     match way {

@@ -75,14 +75,20 @@ fn first_table(
     ensures grows { OnOk result (Grows nodes.old.items nodes.new.items) }
     ensures means { IfOk result (λ cells. (planned : PlannedTable) → slice_get (plan_of_tables translation.now).tables number ≡ Some planned
         → AllMean nodes.new.items cells.items
-            (first_cells (values_in (terms_of nodes.old.items) globals.now) (field_count_in translation.now types.now) planned)) }
+        (first_cells (values_in (terms_of nodes.old.items) globals.now) (field_count_in translation.now types.now) planned)) }
 {
     let tables = translation.module.tables.as_slice();
-    let minimum = tables[translation.module.num_imported_tables + number].limits.min as usize;
+    let minimum = tables[translation.module.num_imported_tables + number]
+        .limits
+        .min as usize;
     let index = DefinedTableIndex::new(number);
     match &translation.table_initialization.initial_values[index] {
         TableInitialValue::Null => {
-            image_cells(alloc, &translation.module.table_initialization[index], minimum)
+            image_cells(
+                alloc,
+                &translation.module.table_initialization[index],
+                minimum,
+            )
         }
         TableInitialValue::Expr(initial) => {
             let value = evaluate(alloc, translation, types, globals, nodes, initial)?;

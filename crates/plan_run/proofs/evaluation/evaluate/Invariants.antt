@@ -1,4 +1,4 @@
-use Rattle.std.proofs.Common.{◌≡◌, length, drop, All, [] }
+use Rattle.std.proofs.Common.{◌≡◌, length, drop, All, []}
 use Rattle.replay_spec.specs.Values.{acted, action, run}
 use Rattle.wasm_convert.specs.Constants.{expression_of}
 use Rattle.plan_run.specs.Fields.{field_count_in}
