@@ -75,17 +75,16 @@ module _ (plan : MemoryPlan) where
 length-first : (page size : ℕ) (image : Option (ℕ × List ℕ)) → ImageIsWithin page size image → length (first_bytes size image) ≡ size
 length-first page size None within = length-replicate size 0
 length-first page size (Some image) within =
-    let zeros = length-replicate size 0 in
-    let fits : image.0 + length image.1 ≤ size = within.2 in
-    length-written image.0 image.1 (replicate size 0) (omega arith) ∙ zeros
+    let zeros : length (replicate size 0) ≡ size = length-replicate size 0 in
+    length-written image.0 image.1 (replicate size 0) (subst (λ n. image.0 + length image.1 ≤ n) (sym zeros) within.2) ∙ zeros
 
 first-item : (page size object place : ℕ) (image : Option (ℕ × List ℕ)) → ImageIsWithin page size image → place < size
     → slice_get (first_bytes size image) place ≡ Some (laid_over image object place 0)
 first-item page size object place None within l = get-replicate 0 size place l
 first-item page size object place (Some image) within l =
-    let zeros = length-replicate size 0 in
-    let fits : image.0 + length image.1 ≤ size = within.2 in
-    written-item object place (image_piece object image) (replicate size 0) 0 refl (omega arith) (get-replicate 0 size place l)
+    let zeros : length (replicate size 0) ≡ size = length-replicate size 0 in
+    written-item object place (image_piece object image) (replicate size 0) 0 refl (subst (λ n. image.0 + length image.1 ≤ n) (sym zeros) within.2)
+    (get-replicate 0 size place l)
 
 -- ---- all
 

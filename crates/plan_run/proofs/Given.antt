@@ -48,12 +48,15 @@ within-each w plan page n (m ∷ ms) each =
     )
 
 module _ (t : ModuleTranslation) (f : Finished t) where
+  abbrev read : ℕ × ℕ → ℕ × List ℕ
+  read image = (image.0, runtime_bytes (memory_plan_of t) image.1)
+
   within-one : (w : Way) (i : ℕ) (m : Memory) → slice_get t.module.memories i ≡ Some m
       → ImageIsWithin (page_size_of t) (minimum_bytes m) (image_in w (memory_plan_of t) i)
   within-one way.Copy i m at = tt
   within-one way.Map i m at = over (slice_get (memory_plan_of t).images i) refl where
     over : (o : Option (Option (ℕ × ℕ))) → slice_get (memory_plan_of t).images i ≡ o
-        → ImageIsWithin (page_size_of t) (minimum_bytes m) (option_map (λ image. (image.0, runtime_bytes (memory_plan_of t) image.1)) (unwrap_or o None))
+        → ImageIsWithin (page_size_of t) (minimum_bytes m) (option_map read (unwrap_or o None))
     over None e = tt
     over (Some None) e = tt
     over (Some (Some image)) e = (f.images i image e).within m at
@@ -67,7 +70,7 @@ module _ (t : ModuleTranslation) (f : Finished t) where
   none-imported way.Copy i l = refl
   none-imported way.Map i l = over (slice_get (memory_plan_of t).images i) refl where
     over : (o : Option (Option (ℕ × ℕ))) → slice_get (memory_plan_of t).images i ≡ o
-        → option_map (λ (image : ℕ × ℕ). (image.0, runtime_bytes (memory_plan_of t) image.1)) (unwrap_or o None) ≡ None
+        → option_map read (unwrap_or o None) ≡ None
     over None e = refl
     over (Some None) e = refl
     over (Some (Some image)) e = let d = (f.images i image e).defined in absurd (omega arith)

@@ -2,7 +2,7 @@
 use Rattle.std.proofs.Common.{◌≡◌, ℕ, zero, suc, ◌+◌, ◌-◌, ◌<◌, ◌≤◌, List, [], ◌∷◌, ◌++◌, length, map, get_or, take, drop, replicate, Option, None, Some, append_assoc, refl, sym, ◌∙◌, ap, subst, arith}
 use Rattle.std.specs.Prelude.{All}
 use Rattle.std.specs.Global.{Vec}
-use Rattle.std.proofs.lemmas.List.{map_push, map_more, map-append}
+use Rattle.std.proofs.lemmas.List.{map_push, map_more, map-append, take_all}
 use Rattle.std.proofs.lemmas.List.Elements.{All-nil, All-cons, All-head, All-tail, All-push, All-weaker, All-replicate}
 use Rattle.replay_spec.specs.Phases.{Piece}
 use Rattle.replay_spec.specs.Values as plain
@@ -108,3 +108,14 @@ plain-tables nodes (t ∷ ts) none =
       below = All-cons (λ (x : Vec Value). All (NamesBelow (length nodes)) x.items) t ts one.below rest.below;
       are = ap (λ c. c ∷ cells_in (terms_of nodes) ts) one.are ∙ ap (λ cs. map imported_value t.items ∷ cs) rest.are;
     }
+
+-- cells that are filled up to a size
+pub filled : {A B C : Type 0} (f : A → C) (h : B → C) (xs : List A) (ys : List B) (n count : ℕ) (x : A) (y : B) → f x ≡ h y → map f xs ≡ map h ys → length xs ≤ n
+    → n - count ≡ n - length ys → map f (take n xs ++ replicate (n - count) x) ≡ map h ys ++ replicate (n - length ys) (h y)
+filled f h xs ys n count x y one before short same =
+    ap (λ zs. map f (zs ++ replicate (n - count) x)) (take_all n xs short) ∙ map-append f xs (replicate (n - count) x) ∙ ap (λ zs. zs ++ map f (replicate (n - count) x)) before
+    ∙ ap (λ zs. map h ys ++ zs) (over (n - count) ∙ ap (λ k. replicate k (h y)) same)
+  where
+    over : (k : ℕ) → map f (replicate k x) ≡ replicate k (h y)
+    over zero = refl
+    over (suc k) = ap (λ z. z ∷ map f (replicate k x)) one ∙ ap (λ zs. h y ∷ zs) (over k)

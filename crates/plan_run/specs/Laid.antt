@@ -62,6 +62,6 @@ abbrev pub TablesAreLaid : ModuleTranslation → TypeList → Imports → Laid �
 TablesAreLaid t types imports laid = Lays (element_phase t types imports) (length t.module.tables) (laid_tables laid) laid.table_trap
 
 -- each defined memory lends the pages of the image that it begins with, and no other
-abbrev pub IsShared : ModuleTranslation → Way → Laid → Type 0
-IsShared t w laid = (i : ℕ) (memory : Contents) → slice_get laid.memories.items i ≡ Some memory → t.module.num_imported_memories ≤ i
+abbrev pub LendImages : ModuleTranslation → Way → List Contents → Type 0
+LendImages t w memories = (i : ℕ) (memory : Contents) → slice_get memories i ≡ Some memory → t.module.num_imported_memories ≤ i
     → count_lent memory.lent ≡ image_pages (page_size_of t) (image_in w (memory_plan_of t) i)

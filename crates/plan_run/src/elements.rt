@@ -16,6 +16,7 @@ ghost use Rattle.plan_run.specs.Tables.{cells_in, element_piece, PiecesMean, Tab
 ghost use Rattle.plan_run.specs.Values.{values_in, terms_of, IsPlain, NamesBelow, AreOrdered};
 
 use crate::evaluation::{evaluate, offset_of};
+use crate::segments::is_within;
 use crate::value::{Node, Value};
 use entity_map::{EntityRef, OutOfMemory};
 use init_plan::ModuleTranslation;
@@ -85,9 +86,13 @@ fn items_of(
         (item_cells (values_in (terms_of nodes.old.items) globals.now) (field_count_in translation.now types.now) (the_items elements.now))) }
 {
     match elements {
-        TableSegmentElements::Functions(functions) => references(alloc, functions),
+        TableSegmentElements::Functions(functions) => {
+            let items = references(alloc, functions)?;
+            Ok(items)
+        }
         TableSegmentElements::Expressions { exprs, .. } => {
-            evaluate_all(alloc, translation, types, globals, nodes, exprs)
+            let items = evaluate_all(alloc, translation, types, globals, nodes, exprs)?;
+            Ok(items)
         }
     }
 }
@@ -127,13 +132,13 @@ fn write_cells(tables: &mut Vec<Vec<Value>>, piece: &ElementPiece) -> bool
     ensures below { (k : ℕ) → TablesBelow k tables.old.items → All (NamesBelow k) piece.now.items.items → TablesBelow k tables.new.items }
     ensures count { length tables.new.items ≡ length tables.old.items }
 {
-    let table = &mut tables[piece.table];
-    let place = piece.place as usize;
+    let size = tables[piece.table].len();
     let count = piece.items.len();
-    if table.len() < place || table.len() - place < count {
+    if !is_within(size as u64, piece.place, count as u64) {
         return false;
     }
-    table[place..place + count].copy_from_slice(&piece.items);
+    let place = piece.place as usize;
+    tables[piece.table][place..place + count].copy_from_slice(&piece.items);
     true
 }
 

@@ -1,6 +1,6 @@
 //! Data segments.
 
-ghost use Rattle.std.specs.Prelude.{◌≡◌, ◌++◌, ◌<◌, ◌≤◌, ℕ, List, [], length, map, All, IfOk, OnOk, OnErr};
+ghost use Rattle.std.specs.Prelude.{◌≡◌, ◌↔◌, ◌+◌, ◌++◌, ◌<◌, ◌≤◌, ℕ, List, [], length, map, All, IsTrue, IfOk, OnOk};
 ghost use Rattle.std.specs.Option.{option_map, option_to_list};
 ghost use Rattle.std.specs.List.{filter_map};
 ghost use Rattle.wasm_index.specs.Index.{number_of};
@@ -115,6 +115,16 @@ pub(crate) fn pieces_left<'t>(
     Ok(pieces)
 }
 
+/// Whether so many items from a place on lie within a size.
+pub(crate) fn is_within(size: u64, place: u64, count: u64) -> bool
+    ensures { IsTrue result ↔ (place + count ≤ size) }
+{
+    if size < place {
+        return false;
+    }
+    count <= size - place
+}
+
 /// Writes a piece, where it fits, and tells whether it does.
 fn write_piece(
     memories: &mut Vec<PagedMemory<'_>>,
@@ -124,12 +134,11 @@ fn write_piece(
     ensures writes { IfOk result (WritesPiece (data_piece piece.now) (bytes_in memories.old.items) (bytes_in memories.new.items)) }
     ensures lent { OnOk result (LendNoMore memories.old.items memories.new.items) }
 {
-    let memory = &mut memories[piece.memory];
-    let size = memory.len();
-    if size < piece.place || size - piece.place < piece.bytes.len() as u64 {
+    let memory = &memories[piece.memory];
+    if !is_within(memory.len(), piece.place, piece.bytes.len() as u64) {
         return Ok(false);
     }
-    memory.write(piece.place, piece.bytes)?;
+    memories[piece.memory].write(piece.place, piece.bytes)?;
     Ok(true)
 }
 

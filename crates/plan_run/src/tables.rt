@@ -12,11 +12,11 @@ ghost use Rattle.plan_run.specs.Values.{value_in, values_in, terms_of, imported_
 
 use crate::evaluation::evaluate;
 use crate::value::{Node, Value};
-use entity_map::{EntityRef, OutOfMemory, ReservedValue};
+use entity_map::{OutOfMemory, ReservedValue};
 use init_plan::ModuleTranslation;
 use module_types::ModuleTypes;
 use std::alloc::Global;
-use wasm_index::{DefinedTableIndex, FuncIndex};
+use wasm_index::FuncIndex;
 use wasm_module::TableInitialValue;
 
 /// A cell of an image.
@@ -77,22 +77,19 @@ fn first_table(
         → AllMean nodes.new.items cells.items
         (first_cells (values_in (terms_of nodes.old.items) globals.now) (field_count_in translation.now types.now) planned)) }
 {
-    let tables = translation.module.tables.as_slice();
-    let minimum = tables[translation.module.num_imported_tables + number]
-        .limits
-        .min as usize;
-    let index = DefinedTableIndex::new(number);
-    match &translation.table_initialization.initial_values[index] {
+    let module = &translation.module;
+    let table = module.tables.as_slice()[module.num_imported_tables + number];
+    let minimum = table.limits.min as usize;
+    match &translation.table_initialization.initial_values.as_slice()[number] {
         TableInitialValue::Null => {
-            image_cells(
-                alloc,
-                &translation.module.table_initialization[index],
-                minimum,
-            )
+            let image = &module.table_initialization.as_slice()[number];
+            let cells = image_cells(alloc, image, minimum)?;
+            Ok(cells)
         }
         TableInitialValue::Expr(initial) => {
             let value = evaluate(alloc, translation, types, globals, nodes, initial)?;
-            equal_cells(alloc, value, minimum)
+            let cells = equal_cells(alloc, value, minimum)?;
+            Ok(cells)
         }
     }
 }

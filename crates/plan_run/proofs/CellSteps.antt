@@ -1,0 +1,55 @@
+-- Cells that are written to a table.
+use Rattle.std.proofs.Common.{◌≡◌, ℕ, zero, suc, ◌+◌, ◌-◌, ◌<◌, ◌≤◌, List, [], ◌∷◌, ◌++◌, length, map, get_or, set, take, drop, replicate, Option, None, Some, refl, sym, ◌∙◌, ap, subst, arith}
+use Rattle.std.specs.Prelude.{slice_get, All}
+use Rattle.std.specs.Global.{Vec}
+use Rattle.std.specs.Vec.{with_items}
+use borrow.Rule.Slice.PartMut.{post_of}
+use Rattle.std.proofs.lemmas.List.{length-map, map-append, take-map, drop-map, drop-drop, with_items_is}
+use Rattle.std.proofs.lemmas.List.Elements.{All-take, All-drop, All-append}
+use Rattle.std.proofs.lemmas.Option.{none-some}
+use Rattle.wasm_types.specs.declared.table.Table.{Table}
+use Rattle.wasm_module.specs.declared.table_initialization.TableInitialValue.{TableInitialValue}
+use Rattle.replay_spec.specs.Tables.{PlannedTable}
+use Rattle.table_images.specs.Views.{initial_of, planned_tables_of}
+use Rattle.paged_memory.specs.Writing.{written}
+use Rattle.plan_run.proofs.Writing.{length-written}
+
+-- ---- lists
+
+pub map-written : {A B : Type 0} (f : A → B) (at : ℕ) (items old : List A) → map f (written at items old) ≡ written at (map f items) (map f old)
+map-written f at items old =
+    map-append f (take at old) (items ++ drop (at + length items) old)
+    ∙ ap (λ xs. xs ++ map f (items ++ drop (at + length items) old)) (sym (take-map f at old))
+    ∙ ap (λ xs. take at (map f old) ++ xs) (map-append f items (drop (at + length items) old)
+    ∙ ap (λ xs. map f items ++ xs) (sym (drop-map f (at + length items) old) ∙ ap (λ n. drop (at + n) (map f old)) (sym (length-map items f))))
+
+pub all-written : {A : Type 0} (P : A → Type 0) (at : ℕ) (items old : List A) → All P items → All P old → All P (written at items old)
+all-written P at items old new all =
+    All-append P (take at old) (items ++ drop (at + length items) old) (All-take P at old all)
+    (All-append P items (drop (at + length items) old) new (All-drop P (at + length items) old all))
+
+-- what a table holds once a part of it is written
+pub part-written : {A : Type 0} (v : Vec A) (xs part items : List A) (at n : ℕ) → xs ≡ v.items → part ≡ items → n ≡ length items → v.len ≡ length v.items
+    → at + length items ≤ length v.items → (with_items v (take at xs ++ (part ++ post_of at n xs))).items ≡ written at items v.items
+part-written v xs part items at n old new count len l =
+    let same : take at xs ++ (part ++ post_of at n xs) ≡ written at items v.items =
+    ap (λ ys. take at ys ++ (part ++ post_of at n ys)) old ∙ ap (λ ys. take at v.items ++ (ys ++ post_of at n v.items)) new
+    ∙ ap (λ ys. take at v.items ++ (items ++ ys)) (drop-drop n at v.items ∙ ap (λ k. drop (at + k) v.items) count) in
+    ap (λ ws. (with_items v ws).items) same ∙ with_items_is v (written at items v.items) (length-written at items v.items l ∙ sym len)
+
+-- ---- planned tables
+
+pub planned-at : (ts : List Table) (vs : List TableInitialValue) (images : List (List (Option ℕ))) (i : ℕ) (t : Table) (v : TableInitialValue) (image : List (Option ℕ))
+    → slice_get ts i ≡ Some t → slice_get vs i ≡ Some v → slice_get images i ≡ Some image
+    → slice_get (planned_tables_of ts vs images) i ≡ Some (record { minimum = t.limits.min; initial = initial_of v; image = image })
+planned-at [] vs images i t v image a b c = absurd (none-some t a)
+planned-at (x ∷ ts) [] images i t v image a b c = absurd (none-some v b)
+planned-at (x ∷ ts) (y ∷ vs) [] i t v image a b c = absurd (none-some image c)
+planned-at (x ∷ ts) (y ∷ vs) (z ∷ images) zero t v image a b c =
+    let one : x ≡ t = cc in
+    let two : y ≡ v = cc in
+    let three : z ≡ image = cc in
+    ap (λ o. Some (record { minimum = o.limits.min; initial = initial_of y; image = z })) one
+    ∙ ap (λ o. Some (record { minimum = t.limits.min; initial = initial_of o; image = z })) two
+    ∙ ap (λ o. Some (record { minimum = t.limits.min; initial = initial_of v; image = o })) three
+planned-at (x ∷ ts) (y ∷ vs) (z ∷ images) (suc i) t v image a b c = planned-at ts vs images i t v image a b c
