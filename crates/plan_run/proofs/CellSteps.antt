@@ -6,11 +6,18 @@ use Rattle.std.specs.Vec.{with_items}
 use borrow.Rule.Slice.PartMut.{post_of}
 use Rattle.std.proofs.lemmas.List.{length-map, map-append, take-map, drop-map, drop-drop, with_items_is}
 use Rattle.std.proofs.lemmas.List.Elements.{All-take, All-drop, All-append}
-use Rattle.std.proofs.lemmas.Option.{none-some}
+use Rattle.std.specs.Option.{option_map}
+use Rattle.std.proofs.lemmas.Option.{none-some, same_Some, slice_get-map}
+use Rattle.wasm_index.specs.declared.index.Index.{Index}
+use Rattle.wasm_index.specs.declared.spaces.FuncSpace.{FuncSpace}
+use Rattle.init_plan.specs.declared.translation.ModuleTranslation.{ModuleTranslation}
+use Rattle.init_plan.specs.Tables.{own_tables, plan_of_tables}
+use Rattle.table_images.specs.Steps.{images_of}
+use Rattle.plan_run.proofs.Lists.{get-drop, all-at}
 use Rattle.wasm_types.specs.declared.table.Table.{Table}
 use Rattle.wasm_module.specs.declared.table_initialization.TableInitialValue.{TableInitialValue}
 use Rattle.replay_spec.specs.Tables.{PlannedTable}
-use Rattle.table_images.specs.Views.{initial_of, planned_tables_of}
+use Rattle.table_images.specs.Views.{cell_of, image_of, initial_of, planned_tables_of}
 use Rattle.paged_memory.specs.Writing.{written}
 use Rattle.plan_run.proofs.Writing.{length-written}
 
@@ -53,3 +60,27 @@ planned-at (x ∷ ts) (y ∷ vs) (z ∷ images) zero t v image a b c =
     ∙ ap (λ o. Some (record { minimum = t.limits.min; initial = initial_of o; image = z })) two
     ∙ ap (λ o. Some (record { minimum = t.limits.min; initial = initial_of v; image = o })) three
 planned-at (x ∷ ts) (y ∷ vs) (z ∷ images) (suc i) t v image a b c = planned-at ts vs images i t v image a b c
+
+-- what is planned of a table, by its type, initial value and image
+pub planned-is : (t : ModuleTranslation) (number : ℕ) (d : Table) (value : TableInitialValue) (image : Vec (Index FuncSpace)) (planned : PlannedTable)
+    → slice_get t.module.tables (t.module.num_imported_tables + number) ≡ Some d → slice_get t.table_initialization.initial_values number ≡ Some value
+    → slice_get t.module.table_initialization number ≡ Some image → slice_get (plan_of_tables t).tables number ≡ Some planned
+    → planned ≡ record { minimum = d.limits.min; initial = initial_of value; image = image_of image.items }
+planned-is t number d value image planned table_at value_at image_at at =
+    same_Some planned (record { minimum = d.limits.min; initial = initial_of value; image = image_of image.items })
+    (sym at ∙ planned-at (own_tables t) t.table_initialization.initial_values (images_of t.module.table_initialization) number d value (image_of image.items)
+    (get-drop t.module.num_imported_tables t.module.tables number ∙ table_at) value_at
+    (slice_get-map (λ (x : Vec (Index FuncSpace)). image_of x.items) t.module.table_initialization number ∙ ap (option_map (λ (x : Vec (Index FuncSpace)). image_of x.items)) image_at))
+
+-- an image is not longer than its table
+pub image-short : (t : ModuleTranslation) (number : ℕ) (d : Table) (value : TableInitialValue) (image : Vec (Index FuncSpace))
+    → slice_get t.module.tables (t.module.num_imported_tables + number) ≡ Some d → slice_get t.table_initialization.initial_values number ≡ Some value
+    → slice_get t.module.table_initialization number ≡ Some image → All (λ table. length table.image ≤ table.minimum) (plan_of_tables t).tables
+    → length image.items ≤ d.limits.min
+image-short t number d value image table_at value_at image_at short =
+    let at = planned-at (own_tables t) t.table_initialization.initial_values (images_of t.module.table_initialization) number d value (image_of image.items)
+    (get-drop t.module.num_imported_tables t.module.tables number ∙ table_at) value_at
+    (slice_get-map (λ (x : Vec (Index FuncSpace)). image_of x.items) t.module.table_initialization number ∙ ap (option_map (λ (x : Vec (Index FuncSpace)). image_of x.items)) image_at) in
+    let l : length (image_of image.items) ≤ d.limits.min = all-at (λ (x : PlannedTable). length x.image ≤ x.minimum) (plan_of_tables t).tables number
+    (record { minimum = d.limits.min; initial = initial_of value; image = image_of image.items }) short at in
+    omega (arith, l, length-map image.items cell_of)

@@ -3,25 +3,40 @@ use Rattle.std.proofs.Common.{◌≡◌, ℕ, zero, suc, ◌+◌, ◌-◌, ◌*�
 use Rattle.std.specs.Prelude.{slice_get, unwrap_or, sum_by, All}
 use Rattle.std.specs.Option.{option_map}
 use Rattle.std.proofs.lemmas.List.{length-map, get_or-map, length-append, length-drop}
-use Rattle.std.proofs.lemmas.List.Elements.{All-nil, All-cons, All-head, All-tail, All-get_or, All-same}
+use Rattle.std.proofs.lemmas.List.Elements.{All-nil, All-cons, All-head, All-tail, All-get_or, All-same, All-map}
 use Rattle.std.proofs.lemmas.List.Sums.{get_or-le-sum_by}
-use Rattle.std.proofs.lemmas.Option.{slice_get-get_or}
+use Rattle.std.proofs.lemmas.Option.{slice_get-get_or, slice_get_within, none-some, same_Some}
 use Rattle.wasm_spec.specs.Module.{Expression}
 use Rattle.wasm_types.specs.declared.memory.Memory.{Memory}
 use Rattle.wasm_types.specs.Memories.{minimum_bytes}
 use Rattle.replay_spec.specs.Phases.{Piece, Phase}
 use Rattle.replay_spec.specs.Plan.{MemoryPlan, PlannedSegment, PlannedOffset, Expr, Static, runtime_bytes}
+use Rattle.replay_spec.specs.Elements.{ActiveElements, elements_piece}
+use Rattle.replay_spec.specs.Values as plain
+use Rattle.replay_spec.specs.Values.{Term}
+use Rattle.std.specs.Global.{Vec}
+use Rattle.wasm_index.specs.declared.index.Index.{Index}
+use Rattle.wasm_index.specs.declared.spaces.FuncSpace.{FuncSpace}
+use Rattle.wasm_types.specs.declared.table.Table.{Table}
+use Rattle.wasm_module.specs.declared.table_initialization.TableInitialValue.{TableInitialValue}
+use Rattle.table_images.specs.Steps.{images_of}
+use Rattle.table_images.specs.Views.{image_of, planned_tables_of}
+use Rattle.init_plan.specs.Tables.{plan_of_tables, own_tables, AreCounted}
+use Rattle.plan_run.specs.declared.elements.ElementPiece.{ElementPiece}
+use Rattle.plan_run.specs.declared.segments.DataPiece.{DataPiece}
 use Rattle.init_plan.specs.declared.translation.ModuleTranslation.{ModuleTranslation}
 use Rattle.init_plan.specs.Views.{memory_plan_of}
 use Rattle.paged_memory.specs.Memory.{Contents, count_lent}
 use Rattle.plan_run.specs.declared.laid.Way.{Way}
 use Rattle.plan_run.specs.declared.laid.Way.TheVariants as way
 use Rattle.plan_run.specs.Finished.{Finished, ImageFits, IsStatic}
-use Rattle.plan_run.specs.Lays.{Lays}
+use Rattle.plan_run.specs.Laid.{LendImages}
+use Rattle.plan_run.specs.Lays.{Lays, Hold}
 use Rattle.plan_run.specs.Limits.{most_bytes, page_size_of, own_memories}
-use Rattle.plan_run.specs.Memories.{image_in, begun, seen, ImageIsWithin, ImagesAreWithin}
-use Rattle.plan_run.specs.Segments.{left_piece, left_pieces}
-use Rattle.plan_run.proofs.Begun.{within-at}
+use Rattle.plan_run.specs.Memories.{bytes_in, plan_phase, data_piece, image_in, image_pages, begun, seen, ImageIsWithin, ImagesAreWithin}
+use Rattle.plan_run.specs.Segments.{left_piece, left_pieces, LendNoMore}
+use Rattle.plan_run.specs.Tables.{element_piece}
+use Rattle.plan_run.proofs.Begun.{within-at, begun-hold, begun-lent}
 use Rattle.plan_run.proofs.Lists.{get-drop}
 
 -- ---- lists
@@ -139,3 +154,75 @@ module _ (place_of : Expression → ℕ) (plan : MemoryPlan) where
 
 pub lays-count : {A : Type 0} (phase : Phase A) (n m : ℕ) (objects : List (List A)) (trapped : Option ℕ) → n ≡ m → Lays phase n objects trapped → Lays phase m objects trapped
 lays-count phase n m objects trapped same lays = subst (λ k. Lays phase k objects trapped) same lays
+
+-- ---- what the memories hold, and lend
+
+module _ (t : ModuleTranslation) (f : Finished t) (w : Way) (place_of : Expression → ℕ) (imported memories : List Contents) (many : length imported ≡ t.module.num_imported_memories)
+    (are : map seen memories ≡ map seen imported ++ begun w (memory_plan_of t) (page_size_of t) t.module.num_imported_memories (own_memories t)) where
+  are-so : map seen memories ≡ map seen imported ++ begun w (memory_plan_of t) (page_size_of t) (length imported) (own_memories t)
+  are-so = subst (λ k. map seen memories ≡ map seen imported ++ begun w (memory_plan_of t) (page_size_of t) k (own_memories t)) (sym many) are
+
+  pub memories-hold : Hold (plan_phase w place_of (bytes_in imported) (memory_plan_of t)).sizes (plan_phase w place_of (bytes_in imported) (memory_plan_of t)).base (bytes_in memories)
+  memories-hold = begun-hold w (memory_plan_of t) (page_size_of t) imported memories (own_memories t) are-so place_of refl
+      (λ i l. none-imported t f w i (subst (λ k. i < k) many l)) (subst (λ k. ImagesAreWithin w (memory_plan_of t) (page_size_of t) k (own_memories t)) (sym many) (images-within t f w))
+
+  alone-at : (i : ℕ) (image : ℕ × List ℕ) → image_in way.Map (memory_plan_of t) i ≡ Some image → All (λ s. IsStatic s.offset) (memory_plan_of t).segments
+  alone-at i image is = over (slice_get (memory_plan_of t).images i) refl is where
+    over : (o : Option (Option (ℕ × ℕ))) → slice_get (memory_plan_of t).images i ≡ o → option_map (read t f) (unwrap_or o None) ≡ Some image
+        → All (λ s. IsStatic s.offset) (memory_plan_of t).segments
+    over None e some = absurd (none-some image some)
+    over (Some None) e some = absurd (none-some image some)
+    over (Some (Some one)) e some = (f.images i one e).alone
+
+  pub shared-after : (new : List Contents) → LendNoMore memories new → (left_pieces w place_of (memory_plan_of t) (memory_plan_of t).segments ≡ [] → new ≡ memories) → LendImages t w new
+  shared-after new less still i memory at high =
+      let low = slice_get_within new i memory at in
+      let count = less.count in
+      let before : Contents = get_or memories i memory in
+      let there : slice_get memories i ≡ Some before = slice_get-get_or memories i memory (omega arith) in
+      let begun_pages = begun-lent w (memory_plan_of t) (page_size_of t) imported memories (own_memories t) are-so i before (omega arith) there in
+      over w refl (image_in w (memory_plan_of t) i) refl begun_pages (less.lent i before memory there at) at there
+    where
+      over : (v : Way) → w ≡ v → (o : Option (ℕ × List ℕ)) → image_in w (memory_plan_of t) i ≡ o
+          → count_lent (get_or memories i memory).lent ≡ image_pages (page_size_of t) (image_in w (memory_plan_of t) i)
+          → count_lent memory.lent ≤ count_lent (get_or memories i memory).lent → slice_get new i ≡ Some memory → slice_get memories i ≡ Some (get_or memories i memory)
+          → count_lent memory.lent ≡ image_pages (page_size_of t) (image_in w (memory_plan_of t) i)
+      over v is None none pages less_here new_at old_at =
+          let zero_pages = ap (image_pages (page_size_of t)) none in
+          omega arith
+      over way.Copy is (Some image) some pages less_here new_at old_at =
+          absurd (none-some image (ap (λ x. image_in x (memory_plan_of t) i) (sym is) ∙ some))
+      over way.Map is (Some image) some pages less_here new_at old_at =
+          let alone = alone-at i image (ap (λ x. image_in x (memory_plan_of t) i) (sym is) ∙ some) in
+          let same = still (ap (λ x. left_pieces x place_of (memory_plan_of t) (memory_plan_of t).segments) is ∙ none-left place_of (memory_plan_of t) (memory_plan_of t).segments alone) in
+          let one : get_or memories i memory ≡ memory = same_Some (get_or memories i memory) memory (sym old_at ∙ ap (λ xs. slice_get xs i) (sym same) ∙ new_at) in
+          ap (λ m. count_lent m.lent) (sym one) ∙ pages
+
+pub nil-mapped : {A B : Type 0} (f : A → B) (xs : List A) → map f xs ≡ [] → xs ≡ []
+nil-mapped f [] is = refl
+nil-mapped f (x ∷ xs) is = absurd (let e = ap length is in omega arith)
+
+-- ---- tables
+
+planned-count : (ts : List Table) (vs : List TableInitialValue) (images : List (List (Option ℕ))) → length ts ≡ length vs → length images ≡ length vs
+    → length (planned_tables_of ts vs images) ≡ length ts
+planned-count [] vs images one two = refl
+planned-count (t ∷ ts) [] images one two = absurd (omega arith)
+planned-count (t ∷ ts) (v ∷ vs) [] one two = absurd (omega arith)
+planned-count (t ∷ ts) (v ∷ vs) (i ∷ images) one two = ap suc (planned-count ts vs images (omega arith) (omega arith))
+
+-- so many tables are planned
+pub tables-planned : (t : ModuleTranslation) → AreCounted t → length (plan_of_tables t).tables ≡ length (own_tables t)
+tables-planned t counted = planned-count (own_tables t) t.table_initialization.initial_values (images_of t.module.table_initialization) counted.values
+    (length-map t.module.table_initialization (λ (image : Vec (Index FuncSpace)). image_of image.items) ∙ counted.images)
+
+pub elements-below : (globals : List plain.Value) (fields : ℕ → ℕ) (terms : List Term) (n : ℕ) (segments : List ActiveElements) (pieces : List ElementPiece)
+    → All (λ s. s.table < n) segments → map (element_piece terms) pieces ≡ map (elements_piece globals fields) segments → All (λ p. p.table < n) pieces
+elements-below globals fields terms n segments pieces all are =
+    all-unmap (element_piece terms) (λ (q : Piece plain.Value). q.object < n) pieces
+    (All-same (λ (q : Piece plain.Value). q.object < n) (map (element_piece terms) pieces) (map (elements_piece globals fields) segments) are
+    (All-map (λ (q : Piece plain.Value). q.object < n) (elements_piece globals fields) segments all))
+
+pub data-below : (n : ℕ) (left : List (Piece ℕ)) (pieces : List DataPiece) → All (λ q. q.object < n) left → map data_piece pieces ≡ left → All (λ p. p.memory < n) pieces
+data-below n left pieces all are =
+    all-unmap data_piece (λ (q : Piece ℕ). q.object < n) pieces (All-same (λ (q : Piece ℕ). q.object < n) (map data_piece pieces) left are all)

@@ -71,3 +71,8 @@ pub copied-is : {A : Type 0} (xs : List A) (i : ℕ) (o : Option (Bor A)) → Ma
     → option_copied o ≡ slice_get xs i
 copied-is xs i None h = sym (slice_get_past xs i h)
 copied-is xs i (Some x) h = ap Some (h.1 x.now) ∙ sym (slice_get-get_or xs i x.now h.0)
+
+pub some-at : {A : Type 0} (xs : List A) (i : ℕ) → i < length xs → (x : A) × (slice_get xs i ≡ Some x)
+some-at [] i l = absurd (omega arith)
+some-at (x ∷ xs) zero l = (x, refl)
+some-at (x ∷ xs) (suc i) l = some-at xs i (omega arith)

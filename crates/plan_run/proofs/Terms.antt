@@ -52,7 +52,7 @@ values-same one other k (v ∷ vs) same below =
     ap (λ x. x ∷ values_in one vs) (value-same one other k v same (All-head (NamesBelow k) v vs below))
     ∙ ap (λ xs. value_in other v ∷ xs) (values-same one other k vs same (All-tail (NamesBelow k) v vs below))
 
-names-more : (k m : ℕ) (v : Value) → k ≤ m → NamesBelow k v → NamesBelow m v
+pub names-more : (k m : ℕ) (v : Value) → k ≤ m → NamesBelow k v → NamesBelow m v
 names-more k m (value.I32 n) l below = tt
 names-more k m (value.I64 n) l below = tt
 names-more k m (value.F32 bits) l below = tt

@@ -37,13 +37,13 @@ fn simple_value(value: GlobalConstValue) -> Value
 fn write_simple(
     values: &[(DefinedGlobalIndex, GlobalConstValue)],
     imports: usize,
-    globals: &mut [Value],
+    globals: &mut Vec<Value>,
 )
-    requires { All (λ g. imports + number_of g.0 < length globals.old) values.now }
-    ensures written { (terms : List Term) → values_in terms globals.new
-        ≡ simple_written imports (values_in terms globals.old) (map simple_global_of values.now) }
-    ensures below { (k : ℕ) → All (NamesBelow k) globals.old → All (NamesBelow k) globals.new }
-    ensures count { length globals.new ≡ length globals.old }
+    requires { All (λ g. imports + number_of g.0 < length globals.old.items) values.now }
+    ensures written { (terms : List Term) → values_in terms globals.new.items
+        ≡ simple_written imports (values_in terms globals.old.items) (map simple_global_of values.now) }
+    ensures below { (k : ℕ) → All (NamesBelow k) globals.old.items → All (NamesBelow k) globals.new.items }
+    ensures count { length globals.new.items ≡ length globals.old.items }
 {
     for (index, value) in values {
         globals[imports + index.index()] = simple_value(*value);

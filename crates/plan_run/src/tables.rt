@@ -1,6 +1,7 @@
 //! Tables as they begin.
 
 ghost use Rattle.std.specs.Prelude.{◌≡◌, ◌+◌, ◌++◌, ◌<◌, ◌≤◌, ℕ, List, Some, length, map, replicate, slice_get, All, IfOk, OnOk};
+ghost use Rattle.wasm_types.specs.declared.table.Table.{Table as TableType};
 ghost use Rattle.replay_spec.specs.Tables.{PlannedTable, reference_of};
 ghost use Rattle.replay_spec.specs.Values.{Term};
 ghost use Rattle.table_images.specs.Views.{cell_of as image_cell, image_of};
@@ -18,6 +19,7 @@ use module_types::ModuleTypes;
 use std::alloc::Global;
 use wasm_index::FuncIndex;
 use wasm_module::TableInitialValue;
+use wasm_types::Table;
 
 /// A cell of an image.
 fn cell(function: FuncIndex) -> Value
@@ -57,6 +59,14 @@ fn equal_cells(alloc: Global, value: Value, minimum: usize) -> Result<Vec<Value>
     Ok(cells)
 }
 
+/// The minimum size of a table, in cells.
+fn minimum_of(tables: &[Table], at: usize) -> u64
+    requires { at < length tables.now }
+    ensures { (table : TableType) → slice_get tables.now at ≡ Some table → result ≡ table.limits.min }
+{
+    tables[at].limits.min
+}
+
 /// A defined table as it begins, by its number among those.
 fn first_table(
     alloc: Global,
@@ -78,8 +88,8 @@ fn first_table(
         (first_cells (values_in (terms_of nodes.old.items) globals.now) (field_count_in translation.now types.now) planned)) }
 {
     let module = &translation.module;
-    let table = module.tables.as_slice()[module.num_imported_tables + number];
-    let minimum = table.limits.min as usize;
+    let place = module.num_imported_tables + number;
+    let minimum = minimum_of(module.tables.as_slice(), place) as usize;
     match &translation.table_initialization.initial_values.as_slice()[number] {
         TableInitialValue::Null => {
             let image = &module.table_initialization.as_slice()[number];

@@ -15,10 +15,10 @@ loop-expression-preserved c =
     let before = c.loop-expression.nodes.items in
     let new = c.evaluate.new.nodes.items in
     let i = c.loop-expression.expression-index in
-    let e = c.loop-expression-item.result in
+    let e = c.expression-item.result in
     let globals = values_in (terms_of start) c.args.globals.now in
     let kept = kept-values start before c.loop-expression.invariant.grows.extends c.args.globals.now c.requires.globals in
-    let one = subst (λ x. Means new c.in_ok-value.value (cell_of globals fields (expression_of x))) c.loop-expression-item.is
+    let one = subst (λ x. Means new c.in_ok-value.value (cell_of globals fields (expression_of x))) c.expression-item.is
     (subst (λ xs. Means new c.in_ok-value.value (cell_of xs fields (expression_of e))) kept c.in_ok-value.ensures.means) in
     record {
       grows = grows-on start before new c.loop-expression.invariant.grows c.in_ok-value.ensures.grows;

@@ -23,7 +23,7 @@ loop-segment-preserved c =
     let between = c.offset_of.new.nodes.items in
     let new = c.items_of.new.nodes.items in
     let i = c.loop-segment.segment-index in
-    let s = c.loop-segment-item.result in
+    let s = c.segment-item.result in
     let values = c.args.globals.now in
     let globals = values_in (terms_of start) values in
     let grown = grows-on start before between c.loop-segment.invariant.grows c.in_ok-place.ensures.grows in
@@ -42,5 +42,5 @@ loop-segment-preserved c =
       means = subst (λ ps. PiecesMean new ps (map (elements_piece globals fields) (map active_elements_of (take (i + 1) c.deref-segment-items.result.now)))) (sym c.in_ok-push.ensures.items)
           (subst (PiecesMean new _) (map-two-more (elements_piece globals fields) active_elements_of c.deref-segment-items.result.now i s (omega arith))
           (pieces-more before new (extends-on before between new c.in_ok-place.ensures.grows.extends c.in_ok-items.ensures.grows.extends) c.loop-segment.pieces.items _ p _
-          c.loop-segment.invariant.means items.below (one ∙ ap (λ x. elements_piece globals fields (active_elements_of x)) c.loop-segment-item.is)));
+          c.loop-segment.invariant.means items.below (one ∙ ap (λ x. elements_piece globals fields (active_elements_of x)) c.segment-item.is)));
     }

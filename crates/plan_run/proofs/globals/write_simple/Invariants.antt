@@ -9,8 +9,8 @@ use Rattle.plan_run.proofs.globals.write_simple.Given as goal
 -- with the values that are left, the globals become what they become of all values
 abbrev pub invariant-loop-index : goal.invariant-loop-index
 invariant-loop-index l = record {
-  count : length l.globals ≡ length l.fn.globals;
-  written : (terms : List Term) → simple_written l.imports (values_in terms l.globals) (map simple_global_of (drop l.index-index l.values))
-      ≡ simple_written l.imports (values_in terms l.fn.globals) (map simple_global_of l.values);
-  below : (k : ℕ) → All (NamesBelow k) l.fn.globals → All (NamesBelow k) l.globals;
+  count : length l.globals.items ≡ length l.fn.globals.items;
+  written : (terms : List Term) → simple_written l.imports (values_in terms l.globals.items) (map simple_global_of (drop l.index-index l.values))
+      ≡ simple_written l.imports (values_in terms l.fn.globals.items) (map simple_global_of l.values);
+  below : (k : ℕ) → All (NamesBelow k) l.fn.globals.items → All (NamesBelow k) l.globals.items;
 }
