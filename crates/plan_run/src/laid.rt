@@ -1,8 +1,11 @@
 //! What is laid of a plan.
 
+ghost use Rattle.std.specs.Prelude.{◌≡◌};
+
 use crate::value::{Node, Value};
 use entity_map::OutOfMemory;
 use paged_memory::PagedMemory;
+use thiserror::Error;
 
 /// What is imported, in the order of each index space.
 #[derive(Drop)]
@@ -28,7 +31,7 @@ pub struct Laid<'t> {
 }
 
 /// How memories get their images.
-#[derive(Clone, Copy, Debug, PartialEq, Eq)]
+#[derive(Clone, Copy)]
 pub enum Way {
     /// The pages of an image are lent by the translation.
     Map,
@@ -37,15 +40,21 @@ pub enum Way {
 }
 
 /// Why a plan is not laid.
-#[derive(Clone, Copy, Debug, PartialEq, Eq, Drop)]
+#[derive(Clone, Copy, Debug, PartialEq, Eq, Error)]
 pub enum LayError {
     /// The defined memories or tables are larger than they may be.
+    #[error("memories or tables are too large")]
     TooLarge,
     /// Memory ran out.
+    #[error("out of memory")]
     OutOfMemory,
 }
 
 impl From<OutOfMemory> for LayError {
+    ghost use Rattle.plan_run.specs.declared.laid.LayError.TheVariants as errors;
+
+    ghost from_gives = { λ _ e. e ≡ errors.OutOfMemory };
+
     fn from(_refused: OutOfMemory) -> LayError {
         LayError::OutOfMemory
     }
