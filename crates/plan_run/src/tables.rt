@@ -88,8 +88,8 @@ fn first_table(
         (first_cells (values_in (terms_of nodes.old.items) globals.now) (field_count_in translation.now types.now) planned)) }
 {
     let module = &translation.module;
-    let place = module.num_imported_tables + number;
-    let minimum = minimum_of(module.tables.as_slice(), place) as usize;
+    let tables = module.tables.as_slice();
+    let minimum = minimum_of(tables, module.num_imported_tables + number) as usize;
     match &translation.table_initialization.initial_values.as_slice()[number] {
         TableInitialValue::Null => {
             let image = &module.table_initialization.as_slice()[number];

@@ -13,8 +13,8 @@ use Rattle.plan_run.proofs.OneMore.{tables-on}
 use Rattle.plan_run.proofs.Terms.{kept-values}
 use Rattle.plan_run.proofs.whole.lay_tables.Goals as goal
 
-pub write_elements-requires : goal.write_elements-requires
-write_elements-requires c =
+pub write_elements-trap-requires : goal.write_elements-trap-requires
+write_elements-trap-requires c =
     let t = c.args.translation.now in
     let f = c.requires.finished in
     let plan = plan_of_tables t in
