@@ -1,8 +1,6 @@
 -- A plan that agrees with a module lays what the module's initialisers give.
-use Rattle.std.proofs.Common.{◌≡◌, ℕ, ◌<◌, List, length, map, Option, Some, refl, sym, ap, subst, ◌∙◌}
+use Rattle.std.proofs.Common.{◌≡◌, ℕ, ◌<◌, List, length, map, Option, Some, sym, ap, subst, ◌∙◌}
 use Rattle.std.proofs.lemmas.List.{length-map}
-use Rattle.std.specs.Prelude.{slice_get}
-use Rattle.wasm_spec.specs.Module.{Module}
 use Rattle.module_types.specs.TypeList.{TypeList}
 use Rattle.replay_spec.specs.Phases.{Phase, SamePhase}
 use Rattle.replay_spec.specs.Values.{Value, offset_over}
@@ -23,8 +21,8 @@ use Rattle.plan_run.specs.declared.laid.Way.TheVariants as way
 use Rattle.plan_run.specs.Fields.{field_count_in}
 use Rattle.plan_run.specs.Lays.{Lays}
 use Rattle.plan_run.specs.Memories.{bytes_in}
-use Rattle.plan_run.specs.Laid.{imported_globals, imported_tables, laid_tables, data_phase, element_phase}
-use Rattle.plan_run.specs.Agreement.{IsOfModule, AgreementLaw}
+use Rattle.plan_run.specs.Laid.{imported_globals, imported_tables, laid_tables, data_phase}
+use Rattle.plan_run.specs.Agreement.{AgreementLaw}
 
 -- what is laid of a phase is laid of one that is the same
 pub lays-same : {A : Type 0} (one other : Phase A) (n : ℕ) (objects : List (List A)) (trapped : Option ℕ) → SamePhase one other → Lays other n objects trapped

@@ -1,7 +1,6 @@
 -- Conversions that are undone, and those that are kept in nodes.
-use Rattle.std.proofs.Common.{◌≡◌, ℕ, ◌+◌, ◌<◌, ◌≤◌, Bool, true, false, List, [], ◌∷◌, ◌++◌, length, map, get_or, Option, None, Some, refl, sym, ◌∙◌, ap, subst, arith}
+use Rattle.std.proofs.Common.{◌≡◌, ℕ, true, false, List, [], ◌∷◌, Option, None, Some, refl, sym, ◌∙◌, ap, subst}
 use Rattle.std.specs.Prelude.{slice_get, unwrap_or, All, IfSome, IfNone}
-use Rattle.std.proofs.Math.Logic.{⊎_elim}
 use Rattle.std.proofs.lemmas.Bool.{false≢true}
 use Rattle.std.proofs.lemmas.List.Elements.{All-head}
 use Rattle.std.proofs.lemmas.Option.{none-some}
@@ -12,12 +11,10 @@ use Rattle.replay_spec.specs.Values.{Term, Action, action, converted}
 use Rattle.plan_run.specs.declared.value.Value.{Value}
 use Rattle.plan_run.specs.declared.value.Value.TheVariants as value
 use Rattle.plan_run.specs.declared.value.Node.{Node}
-use Rattle.plan_run.specs.declared.kinds.Kind.{Kind}
-use Rattle.plan_run.specs.declared.kinds.Kind.TheVariants.{Simple, Object, Conversion}
+use Rattle.plan_run.specs.declared.kinds.Kind.TheVariants.{Object, Conversion}
 use Rattle.plan_run.specs.Kinds.{kind_of, conversion, undoes}
 use Rattle.wasm_convert.specs.Operators.{operator_of}
-use Rattle.plan_run.specs.Values.{value_in, values_in, kept_term, term_of, terms_of, NamesBelow, IsReference, IsOneReference, HasReference, IsNodeAt, AreOrdered}
-use Rattle.plan_run.specs.Nodes.{Extends, Grows, Means, AllMean}
+use Rattle.plan_run.specs.Values.{value_in, values_in, kept_term, term_of, terms_of, NamesBelow, IsReference, IsOneReference, HasReference, AreOrdered}
 use Rattle.plan_run.proofs.Terms.{node-term}
 
 -- ---- operators by their kinds

@@ -1,11 +1,11 @@
 -- Tables as they begin hold what their phase begins with.
 use Rattle.std.proofs.Common.{◌≡◌, ℕ, zero, suc, ◌+◌, ◌-◌, ◌<◌, ◌≤◌, List, [], ◌∷◌, ◌++◌, length, map, get_or, replicate, Option, None, Some, refl, sym, ◌∙◌, ap, subst, arith}
-use Rattle.std.specs.Prelude.{slice_get, slice_index, unwrap_or, nat_lt, All, if◌then◌else◌}
+use Rattle.std.specs.Prelude.{slice_get, slice_index, unwrap_or, nat_lt, All}
 use Rattle.std.specs.Option.{option_map}
 use Rattle.std.proofs.Math.Logic.{⊎_elim}
 use Rattle.std.proofs.lemmas.Bool.{cases_lt, lt-ltb, le-ltb, cond-true, cond-false}
 use Rattle.std.proofs.lemmas.List.{length-map, length-append, length-replicate, get_or_append_left}
-use Rattle.std.proofs.lemmas.Option.{none-some, same_Some, slice_get-map, slice_get-get_or, slice_get_within, get_or_from_slice_get}
+use Rattle.std.proofs.lemmas.Option.{none-some, same_Some, slice_get-map, slice_get-get_or, get_or_from_slice_get}
 use Rattle.wasm_spec.specs.Module.{Expression}
 use Rattle.replay_spec.specs.Elements.{cell_of, value_or_null, table_sizes, table_base}
 use Rattle.replay_spec.specs.Tables.{PlannedTable, TablePlan, reference_of, planned_cell, planned_first, planned_elements_phase}

@@ -1,9 +1,9 @@
 -- What a finished translation gives its parts.
-use Rattle.std.proofs.Common.{◌≡◌, ℕ, zero, suc, ◌+◌, ◌-◌, ◌*◌, ◌^◌, ◌<◌, ◌≤◌, List, [], ◌∷◌, ◌++◌, length, map, get_or, drop, Option, None, Some, refl, sym, ◌∙◌, ap, subst, arith}
+use Rattle.std.proofs.Common.{◌≡◌, ℕ, suc, ◌+◌, ◌-◌, ◌^◌, ◌<◌, ◌≤◌, List, [], ◌∷◌, ◌++◌, length, map, get_or, Option, None, Some, refl, sym, ◌∙◌, ap, subst, arith}
 use Rattle.std.specs.Prelude.{slice_get, unwrap_or, sum_by, All}
 use Rattle.std.specs.Option.{option_map}
-use Rattle.std.proofs.lemmas.List.{length-map, get_or-map, length-append, length-drop}
-use Rattle.std.proofs.lemmas.List.Elements.{All-nil, All-cons, All-head, All-tail, All-get_or, All-same, All-map}
+use Rattle.std.proofs.lemmas.List.{length-map, length-append, length-drop}
+use Rattle.std.proofs.lemmas.List.Elements.{All-nil, All-cons, All-head, All-tail, All-same, All-map}
 use Rattle.std.proofs.lemmas.List.Sums.{get_or-le-sum_by}
 use Rattle.std.proofs.lemmas.Option.{slice_get-get_or, slice_get_within, none-some, same_Some}
 use Rattle.wasm_spec.specs.Module.{Expression}
@@ -29,12 +29,12 @@ use Rattle.init_plan.specs.Views.{memory_plan_of}
 use Rattle.paged_memory.specs.Memory.{Contents, count_lent}
 use Rattle.plan_run.specs.declared.laid.Way.{Way}
 use Rattle.plan_run.specs.declared.laid.Way.TheVariants as way
-use Rattle.plan_run.specs.Finished.{Finished, ImageFits, IsStatic}
+use Rattle.plan_run.specs.Finished.{Finished, IsStatic}
 use Rattle.plan_run.specs.Laid.{LendImages}
 use Rattle.plan_run.specs.Lays.{Lays, Hold}
 use Rattle.plan_run.specs.Limits.{most_bytes, page_size_of, own_memories}
 use Rattle.plan_run.specs.Memories.{bytes_in, plan_phase, data_piece, image_in, image_pages, begun, seen, ImageIsWithin, ImagesAreWithin}
-use Rattle.plan_run.specs.Segments.{left_piece, left_pieces, LendNoMore}
+use Rattle.plan_run.specs.Segments.{left_pieces, LendNoMore}
 use Rattle.plan_run.specs.Tables.{element_piece}
 use Rattle.plan_run.proofs.Begun.{within-at, begun-hold, begun-lent}
 use Rattle.plan_run.proofs.Lists.{get-drop}

@@ -1,6 +1,6 @@
 -- Operators on a stack of values, and expressions.
-use Rattle.std.proofs.Common.{◌≡◌, ℕ, suc, ◌+◌, ◌-◌, ◌<◌, ◌≤◌, Bool, true, false, List, [], ◌∷◌, ◌++◌, length, map, get_or, take, drop, Option, None, Some, refl, sym, ◌∙◌, ap, subst, arith}
-use Rattle.std.specs.Prelude.{nat_le, if◌then◌else◌, All, IfSome}
+use Rattle.std.proofs.Common.{◌≡◌, ℕ, ◌+◌, ◌-◌, ◌<◌, ◌≤◌, true, List, [], ◌∷◌, ◌++◌, length, get_or, take, drop, Option, None, Some, sym, ◌∙◌, ap, subst, arith}
+use Rattle.std.specs.Prelude.{nat_le, All, IfSome}
 use Rattle.std.specs.Option.{option_map, option_and_then}
 use Rattle.std.proofs.lemmas.Bool.{le-leb, lt-leb, cond-true, cond-false}
 use Rattle.std.proofs.lemmas.List.{length-map, map-append, take-map, drop-map, drop_more}
@@ -11,12 +11,11 @@ use Rattle.wasm_convert.specs.Operators.{operator_of}
 use Rattle.wasm_convert.specs.Constants.{expression_of}
 use Rattle.replay_spec.specs.Values as plain
 use Rattle.replay_spec.specs.Values.{Term, Action, action, acted, run, only_value}
-use Rattle.replay_spec.specs.Elements.{value_or_null, cell_of}
+use Rattle.replay_spec.specs.Elements.{value_or_null}
 use Rattle.plan_run.specs.declared.value.Value.{Value}
-use Rattle.plan_run.specs.declared.value.Value.TheVariants as value
 use Rattle.plan_run.specs.declared.value.Node.{Node}
 use Rattle.plan_run.specs.Values.{value_in, values_in, terms_of, NamesBelow}
-use Rattle.plan_run.specs.Nodes.{Extends, Grows, Means, AllMean, MeansOption, Acts}
+use Rattle.plan_run.specs.Nodes.{Extends, MeansOption, Acts}
 use Rattle.plan_run.proofs.Terms.{kept-values, all-names-more, longer}
 
 -- ---- one operator

@@ -1,5 +1,5 @@
 -- One more value, table or piece.
-use Rattle.std.proofs.Common.{◌≡◌, ℕ, zero, suc, ◌+◌, ◌-◌, ◌<◌, ◌≤◌, List, [], ◌∷◌, ◌++◌, length, map, get_or, take, drop, replicate, Option, None, Some, append_assoc, refl, sym, ◌∙◌, ap, subst, arith}
+use Rattle.std.proofs.Common.{◌≡◌, ℕ, zero, suc, ◌+◌, ◌-◌, ◌<◌, ◌≤◌, List, [], ◌∷◌, ◌++◌, length, map, get_or, take, replicate, refl, sym, ◌∙◌, ap}
 use Rattle.std.specs.Prelude.{All}
 use Rattle.std.specs.Global.{Vec}
 use Rattle.std.proofs.lemmas.List.{map_push, map_more, map-append, take_all}
@@ -10,7 +10,7 @@ use Rattle.replay_spec.specs.Values.{Term}
 use Rattle.plan_run.specs.declared.elements.ElementPiece.{ElementPiece}
 use Rattle.plan_run.specs.declared.value.Value.{Value}
 use Rattle.plan_run.specs.declared.value.Node.{Node}
-use Rattle.plan_run.specs.Nodes.{Extends, Grows, Means, AllMean}
+use Rattle.plan_run.specs.Nodes.{Extends, Means, AllMean}
 use Rattle.plan_run.specs.Tables.{cells_in, TablesBelow, TablesMean, element_piece, PiecesMean}
 use Rattle.plan_run.specs.Values.{value_in, values_in, terms_of, imported_value, IsPlain, NamesBelow}
 use Rattle.plan_run.proofs.Terms.{longer, kept-values, all-mean-on, all-names-more, plain-mean}

@@ -1,14 +1,14 @@
 -- What is left to be written are the pieces of the phase.
-use Rattle.std.proofs.Common.{◌≡◌, ℕ, List, [], ◌∷◌, length, map, Option, None, Some, refl, sym, ◌∙◌, ap}
+use Rattle.std.proofs.Common.{◌≡◌, ℕ, List, [], ◌∷◌, map, refl, ap}
 use Rattle.std.specs.List.{filter_map}
 use Rattle.wasm_spec.specs.Module.{Expression}
 use Rattle.replay_spec.specs.Phases.{Piece}
 use Rattle.replay_spec.specs.Data.{piece_of}
-use Rattle.replay_spec.specs.Plan.{MemoryPlan, PlannedSegment, PlannedOffset, Expr, Static, planned_piece, left_to_write, runtime_bytes}
+use Rattle.replay_spec.specs.Plan.{MemoryPlan, PlannedSegment, PlannedOffset, Expr, Static, planned_piece, left_to_write}
 use Rattle.plan_run.specs.declared.laid.Way.{Way}
 use Rattle.plan_run.specs.declared.laid.Way.TheVariants as way
 use Rattle.plan_run.specs.Memories.{plan_phase}
-use Rattle.plan_run.specs.Segments.{left_piece, left_pieces}
+use Rattle.plan_run.specs.Segments.{left_pieces}
 
 module _ (place_of : Expression → ℕ) (plan : MemoryPlan) where
   abbrev at : ℕ → ℕ → PlannedOffset → PlannedSegment

@@ -1,5 +1,5 @@
 -- Terms stay when nodes are appended.
-use Rattle.std.proofs.Common.{◌≡◌, ◌≢◌, ℕ, zero, suc, ◌+◌, ◌<◌, ◌≤◌, List, [], ◌∷◌, ◌++◌, length, map, Option, None, Some, refl, sym, ◌∙◌, ap, subst, arith}
+use Rattle.std.proofs.Common.{◌≡◌, ℕ, zero, suc, ◌+◌, ◌<◌, ◌≤◌, List, [], ◌∷◌, ◌++◌, length, map, Some, refl, sym, ◌∙◌, ap, subst, arith}
 use Rattle.std.specs.Prelude.{slice_get, unwrap_or, All}
 use Rattle.std.proofs.Math.Logic.{⊎_elim}
 use Rattle.std.proofs.lemmas.Bool.{cases_lt}
@@ -14,7 +14,7 @@ use Rattle.plan_run.specs.declared.value.Node.{Node}
 use Rattle.wasm_convert.specs.Operators.{operator_of}
 use Rattle.plan_run.specs.Values.{value_in, values_in, imported_value, kept_term, term_of, terms_behind, terms_of, NamesBelow, IsPlain, IsNodeAt, AreOrdered}
 use Rattle.plan_run.specs.Nodes.{Extends, Grows, Means, AllMean}
-use Rattle.plan_run.proofs.Lists.{get-append-low, get-append-high, all-at}
+use Rattle.plan_run.proofs.Lists.{get-append-low, get-append-high}
 
 -- ---- terms
 

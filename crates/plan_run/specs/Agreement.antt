@@ -1,5 +1,5 @@
 -- What is laid of a plan that agrees with a module is what the module's initialisers give.
-use Rattle.std.specs.Prelude.{◌≡◌, ℕ, length, map}
+use Rattle.std.specs.Prelude.{◌≡◌, ℕ, length}
 use Rattle.wasm_spec.specs.Module.{Module, imported_of, table_import, imported_memories}
 use Rattle.rule_spec.specs.Lists.{lists_of_module}
 use Rattle.module_types.specs.TypeList.{TypeList}

@@ -1,14 +1,10 @@
 -- How many fields the struct types of a translation have, and the classes of its types.
-use Rattle.std.specs.Prelude.{◌≡◌, ℕ, List, length, Option, Some, None, slice_get, option_and_then}
+use Rattle.std.specs.Prelude.{ℕ, List, length, Option, Some, None, slice_get, option_and_then}
 use Rattle.wasm_index.specs.Index.{number_of}
 use Rattle.wasm_types.specs.declared.index.EngineOrModuleTypeIndex.{EngineOrModuleTypeIndex}
 use Rattle.wasm_types.specs.declared.index.EngineOrModuleTypeIndex.TheVariants as name
 use Rattle.wasm_types.specs.declared.sub.WasmSubType.{WasmSubType}
 use Rattle.wasm_types.specs.Views.{unshared, struct_in}
-use Rattle.rule_spec.specs.declared.classes.Class.{Class}
-use Rattle.rule_spec.specs.declared.classes.Class.TheVariants as class
-use Rattle.wasm_types.specs.declared.value.WasmValType.{WasmValType}
-use Rattle.wasm_types.specs.declared.value.WasmValType.TheVariants as type
 use Rattle.module_types.specs.TypeList.{TypeList}
 use Rattle.init_plan.specs.declared.translation.ModuleTranslation.{ModuleTranslation}
 

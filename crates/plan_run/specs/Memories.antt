@@ -2,10 +2,6 @@
 use Rattle.std.specs.Prelude.{◌≡◌, ℕ, ◌+◌, ◌/◌, ◌%◌, ◌≤◌, List, [], ◌∷◌, length, map, replicate, Option, Some, None, slice_get, unwrap_or}
 use Rattle.std.specs.Option.{option_map}
 use Rattle.wasm_spec.specs.Module.{Expression}
-use Rattle.wasm_index.specs.declared.index.Index.{Index}
-use Rattle.wasm_index.specs.declared.spaces.MemorySpace.{MemorySpace}
-use Rattle.wasm_index.specs.declared.spaces.RuntimeDataSpace.{RuntimeDataSpace}
-use Rattle.wasm_index.specs.Index.{number_of}
 use Rattle.wasm_types.specs.declared.memory.Memory.{Memory}
 use Rattle.wasm_types.specs.Memories.{minimum_bytes}
 use Rattle.replay_spec.specs.Phases.{Phase, Piece}

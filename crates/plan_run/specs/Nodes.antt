@@ -1,5 +1,5 @@
 -- Nodes that are appended.
-use Rattle.std.specs.Prelude.{◌≡◌, ℕ, List, ◌++◌, length, All, Bool, true, false, Option, None, Some}
+use Rattle.std.specs.Prelude.{◌≡◌, List, ◌++◌, length, All, Bool, true, false, Option, None, Some}
 use Rattle.replay_spec.specs.Values as plain
 use Rattle.replay_spec.specs.Values.{Action, acted}
 use Rattle.plan_run.specs.declared.value.Value.{Value}

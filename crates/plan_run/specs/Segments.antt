@@ -1,5 +1,5 @@
 -- Segments that are left to be written.
-use Rattle.std.specs.Prelude.{◌≡◌, ℕ, ◌+◌, ◌<◌, ◌≤◌, Bool, true, false, List, length, map, set, Option, Some, slice_get}
+use Rattle.std.specs.Prelude.{◌≡◌, ℕ, ◌+◌, ◌<◌, ◌≤◌, Bool, true, false, List, length, set, Option, Some, slice_get}
 use Rattle.std.specs.Option.{option_map}
 use Rattle.std.specs.List.{filter_map}
 use Rattle.wasm_spec.specs.Module.{Expression}
@@ -8,7 +8,7 @@ use Rattle.replay_spec.specs.Plan.{MemoryPlan, PlannedSegment, runtime_bytes}
 use Rattle.paged_memory.specs.Memory.{Contents, count_lent}
 use Rattle.paged_memory.specs.Writing.{written}
 use Rattle.plan_run.specs.declared.laid.Way.{Way}
-use Rattle.plan_run.specs.Memories.{left_place, bytes_in}
+use Rattle.plan_run.specs.Memories.{left_place}
 
 -- what is left to be written of a segment
 abbrev pub left_piece : Way → (Expression → ℕ) → MemoryPlan → PlannedSegment → Option (Piece ℕ)

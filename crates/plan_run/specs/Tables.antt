@@ -10,7 +10,7 @@ use Rattle.replay_spec.specs.Values.{Term}
 use Rattle.plan_run.specs.declared.elements.ElementPiece.{ElementPiece}
 use Rattle.plan_run.specs.declared.value.Value.{Value}
 use Rattle.plan_run.specs.declared.value.Node.{Node}
-use Rattle.plan_run.specs.Values.{value_in, values_in, terms_of, NamesBelow}
+use Rattle.plan_run.specs.Values.{values_in, terms_of, NamesBelow}
 
 abbrev pub cells_in : List Term → List (Vec Value) → List (List plain.Value)
 cells_in terms tables = map (λ table. values_in terms table.items) tables

@@ -1,4 +1,4 @@
-use Rattle.std.proofs.Common.{◌+◌, ◌∙◌, map, take, ap, sym, subst, refl, arith}
+use Rattle.std.proofs.Common.{◌+◌, map, take, sym, subst, arith}
 use Rattle.wasm_convert.specs.Constants.{expression_of}
 use Rattle.replay_spec.specs.Elements.{cell_of}
 use Rattle.plan_run.specs.Fields.{field_count_in}

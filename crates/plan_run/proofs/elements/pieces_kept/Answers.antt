@@ -1,14 +1,11 @@
-use Rattle.std.proofs.Common.{◌≡◌, ◌+◌, ◌∙◌, map, take, ap, sym, subst, refl, arith}
+use Rattle.std.proofs.Common.{◌≡◌, ◌+◌, ◌∙◌, map, take, ap, sym, subst, arith}
 use Rattle.wasm_convert.specs.Constants.{expression_of}
 use Rattle.wasm_index.specs.Index.{number_of}
 use Rattle.replay_spec.specs.Elements.{item_cells, elements_piece}
-use Rattle.replay_spec.specs.Phases.{Piece}
-use Rattle.replay_spec.specs.Values as plain
 use Rattle.replay_spec.specs.Values.{offset_over}
 use Rattle.table_images.specs.Views.{items_of, active_elements_of}
 use Rattle.plan_run.specs.declared.elements.ElementPiece.{ElementPiece}
 use Rattle.plan_run.specs.Fields.{field_count_in}
-use Rattle.plan_run.specs.Nodes.{AllMean, Extends}
 use Rattle.plan_run.specs.Tables.{element_piece, PiecesMean}
 use Rattle.plan_run.specs.Values.{values_in, terms_of}
 use Rattle.plan_run.proofs.OneMore.{pieces-more, map-two-more}

@@ -1,10 +1,9 @@
-use Rattle.std.proofs.Common.{◌∙◌, map, take, ap, sym, subst, refl, arith}
+use Rattle.std.proofs.Common.{◌∙◌, map, ap, sym, subst, refl, arith}
 use Rattle.std.specs.Prelude.{All}
 use Rattle.std.proofs.lemmas.List.{take_all}
 use Rattle.std.proofs.lemmas.List.Elements.{All-push}
 use Rattle.wasm_index.specs.Index.{number_of, index_of}
 use Rattle.replay_spec.specs.Values as plain
-use Rattle.plan_run.specs.declared.value.Value.TheVariants as value
 use Rattle.plan_run.specs.Values.{value_in, values_in, IsPlain}
 use Rattle.plan_run.proofs.OneMore.{one-more}
 use Rattle.plan_run.proofs.elements.references.Goals as goal

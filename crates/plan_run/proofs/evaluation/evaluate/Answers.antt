@@ -1,16 +1,14 @@
-use Rattle.std.proofs.Common.{◌≡◌, ◌+◌, ◌∙◌, Bool, true, false, Some, None, List, [], length, get_or, drop, ap, sym, subst, refl, arith, pos}
+use Rattle.std.proofs.Common.{◌≡◌, ◌∙◌, Some, [], length, get_or, drop, ap, sym, subst, refl, arith, pos}
 use Rattle.std.proofs.lemmas.List.{drop_all}
-use Rattle.replay_spec.specs.Elements.{cell_of, value_or_null}
-use Rattle.replay_spec.specs.Values as plain
+use Rattle.replay_spec.specs.Elements.{value_or_null}
 use Rattle.replay_spec.specs.Values.{action, acted, run, only_value}
 use Rattle.wasm_convert.specs.declared.operators.ConstOp.{ConstOp}
 use Rattle.wasm_convert.specs.declared.operators.ConstOp.TheVariants as ops
 use Rattle.wasm_convert.specs.Constants.{expression_of}
 use Rattle.wasm_convert.specs.Operators.{operator_of}
-use Rattle.plan_run.specs.declared.value.Value.TheVariants as value
 use Rattle.plan_run.specs.Fields.{field_count_in}
-use Rattle.plan_run.specs.Nodes.{Acts, Means}
-use Rattle.plan_run.specs.Values.{value_in, values_in, terms_of}
+use Rattle.plan_run.specs.Nodes.{Acts}
+use Rattle.plan_run.specs.Values.{values_in, terms_of}
 use Rattle.plan_run.proofs.Machine.{Step, runs-more, runs-none, no-value, the-value}
 use Rattle.plan_run.proofs.Terms.{grows-on, kept-values}
 use Rattle.plan_run.proofs.evaluation.evaluate.Goals as goal

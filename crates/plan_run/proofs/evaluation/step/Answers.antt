@@ -1,7 +1,6 @@
-use Rattle.std.proofs.Common.{◌≡◌, ◌-◌, ◌≤◌, ◌∙◌, Some, None, List, length, drop, ap, sym, subst, refl, arith}
+use Rattle.std.proofs.Common.{◌-◌, ◌∙◌, drop, ap, subst, arith}
 use Rattle.replay_spec.specs.Values.{Action, action}
 use Rattle.wasm_convert.specs.Operators.{operator_of}
-use Rattle.plan_run.specs.declared.value.Value.{Value}
 use Rattle.plan_run.specs.Fields.{field_count_in}
 use Rattle.plan_run.specs.Nodes.{MeansOption}
 use Rattle.plan_run.specs.Values.{values_in, terms_of}

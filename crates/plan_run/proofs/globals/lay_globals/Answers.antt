@@ -4,7 +4,7 @@ use Rattle.std.proofs.lemmas.List.{length-map}
 use Rattle.std.proofs.lemmas.List.Elements.{All-append, All-take, All-replicate}
 use Rattle.replay_spec.specs.Globals.{simple_written, kept_written}
 use Rattle.replay_spec.specs.Values as plain
-use Rattle.init_plan.specs.Held.{simple_global_of, kept_global_of, plan_of_globals}
+use Rattle.init_plan.specs.Held.{simple_global_of, kept_global_of}
 use Rattle.plan_run.specs.declared.value.Value.TheVariants as value
 use Rattle.plan_run.specs.Fields.{field_count_in}
 use Rattle.plan_run.specs.Nodes.{AllMean}

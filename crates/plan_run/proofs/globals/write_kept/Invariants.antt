@@ -1,4 +1,4 @@
-use Rattle.std.proofs.Common.{◌≡◌, ℕ, List, length, map, drop}
+use Rattle.std.proofs.Common.{◌≡◌, length, map, drop}
 use Rattle.std.specs.Prelude.{All}
 use Rattle.replay_spec.specs.Globals.{kept_written}
 use Rattle.init_plan.specs.Held.{kept_global_of}

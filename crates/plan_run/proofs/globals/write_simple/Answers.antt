@@ -1,4 +1,4 @@
-use Rattle.std.proofs.Common.{◌≡◌, ◌+◌, ◌∙◌, [], length, map, set, drop, ap, sym, arith}
+use Rattle.std.proofs.Common.{◌≡◌, ◌+◌, ◌∙◌, [], map, set, drop, ap, sym, arith}
 use Rattle.std.proofs.Math.ListN.{length-set}
 use Rattle.std.proofs.lemmas.List.{drop_all}
 use Rattle.std.proofs.lemmas.List.Elements.{All-set}

@@ -1,4 +1,4 @@
-use Rattle.std.proofs.Common.{◌≡◌, ◌<◌, ◌∙◌, ◌⊎◌, inl, inr, drop, ap, sym, subst, refl, true, ⊎_elim}
+use Rattle.std.proofs.Common.{◌<◌, ◌∙◌, ◌⊎◌, inl, inr, drop, ap, sym, subst, refl, ⊎_elim}
 use Rattle.std.specs.Prelude.{sum_by}
 use Rattle.std.proofs.lemmas.Bool.{false≢true}
 use Rattle.wasm_types.specs.Memories.{minimum_bytes}

@@ -1,9 +1,7 @@
-use Rattle.std.proofs.Common.{◌<◌, ◌^◌, ◌≤◌, drop, sym, subst, arith}
+use Rattle.std.proofs.Common.{◌<◌, ◌^◌, drop, sym, subst, arith}
 use Rattle.std.specs.Prelude.{All}
 use Rattle.wasm_types.specs.Memories.{minimum_bytes}
-use Rattle.init_plan.specs.Views.{memory_plan_of}
 use Rattle.plan_run.specs.Limits.{page_size_of}
-use Rattle.plan_run.specs.Memories.{ImageIsWithin}
 use Rattle.plan_run.proofs.Given.{within-of}
 use Rattle.plan_run.proofs.LeftSteps.{last-at}
 use Rattle.plan_run.proofs.memories.first_memories.Goals as goal

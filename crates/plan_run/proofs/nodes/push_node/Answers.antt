@@ -1,4 +1,4 @@
-use Rattle.std.proofs.Common.{◌≡◌, ◌∙◌, ◌++◌, ◌∷◌, [], length, ap, sym, subst}
+use Rattle.std.proofs.Common.{◌∙◌, length, sym, subst}
 use Rattle.std.specs.Prelude.{All}
 use Rattle.replay_spec.specs.Values as plain
 use Rattle.wasm_convert.specs.Operators.{operator_of}

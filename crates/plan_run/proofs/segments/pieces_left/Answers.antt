@@ -1,7 +1,6 @@
-use Rattle.std.proofs.Common.{◌≡◌, ◌++◌, ◌∙◌, map, ap, sym, subst, arith}
+use Rattle.std.proofs.Common.{◌++◌, ◌∙◌, map, ap, arith}
 use Rattle.std.specs.Option.{option_map, option_to_list}
 use Rattle.wasm_index.specs.Index.{number_of}
-use Rattle.replay_spec.specs.Plan.{runtime_bytes}
 use Rattle.replay_spec.specs.Values.{offset_over}
 use Rattle.init_plan.specs.Views.{memory_plan_of, planned_offset_of}
 use Rattle.plan_run.specs.Fields.{field_count_in}

@@ -1,6 +1,6 @@
-use Rattle.std.proofs.Common.{◌≡◌, ◌+◌, ◌≤◌, ◌/◌, ◌∙◌, length, ap, sym, subst, refl, arith}
+use Rattle.std.proofs.Common.{◌≤◌, ◌/◌, ◌∙◌, length, ap, sym, subst, refl, arith}
 use Rattle.std.proofs.lemmas.Option.{slice_get_read, same_Some}
-use Rattle.paged_memory.specs.Memory.{count_lent, not_lent, reached}
+use Rattle.paged_memory.specs.Memory.{count_lent, reached}
 use Rattle.plan_run.specs.Memories.{data_piece}
 use Rattle.plan_run.proofs.PieceSteps.{writes-true, lend-set, not-lent-less}
 use Rattle.plan_run.proofs.segments.write_piece.Goals as goal

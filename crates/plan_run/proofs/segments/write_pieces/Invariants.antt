@@ -1,4 +1,4 @@
-use Rattle.std.proofs.Common.{◌≡◌, ℕ, [], length, map, drop}
+use Rattle.std.proofs.Common.{◌≡◌, ℕ, [], map, drop}
 use Rattle.replay_spec.specs.Phases.{Phase}
 use Rattle.plan_run.specs.Lays.{Hold}
 use Rattle.plan_run.specs.Memories.{bytes_in, data_piece}

@@ -1,9 +1,8 @@
-use Rattle.std.proofs.Common.{◌≡◌, ◌+◌, ◌<◌, ◌≤◌, ◌∙◌, Some, length, get_or, map, replicate, ap, sym, subst, refl, arith}
+use Rattle.std.proofs.Common.{◌+◌, ◌∙◌, length, get_or, replicate, ap, sym, subst, refl, arith}
 use Rattle.std.specs.Prelude.{slice_get}
 use Rattle.std.proofs.lemmas.List.{length-drop}
 use Rattle.std.proofs.lemmas.Option.{slice_get_read}
 use Rattle.wasm_module.specs.declared.table_initialization.TableInitialValue.{TableInitialValue}
-use Rattle.wasm_types.specs.declared.table.Table.{Table}
 use Rattle.wasm_convert.specs.Constants.{expression_of}
 use Rattle.replay_spec.specs.Elements.{cell_of}
 use Rattle.replay_spec.specs.Tables.{PlannedTable}

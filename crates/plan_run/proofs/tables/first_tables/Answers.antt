@@ -1,4 +1,4 @@
-use Rattle.std.proofs.Common.{◌≡◌, ◌+◌, ◌-◌, ◌<◌, ◌++◌, ◌∷◌, [], ◌∙◌, append_assoc, length, get_or, map, take, ap, sym, subst, refl, arith}
+use Rattle.std.proofs.Common.{◌+◌, ◌<◌, ◌++◌, ◌∷◌, [], ◌∙◌, append_assoc, length, map, take, ap, sym, subst, arith}
 use Rattle.std.proofs.lemmas.List.{append-nil, length-drop, map_push, take_more, take_all}
 use Rattle.std.proofs.lemmas.Option.{get_or_from_slice_get}
 use Rattle.init_plan.specs.Tables.{plan_of_tables}

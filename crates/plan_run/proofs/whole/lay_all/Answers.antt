@@ -1,11 +1,11 @@
-use Rattle.std.proofs.Common.{◌≡◌, ◌∙◌, length, map, ap, sym, subst}
+use Rattle.std.proofs.Common.{◌∙◌, length, ap, sym, subst}
 use Rattle.std.specs.Prelude.{All}
 use Rattle.replay_spec.specs.Values.{offset_over}
 use Rattle.replay_spec.specs.Tables.{planned_elements_phase}
 use Rattle.init_plan.specs.Views.{memory_plan_of}
 use Rattle.init_plan.specs.Tables.{plan_of_tables}
 use Rattle.plan_run.specs.Fields.{field_count_in}
-use Rattle.plan_run.specs.Laid.{globals_in, imported_tables}
+use Rattle.plan_run.specs.Laid.{imported_tables}
 use Rattle.plan_run.specs.Lays.{Lays}
 use Rattle.plan_run.specs.Memories.{bytes_in, plan_phase}
 use Rattle.plan_run.specs.Tables.{cells_in}

@@ -1,4 +1,4 @@
-use Rattle.std.proofs.Common.{◌≡◌, ◌<◌, ◌∙◌, inl, length, map, ap, sym, subst}
+use Rattle.std.proofs.Common.{◌<◌, ◌∙◌, inl, length, map, ap, sym, subst}
 use Rattle.std.specs.Prelude.{All}
 use Rattle.replay_spec.specs.Values.{offset_over}
 use Rattle.init_plan.specs.Views.{memory_plan_of}
