@@ -1,0 +1,70 @@
+-- A plan that agrees with a module lays what the module's initialisers give.
+use Rattle.std.proofs.Common.{◌≡◌, ℕ, ◌<◌, List, length, map, Option, Some, sym, ap, subst, ◌∙◌}
+use Rattle.std.proofs.lemmas.List.{length-map}
+use Rattle.module_types.specs.TypeList.{TypeList}
+use Rattle.replay_spec.specs.Phases.{Phase, SamePhase}
+use Rattle.replay_spec.specs.Values.{Value, offset_over}
+use Rattle.plan_run.specs.Values.{imported_value}
+use Rattle.init_plan.specs.declared.translation.ModuleTranslation.{ModuleTranslation}
+use Rattle.init_plan.specs.Agreement.{fields_of, globals_of, module_elements_phase}
+use Rattle.init_plan.specs.Held.{plan_of_globals}
+use Rattle.init_plan.specs.Tables.{plan_of_tables}
+use Rattle.init_plan.specs.Views.{memory_plan_of}
+use Rattle.replay_spec.specs.Data.{module_phase}
+use Rattle.replay_spec.specs.Globals.{planned_globals}
+use Rattle.replay_spec.specs.Plan.{phase_by_map, phase_by_list}
+use Rattle.replay_spec.specs.Tables.{planned_elements_phase}
+use Rattle.plan_run.specs.declared.laid.Imports.{Imports}
+use Rattle.plan_run.specs.declared.laid.Laid.{Laid}
+use Rattle.plan_run.specs.declared.laid.Way.{Way}
+use Rattle.plan_run.specs.declared.laid.Way.TheVariants as way
+use Rattle.plan_run.specs.Fields.{field_count_in}
+use Rattle.plan_run.specs.Lays.{Lays}
+use Rattle.plan_run.specs.Memories.{bytes_in}
+use Rattle.plan_run.specs.Laid.{imported_globals, imported_tables, laid_tables, data_phase}
+use Rattle.plan_run.specs.Agreement.{AgreementLaw}
+
+-- what is laid of a phase is laid of one that is the same
+pub lays-same : {A : Type 0} (one other : Phase A) (n : ℕ) (objects : List (List A)) (trapped : Option ℕ) → SamePhase one other → Lays other n objects trapped
+    → Lays one n objects trapped
+lays-same one other n objects trapped same lays = record {
+  count = lays.count;
+  sizes = λ i object at. lays.sizes i object at ∙ sym (same.sizes i);
+  items = λ i place object at low. lays.items i place object at (subst (λ k. place < k) (same.sizes i) low) ∙ ap Some (sym (same.places i place low));
+  trap = lays.trap ∙ sym same.trap;
+}
+
+-- the globals of the plan, over these numbers of fields
+abbrev globals_with : (ℕ → ℕ) → ModuleTranslation → Imports → List Value
+globals_with fields t imports = planned_globals fields (imported_globals imports) (plan_of_globals t)
+
+pub agreement : (t : ModuleTranslation) (types : TypeList) (w : Way) (imports : Imports) (laid : Laid) → AgreementLaw t types w imports laid
+agreement t types w imports laid m agrees fields counted globals memories tables =
+    let same : field_count_in t types ≡ fields_of m = λ i index. fields index i in
+    let many = length-map imports.globals.items imported_value ∙ counted.globals in
+    record {
+      globals = globals ∙ ap (λ f. globals_with f t imports) same ∙ agrees.on_globals (imported_globals imports) many;
+      memories = memories_of w same memories;
+      tables = lays-same (module_elements_phase (globals_of m (imported_globals imports)) (imported_tables imports) m)
+          (planned_elements_phase (globals_with (fields_of m) t imports) (fields_of m) (imported_tables imports) (plan_of_tables t))
+          (length t.module.tables) (laid_tables laid) laid.table_trap
+          (agrees.on_tables (imported_globals imports) (imported_tables imports) many (length-map imports.tables.items (λ table. map imported_value table.items) ∙ counted.tables))
+          (subst (λ f. Lays (planned_elements_phase (globals_with f t imports) f (imported_tables imports) (plan_of_tables t)) (length t.module.tables) (laid_tables laid) laid.table_trap) same tables);
+    }
+  where
+    memories_of : (w : Way) → field_count_in t types ≡ fields_of m → Lays (data_phase t types w imports) (length t.module.memories) (bytes_in laid.memories.items) laid.memory_trap
+        → Lays (module_phase (globals_of m (imported_globals imports)) (fields_of m) (bytes_in imports.memories.items) m) (length t.module.memories) (bytes_in laid.memories.items) laid.memory_trap
+    memories_of way.Map same lays =
+        lays-same (module_phase (globals_of m (imported_globals imports)) (fields_of m) (bytes_in imports.memories.items) m)
+        (phase_by_map (offset_over (globals_with (fields_of m) t imports) (fields_of m)) (bytes_in imports.memories.items) (memory_plan_of t))
+        (length t.module.memories) (bytes_in laid.memories.items) laid.memory_trap
+        (agrees.by_map (imported_globals imports) (bytes_in imports.memories.items) (length-map imports.globals.items imported_value ∙ counted.globals)
+        (length-map imports.memories.items (λ memory. memory.bytes) ∙ counted.memories))
+        (subst (λ f. Lays (phase_by_map (offset_over (globals_with f t imports) f) (bytes_in imports.memories.items) (memory_plan_of t)) (length t.module.memories) (bytes_in laid.memories.items) laid.memory_trap) same lays)
+    memories_of way.Copy same lays =
+        lays-same (module_phase (globals_of m (imported_globals imports)) (fields_of m) (bytes_in imports.memories.items) m)
+        (phase_by_list (offset_over (globals_with (fields_of m) t imports) (fields_of m)) (bytes_in imports.memories.items) (memory_plan_of t))
+        (length t.module.memories) (bytes_in laid.memories.items) laid.memory_trap
+        (agrees.by_list (imported_globals imports) (bytes_in imports.memories.items) (length-map imports.globals.items imported_value ∙ counted.globals)
+        (length-map imports.memories.items (λ memory. memory.bytes) ∙ counted.memories))
+        (subst (λ f. Lays (phase_by_list (offset_over (globals_with f t imports) f) (bytes_in imports.memories.items) (memory_plan_of t)) (length t.module.memories) (bytes_in laid.memories.items) laid.memory_trap) same lays)

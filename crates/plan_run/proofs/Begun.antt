@@ -1,0 +1,225 @@
+-- Memories as they begin hold what their phase begins with.
+use Rattle.std.proofs.Common.{◌≡◌, ◌≢◌, ℕ, zero, suc, ◌+◌, ◌-◌, ◌<◌, ◌≤◌, List, [], ◌∷◌, ◌++◌, length, map, replicate, Option, None, Some, refl, sym, ◌∙◌, ap, subst, arith}
+use Rattle.std.specs.Prelude.{slice_get, slice_index, unwrap_or}
+use Rattle.std.specs.Option.{option_map}
+use Rattle.std.proofs.Math.Logic.{⊎_elim}
+use Rattle.std.proofs.lemmas.Bool.{cases_lt}
+use Rattle.std.proofs.lemmas.List.{length-map, length-replicate, get_or_append_left}
+use Rattle.std.proofs.lemmas.Option.{none-some, same_Some, slice_get-map, slice_get-get_or, slice_get_past, get_or_from_slice_get}
+use Rattle.wasm_spec.specs.Module.{Expression}
+use Rattle.wasm_types.specs.declared.memory.Memory.{Memory}
+use Rattle.wasm_types.specs.Memories.{minimum_bytes}
+use Rattle.replay_spec.specs.Phases.{Piece, item_at, last_item}
+use Rattle.replay_spec.specs.Data.{memory_sizes, memory_base}
+use Rattle.replay_spec.specs.Plan.{MemoryPlan, runtime_bytes, image_pieces}
+use Rattle.replay_spec.proofs.Covering.{CoversAt, item-cover}
+use Rattle.paged_memory.specs.Memory.{Contents, count_lent}
+use Rattle.plan_run.specs.declared.laid.Way.{Way}
+use Rattle.plan_run.specs.declared.laid.Way.TheVariants as way
+use Rattle.plan_run.specs.Lays.{Hold}
+use Rattle.plan_run.specs.Memories.{bytes_in, plan_phase, image_in, first_bytes, image_pages, seen, begun, ImageIsWithin, ImagesAreWithin}
+use Rattle.plan_run.proofs.Lists.{get-append-low, get-append-high, get-replicate}
+use Rattle.plan_run.proofs.Writing.{written-item, length-written}
+
+-- ---- images
+
+abbrev pub image_piece : ℕ → ℕ × List ℕ → Piece ℕ
+image_piece object image = record { object = object; offset = image.0; items = image.1 }
+
+-- what an image leaves at a place
+abbrev pub laid_over : Option (ℕ × List ℕ) → ℕ → ℕ → ℕ → ℕ
+laid_over None object place d = d
+laid_over (Some image) object place d = unwrap_or (item_at object place (image_piece object image)) d
+
+item-elsewhere : (object place : ℕ) (p : Piece ℕ) → p.object ≢ object → item_at object place p ≡ None
+item-elsewhere object place p ne = ⊎_elim (λ e. e) (λ (c : CoversAt object place p). absurd (ne c.on)) (item-cover object place p)
+
+module _ (plan : MemoryPlan) where
+  abbrev read : ℕ × ℕ → ℕ × List ℕ
+  read image = (image.0, runtime_bytes plan image.1)
+
+  images-below : (images : List (Option (ℕ × ℕ))) (n object place d : ℕ) → object < n → last_item object place d (image_pieces plan n images) ≡ d
+  images-below [] n object place d lt = refl
+  images-below (None ∷ images) n object place d lt = images-below images (n + 1) object place d (omega arith)
+  images-below (Some image ∷ images) n object place d lt =
+      let ne : n ≢ object = omega arith in
+      ap (λ o. last_item object place (unwrap_or o d) (image_pieces plan (n + 1) images)) (item-elsewhere object place (image_piece n (read image)) ne)
+      ∙ images-below images (n + 1) object place d (omega arith)
+
+  images-at : (images : List (Option (ℕ × ℕ))) (n j object place d : ℕ) → n + j ≡ object
+      → last_item object place d (image_pieces plan n images) ≡ laid_over (option_map read (unwrap_or (slice_get images j) None)) object place d
+  images-at [] n j object place d is = refl
+  images-at (None ∷ images) n zero object place d is = images-below images (n + 1) object place d (omega arith)
+  images-at (Some image ∷ images) n zero object place d is =
+      images-below images (n + 1) object place (unwrap_or (item_at object place (image_piece n (read image))) d) (omega arith)
+      ∙ ap (λ k. unwrap_or (item_at object place (image_piece k (read image))) d) (omega arith)
+  images-at (None ∷ images) n (suc j) object place d is = images-at images (n + 1) j object place d (omega arith)
+  images-at (Some image ∷ images) n (suc j) object place d is =
+      let ne : n ≢ object = omega arith in
+      ap (λ o. last_item object place (unwrap_or o d) (image_pieces plan (n + 1) images)) (item-elsewhere object place (image_piece n (read image)) ne)
+      ∙ images-at images (n + 1) j object place d (omega arith)
+
+  -- what a phase begins with: the contents of an imported memory or zeros, and an image
+  base-is : (w : Way) (place_of : Expression → ℕ) (imported : List (List ℕ)) (object place : ℕ)
+      → (plan_phase w place_of imported plan).base object place ≡ laid_over (image_in w plan object) object place (memory_base imported object place)
+  base-is way.Map place_of imported object place = images-at plan.images 0 object object place (memory_base imported object place) (omega arith)
+  base-is way.Copy place_of imported object place = refl
+
+  sizes-are : (w : Way) (place_of : Expression → ℕ) (imported : List (List ℕ)) (object : ℕ)
+      → (plan_phase w place_of imported plan).sizes object ≡ memory_sizes imported plan.sizes object
+  sizes-are way.Map place_of imported object = refl
+  sizes-are way.Copy place_of imported object = refl
+
+-- ---- one memory
+
+length-first : (page size : ℕ) (image : Option (ℕ × List ℕ)) → ImageIsWithin page size image → length (first_bytes size image) ≡ size
+length-first page size None within = length-replicate size 0
+length-first page size (Some image) within =
+    let zeros : length (replicate size 0) ≡ size = length-replicate size 0 in
+    length-written image.0 image.1 (replicate size 0) (subst (λ n. image.0 + length image.1 ≤ n) (sym zeros) within.2) ∙ zeros
+
+first-item : (page size object place : ℕ) (image : Option (ℕ × List ℕ)) → ImageIsWithin page size image → place < size
+    → slice_get (first_bytes size image) place ≡ Some (laid_over image object place 0)
+first-item page size object place None within l = get-replicate 0 size place l
+first-item page size object place (Some image) within l =
+    let zeros : length (replicate size 0) ≡ size = length-replicate size 0 in
+    written-item object place (image_piece object image) (replicate size 0) 0 refl (subst (λ n. image.0 + length image.1 ≤ n) (sym zeros) within.2)
+    (get-replicate 0 size place l)
+
+-- ---- all
+
+module _ (w : Way) (plan : MemoryPlan) (page : ℕ) where
+  begun-at : (n j : ℕ) (ms : List Memory) (p : List ℕ × ℕ) → slice_get (begun w plan page n ms) j ≡ Some p
+      → (m : Memory) × (slice_get ms j ≡ Some m) × (p ≡ (first_bytes (minimum_bytes m) (image_in w plan (n + j)), image_pages page (image_in w plan (n + j))))
+  begun-at n j [] p at = absurd (none-some p at)
+  begun-at n zero (m ∷ ms) p at =
+      let here : n ≡ n + 0 = omega arith in
+      (m, refl, sym (same_Some _ p at) ∙ ap (λ k. (first_bytes (minimum_bytes m) (image_in w plan k), image_pages page (image_in w plan k))) here)
+  begun-at n (suc j) (m ∷ ms) p at =
+      let there : n + 1 + j ≡ n + suc j = omega arith in
+      let rest = begun-at (n + 1) j ms p at in
+      (rest.0, rest.1, rest.2 ∙ ap (λ k. (first_bytes (minimum_bytes rest.0) (image_in w plan k), image_pages page (image_in w plan k))) there)
+
+  pub within-at : (n j : ℕ) (ms : List Memory) (m : Memory) → slice_get ms j ≡ Some m → ImagesAreWithin w plan page n ms → ImageIsWithin page (minimum_bytes m) (image_in w plan (n + j))
+  within-at n j [] m at within = absurd (none-some m at)
+  within-at n zero (one ∷ ms) m at within =
+      let here : n ≡ n + 0 = omega arith in
+      subst (λ k. ImageIsWithin page (minimum_bytes m) (image_in w plan k)) here
+      (subst (λ x. ImageIsWithin page (minimum_bytes x) (image_in w plan n)) (same_Some one m at) within.0)
+  within-at n (suc j) (one ∷ ms) m at within =
+      let there : n + 1 + j ≡ n + suc j = omega arith in
+      subst (λ k. ImageIsWithin page (minimum_bytes m) (image_in w plan k)) there (within-at (n + 1) j ms m at within.1)
+
+  module _ (imported memories : List Contents) (ms : List Memory) (are : map seen memories ≡ map seen imported ++ begun w plan page (length imported) ms) where
+    -- an imported memory, or a defined one as it begins
+    seen-low : (i : ℕ) (memory : Contents) → i < length imported → slice_get memories i ≡ Some memory → slice_get (map seen imported) i ≡ Some (seen memory)
+    seen-low i memory low at =
+        sym (get-append-low (map seen imported) (begun w plan page (length imported) ms) i (omega (arith, length-map imported seen)))
+        ∙ ap (λ xs. slice_get xs i) (sym are) ∙ slice_get-map seen memories i ∙ ap (option_map seen) at
+
+    seen-high : (j : ℕ) (memory : Contents) → slice_get memories (length imported + j) ≡ Some memory → slice_get (begun w plan page (length imported) ms) j ≡ Some (seen memory)
+    seen-high j memory at =
+        sym (get-append-high (map seen imported) (begun w plan page (length imported) ms) j)
+        ∙ ap (λ k. slice_get (map seen imported ++ begun w plan page (length imported) ms) (k + j)) (length-map imported seen)
+        ∙ ap (λ xs. slice_get xs (length imported + j)) (sym are) ∙ slice_get-map seen memories (length imported + j) ∙ ap (option_map seen) at
+
+    low-bytes : (i : ℕ) (memory : Contents) → i < length imported → slice_get memories i ≡ Some memory → slice_get (bytes_in imported) i ≡ Some memory.bytes
+    low-bytes i memory low at =
+        slice_get-map (λ (m : Contents). m.bytes) imported i ∙ over (slice_get imported i) (sym (slice_get-map seen imported i) ∙ seen-low i memory low at) where
+          over : (o : Option Contents) → option_map seen o ≡ Some (seen memory) → option_map (λ (m : Contents). m.bytes) o ≡ Some memory.bytes
+          over None e = absurd (none-some (seen memory) e)
+          over (Some m) e = ap (λ p. Some p.0) (same_Some (seen m) (seen memory) e)
+
+    memory-at : (i : ℕ) (object : List ℕ) → slice_get (bytes_in memories) i ≡ Some object → (memory : Contents) × (slice_get memories i ≡ Some memory) × (memory.bytes ≡ object)
+    memory-at i object at = over (slice_get memories i) refl (sym (slice_get-map (λ (m : Contents). m.bytes) memories i) ∙ at) where
+      over : (o : Option Contents) → slice_get memories i ≡ o → option_map (λ (m : Contents). m.bytes) o ≡ Some object
+          → (memory : Contents) × (slice_get memories i ≡ Some memory) × (memory.bytes ≡ object)
+      over None e f = absurd (none-some object f)
+      over (Some m) e f = (m, e, same_Some m.bytes object f)
+
+    -- the pages that a defined memory lends
+    pub begun-lent : (i : ℕ) (memory : Contents) → length imported ≤ i → slice_get memories i ≡ Some memory → count_lent memory.lent ≡ image_pages page (image_in w plan i)
+    begun-lent i memory high at =
+        let there : length imported + (i - length imported) ≡ i = omega arith in
+        let found = begun-at (length imported) (i - length imported) ms (seen memory) (seen-high (i - length imported) memory (ap (slice_get memories) there ∙ at)) in
+        ap (λ p. p.1) found.2 ∙ ap (λ k. image_pages page (image_in w plan k)) there
+
+    module _ (place_of : Expression → ℕ) (sizes : plan.sizes ≡ map minimum_bytes ms) (none : (i : ℕ) → i < length imported → image_in w plan i ≡ None)
+        (within : ImagesAreWithin w plan page (length imported) ms) where
+      abbrev size_at : ℕ → ℕ
+      size_at i = (plan_phase w place_of (bytes_in imported) plan).sizes i
+
+      abbrev lengths : List ℕ
+      lengths = map length (bytes_in imported)
+
+      abbrev base_at : ℕ → ℕ → ℕ
+      base_at i place = (plan_phase w place_of (bytes_in imported) plan).base i place
+
+      -- an imported memory
+      low-size : (i : ℕ) (memory : Contents) → i < length imported → slice_get memories i ≡ Some memory → length memory.bytes ≡ size_at i
+      low-size i memory low at =
+          let bytes : slice_get (bytes_in imported) i ≡ Some memory.bytes = low-bytes i memory low at in
+          let long = length-map imported (λ (m : Contents). m.bytes) in
+          let longs = length-map (bytes_in imported) (λ (xs : List ℕ). length xs) in
+          sym (sizes-are plan w place_of (bytes_in imported) i
+          ∙ get_or_append_left (map length (bytes_in imported)) plan.sizes 0 i (omega arith)
+          ∙ get_or_from_slice_get (map length (bytes_in imported)) i (length memory.bytes) 0 (slice_get-map length (bytes_in imported) i ∙ ap (option_map length) bytes))
+
+      low-item : (i place : ℕ) (memory : Contents) → i < length imported → slice_get memories i ≡ Some memory → place < size_at i
+          → slice_get memory.bytes place ≡ Some (base_at i place)
+      low-item i place memory low at within_size =
+          let size = low-size i memory low at in
+          let bytes : slice_get (bytes_in imported) i ≡ Some memory.bytes = low-bytes i memory low at in
+          slice_get-get_or memory.bytes place 0 (omega arith)
+          ∙ ap (λ o. Some (slice_index (unwrap_or o []) place)) (sym bytes)
+          ∙ ap (λ o. Some (laid_over o i place (memory_base (bytes_in imported) i place))) (sym (none i low))
+          ∙ ap Some (sym (base-is plan w place_of (bytes_in imported) i place))
+
+      -- a defined memory
+      high-size : (j : ℕ) (memory : Contents) → slice_get memories (length imported + j) ≡ Some memory → length memory.bytes ≡ size_at (length imported + j)
+      high-size j memory at =
+          let found = begun-at (length imported) j ms (seen memory) (seen-high j memory at) in
+          let long : length lengths ≡ length imported = length-map (bytes_in imported) length ∙ length-map imported (λ (m : Contents). m.bytes) in
+          ap (λ p. length p.0) found.2 ∙ length-first page (minimum_bytes found.0) (image_in w plan (length imported + j)) (within-at (length imported) j ms found.0 found.1 within)
+          ∙ sym (sizes-are plan w place_of (bytes_in imported) (length imported + j)
+          ∙ ap (λ k. slice_index (lengths ++ plan.sizes) (k + j)) (sym long)
+          ∙ get_or_from_slice_get (lengths ++ plan.sizes) (length lengths + j) (minimum_bytes found.0) 0
+          (get-append-high lengths plan.sizes j ∙ ap (λ xs. slice_get xs j) sizes ∙ slice_get-map minimum_bytes ms j ∙ ap (option_map minimum_bytes) found.1))
+
+      high-item : (j place : ℕ) (memory : Contents) → slice_get memories (length imported + j) ≡ Some memory → place < size_at (length imported + j)
+          → slice_get memory.bytes place ≡ Some (base_at (length imported + j) place)
+      high-item j place memory at within_size =
+          let found = begun-at (length imported) j ms (seen memory) (seen-high j memory at) in
+          let size = high-size j memory at in
+          let i : ℕ = length imported + j in
+          let is_within = within-at (length imported) j ms found.0 found.1 within in
+          let same : memory.bytes ≡ first_bytes (minimum_bytes found.0) (image_in w plan (length imported + j)) = ap (λ p. p.0) found.2 in
+          let long : length memory.bytes ≡ minimum_bytes found.0 = ap length same ∙ length-first page (minimum_bytes found.0) (image_in w plan (length imported + j)) is_within in
+          let past : slice_get (bytes_in imported) (length imported + j) ≡ None = slice_get_past (bytes_in imported) (length imported + j) (omega (arith, length-map imported (λ (m : Contents). m.bytes))) in
+          ap (λ xs. slice_get xs place) same
+          ∙ first-item page (minimum_bytes found.0) (length imported + j) place (image_in w plan (length imported + j)) is_within (omega arith)
+          ∙ ap (λ o. Some (laid_over (image_in w plan (length imported + j)) (length imported + j) place (slice_index (unwrap_or o []) place))) (sym past)
+          ∙ ap Some (sym (base-is plan w place_of (bytes_in imported) (length imported + j) place))
+
+      any-size : (i : ℕ) (memory : Contents) → slice_get memories i ≡ Some memory → length memory.bytes ≡ size_at i
+      any-size i memory at = ⊎_elim
+          (λ (low : i < length imported). low-size i memory low at)
+          (λ (high : length imported ≤ i).
+          let there : length imported + (i - length imported) ≡ i = omega arith in
+          high-size (i - length imported) memory (ap (slice_get memories) there ∙ at) ∙ ap size_at there)
+          (cases_lt i (length imported))
+
+      any-item : (i place : ℕ) (memory : Contents) → slice_get memories i ≡ Some memory → place < size_at i → slice_get memory.bytes place ≡ Some (base_at i place)
+      any-item i place memory at l = ⊎_elim
+          (λ (low : i < length imported). low-item i place memory low at l)
+          (λ (high : length imported ≤ i).
+          let there : length imported + (i - length imported) ≡ i = omega arith in
+          high-item (i - length imported) place memory (ap (slice_get memories) there ∙ at) (subst (λ k. place < size_at k) (sym there) l)
+          ∙ ap (λ k. Some (base_at k place)) there)
+          (cases_lt i (length imported))
+
+      pub begun-hold : Hold (plan_phase w place_of (bytes_in imported) plan).sizes (plan_phase w place_of (bytes_in imported) plan).base (bytes_in memories)
+      begun-hold = record {
+        sizes = λ i object at. let found = memory-at i object at in ap length (sym found.2) ∙ any-size i found.0 found.1;
+        items = λ i place object at l. let found = memory-at i object at in ap (λ xs. slice_get xs place) (sym found.2) ∙ any-item i place found.0 found.1 l;
+      }

@@ -1,0 +1,213 @@
+-- Conversions that are undone, and those that are kept in nodes.
+use Rattle.std.proofs.Common.{◌≡◌, ℕ, true, false, List, [], ◌∷◌, Option, None, Some, refl, sym, ◌∙◌, ap, subst}
+use Rattle.std.specs.Prelude.{slice_get, unwrap_or, All, IfSome, IfNone}
+use Rattle.std.proofs.lemmas.Bool.{false≢true}
+use Rattle.std.proofs.lemmas.List.Elements.{All-head}
+use Rattle.std.proofs.lemmas.Option.{none-some}
+use Rattle.wasm_spec.specs.declared.operators.Operator.{Operator}
+use Rattle.wasm_spec.specs.declared.operators.Operator.TheVariants as op
+use Rattle.replay_spec.specs.Values as plain
+use Rattle.replay_spec.specs.Values.{Term, Action, action, converted}
+use Rattle.plan_run.specs.declared.value.Value.{Value}
+use Rattle.plan_run.specs.declared.value.Value.TheVariants as value
+use Rattle.plan_run.specs.declared.value.Node.{Node}
+use Rattle.plan_run.specs.declared.kinds.Kind.TheVariants.{Object, Conversion}
+use Rattle.plan_run.specs.Kinds.{kind_of, conversion, undoes}
+use Rattle.wasm_convert.specs.Operators.{operator_of}
+use Rattle.plan_run.specs.Values.{value_in, values_in, kept_term, term_of, terms_of, NamesBelow, IsReference, IsOneReference, HasReference, AreOrdered}
+use Rattle.plan_run.proofs.Terms.{node-term}
+
+-- ---- operators by their kinds
+
+-- an object is what it allocates
+pub object-makes : (globals : List plain.Value) (fields : ℕ → ℕ) (o : Operator) (vs : List plain.Value) → kind_of o ≡ Object
+    → (action globals fields o).makes vs ≡ Some (plain.Ref (kept_term o vs))
+object-makes globals fields (op.StructNew t) vs is = refl
+object-makes globals fields (op.StructNewDefault t) vs is = refl
+object-makes globals fields (op.ArrayNew t) vs is = refl
+object-makes globals fields (op.ArrayNewDefault t) vs is = refl
+object-makes globals fields (op.ArrayNewFixed t n) vs is = refl
+object-makes globals fields _ vs is = absurd (cc)
+
+-- a conversion takes one value
+pub conversion-takes : (globals : List plain.Value) (fields : ℕ → ℕ) (o : Operator) → kind_of o ≡ Conversion → (action globals fields o).takes ≡ 1
+conversion-takes globals fields op.ExternConvertAny is = refl
+conversion-takes globals fields op.AnyConvertExtern is = refl
+conversion-takes globals fields _ is = absurd (cc)
+
+pub conversion-makes : (globals : List plain.Value) (fields : ℕ → ℕ) (o : Operator) (vs : List plain.Value) → kind_of o ≡ Conversion
+    → (action globals fields o).makes vs ≡ converted (conversion o) vs
+conversion-makes globals fields op.ExternConvertAny vs is = refl
+conversion-makes globals fields op.AnyConvertExtern vs is = refl
+conversion-makes globals fields _ vs is = absurd (cc)
+
+pub object-free : (o : Operator) (vs : List Value) → kind_of o ≡ Object → HasReference o vs
+object-free op.ExternConvertAny vs is = absurd (cc)
+object-free op.AnyConvertExtern vs is = absurd (cc)
+object-free _ vs is = tt
+
+-- ---- the operator of a term
+
+abbrev operator_in : Term → Option Operator
+operator_in (plain.Allocated operator arguments) = Some operator
+operator_in (plain.AsExtern term) = Some op.ExternConvertAny
+operator_in (plain.AsAny term) = Some op.AnyConvertExtern
+operator_in _ = None
+
+operator-kept : (o : Operator) (vs : List plain.Value) → operator_in (kept_term o vs) ≡ Some o
+operator-kept op.ExternConvertAny [] = refl
+operator-kept op.ExternConvertAny (plain.Ref t ∷ []) = refl
+operator-kept op.ExternConvertAny (plain.Ref t ∷ v ∷ vs) = refl
+operator-kept op.ExternConvertAny (plain.I32 n ∷ vs) = refl
+operator-kept op.ExternConvertAny (plain.I64 n ∷ vs) = refl
+operator-kept op.ExternConvertAny (plain.F32 n ∷ vs) = refl
+operator-kept op.ExternConvertAny (plain.F64 n ∷ vs) = refl
+operator-kept op.ExternConvertAny (plain.V128 n ∷ vs) = refl
+operator-kept op.AnyConvertExtern [] = refl
+operator-kept op.AnyConvertExtern (plain.Ref t ∷ []) = refl
+operator-kept op.AnyConvertExtern (plain.Ref t ∷ v ∷ vs) = refl
+operator-kept op.AnyConvertExtern (plain.I32 n ∷ vs) = refl
+operator-kept op.AnyConvertExtern (plain.I64 n ∷ vs) = refl
+operator-kept op.AnyConvertExtern (plain.F32 n ∷ vs) = refl
+operator-kept op.AnyConvertExtern (plain.F64 n ∷ vs) = refl
+operator-kept op.AnyConvertExtern (plain.V128 n ∷ vs) = refl
+operator-kept _ vs = refl
+
+-- a conversion wraps a term that the other did not make
+wraps-extern : (t : Term) (b : Operator) → operator_in t ≡ Some b → undoes op.ExternConvertAny b ≡ false → plain.to_extern t ≡ plain.AsExtern t
+wraps-extern plain.Null b is isnt = absurd (cc)
+wraps-extern (plain.Func f) b is isnt = refl
+wraps-extern (plain.Host n) b is isnt = refl
+wraps-extern (plain.I31 n) b is isnt = refl
+wraps-extern (plain.Allocated o vs) b is isnt = refl
+wraps-extern (plain.AsExtern t) b is isnt = refl
+wraps-extern (plain.AsAny t) b is isnt = let same : op.AnyConvertExtern ≡ b = cc in absurd (false≢true (sym isnt ∙ ap (undoes op.ExternConvertAny) (sym same)))
+
+wraps-any : (t : Term) (b : Operator) → operator_in t ≡ Some b → undoes op.AnyConvertExtern b ≡ false → plain.to_any t ≡ plain.AsAny t
+wraps-any plain.Null b is isnt = absurd (cc)
+wraps-any (plain.Func f) b is isnt = refl
+wraps-any (plain.Host n) b is isnt = refl
+wraps-any (plain.I31 n) b is isnt = refl
+wraps-any (plain.Allocated o vs) b is isnt = refl
+wraps-any (plain.AsAny t) b is isnt = refl
+wraps-any (plain.AsExtern t) b is isnt = let same : op.ExternConvertAny ≡ b = cc in absurd (false≢true (sym isnt ∙ ap (undoes op.AnyConvertExtern) (sym same)))
+
+wraps : (a b : Operator) (t : Term) → kind_of a ≡ Conversion → operator_in t ≡ Some b → undoes a b ≡ false → conversion a t ≡ kept_term a (plain.Ref t ∷ [])
+wraps op.ExternConvertAny b t is made isnt = wraps-extern t b made isnt
+wraps op.AnyConvertExtern b t is made isnt = wraps-any t b made isnt
+wraps _ b t is made isnt = absurd (cc)
+
+-- and undoes what the other made
+back : (a b : Operator) (t : Term) → undoes a b ≡ true → conversion a (kept_term b (plain.Ref t ∷ [])) ≡ t
+back op.ExternConvertAny op.AnyConvertExtern t does = refl
+back op.AnyConvertExtern op.ExternConvertAny t does = refl
+back _ _ t does = absurd (false≢true does)
+
+has-one : (a b : Operator) (vs : List Value) → undoes a b ≡ true → HasReference b vs → IsOneReference vs
+has-one op.ExternConvertAny op.AnyConvertExtern vs does has = has
+has-one op.AnyConvertExtern op.ExternConvertAny vs does has = has
+has-one _ _ vs does has = absurd (false≢true does)
+
+-- ---- values
+
+-- a reference is a term
+pub term-in : (terms : List Term) (v : Value) → IsReference v → (t : Term) × (value_in terms v ≡ plain.Ref t)
+term-in terms value.Null is = (_, refl)
+term-in terms (value.Func function) is = (_, refl)
+term-in terms (value.Host n) is = (_, refl)
+term-in terms (value.I31 n) is = (_, refl)
+term-in terms (value.Term k) is = (_, refl)
+term-in terms (value.I32 n) is = absurd is
+term-in terms (value.I64 n) is = absurd is
+term-in terms (value.F32 n) is = absurd is
+term-in terms (value.F64 n) is = absurd is
+term-in terms (value.V128 n) is = absurd is
+
+-- and what is none is not converted
+pub not-converted : (f : Term → Term) (terms : List Term) (v : Value) → (IsReference v → ⊥) → converted f (value_in terms v ∷ []) ≡ None
+not-converted f terms value.Null isnt = absurd (isnt tt)
+not-converted f terms (value.Func function) isnt = absurd (isnt tt)
+not-converted f terms (value.Host n) isnt = absurd (isnt tt)
+not-converted f terms (value.I31 n) isnt = absurd (isnt tt)
+not-converted f terms (value.Term k) isnt = absurd (isnt tt)
+not-converted f terms (value.I32 n) isnt = refl
+not-converted f terms (value.I64 n) isnt = refl
+not-converted f terms (value.F32 n) isnt = refl
+not-converted f terms (value.F64 n) isnt = refl
+not-converted f terms (value.V128 n) isnt = refl
+
+module _ (nodes : List Node) (ordered : AreOrdered nodes) (a : Operator) (is : kind_of a ≡ Conversion) (k : ℕ) (n : Node) (at : slice_get nodes k ≡ Some n) where
+  node-is : value_in (terms_of nodes) (value.Term k) ≡ plain.Ref (term_of (terms_of nodes) n)
+  node-is = ap (λ o. plain.Ref (unwrap_or o plain.Null)) (node-term nodes k n ordered at)
+
+  -- what the node was made from is given back
+  pub converts-back : undoes a (operator_of n.op) ≡ true → (v : Value) → slice_get n.args.items 0 ≡ Some v
+      → (NamesBelow k v) × (converted (conversion a) (value_in (terms_of nodes) (value.Term k) ∷ []) ≡ Some (value_in (terms_of nodes) v))
+  converts-back does v first = over n.args.items refl (has-one a (operator_of n.op) n.args.items does (ordered k n at).converts) (ordered k n at).below first where
+    over : (vs : List Value) → n.args.items ≡ vs → IsOneReference vs → All (NamesBelow k) vs → slice_get vs 0 ≡ Some v
+        → (NamesBelow k v) × (converted (conversion a) (value_in (terms_of nodes) (value.Term k) ∷ []) ≡ Some (value_in (terms_of nodes) v))
+    over [] e one below first = absurd one
+    over (w ∷ x ∷ xs) e one below first = absurd one
+    over (w ∷ []) e one below first =
+        let same : w ≡ v = cc in
+        let t = term-in (terms_of nodes) w one in
+        let made : value_in (terms_of nodes) (value.Term k) ≡ plain.Ref (kept_term (operator_of n.op) (plain.Ref t.0 ∷ [])) =
+        node-is ∙ ap (λ ws. plain.Ref (kept_term (operator_of n.op) (values_in (terms_of nodes) ws))) e ∙ ap (λ x. plain.Ref (kept_term (operator_of n.op) (x ∷ []))) t.1 in (
+          subst (NamesBelow k) same (All-head (NamesBelow k) w [] below),
+          ap (λ x. converted (conversion a) (x ∷ [])) made ∙ ap (λ x. Some (plain.Ref x)) (back a (operator_of n.op) t.0 does) ∙ ap Some (sym t.1) ∙ ap (λ x. Some (value_in (terms_of nodes) x)) same,
+        )
+
+  module _ (does : undoes a (operator_of n.op) ≡ true) where
+    pub given-below : (o : Option Value) → o ≡ slice_get n.args.items 0 → IfSome o (NamesBelow k)
+    given-below None is = tt
+    given-below (Some v) is = (converts-back does v (sym is)).0
+
+    pub given-some : (o : Option Value) → o ≡ slice_get n.args.items 0
+        → IfSome o (λ v. converted (conversion a) (value_in (terms_of nodes) (value.Term k) ∷ []) ≡ Some (value_in (terms_of nodes) v))
+    given-some None is = tt
+    given-some (Some v) is = (converts-back does v (sym is)).1
+
+    pub given-none : (P : Type 0) (o : Option Value) → o ≡ slice_get n.args.items 0 → IfNone o P
+    given-none P None is = over n.args.items (has-one a (operator_of n.op) n.args.items does (ordered k n at).converts) is where
+      over : (vs : List Value) → IsOneReference vs → None ≡ slice_get vs 0 → P
+      over [] one e = absurd one
+      over (v ∷ vs) one e = absurd (none-some v e)
+    given-none P (Some v) is = tt
+
+  -- or it is kept in a node of its own
+  pub converts-kept : undoes a (operator_of n.op) ≡ false
+      → converted (conversion a) (value_in (terms_of nodes) (value.Term k) ∷ []) ≡ Some (plain.Ref (kept_term a (value_in (terms_of nodes) (value.Term k) ∷ [])))
+  converts-kept isnt =
+      let t : Term = term_of (terms_of nodes) n in
+      ap (λ x. converted (conversion a) (x ∷ [])) node-is
+      ∙ ap (λ x. Some (plain.Ref x)) (wraps a (operator_of n.op) t is (operator-kept (operator_of n.op) (values_in (terms_of nodes) n.args.items)) isnt)
+      ∙ ap (λ x. Some (plain.Ref (kept_term a (x ∷ [])))) (sym node-is)
+
+-- a reference that is neither null nor of a node is kept
+abbrev pub IsOutside : Value → Type 0
+IsOutside (value.Func function) = Unit {0}
+IsOutside (value.Host n) = Unit {0}
+IsOutside (value.I31 n) = Unit {0}
+IsOutside _ = ⊥
+
+pub outside-kept : (a : Operator) (terms : List Term) (v : Value) → kind_of a ≡ Conversion → IsOutside v
+    → converted (conversion a) (value_in terms v ∷ []) ≡ Some (plain.Ref (kept_term a (value_in terms v ∷ [])))
+outside-kept op.ExternConvertAny terms (value.Func function) is out = refl
+outside-kept op.ExternConvertAny terms (value.Host n) is out = refl
+outside-kept op.ExternConvertAny terms (value.I31 n) is out = refl
+outside-kept op.ExternConvertAny terms _ is out = absurd out
+outside-kept op.AnyConvertExtern terms (value.Func function) is out = refl
+outside-kept op.AnyConvertExtern terms (value.Host n) is out = refl
+outside-kept op.AnyConvertExtern terms (value.I31 n) is out = refl
+outside-kept op.AnyConvertExtern terms _ is out = absurd out
+outside-kept _ terms v is out = absurd (cc)
+
+pub null-stays : (a : Operator) (terms : List Term) → kind_of a ≡ Conversion → converted (conversion a) (value_in terms value.Null ∷ []) ≡ Some (value_in terms value.Null)
+null-stays op.ExternConvertAny terms is = refl
+null-stays op.AnyConvertExtern terms is = refl
+null-stays _ terms is = absurd (cc)
+
+pub reference-converts : (a : Operator) (vs : List Value) → IsOneReference vs → HasReference a vs
+reference-converts op.ExternConvertAny vs one = one
+reference-converts op.AnyConvertExtern vs one = one
+reference-converts _ vs one = tt

@@ -1,0 +1,133 @@
+-- Tables as they begin hold what their phase begins with.
+use Rattle.std.proofs.Common.{◌≡◌, ℕ, zero, suc, ◌+◌, ◌-◌, ◌<◌, ◌≤◌, List, [], ◌∷◌, ◌++◌, length, map, get_or, replicate, Option, None, Some, refl, sym, ◌∙◌, ap, subst, arith}
+use Rattle.std.specs.Prelude.{slice_get, slice_index, unwrap_or, nat_lt, All}
+use Rattle.std.specs.Option.{option_map}
+use Rattle.std.proofs.Math.Logic.{⊎_elim}
+use Rattle.std.proofs.lemmas.Bool.{cases_lt, lt-ltb, le-ltb, cond-true, cond-false}
+use Rattle.std.proofs.lemmas.List.{length-map, length-append, length-replicate, get_or_append_left}
+use Rattle.std.proofs.lemmas.Option.{none-some, same_Some, slice_get-map, slice_get-get_or, get_or_from_slice_get}
+use Rattle.wasm_spec.specs.Module.{Expression}
+use Rattle.replay_spec.specs.Elements.{cell_of, value_or_null, table_sizes, table_base}
+use Rattle.replay_spec.specs.Tables.{PlannedTable, TablePlan, reference_of, planned_cell, planned_first, planned_elements_phase}
+use Rattle.replay_spec.specs.Values as plain
+use Rattle.plan_run.specs.Lays.{Hold}
+use Rattle.plan_run.specs.Tables.{image_cells, cells_from, first_cells}
+use Rattle.plan_run.proofs.Lists.{get-append-low, get-append-high, get-replicate, all-at}
+
+-- ---- one table
+
+image-at : (minimum : ℕ) (image : List (Option ℕ)) (place : ℕ) → place < minimum
+    → slice_get (image_cells minimum image) place ≡ Some (reference_of (unwrap_or (slice_get image place) None))
+image-at minimum [] place l =
+    let all : minimum - 0 ≡ minimum = omega arith in
+    ap (λ k. slice_get (replicate k (reference_of None)) place) all ∙ get-replicate (reference_of None) minimum place l
+image-at zero (c ∷ cs) place l = absurd (omega arith)
+image-at (suc minimum) (c ∷ cs) zero l = refl
+image-at (suc minimum) (c ∷ cs) (suc place) l =
+    let rest : suc minimum - length (c ∷ cs) ≡ minimum - length cs = omega arith in
+    ap (λ k. slice_get (map reference_of cs ++ replicate k (reference_of None)) place) rest ∙ image-at minimum cs place (omega arith)
+
+module _ (globals : List plain.Value) (fields : ℕ → ℕ) where
+  length-cells : (minimum : ℕ) (initial : Option Expression) (image : List (Option ℕ)) → length image ≤ minimum → length (cells_from globals fields minimum initial image) ≡ minimum
+  length-cells minimum None image l =
+      omega (
+        arith,
+        length-append (map reference_of image) (replicate (minimum - length image) (reference_of None)),
+        length-map image reference_of,
+        length-replicate (minimum - length image) (reference_of None),
+      )
+  length-cells minimum (Some e) image l = length-replicate minimum (cell_of globals fields e)
+
+  cell-at : (minimum : ℕ) (initial : Option Expression) (image : List (Option ℕ)) (place : ℕ) → place < minimum
+      → slice_get (cells_from globals fields minimum initial image) place ≡ Some (planned_cell globals fields initial image place)
+  cell-at minimum None image place l = image-at minimum image place l
+  cell-at minimum (Some e) image place l = get-replicate (cell_of globals fields e) minimum place l
+
+  -- ---- all
+
+  module _ (imported objects : List (List plain.Value)) (plan : TablePlan) (are : objects ≡ imported ++ map (first_cells globals fields) plan.tables)
+      (short : All (λ table. length table.image ≤ table.minimum) plan.tables) where
+    abbrev size_at : ℕ → ℕ
+    size_at i = table_sizes imported (map (λ t. t.minimum) plan.tables) i
+
+    abbrev base_at : ℕ → ℕ → plain.Value
+    base_at i place = table_base imported (λ i place. planned_first globals fields (slice_get plan.tables i) place) i place
+
+    abbrev lengths : List ℕ
+    lengths = map length imported
+
+    abbrev minimums : List ℕ
+    minimums = map (λ t. t.minimum) plan.tables
+
+    low-at : (i : ℕ) (object : List plain.Value) → i < length imported → slice_get objects i ≡ Some object → slice_get imported i ≡ Some object
+    low-at i object low at = sym (get-append-low imported (map (first_cells globals fields) plan.tables) i low) ∙ ap (λ xs. slice_get xs i) (sym are) ∙ at
+
+    low-size : (i : ℕ) (object : List plain.Value) → i < length imported → slice_get objects i ≡ Some object → length object ≡ size_at i
+    low-size i object low at =
+        let long = length-map imported (λ (xs : List plain.Value). length xs) in
+        sym (get_or_append_left lengths minimums 0 i (omega arith)
+        ∙ get_or_from_slice_get lengths i (length object) 0 (slice_get-map length imported i ∙ ap (option_map length) (low-at i object low at)))
+
+    low-item : (i place : ℕ) (object : List plain.Value) → i < length imported → slice_get objects i ≡ Some object → place < size_at i
+        → slice_get object place ≡ Some (base_at i place)
+    low-item i place object low at l =
+        let size = low-size i object low at in
+        let null : plain.Value = plain.Ref plain.Null in
+        let found : slice_get object place ≡ Some (get_or object place null) = slice_get-get_or object place null (omega arith) in
+        let read : base_at i place ≡ value_or_null (slice_get (unwrap_or (slice_get imported i) []) place) =
+        cond-true (nat_lt i (length imported)) (value_or_null (slice_get (unwrap_or (slice_get imported i) []) place))
+        (planned_first globals fields (slice_get plan.tables (i - length imported)) place) (lt-ltb i (length imported) low) in
+        found ∙ sym (ap Some (read ∙ ap (λ o. value_or_null (slice_get (unwrap_or o []) place)) (low-at i object low at) ∙ ap value_or_null found))
+
+    high-at : (j : ℕ) (object : List plain.Value) → slice_get objects (length imported + j) ≡ Some object
+        → (t : PlannedTable) × (slice_get plan.tables j ≡ Some t) × (object ≡ first_cells globals fields t)
+    high-at j object at = over (slice_get plan.tables j) refl
+        (sym (get-append-high imported (map (first_cells globals fields) plan.tables) j ∙ slice_get-map (first_cells globals fields) plan.tables j)
+        ∙ ap (λ xs. slice_get xs (length imported + j)) (sym are) ∙ at) where
+          over : (o : Option PlannedTable) → slice_get plan.tables j ≡ o → option_map (first_cells globals fields) o ≡ Some object
+              → (t : PlannedTable) × (slice_get plan.tables j ≡ Some t) × (object ≡ first_cells globals fields t)
+          over None e f = absurd (none-some object f)
+          over (Some t) e f = (t, e, sym (same_Some (first_cells globals fields t) object f))
+
+    high-size : (j : ℕ) (object : List plain.Value) → slice_get objects (length imported + j) ≡ Some object → length object ≡ size_at (length imported + j)
+    high-size j object at =
+        let found = high-at j object at in
+        let t : PlannedTable = found.0 in
+        let long = length-map imported (λ (xs : List plain.Value). length xs) in
+        let image = all-at (λ (x : PlannedTable). length x.image ≤ x.minimum) plan.tables j t short found.1 in
+        ap length found.2 ∙ length-cells t.minimum t.initial t.image image
+        ∙ sym (ap (λ k. slice_index (lengths ++ minimums) (k + j)) (sym long)
+        ∙ get_or_from_slice_get (lengths ++ minimums) (length lengths + j) t.minimum 0
+        (get-append-high lengths minimums j ∙ slice_get-map (λ (x : PlannedTable). x.minimum) plan.tables j ∙ ap (option_map (λ (x : PlannedTable). x.minimum)) found.1))
+
+    high-item : (j place : ℕ) (object : List plain.Value) → slice_get objects (length imported + j) ≡ Some object → place < size_at (length imported + j)
+        → slice_get object place ≡ Some (base_at (length imported + j) place)
+    high-item j place object at l =
+        let found = high-at j object at in
+        let t : PlannedTable = found.0 in
+        let size = high-size j object at in
+        let image = all-at (λ (x : PlannedTable). length x.image ≤ x.minimum) plan.tables j t short found.1 in
+        let long : length object ≡ t.minimum = ap length found.2 ∙ length-cells t.minimum t.initial t.image image in
+        let number : length imported + j - length imported ≡ j = omega arith in
+        let read : base_at (length imported + j) place ≡ planned_first globals fields (slice_get plan.tables (length imported + j - length imported)) place =
+        cond-false (nat_lt (length imported + j) (length imported)) (value_or_null (slice_get (unwrap_or (slice_get imported (length imported + j)) []) place))
+        (planned_first globals fields (slice_get plan.tables (length imported + j - length imported)) place) (le-ltb (length imported + j) (length imported) (omega arith)) in
+        ap (λ xs. slice_get xs place) found.2 ∙ cell-at t.minimum t.initial t.image place (omega arith)
+        ∙ sym (ap Some (read ∙ ap (λ k. planned_first globals fields (slice_get plan.tables k) place) number ∙ ap (λ o. planned_first globals fields o place) found.1))
+
+    pub tables-hold : Hold (planned_elements_phase globals fields imported plan).sizes (planned_elements_phase globals fields imported plan).base objects
+    tables-hold = record {
+      sizes = λ i object at. ⊎_elim
+          (λ (low : i < length imported). low-size i object low at)
+          (λ (high : length imported ≤ i).
+          let there : length imported + (i - length imported) ≡ i = omega arith in
+          high-size (i - length imported) object (ap (slice_get objects) there ∙ at) ∙ ap size_at there)
+          (cases_lt i (length imported));
+      items = λ i place object at l. ⊎_elim
+          (λ (low : i < length imported). low-item i place object low at l)
+          (λ (high : length imported ≤ i).
+          let there : length imported + (i - length imported) ≡ i = omega arith in
+          high-item (i - length imported) place object (ap (slice_get objects) there ∙ at) (subst (λ k. place < size_at k) (sym there) l)
+          ∙ ap (λ k. Some (base_at k place)) there)
+          (cases_lt i (length imported));
+    }

@@ -1,0 +1,228 @@
+-- What a finished translation gives its parts.
+use Rattle.std.proofs.Common.{◌≡◌, ℕ, suc, ◌+◌, ◌-◌, ◌^◌, ◌<◌, ◌≤◌, List, [], ◌∷◌, ◌++◌, length, map, get_or, Option, None, Some, refl, sym, ◌∙◌, ap, subst, arith}
+use Rattle.std.specs.Prelude.{slice_get, unwrap_or, sum_by, All}
+use Rattle.std.specs.Option.{option_map}
+use Rattle.std.proofs.lemmas.List.{length-map, length-append, length-drop}
+use Rattle.std.proofs.lemmas.List.Elements.{All-nil, All-cons, All-head, All-tail, All-same, All-map}
+use Rattle.std.proofs.lemmas.List.Sums.{get_or-le-sum_by}
+use Rattle.std.proofs.lemmas.Option.{slice_get-get_or, slice_get_within, none-some, same_Some}
+use Rattle.wasm_spec.specs.Module.{Expression}
+use Rattle.wasm_types.specs.declared.memory.Memory.{Memory}
+use Rattle.wasm_types.specs.Memories.{minimum_bytes}
+use Rattle.replay_spec.specs.Phases.{Piece, Phase}
+use Rattle.replay_spec.specs.Plan.{MemoryPlan, PlannedSegment, PlannedOffset, Expr, Static, runtime_bytes}
+use Rattle.replay_spec.specs.Elements.{ActiveElements, elements_piece}
+use Rattle.replay_spec.specs.Values as plain
+use Rattle.replay_spec.specs.Values.{Term}
+use Rattle.std.specs.Global.{Vec}
+use Rattle.wasm_index.specs.declared.index.Index.{Index}
+use Rattle.wasm_index.specs.declared.spaces.FuncSpace.{FuncSpace}
+use Rattle.wasm_types.specs.declared.table.Table.{Table}
+use Rattle.wasm_module.specs.declared.table_initialization.TableInitialValue.{TableInitialValue}
+use Rattle.table_images.specs.Steps.{images_of}
+use Rattle.table_images.specs.Views.{image_of, planned_tables_of}
+use Rattle.init_plan.specs.Tables.{plan_of_tables, own_tables, AreCounted}
+use Rattle.plan_run.specs.declared.elements.ElementPiece.{ElementPiece}
+use Rattle.plan_run.specs.declared.segments.DataPiece.{DataPiece}
+use Rattle.init_plan.specs.declared.translation.ModuleTranslation.{ModuleTranslation}
+use Rattle.init_plan.specs.Views.{memory_plan_of}
+use Rattle.paged_memory.specs.Memory.{Contents, count_lent}
+use Rattle.plan_run.specs.declared.laid.Way.{Way}
+use Rattle.plan_run.specs.declared.laid.Way.TheVariants as way
+use Rattle.plan_run.specs.Finished.{Finished, IsStatic}
+use Rattle.plan_run.specs.Laid.{LendImages}
+use Rattle.plan_run.specs.Lays.{Lays, Hold}
+use Rattle.plan_run.specs.Limits.{most_bytes, page_size_of, own_memories}
+use Rattle.plan_run.specs.Memories.{bytes_in, plan_phase, data_piece, image_in, image_pages, begun, seen, ImageIsWithin, ImagesAreWithin}
+use Rattle.plan_run.specs.Segments.{left_pieces, LendNoMore}
+use Rattle.plan_run.specs.Tables.{element_piece}
+use Rattle.plan_run.proofs.Begun.{within-at, begun-hold, begun-lent}
+use Rattle.plan_run.proofs.Lists.{get-drop}
+
+-- ---- lists
+
+pub all-unmap : {A B : Type 0} (f : A → B) (P : B → Type 0) (xs : List A) → All P (map f xs) → All (λ x. P (f x)) xs
+all-unmap f P [] all = All-nil (λ x. P (f x))
+all-unmap f P (x ∷ xs) all = All-cons (λ y. P (f y)) x xs (All-head P (f x) (map f xs) all) (all-unmap f P xs (All-tail P (f x) (map f xs) all))
+
+-- ---- memories
+
+-- memories that are not too large are small
+pub each-small : (ms : List Memory) → (most_bytes < sum_by minimum_bytes ms → ⊥) → All (λ m. minimum_bytes m < 2 ^ 64) ms
+each-small ms few k d l = omega (arith, get_or-le-sum_by minimum_bytes ms k d l)
+
+within-each : (w : Way) (plan : MemoryPlan) (page n : ℕ) (ms : List Memory)
+    → ((j : ℕ) (m : Memory) → slice_get ms j ≡ Some m → ImageIsWithin page (minimum_bytes m) (image_in w plan (n + j))) → ImagesAreWithin w plan page n ms
+within-each w plan page n [] each = tt
+within-each w plan page n (m ∷ ms) each =
+    let here : n + 0 ≡ n = omega arith in (
+      subst (λ k. ImageIsWithin page (minimum_bytes m) (image_in w plan k)) here (each 0 m refl),
+      within-each w plan page (n + 1) ms (λ j o at.
+          let there : n + suc j ≡ n + 1 + j = omega arith in
+          subst (λ k. ImageIsWithin page (minimum_bytes o) (image_in w plan k)) there (each (suc j) o at)),
+    )
+
+module _ (t : ModuleTranslation) (f : Finished t) where
+  abbrev read : ℕ × ℕ → ℕ × List ℕ
+  read image = (image.0, runtime_bytes (memory_plan_of t) image.1)
+
+  within-one : (w : Way) (i : ℕ) (m : Memory) → slice_get t.module.memories i ≡ Some m
+      → ImageIsWithin (page_size_of t) (minimum_bytes m) (image_in w (memory_plan_of t) i)
+  within-one way.Copy i m at = tt
+  within-one way.Map i m at = over (slice_get (memory_plan_of t).images i) refl where
+    over : (o : Option (Option (ℕ × ℕ))) → slice_get (memory_plan_of t).images i ≡ o
+        → ImageIsWithin (page_size_of t) (minimum_bytes m) (option_map read (unwrap_or o None))
+    over None e = tt
+    over (Some None) e = tt
+    over (Some (Some image)) e = (f.images i image e).within m at
+
+  pub images-within : (w : Way) → ImagesAreWithin w (memory_plan_of t) (page_size_of t) t.module.num_imported_memories (own_memories t)
+  images-within w = within-each w (memory_plan_of t) (page_size_of t) t.module.num_imported_memories (own_memories t)
+      (λ j m at. within-one w (t.module.num_imported_memories + j) m (sym (get-drop t.module.num_imported_memories t.module.memories j) ∙ at))
+
+  -- no imported memory has an image
+  pub none-imported : (w : Way) (i : ℕ) → i < t.module.num_imported_memories → image_in w (memory_plan_of t) i ≡ None
+  none-imported way.Copy i l = refl
+  none-imported way.Map i l = over (slice_get (memory_plan_of t).images i) refl where
+    over : (o : Option (Option (ℕ × ℕ))) → slice_get (memory_plan_of t).images i ≡ o
+        → option_map read (unwrap_or o None) ≡ None
+    over None e = refl
+    over (Some None) e = refl
+    over (Some (Some image)) e = let d = (f.images i image e).defined in absurd (omega arith)
+
+-- the image of one of the defined memories
+pub within-of : (t : ModuleTranslation) (w : Way) (page i : ℕ) (ms : List Memory) (d : Memory) → ms ≡ t.module.memories → t.module.num_imported_memories ≤ i → i < length ms
+    → ImagesAreWithin w (memory_plan_of t) page t.module.num_imported_memories (own_memories t)
+    → ImageIsWithin page (minimum_bytes (get_or ms i d)) (image_in w (memory_plan_of t) i)
+within-of t w page i ms d same low high within =
+    let n : ℕ = t.module.num_imported_memories in
+    let there : n + (i - n) ≡ i = omega arith in
+    let at : slice_get (own_memories t) (i - n) ≡ Some (get_or ms i d) = get-drop n t.module.memories (i - n) ∙ ap (slice_get t.module.memories) there
+    ∙ ap (λ xs. slice_get xs i) (sym same) ∙ slice_get-get_or ms i d high in
+    subst (λ k. ImageIsWithin page (minimum_bytes (get_or ms i d)) (image_in w (memory_plan_of t) k)) there
+    (within-at w (memory_plan_of t) page n (i - n) (own_memories t) (get_or ms i d) at within)
+
+-- so many memories
+pub begun-count : (w : Way) (plan : MemoryPlan) (page n : ℕ) (ms : List Memory) → length (begun w plan page n ms) ≡ length ms
+begun-count w plan page n [] = refl
+begun-count w plan page n (m ∷ ms) = ap suc (begun-count w plan page (n + 1) ms)
+
+pub memory-count : (t : ModuleTranslation) (w : Way) (plan : MemoryPlan) (page n : ℕ) (imported memories : List Contents)
+    → t.module.num_imported_memories ≤ length t.module.memories → length imported ≡ t.module.num_imported_memories
+    → map seen memories ≡ map seen imported ++ begun w plan page n (own_memories t) → length memories ≡ length t.module.memories
+memory-count t w plan page n imported memories few many are =
+    omega (
+      arith,
+      few,
+      many,
+      length-map memories seen,
+      ap length are,
+      length-append (map seen imported) (begun w plan page n (own_memories t)),
+      length-map imported seen,
+      begun-count w plan page n (own_memories t),
+      length-drop t.module.num_imported_memories t.module.memories,
+    )
+
+-- ---- segments
+
+module _ (place_of : Expression → ℕ) (plan : MemoryPlan) where
+  abbrev Below : ℕ → Piece ℕ → Type 0
+  Below n p = p.object < n
+
+  pub left-below : (w : Way) (n : ℕ) (segments : List PlannedSegment) → All (λ s. s.memory < n) segments → All (λ p. p.object < n) (left_pieces w place_of plan segments)
+  left-below w n [] all = All-nil (Below n)
+  left-below w n (s ∷ ss) all = over w s.memory s.index s.offset (All-head (λ (x : PlannedSegment). x.memory < n) s ss all)
+      (left-below w n ss (All-tail (λ (x : PlannedSegment). x.memory < n) s ss all)) where
+        over : (w : Way) (memory index : ℕ) (offset : PlannedOffset) → memory < n → All (λ p. p.object < n) (left_pieces w place_of plan ss)
+            → All (λ p. p.object < n) (left_pieces w place_of plan (record { memory = memory; offset = offset; index = index } ∷ ss))
+        over way.Map memory index (Expr e) l rest = All-cons (Below n) (record { object = memory; offset = place_of e; items = runtime_bytes plan index }) (left_pieces way.Map place_of plan ss) l rest
+        over way.Copy memory index (Expr e) l rest = All-cons (Below n) (record { object = memory; offset = place_of e; items = runtime_bytes plan index }) (left_pieces way.Copy place_of plan ss) l rest
+        over way.Map memory index (Static place) l rest = rest
+        over way.Copy memory index (Static place) l rest = All-cons (Below n) (record { object = memory; offset = place; items = runtime_bytes plan index }) (left_pieces way.Copy place_of plan ss) l rest
+
+  -- images alone leave nothing to be written
+  pub none-left : (segments : List PlannedSegment) → All (λ s. IsStatic s.offset) segments → left_pieces way.Map place_of plan segments ≡ []
+  none-left [] all = refl
+  none-left (s ∷ ss) all = over s.memory s.index s.offset (All-head (λ (x : PlannedSegment). IsStatic x.offset) s ss all)
+      (none-left ss (All-tail (λ (x : PlannedSegment). IsStatic x.offset) s ss all)) where
+        over : (memory index : ℕ) (offset : PlannedOffset) → IsStatic offset → left_pieces way.Map place_of plan ss ≡ []
+            → left_pieces way.Map place_of plan (record { memory = memory; offset = offset; index = index } ∷ ss) ≡ []
+        over memory index (Expr e) is rest = absurd is
+        over memory index (Static place) is rest = rest
+
+-- ---- phases
+
+pub lays-count : {A : Type 0} (phase : Phase A) (n m : ℕ) (objects : List (List A)) (trapped : Option ℕ) → n ≡ m → Lays phase n objects trapped → Lays phase m objects trapped
+lays-count phase n m objects trapped same lays = subst (λ k. Lays phase k objects trapped) same lays
+
+-- ---- what the memories hold, and lend
+
+module _ (t : ModuleTranslation) (f : Finished t) (w : Way) (place_of : Expression → ℕ) (imported memories : List Contents) (many : length imported ≡ t.module.num_imported_memories)
+    (are : map seen memories ≡ map seen imported ++ begun w (memory_plan_of t) (page_size_of t) t.module.num_imported_memories (own_memories t)) where
+  are-so : map seen memories ≡ map seen imported ++ begun w (memory_plan_of t) (page_size_of t) (length imported) (own_memories t)
+  are-so = subst (λ k. map seen memories ≡ map seen imported ++ begun w (memory_plan_of t) (page_size_of t) k (own_memories t)) (sym many) are
+
+  pub memories-hold : Hold (plan_phase w place_of (bytes_in imported) (memory_plan_of t)).sizes (plan_phase w place_of (bytes_in imported) (memory_plan_of t)).base (bytes_in memories)
+  memories-hold = begun-hold w (memory_plan_of t) (page_size_of t) imported memories (own_memories t) are-so place_of refl
+      (λ i l. none-imported t f w i (subst (λ k. i < k) many l)) (subst (λ k. ImagesAreWithin w (memory_plan_of t) (page_size_of t) k (own_memories t)) (sym many) (images-within t f w))
+
+  alone-at : (i : ℕ) (image : ℕ × List ℕ) → image_in way.Map (memory_plan_of t) i ≡ Some image → All (λ s. IsStatic s.offset) (memory_plan_of t).segments
+  alone-at i image is = over (slice_get (memory_plan_of t).images i) refl is where
+    over : (o : Option (Option (ℕ × ℕ))) → slice_get (memory_plan_of t).images i ≡ o → option_map (read t f) (unwrap_or o None) ≡ Some image
+        → All (λ s. IsStatic s.offset) (memory_plan_of t).segments
+    over None e some = absurd (none-some image some)
+    over (Some None) e some = absurd (none-some image some)
+    over (Some (Some one)) e some = (f.images i one e).alone
+
+  pub shared-after : (new : List Contents) → LendNoMore memories new → (left_pieces w place_of (memory_plan_of t) (memory_plan_of t).segments ≡ [] → new ≡ memories) → LendImages t w new
+  shared-after new less still i memory at high =
+      let low = slice_get_within new i memory at in
+      let count = less.count in
+      let before : Contents = get_or memories i memory in
+      let there : slice_get memories i ≡ Some before = slice_get-get_or memories i memory (omega arith) in
+      let begun_pages = begun-lent w (memory_plan_of t) (page_size_of t) imported memories (own_memories t) are-so i before (omega arith) there in
+      over w refl (image_in w (memory_plan_of t) i) refl begun_pages (less.lent i before memory there at) at there
+    where
+      over : (v : Way) → w ≡ v → (o : Option (ℕ × List ℕ)) → image_in w (memory_plan_of t) i ≡ o
+          → count_lent (get_or memories i memory).lent ≡ image_pages (page_size_of t) (image_in w (memory_plan_of t) i)
+          → count_lent memory.lent ≤ count_lent (get_or memories i memory).lent → slice_get new i ≡ Some memory → slice_get memories i ≡ Some (get_or memories i memory)
+          → count_lent memory.lent ≡ image_pages (page_size_of t) (image_in w (memory_plan_of t) i)
+      over v is None none pages less_here new_at old_at =
+          let zero_pages = ap (image_pages (page_size_of t)) none in
+          omega arith
+      over way.Copy is (Some image) some pages less_here new_at old_at =
+          absurd (none-some image (ap (λ x. image_in x (memory_plan_of t) i) (sym is) ∙ some))
+      over way.Map is (Some image) some pages less_here new_at old_at =
+          let alone = alone-at i image (ap (λ x. image_in x (memory_plan_of t) i) (sym is) ∙ some) in
+          let same = still (ap (λ x. left_pieces x place_of (memory_plan_of t) (memory_plan_of t).segments) is ∙ none-left place_of (memory_plan_of t) (memory_plan_of t).segments alone) in
+          let one : get_or memories i memory ≡ memory = same_Some (get_or memories i memory) memory (sym old_at ∙ ap (λ xs. slice_get xs i) (sym same) ∙ new_at) in
+          ap (λ m. count_lent m.lent) (sym one) ∙ pages
+
+pub nil-mapped : {A B : Type 0} (f : A → B) (xs : List A) → map f xs ≡ [] → xs ≡ []
+nil-mapped f [] is = refl
+nil-mapped f (x ∷ xs) is = absurd (let e = ap length is in omega arith)
+
+-- ---- tables
+
+planned-count : (ts : List Table) (vs : List TableInitialValue) (images : List (List (Option ℕ))) → length ts ≡ length vs → length images ≡ length vs
+    → length (planned_tables_of ts vs images) ≡ length ts
+planned-count [] vs images one two = refl
+planned-count (t ∷ ts) [] images one two = absurd (omega arith)
+planned-count (t ∷ ts) (v ∷ vs) [] one two = absurd (omega arith)
+planned-count (t ∷ ts) (v ∷ vs) (i ∷ images) one two = ap suc (planned-count ts vs images (omega arith) (omega arith))
+
+-- so many tables are planned
+pub tables-planned : (t : ModuleTranslation) → AreCounted t → length (plan_of_tables t).tables ≡ length (own_tables t)
+tables-planned t counted = planned-count (own_tables t) t.table_initialization.initial_values (images_of t.module.table_initialization) counted.values
+    (length-map t.module.table_initialization (λ (image : Vec (Index FuncSpace)). image_of image.items) ∙ counted.images)
+
+pub elements-below : (globals : List plain.Value) (fields : ℕ → ℕ) (terms : List Term) (n : ℕ) (segments : List ActiveElements) (pieces : List ElementPiece)
+    → All (λ s. s.table < n) segments → map (element_piece terms) pieces ≡ map (elements_piece globals fields) segments → All (λ p. p.table < n) pieces
+elements-below globals fields terms n segments pieces all are =
+    all-unmap (element_piece terms) (λ (q : Piece plain.Value). q.object < n) pieces
+    (All-same (λ (q : Piece plain.Value). q.object < n) (map (element_piece terms) pieces) (map (elements_piece globals fields) segments) are
+    (All-map (λ (q : Piece plain.Value). q.object < n) (elements_piece globals fields) segments all))
+
+pub data-below : (n : ℕ) (left : List (Piece ℕ)) (pieces : List DataPiece) → All (λ q. q.object < n) left → map data_piece pieces ≡ left → All (λ p. p.memory < n) pieces
+data-below n left pieces all are =
+    all-unmap data_piece (λ (q : Piece ℕ). q.object < n) pieces (All-same (λ (q : Piece ℕ). q.object < n) (map data_piece pieces) left are all)

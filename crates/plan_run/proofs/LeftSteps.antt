@@ -1,0 +1,68 @@
+-- Segments one by one, and the images of a plan.
+use Rattle.std.proofs.Common.{◌≡◌, ℕ, ◌+◌, ◌-◌, ◌<◌, ◌≤◌, List, ◌∷◌, ◌++◌, length, map, get_or, drop, append_assoc, Option, None, Some, refl, sym, ◌∙◌, ap, subst, arith}
+use Rattle.std.specs.Prelude.{slice_get, unwrap_or, All}
+use Rattle.std.specs.List.{cons_option}
+use Rattle.std.specs.Option.{option_map, option_to_list}
+use Rattle.std.proofs.lemmas.List.{drop_more, get_or-drop, length-drop}
+use Rattle.std.proofs.lemmas.Option.{slice_get-map}
+use Rattle.wasm_index.specs.declared.index.Index.{Index}
+use Rattle.wasm_index.specs.declared.spaces.MemorySpace.{MemorySpace}
+use Rattle.wasm_index.specs.declared.spaces.RuntimeDataSpace.{RuntimeDataSpace}
+use Rattle.wasm_index.specs.Index.{number_of}
+use Rattle.wasm_spec.specs.Module.{Expression}
+use Rattle.replay_spec.specs.Phases.{Piece}
+use Rattle.replay_spec.specs.Plan.{MemoryPlan, runtime_bytes}
+use Rattle.init_plan.specs.declared.translation.MemorySegmentOffset.{MemorySegmentOffset}
+use Rattle.init_plan.specs.Views.{planned_offset_of, planned_segment_of}
+use Rattle.plan_run.specs.declared.laid.Way.{Way}
+use Rattle.plan_run.specs.declared.laid.Way.TheVariants as way
+use Rattle.plan_run.specs.Memories.{image_in, left_place}
+use Rattle.plan_run.specs.Segments.{left_piece, left_pieces}
+
+-- ---- segments
+
+cons-is : {A : Type 0} (o : Option A) (xs : List A) → cons_option o xs ≡ option_to_list o ++ xs
+cons-is None xs = refl
+cons-is (Some x) xs = refl
+
+pub left-step : (w : Way) (place_of : Expression → ℕ) (plan : MemoryPlan) (segments : List (Index MemorySpace × MemorySegmentOffset × Index RuntimeDataSpace)) (i : ℕ)
+    (s d : Index MemorySpace × MemorySegmentOffset × Index RuntimeDataSpace) (front new : List (Piece ℕ)) (place : Option ℕ) → i < length segments → s ≡ get_or segments i d
+    → place ≡ left_place w place_of (planned_offset_of s.1)
+    → new ≡ front ++ option_to_list (option_map (λ at. record { object = number_of s.0; offset = at; items = runtime_bytes plan (number_of s.2) }) place)
+    → new ++ left_pieces w place_of plan (map planned_segment_of (drop (i + 1) segments)) ≡ front ++ left_pieces w place_of plan (map planned_segment_of (drop i segments))
+left-step w place_of plan segments i s d front new place l is at pushed =
+    let rest : List (Piece ℕ) = left_pieces w place_of plan (map planned_segment_of (drop (i + 1) segments)) in
+    let one : Option (Piece ℕ) = left_piece w place_of plan (planned_segment_of s) in
+    ap (λ xs. xs ++ rest) (pushed ∙ ap (λ o. front ++ option_to_list (option_map (λ at. record { object = number_of s.0; offset = at; items = runtime_bytes plan (number_of s.2) }) o)) at)
+    ∙ append_assoc front (option_to_list one) rest
+    ∙ ap (λ xs. front ++ xs) (sym (cons-is one rest))
+    ∙ sym (ap (λ xs. front ++ left_pieces w place_of plan (map planned_segment_of xs)) (drop_more segments i d l ∙ ap (λ x. x ∷ drop (i + 1) segments) (sym is)))
+
+-- ---- images
+
+abbrev pub view_image : ℕ × Index RuntimeDataSpace → ℕ × ℕ
+view_image image = (image.0, number_of image.1)
+
+module _ (plan : MemoryPlan) (images : List (Option (ℕ × Index RuntimeDataSpace))) (is : plan.images ≡ map (option_map view_image) images) (i : ℕ) where
+  abbrev read : Option (Option (ℕ × ℕ)) → Option (ℕ × List ℕ)
+  read o = option_map (λ image. (image.0, runtime_bytes plan image.1)) (unwrap_or o None)
+
+  image-at : (o : Option (Option (ℕ × Index RuntimeDataSpace))) → slice_get images i ≡ o → image_in way.Map plan i ≡ read (option_map (option_map view_image) o)
+  image-at o at = ap read (ap (λ xs. slice_get xs i) is ∙ slice_get-map (option_map view_image) images i ∙ ap (option_map (option_map view_image)) at)
+
+  pub image-some : (image : ℕ × Index RuntimeDataSpace) → slice_get images i ≡ Some (Some image) → image_in way.Map plan i ≡ Some (image.0, runtime_bytes plan (number_of image.1))
+  image-some image at = image-at (Some (Some image)) at
+
+  pub image-none : slice_get images i ≡ Some None → image_in way.Map plan i ≡ None
+  image-none at = image-at (Some None) at
+
+  pub image-past : slice_get images i ≡ None → image_in way.Map plan i ≡ None
+  image-past at = image-at None at
+
+-- ---- the last items of a list
+
+pub last-at : {A : Type 0} (P : A → Type 0) (xs : List A) (n i : ℕ) (d : A) → n ≤ i → i < length xs → All P (drop n xs) → P (get_or xs i d)
+last-at P xs n i d low high all =
+    let there : n + (i - n) ≡ i = omega arith in
+    let within : i - n < length (drop n xs) = omega (arith, length-drop n xs) in
+    subst P (get_or-drop n xs (i - n) d ∙ ap (λ k. get_or xs k d) there) (all (i - n) d within)

@@ -1,0 +1,15 @@
+pub mod Agreement
+pub mod Begun
+pub mod CellSteps
+pub mod Conversions
+pub mod FirstCells
+pub mod LeftSteps
+pub mod Lists
+pub mod Machine
+pub mod OneMore
+pub mod PieceSteps
+pub mod Pieces
+pub mod Terms
+pub mod Given
+pub mod Writing
+pub mod Written

@@ -1,0 +1,78 @@
+-- Items of lists.
+use Rattle.std.proofs.Common.{◌≡◌, ◌≢◌, ℕ, zero, suc, ◌+◌, ◌<◌, ◌≤◌, List, [], ◌∷◌, ◌++◌, length, get_or, set, take, drop, replicate, Option, None, Some, refl, sym, ◌∙◌, ap, subst, arith}
+use Rattle.std.specs.Prelude.{slice_get, All, MatchOption}
+use Rattle.std.specs.Borrow.{Bor}
+use Rattle.std.specs.List.{HoldsAt}
+use Rattle.std.specs.Option.{option_copied}
+use Rattle.std.proofs.lemmas.List.Elements.{All-get_or}
+use Rattle.std.proofs.lemmas.Option.{get_or_from_slice_get, slice_get_within, slice_get_past, slice_get-get_or}
+
+-- ---- lists
+
+pub get-set-same : {A : Type 0} (xs : List A) (k : ℕ) (x : A) → k < length xs → slice_get (set xs k x) k ≡ Some x
+get-set-same [] k x l = absurd (omega arith)
+get-set-same (y ∷ ys) zero x l = refl
+get-set-same (y ∷ ys) (suc k) x l = get-set-same ys k x (omega arith)
+
+pub get-set-other : {A : Type 0} (xs : List A) (k j : ℕ) (x : A) → j ≢ k → slice_get (set xs k x) j ≡ slice_get xs j
+get-set-other [] k j x ne = refl
+get-set-other (y ∷ ys) zero zero x ne = absurd (ne refl)
+get-set-other (y ∷ ys) zero (suc j) x ne = refl
+get-set-other (y ∷ ys) (suc k) zero x ne = refl
+get-set-other (y ∷ ys) (suc k) (suc j) x ne = get-set-other ys k j x (λ e. ne (ap suc e))
+
+pub get-append-low : {A : Type 0} (xs ys : List A) (k : ℕ) → k < length xs → slice_get (xs ++ ys) k ≡ slice_get xs k
+get-append-low [] ys k l = absurd (omega arith)
+get-append-low (x ∷ xs) ys zero l = refl
+get-append-low (x ∷ xs) ys (suc k) l = get-append-low xs ys k (omega arith)
+
+pub get-append-high : {A : Type 0} (xs ys : List A) (k : ℕ) → slice_get (xs ++ ys) (length xs + k) ≡ slice_get ys k
+get-append-high [] ys k = ap (slice_get ys) (omega arith)
+get-append-high (x ∷ xs) ys k = rw (sucs (length xs) k) (get-append-high xs ys k) where
+  sucs : (n k : ℕ) → suc n + k ≡ suc (n + k)
+  sucs n k = omega arith
+
+pub get-take : {A : Type 0} (n : ℕ) (xs : List A) (k : ℕ) → k < n → slice_get (take n xs) k ≡ slice_get xs k
+get-take zero xs k l = absurd (omega arith)
+get-take (suc n) [] k l = refl
+get-take (suc n) (x ∷ xs) zero l = refl
+get-take (suc n) (x ∷ xs) (suc k) l = get-take n xs k (omega arith)
+
+pub get-drop : {A : Type 0} (n : ℕ) (xs : List A) (k : ℕ) → slice_get (drop n xs) k ≡ slice_get xs (n + k)
+get-drop zero xs k = ap (slice_get xs) (omega arith)
+get-drop (suc n) [] k = refl
+get-drop (suc n) (x ∷ xs) k = rw (sucs n k) (get-drop n xs k) where
+  sucs : (n k : ℕ) → suc n + k ≡ suc (n + k)
+  sucs n k = omega arith
+
+-- what all have, one that is found has
+pub all-at : {X : Type 0} (P : X → Type 0) (xs : List X) (i : ℕ) (x : X) → All P xs → slice_get xs i ≡ Some x → P x
+all-at P xs i x all at = subst P (get_or_from_slice_get xs i x x at) (All-get_or P xs i x (slice_get_within xs i x at) all)
+
+pub get-replicate : {A : Type 0} (x : A) (n p : ℕ) → p < n → slice_get (replicate n x) p ≡ Some x
+get-replicate x zero p l = absurd (omega arith)
+get-replicate x (suc n) zero l = refl
+get-replicate x (suc n) (suc p) l = get-replicate x n p (omega arith)
+
+-- a list of two is of its two items
+pub two-is : {A : Type 0} (xs : List A) (d : A) → 2 ≤ length xs → length xs < 3 → xs ≡ get_or xs 0 d ∷ get_or xs 1 d ∷ []
+two-is [] d low high = absurd (omega arith)
+two-is (x ∷ []) d low high = absurd (omega arith)
+two-is (x ∷ y ∷ []) d low high = refl
+two-is (x ∷ y ∷ z ∷ zs) d low high = absurd (omega arith)
+
+pub one-is : {A : Type 0} (xs : List A) (d : A) → 1 ≤ length xs → length xs < 2 → xs ≡ get_or xs 0 d ∷ []
+one-is [] d low high = absurd (omega arith)
+one-is (x ∷ []) d low high = refl
+one-is (x ∷ y ∷ zs) d low high = absurd (omega arith)
+
+-- what `get` copies out of a slice
+pub copied-is : {A : Type 0} (xs : List A) (i : ℕ) (o : Option (Bor A)) → MatchOption o (length xs ≤ i) (λ x. (i < length xs) × HoldsAt (λ y. x.now ≡ y) xs i)
+    → option_copied o ≡ slice_get xs i
+copied-is xs i None h = sym (slice_get_past xs i h)
+copied-is xs i (Some x) h = ap Some (h.1 x.now) ∙ sym (slice_get-get_or xs i x.now h.0)
+
+pub some-at : {A : Type 0} (xs : List A) (i : ℕ) → i < length xs → (x : A) × (slice_get xs i ≡ Some x)
+some-at [] i l = absurd (omega arith)
+some-at (x ∷ xs) zero l = (x, refl)
+some-at (x ∷ xs) (suc i) l = some-at xs i (omega arith)

@@ -1,0 +1,94 @@
+-- Operators on a stack of values, and expressions.
+use Rattle.std.proofs.Common.{◌≡◌, ℕ, ◌+◌, ◌-◌, ◌<◌, ◌≤◌, true, List, [], ◌∷◌, ◌++◌, length, get_or, take, drop, Option, None, Some, sym, ◌∙◌, ap, subst, arith}
+use Rattle.std.specs.Prelude.{nat_le, All, IfSome}
+use Rattle.std.specs.Option.{option_map, option_and_then}
+use Rattle.std.proofs.lemmas.Bool.{le-leb, lt-leb, cond-true, cond-false}
+use Rattle.std.proofs.lemmas.List.{length-map, map-append, take-map, drop-map, drop_more}
+use Rattle.std.proofs.lemmas.List.Elements.{All-take, All-push}
+use Rattle.wasm_spec.specs.declared.operators.Operator.{Operator}
+use Rattle.wasm_convert.specs.declared.operators.ConstOp.{ConstOp}
+use Rattle.wasm_convert.specs.Operators.{operator_of}
+use Rattle.wasm_convert.specs.Constants.{expression_of}
+use Rattle.replay_spec.specs.Values as plain
+use Rattle.replay_spec.specs.Values.{Term, Action, action, acted, run, only_value}
+use Rattle.replay_spec.specs.Elements.{value_or_null}
+use Rattle.plan_run.specs.declared.value.Value.{Value}
+use Rattle.plan_run.specs.declared.value.Node.{Node}
+use Rattle.plan_run.specs.Values.{value_in, values_in, terms_of, NamesBelow}
+use Rattle.plan_run.specs.Nodes.{Extends, MeansOption, Acts}
+use Rattle.plan_run.proofs.Terms.{kept-values, all-names-more, longer}
+
+-- ---- one operator
+
+module _ (a : Action) (vs : List plain.Value) where
+  abbrev taken-from : ℕ → Option (List plain.Value)
+  taken-from n = option_map (λ v. take n vs ++ v ∷ []) (a.makes (drop n vs))
+
+  acted-taken : (n : ℕ) → a.takes ≤ length vs → n ≡ length vs - a.takes → acted a vs ≡ taken-from n
+  acted-taken n l is = cond-true (nat_le a.takes (length vs)) (taken-from (length vs - a.takes)) None (le-leb a.takes (length vs) l) ∙ ap taken-from (sym is)
+
+  acted-few : length vs < a.takes → acted a vs ≡ None
+  acted-few l = cond-false (nat_le a.takes (length vs)) (taken-from (length vs - a.takes)) None (lt-leb a.takes (length vs) l)
+
+module _ (a : Action) (nodes : List Node) (stack args : List Value) (takes rest : ℕ) (is : takes ≡ a.takes) where
+  -- too few values stand
+  pub acts-few : length stack < takes → acted a (values_in (terms_of nodes) stack) ≡ None
+  acts-few l = acted-few a (values_in (terms_of nodes) stack) (omega (arith, length-map stack (value_in (terms_of nodes))))
+
+  module _ (l : takes ≤ length stack) (at : rest ≡ length stack - takes) (top : args ≡ drop rest stack) where
+    acts-on : acted a (values_in (terms_of nodes) stack)
+        ≡ option_map (λ v. values_in (terms_of nodes) (take rest stack) ++ v ∷ []) (a.makes (values_in (terms_of nodes) args))
+    acts-on =
+        let long = length-map stack (value_in (terms_of nodes)) in
+        acted-taken a (values_in (terms_of nodes) stack) rest (omega arith) (omega arith)
+        ∙ ap (λ xs. option_map (λ v. xs ++ v ∷ []) (a.makes (drop rest (values_in (terms_of nodes) stack)))) (take-map (value_in (terms_of nodes)) rest stack)
+        ∙ ap (λ xs. option_map (λ v. values_in (terms_of nodes) (take rest stack) ++ v ∷ []) (a.makes xs))
+        (drop-map (value_in (terms_of nodes)) rest stack ∙ ap (values_in (terms_of nodes)) (sym top))
+
+    -- the values are not what is wanted
+    pub acts-none : a.makes (values_in (terms_of nodes) args) ≡ None → acted a (values_in (terms_of nodes) stack) ≡ None
+    acts-none none = acts-on ∙ ap (option_map (λ v. values_in (terms_of nodes) (take rest stack) ++ v ∷ [])) none
+
+    -- or one value stands for them
+    pub acts-some : (new : List Node) (between after : List Value) (v : Value) → Extends nodes new → All (NamesBelow (length nodes)) stack → between ≡ take rest stack
+        → after ≡ between ++ v ∷ [] → MeansOption new (Some v) (a.makes (values_in (terms_of nodes) args)) → Acts a nodes new stack after true
+    acts-some new between after v extends below cut pushed made =
+        let front : List Value = take rest stack in
+        let all : after ≡ front ++ v ∷ [] = pushed ∙ ap (λ xs. xs ++ v ∷ []) cut in
+        let below_front : All (NamesBelow (length nodes)) front = All-take (NamesBelow (length nodes)) rest stack below in
+        let same : values_in (terms_of nodes) front ≡ values_in (terms_of new) front = sym (kept-values nodes new extends front below_front) in (
+          subst (λ xs. All (NamesBelow (length new)) xs) (sym all)
+              (All-push (NamesBelow (length new)) front v (all-names-more (length nodes) (length new) front (longer nodes new extends) below_front) made.0),
+          acts-on ∙ ap (option_map (λ x. values_in (terms_of nodes) front ++ x ∷ [])) made.1
+              ∙ ap (λ xs. Some (xs ++ value_in (terms_of new) v ∷ [])) same
+              ∙ ap Some (sym (map-append (value_in (terms_of new)) front (v ∷ [])) ∙ ap (values_in (terms_of new)) (sym all)),
+        )
+
+-- ---- an expression
+
+abbrev pub Step : Type 0
+Step = Operator → List plain.Value → Option (List plain.Value)
+
+module _ (step : Step) (ops : List ConstOp) (i : ℕ) (op d : ConstOp) (l : i < length ops) (is : op ≡ get_or ops i d) (stack : List plain.Value) where
+  runs-on : run step (expression_of (drop i ops)) stack ≡ option_and_then (run step (expression_of (drop (i + 1) ops))) (step (operator_of op) stack)
+  runs-on = ap (λ xs. run step (expression_of xs) stack) (drop_more ops i d l ∙ ap (λ o. o ∷ drop (i + 1) ops) (sym is))
+
+  pub runs-more : (after : List plain.Value) → step (operator_of op) stack ≡ Some after
+      → run step (expression_of (drop (i + 1) ops)) after ≡ run step (expression_of (drop i ops)) stack
+  runs-more after e = sym (runs-on ∙ ap (option_and_then (run step (expression_of (drop (i + 1) ops)))) e)
+
+  pub runs-none : step (operator_of op) stack ≡ None → run step (expression_of (drop i ops)) stack ≡ None
+  runs-none e = runs-on ∙ ap (option_and_then (run step (expression_of (drop (i + 1) ops)))) e
+
+-- an expression without a value is null
+pub no-value : (step : Step) (e : List Operator) → run step e [] ≡ None → value_or_null (plain.evaluated step e) ≡ plain.Ref plain.Null
+no-value step e none = ap (λ o. value_or_null (option_and_then only_value o)) none
+
+pub the-value : (step : Step) (e : List Operator) (stack : List plain.Value) → run step e [] ≡ Some stack → value_or_null (plain.evaluated step e) ≡ value_or_null (only_value stack)
+the-value step e stack some = ap (λ o. value_or_null (option_and_then only_value o)) some
+
+-- what may be a value, by the values that it stands for
+pub option-means : (nodes : List Node) (o : Option Value) (meant : Option plain.Value) → option_map (value_in (terms_of nodes)) o ≡ meant → IfSome o (NamesBelow (length nodes))
+    → MeansOption nodes o meant
+option-means nodes None meant is below = sym is
+option-means nodes (Some v) meant is below = (below, sym is)

@@ -1,0 +1,125 @@
+-- Pieces one by one.
+use Rattle.std.proofs.Common.{◌≡◌, ◌≢◌, ℕ, zero, suc, ◌+◌, ◌-◌, ◌<◌, ◌≤◌, Bool, true, false, List, [], ◌∷◌, ◌++◌, length, map, get_or, set, take, drop, replicate, Some, refl, sym, ◌∙◌, ap, subst, arith}
+use Rattle.std.specs.Prelude.{slice_get}
+use Rattle.std.specs.Option.{option_map}
+use Rattle.std.proofs.Math.Logic.{⊎_elim}
+use Rattle.std.proofs.Math.ListN.{length-set}
+use Rattle.std.proofs.lemmas.Bool.{cases_eq}
+use Rattle.std.proofs.lemmas.List.{length-map, length-drop, map-set, drop_more, drop-drop, take-append-drop, length-replicate}
+use Rattle.std.proofs.lemmas.Option.{same_Some, slice_get-map, slice_get-get_or, slice_get_within}
+use Rattle.replay_spec.specs.Phases.{Piece, Phase}
+use Rattle.paged_memory.specs.Memory.{Contents, count_lent, not_lent}
+use Rattle.paged_memory.specs.Writing.{written}
+use Rattle.plan_run.specs.Lays.{Lays}
+use Rattle.plan_run.specs.Segments.{WritesPiece, LendNoMore}
+use Rattle.plan_run.proofs.Lists.{get-set-same, get-set-other}
+use Rattle.plan_run.proofs.Writing.{IsWriting, next-written, next-traps}
+
+-- ---- what is left of a list
+
+pub drop-mapped : {A B : Type 0} (f : A → B) (xs : List A) (i : ℕ) (d : A) → i < length xs → map f (drop i xs) ≡ f (get_or xs i d) ∷ map f (drop (i + 1) xs)
+drop-mapped f xs i d l = ap (map f) (drop_more xs i d l)
+
+pub left-count : {A B : Type 0} (f : A → B) (xs : List A) (i : ℕ) → i < length xs → length xs - i ≡ suc (length (map f (drop (i + 1) xs)))
+left-count f xs i l = omega (arith, length-map (drop (i + 1) xs) f, length-drop (i + 1) xs)
+
+-- ---- a piece is written to one of some objects, or not
+
+module _ {A X : Type 0} (f : X → List A) (xs : List X) (k : ℕ) (x : X) (at : slice_get xs k ≡ Some x) (p : Piece A) (on : p.object ≡ k) where
+  the-object : (object : List A) → slice_get (map f xs) p.object ≡ Some object → object ≡ f x
+  the-object object is = same_Some object (f x) (sym is ∙ ap (slice_get (map f xs)) on ∙ slice_get-map f xs k ∙ ap (option_map f) at)
+
+  pub writes-true : (new : X) → p.offset + length p.items ≤ length (f x) → f new ≡ written p.offset p.items (f x) → WritesPiece p (map f xs) (map f (set xs k new)) true
+  writes-true new l is object found =
+      let same = the-object object found in (
+        subst (λ o. p.offset + length p.items ≤ length o) (sym same) l,
+        map-set f xs k new ∙ ap (λ j. set (map f xs) j (f new)) (sym on) ∙ ap (set (map f xs) p.object) (is ∙ ap (written p.offset p.items) (sym same)),
+      )
+
+  pub writes-false : (p.offset + length p.items ≤ length (f x) → ⊥) → WritesPiece p (map f xs) (map f xs) false
+  writes-false past object found =
+      let same = ap length (the-object object found) in
+      (omega (arith, past, same), refl)
+
+module _ {A : Type 0} (phase : Phase A) (p : Piece A) (rest : List (Piece A)) (old new : List (List A)) (w : IsWriting phase (p ∷ rest) old) (l : p.object < length old) where
+  object : List A
+  object = get_or old p.object []
+
+  found : slice_get old p.object ≡ Some object
+  unfolding object
+  found = slice_get-get_or old p.object [] l
+
+  pub writing-on : WritesPiece p old new true → IsWriting phase rest new
+  writing-on writes =
+      let done = writes object found in
+      subst (λ objects. IsWriting phase rest objects) (sym done.1) (next-written phase old p rest w object found done.0)
+
+  pub writing-traps : (n m : ℕ) → length old ≡ n → m ≡ suc (length rest) → WritesPiece p old new false → Lays phase n new (Some m)
+  writing-traps n m many is writes =
+      let done = writes object found in
+      subst (λ k. Lays phase n new (Some k)) (sym is) (subst (λ objects. Lays phase n objects (Some (suc (length rest)))) (sym done.1)
+      (subst (λ k. Lays phase k old (Some (suc (length rest)))) many (next-traps phase old p rest w object found done.0)))
+
+-- ---- lent pages become no more
+
+count-append : (xs ys : List Bool) → count_lent (xs ++ ys) ≡ count_lent xs + count_lent ys
+count-append [] ys = omega arith
+count-append (x ∷ xs) ys = omega (arith, count-append xs ys)
+
+count-none : (n : ℕ) → count_lent (replicate n false) ≡ 0
+count-none zero = refl
+count-none (suc n) = omega (arith, count-none n)
+
+count-drop : (n : ℕ) (xs : List Bool) → count_lent (drop n xs) ≤ count_lent xs
+count-drop zero xs = omega arith
+count-drop (suc n) [] = omega arith
+count-drop (suc n) (x ∷ xs) = omega (arith, count-drop n xs)
+
+pub not-lent-less : (first n : ℕ) (pages : List Bool) → count_lent (not_lent first n pages) ≤ count_lent pages
+not-lent-less first n pages =
+    let none : List Bool = replicate n false in
+    let long = length-replicate n false in
+    let whole = ap count_lent (take-append-drop first pages) in
+    let rest = ap count_lent (drop-drop (length none) first pages) in
+    omega (
+      arith,
+      count-append (take first pages) (none ++ drop (first + length none) pages),
+      count-append none (drop (first + length none) pages),
+      count-none n,
+      count-append (take first pages) (drop first pages),
+      count-drop (length none) (drop first pages),
+      whole,
+      rest,
+    )
+
+pub lend-same : (memories : List Contents) → LendNoMore memories memories
+lend-same memories = record {
+  count = refl;
+  lent = λ i before after one two. let same = same_Some before after (sym one ∙ two) in subst (λ m. count_lent m.lent ≤ count_lent before.lent) same (omega arith);
+}
+
+pub lend-set : (memories : List Contents) (k : ℕ) (memory new : Contents) → slice_get memories k ≡ Some memory → count_lent new.lent ≤ count_lent memory.lent
+    → LendNoMore memories (set memories k new)
+lend-set memories k memory new at less = record {
+  count = length-set memories k new;
+  lent = λ i before after one two. ⊎_elim
+      (λ (here : i ≡ k).
+      let old : memory ≡ before = same_Some memory before (sym at ∙ ap (slice_get memories) (sym here) ∙ one) in
+      let now : new ≡ after = same_Some new after (sym (ap (slice_get (set memories k new)) here ∙ get-set-same memories k new (slice_get_within memories k memory at)) ∙ two) in
+      subst (λ m. count_lent m.lent ≤ count_lent before.lent) now (subst (λ m. count_lent new.lent ≤ count_lent m.lent) old less))
+      (λ (there : i ≢ k).
+      let same = same_Some before after (sym one ∙ sym (get-set-other memories k i new there) ∙ two) in
+      subst (λ m. count_lent m.lent ≤ count_lent before.lent) same (omega arith))
+      (cases_eq i k);
+}
+
+pub lend-on : (a b c : List Contents) → LendNoMore a b → LendNoMore b c → LendNoMore a c
+lend-on a b c one two = record {
+  count = two.count ∙ one.count;
+  lent = λ i before after at is.
+      let low = slice_get_within c i after is in
+      let many = two.count in
+      let between : Contents = get_or b i before in
+      let there : slice_get b i ≡ Some between = slice_get-get_or b i before (omega arith) in
+      omega (arith, one.lent i before between at there, two.lent i between after there is);
+}

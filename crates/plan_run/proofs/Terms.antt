@@ -1,0 +1,186 @@
+-- Terms stay when nodes are appended.
+use Rattle.std.proofs.Common.{◌≡◌, ℕ, zero, suc, ◌+◌, ◌<◌, ◌≤◌, List, [], ◌∷◌, ◌++◌, length, map, Some, refl, sym, ◌∙◌, ap, subst, arith}
+use Rattle.std.specs.Prelude.{slice_get, unwrap_or, All}
+use Rattle.std.proofs.Math.Logic.{⊎_elim}
+use Rattle.std.proofs.lemmas.Bool.{cases_lt}
+use Rattle.std.proofs.lemmas.List.{append_assoc, append-nil, length-append, length_push}
+use Rattle.std.proofs.lemmas.List.Elements.{All-head, All-tail, All-weaker}
+use Rattle.std.proofs.lemmas.Option.{slice_get_within, same_Some, none-some}
+use Rattle.replay_spec.specs.Values as plain
+use Rattle.replay_spec.specs.Values.{Term}
+use Rattle.plan_run.specs.declared.value.Value.{Value}
+use Rattle.plan_run.specs.declared.value.Value.TheVariants as value
+use Rattle.plan_run.specs.declared.value.Node.{Node}
+use Rattle.wasm_convert.specs.Operators.{operator_of}
+use Rattle.plan_run.specs.Values.{value_in, values_in, imported_value, kept_term, term_of, terms_behind, terms_of, NamesBelow, IsPlain, IsNodeAt, AreOrdered}
+use Rattle.plan_run.specs.Nodes.{Extends, Grows, Means, AllMean}
+use Rattle.plan_run.proofs.Lists.{get-append-low, get-append-high}
+
+-- ---- terms
+
+terms-append : (terms : List Term) (ns ms : List Node) → terms_behind terms (ns ++ ms) ≡ terms_behind (terms_behind terms ns) ms
+terms-append terms [] ms = refl
+terms-append terms (n ∷ ns) ms = terms-append (terms ++ term_of terms n ∷ []) ns ms
+
+length-terms : (terms : List Term) (ns : List Node) → length (terms_behind terms ns) ≡ length terms + length ns
+length-terms terms [] = omega arith
+length-terms terms (n ∷ ns) = omega (arith, length-terms (terms ++ term_of terms n ∷ []) ns, length_push terms (term_of terms n))
+
+terms-low : (terms : List Term) (ns : List Node) (k : ℕ) → k < length terms → slice_get (terms_behind terms ns) k ≡ slice_get terms k
+terms-low terms [] k l = refl
+terms-low terms (n ∷ ns) k l =
+    terms-low (terms ++ term_of terms n ∷ []) ns k (omega (arith, length_push terms (term_of terms n))) ∙ get-append-low terms (term_of terms n ∷ []) k l
+
+-- ---- values over terms that agree
+
+value-same : (one other : List Term) (k : ℕ) (v : Value) → ((i : ℕ) → i < k → slice_get one i ≡ slice_get other i) → NamesBelow k v → value_in one v ≡ value_in other v
+value-same one other k (value.I32 n) same below = refl
+value-same one other k (value.I64 n) same below = refl
+value-same one other k (value.F32 bits) same below = refl
+value-same one other k (value.F64 bits) same below = refl
+value-same one other k (value.V128 bits) same below = refl
+value-same one other k value.Null same below = refl
+value-same one other k (value.Func function) same below = refl
+value-same one other k (value.Host n) same below = refl
+value-same one other k (value.I31 n) same below = refl
+value-same one other k (value.Term n) same below = ap (λ o. plain.Ref (unwrap_or o plain.Null)) (same n below)
+
+values-same : (one other : List Term) (k : ℕ) (vs : List Value) → ((i : ℕ) → i < k → slice_get one i ≡ slice_get other i) → All (NamesBelow k) vs
+    → values_in one vs ≡ values_in other vs
+values-same one other k [] same below = refl
+values-same one other k (v ∷ vs) same below =
+    ap (λ x. x ∷ values_in one vs) (value-same one other k v same (All-head (NamesBelow k) v vs below))
+    ∙ ap (λ xs. value_in other v ∷ xs) (values-same one other k vs same (All-tail (NamesBelow k) v vs below))
+
+pub names-more : (k m : ℕ) (v : Value) → k ≤ m → NamesBelow k v → NamesBelow m v
+names-more k m (value.I32 n) l below = tt
+names-more k m (value.I64 n) l below = tt
+names-more k m (value.F32 bits) l below = tt
+names-more k m (value.F64 bits) l below = tt
+names-more k m (value.V128 bits) l below = tt
+names-more k m value.Null l below = tt
+names-more k m (value.Func function) l below = tt
+names-more k m (value.Host n) l below = tt
+names-more k m (value.I31 n) l below = tt
+names-more k m (value.Term n) l below = omega arith
+
+pub all-names-more : (k m : ℕ) (vs : List Value) → k ≤ m → All (NamesBelow k) vs → All (NamesBelow m) vs
+all-names-more k m vs l = All-weaker (NamesBelow k) (NamesBelow m) (λ v. names-more k m v l) vs
+
+-- ---- a node's term, over the terms of all
+
+abbrev kept : Node → List plain.Value → Term
+kept n vs = kept_term (operator_of n.op) vs
+
+term-from : (terms : List Term) (ns : List Node) (k : ℕ) (n : Node) → slice_get ns k ≡ Some n → All (NamesBelow (length terms + k)) n.args.items
+    → slice_get (terms_behind terms ns) (length terms + k) ≡ Some (term_of (terms_behind terms ns) n)
+term-from terms [] k n at below = absurd (none-some n at)
+term-from terms (m ∷ ms) zero n at below =
+    let t : Term = term_of terms m in
+    let all : List Term = terms_behind (terms ++ t ∷ []) ms in
+    let long = length_push terms t in
+    let same : m ≡ n = same_Some m n at in
+    let here : slice_get (terms ++ t ∷ []) (length terms + 0) ≡ Some t = get-append-high terms (t ∷ []) 0 in
+    let agree : (i : ℕ) → i < length terms + 0 → slice_get terms i ≡ slice_get all i =
+    λ i l. sym (terms-low (terms ++ t ∷ []) ms i (omega arith) ∙ get-append-low terms (t ∷ []) i (omega arith)) in
+    terms-low (terms ++ t ∷ []) ms (length terms + 0) (omega arith) ∙ here
+    ∙ ap (λ x. Some (term_of terms x)) same ∙ ap (λ vs. Some (kept n vs)) (values-same terms all (length terms + 0) n.args.items agree below)
+term-from terms (m ∷ ms) (suc k) n at below =
+    let t : Term = term_of terms m in
+    let long = length_push terms t in
+    let there : length (terms ++ t ∷ []) + k ≡ length terms + suc k = omega arith in
+    ap (slice_get (terms_behind (terms ++ t ∷ []) ms)) (sym there)
+    ∙ term-from (terms ++ t ∷ []) ms k n at (subst (λ j. All (NamesBelow j) n.args.items) (sym there) below)
+
+pub node-term : (nodes : List Node) (k : ℕ) (n : Node) → AreOrdered nodes → slice_get nodes k ≡ Some n → slice_get (terms_of nodes) k ≡ Some (term_of (terms_of nodes) n)
+node-term nodes k n ordered at =
+    let zero_plus : length {A = Term} [] + k ≡ k = omega arith in
+    ap (slice_get (terms_of nodes)) (sym zero_plus)
+    ∙ term-from [] nodes k n at (subst (λ j. All (NamesBelow j) n.args.items) (sym zero_plus) (ordered k n at).below)
+
+-- ---- nodes that are appended
+
+pub extends-same : (nodes : List Node) → Extends nodes nodes
+extends-same nodes = record { more = []; is = sym (append-nil nodes) }
+
+pub extends-on : (a b c : List Node) → Extends a b → Extends b c → Extends a c
+extends-on a b c one two = record { more = one.more ++ two.more; is = two.is ∙ ap (λ xs. xs ++ two.more) one.is ∙ append_assoc a one.more two.more }
+
+pub grows-same : (nodes : List Node) → AreOrdered nodes → Grows nodes nodes
+grows-same nodes ordered = record { extends = extends-same nodes; ordered = ordered }
+
+pub grows-on : (a b c : List Node) → Grows a b → Grows b c → Grows a c
+grows-on a b c one two = record { extends = extends-on a b c one.extends two.extends; ordered = two.ordered }
+
+module _ (old new : List Node) (e : Extends old new) where
+  pub longer : length old ≤ length new
+  longer = omega (arith, ap length e.is, length-append old e.more)
+
+  agree-below : (i : ℕ) → i < length old → slice_get (terms_of new) i ≡ slice_get (terms_of old) i
+  agree-below i l =
+      ap (λ ns. slice_get (terms_of ns) i) e.is ∙ ap (λ ts. slice_get ts i) (terms-append [] old e.more)
+      ∙ terms-low (terms_of old) e.more i (omega (arith, length-terms [] old))
+
+  -- what a value means stays
+  pub means-on : (v : Value) (meant : plain.Value) → Means old v meant → Means new v meant
+  means-on v meant m = record {
+    below = names-more (length old) (length new) v longer m.below;
+    is = value-same (terms_of new) (terms_of old) (length old) v agree-below m.below ∙ m.is;
+  }
+
+  pub all-mean-on : (vs : List Value) (meant : List plain.Value) → AllMean old vs meant → AllMean new vs meant
+  all-mean-on vs meant m = record {
+    below = all-names-more (length old) (length new) vs longer m.below;
+    are = values-same (terms_of new) (terms_of old) (length old) vs agree-below m.below ∙ m.are;
+  }
+
+  pub kept-values : (vs : List Value) → All (NamesBelow (length old)) vs → values_in (terms_of new) vs ≡ values_in (terms_of old) vs
+  kept-values vs below = values-same (terms_of new) (terms_of old) (length old) vs agree-below below
+
+-- ---- one node more
+
+pub terms-push : (nodes : List Node) (n : Node) → terms_of (nodes ++ n ∷ []) ≡ terms_of nodes ++ term_of (terms_of nodes) n ∷ []
+terms-push nodes n = terms-append [] nodes (n ∷ [])
+
+pub push-means : (nodes : List Node) (n : Node) → Means (nodes ++ n ∷ []) (value.Term (length nodes)) (plain.Ref (term_of (terms_of nodes) n))
+push-means nodes n =
+    let t : Term = term_of (terms_of nodes) n in
+    let long : length (terms_of nodes) + 0 ≡ length nodes = omega (arith, length-terms [] nodes) in
+    record {
+      below = omega (arith, length_push nodes n);
+      is = ap (λ ts. plain.Ref (unwrap_or (slice_get ts (length nodes)) plain.Null)) (terms-push nodes n)
+          ∙ ap (λ k. plain.Ref (unwrap_or (slice_get (terms_of nodes ++ t ∷ []) k) plain.Null)) (sym long)
+          ∙ ap (λ o. plain.Ref (unwrap_or o plain.Null)) (get-append-high (terms_of nodes) (t ∷ []) 0);
+    }
+
+pub push-ordered : (nodes : List Node) (n : Node) → AreOrdered nodes → IsNodeAt (length nodes) n → AreOrdered (nodes ++ n ∷ [])
+push-ordered nodes n ordered is k m at = ⊎_elim
+    (λ (low : k < length nodes). ordered k m (sym (get-append-low nodes (n ∷ []) k low) ∙ at))
+    (λ (high : length nodes ≤ k).
+    let within = slice_get_within (nodes ++ n ∷ []) k m at in
+    let here : k ≡ length nodes + 0 = omega (arith, length_push nodes n) in
+    let same : n ≡ m = same_Some n m (sym (ap (slice_get (nodes ++ n ∷ [])) here ∙ get-append-high nodes (n ∷ []) 0) ∙ at) in
+    subst (λ x. IsNodeAt k x) same (subst (λ j. IsNodeAt j n) (omega arith) is))
+    (cases_lt k (length nodes))
+
+pub push-grows : (nodes : List Node) (n : Node) → AreOrdered nodes → IsNodeAt (length nodes) n → Grows nodes (nodes ++ n ∷ [])
+push-grows nodes n ordered is = record { extends = record { more = n ∷ []; is = refl }; ordered = push-ordered nodes n ordered is }
+
+pub pushed-means : (old new : List Node) (n : Node) (k : ℕ) → new ≡ old ++ n ∷ [] → k ≡ length old → Means new (value.Term k) (plain.Ref (term_of (terms_of old) n))
+pushed-means old new n k is at =
+    subst (λ j. Means new (value.Term j) (plain.Ref (term_of (terms_of old) n))) (sym at)
+    (subst (λ ns. Means ns (value.Term (length old)) (plain.Ref (term_of (terms_of old) n))) (sym is) (push-means old n))
+
+-- ---- values that name no node
+
+pub plain-means : (nodes : List Node) (v : Value) → IsPlain v → Means nodes v (imported_value v)
+plain-means nodes v none = record {
+  below = names-more 0 (length nodes) v (omega arith) none;
+  is = value-same (terms_of nodes) [] 0 v (λ i l. absurd (omega arith)) none;
+}
+
+pub plain-mean : (nodes : List Node) (vs : List Value) → All IsPlain vs → AllMean nodes vs (map imported_value vs)
+plain-mean nodes vs none = record {
+  below = all-names-more 0 (length nodes) vs (omega arith) none;
+  are = values-same (terms_of nodes) [] 0 vs (λ i l. absurd (omega arith)) none;
+}

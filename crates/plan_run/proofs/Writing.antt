@@ -1,0 +1,131 @@
+-- Objects to which pieces are written in order.
+use Rattle.std.proofs.Common.{◌≡◌, ◌≢◌, ℕ, suc, ◌+◌, ◌-◌, ◌<◌, ◌≤◌, true, false, List, [], ◌∷◌, ◌++◌, length, get_or, set, take, drop, None, Some, refl, sym, ◌∙◌, ap, arith}
+use Rattle.std.specs.Prelude.{slice_get, unwrap_or, nat_le, ◌==◌}
+use Rattle.std.proofs.Math.Logic.{⊎_elim}
+use Rattle.std.proofs.lemmas.Bool.{cases_lt, cases_eq, le-leb, lt-leb, eq-eqb, cond-true, cond-false}
+use Rattle.std.proofs.lemmas.List.{length-append, length-take, length-drop}
+use Rattle.std.proofs.lemmas.Option.{slice_get-get_or, same_Some, slice_get_within}
+use Rattle.replay_spec.specs.Phases.{Piece, Phase, item_at, last_item, fits, before_trap, trap, trap_of, content_of}
+use Rattle.replay_spec.proofs.Covering.{CoversAt, item-cover}
+use Rattle.paged_memory.specs.Writing.{written}
+use Rattle.plan_run.specs.Lays.{Lays, Hold}
+use Rattle.plan_run.proofs.Lists.{get-set-same, get-set-other, get-append-low, get-append-high, get-take, get-drop}
+
+-- ---- what is written
+
+pub length-written : {A : Type 0} (at : ℕ) (items old : List A) → at + length items ≤ length old → length (written at items old) ≡ length old
+length-written at items old l = omega (arith, length-append (take at old) (items ++ drop (at + length items) old), length-append items (drop (at + length items) old), length-take at old, length-drop (at + length items) old)
+
+module _ {A : Type 0} (at : ℕ) (items old : List A) (l : at + length items ≤ length old) where
+  front : length (take at old) ≡ at
+  front = omega (arith, length-take at old)
+
+  pub written-before : (place : ℕ) → place < at → slice_get (written at items old) place ≡ slice_get old place
+  written-before place low =
+      let f = front in
+      get-append-low (take at old) (items ++ drop (at + length items) old) place (omega arith) ∙ get-take at old place low
+
+  pub written-in : (k : ℕ) → k < length items → slice_get (written at items old) (at + k) ≡ slice_get items k
+  written-in k low =
+      ap (λ n. slice_get (written at items old) (n + k)) (sym front)
+      ∙ get-append-high (take at old) (items ++ drop (at + length items) old) k ∙ get-append-low items (drop (at + length items) old) k low
+
+  pub written-behind : (k : ℕ) → slice_get (written at items old) (at + length items + k) ≡ slice_get old (at + length items + k)
+  written-behind k =
+      let there : at + length items + k ≡ length (take at old) + (length items + k) = omega (arith, front) in
+      ap (slice_get (written at items old)) there
+      ∙ get-append-high (take at old) (items ++ drop (at + length items) old) (length items + k) ∙ get-append-high items (drop (at + length items) old) k
+      ∙ get-drop (at + length items) old k
+
+-- at each place of an object stands the item of the piece that is written to it, or what stood there
+pub written-item : {A : Type 0} (i place : ℕ) (p : Piece A) (old : List A) (d : A) → p.object ≡ i → p.offset + length p.items ≤ length old → slice_get old place ≡ Some d
+    → slice_get (written p.offset p.items old) place ≡ Some (unwrap_or (item_at i place p) d)
+written-item i place p old d on l is = ⊎_elim
+    (λ (before : place < p.offset).
+    let none : item_at i place p ≡ None = ⊎_elim (λ e. e) (λ (c : CoversAt i place p). let f = c.from in absurd (omega arith)) (item-cover i place p) in
+    written-before p.offset p.items old l place before ∙ is ∙ sym (ap (λ o. Some (unwrap_or o d)) none))
+    (λ (from : p.offset ≤ place). ⊎_elim
+    (λ (upto : place < p.offset + length p.items).
+    let k : ℕ = place - p.offset in
+    let there : p.offset + k ≡ place = omega arith in
+    let low : k < length p.items = omega arith in
+    let one : (p.object == i) ≡ true = eq-eqb p.object i on in
+    let two : nat_le p.offset place ≡ true = le-leb p.offset place from in
+    let item : item_at i place p ≡ Some (get_or p.items k d) = rw (one, two) (slice_get-get_or p.items k d low) in
+    ap (slice_get (written p.offset p.items old)) (sym there) ∙ written-in p.offset p.items old l k low ∙ slice_get-get_or p.items k d low
+    ∙ sym (ap (λ o. Some (unwrap_or o d)) item))
+    (λ (behind : p.offset + length p.items ≤ place).
+    let k : ℕ = place - (p.offset + length p.items) in
+    let there : p.offset + length p.items + k ≡ place = omega arith in
+    let none : item_at i place p ≡ None = ⊎_elim (λ e. e) (λ (c : CoversAt i place p). let u = c.upto in absurd (omega arith)) (item-cover i place p) in
+    ap (slice_get (written p.offset p.items old)) (sym there) ∙ written-behind p.offset p.items old l k ∙ ap (slice_get old) there ∙ is
+    ∙ sym (ap (λ o. Some (unwrap_or o d)) none))
+    (cases_lt place (p.offset + length p.items)))
+    (cases_lt place p.offset)
+
+-- ---- objects
+
+-- while pieces are written: the objects hold items over which those that are left leave what the whole phase leaves
+pub record IsWriting {A : Type 0} (phase : Phase A) (rest : List (Piece A)) (objects : List (List A)) : Type 0 where
+  pub item : ℕ → ℕ → A
+  pub hold : Hold phase.sizes item objects
+  pub content : (i place : ℕ) → last_item i place (item i place) (before_trap phase.sizes rest) ≡ content_of phase i place
+  pub trap : trap phase.sizes rest ≡ trap_of phase
+
+module _ {A : Type 0} (phase : Phase A) (objects : List (List A)) where
+  pub begin-writing : Hold phase.sizes phase.base objects → IsWriting phase phase.pieces objects
+  begin-writing hold = record { item = phase.base; hold = hold; content = λ i place. refl; trap = refl }
+
+  module _ (p : Piece A) (rest : List (Piece A)) (w : IsWriting phase (p ∷ rest) objects) where
+    -- a piece that fits is written
+    pub next-written : (object : List A) → slice_get objects p.object ≡ Some object → p.offset + length p.items ≤ length object
+        → IsWriting phase rest (set objects p.object (written p.offset p.items object))
+    next-written object at l =
+        let size = w.hold.sizes p.object object at in
+        let low = slice_get_within objects p.object object at in
+        let fit : fits phase.sizes p ≡ true = le-leb (p.offset + length p.items) (phase.sizes p.object) (omega arith) in
+        let new : List A = written p.offset p.items object in
+        record {
+          item = λ i place. unwrap_or (item_at i place p) (w.item i place);
+          hold = record {
+            sizes = λ i o is. ⊎_elim
+                (λ (here : i ≡ p.object).
+                let e : new ≡ o = same_Some new o (sym (ap (slice_get (set objects p.object new)) here ∙ get-set-same objects p.object new low) ∙ is) in
+                ap length (sym e) ∙ length-written p.offset p.items object l ∙ size ∙ ap phase.sizes (sym here))
+                (λ (there : i ≢ p.object). w.hold.sizes i o (sym (get-set-other objects p.object i new there) ∙ is))
+                (cases_eq i p.object);
+            items = λ i place o is within. ⊎_elim
+                (λ (here : i ≡ p.object).
+                let e : new ≡ o = same_Some new o (sym (ap (slice_get (set objects p.object new)) here ∙ get-set-same objects p.object new low) ∙ is) in
+                ap (λ xs. slice_get xs place) (sym e)
+                ∙ written-item i place p object (w.item i place) (sym here) l (w.hold.items i place object (ap (slice_get objects) here ∙ at) within))
+                (λ (there : i ≢ p.object).
+                let none : item_at i place p ≡ None = ⊎_elim (λ e. e) (λ (c : CoversAt i place p). absurd (there (sym c.on))) (item-cover i place p) in
+                w.hold.items i place o (sym (get-set-other objects p.object i new there) ∙ is) within ∙ sym (ap (λ x. Some (unwrap_or x (w.item i place))) none))
+                (cases_eq i p.object);
+          };
+          content = λ i place. sym (ap (last_item i place (w.item i place)) (cond-true (fits phase.sizes p) (p ∷ before_trap phase.sizes rest) [] fit)) ∙ w.content i place;
+          trap = sym (cond-true (fits phase.sizes p) (trap phase.sizes rest) (Some (suc (length rest))) fit) ∙ w.trap;
+        }
+
+    -- or it does not fit
+    pub next-traps : (object : List A) → slice_get objects p.object ≡ Some object → length object < p.offset + length p.items
+        → Lays phase (length objects) objects (Some (suc (length rest)))
+    next-traps object at l =
+        let size = w.hold.sizes p.object object at in
+        let fit : fits phase.sizes p ≡ false = lt-leb (p.offset + length p.items) (phase.sizes p.object) (omega arith) in
+        record {
+          count = refl;
+          sizes = w.hold.sizes;
+          items = λ i place o is within. w.hold.items i place o is within
+              ∙ ap Some (sym (ap (last_item i place (w.item i place)) (cond-false (fits phase.sizes p) (p ∷ before_trap phase.sizes rest) [] fit)) ∙ w.content i place);
+          trap = sym (cond-false (fits phase.sizes p) (trap phase.sizes rest) (Some (suc (length rest))) fit) ∙ w.trap;
+        }
+
+  pub all-written : IsWriting phase [] objects → Lays phase (length objects) objects None
+  all-written w = record {
+    count = refl;
+    sizes = w.hold.sizes;
+    items = λ i place o is within. w.hold.items i place o is within ∙ ap Some (w.content i place);
+    trap = w.trap;
+  }

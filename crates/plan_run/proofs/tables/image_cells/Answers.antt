@@ -1,0 +1,34 @@
+use Rattle.std.proofs.Common.{◌≡◌, ◌∙◌, None, map, take, ap, sym, subst, refl, arith}
+use Rattle.std.specs.Prelude.{All}
+use Rattle.std.proofs.lemmas.List.{take_all, length-map}
+use Rattle.std.proofs.lemmas.List.Elements.{All-push}
+use Rattle.wasm_index.specs.Index.{index_of}
+use Rattle.replay_spec.specs.Tables.{reference_of}
+use Rattle.table_images.specs.Views.{cell_of, image_of}
+use Rattle.plan_run.specs.declared.value.Value.TheVariants as value
+use Rattle.plan_run.specs.Values.{value_in, values_in, IsPlain}
+use Rattle.plan_run.proofs.OneMore.{one-more, filled}
+use Rattle.plan_run.proofs.tables.image_cells.Goals as goal
+
+pub loop-function-preserved : goal.loop-function-preserved
+loop-function-preserved c = record {
+  count = let n = c.in_ok-push.ensures.len in let a = c.push.new.self.ok.0 in let b = c.loop-function.cells.ok.0 in let k = c.loop-function.invariant.count in omega arith;
+  means = λ terms. ap (values_in terms) c.in_ok-push.ensures.items
+      ∙ one-more (value_in terms) reference_of cell_of c.loop-function.cells.items c.args.image.now c.loop-function.function-index (index_of 0) c.cell.result
+      c.loop-function-test.true (c.cell.ensures.means terms) (c.loop-function.invariant.means terms);
+  plain = subst (All IsPlain) (sym c.in_ok-push.ensures.items) (All-push IsPlain c.loop-function.cells.items c.cell.result c.loop-function.invariant.plain c.cell.ensures.plain);
+}
+
+pub returns-clause-means : goal.returns-clause-means
+returns-clause-means c = λ terms.
+    let cells = c.loop-function.cells.items in
+    let image = c.args.image.now in
+    let ok = c.loop-function.cells.ok.0 in
+    let all : take c.loop-function.function-index image ≡ image = take_all c.loop-function.function-index image (omega arith) in
+    let means = c.loop-function.invariant.means terms ∙ ap (λ xs. map reference_of (image_of xs)) all in
+    let long = length-map image cell_of in
+    let count = c.loop-function.invariant.count in
+    let end = c.loop-function-test.false in
+    let upto = c.loop-function.auto.function-index-end in
+    ap (values_in terms) c.in_ok-resize.ensures.items
+    ∙ filled (value_in terms) reference_of cells (image_of image) c.args.minimum _ value.Null None refl means (omega arith) (omega arith)

@@ -1,0 +1,40 @@
+-- When a translation can be laid.
+use Rattle.std.specs.Prelude.{◌≡◌, ◌⊎◌, ℕ, ◌-◌, ◌<◌, ◌≤◌, length, All, Some, slice_get}
+use Rattle.wasm_index.specs.Index.{number_of}
+use Rattle.wasm_types.specs.declared.memory.Memory.{Memory}
+use Rattle.wasm_types.specs.Memories.{minimum_bytes}
+use Rattle.replay_spec.specs.Plan.{PlannedOffset, Expr, Static, runtime_bytes}
+use Rattle.init_plan.specs.declared.translation.ModuleTranslation.{ModuleTranslation}
+use Rattle.init_plan.specs.Views.{IsProcessed, memory_plan_of}
+use Rattle.init_plan.specs.Tables.{plan_of_tables, AreCounted}
+use Rattle.plan_run.specs.Limits.{page_size_of}
+use Rattle.plan_run.specs.Memories.{ImageIsWithin}
+
+abbrev pub IsStatic : PlannedOffset → Type 0
+IsStatic (Expr e) = ⊥
+IsStatic (Static place) = Unit {0}
+
+-- an image is of a defined memory, lies within its minimum size, and is whole pages; no segment is then left to be written
+pub record ImageFits (t : ModuleTranslation) (i : ℕ) (image : ℕ × ℕ) : Type 0 where
+  pub defined : t.module.num_imported_memories ≤ i
+  pub within : (memory : Memory) → slice_get t.module.memories i ≡ Some memory
+      → ImageIsWithin (page_size_of t) (minimum_bytes memory) (Some (image.0, runtime_bytes (memory_plan_of t) image.1))
+  pub alone : All (λ s. IsStatic s.offset) (memory_plan_of t).segments
+
+-- The segments are planned, import counts are within their spaces, and indices are in range. Expressions need not be typed: one that has no
+-- value is null, or the place 0.
+pub record Finished (t : ModuleTranslation) : Type 0 where
+  pub processed : IsProcessed t.memory_init
+  pub imported_globals : t.module.num_imported_globals ≤ length t.module.globals
+  pub imported_memories : t.module.num_imported_memories ≤ length t.module.memories
+  pub imported_tables : t.module.num_imported_tables ≤ length t.module.tables
+  pub simple_globals : All (λ g. number_of g.0 < length t.module.globals - t.module.num_imported_globals) t.module.global_initializers.items
+  pub kept_globals : All (λ g. number_of g.0 < length t.module.globals - t.module.num_imported_globals) t.global_initializers.items
+  pub page_sizes : All (λ memory. (memory.page_size_log2 ≡ 0) ⊎ (memory.page_size_log2 ≡ 16)) t.module.memories
+  pub page : 0 < page_size_of t
+  pub images : (i : ℕ) (image : ℕ × ℕ) → slice_get (memory_plan_of t).images i ≡ Some (Some image) → ImageFits t i image
+  pub segments : All (λ s. s.memory < length t.module.memories) (memory_plan_of t).segments
+  -- each defined table has one initial value and one image, which is not longer than its minimum
+  pub counted : AreCounted t
+  pub table_images : All (λ table. length table.image ≤ table.minimum) (plan_of_tables t).tables
+  pub elements : All (λ s. s.table < length t.module.tables) (plan_of_tables t).segments

@@ -1,0 +1,12 @@
+pub mod Agreement
+pub mod Fields
+pub mod Finished
+pub mod Kinds
+pub mod Laid
+pub mod Lays
+pub mod Limits
+pub mod Memories
+pub mod Nodes
+pub mod Segments
+pub mod Tables
+pub mod Values

@@ -1,0 +1,61 @@
+//! What is laid of a plan.
+
+ghost use Rattle.std.specs.Prelude.{◌≡◌};
+
+use crate::value::{Node, Value};
+use entity_map::OutOfMemory;
+use paged_memory::PagedMemory;
+use thiserror::Error;
+
+/// What is imported, in the order of each index space.
+#[derive(Drop)]
+pub struct Imports<'t> {
+    pub globals: Vec<Value>,
+    pub memories: Vec<PagedMemory<'t>>,
+    pub tables: Vec<Vec<Value>>,
+}
+
+/// What globals, memories and tables hold, the imported ones first.
+#[derive(Drop)]
+pub struct Laid<'t> {
+    pub globals: Vec<Value>,
+    pub memories: Vec<PagedMemory<'t>>,
+    pub tables: Vec<Vec<Value>>,
+    /// What the terms of values are made of.
+    pub nodes: Vec<Node>,
+    /// The first data segment that does not fit, counted from the last of those that are to be
+    /// written, which is 1.
+    pub memory_trap: Option<u64>,
+    /// The same of element segments.
+    pub table_trap: Option<u64>,
+}
+
+/// How memories get their images.
+#[derive(Clone, Copy)]
+pub enum Way {
+    /// The pages of an image are lent by the translation.
+    Map,
+    /// Every byte is written.
+    Copy,
+}
+
+/// Why a plan is not laid.
+#[derive(Clone, Copy, Debug, PartialEq, Eq, Error)]
+pub enum LayError {
+    /// The defined memories or tables are larger than they may be.
+    #[error("memories or tables are too large")]
+    TooLarge,
+    /// Memory ran out.
+    #[error("out of memory")]
+    OutOfMemory,
+}
+
+impl From<OutOfMemory> for LayError {
+    ghost use Rattle.plan_run.specs.declared.laid.LayError.TheVariants as errors;
+
+    ghost from_gives = { λ _ e. e ≡ errors.OutOfMemory };
+
+    fn from(_refused: OutOfMemory) -> LayError {
+        LayError::OutOfMemory
+    }
+}

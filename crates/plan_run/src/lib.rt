@@ -1,0 +1,23 @@
+//! Lays the plan of a module over memories and tables.
+#![tactic(auto)]
+
+mod elements;
+mod evaluation;
+mod globals;
+mod kinds;
+mod laid;
+mod laws;
+mod limits;
+mod memories;
+mod nodes;
+mod segments;
+mod simple;
+mod tables;
+mod value;
+mod whole;
+
+pub use laid::{Imports, Laid, LayError, Way};
+pub use laws::agreement_law;
+pub use paged_memory::PagedMemory;
+pub use value::{Node, Value};
+pub use whole::lay;

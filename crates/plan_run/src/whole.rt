@@ -1,0 +1,166 @@
+//! Lays a plan.
+
+ghost use Rattle.std.specs.Prelude.{◌≡◌, ◌↔◌, ◌⊎◌, ◌++◌, ◌≤◌, ◌<◌, ◌^◌, length, map, All, IfOk, OnOk};
+ghost use Rattle.std.specs.declared.result.Result.TheVariants.{Err};
+ghost use Rattle.plan_run.specs.Finished.{Finished};
+ghost use Rattle.plan_run.specs.Laid.{GlobalsAreLaid, MemoriesAreLaid, TablesAreLaid, LendImages};
+ghost use Rattle.plan_run.specs.Limits.{IsTooLarge};
+ghost use Rattle.plan_run.specs.Lays.{Lays};
+ghost use Rattle.plan_run.specs.Memories.{bytes_in, plan_phase};
+ghost use Rattle.plan_run.specs.Nodes.{Grows};
+ghost use Rattle.plan_run.specs.Tables.{cells_in};
+ghost use Rattle.plan_run.specs.Values.{values_in, terms_of, imported_value, IsPlain, NamesBelow, AreOrdered};
+ghost use Rattle.plan_run.specs.Fields.{field_count_in};
+ghost use Rattle.init_plan.specs.Views.{memory_plan_of};
+ghost use Rattle.init_plan.specs.Tables.{plan_of_tables};
+ghost use Rattle.replay_spec.specs.Tables.{planned_elements_phase};
+ghost use Rattle.replay_spec.specs.Values.{offset_over};
+
+use crate::elements::{pieces_kept, write_elements};
+use crate::globals::lay_globals;
+use crate::laid::{Imports, Laid, LayError, Way};
+use crate::limits::is_too_large;
+use crate::memories::first_memories;
+use crate::segments::{pieces_left, write_pieces};
+use crate::tables::first_tables;
+use crate::value::{Node, Value};
+use entity_map::OutOfMemory;
+use init_plan::ModuleTranslation;
+use module_types::ModuleTypes;
+use paged_memory::PagedMemory;
+use std::alloc::Global;
+
+/// The memories with the data phase, up to its trap.
+fn lay_memories<'t>(
+    alloc: Global,
+    translation: &'t ModuleTranslation<'_>,
+    types: &ModuleTypes,
+    way: Way,
+    imported: Vec<PagedMemory<'t>>,
+    globals: &[Value],
+    nodes: &mut Vec<Node>,
+) -> Result<(Vec<PagedMemory<'t>>, Option<u64>), OutOfMemory>
+    requires finished { Finished translation.now }
+    requires small { IsTooLarge translation.now → ⊥ }
+    requires imports { length imported.items ≡ translation.now.module.num_imported_memories }
+    requires ordered { AreOrdered nodes.old.items }
+    requires globals { All (NamesBelow (length nodes.old.items)) globals.now }
+    ensures grows { OnOk result (Grows nodes.old.items nodes.new.items) }
+    ensures laid { IfOk result (λ laid. Lays (plan_phase way
+        (offset_over (values_in (terms_of nodes.old.items) globals.now) (field_count_in translation.now types.now)) (bytes_in imported.entry.items)
+        (memory_plan_of translation.now)) (length translation.now.module.memories) (bytes_in laid.0.items) laid.1) }
+    ensures shared { IfOk result (λ laid. LendImages translation.now way laid.0.items) }
+{
+    let mut memories = first_memories(alloc, translation, way, imported)?;
+    let pieces = pieces_left(alloc, translation, types, way, globals, nodes)?;
+    let trap = write_pieces(&mut memories, &pieces)?;
+    Ok((memories, trap))
+}
+
+/// The tables with the element phase, up to its trap.
+fn lay_tables(
+    alloc: Global,
+    translation: &ModuleTranslation<'_>,
+    types: &ModuleTypes,
+    imported: Vec<Vec<Value>>,
+    globals: &[Value],
+    nodes: &mut Vec<Node>,
+) -> Result<(Vec<Vec<Value>>, Option<u64>), OutOfMemory>
+    requires finished { Finished translation.now }
+    requires imports { length imported.items ≡ translation.now.module.num_imported_tables }
+    requires plain { All (λ table. All IsPlain table.items) imported.items }
+    requires ordered { AreOrdered nodes.old.items }
+    requires globals { All (NamesBelow (length nodes.old.items)) globals.now }
+    ensures grows { OnOk result (Grows nodes.old.items nodes.new.items) }
+    ensures laid { IfOk result (λ laid. Lays (planned_elements_phase (values_in (terms_of nodes.old.items) globals.now)
+        (field_count_in translation.now types.now) (map (λ table. map imported_value table.items) imported.items) (plan_of_tables translation.now))
+        (length translation.now.module.tables) (cells_in (terms_of nodes.new.items) laid.0.items) laid.1) }
+{
+    let mut tables = first_tables(alloc, translation, types, imported, globals, nodes)?;
+    let pieces = pieces_kept(alloc, translation, types, globals, nodes)?;
+    let trap = write_elements(&mut tables, &pieces);
+    Ok((tables, trap))
+}
+
+/// Lays a plan whose memories and tables are not too large.
+fn lay_all<'t>(
+    alloc: Global,
+    translation: &'t ModuleTranslation<'_>,
+    types: &ModuleTypes,
+    way: Way,
+    imports: Imports<'t>,
+) -> Result<Laid<'t>, OutOfMemory>
+    requires finished { Finished translation.now }
+    requires small { IsTooLarge translation.now → ⊥ }
+    requires globals { length imports.globals.items ≡ translation.now.module.num_imported_globals }
+    requires memories { length imports.memories.items ≡ translation.now.module.num_imported_memories }
+    requires tables { length imports.tables.items ≡ translation.now.module.num_imported_tables }
+    requires plain { All IsPlain imports.globals.items }
+    requires plain_cells { All (λ table. All IsPlain table.items) imports.tables.items }
+    ensures ordered { IfOk result (λ laid. AreOrdered laid.nodes.items) }
+    ensures globals_laid { IfOk result (GlobalsAreLaid translation.now types.now imports.entry) }
+    ensures memories_laid { IfOk result (MemoriesAreLaid translation.now types.now way imports.entry) }
+    ensures tables_laid { IfOk result (TablesAreLaid translation.now types.now imports.entry) }
+    ensures shared { IfOk result (λ laid. LendImages translation.now way laid.memories.items) }
+{
+    let mut nodes = Vec::new(alloc);
+    let globals = lay_globals(alloc, translation, types, imports.globals, &mut nodes)?;
+    let (memories, memory_trap) = lay_memories(
+        alloc,
+        translation,
+        types,
+        way,
+        imports.memories,
+        &globals,
+        &mut nodes,
+    )?;
+    let (tables, table_trap) = lay_tables(
+        alloc,
+        translation,
+        types,
+        imports.tables,
+        &globals,
+        &mut nodes,
+    )?;
+    Ok(Laid {
+        globals,
+        memories,
+        tables,
+        nodes,
+        memory_trap,
+        table_trap,
+    })
+}
+
+/// Lays the plan of a translated module over imports: the globals, then the memories with the data
+/// phase and the tables with the element phase, each up to its trap (core specification, 4.7,
+/// instantiation). `way` says whether images of memories are lent by the translation or written.
+///
+/// # Errors
+/// `TooLarge` exactly where the defined memories pass 268435456 bytes or 1048576 pages together, or
+/// the defined tables 4194304 cells, each by its minimum; nothing is allocated before. `OutOfMemory`.
+pub fn lay<'t>(
+    alloc: Global,
+    translation: &'t ModuleTranslation<'_>,
+    types: &ModuleTypes,
+    way: Way,
+    imports: Imports<'t>,
+) -> Result<Laid<'t>, LayError>
+    requires finished { Finished translation.now }
+    requires globals { length imports.globals.items ≡ translation.now.module.num_imported_globals }
+    requires memories { length imports.memories.items ≡ translation.now.module.num_imported_memories }
+    requires tables { length imports.tables.items ≡ translation.now.module.num_imported_tables }
+    requires no_terms { All IsPlain imports.globals.items }
+    requires no_terms_in_tables { All (λ table. All IsPlain table.items) imports.tables.items }
+    ensures ordered { IfOk result (λ laid. AreOrdered laid.nodes.items) }
+    ensures globals_laid { IfOk result (GlobalsAreLaid translation.now types.now imports.entry) }
+    ensures memories_laid { IfOk result (MemoriesAreLaid translation.now types.now way imports.entry) }
+    ensures tables_laid { IfOk result (TablesAreLaid translation.now types.now imports.entry) }
+    ensures shared { IfOk result (λ laid. LendImages translation.now way laid.memories.items) }
+    ensures too_large { (result ≡ Err LayError.TooLarge) ↔ IsTooLarge translation.now }
+{
+    if is_too_large(translation) {
+        return Err(LayError::TooLarge);
+    }
+    Ok(lay_all(alloc, translation, types, way, imports)?)
+}
