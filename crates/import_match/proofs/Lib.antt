@@ -8,3 +8,4 @@ pub mod Listing
 pub mod Matched
 pub mod FunctionTypes
 pub mod ModuleTypes
+pub mod FoundOnce

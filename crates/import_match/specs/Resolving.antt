@@ -32,11 +32,12 @@ answer_to ds want = answer_at want.0 want.1.1 (found ds want.1.0)
 abbrev pub answers : List Definition → List Definition → List (Result ℕ LinkError)
 answers ds wants = map (answer_to ds) (enumerate_from 0 wants)
 
--- all values, or the first error
+-- a value before others
 abbrev pub with_value : {A E : Type 0} → A → Result (List A) E → Result (List A) E
 with_value x (Ok xs) = Ok (x ∷ xs)
 with_value x (Err e) = Err e
 
+-- all values, or the first error
 abbrev pub all_values : {A E : Type 0} → List (Result A E) → Result (List A) E
 all_values [] = Ok []
 all_values (Ok x ∷ rs) = with_value x (all_values rs)

@@ -1,6 +1,6 @@
 //! Laws of matching. Each function is the proof of its clauses.
 
-ghost use Rattle.std.specs.Prelude.{◌≡◌, ◌↔◌, ◌<◌, ℕ, List, None, All, length};
+ghost use Rattle.std.specs.Prelude.{◌≡◌, ◌↔◌, ◌<◌, ℕ, List, Some, None, All, length, slice_get};
 ghost use Rattle.wasm_types.specs.declared.entity.EntityType.{EntityType};
 ghost use Rattle.type_spec.specs.Equality.{SameType};
 ghost use Rattle.module_types.specs.ListGroups.{list_groups};
@@ -10,7 +10,7 @@ ghost use Rattle.type_registry.specs.Listed.{Listed, list_of};
 ghost use Rattle.type_registry.specs.Standing.{Stands};
 ghost use Rattle.wasm_module.specs.Record.{record_of};
 ghost use Rattle.import_match.specs.Rules.{mismatch, types_in};
-ghost use Rattle.import_match.specs.Definitions.{Definition};
+ghost use Rattle.import_match.specs.Definitions.{Definition, TwoNames, found, AreOnce};
 ghost use Rattle.import_match.specs.Matching.{Matches};
 ghost use Rattle.import_match.specs.Linking.{engine_type, exports_of, wants_of, IsTypeBelow};
 ghost use Rattle.import_match.specs.FunctionTypes.{function_of_type};
@@ -22,6 +22,12 @@ use wasm_module::Module;
 /// A definition breaks no rule exactly where it matches: types, index types, sharing, page sizes and mutability are equal, and sizes are within those that are asked for.
 pub fn matching_law()
     ensures { (have want : EntityType) → (mismatch have want ≡ None) ↔ Matches have want }
+{}
+
+/// Where no two definitions stand under the same names, one is found by its two names exactly at its number.
+pub fn definition_law()
+    ensures { (ds : List Definition) → AreOnce ds → (n : TwoNames) (i : ℕ) (t : EntityType)
+        → (found ds n ≡ Some (i, t)) ↔ (slice_get ds i ≡ Some (n, t)) }
 {}
 
 /// While two modules are held in one registry, a function of one matches an import of the other exactly where their types are equal by group and place.

@@ -13,7 +13,7 @@ mod rules;
 mod worked;
 
 pub use error::{ImportRefused, LinkError, Mismatch};
-pub use laws::{function_law, matching_law, named_types_law};
+pub use laws::{definition_law, function_law, matching_law, named_types_law};
 pub use linker::Linker;
 pub use rules::match_entity;
 pub use worked::{worked_imports, worked_memories};
