@@ -1,7 +1,5 @@
-use Rattle.std.proofs.Common.{◌≡◌, ◌∙◌, Some, sym, subst, arith}
-use Rattle.std.specs.Prelude.{slice_get}
+use Rattle.std.proofs.Common.{◌∙◌, Some, sym, subst, arith}
 use Rattle.std.proofs.lemmas.Bool.{false≢true}
-use Rattle.wasm_types.specs.declared.memory.Memory.{Memory}
 use Rattle.wasm_types.specs.Memories.{minimum_bytes}
 use Rattle.init_plan.specs.Views.{processed_of}
 use Rattle.plan_run.specs.Limits.{page_size_of}

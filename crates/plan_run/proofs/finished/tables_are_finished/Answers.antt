@@ -5,7 +5,7 @@ use Rattle.wasm_index.specs.Index.{number_of}
 use Rattle.replay_spec.specs.Elements.{ActiveElements}
 use Rattle.table_images.specs.Steps.{images_of}
 use Rattle.table_images.specs.Views.{active_elements_of, planned_tables_of}
-use Rattle.init_plan.specs.Tables.{own_tables, plan_of_tables}
+use Rattle.init_plan.specs.Tables.{own_tables}
 use Rattle.plan_run.proofs.Given.{all-unmap}
 use Rattle.plan_run.proofs.finished.tables_are_finished.Goals as goal
 
