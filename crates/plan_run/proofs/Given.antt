@@ -74,7 +74,7 @@ module _ (t : ModuleTranslation) (f : Finished t) where
         → ImageIsWithin (page_size_of t) (minimum_bytes m) (option_map read (unwrap_or o None))
     over None e = tt
     over (Some None) e = tt
-    over (Some (Some image)) e = (f.images i image e).within m at
+    over (Some (Some image)) e = (f.memories.images i image e).within m at
 
   pub images-within : (w : Way) → ImagesAreWithin w (memory_plan_of t) (page_size_of t) t.module.num_imported_memories (own_memories t)
   images-within w = within-each w (memory_plan_of t) (page_size_of t) t.module.num_imported_memories (own_memories t)
@@ -88,7 +88,7 @@ module _ (t : ModuleTranslation) (f : Finished t) where
         → option_map read (unwrap_or o None) ≡ None
     over None e = refl
     over (Some None) e = refl
-    over (Some (Some image)) e = let d = (f.images i image e).defined in absurd (omega arith)
+    over (Some (Some image)) e = let d = (f.memories.images i image e).defined in absurd (omega arith)
 
 -- the image of one of the defined memories
 pub within-of : (t : ModuleTranslation) (w : Way) (page i : ℕ) (ms : List Memory) (d : Memory) → ms ≡ t.module.memories → t.module.num_imported_memories ≤ i → i < length ms
@@ -172,7 +172,7 @@ module _ (t : ModuleTranslation) (f : Finished t) (w : Way) (place_of : Expressi
         → All (λ s. IsStatic s.offset) (memory_plan_of t).segments
     over None e some = absurd (none-some image some)
     over (Some None) e some = absurd (none-some image some)
-    over (Some (Some one)) e some = (f.images i one e).alone
+    over (Some (Some one)) e some = (f.memories.images i one e).alone
 
   pub shared-after : (new : List Contents) → LendNoMore memories new → (left_pieces w place_of (memory_plan_of t) (memory_plan_of t).segments ≡ [] → new ≡ memories) → LendImages t w new
   shared-after new less still i memory at high =
@@ -204,7 +204,7 @@ nil-mapped f (x ∷ xs) is = absurd (let e = ap length is in omega arith)
 
 -- ---- tables
 
-planned-count : (ts : List Table) (vs : List TableInitialValue) (images : List (List (Option ℕ))) → length ts ≡ length vs → length images ≡ length vs
+pub planned-count : (ts : List Table) (vs : List TableInitialValue) (images : List (List (Option ℕ))) → length ts ≡ length vs → length images ≡ length vs
     → length (planned_tables_of ts vs images) ≡ length ts
 planned-count [] vs images one two = refl
 planned-count (t ∷ ts) [] images one two = absurd (omega arith)

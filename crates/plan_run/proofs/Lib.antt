@@ -10,6 +10,7 @@ pub mod OneMore
 pub mod PieceSteps
 pub mod Pieces
 pub mod Terms
+pub mod Tested
 pub mod Given
 pub mod Writing
 pub mod Written

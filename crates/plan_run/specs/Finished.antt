@@ -1,4 +1,4 @@
--- When a translation can be laid.
+-- When a translation can be laid. Expressions need not be typed: one that has no value is null, or the place 0.
 use Rattle.std.specs.Prelude.{◌≡◌, ◌⊎◌, ℕ, ◌-◌, ◌<◌, ◌≤◌, length, All, Some, slice_get}
 use Rattle.wasm_index.specs.Index.{number_of}
 use Rattle.wasm_types.specs.declared.memory.Memory.{Memory}
@@ -21,20 +21,33 @@ pub record ImageFits (t : ModuleTranslation) (i : ℕ) (image : ℕ × ℕ) : Ty
       → ImageIsWithin (page_size_of t) (minimum_bytes memory) (Some (image.0, runtime_bytes (memory_plan_of t) image.1))
   pub alone : All (λ s. IsStatic s.offset) (memory_plan_of t).segments
 
--- The segments are planned, import counts are within their spaces, and indices are in range. Expressions need not be typed: one that has no
--- value is null, or the place 0.
-pub record Finished (t : ModuleTranslation) : Type 0 where
+abbrev pub ImagesFit : ModuleTranslation → Type 0
+ImagesFit t = (i : ℕ) (image : ℕ × ℕ) → slice_get (memory_plan_of t).images i ≡ Some (Some image) → ImageFits t i image
+
+-- imports are within the globals, and the first values are of defined ones
+pub record GlobalsAreFinished (t : ModuleTranslation) : Type 0 where
+  pub imports : t.module.num_imported_globals ≤ length t.module.globals
+  pub simple : All (λ g. number_of g.0 < length t.module.globals - t.module.num_imported_globals) t.module.global_initializers.items
+  pub kept : All (λ g. number_of g.0 < length t.module.globals - t.module.num_imported_globals) t.global_initializers.items
+
+-- the segments are planned, each for a memory that there is; imports are within the memories, a page of which is 1 or 65536 bytes
+pub record MemoriesAreFinished (t : ModuleTranslation) : Type 0 where
   pub processed : IsProcessed t.memory_init
-  pub imported_globals : t.module.num_imported_globals ≤ length t.module.globals
-  pub imported_memories : t.module.num_imported_memories ≤ length t.module.memories
-  pub imported_tables : t.module.num_imported_tables ≤ length t.module.tables
-  pub simple_globals : All (λ g. number_of g.0 < length t.module.globals - t.module.num_imported_globals) t.module.global_initializers.items
-  pub kept_globals : All (λ g. number_of g.0 < length t.module.globals - t.module.num_imported_globals) t.global_initializers.items
+  pub imports : t.module.num_imported_memories ≤ length t.module.memories
   pub page_sizes : All (λ memory. (memory.page_size_log2 ≡ 0) ⊎ (memory.page_size_log2 ≡ 16)) t.module.memories
   pub page : 0 < page_size_of t
-  pub images : (i : ℕ) (image : ℕ × ℕ) → slice_get (memory_plan_of t).images i ≡ Some (Some image) → ImageFits t i image
   pub segments : All (λ s. s.memory < length t.module.memories) (memory_plan_of t).segments
-  -- each defined table has one initial value and one image, which is not longer than its minimum
+  pub images : ImagesFit t
+
+-- imports are within the tables; each defined one has an initial value and an image that is not longer than its minimum; each segment is for a
+-- table that there is
+pub record TablesAreFinished (t : ModuleTranslation) : Type 0 where
+  pub imports : t.module.num_imported_tables ≤ length t.module.tables
   pub counted : AreCounted t
-  pub table_images : All (λ table. length table.image ≤ table.minimum) (plan_of_tables t).tables
+  pub images : All (λ table. length table.image ≤ table.minimum) (plan_of_tables t).tables
   pub elements : All (λ s. s.table < length t.module.tables) (plan_of_tables t).segments
+
+pub record Finished (t : ModuleTranslation) : Type 0 where
+  pub globals : GlobalsAreFinished t
+  pub memories : MemoriesAreFinished t
+  pub tables : TablesAreFinished t

@@ -3,6 +3,7 @@
 
 mod elements;
 mod evaluation;
+mod finished;
 mod globals;
 mod kinds;
 mod laid;
@@ -16,6 +17,7 @@ mod tables;
 mod value;
 mod whole;
 
+pub use finished::is_finished;
 pub use laid::{Imports, Laid, LayError, Way};
 pub use laws::agreement_law;
 pub use paged_memory::PagedMemory;

@@ -60,7 +60,7 @@ fn equal_cells(alloc: Global, value: Value, minimum: usize) -> Result<Vec<Value>
 }
 
 /// The minimum size of a table, in cells.
-fn minimum_of(tables: &[Table], at: usize) -> u64
+pub(crate) fn minimum_of(tables: &[Table], at: usize) -> u64
     requires { at < length tables.now }
     ensures { (table : TableType) → slice_get tables.now at ≡ Some table → result ≡ table.limits.min }
 {

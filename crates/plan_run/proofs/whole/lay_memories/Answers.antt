@@ -24,9 +24,9 @@ write_pieces-requires c =
     let place_of = offset_over (values_in (terms_of c.args.nodes.now.items) c.args.globals.now) (field_count_in t c.args.types.now) in
     let n = length c.in_ok-memories.memories.items in
     let many = memory-count t c.args.way plan (page_size_of t) t.«module».num_imported_memories c.args.imported.items c.in_ok-memories.memories.items
-    c.requires.finished.imported_memories c.requires.imports c.in_ok-memories.ensures in
+    c.requires.finished.memories.imports c.requires.imports c.in_ok-memories.ensures in
     data-below n (left_pieces c.args.way place_of plan plan.segments) c.deref.result.now
-    (left-below place_of plan c.args.way n plan.segments (subst (λ k. All (λ s. s.memory < k) plan.segments) (sym many) c.requires.finished.segments))
+    (left-below place_of plan c.args.way n plan.segments (subst (λ k. All (λ s. s.memory < k) plan.segments) (sym many) c.requires.finished.memories.segments))
     (ap (map data_piece) c.deref.ensures.value ∙ c.in_ok-pieces.ensures.pieces)
 
 pub returns-clause-laid : goal.returns-clause-laid
@@ -37,7 +37,7 @@ returns-clause-laid c =
     let imported = c.args.imported.items in
     let memories = c.in_ok-memories.memories.items in
     let phase = plan_phase c.args.way place_of (bytes_in imported) plan in
-    let many = memory-count t c.args.way plan (page_size_of t) t.«module».num_imported_memories imported memories c.requires.finished.imported_memories c.requires.imports c.in_ok-memories.ensures in
+    let many = memory-count t c.args.way plan (page_size_of t) t.«module».num_imported_memories imported memories c.requires.finished.memories.imports c.requires.imports c.in_ok-memories.ensures in
     lays-count phase (length memories) (length t.«module».memories) (bytes_in c.write_pieces.new.memories.items) c.in_ok-trap.trap many
     (c.in_ok-trap.ensures.writes phase
     (pieces-left place_of plan c.args.way (bytes_in imported) ∙ sym (ap (map data_piece) c.deref.ensures.value ∙ c.in_ok-pieces.ensures.pieces))

@@ -30,13 +30,13 @@ write_elements-trap-requires c =
     let three = length-append imported (map (first_cells (values_in (terms_of start) c.args.globals.now) fields) plan.tables) in
     let four = length-map plan.tables (first_cells (values_in (terms_of start) c.args.globals.now) fields) in
     let five = length-map c.args.imported.items (λ table. map imported_value table.items) in
-    let six = tables-planned t f.counted in
+    let six = tables-planned t f.tables.counted in
     let seven = length-drop t.«module».num_imported_tables t.«module».tables in
-    let eight = f.imported_tables in
+    let eight = f.tables.imports in
     let nine = c.requires.imports in
     let many : length tables ≡ length t.«module».tables = omega arith in
     elements-below (values_in (terms_of between) c.args.globals.now) fields (terms_of end) (length tables) plan.segments c.deref.result.now
-    (subst (λ k. All (λ s. s.table < k) plan.segments) (sym many) f.elements)
+    (subst (λ k. All (λ s. s.table < k) plan.segments) (sym many) f.tables.elements)
     (ap (map (element_piece (terms_of end))) c.deref.ensures.value ∙ c.in_ok-pieces.ensures.means.are)
 
 pub returns-clause-laid : goal.returns-clause-laid
@@ -57,9 +57,9 @@ returns-clause-laid c =
     let three = length-append imported (map (first_cells globals fields) plan.tables) in
     let four = length-map plan.tables (first_cells globals fields) in
     let five = length-map c.args.imported.items (λ table. map imported_value table.items) in
-    let six = tables-planned t f.counted in
+    let six = tables-planned t f.tables.counted in
     let seven = length-drop t.«module».num_imported_tables t.«module».tables in
-    let eight = f.imported_tables in
+    let eight = f.tables.imports in
     let nine = c.requires.imports in
     let many : length tables ≡ length t.«module».tables = omega arith in
     let phase = planned_elements_phase globals fields imported plan in
@@ -69,4 +69,4 @@ returns-clause-laid c =
     let held = tables-on between end c.in_ok-pieces.ensures.grows.extends tables (imported ++ map (first_cells globals fields) plan.tables) means in
     lays-count phase (length tables) (length t.«module».tables) (cells_in (terms_of end) c.write_elements-trap.new.tables.items) c.write_elements-trap.result many
     (c.write_elements-trap.ensures.writes (terms_of end) phase (sym are)
-    (tables-hold globals fields imported (cells_in (terms_of end) tables) plan held.are f.table_images))
+    (tables-hold globals fields imported (cells_in (terms_of end) tables) plan held.are f.tables.images))

@@ -1,0 +1,39 @@
+use Rattle.std.proofs.Common.{◌≡◌, ◌<◌, ◌∙◌, map, ap, sym, refl, arith}
+use Rattle.std.specs.Prelude.{slice_get}
+use Rattle.std.specs.Option.{option_map}
+use Rattle.std.proofs.lemmas.Bool.{false≢true}
+use Rattle.std.proofs.lemmas.List.{length-map}
+use Rattle.std.proofs.lemmas.Option.{slice_get_within}
+use Rattle.init_plan.specs.Views.{images_of}
+use Rattle.plan_run.specs.Finished.{ImageFits}
+use Rattle.plan_run.proofs.LeftSteps.{view_image}
+use Rattle.plan_run.proofs.Tested.{image-of, image-from}
+use Rattle.plan_run.proofs.finished.images_fit.Goals as goal
+
+pub returns-then-not-is_none_or_fits : goal.returns-then-not-is_none_or_fits
+returns-then-not-is_none_or_fits c =
+    let t = c.args.translation.now in
+    let images = c.as_slice-images.result.now in
+    let i = c.loop-i.i in
+    let is : images_of t.«module».memory_initialization ≡ map (option_map view_image) images =
+    ap images_of c.in-Static.is ∙ ap (map (option_map view_image)) (sym c.as_slice-images.ensures) in (
+      λ e. absurd (false≢true e),
+      λ all. absurd (false≢true (sym c.if-not-is_none_or_fits.true
+          ∙ c.is_none_or_fits.ensures.1 (image-from (ImageFits t i) images i (λ image at. all i image (ap (λ xs. slice_get xs i) is ∙ at))))),
+    )
+
+pub returns : goal.returns
+returns c =
+    let t = c.args.translation.now in
+    let images = c.as_slice-images.result.now in
+    let is : images_of t.«module».memory_initialization ≡ map (option_map view_image) images =
+    ap images_of c.in-Static.is ∙ ap (map (option_map view_image)) (sym c.as_slice-images.ensures) in (
+      λ e i image at.
+          let here = sym (ap (λ xs. slice_get xs i) is) ∙ at in
+          let within = slice_get_within (map (option_map view_image) images) i _ here in
+          let count = length-map images (option_map view_image) in
+          let end = c.loop-i-test.false in
+          let low : i < c.loop-i.i = omega arith in
+          image-of (ImageFits t i) images i image here (c.loop-i.invariant i low),
+      λ all. refl,
+    )

@@ -1,0 +1,39 @@
+use Rattle.std.proofs.Common.{◌≡◌, ◌<◌, ◌≤◌, ◌∙◌, length, drop, ap, sym, subst, arith}
+use Rattle.std.specs.Prelude.{All}
+use Rattle.std.proofs.lemmas.List.Elements.{All-map}
+use Rattle.wasm_index.specs.Index.{number_of}
+use Rattle.replay_spec.specs.Elements.{ActiveElements}
+use Rattle.table_images.specs.Steps.{images_of}
+use Rattle.table_images.specs.Views.{active_elements_of, planned_tables_of}
+use Rattle.init_plan.specs.Tables.{own_tables}
+use Rattle.plan_run.proofs.Given.{all-unmap}
+use Rattle.plan_run.proofs.finished.tables_are_finished.Goals as goal
+
+pub returns : goal.returns
+returns c =
+    let t = c.args.translation.now in
+    let n = t.«module».num_imported_tables in
+    let values = t.table_initialization.initial_values in
+    let segments = t.table_initialization.segments.items in
+    let own : c.split_at.result.1.now ≡ own_tables t = c.split_at.ensures.back ∙ ap (drop n) c.as_slice-tables.ensures in
+    let own_count = ap length own in
+    let count = ap length c.as_slice-tables.ensures in
+    let images_count = ap length c.as_slice-images.ensures in
+    let many = c.if-tables-imports.false in
+    let values_count = c.len.ensures.length in
+    let same_values = c.if-len-own.false in
+    let same_images = c.if-images-own.false in (
+      λ e. record {
+        imports = omega arith;
+        counted = record { values = omega arith; images = omega arith };
+        images = subst (λ xs. All (λ table. length table.image ≤ table.minimum) (planned_tables_of (own_tables t) values (images_of xs))) c.as_slice-images.ensures
+            (subst (λ xs. All (λ table. length table.image ≤ table.minimum) (planned_tables_of xs values (images_of c.as_slice-images.result.now))) own
+            ((c.are_short.ensures values (omega arith)).0 c.if-not-are_short.false));
+        elements = All-map (λ (s : ActiveElements). s.table < length t.«module».tables) active_elements_of segments
+            (subst (λ k. All (λ s. number_of s.table_index < k) segments) count
+            (subst (All (λ s. number_of s.table_index < length c.as_slice-tables.result.now)) c.deref.ensures.value (c.elements_are_within.ensures.0 e)));
+      },
+      λ f. c.elements_are_within.ensures.1 (subst (All (λ s. number_of s.table_index < length c.as_slice-tables.result.now)) (sym c.deref.ensures.value)
+          (subst (λ k. All (λ s. number_of s.table_index < k) segments) (sym count)
+          (all-unmap active_elements_of (λ (s : ActiveElements). s.table < length t.«module».tables) segments f.elements))),
+    )

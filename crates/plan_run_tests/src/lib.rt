@@ -1,0 +1,5 @@
+//! Tests of single calls: small translations, laid.
+#![tactic(auto)]
+
+#[cfg(test)]
+mod rows;
