@@ -236,7 +236,7 @@ fn tables_are_finished(translation: &ModuleTranslation<'_>) -> bool
     elements_are_within(&translation.table_initialization.segments, tables.len())
 }
 
-/// Whether a translation can be laid. What is translated and then planned by both finalize calls can be.
+/// Whether a translation can be laid: exactly where the condition `Finished` of `lay` holds.
 pub fn is_finished(translation: &ModuleTranslation<'_>) -> bool
     ensures { IsTrue result ↔ Finished translation.now }
 {

@@ -10,8 +10,10 @@ use thiserror::Error;
 /// What is imported, in the order of each index space.
 #[derive(Drop)]
 pub struct Imports<'t> {
+    /// The values of the globals, none of which names a node.
     pub globals: Vec<Value>,
     pub memories: Vec<PagedMemory<'t>>,
+    /// The cells of each table, none of which names a node.
     pub tables: Vec<Vec<Value>>,
 }
 
@@ -20,8 +22,9 @@ pub struct Imports<'t> {
 pub struct Laid<'t> {
     pub globals: Vec<Value>,
     pub memories: Vec<PagedMemory<'t>>,
+    /// The cells of each table.
     pub tables: Vec<Vec<Value>>,
-    /// What the terms of values are made of.
+    /// What values of nodes stand for, by their numbers.
     pub nodes: Vec<Node>,
     /// The first data segment that does not fit, counted from the last of those that are to be
     /// written, which is 1.

@@ -20,6 +20,7 @@ mod whole;
 pub use finished::is_finished;
 pub use laid::{Imports, Laid, LayError, Way};
 pub use laws::agreement_law;
+pub use limits::{MOST_BYTES, MOST_CELLS, MOST_PAGES};
 pub use paged_memory::PagedMemory;
 pub use value::{Node, Value};
 pub use whole::lay;
