@@ -1,5 +1,5 @@
 -- Where the groups of a planned module are kept.
-use Rattle.std.proofs.Common.{if◌then◌else◌, ◌≡◌, ◌∙◌, ◌↔◌, ◌<◌, ◌≤◌, ℕ, zero, suc, ◌+◌, ◌-◌, Bool, true, false, nat_eq, List, [], ◌∷◌, ◌++◌, length, map, get_or, slice_get, take, drop, Option, Some, None, refl, sym, ap, subst, arith}
+use Rattle.std.proofs.Common.{if◌then◌else◌, ◌≡◌, ◌∙◌, ◌↔◌, ◌<◌, ◌≤◌, ℕ, zero, suc, ◌+◌, ◌-◌, Bool, true, false, List, [], ◌∷◌, ◌++◌, length, get_or, slice_get, take, drop, Option, Some, None, refl, sym, ap, subst, arith}
 use Rattle.std.specs.Prelude.{nat_lt, ⊤}
 use Rattle.std.proofs.lemmas.List.{length-append}
 use Rattle.std.proofs.lemmas.Bool.{ltb-true}
@@ -17,7 +17,7 @@ use Rattle.module_types.specs.Orderly.{LieBetween}
 use Rattle.type_registry.specs.Registry.{Group, Groups, Module, indices_of}
 use Rattle.type_registry.specs.Changes.{Plan, at_first, canonical_data, canonical_of, find_group, first_index, given, members_of, next_group, plan_group, plan_groups, size_of, take_group, with_group}
 use Rattle.type_registry.specs.Planning.{MayBePlanned, MayBePlannedFrom, plan}
-use Rattle.type_registry.proofs.Copies.{take-whole, take-front}
+use Rattle.type_registry.proofs.Copies.{take-whole}
 use Rattle.type_registry.proofs.Dropping.{some-none, group-is}
 use Rattle.type_registry.proofs.FreeIndices.{free-length}
 use Rattle.type_registry.proofs.Keeping.{Eq}

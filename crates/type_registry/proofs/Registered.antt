@@ -1,6 +1,5 @@
 -- What holds of a registry once a module is registered.
-use Rattle.std.specs.Prelude.{⊤}
-use Rattle.std.proofs.Common.{if◌then◌else◌, ◌≡◌, ◌∙◌, ◌↔◌, ◌<◌, ◌≤◌, ℕ, zero, suc, ◌+◌, ◌-◌, Bool, true, false, nat_eq, List, [], ◌∷◌, ◌++◌, length, map, get_or, slice_get, take, drop, Option, Some, None, refl, sym, ap, subst, arith, eq-eqb}
+use Rattle.std.proofs.Common.{if◌then◌else◌, ◌≡◌, ◌∙◌, ◌↔◌, ◌<◌, ℕ, zero, suc, ◌+◌, Bool, true, List, [], ◌∷◌, ◌++◌, length, map, get_or, slice_get, drop, Option, Some, None, refl, sym, ap, subst, arith, eq-eqb}
 use Rattle.std.proofs.lemmas.Option.{slice_get-get_or}
 use Rattle.std.proofs.lemmas.List.{length-map}
 use Rattle.type_spec.specs.Interned.{Span}
@@ -8,9 +7,9 @@ use Rattle.wasm_types.specs.declared.sub.WasmSubType.{WasmSubType}
 use Rattle.wasm_types.specs.TypeViews.{group_of}
 use Rattle.module_types.specs.Views.{span_of, interned_of}
 use Rattle.module_types.specs.TypeList.{TypeList}
-use Rattle.type_registry.specs.Registry.{Registry, Group, Groups, GroupsState, Module, indices_of}
+use Rattle.type_registry.specs.Registry.{Registry, Group, Groups, GroupsState, indices_of}
 use Rattle.type_registry.specs.Listed.{list_of}
-use Rattle.type_registry.specs.Changes.{Plan, begun, canonical_data, find_group, planned, registered, size_of, keep_groups, count_groups}
+use Rattle.type_registry.specs.Changes.{Plan, begun, find_group, planned, registered, size_of, keep_groups}
 use Rattle.type_registry.specs.Fresh.{MayKeepAll}
 use Rattle.type_registry.specs.Standing.{AreAbove, AreOrdered, IsSound, GroupStands, Stands, MayRegister}
 use Rattle.type_registry.proofs.Dropping.{some-none, number-is}
@@ -18,7 +17,7 @@ use Rattle.type_registry.proofs.FreeIndices.{apart}
 use Rattle.type_registry.proofs.Keeping.{Eq}
 use Rattle.type_registry.proofs.KeepingAll.{may-keep-all}
 use Rattle.type_registry.proofs.PlanGroups.{planned-new, new-may-keep, may-plan, find-some, find-none}
-use Rattle.type_registry.proofs.Sound.{found, bare, AllFirst, keeps-sound, keeps-found, keeps-new, counted-sound, counted-is}
+use Rattle.type_registry.proofs.Sound.{found, AllFirst, keeps-sound, keeps-found, keeps-new, counted-sound, counted-is}
 use Rattle.type_registry.proofs.Placed.{ArePlanned, are-planned, planned-at, find-at, first-at}
 use Rattle.type_registry.proofs.Telling.{take-get, drop-get}
 

@@ -8,8 +8,8 @@ use Rattle.wasm_types.specs.declared.heap.WasmHeapType.TheVariants as heap
 use Rattle.wasm_types.specs.declared.value.WasmValType.TheVariants as val
 use Rattle.wasm_types.specs.declared.field.WasmStorageType.TheVariants as storage
 use Rattle.wasm_types.specs.declared.composite.WasmCompositeInnerType.TheVariants as inner
-use Rattle.wasm_types.specs.ValueViews.{Name, heap_of, reference_of, value_of, storage_of, field_of}
-use Rattle.wasm_types.specs.TypeViews.{composite_of, shared_of, sub_type_of, group_of}
+use Rattle.wasm_types.specs.ValueViews.{Name, heap_of, value_of, storage_of, field_of}
+use Rattle.wasm_types.specs.TypeViews.{composite_of, sub_type_of, group_of}
 use Rattle.wasm_types.specs.ViewsTell.{group_back}
 
 record Seen {A B : Type 0} (view : A → B) (seen : B) : Type 0 where

@@ -1,6 +1,6 @@
 -- Kept groups are told apart, also once more are kept and counted.
-use Rattle.std.specs.Prelude.{◌||◌, ⊤}
-use Rattle.std.proofs.Common.{if◌then◌else◌, ◌≡◌, ◌∙◌, ◌↔◌, ◌<◌, ◌≤◌, ℕ, zero, suc, ◌+◌, ◌-◌, Bool, true, false, nat_eq, nat_le, List, [], ◌∷◌, ◌++◌, length, slice_get, Option, Some, None, refl, sym, ap, subst, arith, eq-eqb}
+use Rattle.std.specs.Prelude.{⊤}
+use Rattle.std.proofs.Common.{if◌then◌else◌, ◌≡◌, ◌∙◌, ◌↔◌, ◌<◌, ◌≤◌, ℕ, zero, suc, ◌+◌, ◌-◌, Bool, true, false, nat_eq, nat_le, List, [], ◌∷◌, length, slice_get, Option, Some, None, refl, sym, ap, subst, arith, eq-eqb}
 use Rattle.std.specs.List.{list_any}
 use Rattle.std.specs.Map.{lookup, set_value, remove_entry}
 use Rattle.std.specs.Option.{option_map}
@@ -10,7 +10,7 @@ use Rattle.type_registry.specs.Registry.{Group, Groups, GroupsState, indices_of}
 use Rattle.type_registry.specs.Changes.{find_group, keep_group, keep_groups, count_group, count_groups, leave_group, leave_groups}
 use Rattle.type_registry.specs.Standing.{AreAbove, AreOrdered, IsSound}
 use Rattle.type_registry.specs.Fresh.{MayBeKept, MayKeepAll}
-use Rattle.type_registry.proofs.Dropping.{some-none, group-is, number-is}
+use Rattle.type_registry.proofs.Dropping.{some-none, group-is}
 use Rattle.type_registry.proofs.OwnerLists.{any-place}
 use Rattle.type_registry.proofs.Keeping.{Eq}
 use Rattle.type_registry.proofs.KeepingAll.{true-false}

@@ -1,4 +1,3 @@
-use Rattle.std.proofs.Common.{◌≡◌}
 use Rattle.type_registry.proofs.Telling.{tells}
 use Rattle.type_registry.proofs.laws.order_law.Goals as goal
 

@@ -1,4 +1,4 @@
-use Rattle.std.proofs.Common.{◌≡◌, ℕ, Option, Some, None}
+use Rattle.std.proofs.Common.{ℕ, Option, Some, None}
 use Rattle.type_registry.specs.Registry.{Registry, Module}
 use Rattle.type_registry.specs.Changes.{released_by}
 use Rattle.type_registry.specs.Standing.{IsSound}
