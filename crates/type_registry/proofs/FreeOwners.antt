@@ -1,6 +1,5 @@
 -- An index is free where it has no owner.
-use Rattle.std.specs.Prelude.{◌||◌}
-use Rattle.std.proofs.Common.{if◌then◌else◌, ◌≡◌, ◌∙◌, ◌<◌, ◌≤◌, ℕ, zero, suc, ◌+◌, Bool, true, false, nat_eq, List, [], ◌∷◌, ◌++◌, length, map, get_or, slice_get, Option, Some, None, refl, sym, ap, arith}
+use Rattle.std.proofs.Common.{if◌then◌else◌, ◌≡◌, ◌∙◌, ◌<◌, ◌≤◌, ℕ, zero, suc, ◌+◌, Bool, true, false, nat_eq, List, [], ◌∷◌, length, map, get_or, slice_get, Option, Some, None, refl, sym, ap, arith}
 use Rattle.std.specs.List.{list_any}
 use Rattle.wasm_types.specs.declared.sub.WasmSubType.{WasmSubType}
 use Rattle.free_numbers.specs.Counts.{total, before}
@@ -13,7 +12,7 @@ use Rattle.type_registry.proofs.OwnerLists.{place-any}
 use Rattle.type_registry.proofs.Dropping.{some-none}
 use Rattle.type_registry.proofs.NewGroups.{has-index}
 use Rattle.type_registry.proofs.KeepingAll.{any-second, true-false}
-use Rattle.type_registry.proofs.FreeIndices.{AreCounted, counted-before, counted-free, counted-past, rank-high}
+use Rattle.type_registry.proofs.FreeIndices.{AreCounted, counted-before, counted-free, counted-past}
 
 -- the group that has an index
 pub record HasIndex (gs : List (Option Group)) (i : ℕ) : Type 0 where

@@ -16,3 +16,7 @@ pub mod UsedEdges
 pub mod FreshGroups
 pub mod PlanGroups
 pub mod Roomier
+pub mod Seen
+pub mod Sound
+pub mod Placed
+pub mod Registered

@@ -1,13 +1,13 @@
 -- What is kept stays so where there is room for more.
-use Rattle.std.specs.Prelude.{replicate, ⊤}
-use Rattle.std.proofs.Common.{◌≡◌, ◌∙◌, ◌<◌, ◌≤◌, ℕ, zero, suc, ◌+◌, List, [], ◌∷◌, ◌++◌, length, map, slice_get, Option, Some, None, option_and_then, refl, sym, ap, arith}
+use Rattle.std.specs.Prelude.{replicate}
+use Rattle.std.proofs.Common.{◌≡◌, ◌∙◌, ◌<◌, ℕ, zero, suc, ◌+◌, List, [], ◌∷◌, ◌++◌, length, map, slice_get, Option, Some, None, option_and_then, refl, sym, ap, arith}
 use Rattle.std.proofs.lemmas.List.{length-append}
 use Rattle.wasm_types.specs.declared.sub.WasmSubType.{WasmSubType}
 use Rattle.free_numbers.specs.Counts.{IsCounts}
 use Rattle.type_registry.specs.declared.owners.Owner.{Owner}
 use Rattle.type_registry.specs.Registry.{Group, indices_of}
-use Rattle.type_registry.specs.Owners.{owner_at, free_count}
-use Rattle.type_registry.specs.Keeping.{kept_from, group_in, AreKept}
+use Rattle.type_registry.specs.Owners.{free_count}
+use Rattle.type_registry.specs.Keeping.{kept_from, AreKept}
 
 abbrev nothing : {A : Type 0} → Option A
 nothing = None

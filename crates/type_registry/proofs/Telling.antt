@@ -22,13 +22,13 @@ use Rattle.type_registry.specs.Standing.{kept_at, GroupStands, Stands, TellsType
 
 -- ---- parts of lists
 
-take-get : {A : Type 0} (xs : List A) (n p : ℕ) → p < n → slice_get (take n xs) p ≡ slice_get xs p
+pub take-get : {A : Type 0} (xs : List A) (n p : ℕ) → p < n → slice_get (take n xs) p ≡ slice_get xs p
 take-get xs zero p h = absurd (omega (arith, h))
 take-get [] (suc n) p h = refl
 take-get (x ∷ xs) (suc n) zero h = refl
 take-get (x ∷ xs) (suc n) (suc p) h = take-get xs n p (omega (arith, h))
 
-drop-get : {A : Type 0} (xs : List A) (s p : ℕ) → slice_get (drop s xs) p ≡ slice_get xs (s + p)
+pub drop-get : {A : Type 0} (xs : List A) (s p : ℕ) → slice_get (drop s xs) p ≡ slice_get xs (s + p)
 drop-get xs zero p = let at : p ≡ 0 + p = omega arith in ap (slice_get xs) at
 drop-get [] (suc s) p = refl
 drop-get (x ∷ xs) (suc s) p = let at : suc (s + p) ≡ suc s + p = omega arith in drop-get xs s p ∙ ap (slice_get (x ∷ xs)) at

@@ -1,11 +1,11 @@
 -- The types of a new group as they are used.
-use Rattle.std.proofs.Common.{if◌then◌else◌, ◌≡◌, ◌∙◌, ◌<◌, ◌≤◌, ℕ, zero, suc, ◌+◌, ◌-◌, Bool, true, false, List, [], ◌∷◌, ◌++◌, length, map, get_or, refl, sym, ap, subst, arith}
+use Rattle.std.proofs.Common.{if◌then◌else◌, ◌≡◌, ◌∙◌, ◌<◌, ◌≤◌, ℕ, zero, suc, ◌-◌, Bool, true, false, List, [], ◌∷◌, ◌++◌, length, map, get_or, refl, sym, ap, subst, arith}
 use Rattle.std.specs.Prelude.{nat_lt}
 use Rattle.std.specs.List.{All, AllZip}
 use Rattle.std.proofs.lemmas.List.Elements.{All-head, All-tail}
 use Rattle.std.proofs.lemmas.Bool.{ltb-true, ltb-false}
 use Rattle.wasm_spec.specs.TypeData.{map_group, map_sub_type}
-use Rattle.type_data.specs.Names.{named, by_name, alike-mapped, index_of as index_in}
+use Rattle.type_data.specs.Names.{named, by_name, alike-mapped}
 use Rattle.type_data.specs.Shapes.{erased}
 use Rattle.type_data.specs.ListLaws.{map-twice}
 use Rattle.type_data.specs.TypeShapes.{group_shape}

@@ -1,17 +1,19 @@
 //! Laws of registries. Each function is the proof of its clauses.
 
-ghost use Rattle.std.specs.Prelude.{◌≡◌, ◌<◌, ℕ, Bool, List, length};
+ghost use Rattle.std.specs.Prelude.{◌≡◌, ◌<◌, ◌↔◌, ℕ, Bool, List, length};
 ghost use Rattle.wasm_spec.specs.TypeData.{Group};
 ghost use Rattle.type_spec.specs.Interned.{interned};
 ghost use Rattle.type_spec.specs.Taken.{NameEarlier};
 ghost use Rattle.module_types.specs.Builder.{BuilderState, builder_view};
 ghost use Rattle.module_types.specs.ListGroups.{IsWellNamed};
 ghost use Rattle.module_types.specs.TypeList.{TypeList};
-ghost use Rattle.type_registry.specs.Registry.{Registry};
+ghost use Rattle.type_registry.specs.Registry.{Registry, empty, index_at};
+ghost use Rattle.type_registry.specs.Changes.{registered, released};
 ghost use Rattle.type_registry.specs.Listed.{Listed, list_of};
-ghost use Rattle.type_registry.specs.Standing.{Stands, TellsTypes};
+ghost use Rattle.type_registry.specs.Standing.{IsSound, MayRegister, Stands, TellsTypes};
 
 use module_types::well_named_law;
+use wasm_types::equality_law;
 
 /// A list whose groups lie behind one another and name types by their kinds may be registered, and so may the list of a builder that holds
 /// the interned list.
@@ -27,3 +29,27 @@ pub fn listed_law()
 pub fn same_law()
     ensures { (r : Registry) (a b : ℕ) (l k : TypeList) → Listed l → Listed k → Stands r a l → Stands r b k → TellsTypes r a l b k }
 {}
+
+/// The types of two held modules have one index where they have one in another registry, whatever was registered and in which order.
+pub fn order_law()
+    ensures { (r s : Registry) (a b c d : ℕ) (l k : TypeList) → Listed l → Listed k → Stands r a l → Stands r b k → Stands s c l → Stands s d k
+        → (i j : ℕ) → i < length l.types → j < length k.types → (index_at r a i ≡ index_at r b j) ↔ (index_at s c i ≡ index_at s d j) }
+{}
+
+/// Kept groups are told apart in a registry that holds nothing, once a module is registered, and once one is released.
+pub fn sound_law()
+    ensures empty { (n : ℕ) → IsSound (empty n).groups }
+    ensures registered { (r : Registry) (l : TypeList) → MayRegister r l → IsSound (registered r l).groups }
+    ensures released { (r : Registry) (key : ℕ) → IsSound r.groups → IsSound (released r key).groups }
+{
+    equality_law();
+}
+
+/// A module that is registered stands under its key, and each other that stood stands.
+pub fn registered_law()
+    ensures itself { (r : Registry) (l : TypeList) → MayRegister r l → Stands (registered r l) r.registrations l }
+    ensures others { (r : Registry) (l k : TypeList) (key : ℕ) → MayRegister r l → (key ≡ r.registrations → ⊥) → Stands r key k
+        → Stands (registered r l) key k }
+{
+    equality_law();
+}

@@ -1,4 +1,4 @@
-use Rattle.std.proofs.Common.{arith, ◌≡◌, ◌∙◌, ℕ, Bool, true, false, nat_eq, length, Option, None, cond, refl, ap}
+use Rattle.std.proofs.Common.{arith, ◌≡◌, ◌∙◌, Bool, true, false, nat_eq, length, Option, None, cond, refl, ap}
 use Rattle.type_registry.specs.Registry.{Groups, Module, indices_of}
 use Rattle.type_registry.specs.Counted.{counted}
 use Rattle.type_registry.proofs.Counting.{counted-left}

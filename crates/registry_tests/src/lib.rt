@@ -1,0 +1,7 @@
+//! Tests of registrations: which indices types get, what is live, and what is refused.
+#![tactic(auto)]
+
+#[cfg(test)]
+mod lists;
+#[cfg(test)]
+mod rows;

@@ -1,0 +1,159 @@
+-- What holds of a registry once a module is registered.
+use Rattle.std.proofs.Common.{if◌then◌else◌, ◌≡◌, ◌∙◌, ◌↔◌, ◌<◌, ℕ, zero, suc, ◌+◌, Bool, true, List, [], ◌∷◌, ◌++◌, length, map, get_or, slice_get, drop, Option, Some, None, refl, sym, ap, subst, arith, eq-eqb}
+use Rattle.std.proofs.lemmas.Option.{slice_get-get_or}
+use Rattle.std.proofs.lemmas.List.{length-map}
+use Rattle.type_spec.specs.Interned.{Span}
+use Rattle.wasm_types.specs.declared.sub.WasmSubType.{WasmSubType}
+use Rattle.wasm_types.specs.TypeViews.{group_of}
+use Rattle.module_types.specs.Views.{span_of, interned_of}
+use Rattle.module_types.specs.TypeList.{TypeList}
+use Rattle.type_registry.specs.Registry.{Registry, Group, Groups, GroupsState, indices_of}
+use Rattle.type_registry.specs.Listed.{list_of}
+use Rattle.type_registry.specs.Changes.{Plan, begun, find_group, planned, registered, size_of, keep_groups}
+use Rattle.type_registry.specs.Fresh.{MayKeepAll}
+use Rattle.type_registry.specs.Standing.{AreAbove, AreOrdered, IsSound, GroupStands, Stands, MayRegister}
+use Rattle.type_registry.proofs.Dropping.{some-none, number-is}
+use Rattle.type_registry.proofs.FreeIndices.{apart}
+use Rattle.type_registry.proofs.Keeping.{Eq}
+use Rattle.type_registry.proofs.KeepingAll.{may-keep-all}
+use Rattle.type_registry.proofs.PlanGroups.{planned-new, new-may-keep, may-plan, find-some, find-none}
+use Rattle.type_registry.proofs.Sound.{found, AllFirst, keeps-sound, keeps-found, keeps-new, counted-sound, counted-is}
+use Rattle.type_registry.proofs.Placed.{ArePlanned, are-planned, planned-at, find-at, first-at}
+use Rattle.type_registry.proofs.Telling.{take-get, drop-get}
+
+-- ---- groups in order
+
+entry-is : (x y : ℕ × Group) → Some x ≡ Some y → x ≡ y
+entry-is x y is = ap (by x) is where
+  by : ℕ × Group → Option (ℕ × Group) → ℕ × Group
+  by d None = d
+  by d (Some z) = z
+
+above-differ : (gs : Groups) (n p : ℕ) (e : ℕ × Group) → AreAbove n gs → slice_get gs p ≡ Some e → n < e.0
+above-differ [] n p e all at = absurd (some-none e at)
+above-differ (x ∷ gs) n zero e all at = subst (λ (y : ℕ × Group). n < y.0) (entry-is x e at) all.0
+above-differ (x ∷ gs) n (suc p) e all at = above-differ gs n p e all.1 at
+
+-- each group is found at its first index
+entry-found : (gs : Groups) (p f : ℕ) (g : Group) → AreOrdered gs → slice_get gs p ≡ Some (f, g) → found gs f ≡ Some g
+entry-found [] p f g ordered at = absurd (some-none (f, g) at)
+entry-found (x ∷ gs) zero f g ordered at =
+    subst (λ (y : ℕ × Group). found (x ∷ gs) y.0 ≡ Some y.1) (entry-is x (f, g) at) (ap (λ (c : Bool). if c then Some x.1 else found gs x.0) (eq-eqb x.0 x.0 refl))
+entry-found (x ∷ gs) (suc p) f g ordered at =
+    let lt = above-differ gs x.0 p (f, g) ordered.0 at in
+    ap (λ (c : Bool). if c then Some x.1 else found gs f) (apart f x.0 (λ e. absurd (omega (arith, e, lt)))) ∙ entry-found gs p f g ordered.1 at
+
+all-first : (gs : Groups) → ((p f : ℕ) (g : Group) → slice_get gs p ≡ Some (f, g) → (slice_get g.indices 0 ≡ Some f) × (length g.indices ≡ length g.canonical))
+    → AllFirst gs
+all-first [] each = tt
+all-first (x ∷ gs) each =
+    let here = each 0 x.0 x.1 refl in
+    (here.0, here.1, all-first gs (λ p f g at. each (suc p) f g at))
+
+sound-first : (gs : Groups) → IsSound gs → AllFirst gs
+sound-first gs sound =
+    all-first gs (λ p f g at. let is = entry-found gs p f g sound.ordered at in (sound.firsts f g is, sound.members f g is))
+
+first-second : (xs ys : Groups) → AllFirst (xs ++ ys) → AllFirst ys
+first-second [] ys all = all
+first-second (x ∷ xs) ys all = first-second xs ys all.2
+
+-- ---- the registry
+
+module _ (equal : (x y : List WasmSubType) → (Eq x y ≡ true) ↔ (x ≡ y)) (r : Registry) (l : TypeList) (m : MayRegister r l) where
+  abbrev gs : Groups
+  gs = r.groups
+
+  abbrev p : Plan
+  p = planned r l
+
+  abbrev state : GroupsState
+  state = record { groups = gs; room = length (indices_of gs) + length (indices_of p.fresh); spare = length p.fresh }
+
+  may : MayKeepAll state p.fresh
+  may = may-keep-all p.fresh state (new-may-keep state p.fresh (planned-new gs l) (omega (arith, m.fits, m.most)) (omega arith) (omega arith))
+
+  abbrev ss : List Span
+  ss = map span_of l.groups
+
+  no-more : (es : Groups) → es ++ [] ≡ es
+  no-more [] = refl
+  no-more (e ∷ es) = ap (λ l. e ∷ l) (no-more es)
+
+  all : ArePlanned equal gs l begun ss (length (list_of l).types)
+  all =
+      are-planned equal gs l begun ss (length (list_of l).types) (may-plan l m.listed m.few) m.listed.well_named.orderly
+      (subst AllFirst (sym (no-more gs)) (sound-first gs m.sound))
+
+  new-first : AllFirst p.fresh
+  new-first = first-second gs p.fresh all.first
+
+  pub registered-sound : IsSound (registered r l).groups
+  registered-sound = counted-sound (keep_groups gs p.fresh) p.listed.groups (keeps-sound equal p.fresh state m.sound may new-first)
+
+  -- a group that is kept at its first index
+  record IsKeptAt (g : Group) : Type 0 where
+    pub first : ℕ
+    pub start : slice_get g.indices 0 ≡ Some first
+    pub kept : found (keep_groups gs p.fresh) first ≡ Some g
+
+  kept-of : (g : Group) → find_group g.canonical (gs ++ p.fresh) ≡ Some g → IsKeptAt g
+  kept-of g among = by (find_group g.canonical gs) refl where
+    by : (o : Option Group) → find_group g.canonical gs ≡ o → IsKeptAt g
+    by (Some h) e =
+        let same : Some h ≡ Some g = sym (find-some gs p.fresh g.canonical h e) ∙ among in
+        let w = find-at gs g.canonical g (e ∙ same) in
+        let is = entry-found gs w.place w.first g m.sound.ordered w.at in
+        record { first = w.first; start = m.sound.firsts w.first g is; kept = keeps-found equal p.fresh state w.first g m.sound may new-first is }
+    by None e =
+        let w = find-at p.fresh g.canonical g (sym (find-none gs p.fresh g.canonical e) ∙ among) in
+        record {
+          first = w.first;
+          start = (first-at p.fresh w.place w.first g new-first w.at).0;
+          kept = keeps-new equal p.fresh state w.place (w.first, g) m.sound may new-first w.at;
+        }
+
+  stands-group : (k : ℕ) (s : Span) → slice_get ss k ≡ Some s → GroupStands (registered r l) p.listed.indices l s
+  stands-group k s at =
+      let w = planned-at equal gs l p ss k s all.each at in
+      let x = kept-of w.group w.among in
+      let b = counted-is (keep_groups gs p.fresh) p.listed.groups x.first w.group x.kept in
+      let none : s.start + 0 ≡ s.start = omega arith in
+      let first : x.first ≡ get_or p.listed.indices s.start 0 =
+      number-is x.first (get_or p.listed.indices s.start 0)
+      (sym x.start ∙ ap (λ is. slice_get is 0) w.at ∙ take-get (drop s.start p.listed.indices) (size_of s) 0 (omega (arith, w.low))
+      ∙ drop-get p.listed.indices s.start 0 ∙ ap (slice_get p.listed.indices) none
+      ∙ slice_get-get_or p.listed.indices s.start 0 (omega (arith, w.low, w.within))) in
+      record {
+        group = b.group;
+        kept = ap (found (registered r l).groups) (sym first) ∙ b.kept;
+        at = ap (λ (g : Group). g.indices) b.same ∙ w.at;
+        canonical = ap (λ (g : Group). group_of g.canonical) b.same ∙ w.canonical;
+      }
+
+  pub registered-stands : Stands (registered r l) r.registrations l
+  registered-stands = record {
+    sound = registered-sound;
+    listed = p.listed;
+    held = ap (λ (c : Bool). if c then Some p.listed else r.held r.registrations) (eq-eqb r.registrations r.registrations refl);
+    count = all.long ∙ length-map l.types interned_of;
+    groups = stands-group;
+  }
+
+  pub others-stand : (k : TypeList) (key : ℕ) → (key ≡ r.registrations → ⊥) → Stands r key k → Stands (registered r l) key k
+  others-stand k key differ st = record {
+    sound = registered-sound;
+    listed = st.listed;
+    held = ap (λ (c : Bool). if c then Some p.listed else r.held key) (apart r.registrations key (λ e. differ (sym e))) ∙ st.held;
+    count = st.count;
+    groups = λ j s at.
+        let g = st.groups j s at in
+        let first = get_or st.listed.indices s.start 0 in
+        let b = counted-is (keep_groups gs p.fresh) p.listed.groups first g.group (keeps-found equal p.fresh state first g.group m.sound may new-first g.kept) in
+        record {
+          group = b.group;
+          kept = b.kept;
+          at = ap (λ (x : Group). x.indices) b.same ∙ g.at;
+          canonical = ap (λ (x : Group). group_of x.canonical) b.same ∙ g.canonical;
+        };
+  }
