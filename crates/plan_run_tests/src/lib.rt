@@ -1,5 +1,0 @@
-//! Tests of single calls: small translations, laid.
-#![tactic(auto)]
-
-#[cfg(test)]
-mod rows;
