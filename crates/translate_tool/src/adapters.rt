@@ -1,6 +1,7 @@
 //! Standard input as a source, and standard output as a sink.
 
 ghost use Rattle.std.specs.Prelude.{◌≡◌, ◌<◌, ◌≤◌, None, Ok, IsErr, IfOk, OnOk, OnErr, MatchResult, length, take};
+ghost use Rattle.std.specs.Io.KnownBytes.{Consumes, Keeps, Appends};
 ghost use Rattle.devices.specs.Counter.{raised_by};
 ghost use Rattle.devices.specs.Device.{TellsFront, NothingLeft, AppendsFront, since_end_after, since_end_after_fault};
 ghost use Rattle.translate_tool.specs.Telling.{Tells, told_if};
@@ -92,6 +93,10 @@ impl<R: Read + Drop, T: Telling> Source for StdSource<R, T> {
         ensures ends { IfOk result (λ n. n ≡ 0 → NothingLeft self.old.told) }
         ensures stays { OnErr result (self.new.told ≡ self.old.told) }
 
+        // The same of a reader that tells its bytes though the source may not.
+        ensures consumes { IfOk result (λ n. Consumes (R.remaining self.old.reader) (R.remaining self.new.reader) (take n buf.new)) }
+        ensures keeps { OnErr result (Keeps (R.remaining self.old.reader) (R.remaining self.new.reader)) }
+
         ensures no_fault { OnOk result (self.new.faults ≡ self.old.faults) }
         ensures fault { OnErr result (self.new.faults ≡ raised_by 1 self.old.faults) }
         ensures counted { self.old.faults ≤ self.new.faults }
@@ -175,6 +180,9 @@ impl<W: Write + Drop, T: Telling> Sink for StdSink<W, T> {
         // What the writer tells of its bytes grows by what is taken, and stays where the write failed.
         ensures appends { IfOk result (λ n. AppendsFront self.old.told (take n piece.now) self.new.told) }
         ensures stays { OnErr result (self.new.told ≡ self.old.told) }
+
+        // The same of a writer that tells its bytes though the sink may not.
+        ensures grows { IfOk result (λ n. Appends (W.contents self.old.writer) (W.contents self.new.writer) (take n piece.now)) }
 
         ensures no_fault { OnOk result (self.new.faults ≡ self.old.faults) }
         ensures fault { OnErr result (self.new.faults ≡ raised_by 1 self.old.faults) }
