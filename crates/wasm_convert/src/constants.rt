@@ -18,10 +18,10 @@ use std::marker::Model;
 use wasm_index::FuncIndex;
 use wasm_spec::Operator;
 
-/// A constant expression: its operators, of which there is at least one. Two are kept without an allocation.
+/// A constant expression: its operators, of which there is at least one. One is kept without an allocation.
 #[derive(Drop)]
 pub struct ConstExpr {
-    ops: SmallVec<ConstOp, 2>,
+    ops: SmallVec<ConstOp, 1>,
 }
 
 /// A contract sees the list of the operators.
@@ -51,11 +51,11 @@ impl ConstExpr {
     /// The expression of these operators.
     ///
     /// # Errors
-    /// `OutOfMemory`, only for more than two operators.
+    /// `OutOfMemory`, only for more than one operator.
     pub fn new(alloc: Global, ops: &[ConstOp]) -> Result<Self, OutOfMemory>
         requires { 0 < length ops.now }
         ensures listed { IfOk result (λ e. e ≡ ops.now) }
-        ensures without_memory { length ops.now ≤ 2 → IsOk result }
+        ensures without_memory { length ops.now ≤ 1 → IsOk result }
     {
         Ok(ConstExpr {
             ops: SmallVec::from_slice(alloc, ops)?,
@@ -66,7 +66,7 @@ impl ConstExpr {
     /// in order: those escape. Of the expression each heap type must be known, and each index below `u32::MAX`.
     ///
     /// # Errors
-    /// `OutOfMemory`, only for more than two operators or more than one function.
+    /// `OutOfMemory`, only for more than one operator or more than one function.
     pub fn from_wasmparser(
         alloc: Global,
         env: &dyn TypeConvert,
@@ -119,10 +119,10 @@ impl ConstExpr {
     /// An equal expression.
     ///
     /// # Errors
-    /// `OutOfMemory`, only for more than two operators.
+    /// `OutOfMemory`, only for more than one operator.
     pub fn try_clone(&self, alloc: Global) -> Result<Self, OutOfMemory>
         ensures equal { IfOk result (λ e. e ≡ self.now) }
-        ensures without_memory { length self.now ≤ 2 → IsOk result }
+        ensures without_memory { length self.now ≤ 1 → IsOk result }
     {
         Self::new(alloc, self.ops())
     }
