@@ -15,5 +15,5 @@ mod room;
 
 pub use error::RegistryError;
 pub use key::ModuleKey;
-pub use laws::{listed_law, order_law, registered_law, same_law, sound_law};
+pub use laws::{balanced_law, listed_law, order_law, registered_law, same_law, sound_law};
 pub use registry::TypeRegistry;
