@@ -24,3 +24,5 @@ pub mod Times
 pub mod Tallies
 pub mod Balance
 pub mod PlannedLists
+pub mod SameNames
+pub mod Digests

@@ -4,8 +4,10 @@
 mod error;
 mod fresh;
 mod groups;
+mod hashing;
 mod kept;
 mod key;
+mod known;
 mod laws;
 mod owners;
 mod plan;

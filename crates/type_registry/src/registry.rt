@@ -16,6 +16,7 @@ ghost use Rattle.module_types.specs.TypeList.{TypeList};
 
 use crate::error::RegistryError;
 use crate::groups::Groups;
+use crate::hashing::next_seed;
 use crate::kept::Held;
 use crate::key::ModuleKey;
 use crate::plan::Fresh;
@@ -34,7 +35,7 @@ pub struct TypeRegistry {
     alloc: Global,
     max_types: u32,
     registrations: u64,
-    /// A digest of what was registered, for the maps of canonical groups.
+    /// A digest of all that was registered, from which hashes of canonical groups begin.
     seed: u64,
     modules: HashMap<u64, Held>,
     groups: Groups,
@@ -181,11 +182,11 @@ impl TypeRegistry {
         self.index_of(a, i) == self.index_of(b, j)
     }
 
-    /// What the registration of a list finds.
+    /// What the registration of a list finds. Hashes begin from the seed.
     ///
     /// # Errors
     /// `Full` where there would be more types than may be live, and `OutOfMemory`.
-    fn plan(&self, types: &ModuleTypes) -> Result<Planned, RegistryError>
+    fn plan(&self, types: &ModuleTypes, seed: u64) -> Result<Planned, RegistryError>
         requires { Listed types.now }
         ensures ok { IfOk result (λ p. p ≡ planned (registry_of self.now) types.now) }
         ensures fits { OnOk result (self.now.max_types < length (live (registry_of self.now)) + fresh (registry_of self.now) types.now → ⊥) }
@@ -200,7 +201,7 @@ impl TypeRegistry {
             groups: &self.groups,
             room: self.max_types - self.groups.live_types(),
         };
-        plan_groups(source, self.seed)
+        plan_groups(source, seed)
     }
 
     /// Holds a module of these types: each group that no held module has takes the least indices that are not live, and each other group
@@ -227,15 +228,18 @@ impl TypeRegistry {
         if self.registrations == u64::MAX {
             return Err(RegistryError::Full);
         }
-        let Planned { listed, fresh } = self.plan(types)?;
+        let seed = next_seed(self.seed, types);
+        let Planned { listed, fresh } = self.plan(types, seed)?;
         let indices = self.groups.live_types() + fresh.members();
-        self.groups.make_room(self.alloc, indices, fresh.len())?;
+        self.groups
+            .make_room(self.alloc, indices, fresh.len(), seed)?;
         self.modules.reserve(1)?;
         let key = self.registrations;
         equality_law();
         keep_planned(&mut self.groups, &listed, fresh.into_groups());
         self.modules.insert(key, listed).ok();
         self.registrations += 1;
+        self.seed = seed;
         Ok(ModuleKey(key))
     }
 

@@ -65,7 +65,7 @@ keep_planned-requires-clause-few c =
     )
 
 -- the registry after
-abbrev after : goal.After-self-1 → RegistryState
+abbrev after : goal.After-self-2-1 → RegistryState
 after c = record {
   max_types = c.self.inside.max_types;
   registrations = c.self.inside.registrations + 1;
@@ -73,7 +73,7 @@ after c = record {
   groups = c.keep_planned.new.groups.groups;
 }
 
-now-is : (c : goal.After-self-1) → registry_of (after c) ≡ registered (registry_of c.args.self.now) c.args.types.now
+now-is : (c : goal.After-self-2-1) → registry_of (after c) ≡ registered (registry_of c.args.self.now) c.args.types.now
 now-is c =
     let s = c.self.inside in
     let r = c.args.self.now in
@@ -99,10 +99,10 @@ now-is c =
     ∙ ap (λ (x : Plan). count_groups (keep_groups r.groups p.fresh) x.listed.groups) whole in
     λ i. record { max_types = most i; registrations = count i + 1; held = λ k. held k i; groups = groups i }
 
-before : (c : goal.After-self-1) → IsBalanced (registry_of c.args.self.now)
+before : (c : goal.After-self-2-1) → IsBalanced (registry_of c.args.self.now)
 before c = subst (λ (r : RegistryState). IsBalanced (registry_of r)) c.self.view_is c.self.invariant.2
 
-may : (c : goal.After-self-1) → MayRegister (registry_of c.args.self.now) c.args.types.now
+may : (c : goal.After-self-2-1) → MayRegister (registry_of c.args.self.now) c.args.types.now
 may c = record {
   listed = c.requires;
   few = c.in_ok-listed.ensures.short;
@@ -111,7 +111,7 @@ may c = record {
   sound = (before c).sound;
 }
 
-balanced : (c : goal.After-self-1) → IsBalanced (registry_of (after c))
+balanced : (c : goal.After-self-2-1) → IsBalanced (registry_of (after c))
 balanced c =
     subst IsBalanced (sym (now-is c))
     (registered-balanced c.equality_law.ensures.group (registry_of c.args.self.now) c.args.types.now (may c) (before c))
