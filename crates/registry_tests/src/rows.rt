@@ -41,9 +41,22 @@ fn releases(
 ) -> Result<(), Fail> {
     registry.release(key)?;
     assert!(rt; registry.type_count(key) == None);
+    assert!(rt; registry.index_of(key, ModuleInternedTypeIndex::from_u32(0)) == None);
     assert!(rt; registry.release(key) == Err(RegistryError::NotHeld));
     assert!(rt; registry.live_types() == live);
     Ok(())
+}
+
+// Whether two types have one index, where both are types of held modules.
+fn same(registry: &TypeRegistry, a: ModuleKey, i: u32, b: ModuleKey, j: u32) -> Option<bool>
+    requires i { i < 10 }
+    requires j { j < 10 }
+{
+    let i = ModuleInternedTypeIndex::from_u32(i);
+    let j = ModuleInternedTypeIndex::from_u32(j);
+    registry.index_of(a, i)?;
+    registry.index_of(b, j)?;
+    Some(registry.same(a, i, b, j))
 }
 
 // A list is refused, as there would be too many types.
@@ -79,7 +92,11 @@ fn equal_types(
     let a = registers(rt, registry, first, &[0, 1], 2)?;
     let b = registers(rt, registry, second, &[2, 3], 4)?;
     let c = registers(rt, registry, first, &[0, 1], 4)?;
+    assert!(rt; same(registry, a, 0, c, 0) == Some(true));
+    assert!(rt; same(registry, a, 0, b, 0) == Some(false));
+    assert!(rt; same(registry, a, 0, b, 2) == None);
     releases(rt, registry, a, 4)?;
+    assert!(rt; same(registry, a, 0, c, 0) == None);
     releases(rt, registry, c, 2)?;
     registers(rt, registry, third, &[0], 3)?;
     releases(rt, registry, b, 1)

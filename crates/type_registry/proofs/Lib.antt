@@ -20,3 +20,9 @@ pub mod Seen
 pub mod Sound
 pub mod Placed
 pub mod Registered
+pub mod Times
+pub mod Tallies
+pub mod Balance
+pub mod PlannedLists
+pub mod SameNames
+pub mod Digests

@@ -116,7 +116,7 @@ pub record IsPlanned (gs : Groups) (l : TypeList) (p : Plan) (s : Span) : Type 0
   pub within : s.end ≤ length p.listed.indices
   pub among : find_group group.canonical (gs ++ p.fresh) ≡ Some group
 
-both-more : (gs es fs : Groups) → (gs ++ es) ++ fs ≡ gs ++ (es ++ fs)
+pub both-more : (gs es fs : Groups) → (gs ++ es) ++ fs ≡ gs ++ (es ++ fs)
 both-more [] es fs = refl
 both-more (g ∷ gs) es fs = ap (λ l. g ∷ l) (both-more gs es fs)
 

@@ -67,10 +67,10 @@ module _ (equal : (x y : List WasmSubType) → (Eq x y ≡ true) ↔ (x ≡ y)) 
   abbrev p : Plan
   p = planned r l
 
-  abbrev state : GroupsState
+  abbrev pub state : GroupsState
   state = record { groups = gs; room = length (indices_of gs) + length (indices_of p.fresh); spare = length p.fresh }
 
-  may : MayKeepAll state p.fresh
+  pub may : MayKeepAll state p.fresh
   may = may-keep-all p.fresh state (new-may-keep state p.fresh (planned-new gs l) (omega (arith, m.fits, m.most)) (omega arith) (omega arith))
 
   abbrev ss : List Span
@@ -85,19 +85,19 @@ module _ (equal : (x y : List WasmSubType) → (Eq x y ≡ true) ↔ (x ≡ y)) 
       are-planned equal gs l begun ss (length (list_of l).types) (may-plan l m.listed m.few) m.listed.well_named.orderly
       (subst AllFirst (sym (no-more gs)) (sound-first gs m.sound))
 
-  new-first : AllFirst p.fresh
+  pub new-first : AllFirst p.fresh
   new-first = first-second gs p.fresh all.first
 
   pub registered-sound : IsSound (registered r l).groups
   registered-sound = counted-sound (keep_groups gs p.fresh) p.listed.groups (keeps-sound equal p.fresh state m.sound may new-first)
 
   -- a group that is kept at its first index
-  record IsKeptAt (g : Group) : Type 0 where
+  pub record IsKeptAt (g : Group) : Type 0 where
     pub first : ℕ
     pub start : slice_get g.indices 0 ≡ Some first
     pub kept : found (keep_groups gs p.fresh) first ≡ Some g
 
-  kept-of : (g : Group) → find_group g.canonical (gs ++ p.fresh) ≡ Some g → IsKeptAt g
+  pub kept-of : (g : Group) → find_group g.canonical (gs ++ p.fresh) ≡ Some g → IsKeptAt g
   kept-of g among = by (find_group g.canonical gs) refl where
     by : (o : Option Group) → find_group g.canonical gs ≡ o → IsKeptAt g
     by (Some h) e =

@@ -205,7 +205,7 @@ pub record IsBut (gs : Groups) (i : ℕ) (h : Group) : Type 0 where
   pub kept : found gs i ≡ Some group
   pub same : bare group ≡ bare h
 
-but-of : (gs : Groups) (i : ℕ) (h : Group) (o : Option Group) → found gs i ≡ o → option_map bare o ≡ Some (bare h) → IsBut gs i h
+pub but-of : (gs : Groups) (i : ℕ) (h : Group) (o : Option Group) → found gs i ≡ o → option_map bare o ≡ Some (bare h) → IsBut gs i h
 but-of gs i h None e is = absurd (some-none (bare h) is)
 but-of gs i h (Some g) e is = record { group = g; kept = e; same = group-is (bare g) (bare h) is }
 
@@ -241,7 +241,7 @@ counts-bare gs (f ∷ fs) i = counts-bare (count_group gs f (found gs f)) fs i �
 pub counted-is : (gs : Groups) (fs : List ℕ) (i : ℕ) (h : Group) → found gs i ≡ Some h → IsBut (count_groups gs fs) i h
 counted-is gs fs i h is = but-of (count_groups gs fs) i h (found (count_groups gs fs) i) refl (counts-bare gs fs i ∙ ap (option_map bare) is)
 
-counted-was : (gs : Groups) (fs : List ℕ) (i : ℕ) (h : Group) → found (count_groups gs fs) i ≡ Some h → IsBut gs i h
+pub counted-was : (gs : Groups) (fs : List ℕ) (i : ℕ) (h : Group) → found (count_groups gs fs) i ≡ Some h → IsBut gs i h
 counted-was gs fs i h is = but-of gs i h (found gs i) refl (sym (counts-bare gs fs i) ∙ ap (option_map bare) is)
 
 set-above : (n f : ℕ) (gs : Groups) (g : Group) → AreAbove n gs → AreAbove n (set_value (nat_eq f) gs g)
@@ -291,7 +291,7 @@ counted-sound gs fs sound = sound-but gs (count_groups gs fs) (counts-ordered gs
 
 -- ---- groups that modules leave
 
-found-above : (gs : Groups) (n i : ℕ) (h : Group) → AreAbove n gs → found gs i ≡ Some h → n < i
+pub found-above : (gs : Groups) (n i : ℕ) (h : Group) → AreAbove n gs → found gs i ≡ Some h → n < i
 found-above [] n i h all is = absurd (some-none h is)
 found-above (e ∷ gs) n i h all is = by (nat_eq i e.0) refl is (found-above gs n i h all.1) where
   by : (c : Bool) → nat_eq i e.0 ≡ c → (if c then Some e.1 else found gs i) ≡ Some h → (found gs i ≡ Some h → n < i) → n < i
@@ -327,16 +327,23 @@ remove-ordered f (e ∷ gs) all = by (nat_eq f e.0) (remove-ordered f gs all.1) 
   by true rest = all.1
   by false rest = (remove-above e.0 f gs all.0, rest)
 
+pub leave-ordered : (gs : Groups) (f : ℕ) (o : Option Group) → AreOrdered gs → AreOrdered (leave_group gs f o)
+leave-ordered gs f None ordered = ordered
+leave-ordered gs f (Some g) ordered = by (nat_le g.count 1) where
+  by : (c : Bool) → AreOrdered (if c then remove_entry (nat_eq f) gs else set_value (nat_eq f) gs (record g { count = g.count - 1 }))
+  by true = remove-ordered f gs ordered
+  by false = set-ordered f gs (record g { count = g.count - 1 }) ordered
+
+-- what is kept once a module leaves a group was kept, but for its count
+pub leave-was : (gs : Groups) (f : ℕ) (o : Option Group) → found gs f ≡ o → AreOrdered gs → (i : ℕ) (h : Group) → found (leave_group gs f o) i ≡ Some h → IsBut gs i h
+leave-was gs f None e ordered i h is = record { group = h; kept = is; same = refl }
+leave-was gs f (Some g) e ordered i h is = by (nat_le g.count 1) is where
+  by : (c : Bool) → found (if c then remove_entry (nat_eq f) gs else set_value (nat_eq f) gs (record g { count = g.count - 1 })) i ≡ Some h → IsBut gs i h
+  by true is = record { group = h; kept = removed-was gs f i h ordered is; same = refl }
+  by false is = but-of gs i h (found gs i) refl (sym (set-bare gs f i (g.count - 1) g e) ∙ ap (option_map bare) is)
+
 leave-sound : (gs : Groups) (f : ℕ) (o : Option Group) → found gs f ≡ o → IsSound gs → IsSound (leave_group gs f o)
-leave-sound gs f None e sound = sound
-leave-sound gs f (Some g) e sound = by (nat_le g.count 1) where
-  by : (c : Bool) → IsSound (if c then remove_entry (nat_eq f) gs else set_value (nat_eq f) gs (record g { count = g.count - 1 }))
-  by true =
-      sound-but gs (remove_entry (nat_eq f) gs) (remove-ordered f gs sound.ordered)
-      (λ i h is. record { group = h; kept = removed-was gs f i h sound.ordered is; same = refl }) sound
-  by false =
-      sound-but gs (set_value (nat_eq f) gs (record g { count = g.count - 1 })) (set-ordered f gs (record g { count = g.count - 1 }) sound.ordered)
-      (λ i h is. but-of gs i h (found gs i) refl (sym (set-bare gs f i (g.count - 1) g e) ∙ ap (option_map bare) is)) sound
+leave-sound gs f o e sound = sound-but gs (leave_group gs f o) (leave-ordered gs f o sound.ordered) (leave-was gs f o e sound.ordered) sound
 
 pub left-sound : (gs : Groups) (fs : List ℕ) → IsSound gs → IsSound (leave_groups gs fs)
 left-sound gs [] sound = sound

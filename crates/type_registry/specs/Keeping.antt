@@ -3,7 +3,7 @@ use Rattle.std.specs.Prelude.{◌≡◌, ◌<◌, ℕ, ◌+◌, List, [], ◌∷
 use Rattle.std.specs.HashMap.{HashMap, get_by}
 use Rattle.std.specs.Global.{Global}
 use Rattle.std.specs.declared.rc.Rc.{Rc}
-use Rattle.entity_map.specs.declared.seed.Seeded.{Seeded}
+use Rattle.type_registry.specs.declared.hashing.GroupHashes.{GroupHashes}
 use Rattle.wasm_types.specs.declared.sub.WasmSubType.{WasmSubType}
 use Rattle.wasm_types.specs.contracts.equal_groups.WasmRecGroupPartialEq.TheImpl as groups_equal
 use Rattle.type_registry.specs.declared.owners.Owner.{Owner}
@@ -51,8 +51,8 @@ Shared = Rc (List WasmSubType) Global
 abbrev pub shared_content : Shared → List WasmSubType
 shared_content r = r.value
 
-abbrev pub first_of : HashMap Shared ℕ Seeded → Shared → Option ℕ
+abbrev pub first_of : HashMap Shared ℕ GroupHashes → Shared → Option ℕ
 first_of known key = get_by (λ (k : Shared). groups_equal.ghosts.eq key.value k.value) known
 
-abbrev pub IsKept : ℕ → HashMap Shared ℕ Seeded → List (Option Group) → List (Option Owner) → List ℕ → Type 0
+abbrev pub IsKept : ℕ → HashMap Shared ℕ GroupHashes → List (Option Group) → List (Option Owner) → List ℕ → Type 0
 IsKept live known gs os free = AreKept shared_content live (first_of known) gs os free

@@ -9,3 +9,4 @@ pub mod Counted
 pub mod Fresh
 pub mod Planning
 pub mod FreeIndices
+pub mod Balanced

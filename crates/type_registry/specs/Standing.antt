@@ -55,7 +55,7 @@ pub record IsHeld (r : Registry) (i : ℕ) : Type 0 where
   pub at : index_at r key place ≡ Some i
 
 abbrev pub LiveWhereHeld : Registry → Type 0
-LiveWhereHeld r = (i : ℕ) → Contains (live r) i ↔ ∥ IsHeld r i ∥₁
+LiveWhereHeld r = (i : ℕ) → Contains (live r) i ↔ IsHeld r i
 
 -- two registered types have one index exactly where they are equal by group and place
 abbrev pub TellsTypes : Registry → ℕ → TypeList → ℕ → TypeList → Type 0

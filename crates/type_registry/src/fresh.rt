@@ -5,9 +5,10 @@ ghost use Rattle.std.specs.Option.{option_copied, option_map};
 ghost use Rattle.type_registry.specs.Registry.{indices_of};
 ghost use Rattle.type_registry.specs.Changes.{find_group};
 
+use crate::hashing::GroupHashes;
 use crate::kept::Kept;
 use crate::plan::Fresh;
-use entity_map::{OutOfMemory, Seeded};
+use entity_map::OutOfMemory;
 use std::alloc::Global;
 use std::collections::HashMap;
 use std::marker::Model;
@@ -19,7 +20,7 @@ use wasm_types::{WasmRecGroup, equality_law};
 pub(crate) struct FreshGroups {
     groups: Vec<Fresh>,
     /// The place of each, by its canonical members.
-    places: HashMap<Rc<WasmRecGroup>, usize, Seeded>,
+    places: HashMap<Rc<WasmRecGroup>, usize, GroupHashes>,
     /// How many members they have in sum.
     members: u32,
 }
@@ -52,7 +53,7 @@ impl FreshGroups {
     {
         FreshGroups {
             groups: Vec::new(alloc),
-            places: HashMap::with_hasher(alloc, Seeded::new(seed)),
+            places: HashMap::with_hasher(alloc, GroupHashes::new(seed)),
             members: 0,
         }
     }

@@ -12,10 +12,12 @@ ghost use Rattle.type_registry.specs.Fresh.{MayBeKept};
 ghost use Rattle.type_registry.specs.Counted.{counted};
 ghost use Rattle.type_registry.specs.FreeIndices.{free_below};
 
+use crate::hashing::GroupHashes;
 use crate::kept::Kept;
+use crate::known::{Known, reserve};
 use crate::owners::{Owner, give_back, group_at, owner_of, take_all, take_at};
 use crate::room::{fill, free_again, room_for};
-use entity_map::{EntityRef, OutOfMemory, Seeded};
+use entity_map::{EntityRef, OutOfMemory};
 use free_numbers::FreeNumbers;
 use std::alloc::Global;
 use std::collections::HashMap;
@@ -23,9 +25,6 @@ use std::marker::Model;
 use std::rc::Rc;
 use wasm_index::VMSharedTypeIndex;
 use wasm_types::{WasmRecGroup, WasmSubType, equality_law};
-
-/// The first index of each group, by its canonical members.
-type Known = HashMap<Rc<WasmRecGroup>, u32, Seeded>;
 
 /// The groups that are kept, each once.
 #[derive(Drop)]
@@ -61,7 +60,7 @@ impl Groups {
     {
         Groups {
             live: 0,
-            known: HashMap::with_hasher(alloc, Seeded::new(0)),
+            known: HashMap::with_hasher(alloc, GroupHashes::new(0)),
             kept: Vec::new(alloc),
             owners: Vec::new(alloc),
             free: FreeNumbers::new(alloc),
@@ -196,7 +195,7 @@ impl Groups {
         Ok(())
     }
 
-    /// Makes room for so many indices, and for more groups.
+    /// Makes room for so many indices, and for more groups. Where the map of groups has to grow, its hashes begin from the seed.
     ///
     /// # Errors
     /// `OutOfMemory`. The groups stay.
@@ -205,12 +204,13 @@ impl Groups {
         alloc: Global,
         indices: u32,
         more: usize,
+        seed: u64,
     ) -> Result<(), OutOfMemory>
         ensures groups { self.new.groups ≡ self.old.groups }
         ensures room { OnOk result (indices ≤ self.new.room) }
         ensures spare { OnOk result (more ≤ self.new.spare) }
     {
-        self.known.reserve(more)?;
+        reserve(alloc, &mut self.known, more, seed)?;
         let len = self.kept.len();
         if indices as usize <= len {
             return Ok(());

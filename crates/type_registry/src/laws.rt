@@ -10,7 +10,8 @@ ghost use Rattle.module_types.specs.TypeList.{TypeList};
 ghost use Rattle.type_registry.specs.Registry.{Registry, empty, index_at};
 ghost use Rattle.type_registry.specs.Changes.{registered, released};
 ghost use Rattle.type_registry.specs.Listed.{Listed, list_of};
-ghost use Rattle.type_registry.specs.Standing.{IsSound, MayRegister, Stands, TellsTypes};
+ghost use Rattle.type_registry.specs.Standing.{IsSound, LiveWhereHeld, MayRegister, Stands, TellsTypes};
+ghost use Rattle.type_registry.specs.Balanced.{IsBalanced};
 
 use module_types::well_named_law;
 use wasm_types::equality_law;
@@ -50,6 +51,18 @@ pub fn registered_law()
     ensures itself { (r : Registry) (l : TypeList) → MayRegister r l → Stands (registered r l) r.registrations l }
     ensures others { (r : Registry) (l k : TypeList) (key : ℕ) → MayRegister r l → (key ≡ r.registrations → ⊥) → Stands r key k
         → Stands (registered r l) key k }
+{
+    equality_law();
+}
+
+/// Held modules and kept groups agree in a registry that holds nothing, once a module is registered, and once one is released. While they
+/// agree, an index is live exactly where the list of a held module has it, and a module that stands stays so where another one is released.
+pub fn balanced_law()
+    ensures empty { (n : ℕ) → IsBalanced (empty n) }
+    ensures registered { (r : Registry) (l : TypeList) → MayRegister r l → IsBalanced r → IsBalanced (registered r l) }
+    ensures released { (r : Registry) (key : ℕ) → IsBalanced r → IsBalanced (released r key) }
+    ensures live { (r : Registry) → IsBalanced r → LiveWhereHeld r }
+    ensures others { (r : Registry) (key k : ℕ) (l : TypeList) → IsBalanced r → (k ≡ key → ⊥) → Stands r k l → Stands (released r key) k l }
 {
     equality_law();
 }

@@ -4,8 +4,10 @@
 mod error;
 mod fresh;
 mod groups;
+mod hashing;
 mod kept;
 mod key;
+mod known;
 mod laws;
 mod owners;
 mod plan;
@@ -15,5 +17,5 @@ mod room;
 
 pub use error::RegistryError;
 pub use key::ModuleKey;
-pub use laws::{listed_law, order_law, registered_law, same_law, sound_law};
+pub use laws::{balanced_law, listed_law, order_law, registered_law, same_law, sound_law};
 pub use registry::TypeRegistry;

@@ -193,6 +193,7 @@ pub(crate) fn plan_groups(source: Source<'_>, seed: u64) -> Result<Planned, Regi
     ensures ok { IfOk result (λ p. p ≡ plan_groups source.entry.groups.now.groups source.entry.types.now begun (map span_of source.entry.types.now.groups)) }
     ensures fits { IfOk result (λ p. length (indices_of p.fresh) ≤ source.entry.room) }
     ensures few { IfOk result (λ p. length p.listed.groups < 4294967296) }
+    ensures short { OnOk result (length source.entry.types.now.types < u32.MAX) }
     ensures full { IsErrOf result refused.Full → source.entry.room
         < length (indices_of (plan_groups source.entry.groups.now.groups source.entry.types.now begun (map span_of source.entry.types.now.groups)).fresh) }
     ensures held { IsErrOf result refused.NotHeld → ⊥ }

@@ -11,9 +11,12 @@ ghost use Rattle.type_registry.specs.Changes.{registered, released, planned, fre
 ghost use Rattle.type_registry.specs.Counted.{counted};
 ghost use Rattle.type_registry.specs.Fresh.{MayKeepAll};
 ghost use Rattle.type_registry.specs.Listed.{Listed};
+ghost use Rattle.type_registry.specs.Standing.{LiveWhereHeld, Stands};
+ghost use Rattle.module_types.specs.TypeList.{TypeList};
 
 use crate::error::RegistryError;
 use crate::groups::Groups;
+use crate::hashing::next_seed;
 use crate::kept::Held;
 use crate::key::ModuleKey;
 use crate::plan::Fresh;
@@ -24,7 +27,7 @@ use std::alloc::Global;
 use std::collections::HashMap;
 use std::marker::Model;
 use wasm_index::{ModuleInternedTypeIndex, VMSharedTypeIndex};
-use wasm_types::WasmSubType;
+use wasm_types::{WasmSubType, equality_law};
 
 /// The types of held modules, each group once. Equal types have one index.
 #[derive(Drop)]
@@ -32,7 +35,7 @@ pub struct TypeRegistry {
     alloc: Global,
     max_types: u32,
     registrations: u64,
-    /// A digest of what was registered, for the maps of canonical groups.
+    /// A digest of all that was registered, from which hashes of canonical groups begin.
     seed: u64,
     modules: HashMap<u64, Held>,
     groups: Groups,
@@ -40,10 +43,10 @@ pub struct TypeRegistry {
 
 /// A contract sees the held modules and the kept groups, by `registry_of`.
 impl Model for TypeRegistry {
-    ghost use Rattle.std.specs.Prelude.{◌≡◌, ◌≤◌, ◌<◌, ◌*◌, ℕ, None, nat_eq, length};
-    ghost use Rattle.std.specs.Map.{lookup};
-    ghost use Rattle.type_registry.specs.Registry.{RegistryState, indices_of};
+    ghost use Rattle.std.specs.Prelude.{◌≤◌, ◌<◌, ◌*◌, length};
+    ghost use Rattle.type_registry.specs.Registry.{RegistryState, indices_of, registry_of};
     ghost use Rattle.type_registry.specs.Counted.{counted};
+    ghost use Rattle.type_registry.specs.Balanced.{IsBalanced};
 
     ghost Value = { RegistryState };
 
@@ -54,9 +57,14 @@ impl Model for TypeRegistry {
       groups = m.groups.groups;
     } };
 
-    // No key is used twice, and counts of groups do not run over.
+    // Held modules and kept groups agree, and counts of groups do not run over.
     ghost invariant = { λ m. (length (indices_of m.groups.groups) ≤ m.max_types) × (m.max_types < 4294967295)
-        × ((k : ℕ) → m.registrations ≤ k → lookup (nat_eq k) m.modules.entries ≡ None)
+        × IsBalanced (registry_of (record {
+          max_types = m.max_types;
+          registrations = m.registrations;
+          modules = m.modules.entries;
+          groups = m.groups.groups;
+        }))
         × (counted m.groups.groups ≤ m.registrations * 4294967296) };
 }
 
@@ -104,7 +112,8 @@ impl TypeRegistry {
     /// A registry that holds nothing, in which at most `max_types` types may be live.
     pub fn new(alloc: Global, max_types: u32) -> Self
         requires { max_types < u32.MAX }
-        ensures { registry_of result ≡ empty max_types }
+        ensures empty { registry_of result ≡ empty max_types }
+        ensures live { LiveWhereHeld (registry_of result) }
     {
         TypeRegistry {
             alloc,
@@ -173,15 +182,16 @@ impl TypeRegistry {
         self.index_of(a, i) == self.index_of(b, j)
     }
 
-    /// What the registration of a list finds.
+    /// What the registration of a list finds. Hashes begin from the seed.
     ///
     /// # Errors
     /// `Full` where there would be more types than may be live, and `OutOfMemory`.
-    fn plan(&self, types: &ModuleTypes) -> Result<Planned, RegistryError>
+    fn plan(&self, types: &ModuleTypes, seed: u64) -> Result<Planned, RegistryError>
         requires { Listed types.now }
         ensures ok { IfOk result (λ p. p ≡ planned (registry_of self.now) types.now) }
         ensures fits { OnOk result (self.now.max_types < length (live (registry_of self.now)) + fresh (registry_of self.now) types.now → ⊥) }
         ensures few { IfOk result (λ p. length p.listed.groups < 4294967296) }
+        ensures short { OnOk result (length types.now.types < u32.MAX) }
         ensures full { IsErrOf result refused.Full → self.now.max_types < length (live (registry_of self.now)) + fresh (registry_of self.now) types.now }
         ensures held { IsErrOf result refused.NotHeld → ⊥ }
     {
@@ -191,7 +201,7 @@ impl TypeRegistry {
             groups: &self.groups,
             room: self.max_types - self.groups.live_types(),
         };
-        plan_groups(source, self.seed)
+        plan_groups(source, seed)
     }
 
     /// Holds a module of these types: each group that no held module has takes the least indices that are not live, and each other group
@@ -209,18 +219,27 @@ impl TypeRegistry {
         ensures full { IsErrOf result refused.Full → IsFull (registry_of self.old) types.now }
         ensures held { IsErrOf result refused.NotHeld → ⊥ }
         ensures err { OnErr result (registry_of self.new ≡ registry_of self.old) }
+        ensures stands { IfOk result (λ key. Stands (registry_of self.new) (key_number key) types.now) }
+        ensures others { (k : ℕ) (list : TypeList) → Stands (registry_of self.old) k list → Stands (registry_of self.new) k list }
+        ensures indices { OnOk result ((k i : ℕ) → IsSome ((registry_of self.old).held k)
+            → index_at (registry_of self.new) k i ≡ index_at (registry_of self.old) k i) }
+        ensures live { LiveWhereHeld (registry_of self.new) }
     {
         if self.registrations == u64::MAX {
             return Err(RegistryError::Full);
         }
-        let Planned { listed, fresh } = self.plan(types)?;
+        let seed = next_seed(self.seed, types);
+        let Planned { listed, fresh } = self.plan(types, seed)?;
         let indices = self.groups.live_types() + fresh.members();
-        self.groups.make_room(self.alloc, indices, fresh.len())?;
+        self.groups
+            .make_room(self.alloc, indices, fresh.len(), seed)?;
         self.modules.reserve(1)?;
         let key = self.registrations;
+        equality_law();
         keep_planned(&mut self.groups, &listed, fresh.into_groups());
         self.modules.insert(key, listed).ok();
         self.registrations += 1;
+        self.seed = seed;
         Ok(ModuleKey(key))
     }
 
@@ -234,6 +253,10 @@ impl TypeRegistry {
         ensures held { IsOk result ↔ IsSome ((registry_of self.old).held (key_number key)) }
         ensures not_held { OnErr result (IsErrOf result refused.NotHeld) }
         ensures err { OnErr result (registry_of self.new ≡ registry_of self.old) }
+        ensures others { (k : ℕ) (list : TypeList) → (k ≡ key_number key → ⊥) → Stands (registry_of self.old) k list → Stands (registry_of self.new) k list }
+        ensures indices { OnOk result ((k i : ℕ) → (k ≡ key_number key → ⊥)
+            → index_at (registry_of self.new) k i ≡ index_at (registry_of self.old) k i) }
+        ensures live { LiveWhereHeld (registry_of self.new) }
     {
         let Some(held) = self.modules.remove(&key.0) else {
             return Err(RegistryError::NotHeld);

@@ -1,13 +1,19 @@
-use Rattle.std.proofs.Common.{if◌then◌else◌, arith, ◌≡◌, ◌∙◌, ◌≤◌, ◌+◌, ℕ, nat_eq, length, map, Option, Some, None, cond, refl, sym, ap, subst}
+use Rattle.std.proofs.Common.{if◌then◌else◌, arith, ◌≡◌, ◌∙◌, ◌+◌, ℕ, nat_eq, length, map, Option, Some, refl, sym, ap, subst}
 use Rattle.std.specs.Map.{lookup}
 use Rattle.module_types.specs.Views.{span_of}
-use Rattle.type_registry.specs.Registry.{Groups, Module, RegistryState, registry_of, indices_of}
-use Rattle.type_registry.specs.Changes.{Plan, begun, planned, with_module, keep_groups, count_groups}
+use Rattle.type_registry.specs.contracts.registry.TypeRegistry as seen
+use Rattle.type_registry.specs.Registry.{Groups, Module, Registry, RegistryState, registry_of, index_at, indices_of}
+use Rattle.type_registry.specs.Changes.{Plan, begun, planned, registered, with_module, keep_groups, count_groups}
+use Rattle.type_registry.specs.Standing.{LiveWhereHeld, MayRegister, Stands}
+use Rattle.type_registry.specs.Balanced.{IsBalanced}
 use Rattle.type_registry.specs.Planning.{plan}
 use Rattle.type_registry.specs.Counted.{counted}
+use Rattle.type_registry.proofs.Balance.{live-held, registered-index}
+use Rattle.type_registry.proofs.Dropping.{some-none}
 use Rattle.type_registry.proofs.Keeping.{ok-is}
+use Rattle.type_registry.proofs.PlannedLists.{registered-balanced}
+use Rattle.type_registry.proofs.Registered.{registered-stands, others-stand}
 use Rattle.type_registry.proofs.Counting.{counted-all}
-use Rattle.type_registry.proofs.FreeIndices.{apart}
 use Rattle.type_registry.proofs.KeepingAll.{may-keep-all}
 use Rattle.type_registry.proofs.Leaving.{counted-long}
 use Rattle.type_registry.proofs.PlanGroups.{AreNew, planned-new, new-may-keep, fresh-counted, counted-both, length-both}
@@ -58,51 +64,17 @@ keep_planned-requires-clause-few c =
       c.self.ranges,
     )
 
-pub invariant_of-self-2 : goal.invariant_of-self-2
-invariant_of-self-2 c =
-    let s = c.self.inside in
-    let r = c.args.self.now in
-    let l = c.args.types.now in
-    let gs = c.make_room.new.self.groups in
-    let es = c.into_groups.result.items in
-    let fs = c.listed.inside.listed.groups in
-    let whole : plan c.listed.inside.listed c.listed.inside.fresh ≡ planned (registry_of r) l = c.listed.view_is ∙ c.in_ok-listed.ensures.ok in
-    let items : es ≡ (planned (registry_of r) l).fresh = c.into_groups.ensures ∙ ap (λ (p : Plan). p.fresh) whole in
-    let groups : gs ≡ r.groups = c.make_room.ensures.groups ∙ ap (λ (x : RegistryState). x.groups) c.self.view_is in
-    let fits = c.in_ok-listed.ensures.fits in
-    let done = ok-is c.insert.result (c.insert.ensures.succeeds (omega (arith, c.in_ok-reserve.ensures.ok))) c.insert.ensures.updates in
-    let none : (k : ℕ) → s.registrations + 1 ≤ k → lookup (nat_eq k) c.insert.new.self.entries ≡ None =
-    λ k le. done.0 k
-    ∙ ap (λ b. cond b (Some c.listed.inside.listed) (lookup (nat_eq k) c.reserve.new.self.entries)) (apart s.registrations k (λ e. absurd (omega (arith, e, le))))
-    ∙ c.reserve.ensures.entries.2 k ∙ c.self.invariant.2 k (omega (arith, le)) in (
-      omega (
-        arith,
-        ap (λ (x : Groups). length (indices_of x)) c.keep_planned.ensures,
-        counted-long (keep_groups gs es) fs,
-        length-both gs es,
-        ap (λ (x : Groups). length (indices_of x)) groups,
-        ap (λ (x : Groups). length (indices_of x)) items,
-        ap (λ (x : RegistryState). x.max_types) c.self.view_is,
-        fits,
-      ),
-      c.self.invariant.1,
-      none,
-      omega (
-        arith,
-        ap counted c.keep_planned.ensures,
-        counted-all (keep_groups gs es) fs,
-        counted-both gs es,
-        ap counted c.make_room.ensures.groups,
-        c.self.invariant.3,
-        ap counted items,
-        fresh-counted r.groups l begun (map span_of l.groups) refl,
-        ap (λ (p : Plan). length p.listed.groups) c.listed.view_is,
-        c.in_ok-listed.ensures.few,
-      ),
-    )
+-- the registry after
+abbrev after : goal.After-self-2-1 → RegistryState
+after c = record {
+  max_types = c.self.inside.max_types;
+  registrations = c.self.inside.registrations + 1;
+  modules = c.insert.new.self.entries;
+  groups = c.keep_planned.new.groups.groups;
+}
 
-pub returns-clause-ok : goal.returns-clause-ok
-returns-clause-ok c =
+now-is : (c : goal.After-self-2-1) → registry_of (after c) ≡ registered (registry_of c.args.self.now) c.args.types.now
+now-is c =
     let s = c.self.inside in
     let r = c.args.self.now in
     let l = c.args.types.now in
@@ -126,3 +98,111 @@ returns-clause-ok c =
     ∙ ap (λ (es : Groups). count_groups (keep_groups r.groups es) listed.groups) items
     ∙ ap (λ (x : Plan). count_groups (keep_groups r.groups p.fresh) x.listed.groups) whole in
     λ i. record { max_types = most i; registrations = count i + 1; held = λ k. held k i; groups = groups i }
+
+before : (c : goal.After-self-2-1) → IsBalanced (registry_of c.args.self.now)
+before c = subst (λ (r : RegistryState). IsBalanced (registry_of r)) c.self.view_is c.self.invariant.2
+
+may : (c : goal.After-self-2-1) → MayRegister (registry_of c.args.self.now) c.args.types.now
+may c = record {
+  listed = c.requires;
+  few = c.in_ok-listed.ensures.short;
+  most = omega (arith, ap (λ (x : RegistryState). x.max_types) c.self.view_is, c.self.invariant.1);
+  fits = c.in_ok-listed.ensures.fits;
+  sound = (before c).sound;
+}
+
+balanced : (c : goal.After-self-2-1) → IsBalanced (registry_of (after c))
+balanced c =
+    subst IsBalanced (sym (now-is c))
+    (registered-balanced c.equality_law.ensures.group (registry_of c.args.self.now) c.args.types.now (may c) (before c))
+
+pub invariant_of-self-2 : goal.invariant_of-self-2
+invariant_of-self-2 c =
+    let s = c.self.inside in
+    let r = c.args.self.now in
+    let l = c.args.types.now in
+    let gs = c.make_room.new.self.groups in
+    let es = c.into_groups.result.items in
+    let fs = c.listed.inside.listed.groups in
+    let whole : plan c.listed.inside.listed c.listed.inside.fresh ≡ planned (registry_of r) l = c.listed.view_is ∙ c.in_ok-listed.ensures.ok in
+    let items : es ≡ (planned (registry_of r) l).fresh = c.into_groups.ensures ∙ ap (λ (p : Plan). p.fresh) whole in
+    let groups : gs ≡ r.groups = c.make_room.ensures.groups ∙ ap (λ (x : RegistryState). x.groups) c.self.view_is in
+    let fits = c.in_ok-listed.ensures.fits in (
+      omega (
+        arith,
+        ap (λ (x : Groups). length (indices_of x)) c.keep_planned.ensures,
+        counted-long (keep_groups gs es) fs,
+        length-both gs es,
+        ap (λ (x : Groups). length (indices_of x)) groups,
+        ap (λ (x : Groups). length (indices_of x)) items,
+        ap (λ (x : RegistryState). x.max_types) c.self.view_is,
+        fits,
+      ),
+      c.self.invariant.1,
+      balanced c,
+      omega (
+        arith,
+        ap counted c.keep_planned.ensures,
+        counted-all (keep_groups gs es) fs,
+        counted-both gs es,
+        ap counted c.make_room.ensures.groups,
+        c.self.invariant.3,
+        ap counted items,
+        fresh-counted r.groups l begun (map span_of l.groups) refl,
+        ap (λ (p : Plan). length p.listed.groups) c.listed.view_is,
+        c.in_ok-listed.ensures.few,
+      ),
+    )
+
+pub returns-clause-ok : goal.returns-clause-ok
+returns-clause-ok c = now-is c
+
+pub returns-clause-stands : goal.returns-clause-stands
+returns-clause-stands c =
+    let r = registry_of c.args.self.now in
+    let l = c.args.types.now in
+    let key : r.registrations ≡ c.self.inside.registrations = sym (ap (λ (x : RegistryState). x.registrations) c.self.view_is) in
+    subst (λ (now : Registry). Stands now c.self.inside.registrations l) (sym (now-is c))
+    (subst (λ n. Stands (registered r l) n l) key (registered-stands c.equality_law.ensures.group r l (may c)))
+
+pub returns-clause-others : goal.returns-clause-others
+returns-clause-others c = λ k list st.
+    let r = registry_of c.args.self.now in
+    let l = c.args.types.now in
+    let differ : k ≡ r.registrations → ⊥ = λ same. some-none st.listed (sym ((before c).unused k (omega (arith, same))) ∙ st.held) in
+    subst (λ (now : Registry). Stands now k list) (sym (now-is c)) (others-stand c.equality_law.ensures.group r l (may c) list k differ st)
+
+pub returns-clause-indices : goal.returns-clause-indices
+returns-clause-indices c = λ k i held.
+    ap (λ (r : Registry). index_at r k i) (now-is c) ∙ registered-index (registry_of c.args.self.now) c.args.types.now (before c) k i held
+
+pub returns-clause-live : goal.returns-clause-live
+returns-clause-live c = live-held (registry_of (after c)) (balanced c)
+
+-- a refusal leaves the registry as it was
+
+pub returns-then-self-clause-live : goal.returns-then-self-clause-live
+returns-then-self-clause-live c =
+    live-held (registry_of c.args.self.now) (subst (λ (r : RegistryState). IsBalanced (registry_of r)) c.self.view_is c.self.invariant.2)
+
+pub returns-in_err-listed-clause-live : goal.returns-in_err-listed-clause-live
+returns-in_err-listed-clause-live c =
+    live-held (registry_of c.args.self.now) (subst (λ (r : RegistryState). IsBalanced (registry_of r)) c.self.view_is c.self.invariant.2)
+
+pub returns-in_err-make_room-clause-live : goal.returns-in_err-make_room-clause-live
+returns-in_err-make_room-clause-live c =
+    subst (λ (gs : Groups). LiveWhereHeld (registry_of (record (seen.the_view c.self.inside) { groups = gs }))) (sym c.make_room.ensures.groups)
+    (live-held (registry_of (seen.the_view c.self.inside)) c.self.invariant.2)
+
+pub returns-in_err-reserve-clause-live : goal.returns-in_err-reserve-clause-live
+returns-in_err-reserve-clause-live c =
+    let s = c.self.inside in
+    let same : registry_of (record { max_types = s.max_types; registrations = s.registrations; modules = c.reserve.new.self.entries; groups = c.make_room.new.self.groups })
+    ≡ registry_of (seen.the_view s) =
+    λ i. record {
+      max_types = s.max_types;
+      registrations = s.registrations;
+      held = λ k. c.reserve.ensures.entries.2 k i;
+      groups = c.make_room.ensures.groups i;
+    } in
+    subst LiveWhereHeld (sym same) (live-held (registry_of (seen.the_view s)) c.self.invariant.2)

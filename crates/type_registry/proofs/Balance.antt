@@ -1,0 +1,252 @@
+-- What a balanced registry tells, and that it is balanced once a module is released.
+use Rattle.std.proofs.Common.{if◌then◌else◌, ◌≡◌, ◌∙◌, ◌<◌, ◌≤◌, ℕ, zero, suc, Bool, true, false, nat_eq, nat_le, List, [], ◌∷◌, get_or, take, drop, slice_get, Contains, Option, Some, None, option_and_then, refl, sym, ap, subst, arith, eq-eqb}
+use Rattle.std.specs.Prelude.{◌||◌, IsSome}
+use Rattle.std.specs.Cmp.{nat_eq_equiv}
+use Rattle.std.specs.List.{list_any}
+use Rattle.std.proofs.lemmas.Bool.{eqb-true, leb-true, leb-false}
+use Rattle.std.proofs.lemmas.Map.Views.{Contains-from_any, list_any-from_Contains}
+use Rattle.type_spec.specs.Interned.{Span}
+use Rattle.wasm_types.specs.TypeViews.{group_of}
+use Rattle.module_types.specs.TypeList.{TypeList}
+use Rattle.type_registry.specs.Registry.{Registry, Group, Groups, Module, empty, index_at, indices_of, live}
+use Rattle.type_registry.specs.Changes.{planned, registered, released_by, size_of}
+use Rattle.type_registry.specs.Standing.{AreOrdered, GroupStands, IsHeld, LiveWhereHeld, Stands, kept_at}
+use Rattle.type_registry.specs.Balanced.{IsBalanced, count_in, indices_in, indices_at, times, times_below}
+use Rattle.type_registry.proofs.Dropping.{some-none, group-is}
+use Rattle.type_registry.proofs.FreeIndices.{apart}
+use Rattle.type_registry.proofs.KeepingAll.{true-false, any-second}
+use Rattle.type_registry.proofs.NewGroups.{any-right}
+use Rattle.type_registry.proofs.OwnerLists.{any-place, place-any}
+use Rattle.type_registry.proofs.Sound.{bare, found, found-above, found-index, left-sound, none-sound}
+use Rattle.type_registry.proofs.Tallies.{IsThere, there-of, left-less, left-had, left-was}
+use Rattle.type_registry.proofs.Times.{below-one, below-some, below-without, flat-from, flat-has, flat-same}
+
+-- ---- indices that are live
+
+-- a kept group that has an index
+record IsIn (gs : Groups) (i : ℕ) : Type 0 where
+  pub first : ℕ
+  pub group : Group
+  pub kept : found gs first ≡ Some group
+  pub has : list_any (nat_eq i) group.indices ≡ true
+
+live-in : (gs : Groups) (i : ℕ) → AreOrdered gs → list_any (nat_eq i) (indices_of gs) ≡ true → IsIn gs i
+live-in [] i ordered has = let no-way : false ≡ true = has in cc
+live-in (e ∷ gs) i ordered has = by (list_any (nat_eq i) e.1.indices) refl (live-in gs i ordered.1) where
+  by : (c : Bool) → list_any (nat_eq i) e.1.indices ≡ c → (list_any (nat_eq i) (indices_of gs) ≡ true → IsIn gs i) → IsIn (e ∷ gs) i
+  by true is rest =
+      record { first = e.0; group = e.1; kept = ap (λ (c : Bool). if c then Some e.1 else found gs e.0) (eq-eqb e.0 e.0 refl); has = is }
+  by false is rest =
+      let w = rest (sym (any-second e.1.indices (indices_of gs) i is) ∙ has) in
+      let lt = found-above gs e.0 w.first w.group ordered.0 w.kept in
+      record {
+        first = w.first;
+        group = w.group;
+        kept = ap (λ (c : Bool). if c then Some e.1 else found gs w.first) (apart w.first e.0 (λ same. absurd (omega (arith, same, lt)))) ∙ w.kept;
+        has = w.has;
+      }
+
+-- a kept group whose indices are those at a first index
+record IsOf (o : Option Group) (i : ℕ) : Type 0 where
+  pub group : Group
+  pub is : o ≡ Some group
+  pub has : list_any (nat_eq i) group.indices ≡ true
+
+of-any : (o : Option Group) (i : ℕ) → list_any (nat_eq i) (indices_in o) ≡ true → IsOf o i
+of-any None i has = let no-way : false ≡ true = has in cc
+of-any (Some g) i has = record { group = g; is = refl; has = has }
+
+-- a held module that has an index at a place
+record IsAmong (r : Registry) (key place i : ℕ) : Type 0 where
+  pub listed : Module
+  pub held : r.held key ≡ Some listed
+  pub at : slice_get listed.indices place ≡ Some i
+
+among-of : (r : Registry) (key place i : ℕ) (o : Option Module) → r.held key ≡ o → option_and_then (λ (m : Module). slice_get m.indices place) o ≡ Some i
+    → IsAmong r key place i
+among-of r key place i None e at = absurd (some-none i at)
+among-of r key place i (Some m) e at = record { listed = m; held = e; at = at }
+
+-- what a part of a list has the list has
+any-take : (ns : List ℕ) (n i : ℕ) → list_any (nat_eq i) (take n ns) ≡ true → list_any (nat_eq i) ns ≡ true
+any-take ns zero i has = let no-way : false ≡ true = has in cc
+any-take [] (suc n) i has = has
+any-take (x ∷ ns) (suc n) i has = by (nat_eq i x) has (any-take ns n i) where
+  by : (c : Bool) → (c || list_any (nat_eq i) (take n ns)) ≡ true → (list_any (nat_eq i) (take n ns) ≡ true → list_any (nat_eq i) ns ≡ true)
+      → (c || list_any (nat_eq i) ns) ≡ true
+  by true has rest = refl
+  by false has rest = rest has
+
+any-drop : (ns : List ℕ) (n i : ℕ) → list_any (nat_eq i) (drop n ns) ≡ true → list_any (nat_eq i) ns ≡ true
+any-drop ns zero i has = has
+any-drop [] (suc n) i has = has
+any-drop (x ∷ ns) (suc n) i has = any-right (x ∷ []) ns i (any-drop ns n i has)
+
+module _ (r : Registry) (b : IsBalanced r) where
+  -- a kept group has an index of a held module, and its first index is among those of the module's groups
+  record IsListed (m : Module) (i : ℕ) : Type 0 where
+    pub first : ℕ
+    pub group : Group
+    pub kept : kept_at r first ≡ Some group
+    pub has : list_any (nat_eq i) group.indices ≡ true
+    pub is_in : 0 < times first m.groups
+
+  listed-in : (key : ℕ) (m : Module) (i : ℕ) → r.held key ≡ Some m → list_any (nat_eq i) m.indices ≡ true → IsListed m i
+  listed-in key m i is has =
+      let w = flat-from (indices_at r) m.groups i (ap (list_any (nat_eq i)) (sym (b.listed key m is)) ∙ has) in
+      let x = of-any (kept_at r w.number) i w.has in
+      record { first = w.number; group = x.group; kept = x.is; has = x.has; is_in = w.is_in }
+
+  -- a key that is held was given
+  pub given-key : (key : ℕ) (m : Module) → r.held key ≡ Some m → key < r.registrations
+  given-key key m is = by (nat_le r.registrations key) refl where
+    by : (c : Bool) → nat_le r.registrations key ≡ c → key < r.registrations
+    by true le = absurd (some-none m (sym (b.unused key (leb-true r.registrations key le)) ∙ is))
+    by false le = leb-false r.registrations key le
+
+  at-place : (key : ℕ) (m : Module) (place i : ℕ) → r.held key ≡ Some m → slice_get m.indices place ≡ Some i → index_at r key place ≡ Some i
+  at-place key m place i is at = ap (option_and_then (λ (m : Module). slice_get m.indices place)) is ∙ at
+
+  held-from : (i : ℕ) → Contains (live r) i → IsHeld r i
+  held-from i has =
+      let w = live-in r.groups i b.sound.ordered (list_any-from_Contains nat_eq_equiv i (live r) has) in
+      let h = below-some r.held w.first r.registrations (omega (arith, b.counted w.first, ap count_in w.kept, b.had w.first w.group w.kept)) in
+      let is : list_any (nat_eq i) (indices_at r w.first) ≡ true = subst (λ o. list_any (nat_eq i) (indices_in o) ≡ true) (sym w.kept) w.has in
+      let any : list_any (nat_eq i) h.listed.indices ≡ true =
+      subst (λ ns. list_any (nat_eq i) ns ≡ true) (sym (b.listed h.key h.listed h.is)) (flat-has (indices_at r) h.listed.groups w.first i h.has is) in
+      let p = place-any h.listed.indices i any in
+      record { key = h.key; place = p.place; at = at-place h.key h.listed p.place i h.is p.at }
+
+  live-from : (i : ℕ) → IsHeld r i → Contains (live r) i
+  live-from i h =
+      let w = among-of r h.key h.place i (r.held h.key) refl h.at in
+      let x = listed-in h.key w.listed i w.held (any-place w.listed.indices i h.place w.at) in
+      let p = place-any x.group.indices i x.has in
+      Contains-from_any eqb-true i (live r) (found-index r.groups x.first p.place i x.group x.kept p.at)
+
+  pub live-held : LiveWhereHeld r
+  live-held i = (held-from i, live-from i)
+
+  -- a group that a held module has is kept
+  pub kept-listed : (key : ℕ) (m : Module) (first : ℕ) → r.held key ≡ Some m → 0 < times first m.groups → IsThere (kept_at r first)
+  kept-listed key m first is lt =
+      there-of (kept_at r first) (omega (arith, b.counted first, below-one r.held key first r.registrations m is (given-key key m is), lt))
+
+  -- the first index of a group that stands is among those of the module's groups
+  pub first-listed : (key : ℕ) (m : Module) (l : TypeList) (s : Span) → r.held key ≡ Some m → (g : GroupStands r m.indices l s)
+      → 0 < times (get_or m.indices s.start 0) m.groups
+  first-listed key m l s is g =
+      let first = get_or m.indices s.start 0 in
+      let start = b.sound.firsts first g.group g.kept in
+      let part : list_any (nat_eq first) (take (size_of s) (drop s.start m.indices)) ≡ true =
+      ap (list_any (nat_eq first)) (sym g.at) ∙ any-place g.group.indices first 0 start in
+      let x = listed-in key m first is (any-drop m.indices s.start first (any-take (drop s.start m.indices) (size_of s) first part)) in
+      let p = place-any x.group.indices first x.has in
+      let same = (b.sound.owned first x.first 0 p.place first g.group x.group g.kept x.kept start p.at).0 in
+      subst (λ n. 0 < times n m.groups) (sym same) x.is_in
+
+-- ---- a module is released
+
+module _ (r : Registry) (b : IsBalanced r) (key : ℕ) (m : Module) (is : r.held key ≡ Some m) where
+  abbrev now : Registry
+  now = released_by r key (Some m)
+
+  still-held : (k : ℕ) (o : Module) → now.held k ≡ Some o → (k ≡ key → ⊥) × (r.held k ≡ Some o)
+  still-held k o here = by (nat_eq key k) refl here where
+    by : (c : Bool) → nat_eq key k ≡ c → (if c then None else r.held k) ≡ Some o → (k ≡ key → ⊥) × (r.held k ≡ Some o)
+    by true e here = absurd (some-none o here)
+    by false e here = ((λ same. true-false (nat_eq key k) (eq-eqb key k (sym same)) e), here)
+
+  counted-now : (first : ℕ) → count_in (kept_at now first) ≡ times_below now.held first r.registrations
+  counted-now first =
+      omega (
+        arith,
+        left-less r.groups m.groups first b.sound.ordered,
+        b.counted first,
+        below-without r.held key first r.registrations m is (given-key r b key m is),
+      )
+
+  -- a group that is kept as it was, but for its count
+  record IsStill (first : ℕ) : Type 0 where
+    pub group : Group
+    pub kept : kept_at now first ≡ Some group
+    pub old : Group
+    pub was : kept_at r first ≡ Some old
+    pub same : bare old ≡ bare group
+
+  still-kept : (k : ℕ) (o : Module) (first : ℕ) → now.held k ≡ Some o → 0 < times first o.groups → IsStill first
+  still-kept k o first here lt =
+      let old = still-held k o here in
+      let w = there-of (kept_at now first)
+      (omega (arith, counted-now first, below-one now.held k first r.registrations o here (given-key r b k o old.1), lt)) in
+      let x = left-was r.groups m.groups first w.group b.sound.ordered w.is in
+      record { group = w.group; kept = w.is; old = x.group; was = x.kept; same = x.same }
+
+  still-indices : (k : ℕ) (o : Module) (first : ℕ) → now.held k ≡ Some o → 0 < times first o.groups → indices_at r first ≡ indices_at now first
+  still-indices k o first here lt =
+      let w = still-kept k o first here lt in
+      ap indices_in w.was ∙ ap (λ (g : Group). g.indices) w.same ∙ ap indices_in (sym w.kept)
+
+  no-more-held : (c : Bool) (k : ℕ) → r.registrations ≤ k → (if c then None else r.held k) ≡ None
+  no-more-held true k le = refl
+  no-more-held false k le = b.unused k le
+
+  pub left-balanced : IsBalanced now
+  left-balanced = record {
+    sound = left-sound r.groups m.groups b.sound;
+    unused = λ k le. no-more-held (nat_eq key k) k le;
+    counted = counted-now;
+    had = left-had r.groups m.groups b.sound.ordered b.had;
+    listed = λ k o here. b.listed k o (still-held k o here).1 ∙ flat-same (indices_at r) (indices_at now) o.groups (λ n lt. still-indices k o n here lt);
+  }
+
+  pub left-stands : (k : ℕ) (l : TypeList) → (k ≡ key → ⊥) → Stands r k l → Stands now k l
+  left-stands k l differ st =
+      let here : now.held k ≡ Some st.listed =
+      ap (λ (c : Bool). if c then None else r.held k) (apart key k (λ e. differ (sym e))) ∙ st.held in
+      record {
+        sound = left-balanced.sound;
+        listed = st.listed;
+        held = here;
+        count = st.count;
+        groups = λ j s at.
+            let g = st.groups j s at in
+            let first = get_or st.listed.indices s.start 0 in
+            let w = still-kept k st.listed first here (first-listed r b k st.listed l s st.held g) in
+            let old : w.old ≡ g.group = group-is w.old g.group (sym w.was ∙ g.kept) in
+            record {
+              group = w.group;
+              kept = w.kept;
+              at = ap (λ (x : Group). x.indices) (sym w.same) ∙ ap (λ (x : Group). x.indices) old ∙ g.at;
+              canonical = ap (λ (x : Group). group_of x.canonical) (sym w.same) ∙ ap (λ (x : Group). group_of x.canonical) old ∙ g.canonical;
+            };
+      }
+
+-- ---- indices of other modules
+
+pub left-index : (r : Registry) (key : ℕ) (m : Module) (k i : ℕ) → (k ≡ key → ⊥) → index_at (released_by r key (Some m)) k i ≡ index_at r k i
+left-index r key m k i differ = ap (λ (c : Bool). option_and_then (λ (o : Module). slice_get o.indices i) (if c then None else r.held k)) (apart key k (λ e. differ (sym e)))
+
+pub registered-index : (r : Registry) (l : TypeList) → IsBalanced r → (k i : ℕ) → IsSome (r.held k) → index_at (registered r l) k i ≡ index_at r k i
+registered-index r l b k i held =
+    let differ : r.registrations ≡ k → ⊥ =
+    λ same. subst (λ (o : Option Module). IsSome o → ⊥) (sym (b.unused k (omega (arith, same)))) (λ none. true-false false none refl) held in
+    ap (λ (c : Bool). option_and_then (λ (o : Module). slice_get o.indices i) (if c then Some (planned r l).listed else r.held k)) (apart r.registrations k differ)
+
+pub released-balanced : (r : Registry) (key : ℕ) (o : Option Module) → r.held key ≡ o → IsBalanced r → IsBalanced (released_by r key o)
+released-balanced r key None e b = b
+released-balanced r key (Some m) e b = left-balanced r b key m e
+
+pub released-stands : (r : Registry) (key : ℕ) (o : Option Module) → r.held key ≡ o → IsBalanced r → (k : ℕ) (l : TypeList) → (k ≡ key → ⊥) → Stands r k l
+    → Stands (released_by r key o) k l
+released-stands r key None e b k l differ st = st
+released-stands r key (Some m) e b k l differ st = left-stands r b key m e k l differ st
+
+pub empty-balanced : (n : ℕ) → IsBalanced (empty n)
+empty-balanced n = record {
+  sound = none-sound;
+  unused = λ k le. refl;
+  counted = λ first. refl;
+  had = λ first g is. absurd (some-none g is);
+  listed = λ key m is. absurd (some-none m is);
+}

@@ -1,0 +1,210 @@
+-- A registry is balanced once a module is registered.
+use Rattle.std.proofs.Common.{if◌then◌else◌, ◌≡◌, ◌∙◌, ◌↔◌, ◌<◌, ◌≤◌, ℕ, ◌+◌, Bool, true, false, nat_eq, List, [], ◌∷◌, ◌++◌, map, Option, Some, None, refl, sym, ap, subst, arith, eq-eqb, ◌⊎◌, inl, inr}
+use Rattle.std.specs.List.{flat_map}
+use Rattle.std.proofs.lemmas.Grind.{flat_map-append}
+use Rattle.std.proofs.lemmas.List.{append-nil}
+use Rattle.std.proofs.lemmas.Option.{get_or_from_slice_get}
+use Rattle.std.proofs.lemmas.Bool.{eqb-true}
+use Rattle.type_spec.specs.Interned.{Span}
+use Rattle.wasm_types.specs.declared.sub.WasmSubType.{WasmSubType}
+use Rattle.module_types.specs.Views.{span_of}
+use Rattle.module_types.specs.TypeList.{TypeList}
+use Rattle.type_registry.specs.Registry.{Registry, Group, Groups, Module}
+use Rattle.type_registry.specs.Changes.{Plan, begun, at_first, canonical_of, find_group, first_index, keep_groups, next_group, plan_group, plan_groups, planned, registered, size_of, take_group, with_group}
+use Rattle.type_registry.specs.Standing.{MayRegister, kept_at}
+use Rattle.type_registry.specs.Balanced.{IsBalanced, count_in, indices_in, indices_at, times, times_in, times_below}
+use Rattle.type_registry.proofs.Balance.{kept-listed}
+use Rattle.type_registry.proofs.FreeIndices.{apart}
+use Rattle.type_registry.proofs.Keeping.{Eq}
+use Rattle.type_registry.proofs.Placed.{both-more}
+use Rattle.type_registry.proofs.PlanGroups.{found-equal, find-some, find-none, fresh-counted}
+use Rattle.type_registry.proofs.Registered.{state, may, new-first, kept-of, registered-sound}
+use Rattle.type_registry.proofs.Sound.{IsBut, found, counted-is, counted-was, keeps-found}
+use Rattle.type_registry.proofs.Tallies.{IsThere, counted-more, firsts_of, keep-none, kept-was}
+use Rattle.type_registry.proofs.Times.{below-next, below-with, flat-same, module-is, times-append}
+
+-- ---- the list of a module that is planned
+
+-- its indices are those of its groups, which are all kept
+record IsListedBy (at : ℕ → Option Group) (m : Module) : Type 0 where
+  pub indices : m.indices ≡ flat_map (λ first. indices_in (at first)) m.groups
+  pub there : (first : ℕ) → 0 < times first m.groups → IsThere (at first)
+
+none-listed : (at : ℕ → Option Group) → IsListedBy at begun.listed
+none-listed at = record { indices = refl; there = λ first lt. absurd (omega (arith, lt)) }
+
+listed-more : (at : ℕ → Option Group) (m : Module) (g : Group) → at (first_index g) ≡ Some g → IsListedBy at m → IsListedBy at (with_group m g)
+listed-more at m g is w =
+    let ix : ℕ → List ℕ = λ first. indices_in (at first) in
+    let last : flat_map ix (first_index g ∷ []) ≡ g.indices = append-nil (ix (first_index g)) ∙ ap indices_in is in
+    record {
+      indices = ap (λ ns. ns ++ g.indices) w.indices ∙ ap (λ ns. flat_map ix m.groups ++ ns) (sym last) ∙ sym (flat_map-append ix m.groups (first_index g ∷ []));
+      there = λ first lt. by first (nat_eq first (first_index g)) refl (omega (arith, lt, times-append first m.groups (first_index g ∷ [])));
+    } where
+      by : (first : ℕ) (c : Bool) → nat_eq first (first_index g) ≡ c → 0 < times first m.groups + ((if c then 1 else 0) + 0) → IsThere (at first)
+      by first true same lt = record { group = g; is = ap at (eqb-true first (first_index g) same) ∙ is }
+      by first false same lt = w.there first (omega (arith, lt))
+
+module _ (equal : (x y : List WasmSubType) → (Eq x y ≡ true) ↔ (x ≡ y)) (gs : Groups) (l : TypeList) where
+  -- a group that is found stays so where more groups are planned
+  found-next : (p : Plan) (s : Span) (c : List WasmSubType) (g : Group) → find_group c (gs ++ p.fresh) ≡ Some g
+      → find_group c (gs ++ (plan_group gs l p s).fresh) ≡ Some g
+  found-next p s c g is = by (find_group (canonical_of l p.listed.indices s) (gs ++ p.fresh)) where
+    by : (o : Option Group)
+        → find_group c (gs ++ (take_group p (next_group gs p.fresh (canonical_of l p.listed.indices s) (size_of s)) o).fresh) ≡ Some g
+    by (Some h) = is
+    by None =
+        let new = next_group gs p.fresh (canonical_of l p.listed.indices s) (size_of s) in
+        ap (find_group c) (sym (both-more gs p.fresh (at_first new ∷ []))) ∙ find-some (gs ++ p.fresh) (at_first new ∷ []) c g is
+
+  found-later : (p : Plan) (ss : List Span) (c : List WasmSubType) (g : Group) → find_group c (gs ++ p.fresh) ≡ Some g
+      → find_group c (gs ++ (plan_groups gs l p ss).fresh) ≡ Some g
+  found-later p [] c g is = is
+  found-later p (s ∷ ss) c g is = found-later (plan_group gs l p s) ss c g (found-next p s c g is)
+
+  -- a group that a module takes, which is found by its members from then on
+  record IsTaken (m n : Module) (es : Groups) : Type 0 where
+    pub group : Group
+    pub listed : n ≡ with_group m group
+    pub among : find_group group.canonical (gs ++ es) ≡ Some group
+
+  is-taken : (p : Plan) (s : Span) → IsTaken p.listed (plan_group gs l p s).listed (plan_group gs l p s).fresh
+  is-taken p s = by (find_group (canonical_of l p.listed.indices s) (gs ++ p.fresh)) refl where
+    by : (o : Option Group) → find_group (canonical_of l p.listed.indices s) (gs ++ p.fresh) ≡ o
+        → IsTaken p.listed (take_group p (next_group gs p.fresh (canonical_of l p.listed.indices s) (size_of s)) o).listed
+        (take_group p (next_group gs p.fresh (canonical_of l p.listed.indices s) (size_of s)) o).fresh
+    by (Some g) is =
+        let c = canonical_of l p.listed.indices s in
+        let same : g.canonical ≡ c = (equal g.canonical c).0 (found-equal (gs ++ p.fresh) c g is) in
+        record { group = g; listed = refl; among = ap (λ x. find_group x (gs ++ p.fresh)) same ∙ is }
+    by None is =
+        let c = canonical_of l p.listed.indices s in
+        let new = next_group gs p.fresh c (size_of s) in
+        record {
+          group = new;
+          listed = refl;
+          among = ap (find_group c) (sym (both-more gs p.fresh (at_first new ∷ []))) ∙ find-none (gs ++ p.fresh) (at_first new ∷ []) c is
+              ∙ ap (λ (b : Bool). if b then Some new else None) ((equal c c).1 refl);
+        }
+
+  -- the list is that of its groups where each group that is found is kept at its first index
+  planned-listed : (at : ℕ → Option Group) (p : Plan) (ss : List Span)
+      → ((g : Group) → find_group g.canonical (gs ++ (plan_groups gs l p ss).fresh) ≡ Some g → at (first_index g) ≡ Some g)
+      → IsListedBy at p.listed → IsListedBy at (plan_groups gs l p ss).listed
+  planned-listed at p [] kept w = w
+  planned-listed at p (s ∷ ss) kept w =
+      let t = is-taken p s in
+      let q = plan_group gs l p s in
+      let is = kept t.group (found-later q ss t.group.canonical t.group t.among) in
+      planned-listed at q ss kept (subst (IsListedBy at) (sym t.listed) (listed-more at p.listed t.group is w))
+
+  -- each new group is one of the module's
+  new-listed : (p : Plan) (s : Span) (first : ℕ) → times first (firsts_of p.fresh) ≤ times first p.listed.groups
+      → times first (firsts_of (plan_group gs l p s).fresh) ≤ times first (plan_group gs l p s).listed.groups
+  new-listed p s first le = by (find_group (canonical_of l p.listed.indices s) (gs ++ p.fresh)) where
+    firsts-more : (es : Groups) (e : ℕ × Group) → times first (firsts_of (es ++ e ∷ [])) ≡ times first (firsts_of es) + times first (e.0 ∷ [])
+    firsts-more [] e = omega arith
+    firsts-more (x ∷ es) e = omega (arith, firsts-more es e)
+
+    by : (o : Option Group)
+        → times first (firsts_of (take_group p (next_group gs p.fresh (canonical_of l p.listed.indices s) (size_of s)) o).fresh)
+        ≤ times first (take_group p (next_group gs p.fresh (canonical_of l p.listed.indices s) (size_of s)) o).listed.groups
+    by (Some g) = omega (arith, le, times-append first p.listed.groups (first_index g ∷ []))
+    by None =
+        let new = next_group gs p.fresh (canonical_of l p.listed.indices s) (size_of s) in
+        omega (arith, le, times-append first p.listed.groups (first_index new ∷ []), firsts-more p.fresh (at_first new))
+
+  pub all-listed : (p : Plan) (ss : List Span) (first : ℕ) → times first (firsts_of p.fresh) ≤ times first p.listed.groups
+      → times first (firsts_of (plan_groups gs l p ss).fresh) ≤ times first (plan_groups gs l p ss).listed.groups
+  all-listed p [] first le = le
+  all-listed p (s ∷ ss) first le = all-listed (plan_group gs l p s) ss first (new-listed p s first le)
+
+-- ---- the registry
+
+module _ (equal : (x y : List WasmSubType) → (Eq x y ≡ true) ↔ (x ≡ y)) (r : Registry) (l : TypeList) (m : MayRegister r l) (b : IsBalanced r) where
+  abbrev p : Plan
+  p = planned r l
+
+  abbrev kept : Groups
+  kept = keep_groups r.groups p.fresh
+
+  abbrev now : Registry
+  now = registered r l
+
+  -- a group that is found is kept at its first index
+  kept-first : (g : Group) → find_group g.canonical (r.groups ++ p.fresh) ≡ Some g → found kept (first_index g) ≡ Some g
+  kept-first g is =
+      let w = kept-of equal r l m g is in
+      ap (found kept) (get_or_from_slice_get g.indices 0 w.first 0 w.start) ∙ w.kept
+
+  listed-by : IsListedBy (found kept) p.listed
+  listed-by = planned-listed equal r.groups l (found kept) begun (map span_of l.groups) kept-first (none-listed (found kept))
+
+  -- what is kept is kept once groups are counted, but for its count
+  same-indices : (first : ℕ) (g : Group) → found kept first ≡ Some g → indices_in (found kept first) ≡ indices_at now first
+  same-indices first g is =
+      let w = counted-is kept p.listed.groups first g is in
+      ap indices_in is ∙ ap (λ (x : Group). x.indices) (sym w.same) ∙ ap indices_in (sym w.kept)
+
+  listed-new : p.listed.indices ≡ flat_map (indices_at now) p.listed.groups
+  listed-new =
+      listed-by.indices
+      ∙ flat-same (λ first. indices_in (found kept first)) (indices_at now) p.listed.groups
+      (λ n lt. let w = listed-by.there n lt in same-indices n w.group w.is)
+
+  still : (first : ℕ) (g : Group) → kept_at r first ≡ Some g → found kept first ≡ Some g
+  still first g is = keeps-found equal p.fresh (state equal r l m) first g m.sound (may equal r l m) (new-first equal r l m) is
+
+  -- new groups are not counted yet
+  count-kept : (first : ℕ) → count_in (found kept first) ≡ count_in (kept_at r first)
+  count-kept first = by (kept_at r first) refl where
+    by : (o : Option Group) → kept_at r first ≡ o → count_in (found kept first) ≡ count_in o
+    by (Some g) is = ap count_in (still first g is)
+    by None is = keep-none r.groups p.fresh first (ap count_in is) (fresh-counted r.groups l begun (map span_of l.groups) refl)
+
+  counted-now : (first : ℕ) → count_in (kept_at now first) ≡ times_below now.held first (r.registrations + 1)
+  counted-now first =
+      let here : now.held r.registrations ≡ Some p.listed = ap (λ (c : Bool). if c then Some p.listed else r.held r.registrations) (eq-eqb r.registrations r.registrations refl) in
+      omega (
+        arith,
+        counted-more kept p.listed.groups first listed-by.there,
+        count-kept first,
+        b.counted first,
+        below-next now.held first r.registrations,
+        below-with r.held r.registrations first r.registrations p.listed (omega arith),
+        ap (times_in first) here,
+      )
+
+  had-now : (first : ℕ) (g : Group) → kept_at now first ≡ Some g → 0 < g.count
+  had-now first g is = omega (arith, by (kept-was r.groups p.fresh first w.group w.kept), more, ap count_in is) where
+    w : IsBut kept first g
+    w = counted-was kept p.listed.groups first g is
+
+    more : count_in (kept_at now first) ≡ count_in (kept_at r first) + times first p.listed.groups
+    more = omega (arith, counted-more kept p.listed.groups first listed-by.there, count-kept first)
+
+    by : (kept_at r first ≡ Some w.group) ⊎ (0 < times first (firsts_of p.fresh)) → 0 < count_in (kept_at r first) + times first p.listed.groups
+    by (inl old) = omega (arith, ap count_in old, b.had first w.group old)
+    by (inr new) = omega (arith, new, all-listed equal r.groups l begun (map span_of l.groups) first (omega arith))
+
+  listed-now : (key : ℕ) (n : Module) → now.held key ≡ Some n → n.indices ≡ flat_map (indices_at now) n.groups
+  listed-now key n is = by (nat_eq r.registrations key) is where
+    by : (c : Bool) → (if c then Some p.listed else r.held key) ≡ Some n → n.indices ≡ flat_map (indices_at now) n.groups
+    by true is = subst (λ (x : Module). x.indices ≡ flat_map (indices_at now) x.groups) (module-is p.listed n is) listed-new
+    by false is =
+        b.listed key n is
+        ∙ flat-same (indices_at r) (indices_at now) n.groups
+        (λ first lt.
+        let w = kept-listed r b key n first is lt in
+        let k = still first w.group w.is in
+        ap indices_in w.is ∙ ap indices_in (sym k) ∙ same-indices first w.group k)
+
+  pub registered-balanced : IsBalanced now
+  registered-balanced = record {
+    sound = registered-sound equal r l m;
+    unused = λ k le.
+        ap (λ (c : Bool). if c then Some p.listed else r.held k) (apart r.registrations k (λ e. absurd (omega (arith, e, le)))) ∙ b.unused k (omega (arith, le));
+    counted = counted-now;
+    had = had-now;
+    listed = listed-now;
+  }

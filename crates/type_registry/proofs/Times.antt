@@ -1,0 +1,114 @@
+-- How often lists have numbers, and how often held modules have groups.
+use Rattle.std.proofs.Common.{if◌then◌else◌, ◌≡◌, ◌∙◌, ◌<◌, ◌≤◌, ℕ, zero, suc, ◌+◌, Bool, true, false, nat_eq, List, [], ◌∷◌, ◌++◌, Option, Some, None, refl, sym, ap, arith, eq-eqb}
+use Rattle.std.specs.List.{flat_map, list_any}
+use Rattle.std.proofs.lemmas.Bool.{eqb-true}
+use Rattle.type_registry.specs.Registry.{Module}
+use Rattle.type_registry.specs.Changes.{with_module, without_module}
+use Rattle.type_registry.specs.Balanced.{times, times_in, times_below}
+use Rattle.type_registry.proofs.FreeIndices.{apart}
+use Rattle.type_registry.proofs.KeepingAll.{any-second}
+use Rattle.type_registry.proofs.NewGroups.{any-left, any-right}
+
+pub module-is : (m n : Module) → Some m ≡ Some n → m ≡ n
+module-is m n e = ap (by m) e where
+  by : Module → Option Module → Module
+  by d None = d
+  by d (Some x) = x
+
+-- ---- lists
+
+pub times-append : (n : ℕ) (xs ys : List ℕ) → times n (xs ++ ys) ≡ times n xs + times n ys
+times-append n [] ys = omega arith
+times-append n (x ∷ xs) ys = omega (arith, times-append n xs ys)
+
+pub times-first : (n : ℕ) (xs : List ℕ) → 0 < times n (n ∷ xs)
+times-first n xs = omega (arith, ap {B = ℕ} (λ (c : Bool). if c then 1 else 0) (eq-eqb n n refl))
+
+-- lists by number are one behind another as other ones that are equal at each number of the list
+pub flat-same : (ix ix' : ℕ → List ℕ) (ns : List ℕ) → ((n : ℕ) → 0 < times n ns → ix n ≡ ix' n) → flat_map ix ns ≡ flat_map ix' ns
+flat-same ix ix' [] same = refl
+flat-same ix ix' (x ∷ ns) same =
+    ap (λ is. is ++ flat_map ix ns) (same x (times-first x ns))
+    ∙ ap (λ is. ix' x ++ is) (flat-same ix ix' ns (λ n lt. same n (omega (arith, lt))))
+
+pub flat-has : (ix : ℕ → List ℕ) (ns : List ℕ) (n i : ℕ) → 0 < times n ns → list_any (nat_eq i) (ix n) ≡ true → list_any (nat_eq i) (flat_map ix ns) ≡ true
+flat-has ix [] n i lt has = absurd (omega (arith, lt))
+flat-has ix (x ∷ ns) n i lt has = by (nat_eq n x) refl lt (flat-has ix ns n i) where
+  by : (c : Bool) → nat_eq n x ≡ c → 0 < (if c then 1 else 0) + times n ns
+      → (0 < times n ns → list_any (nat_eq i) (ix n) ≡ true → list_any (nat_eq i) (flat_map ix ns) ≡ true)
+      → list_any (nat_eq i) (ix x ++ flat_map ix ns) ≡ true
+  by true e lt rest = any-left (ix x) (flat_map ix ns) i (ap (λ m. list_any (nat_eq i) (ix m)) (sym (eqb-true n x e)) ∙ has)
+  by false e lt rest = any-right (ix x) (flat_map ix ns) i (rest (omega (arith, lt)) has)
+
+-- a number of the list whose list has an index
+pub record IsFrom (ix : ℕ → List ℕ) (ns : List ℕ) (i : ℕ) : Type 0 where
+  pub number : ℕ
+  pub is_in : 0 < times number ns
+  pub has : list_any (nat_eq i) (ix number) ≡ true
+
+pub flat-from : (ix : ℕ → List ℕ) (ns : List ℕ) (i : ℕ) → list_any (nat_eq i) (flat_map ix ns) ≡ true → IsFrom ix ns i
+flat-from ix [] i has = let no-way : false ≡ true = has in cc
+flat-from ix (x ∷ ns) i has = by (list_any (nat_eq i) (ix x)) refl (flat-from ix ns i) where
+  by : (c : Bool) → list_any (nat_eq i) (ix x) ≡ c → (list_any (nat_eq i) (flat_map ix ns) ≡ true → IsFrom ix ns i) → IsFrom ix (x ∷ ns) i
+  by true e rest = record { number = x; is_in = times-first x ns; has = e }
+  by false e rest =
+      let w = rest (sym (any-second (ix x) (flat_map ix ns) i e) ∙ has) in
+      record { number = w.number; is_in = omega (arith, w.is_in); has = w.has }
+
+-- ---- held modules
+
+pub below-next : (held : ℕ → Option Module) (first n : ℕ) → times_below held first (n + 1) ≡ times_below held first n + times_in first (held n)
+below-next held first n = let one : n + 1 ≡ suc n = omega arith in ap (times_below held first) one
+
+pub below-with : (held : ℕ → Option Module) (key first n : ℕ) (m : Module) → n ≤ key
+    → times_below (with_module held key m) first n ≡ times_below held first n
+below-with held key first zero m le = refl
+below-with held key first (suc n) m le =
+    let same : with_module held key m n ≡ held n =
+    ap (λ (c : Bool). if c then Some m else held n) (apart key n (λ e. absurd (omega (arith, e, le)))) in
+    omega (arith, below-with held key first n m (omega (arith, le)), ap (times_in first) same)
+
+below-low : (held : ℕ → Option Module) (key first n : ℕ) → n ≤ key → times_below (without_module held key) first n ≡ times_below held first n
+below-low held key first zero le = refl
+below-low held key first (suc n) le =
+    let same : without_module held key n ≡ held n = ap (λ (c : Bool). if c then None else held n) (apart key n (λ e. absurd (omega (arith, e, le)))) in
+    omega (arith, below-low held key first n (omega (arith, le)), ap (times_in first) same)
+
+pub below-without : (held : ℕ → Option Module) (key first n : ℕ) (m : Module) → held key ≡ Some m → key < n
+    → times_below (without_module held key) first n + times first m.groups ≡ times_below held first n
+below-without held key first zero m is lt = absurd (omega (arith, lt))
+below-without held key first (suc n) m is lt = by (nat_eq key n) refl (below-without held key first n m is) where
+  by : (c : Bool) → nat_eq key n ≡ c
+      → (key < n → times_below (without_module held key) first n + times first m.groups ≡ times_below held first n)
+      → times_below (without_module held key) first (suc n) + times first m.groups ≡ times_below held first (suc n)
+  by true e rest =
+      let same : key ≡ n = eqb-true key n e in
+      let none : without_module held key n ≡ None = ap (λ (c : Bool). if c then None else held n) e in
+      let here : times_in first (held n) ≡ times first m.groups = ap (λ k. times_in first (held k)) (sym same) ∙ ap (times_in first) is in
+      omega (arith, below-low held key first n (omega (arith, same)), ap (times_in first) none, here)
+  by false e rest =
+      let differ : key ≡ n → ⊥ = λ same. let no-way : false ≡ true = sym e ∙ eq-eqb key n same in cc in
+      let still : without_module held key n ≡ held n = ap (λ (c : Bool). if c then None else held n) e in
+      omega (arith, rest (omega (arith, lt, differ)), ap (times_in first) still)
+
+-- a held module has a group no more often than all
+pub below-one : (held : ℕ → Option Module) (key first n : ℕ) (m : Module) → held key ≡ Some m → key < n → times first m.groups ≤ times_below held first n
+below-one held key first n m is lt = omega (arith, below-without held key first n m is lt)
+
+-- a held module that has a group
+pub record IsHad (held : ℕ → Option Module) (first : ℕ) : Type 0 where
+  pub key : ℕ
+  pub listed : Module
+  pub is : held key ≡ Some listed
+  pub has : 0 < times first listed.groups
+
+pub below-some : (held : ℕ → Option Module) (first n : ℕ) → 0 < times_below held first n → IsHad held first
+below-some held first zero lt = absurd (omega (arith, lt))
+below-some held first (suc n) lt = by (held n) refl (below-some held first n) where
+  here : (m : Module) → held n ≡ Some m → (c : ℕ) → times first m.groups ≡ c → (0 < times_below held first n → IsHad held first) → IsHad held first
+  here m is zero none rest = rest (omega (arith, lt, ap (times_in first) is, none))
+  here m is (suc c) some rest = record { key = n; listed = m; is = is; has = omega (arith, some) }
+
+  by : (o : Option Module) → held n ≡ o → (0 < times_below held first n → IsHad held first) → IsHad held first
+  by None e rest = rest (omega (arith, lt, ap (times_in first) e))
+  by (Some m) e rest = here m e (times first m.groups) refl rest
