@@ -1,0 +1,5 @@
+pub mod Excepted
+pub mod TypesBelow
+pub mod Found
+pub mod Linkable
+pub mod Registered
