@@ -2,4 +2,5 @@ pub mod Excepted
 pub mod TypesBelow
 pub mod Found
 pub mod Linkable
+pub mod Planned
 pub mod Registered

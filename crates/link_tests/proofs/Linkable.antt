@@ -5,14 +5,17 @@ use Rattle.std.proofs.lemmas.List.{length-map}
 use Rattle.wasm_spec.specs.TypeData.{Group}
 use Rattle.wasm_spec.specs.Module as plain
 use Rattle.rule_spec.specs.Lists.{lists_of_module}
+use Rattle.rule_spec.specs.Rules.{Keeps}
 use Rattle.type_spec.specs.Interned.{Built, interned}
 use Rattle.type_spec.specs.Taken.{NameEarlier}
 use Rattle.form_types.specs.Placed.{placed_groups}
 use Rattle.wasm_index.specs.declared.index.Index.{Index}
 use Rattle.wasm_index.specs.declared.spaces.StaticModuleSpace.{StaticModuleSpace}
 use Rattle.wasm_types.specs.declared.tunables.Tunables.{Tunables}
+use Rattle.wasm_module.specs.declared.module.Module.{Module}
 use Rattle.wasm_module.specs.Record.{record_of}
 use Rattle.module_types.specs.Builder.{BuilderState, builder_view}
+use Rattle.module_types.specs.TypeList.{TypeList}
 use Rattle.module_types.specs.Views.{interned_of}
 use Rattle.module_types.proofs.NamingEarlier.{keeps-earlier}
 use Rattle.init_plan.specs.declared.translation.ModuleTranslation.{ModuleTranslation}
@@ -36,6 +39,27 @@ have-types : (count : ℕ) (ds : List Definition) → All (λ (d : Definition). 
     → IfSome held (λ n. n ≡ count) → IfSome held (λ n. All (λ (d : Definition). All (IsTypeBelow n) (types_in d.1)) ds)
 have-types count ds all None same = tt
 have-types count ds all (Some n) same = subst (λ (k : ℕ). All (λ (d : Definition). All (IsTypeBelow k) (types_in d.1)) ds) (sym same) all
+
+-- a record that has the entities of a module that keeps the rules, whose types are among those of a list that may be registered
+module _ (m : plain.Module) (keeps : Keeps m) (r : Module) (has : HasEntitiesOf m r) (l : TypeList)
+    (below : All (IsTypeBelow (length l.types)) (types_of r)) where
+  pub linkable-of : Listed l → length l.types < 4294967295 → IsLinkable r l
+  linkable-of listed few = record {
+    listed = listed;
+    few = few;
+    exports = λ registry key from has_count. record {
+      resolved = exports-resolved m keeps r has;
+      types = have-types (length l.types) (exports_of (record_of r) from) (exported-types (IsTypeBelow (length l.types)) r below from)
+          (count_of (registry_of registry) (key_number key)) has_count;
+    };
+    imports = λ registry key has_count. record {
+      resolved = imports-resolved m keeps r has;
+      types = have-types (length l.types) (wants_of (record_of r)) (wanted-types (IsTypeBelow (length l.types)) r below)
+          (count_of (registry_of registry) (key_number key)) has_count;
+    };
+  }
+
+-- ---- a translation, and the list of its builder
 
 -- a list that a builder of the interned types holds may be registered
 abbrev pub BuiltMayBeListed : Type 0
@@ -78,17 +102,6 @@ module _ (may : BuiltMayBeListed) (tunables : Tunables) (module_index : Index St
       (startup-below m is.keeps (starts_always m) (length b.list.types) counted t.module.startup is.translation.startup)
 
   pub linkable : IsLinkable t.module b.list
-  linkable = record {
-    listed = may b (placed_groups m) (plain.tags m) (starts_always m) (keeps-earlier m is.keeps) is.types.built few;
-    few = few;
-    exports = λ registry key from has_count. record {
-      resolved = exports-resolved m is.keeps t.module has;
-      types = have-types (length b.list.types) (exports_of (record_of t.module) from)
-          (exported-types (IsTypeBelow (length b.list.types)) t.module below from) (count_of (registry_of registry) (key_number key)) has_count;
-    };
-    imports = λ registry key has_count. record {
-      resolved = imports-resolved m is.keeps t.module has;
-      types = have-types (length b.list.types) (wants_of (record_of t.module))
-          (wanted-types (IsTypeBelow (length b.list.types)) t.module below) (count_of (registry_of registry) (key_number key)) has_count;
-    };
-  }
+  linkable =
+      linkable-of m is.keeps t.module has b.list below
+      (may b (placed_groups m) (plain.tags m) (starts_always m) (keeps-earlier m is.keeps) is.types.built few) few

@@ -43,6 +43,9 @@ use Rattle.module_environ.specs.Translation.{startup_when}
 use Rattle.module_environ.proofs.Agreeing.{known-table, known-global, all-tables, all-globals}
 use Rattle.module_environ.proofs.DeclaredKinds.{function-below}
 use Rattle.module_environ.proofs.DeclaredLooks.{declared-long, declared-held}
+use Rattle.replay_spec.specs.Startup.{Startup, Never, Always, IfMemoriesNeedInit}
+use Rattle.init_plan.specs.Startup.{startup_with}
+use Rattle.translate.specs.Options.{runs}
 use Rattle.import_match.specs.Linking.{IsTypeBelow}
 use Rattle.import_match.specs.ModuleTypes.{types_of}
 use Rattle.link_tests.proofs.Excepted.{exception-below, taken-within}
@@ -202,6 +205,15 @@ module _ (m : plain.Module) (keeps : Keeps m) (startup : Bool) (count : ℕ) (co
         let last : P (type_index (length (interned_list m false).types)) =
         omega (arith, long, length-append (interned_list m false).types (startup_type ∷ [])) in
         alone (type_index (length (interned_list m false).types)) last
+
+  -- the same of a startup that planning raised, with the last type
+  pub raised-below : (k : Startup) → length (interned_list m (runs k)).types ≡ count
+      → All P (startup_edges (startup_of (startup_with k (type_index (length (interned_list m false).types)))))
+  raised-below Never long = All-nil P
+  raised-below Always long =
+      alone (type_index (length (interned_list m false).types)) (omega (arith, long, length-append (interned_list m false).types (startup_type ∷ [])))
+  raised-below IfMemoriesNeedInit long =
+      alone (type_index (length (interned_list m false).types)) (omega (arith, long, length-append (interned_list m false).types (startup_type ∷ [])))
 
   -- ---- all together
 

@@ -9,4 +9,4 @@ mod translated;
 #[cfg(test)]
 mod two_modules;
 
-pub use laws::translated_can_link;
+pub use laws::{planned_can_link, translated_can_link};
