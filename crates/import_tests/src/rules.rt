@@ -36,13 +36,6 @@ const GLOBAL: Global = Global {
     mutability: false,
 };
 
-fn engine_type(number: u32) -> EngineOrModuleTypeIndex
-    requires { number < u32.MAX }
-    ensures { IsSome (engine_index result) }
-{
-    EngineOrModuleTypeIndex::Engine(VMSharedTypeIndex::from_u32(number))
-}
-
 /// What matching answers is as expected.
 fn expect(rt: &impl Abort, have: EntityType, want: EntityType, expected: Option<Mismatch>)
     requires have { HasEngineTypes have }
@@ -51,221 +44,239 @@ fn expect(rt: &impl Abort, have: EntityType, want: EntityType, expected: Option<
     assert_eq!(rt; match_entity(&have, &want), expected);
 }
 
+// ---- sizes
+
 fn expect_sizes(
     rt: &impl Abort,
-    have: (u64, Option<u64>),
+    have: Limits,
+    want: Limits,
     memory: Option<Mismatch>,
     table: Option<Mismatch>,
 ) {
-    let limits = Limits {
-        min: have.0,
-        max: have.1,
+    let have_memory = Memory {
+        limits: have,
+        ..MEMORY
+    };
+    let want_memory = Memory {
+        limits: want,
+        ..MEMORY
     };
     expect(
         rt,
-        EntityType::Memory(Memory { limits, ..MEMORY }),
-        EntityType::Memory(MEMORY),
+        EntityType::Memory(have_memory),
+        EntityType::Memory(want_memory),
         memory,
     );
+    let have_table = Table {
+        limits: have,
+        ..TABLE
+    };
+    let want_table = Table {
+        limits: want,
+        ..TABLE
+    };
     expect(
         rt,
-        EntityType::Table(Table { limits, ..TABLE }),
-        EntityType::Table(TABLE),
+        EntityType::Table(have_table),
+        EntityType::Table(want_table),
         table,
     );
 }
 
 #[test]
 fn sizes_are_within_those_that_are_asked_for(rt: HostRuntime) {
-    // A least size that is equal, one more and one less.
-    expect_sizes(&rt, (2, Some(4)), None, None);
-    expect_sizes(&rt, (3, Some(4)), None, None);
-    expect_sizes(
-        &rt,
-        (1, Some(4)),
-        Some(Mismatch::MemoryMin),
-        Some(Mismatch::TableMin),
-    );
-    // A greatest size that is one less, one more and none.
-    expect_sizes(&rt, (2, Some(3)), None, None);
-    expect_sizes(
-        &rt,
-        (2, Some(5)),
-        Some(Mismatch::MemoryMax),
-        Some(Mismatch::TableMax),
-    );
-    expect_sizes(
-        &rt,
-        (2, None),
-        Some(Mismatch::MemoryMax),
-        Some(Mismatch::TableMax),
-    );
-    // Both fail: the first rule is told.
-    expect_sizes(
-        &rt,
-        (1, None),
-        Some(Mismatch::MemoryMin),
-        Some(Mismatch::TableMin),
-    );
+    let fits = (None, None);
+    let small = (Some(Mismatch::MemoryMin), Some(Mismatch::TableMin));
+    let large = (Some(Mismatch::MemoryMax), Some(Mismatch::TableMax));
+    for (min, max, want_max, (memory, table)) in [
+        // A least size of 2 is asked for: it is equal, one more, one less.
+        (2, Some(4), Some(4), fits),
+        (3, Some(4), Some(4), fits),
+        (1, Some(4), Some(4), small),
+        // A greatest size of 4 is asked for: it is one less, one more, none.
+        (2, Some(3), Some(4), fits),
+        (2, Some(5), Some(4), large),
+        (2, None, Some(4), large),
+        // None is asked for.
+        (2, Some(4), None, fits),
+        (2, Some(u64::MAX), None, fits),
+        (2, None, None, fits),
+        (1, None, None, small),
+        // The ends of the range.
+        (u64::MAX, Some(0), Some(0), fits),
+        (u64::MAX, Some(1), Some(0), large),
+        (0, Some(u64::MAX), Some(u64::MAX), small),
+        (2, None, Some(u64::MAX), large),
+    ] {
+        expect_sizes(
+            &rt,
+            Limits { min, max },
+            Limits {
+                min: 2,
+                max: want_max,
+            },
+            memory,
+            table,
+        );
+    }
 }
 
-#[test]
-fn any_size_is_within_none(rt: HostRuntime) {
-    let open = Limits { min: 2, max: None };
-    let memory = EntityType::Memory(Memory {
-        limits: open,
-        ..MEMORY
-    });
-    let table = EntityType::Table(Table {
-        limits: open,
-        ..TABLE
-    });
-    expect(&rt, memory, memory, None);
-    expect(&rt, EntityType::Memory(MEMORY), memory, None);
-    expect(&rt, table, table, None);
-    expect(&rt, EntityType::Table(TABLE), table, None);
+// ---- each set of rules that may be broken
+
+fn breaks(rules: u32, rule: u32) -> bool
+    requires { rule < 32 }
+{
+    rules >> rule & 1 == 1
 }
 
-#[test]
-fn memories_are_alike(rt: HostRuntime) {
-    let wide = Memory {
-        idx_type: IndexType::I64,
-        ..MEMORY
-    };
-    let shared = Memory {
-        shared: true,
-        ..MEMORY
-    };
-    let bytes = Memory {
-        page_size_log2: 0,
-        ..MEMORY
-    };
-    let want = EntityType::Memory(MEMORY);
-    expect(
-        &rt,
-        EntityType::Memory(wide),
-        want,
-        Some(Mismatch::MemoryIndexType),
-    );
-    expect(
-        &rt,
-        want,
-        EntityType::Memory(wide),
-        Some(Mismatch::MemoryIndexType),
-    );
-    expect(
-        &rt,
-        EntityType::Memory(shared),
-        want,
-        Some(Mismatch::MemoryShared),
-    );
-    expect(
-        &rt,
-        want,
-        EntityType::Memory(shared),
-        Some(Mismatch::MemoryShared),
-    );
-    expect(
-        &rt,
-        EntityType::Memory(bytes),
-        want,
-        Some(Mismatch::MemoryPage),
-    );
-    expect(
-        &rt,
-        EntityType::Memory(wide),
-        EntityType::Memory(wide),
-        None,
-    );
-    expect(
-        &rt,
-        EntityType::Memory(shared),
-        EntityType::Memory(shared),
-        None,
-    );
-    expect(
-        &rt,
-        EntityType::Memory(bytes),
-        EntityType::Memory(bytes),
-        None,
-    );
+fn sizes_breaking(min: bool, max: bool) -> Limits {
+    Limits {
+        min: if min { 1 } else { 2 },
+        max: if max { Some(5) } else { Some(4) },
+    }
 }
 
-#[test]
-fn tables_are_alike(rt: HostRuntime) {
-    let wide = Table {
-        idx_type: IndexType::I64,
-        ..TABLE
-    };
-    let others = Table {
-        ref_type: WasmRefType::EXTERNREF,
-        ..TABLE
-    };
-    let never_null = Table {
-        ref_type: WasmRefType {
-            nullable: false,
-            heap_type: WasmHeapType::Func,
+const MEMORY_RULES: [Mismatch; 5] = [
+    Mismatch::MemoryIndexType,
+    Mismatch::MemoryShared,
+    Mismatch::MemoryPage,
+    Mismatch::MemoryMin,
+    Mismatch::MemoryMax,
+];
+
+/// A memory that breaks some of these rules for `MEMORY`: each whose binary digit is 1.
+fn memory_breaking(rules: u32) -> EntityType
+    ensures { HasEngineTypes result }
+{
+    let is_wide = breaks(rules, 0);
+    let has_bytes = breaks(rules, 2);
+    EntityType::Memory(Memory {
+        idx_type: if is_wide {
+            IndexType::I64
+        } else {
+            IndexType::I32
         },
-        ..TABLE
+        shared: breaks(rules, 1),
+        page_size_log2: if has_bytes { 0 } else { 16 },
+        limits: sizes_breaking(breaks(rules, 3), breaks(rules, 4)),
+    })
+}
+
+const TABLE_RULES: [Mismatch; 4] = [
+    Mismatch::TableElement,
+    Mismatch::TableIndexType,
+    Mismatch::TableMin,
+    Mismatch::TableMax,
+];
+
+fn table_breaking(rules: u32) -> EntityType
+    ensures { HasEngineTypes result }
+{
+    let is_wide = breaks(rules, 1);
+    let idx_type = if is_wide {
+        IndexType::I64
+    } else {
+        IndexType::I32
     };
-    let want = EntityType::Table(TABLE);
-    expect(
-        &rt,
-        EntityType::Table(wide),
-        want,
-        Some(Mismatch::TableIndexType),
-    );
-    expect(
-        &rt,
-        EntityType::Table(others),
-        want,
-        Some(Mismatch::TableElement),
-    );
-    expect(
-        &rt,
-        EntityType::Table(never_null),
-        want,
-        Some(Mismatch::TableElement),
-    );
-    expect(&rt, EntityType::Table(wide), EntityType::Table(wide), None);
+    let limits = sizes_breaking(breaks(rules, 2), breaks(rules, 3));
+    if breaks(rules, 0) {
+        return EntityType::Table(Table {
+            idx_type,
+            limits,
+            ref_type: WasmRefType::EXTERNREF,
+        });
+    }
+    EntityType::Table(Table {
+        idx_type,
+        limits,
+        ref_type: WasmRefType::FUNCREF,
+    })
+}
+
+const GLOBAL_RULES: [Mismatch; 2] = [Mismatch::GlobalMutability, Mismatch::GlobalType];
+
+fn global_breaking(rules: u32) -> EntityType
+    ensures { HasEngineTypes result }
+{
+    let mutability = breaks(rules, 0);
+    if breaks(rules, 1) {
+        return EntityType::Global(Global {
+            mutability,
+            wasm_ty: WasmValType::I64,
+        });
+    }
+    EntityType::Global(Global {
+        mutability,
+        wasm_ty: WasmValType::I32,
+    })
+}
+
+/// The first of some rules that is broken.
+fn first_broken(rules: &[Mismatch], broken: u32) -> Option<Mismatch> {
+    rules.get(broken.trailing_zeros() as usize).copied()
 }
 
 #[test]
-fn globals_are_alike(rt: HostRuntime) {
-    let mutable = Global {
-        mutability: true,
-        ..GLOBAL
-    };
-    let wide = Global {
-        wasm_ty: WasmValType::I64,
-        ..GLOBAL
-    };
-    let want = EntityType::Global(GLOBAL);
-    expect(&rt, want, want, None);
-    expect(
-        &rt,
-        EntityType::Global(mutable),
-        want,
-        Some(Mismatch::GlobalMutability),
-    );
-    expect(
-        &rt,
-        want,
-        EntityType::Global(mutable),
-        Some(Mismatch::GlobalMutability),
-    );
-    expect(
-        &rt,
-        EntityType::Global(wide),
-        want,
-        Some(Mismatch::GlobalType),
-    );
-    expect(
-        &rt,
-        EntityType::Global(mutable),
-        EntityType::Global(wide),
-        Some(Mismatch::GlobalMutability),
-    );
+fn the_first_broken_rule_is_named(rt: HostRuntime) {
+    for broken in 0..32 {
+        let named = first_broken(&MEMORY_RULES, broken);
+        expect(
+            &rt,
+            memory_breaking(broken),
+            EntityType::Memory(MEMORY),
+            named,
+        );
+    }
+    for broken in 0..16 {
+        let named = first_broken(&TABLE_RULES, broken);
+        expect(&rt, table_breaking(broken), EntityType::Table(TABLE), named);
+    }
+    for broken in 0..4 {
+        let named = first_broken(&GLOBAL_RULES, broken);
+        expect(
+            &rt,
+            global_breaking(broken),
+            EntityType::Global(GLOBAL),
+            named,
+        );
+    }
+}
+
+// Of what is equal neither side may be more: the three rules of memories, the two of tables and of globals the other way.
+#[test]
+fn rules_of_equal_parts_have_no_sides(rt: HostRuntime) {
+    for broken in 0..8 {
+        let named = first_broken(&MEMORY_RULES, broken);
+        expect(
+            &rt,
+            EntityType::Memory(MEMORY),
+            memory_breaking(broken),
+            named,
+        );
+        expect(&rt, memory_breaking(broken), memory_breaking(broken), None);
+    }
+    for broken in 0..4 {
+        let named = first_broken(&TABLE_RULES, broken);
+        expect(&rt, EntityType::Table(TABLE), table_breaking(broken), named);
+        expect(&rt, table_breaking(broken), table_breaking(broken), None);
+        let named = first_broken(&GLOBAL_RULES, broken);
+        expect(
+            &rt,
+            EntityType::Global(GLOBAL),
+            global_breaking(broken),
+            named,
+        );
+        expect(&rt, global_breaking(broken), global_breaking(broken), None);
+    }
+}
+
+// ---- types that are named
+
+fn engine_type(number: u32) -> EngineOrModuleTypeIndex
+    requires { number < u32.MAX }
+    ensures { IsSome (engine_index result) }
+{
+    EngineOrModuleTypeIndex::Engine(VMSharedTypeIndex::from_u32(number))
 }
 
 #[test]
@@ -302,14 +313,59 @@ fn functions_and_tags_have_one_index(rt: HostRuntime) {
     expect(&rt, other, tag, Some(Mismatch::TagType));
 }
 
+fn reference(nullable: bool, number: u32) -> EntityType
+    requires { number < u32.MAX }
+    ensures { HasEngineTypes result }
+{
+    EntityType::Table(Table {
+        ref_type: WasmRefType {
+            nullable,
+            heap_type: WasmHeapType::ConcreteFunc(engine_type(number)),
+        },
+        ..TABLE
+    })
+}
+
+#[test]
+fn references_are_equal(rt: HostRuntime) {
+    let element = Some(Mismatch::TableElement);
+    expect(&rt, reference(true, 6), reference(true, 6), None);
+    expect(&rt, reference(true, 7), reference(true, 6), element);
+    expect(&rt, reference(false, 6), reference(true, 6), element);
+    // A subtype is another type.
+    expect(&rt, reference(true, 6), EntityType::Table(TABLE), element);
+}
+
+// ---- kinds
+
+fn entity_of_kind(kind: u32) -> EntityType
+    ensures { HasEngineTypes result }
+{
+    match kind {
+        0 => EntityType::Function(engine_type(6)),
+        1 => EntityType::Table(TABLE),
+        2 => EntityType::Memory(MEMORY),
+        3 => EntityType::Global(GLOBAL),
+        _ => {
+            let signature = engine_type(6);
+            EntityType::Tag(Tag {
+                signature,
+                exception: signature,
+            })
+        }
+    }
+}
+
 #[test]
 fn kinds_are_alike(rt: HostRuntime) {
-    let function = EntityType::Function(engine_type(6));
-    let memory = EntityType::Memory(MEMORY);
-    let table = EntityType::Table(TABLE);
-    let global = EntityType::Global(GLOBAL);
-    expect(&rt, function, memory, Some(Mismatch::Kind));
-    expect(&rt, memory, table, Some(Mismatch::Kind));
-    expect(&rt, table, memory, Some(Mismatch::Kind));
-    expect(&rt, global, function, Some(Mismatch::Kind));
+    for have in 0..5 {
+        for want in 0..5 {
+            let expected = if have == want {
+                None
+            } else {
+                Some(Mismatch::Kind)
+            };
+            expect(&rt, entity_of_kind(have), entity_of_kind(want), expected);
+        }
+    }
 }

@@ -1,0 +1,107 @@
+-- The translation and the types of a plan may be registered and linked.
+use Rattle.std.proofs.Common.{◌≡◌, ◌∙◌, ◌<◌, ℕ, Bool, List, length, All, sym, ap, subst}
+use Rattle.std.proofs.lemmas.List.{length-map}
+use Rattle.wasm_spec.specs.TypeData.{Group}
+use Rattle.wasm_spec.specs.Module as plain
+use Rattle.rule_spec.specs.Lists.{lists_of_module}
+use Rattle.replay_spec.specs.Startup.{Startup}
+use Rattle.type_spec.specs.Interned.{Built, interned}
+use Rattle.type_spec.specs.Taken.{NameEarlier}
+use Rattle.form_types.specs.Placed.{placed_groups}
+use Rattle.module_types.specs.Held.{built_of}
+use Rattle.module_types.specs.ListGroups.{IsWellNamed}
+use Rattle.module_types.specs.TypeList.{TypeList}
+use Rattle.module_types.specs.Views.{interned_of}
+use Rattle.module_types.proofs.NamingEarlier.{keeps-earlier}
+use Rattle.init_plan.specs.declared.translation.ModuleTranslation.{ModuleTranslation}
+use Rattle.init_plan.specs.Tables.{plan_of_tables}
+use Rattle.init_plan.specs.Views.{memory_plan_of}
+use Rattle.module_environ.specs.Escapes.{escaping}
+use Rattle.module_environ.specs.Types.{interned_list}
+use Rattle.plan.specs.declared.plan.Plan.{Plan}
+use Rattle.translate.specs.Initialised.{IsInitialised}
+use Rattle.translate.specs.Options.{Options, startup_by, runs}
+use Rattle.translate.specs.Planned.{IsPlanned, nothing_met}
+use Rattle.type_registry.specs.Listed.{Listed, list_of}
+use Rattle.wasm_types.specs.declared.index.EngineOrModuleTypeIndex.{EngineOrModuleTypeIndex}
+use Rattle.import_match.specs.Linking.{IsTypeBelow}
+use Rattle.import_match.specs.ModuleTypes.{types_of}
+use Rattle.link_tests.specs.Linkable.{IsLinkable}
+use Rattle.link_tests.proofs.TypesBelow.{raised-below, all-below}
+use Rattle.link_tests.proofs.Found.{HasEntitiesOf}
+use Rattle.link_tests.proofs.Linkable.{linkable-of}
+use Rattle.wasm_module.specs.declared.startup.ModuleStartup.{ModuleStartup}
+use Rattle.wasm_module.specs.ModuleData.{startup_of}
+use Rattle.wasm_module.specs.ModuleShapes.{startup_edges}
+
+-- a list whose groups are well named may be registered, and those of an interned list are
+abbrev pub MayBeListed : Type 0
+MayBeListed = (l : TypeList) → IsWellNamed (list_of l) → length l.types < 4294967295 → Listed l
+
+abbrev pub AreWellNamed : Type 0
+AreWellNamed = (ms : List (Group ℕ ℕ)) → NameEarlier 0 ms → (tags : List ℕ) (startup : Bool) → IsWellNamed (interned ms tags startup)
+
+module _ (may : MayBeListed) (well : AreWellNamed) (o : Options) (bytes : List ℕ) (plan : Plan) (is : IsPlanned o bytes plan)
+    (few : length plan.types.types < 4294967295) where
+  abbrev m : plain.Module
+  m = is.meaning
+
+  abbrev init : IsInitialised o.init bytes m plan.translation
+  init = is.planned.translation
+
+  abbrev kind : Startup
+  kind = startup_by m (memory_plan_of plan.translation) (plan_of_tables plan.translation)
+
+  abbrev held : Built
+  held = built_of plan.types nothing_met
+
+  abbrev list : Built
+  list = interned_list m (runs kind)
+
+  counted : length (interned_list m (runs kind)).types ≡ length plan.types.types
+  counted = ap length (sym is.planned.types.types) ∙ length-map plan.types.types interned_of
+
+  -- beside where mapped types were met the list is the interned one
+  well-named : IsWellNamed held
+  well-named =
+      let w = well (placed_groups m) (keeps-earlier m is.keeps) (plain.tags m) (runs kind) in
+      let without : Built = record list { known_trampolines = held.known_trampolines } in
+      let named : IsWellNamed without = record { orderly = w.orderly; earlier = w.earlier; kinds = w.kinds } in
+      let same : without ≡ held = λ i. record {
+        types = sym is.planned.types.types i;
+        groups = sym is.planned.types.groups i;
+        trampolines = sym is.planned.types.trampolines i;
+        known_trampolines = held.known_trampolines;
+      } in
+      subst (λ (b : Built). IsWellNamed b) same named
+
+  -- planning leaves the entities
+  has : HasEntitiesOf m plan.translation.module
+  has =
+      let translated = init.rest.translation in
+      let entities = translated.sections.entities in
+      subst (λ (t : ModuleTranslation). HasEntitiesOf m t.module) (sym init.rest.same) (record {
+        types = record {
+          types = translated.types.declared;
+          order = escaping o.init.tunables.debug_guest (lists_of_module m);
+          functions = translated.sections.escapes.functions;
+          tables = entities.tables;
+          globals = entities.globals;
+          tags = translated.types.tags;
+        };
+        memories = entities.memories;
+        imports = entities.imports;
+        exports = entities.exports;
+        import_names = entities.pooled.imports;
+        export_names = entities.pooled.exports;
+      })
+
+  below : All (IsTypeBelow (length plan.types.types)) (types_of plan.translation.module)
+  below =
+      let P : EngineOrModuleTypeIndex → Type 0 = λ e. IsTypeBelow (length plan.types.types) e in
+      all-below m is.keeps (runs kind) (length plan.types.types) counted plan.translation.module has.types
+      (subst (λ (s : ModuleStartup). All P (startup_edges (startup_of s))) (sym init.startup)
+      (raised-below m is.keeps (runs kind) (length plan.types.types) counted kind counted))
+
+  pub planned-linkable : IsLinkable plan.translation.module plan.types
+  planned-linkable = linkable-of m is.keeps plan.translation.module has plan.types below (may plan.types well-named few) few
