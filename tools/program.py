@@ -76,12 +76,17 @@ def compile_crate(crate, room):
     take_code(crate, room, code)
     made = room / crate.name
     compile_code(["-x", "ir", code], made.with_suffix(".o"))
+    link(made)
+    return made
+
+
+def link(made):
+    """Links a program of its object file, which stands beside it."""
     libraries = [kit() / "c" / name for name in ("libos_c.a", "liblibc_c.a")]
     run_quietly(
         [kit() / "bin" / "rattle-link", "--target", TARGET, "--toolchain", kit() / "toolchain", "-o", made, made.with_suffix(".o"), *libraries]
     )
     made.chmod(0o755)
-    return made
 
 
 def take_code(crate, room, to):

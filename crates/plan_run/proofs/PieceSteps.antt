@@ -17,10 +17,10 @@ use Rattle.plan_run.proofs.Writing.{IsWriting, next-written, next-traps}
 
 -- ---- what is left of a list
 
-pub drop-mapped : {A B : Type 0} (f : A → B) (xs : List A) (i : ℕ) (d : A) → i < length xs → map f (drop i xs) ≡ f (get_or xs i d) ∷ map f (drop (i + 1) xs)
+drop-mapped : {A B : Type 0} (f : A → B) (xs : List A) (i : ℕ) (d : A) → i < length xs → map f (drop i xs) ≡ f (get_or xs i d) ∷ map f (drop (i + 1) xs)
 drop-mapped f xs i d l = ap (map f) (drop_more xs i d l)
 
-pub left-count : {A B : Type 0} (f : A → B) (xs : List A) (i : ℕ) → i < length xs → length xs - i ≡ suc (length (map f (drop (i + 1) xs)))
+left-count : {A B : Type 0} (f : A → B) (xs : List A) (i : ℕ) → i < length xs → length xs - i ≡ suc (length (map f (drop (i + 1) xs)))
 left-count f xs i l = omega (arith, length-map (drop (i + 1) xs) f, length-drop (i + 1) xs)
 
 -- ---- a piece is written to one of some objects, or not
@@ -49,16 +49,28 @@ module _ {A : Type 0} (phase : Phase A) (p : Piece A) (rest : List (Piece A)) (o
   unfolding object
   found = slice_get-get_or old p.object [] l
 
-  pub writing-on : WritesPiece p old new true → IsWriting phase rest new
+  writing-on : WritesPiece p old new true → IsWriting phase rest new
   writing-on writes =
       let done = writes object found in
       subst (λ objects. IsWriting phase rest objects) (sym done.1) (next-written phase old p rest w object found done.0)
 
-  pub writing-traps : (n m : ℕ) → length old ≡ n → m ≡ suc (length rest) → WritesPiece p old new false → Lays phase n new (Some m)
+  writing-traps : (n m : ℕ) → length old ≡ n → m ≡ suc (length rest) → WritesPiece p old new false → Lays phase n new (Some m)
   writing-traps n m many is writes =
       let done = writes object found in
       subst (λ k. Lays phase n new (Some k)) (sym is) (subst (λ objects. Lays phase n objects (Some (suc (length rest)))) (sym done.1)
       (subst (λ k. Lays phase k old (Some (suc (length rest)))) many (next-traps phase old p rest w object found done.0)))
+
+-- of some pieces the next one is written, and those behind it are left; or it does not fit, and the trap is how many are left
+module _ {A X : Type 0} (phase : Phase A) (f : X → Piece A) (xs : List X) (i : ℕ) (d p : X) (l : i < length xs) (is : get_or xs i d ≡ p)
+    (old new : List (List A)) (w : IsWriting phase (map f (drop i xs)) old) (within : (f p).object < length old) where
+  writing : IsWriting phase (f p ∷ map f (drop (i + 1) xs)) old
+  writing = subst (λ ps. IsWriting phase ps old) (drop-mapped f xs i d l ∙ ap (λ x. f x ∷ map f (drop (i + 1) xs)) is) w
+
+  pub item-written : WritesPiece (f p) old new true → IsWriting phase (map f (drop (i + 1) xs)) new
+  item-written = writing-on phase (f p) (map f (drop (i + 1) xs)) old new writing within
+
+  pub item-traps : (n : ℕ) → length old ≡ n → WritesPiece (f p) old new false → Lays phase n new (Some (length xs - i))
+  item-traps n many = writing-traps phase (f p) (map f (drop (i + 1) xs)) old new writing within n (length xs - i) many (left-count f xs i l)
 
 -- ---- lent pages become no more
 

@@ -12,21 +12,21 @@ use Rattle.plan_run.specs.declared.value.Value.{Value}
 use Rattle.plan_run.specs.declared.value.Value.TheVariants as value
 use Rattle.plan_run.specs.declared.value.Node.{Node}
 use Rattle.wasm_convert.specs.Operators.{operator_of}
-use Rattle.plan_run.specs.Values.{value_in, values_in, imported_value, kept_term, term_of, terms_behind, terms_of, NamesBelow, IsPlain, IsNodeAt, AreOrdered}
+use Rattle.plan_run.specs.Values.{value_in, values_in, imported_value, kept_term, term_of, terms_after, terms_of, NamesBelow, IsPlain, IsNodeAt, AreOrdered}
 use Rattle.plan_run.specs.Nodes.{Extends, Grows, Means, AllMean}
 use Rattle.plan_run.proofs.Lists.{get-append-low, get-append-high}
 
 -- ---- terms
 
-terms-append : (terms : List Term) (ns ms : List Node) → terms_behind terms (ns ++ ms) ≡ terms_behind (terms_behind terms ns) ms
+terms-append : (terms : List Term) (ns ms : List Node) → terms_after terms (ns ++ ms) ≡ terms_after (terms_after terms ns) ms
 terms-append terms [] ms = refl
 terms-append terms (n ∷ ns) ms = terms-append (terms ++ term_of terms n ∷ []) ns ms
 
-length-terms : (terms : List Term) (ns : List Node) → length (terms_behind terms ns) ≡ length terms + length ns
+length-terms : (terms : List Term) (ns : List Node) → length (terms_after terms ns) ≡ length terms + length ns
 length-terms terms [] = omega arith
 length-terms terms (n ∷ ns) = omega (arith, length-terms (terms ++ term_of terms n ∷ []) ns, length_push terms (term_of terms n))
 
-terms-low : (terms : List Term) (ns : List Node) (k : ℕ) → k < length terms → slice_get (terms_behind terms ns) k ≡ slice_get terms k
+terms-low : (terms : List Term) (ns : List Node) (k : ℕ) → k < length terms → slice_get (terms_after terms ns) k ≡ slice_get terms k
 terms-low terms [] k l = refl
 terms-low terms (n ∷ ns) k l =
     terms-low (terms ++ term_of terms n ∷ []) ns k (omega (arith, length_push terms (term_of terms n))) ∙ get-append-low terms (term_of terms n ∷ []) k l
@@ -73,11 +73,11 @@ abbrev kept : Node → List plain.Value → Term
 kept n vs = kept_term (operator_of n.op) vs
 
 term-from : (terms : List Term) (ns : List Node) (k : ℕ) (n : Node) → slice_get ns k ≡ Some n → All (NamesBelow (length terms + k)) n.args.items
-    → slice_get (terms_behind terms ns) (length terms + k) ≡ Some (term_of (terms_behind terms ns) n)
+    → slice_get (terms_after terms ns) (length terms + k) ≡ Some (term_of (terms_after terms ns) n)
 term-from terms [] k n at below = absurd (none-some n at)
 term-from terms (m ∷ ms) zero n at below =
     let t : Term = term_of terms m in
-    let all : List Term = terms_behind (terms ++ t ∷ []) ms in
+    let all : List Term = terms_after (terms ++ t ∷ []) ms in
     let long = length_push terms t in
     let same : m ≡ n = same_Some m n at in
     let here : slice_get (terms ++ t ∷ []) (length terms + 0) ≡ Some t = get-append-high terms (t ∷ []) 0 in
@@ -89,7 +89,7 @@ term-from terms (m ∷ ms) (suc k) n at below =
     let t : Term = term_of terms m in
     let long = length_push terms t in
     let there : length (terms ++ t ∷ []) + k ≡ length terms + suc k = omega arith in
-    ap (slice_get (terms_behind (terms ++ t ∷ []) ms)) (sym there)
+    ap (slice_get (terms_after (terms ++ t ∷ []) ms)) (sym there)
     ∙ term-from (terms ++ t ∷ []) ms k n at (subst (λ j. All (NamesBelow j) n.args.items) (sym there) below)
 
 pub node-term : (nodes : List Node) (k : ℕ) (n : Node) → AreOrdered nodes → slice_get nodes k ≡ Some n → slice_get (terms_of nodes) k ≡ Some (term_of (terms_of nodes) n)

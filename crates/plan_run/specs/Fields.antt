@@ -4,7 +4,7 @@ use Rattle.wasm_index.specs.Index.{number_of}
 use Rattle.wasm_types.specs.declared.index.EngineOrModuleTypeIndex.{EngineOrModuleTypeIndex}
 use Rattle.wasm_types.specs.declared.index.EngineOrModuleTypeIndex.TheVariants as name
 use Rattle.wasm_types.specs.declared.sub.WasmSubType.{WasmSubType}
-use Rattle.wasm_types.specs.Views.{unshared, struct_in}
+use Rattle.wasm_types.specs.Views.{struct_in}
 use Rattle.module_types.specs.TypeList.{TypeList}
 use Rattle.init_plan.specs.declared.translation.ModuleTranslation.{ModuleTranslation}
 
@@ -23,4 +23,4 @@ length_or_zero (Some fields) = length fields
 
 -- how many fields the struct type of an index has, and 0 where there is none
 abbrev pub field_count_in : ModuleTranslation → TypeList → ℕ → ℕ
-field_count_in t types index = length_or_zero (option_and_then (unshared struct_in) (type_at t types index))
+field_count_in t types index = length_or_zero (option_and_then (λ (ty : WasmSubType). struct_in ty.composite_type.inner) (type_at t types index))

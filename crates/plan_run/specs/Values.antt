@@ -42,13 +42,13 @@ kept_term operator arguments = plain.Allocated operator (arguments_of arguments)
 abbrev pub term_of : List Term → Node → Term
 term_of terms n = kept_term (operator_of n.op) (values_in terms n.args.items)
 
-abbrev pub terms_behind : List Term → List Node → List Term
-terms_behind terms [] = terms
-terms_behind terms (n ∷ ns) = terms_behind (terms ++ term_of terms n ∷ []) ns
+abbrev pub terms_after : List Term → List Node → List Term
+terms_after terms [] = terms
+terms_after terms (n ∷ ns) = terms_after (terms ++ term_of terms n ∷ []) ns
 
 -- the terms of nodes
 abbrev pub terms_of : List Node → List Term
-terms_of nodes = terms_behind [] nodes
+terms_of nodes = terms_after [] nodes
 
 -- a value names only a node below a number
 abbrev pub NamesBelow : ℕ → Value → Type 0

@@ -12,7 +12,7 @@ use init_plan::ModuleTranslation;
 use module_types::ModuleTypes;
 use wasm_convert::ConstOp;
 use wasm_index::TypeIndex;
-use wasm_types::EngineOrModuleTypeIndex;
+use wasm_types::{EngineOrModuleTypeIndex, WasmCompositeInnerType};
 
 /// What an operator does with nodes.
 #[derive(Clone, Copy)]
@@ -75,9 +75,9 @@ fn field_count(translation: &ModuleTranslation<'_>, types: &ModuleTypes, index: 
     let Some(ty) = types.get(*interned) else {
         return 0;
     };
-    match ty.as_struct() {
-        Some(fields) => fields.fields.len(),
-        None => 0,
+    match &ty.composite_type.inner {
+        WasmCompositeInnerType::Struct(fields) => fields.fields.len(),
+        _ => 0,
     }
 }
 

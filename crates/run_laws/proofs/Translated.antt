@@ -1,0 +1,72 @@
+-- A translation whose memories and then tables are planned can be laid.
+use Rattle.std.proofs.Common.{◌≡◌, ℕ, ◌<◌, ◌≤◌, ◌⊎◌, Bool, List, length, map, sym, ◌∙◌, ap, subst, arith}
+use Rattle.std.specs.Prelude.{All, None, Some}
+use Rattle.std.specs.Int.{IsPowerOfTwo}
+use Rattle.std.proofs.lemmas.List.{length-map, length-append}
+use Rattle.wasm_spec.specs.Module.{Module, GlobalDef, imported_of, global_import, globals}
+use Rattle.rule_spec.specs.Lists.{lists_of_module}
+use Rattle.wasm_index.specs.declared.index.Index.{Index}
+use Rattle.wasm_index.specs.declared.spaces.StaticModuleSpace.{StaticModuleSpace}
+use Rattle.wasm_types.specs.declared.tunables.Tunables.{Tunables}
+use Rattle.wasm_types.specs.EntityViews.{global_of}
+use Rattle.replay_spec.specs.Globals.{IsGlobalPlan}
+use Rattle.replay_spec.specs.Images.{ImageOptions, IsMemoryPlan}
+use Rattle.replay_spec.specs.Tables.{IsTablePlan}
+use Rattle.module_types.specs.Builder.{BuilderState}
+use Rattle.init_plan.specs.declared.translation.ModuleTranslation.{ModuleTranslation}
+use Rattle.init_plan.specs.Views.{memory_plan_of, initializers_of, passive_bytes, IsSegmented, IsProcessed}
+use Rattle.init_plan.specs.Images.{image_memories}
+use Rattle.init_plan.specs.Held.{plan_of_globals, erase_null_type, initialisers}
+use Rattle.init_plan.specs.Tables.{tables_of, elements_of, plan_of_tables}
+use Rattle.module_environ.specs.Translation.{HasEntities, CountsImports}
+use Rattle.module_environ.specs.Translated.{IsTranslated}
+use Rattle.plan_run.specs.Finished.{Finished}
+use Rattle.run_laws.specs.Planned.{MemoriesArePlanned, TablesArePlanned}
+use Rattle.run_laws.proofs.Changed.{with_memories, with_tables, both-planned}
+use Rattle.run_laws.proofs.Finishing.{IsPlannedSo, finished}
+
+-- imported globals are among the globals
+pub globals-among : (m : Module) (t : ModuleTranslation) → HasEntities m t → CountsImports m t → t.module.num_imported_globals ≤ length t.module.globals
+globals-among m t entities counts =
+    let all = sym (length-map t.module.globals global_of) ∙ ap length entities.globals ∙ length-map (globals m) _
+    ∙ length-append (imported_of global_import m) (map (λ (g : GlobalDef). g.type) (lists_of_module m).globals) in
+    omega (arith, all, counts.globals)
+
+module _ (tunables : Tunables) (index : Index StaticModuleSpace) (validator : ℕ) (bytes : List ℕ) (types : BuilderState) (options : ImageOptions) (lazy : Bool)
+    (old mid new : ModuleTranslation) (told : IsTranslated tunables index validator bytes old types) (page : IsPowerOfTwo options.page)
+    (memories : MemoriesArePlanned options old mid) (tables : TablesArePlanned lazy mid new) where
+  same : new ≡ with_tables new (with_memories mid old)
+  same = both-planned old mid new memories.same tables.same
+
+  planned-so : IsPlannedSo options lazy (map erase_null_type (initialisers (lists_of_module told.meaning))) (initializers_of old) (passive_bytes old)
+      (tables_of mid) (elements_of mid) new
+  planned-so = record {
+    page = page;
+    imported_globals = subst (λ (t : ModuleTranslation). t.module.num_imported_globals ≤ length t.module.globals) (sym same)
+        (globals-among told.meaning old told.translation.sections.entities told.translation.sections.counts);
+    global_plan = subst (λ (t : ModuleTranslation). IsGlobalPlan (map erase_null_type (initialisers (lists_of_module told.meaning))) (plan_of_globals t)) (sym same)
+        told.ready.holds_globals;
+    imported_memories = subst (λ (t : ModuleTranslation). t.module.num_imported_memories ≤ length t.module.memories) (sym same) told.ready.memories.imports;
+    page_sizes = subst (λ (t : ModuleTranslation). All (λ memory. (memory.page_size_log2 ≡ 0) ⊎ (memory.page_size_log2 ≡ 16)) t.module.memories) (sym same)
+        told.ready.memories.page_sizes;
+    active_low = subst (λ (t : ModuleTranslation). All (λ s. s.memory < length t.module.memories) (initializers_of old)) (sym same) told.ready.memories.in_range;
+    memory_plan = subst (λ (t : ModuleTranslation). IsMemoryPlan options t.module.num_imported_memories (image_memories t.module) (initializers_of old)
+        (passive_bytes old) (memory_plan_of t)) (sym tables.same)
+        (subst (λ (t : ModuleTranslation). IsMemoryPlan options t.module.num_imported_memories (image_memories t.module) (initializers_of old)
+        (passive_bytes old) (memory_plan_of mid)) (sym memories.same) memories.planned);
+    processed = subst (λ (t : ModuleTranslation). IsProcessed t.memory_init) (sym tables.same) memories.processed;
+    segmented = subst (λ (t : ModuleTranslation). IsSegmented t.module.memory_initialization → t.data_align ≡ None) (sym tables.same)
+        (λ is. (memories.begins.segmented is).1);
+    imaged = subst (λ (t : ModuleTranslation). (IsSegmented t.module.memory_initialization → ⊥) → t.data_align ≡ Some options.page) (sym tables.same)
+        (λ is. (memories.begins.images is).1);
+    imported_tables = subst (λ (t : ModuleTranslation). t.module.num_imported_tables ≤ length t.module.tables) (sym same) told.ready.tables.imports;
+    elements_low = subst (λ (t : ModuleTranslation). All (λ s. s.table < length t.module.tables) (elements_of mid)) (sym tables.same)
+        (subst (λ (t : ModuleTranslation). All (λ s. s.table < length t.module.tables) (elements_of t)) (sym memories.same) told.ready.tables.in_range);
+    table_plan = subst (λ (t : ModuleTranslation). IsTablePlan lazy t.module.num_imported_tables (tables_of mid) (elements_of mid) (plan_of_tables new)) (sym tables.same)
+        tables.planned;
+    counted = tables.counts;
+  }
+
+  pub translated-finished : Finished new
+  translated-finished = finished options lazy (map erase_null_type (initialisers (lists_of_module told.meaning))) (initializers_of old) (passive_bytes old)
+      (tables_of mid) (elements_of mid) new planned-so

@@ -1,0 +1,28 @@
+-- What the calls that plan a translation promise, as far as it is to be laid. The fields are clauses of these calls.
+use Rattle.std.specs.Prelude.{◌≡◌, Bool, length}
+use Rattle.replay_spec.specs.Images.{ImageOptions, IsMemoryPlan}
+use Rattle.replay_spec.specs.Tables.{IsTablePlan}
+use Rattle.init_plan.specs.declared.translation.ModuleTranslation.{ModuleTranslation}
+use Rattle.init_plan.specs.Views.{memory_plan_of, initializers_of, passive_bytes, IsProcessed, OnlyMemoryInitChanges}
+use Rattle.init_plan.specs.Images.{image_memories, BeginsByRule}
+use Rattle.plan_run.specs.declared.laid.Imports.{Imports}
+use Rattle.init_plan.specs.Tables.{tables_of, elements_of, plan_of_tables, AreCounted, OnlyTableInitChanges}
+
+-- the memories are planned, as `finalize_memory_init` does it
+pub record MemoriesArePlanned (options : ImageOptions) (old new : ModuleTranslation) : Type 0 where
+  pub planned : IsMemoryPlan options old.module.num_imported_memories (image_memories old.module) (initializers_of old) (passive_bytes old) (memory_plan_of new)
+  pub begins : BeginsByRule options old new
+  pub processed : IsProcessed new.memory_init
+  pub same : OnlyMemoryInitChanges old new
+
+-- the tables are planned, as `finalize_table_init` does it
+pub record TablesArePlanned (lazy : Bool) (old new : ModuleTranslation) : Type 0 where
+  pub planned : IsTablePlan lazy old.module.num_imported_tables (tables_of old) (elements_of old) (plan_of_tables new)
+  pub counts : AreCounted new
+  pub same : OnlyTableInitChanges old new
+
+-- so many imports as the translation has
+pub record AreImportsOf (t : ModuleTranslation) (imports : Imports) : Type 0 where
+  pub globals : length imports.globals.items ≡ t.module.num_imported_globals
+  pub memories : length imports.memories.items ≡ t.module.num_imported_memories
+  pub tables : length imports.tables.items ≡ t.module.num_imported_tables
