@@ -3,16 +3,11 @@ use Rattle.std.proofs.Common.{◌≡◌, ◌<◌, ℕ, zero, suc, Bool, true, fa
 use Rattle.std.specs.Prelude.{if◌then◌else◌}
 use Rattle.std.proofs.lemmas.List.{length-append}
 use Rattle.std.proofs.lemmas.Bool.{eqb-true, eq-eqb}
-use Rattle.std.specs.Option.{option_map}
 use Rattle.type_spec.specs.Interned.{Interned, Span, with_group, opened, next_span}
 use Rattle.form_types.specs.Types.{TypesData, types_by_id}
 use Rattle.module_types.specs.Builder.{Builder, interns_by, interns}
 use Rattle.module_types.specs.Conversion.{group_of_id, members_of, no_span, StandsInterned, HasIndex, HoldsGroups}
 use Rattle.module_types.proofs.Extends.{Extends, extends-group}
-
-pub none-of : {A B : Type 0} (f : A → B) (o : Option A) → option_map f o ≡ None → o ≡ None
-none-of f None e = refl
-none-of f (Some x) e = absurd cc
 
 before : (xs ys : List Span) (j : ℕ) → j < length xs → get_or (xs ++ ys) j no_span ≡ get_or xs j no_span
 before [] ys j h = absurd (omega arith)

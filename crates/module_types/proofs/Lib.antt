@@ -1,5 +1,6 @@
 pub mod Keys
 pub mod Steps
+pub mod Noting
 pub mod Ordering
 pub mod GroupMembers
 pub mod Exceptions

@@ -5,23 +5,22 @@ use Rattle.std.specs.Map.{lookup}
 use Rattle.wasm_spec.specs.TypeData.{Composite, Func}
 use Rattle.type_data.specs.Names.{Named}
 use Rattle.type_spec.specs.Interned.{Interned, Built, empty, with_group, with_exception, with_startup}
-use Rattle.wasm_index.specs.declared.index.Index.{Index}
-use Rattle.wasm_index.specs.declared.spaces.ModuleInternedRecGroupSpace.{ModuleInternedRecGroupSpace}
 use Rattle.wasm_index.specs.Index.{number_of}
 use Rattle.wasm_types.specs.declared.func.WasmFuncType.{WasmFuncType}
 use Rattle.wasm_types.specs.contracts.equal.WasmFuncTypePartialEq.TheImpl as func
 use Rattle.module_types.specs.Views.{TypeIndex}
 use Rattle.module_types.specs.TypeList.{TypeList}
 use Rattle.module_types.specs.Held.{built_of}
+use Rattle.module_types.specs.Noted.{noted_at}
 
--- what a builder keeps: the validator's number, its list, and the entries of its maps, in some order: mapped types, ids of groups, and
--- function types of tags
+-- what a builder keeps: the validator's number, its list, and the entries of its map of mapped types, in some order; and two lists: at the
+-- place of an id the group that was interned under it, and at the place of a function type its exception type
 pub record BuilderState : Type 0 where
   pub validator : ℕ
   pub list : TypeList
   pub trampolines : List (WasmFuncType × TypeIndex)
-  pub ids : List (ℕ × Index ModuleInternedRecGroupSpace)
-  pub exceptions : List (ℕ × TypeIndex)
+  pub ids : List (Option ℕ)
+  pub exceptions : List (Option ℕ)
   pub startup : Option TypeIndex
   pub is_poisoned : Bool
 
@@ -40,8 +39,8 @@ abbrev pub builder_view : BuilderState → Builder
 builder_view k = record {
   validator = k.validator;
   built = built_of k.list (λ f. lookup (func.ghosts.eq f) k.trampolines);
-  ids = λ n. option_map number_of (lookup (nat_eq n) k.ids);
-  exceptions = λ n. option_map number_of (lookup (nat_eq n) k.exceptions);
+  ids = noted_at k.ids;
+  exceptions = noted_at k.exceptions;
   startup = option_map number_of k.startup;
   is_poisoned = k.is_poisoned;
 }

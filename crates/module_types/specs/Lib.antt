@@ -2,6 +2,7 @@ pub mod Views
 pub mod TypeList
 pub mod Held
 pub mod Orderly
+pub mod Noted
 pub mod Interner
 pub mod Builder
 pub mod Conversion

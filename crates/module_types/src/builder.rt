@@ -11,13 +11,16 @@ use crate::error::BuildError;
 use crate::interner::Interner;
 use crate::iterators::{RecGroupElements, TrampolineTypes};
 use crate::list::{ModuleTypes, WasmTypesIter};
+use crate::noted::NotedIndices;
 use entity_map::EntityRef;
 use form_types::{Validator, ValidatorId};
 use std::alloc::Global;
-use std::collections::HashMap;
 use std::marker::Model;
 use std::ops::Index;
-use wasm_index::{ModuleInternedRecGroupIndex, ModuleInternedTypeIndex};
+use wasm_index::{
+    ModuleInternedRecGroupIndex, ModuleInternedRecGroupSpace, ModuleInternedTypeIndex,
+    ModuleInternedTypeSpace,
+};
 use wasm_types::WasmSubType;
 
 /// Interned groups, each once, with what was asked for beside them.
@@ -28,13 +31,15 @@ pub struct ModuleTypesBuilder {
     pub(crate) alloc: Global,
     validator: ValidatorId,
     pub(crate) interner: Interner,
-    pub(crate) ids: HashMap<u32, ModuleInternedRecGroupIndex>,
-    exceptions: HashMap<u32, ModuleInternedTypeIndex>,
+    /// The group that was interned under each id of a group.
+    pub(crate) ids: NotedIndices<ModuleInternedRecGroupSpace>,
+    /// The exception type of each function type that has one.
+    exceptions: NotedIndices<ModuleInternedTypeSpace>,
     startup: Option<ModuleInternedTypeIndex>,
     pub(crate) poisoned: bool,
 }
 
-/// A contract sees the list, and the entries of the maps; `builder_view` is what they say.
+/// A contract sees the list, the entries of the map of mapped types, and what is noted; `builder_view` is what they say.
 impl Model for ModuleTypesBuilder {
     ghost use Rattle.std.specs.Prelude.{◌≡◌, false};
     ghost use Rattle.module_types.specs.Orderly.{IsOrderly};
@@ -47,8 +52,8 @@ impl Model for ModuleTypesBuilder {
       validator = b.validator.0;
       list = b.interner.list;
       trampolines = b.interner.trampolines.entries;
-      ids = b.ids.entries;
-      exceptions = b.exceptions.entries;
+      ids = b.ids;
+      exceptions = b.exceptions;
       startup = b.startup;
       is_poisoned = b.poisoned;
     } };
@@ -69,8 +74,8 @@ impl ModuleTypesBuilder {
             alloc,
             validator,
             interner: Interner::new(alloc),
-            ids: HashMap::new(alloc),
-            exceptions: HashMap::new(alloc),
+            ids: NotedIndices::new(alloc),
+            exceptions: NotedIndices::new(alloc),
             startup: None,
             poisoned: false,
         }
@@ -112,7 +117,7 @@ impl ModuleTypesBuilder {
             return Err(BuildError::Poisoned);
         }
         let key = for_func_ty.as_u32();
-        if let Some(found) = self.exceptions.get(&key).copied() {
+        if let Some(found) = self.exceptions.get(key) {
             return Ok(found);
         }
         self.poisoned = true;
@@ -124,7 +129,7 @@ impl ModuleTypesBuilder {
         {
             return Err(BuildError::OutOfMemory);
         }
-        if self.exceptions.insert(key, next).is_err() {
+        if self.exceptions.note(key, next).is_err() {
             return Err(BuildError::OutOfMemory);
         }
         self.poisoned = false;

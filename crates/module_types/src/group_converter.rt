@@ -1,8 +1,6 @@
 //! Groups that name types by ids, as groups of interned types.
 
-ghost use Rattle.std.specs.Prelude.{◌≡◌, ◌<◌, ℕ, nat_eq, IfOk, map, length, All, Option};
-ghost use Rattle.std.specs.Option.{option_map};
-ghost use Rattle.std.specs.HashMap.{get};
+ghost use Rattle.std.specs.Prelude.{◌≡◌, ◌<◌, IfOk, map, length, All};
 ghost use Rattle.wasm_spec.specs.TypeData.{Concrete, group_edges, map_sub_type};
 ghost use Rattle.type_spec.specs.Interned.{kind_of_type};
 ghost use Rattle.form_data.specs.Views as form;
@@ -12,16 +10,17 @@ ghost use Rattle.wasm_types.specs.TypeViews.{sub_type_of};
 ghost use Rattle.wasm_convert.specs.Conversion.{index_in};
 ghost use Rattle.wasm_convert.specs.Known.{Known, CanConvert};
 ghost use Rattle.module_types.specs.Views.{index_at, span_of};
+ghost use Rattle.module_types.specs.Noted.{noted_at};
 ghost use Rattle.module_types.specs.Conversion.{HasIndex, KnowsId, index_by_id, look_by_id};
 
 use crate::list::ModuleTypes;
+use crate::noted::NotedIndices;
 use entity_map::{EntityRef, OutOfMemory};
 use form_data::{CompositeInnerType, SubType};
 use form_types::Types;
 use std::alloc::Global;
-use std::collections::HashMap;
 use wasm_convert::TypeConvert;
-use wasm_index::{ModuleInternedRecGroupIndex, ModuleInternedTypeIndex};
+use wasm_index::{ModuleInternedRecGroupSpace, ModuleInternedTypeIndex};
 use wasm_spec::{CoreTypeId, UnpackedIndex};
 use wasm_types::{EngineOrModuleTypeIndex, WasmHeapType, WasmSubType};
 
@@ -64,24 +63,24 @@ pub(crate) fn reference_to(
 pub(crate) struct GroupConverter<'a> {
     pub(crate) list: &'a ModuleTypes,
     /// The group that was interned under each id of a group.
-    pub(crate) ids: &'a HashMap<u32, ModuleInternedRecGroupIndex>,
+    pub(crate) ids: &'a NotedIndices<ModuleInternedRecGroupSpace>,
     pub(crate) types: &'a Types,
 }
 
 impl GroupConverter<'_> {
     /// The index of the type of an id.
     pub(crate) fn index_of(&self, id: CoreTypeId) -> ModuleInternedTypeIndex
-        requires { HasIndex self.now.types.now (length self.now.list.now.types) (map span_of self.now.list.now.groups) (λ k. option_map number_of (get nat_eq self.now.ids.now k)) id.0 }
-        ensures { result ≡ index_of (index_by_id self.now.types.now (length self.now.list.now.types) (map span_of self.now.list.now.groups) (λ k. option_map number_of (get nat_eq self.now.ids.now k)) id.0) }
+        requires { HasIndex self.now.types.now (length self.now.list.now.types) (map span_of self.now.list.now.groups) (noted_at self.now.ids.now) id.0 }
+        ensures { result ≡ index_of (index_by_id self.now.types.now (length self.now.list.now.types) (map span_of self.now.list.now.groups) (noted_at self.now.ids.now) id.0) }
     {
         let group = self.types.rec_group_id_of(id);
         let Some(first) = self.types.rec_group_elements(group).next() else {
             unreachable!()
         };
         let place = id.0 - first.0;
-        match self.ids.get(&group.0) {
+        match self.ids.get(group.0) {
             Some(held) => {
-                let (start, _end) = self.list.ends_of(*held);
+                let (start, _end) = self.list.ends_of(held);
                 ModuleInternedTypeIndex::from_u32(start + place)
             }
             None => ModuleInternedTypeIndex::from_u32(self.list.next_ty().as_u32() + place),
@@ -90,9 +89,9 @@ impl GroupConverter<'_> {
 }
 
 impl TypeConvert for GroupConverter<'_> {
-    ghost knows = { λ c i. KnowsId c.types.now (length c.list.now.types) (map span_of c.list.now.groups) (λ k. option_map number_of (get nat_eq c.ids.now k)) i };
+    ghost knows = { λ c i. KnowsId c.types.now (length c.list.now.types) (map span_of c.list.now.groups) (noted_at c.ids.now) i };
 
-    ghost look_up = { λ c i. look_by_id c.types.now (length c.list.now.types) (map span_of c.list.now.groups) (λ k. option_map number_of (get nat_eq c.ids.now k)) i };
+    ghost look_up = { λ c i. look_by_id c.types.now (length c.list.now.types) (map span_of c.list.now.groups) (noted_at c.ids.now) i };
 
     fn lookup_heap_type(&self, index: UnpackedIndex) -> WasmHeapType {
         match index {

@@ -21,7 +21,7 @@ impl ModuleTypesBuilder {
     // The ids of a list of types, as they are looked up now.
     pub(crate) fn looking_up<'a>(&'a self, types: &'a Types) -> GroupConverter<'a>
         ensures list { result.list.now ≡ self.now.list }
-        ensures ids { result.ids.now.entries ≡ self.now.ids }
+        ensures ids { result.ids.now ≡ self.now.ids }
         ensures types { result.types.now ≡ types.now }
     {
         GroupConverter {
@@ -61,7 +61,7 @@ impl ModuleTypesBuilder {
         self.poisoned = true;
         let next = self.interner.list.next_rec_group();
         self.interner.push_group(self.alloc, seed, members)?;
-        self.ids.insert(id.0, next)?;
+        self.ids.note(id.0, next)?;
         self.poisoned = false;
         Ok(next)
     }
@@ -90,7 +90,7 @@ impl ModuleTypesBuilder {
         if self.poisoned {
             return Err(BuildError::Poisoned);
         }
-        if let Some(found) = self.ids.get(&id.0).copied() {
+        if let Some(found) = self.ids.get(id.0) {
             return Ok(found);
         }
         let Ok(members) = self.converted(types, id) else {

@@ -1,16 +1,14 @@
-use Rattle.std.proofs.Common.{◌≡◌, ◌∙◌, [], All, length, map, nat_eq, sym, ap, arith}
-use Rattle.std.specs.Option.{option_map}
-use Rattle.std.specs.Map.{lookup}
+use Rattle.std.proofs.Common.{◌≡◌, ◌∙◌, [], All, length, map, sym, ap, arith}
 use Rattle.std.proofs.lemmas.List.{length-map}
 use Rattle.wasm_spec.specs.TypeData.{group_edges}
 use Rattle.form_data.specs.declared.types.SubType.{SubType}
 use Rattle.form_data.specs.Views as form
 use Rattle.form_types.specs.Types.{TypesData}
-use Rattle.wasm_index.specs.Index.{number_of}
 use Rattle.wasm_convert.specs.Known.{Known, CanConvert}
 use Rattle.module_types.specs.Views.{interned_of, span_of}
 use Rattle.module_types.specs.TypeList.{TypeList}
 use Rattle.module_types.specs.Builder.{builder_view}
+use Rattle.module_types.specs.Noted.{noted_at}
 use Rattle.module_types.specs.Conversion.{KnowsId, look_by_id, members_of, members_by_index}
 use Rattle.module_types.proofs.Places.{get-or}
 use Rattle.module_types.proofs.Convertible.{group-known, members-can, made-is}
@@ -29,7 +27,7 @@ convert_members-requires-clause-known c =
     let members : members_of t k ≡ map form.sub_type_of c.members.result.now = get-or t.groups k _ [] c.members.ensures.members in
     let known : Known (KnowsId t (length b.built.types) b.built.groups b.ids) (group_edges (λ r. r) (members_of t k)) =
     group-known t (length b.built.types) b.built.groups b.ids k c.requires.holds (omega (arith, c.requires.room, length-map c.args.self.now.list.types interned_of)) c.requires.known c.members.ensures.sound c.requires.named in
-    coe 0 1 (j. Known (KnowsId (types j) (next j) (map span_of (list j).groups) (λ m. option_map number_of (lookup (nat_eq m) (ids j)))) (group_edges (λ r. r) (members j))) known
+    coe 0 1 (j. Known (KnowsId (types j) (next j) (map span_of (list j).groups) (noted_at (ids j))) (group_edges (λ r. r) (members j))) known
 
 pub convert_members-requires-clause-can : goal.convert_members-requires-clause-can
 convert_members-requires-clause-can c =
@@ -43,7 +41,7 @@ convert_members-requires-clause-can c =
     let members : members_of t k ≡ map form.sub_type_of c.members.result.now = get-or t.groups k _ [] c.members.ensures.members in
     let can : All (λ (m : SubType). CanConvert (look_by_id t (length b.built.types) b.built.groups b.ids) (form.composite_of m.composite)) c.members.result.now =
     members-can t (length b.built.types) b.built.groups b.ids k c.members.result.now members c.members.ensures.sound in
-    coe 0 1 (j. All (λ (m : SubType). CanConvert (look_by_id (types j) (next j) (map span_of (list j).groups) (λ m'. option_map number_of (lookup (nat_eq m') (ids j)))) (form.composite_of m.composite)) c.members.result.now) can
+    coe 0 1 (j. All (λ (m : SubType). CanConvert (look_by_id (types j) (next j) (map span_of (list j).groups) (noted_at (ids j))) (form.composite_of m.composite)) c.members.result.now) can
 
 pub returns : goal.returns
 returns c =
@@ -59,6 +57,6 @@ returns c =
     ap (λ (d : TypesData). members_of d k) types ∙ get-or t.groups k _ [] c.members.ensures.members in
     if-ok c.convert_members.result
     (λ made is. made-is converter.types.now (length converter.list.now.types) (map span_of converter.list.now.groups)
-    (λ m. option_map number_of (lookup (nat_eq m) converter.ids.now.entries)) k c.members.result.now members made.items is
-    ∙ (λ j. members_by_index (types j) (next j) (map span_of (list j).groups) (λ m. option_map number_of (lookup (nat_eq m) (ids j))) k))
+    (noted_at converter.ids.now) k c.members.result.now members made.items is
+    ∙ (λ j. members_by_index (types j) (next j) (map span_of (list j).groups) (noted_at (ids j)) k))
     c.convert_members.ensures

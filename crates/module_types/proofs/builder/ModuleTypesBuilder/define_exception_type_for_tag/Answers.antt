@@ -17,7 +17,7 @@ invariant_of-self-2 c = λ e.
 pub returns-clause-defined : goal.returns-clause-defined
 returns-clause-defined c =
     let old : BuilderState = the_view c.self.inside in
-    let puts = where-ok c.insert.result (sym c.if-is_err-2.ensures.value) c.insert.ensures.updates in
-    shows-excepted old _ c.as_u32-key.result c.next_ty-next.result (c.in_default.ensures ∙ c.get.ensures.value)
-    (where-ok c.push_exception.result (sym c.if-is_err.ensures.value) c.push_exception.ensures ∙ ap (with_exception (builder_view old).built) (sym c.as_u32-key.ensures)) c.next_ty-next.ensures puts.0 refl refl refl (sym c.if-self.false)
+    let puts = where-ok c.note.result (sym c.if-is_err-2.ensures.value) c.note.ensures in
+    shows-excepted old _ c.as_u32-key.result c.next_ty-next.result c.in_default.ensures
+    (where-ok c.push_exception.result (sym c.if-is_err.ensures.value) c.push_exception.ensures ∙ ap (with_exception (builder_view old).built) (sym c.as_u32-key.ensures)) c.next_ty-next.ensures puts refl refl refl (sym c.if-self.false)
     ∙ (λ j. excepts (builder_view (c.self.view_is j)) (c.as_u32-key.ensures j))

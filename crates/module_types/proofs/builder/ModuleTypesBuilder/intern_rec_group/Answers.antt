@@ -1,7 +1,5 @@
 use Rattle.std.proofs.Common.{◌≡◌, ◌∙◌, None, length, sym, ap, arith}
-use Rattle.std.specs.Option.{option_map}
 use Rattle.std.proofs.lemmas.List.{length-map}
-use Rattle.wasm_index.specs.Index.{number_of}
 use Rattle.module_types.specs.Views.{interned_of}
 use Rattle.module_types.specs.Builder.{BuilderState, builder_view, interns_by}
 use Rattle.module_types.specs.Conversion.{interned_members}
@@ -15,7 +13,7 @@ converted-requires-clause-room c =
     let b = builder_view c.args.self.now in
     let ts = interned_members c.args.types.now b k in
     let unheld : b.ids k ≡ None =
-    ap (λ (s : BuilderState). (builder_view s).ids k) (sym c.self.view_is) ∙ ap (option_map number_of) (sym (c.in_default.ensures ∙ c.get.ensures.value)) in
+    ap (λ (s : BuilderState). (builder_view s).ids k) (sym c.self.view_is) ∙ sym c.in_default.ensures in
     let room = c.requires.room (ap (λ (s : BuilderState). s.is_poisoned) (sym c.self.view_is) ∙ c.if-self.false) in
     omega (
       arith,

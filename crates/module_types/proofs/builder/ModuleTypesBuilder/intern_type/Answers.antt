@@ -1,11 +1,10 @@
-use Rattle.std.proofs.Common.{◌≡◌, ◌∙◌, ◌<◌, false, length, map, nat_eq, sym, ap}
-use Rattle.std.specs.Option.{option_map}
-use Rattle.std.specs.Map.{lookup}
+use Rattle.std.proofs.Common.{◌≡◌, ◌∙◌, ◌<◌, false, length, map, sym, ap}
 use Rattle.std.proofs.lemmas.List.{length-map}
 use Rattle.wasm_index.specs.Index.{number_of}
 use Rattle.module_types.specs.Views.{interned_of, span_of}
 use Rattle.module_types.specs.TypeList.{TypeList}
 use Rattle.module_types.specs.Builder.{builder_view, interns}
+use Rattle.module_types.specs.Noted.{noted_at}
 use Rattle.module_types.specs.Conversion.{interned_members, NamesInterned, HasIndex}
 use Rattle.module_types.proofs.Convertible.{members-long}
 use Rattle.module_types.proofs.Holding.{has-index}
@@ -42,7 +41,7 @@ index_of-requires c =
     let ids = sym c.looking_up.ensures.ids in
     let types = sym c.looking_up.ensures.types in
     let next : length (builder_view new).built.types ≡ length c.looking_up.result.list.now.types = length-map new.list.types interned_of ∙ ap (λ (l : TypeList). length l.types) list in
-    coe 0 1 (j. HasIndex (types j) (next j) (map span_of (list j).groups) (λ m. option_map number_of (lookup (nat_eq m) (ids j))) c.args.id.0) has
+    coe 0 1 (j. HasIndex (types j) (next j) (map span_of (list j).groups) (noted_at (ids j)) c.args.id.0) has
 
 pub returns-in-Ok-clause-interned : goal.returns-in-Ok-clause-interned
 returns-in-Ok-clause-interned c =

@@ -1,12 +1,12 @@
-use Rattle.std.proofs.Common.{◌∙◌, length, map, nat_eq, sym, ap}
+use Rattle.std.proofs.Common.{◌∙◌, length, map, sym, ap}
 use Rattle.std.specs.Option.{option_map}
-use Rattle.std.specs.Map.{lookup}
 use Rattle.wasm_spec.specs.declared.types.UnpackedIndex.TheVariants as index
 use Rattle.wasm_spec.specs.TypeData.{Concrete}
 use Rattle.wasm_index.specs.Index.{number_of}
 use Rattle.wasm_convert.specs.Known.{CanLookUp}
 use Rattle.module_types.specs.Views.{span_of}
 use Rattle.module_types.specs.Builder.{builder_view}
+use Rattle.module_types.specs.Noted.{noted_at}
 use Rattle.module_types.specs.Conversion.{KnowsId}
 use Rattle.module_types.specs.Converter.{KnowsIndex, knows_ids, look_index, HaveIndices}
 use Rattle.module_types.proofs.Convertible.{index-known}
@@ -36,9 +36,9 @@ lookup_heap_type-requires g c =
     let held = sym c.looking_up.ensures.ids in
     let types = sym c.looking_up.ensures.types in
     let back = sym c.in-Id.is in
-    let there = coe 0 1 (j. KnowsId (types j) (length (list j).types) (map span_of (list j).groups) (λ k. option_map number_of (lookup (nat_eq k) (held j))) (index.Id c.in-Id.field-0)) here in
+    let there = coe 0 1 (j. KnowsId (types j) (length (list j).types) (map span_of (list j).groups) (noted_at (held j)) (index.Id c.in-Id.field-0)) here in
     let r = c.looking_up.result in
-    coe 0 1 (j. CanLookUp (KnowsId r.types.now (length r.list.now.types) (map span_of r.list.now.groups) (λ k. option_map number_of (lookup (nat_eq k) r.ids.now.entries))) (back j)) there
+    coe 0 1 (j. CanLookUp (KnowsId r.types.now (length r.list.now.types) (map span_of r.list.now.groups) (noted_at r.ids.now)) (back j)) there
 
 pub returns-in-Module : goal.returns-in-Module
 returns-in-Module g c =

@@ -1,0 +1,66 @@
+//! Indices that are noted under numbers.
+
+ghost use Rattle.std.specs.Prelude.{◌≡◌, ◌<◌, [], OnOk};
+ghost use Rattle.std.specs.Option.{option_map};
+ghost use Rattle.wasm_index.specs.Index.{number_of};
+ghost use Rattle.module_types.specs.Builder.{noted};
+ghost use Rattle.module_types.specs.Noted.{noted_at};
+
+use entity_map::{OutOfMemory, PackedOption};
+use std::alloc::Global;
+use std::marker::Model;
+use wasm_index::Index;
+
+/// The index that was noted under each number, if one was. Its memory grows with the greatest such number, so the numbers are to be those
+/// of a list that stands in memory. (A secondary map is for keys below `u32::MAX`; here each number may be a key.)
+#[derive(Drop)]
+pub(crate) struct NotedIndices<Space> {
+    items: Vec<PackedOption<Index<Space>>>,
+}
+
+/// A contract sees the list of the numbers of the indices, each at its place.
+impl<Space> Model for NotedIndices<Space> {
+    ghost use Rattle.std.specs.Prelude.{ℕ, List, Option};
+    ghost use Rattle.module_types.specs.Noted.{notes_of};
+
+    ghost Value = { List (Option ℕ) };
+
+    ghost view = { λ m. notes_of m.items.items };
+}
+
+impl<Space> NotedIndices<Space> {
+    /// Nothing is noted yet. It needs no memory.
+    pub(crate) fn new(alloc: Global) -> Self
+        ensures { result ≡ [] }
+    {
+        NotedIndices {
+            items: Vec::new(alloc),
+        }
+    }
+
+    /// The index that was noted under a number.
+    pub(crate) fn get(&self, number: u32) -> Option<Index<Space>>
+        ensures { option_map number_of result ≡ noted_at self.now number }
+    {
+        match self.items.get(number as usize) {
+            Some(packed) => packed.expand(),
+            None => None,
+        }
+    }
+
+    /// Notes an index under a number.
+    pub(crate) fn note(&mut self, number: u32, index: Index<Space>) -> Result<(), OutOfMemory>
+        requires { number_of index < u32.MAX }
+        ensures { OnOk result (noted_at self.new ≡ noted (noted_at self.old) number (number_of index)) }
+    {
+        let none = PackedOption::from(None);
+        let place = number as usize;
+        if place < self.items.len() {
+            self.items[place] = PackedOption::from(index);
+            return Ok(());
+        }
+        self.items.resize(place + 1, none)?;
+        self.items[place] = PackedOption::from(index);
+        Ok(())
+    }
+}
