@@ -333,12 +333,13 @@ typedef struct {
     BOBBINAZURE_LIST(uint8_t) import_names;
     BOBBINAZURE_LIST(bobbinazure_export) exports;
     BOBBINAZURE_LIST(uint8_t) export_names;
-    BOBBINAZURE_LIST(bobbinazure_bytes) module_names;           /* the module's name, if it has one, in the module's bytes */
+    BOBBINAZURE_LIST(bobbinazure_span) module_names;            /* the module's name, if it has one, in module_text */
     BOBBINAZURE_LIST(bobbinazure_layout) layouts;               /* of the objects of interned types that have some */
     BOBBINAZURE_LIST(bobbinazure_layout_field) layout_fields;
     BOBBINAZURE_LIST(bobbinazure_type) interned;                /* each interned type */
     BOBBINAZURE_LIST(bobbinazure_field) fields;
     BOBBINAZURE_LIST(bobbinazure_trampoline) trampolines;       /* of the types that have one, in order */
+    BOBBINAZURE_LIST(uint8_t) module_text;
 } bobbinazure_plan;
 
 /* Each list of a plan. */
@@ -349,7 +350,7 @@ typedef struct {
     EACH(global_expressions.parts) EACH(global_expressions.operators) EACH(segment_places.parts) EACH(segment_places.operators) \
     EACH(element_places.parts) EACH(element_places.operators) EACH(table_values.parts) EACH(table_values.operators) \
     EACH(imports) EACH(import_names) EACH(exports) EACH(export_names) EACH(module_names) EACH(layouts) EACH(layout_fields) \
-    EACH(interned) EACH(fields) EACH(trampolines)
+    EACH(interned) EACH(fields) EACH(trampolines) EACH(module_text)
 
 typedef struct {
     bobbinazure_bytes text;
