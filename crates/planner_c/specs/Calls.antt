@@ -1,5 +1,5 @@
 -- What the calls from C promise.
-use Rattle.std.specs.Prelude.{◌≡◌, ◌⊎◌, ◌≤◌, ℕ, zero, suc, Bool, true, false, nat_eq, not, List, None}
+use Rattle.std.specs.Prelude.{◌≡◌, ◌⊎◌, ◌≤◌, ℕ, zero, suc, Bool, false, nat_eq, not, List, None}
 use Rattle.std.specs.Int.{IsPowerOfTwo}
 use Rattle.command_words.specs.declared.command.Collector.{Collector}
 use Rattle.command_words.specs.declared.command.Collector.TheVariants.{Drc, Null}
