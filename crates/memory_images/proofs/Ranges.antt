@@ -9,6 +9,9 @@ use Rattle.memory_images.proofs.InOrder.{two_some, pair_at}
 pub within_yes : (start end place : ℕ) → start ≤ place → place < end → is_within start end place ≡ true
 within_yes start end place h l = grind (arith, nat_tests)
 
+pub within_low : (start end place : ℕ) → place < start → is_within start end place ≡ false
+within_low start end place h = grind (arith, nat_tests)
+
 pub within_high : (start end place : ℕ) → end ≤ place → is_within start end place ≡ false
 within_high start end place h = grind (arith, nat_tests)
 
