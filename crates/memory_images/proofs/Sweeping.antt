@@ -15,7 +15,7 @@ use Rattle.memory_images.specs.Ranges.{is_within, later_or, last_cover, last_cov
 use Rattle.memory_images.specs.Sweep.{start_of, end_of, AreWrittenBelow, AreBegun, AreActive, Keeps, AreStarts}
 use Rattle.std.proofs.lemmas.Option.{slice_get-get_or}
 use Rattle.memory_images.proofs.InOrder.{two_some, pair_at}
-use Rattle.memory_images.proofs.Ranges.{within_yes, within_low, within_high}
+use Rattle.memory_images.proofs.Covering.{within_yes, within_low, within_high}
 
 -- what is read at a place of a list is what stands there
 pub read_at : {X : Type 0} (xs : List X) (n : ℕ) (x y : X) → n < length xs → x ≡ get_or xs n x → slice_get xs n ≡ Some y → x ≡ y
