@@ -1,12 +1,12 @@
 -- One more segment among the bytes of its memory.
-use Rattle.std.proofs.Common.{◌≡◌, ◌≢◌, ℕ, ◌+◌, ◌-◌, ◌<◌, ◌≤◌, true, false, List, [], ◌∷◌, ◌++◌, length, get_or, map, take, All, Some, refl, sym, ◌∙◌, ap, subst, arith, length-append}
+use Rattle.std.proofs.Common.{◌≡◌, ◌≢◌, ℕ, ◌+◌, ◌-◌, ◌<◌, ◌≤◌, true, false, List, [], ◌∷◌, ◌++◌, length, get_or, map, take, All, Some, refl, sym, ◌∙◌, ap, subst, arith}
 use Rattle.std.specs.Prelude.{slice_get, nat_lt, ◌==◌, ◌&&◌}
 use Rattle.std.specs.Global.{Vec}
 use Rattle.std.specs.List.{AllZip}
 use Rattle.std.proofs.Math.Logic.{⊎_elim}
 use Rattle.std.proofs.lemmas.Bool.{cases_eq, cases_lt, eq-eqb, ne_eqb, lt-ltb, le-ltb, and_from, and_left, and_right}
-use Rattle.std.proofs.lemmas.List.{append-nil, get_or_append_left, get_or_push, take_more, length-map, get_or-map, map-append}
-use Rattle.std.proofs.lemmas.List.Elements.{filter-append}
+use Rattle.std.proofs.lemmas.List.{append-nil, take_more, length-map, get_or-map, map-append}
+use Rattle.std.proofs.lemmas.List.Elements.{All-push, filter-append}
 use Rattle.std.proofs.lemmas.Slice.Zip.{all_zipped_more}
 use Rattle.std.proofs.lemmas.Option.{slice_get-get_or, slice_get_within}
 use Rattle.replay_spec.specs.Data.{ActiveSegment}
@@ -48,15 +48,10 @@ module _ (m : ℕ) (x : Laid) (s : ActiveSegment) (from : IsLaidFrom x s) (laid 
   pub beside_elsewhere : s.memory ≢ m → AllZip IsLaidFrom laid (bytes_on m (ss ++ s ∷ []))
   beside_elsewhere off = none (and_left (s.memory == m) (nat_lt 0 (length s.bytes)) (ne_eqb s.memory m off))
 
-all_push : {A : Type 0} (P : A → Type 0) (xs : List A) (x : A) → All P xs → P x → All P (xs ++ x ∷ [])
-all_push P xs x all h k d l = ⊎_elim
-    (λ (lt : k < length xs). subst P (sym (get_or_append_left xs (x ∷ []) d k lt)) (all k d lt))
-    (λ (ge : length xs ≤ k). let n = length-append xs (x ∷ []) in subst P (sym (get_or_push xs x d k (omega arith))) h) (cases_lt k (length xs))
-
 pub more : (imports : ℕ) (memories : List ImageMemory) (ss : List ActiveSegment) (s : ActiveSegment) (x : Laid) (all all' : List (Vec Laid))
     → IsPlaced imports memories s → IsLaidFrom x s → Adds all all' s.memory x → AreLaid imports memories ss all → AreLaid imports memories (ss ++ s ∷ []) all'
 more imports memories ss s x all all' p from adds laid = record {
-  placed = all_push (IsPlaced imports memories) ss s laid.placed p;
+  placed = All-push (IsPlaced imports memories) ss s laid.placed p;
   count = adds.count ∙ laid.count;
   each = λ m w g. ⊎_elim
       (λ (on : s.memory ≡ m).

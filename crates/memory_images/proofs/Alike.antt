@@ -1,15 +1,19 @@
 -- Segments of the same integer constants have the same images.
-use Rattle.std.proofs.Common.{◌≡◌, ◌≢◌, ℕ, zero, suc, ◌+◌, ◌-◌, ◌*◌, ◌<◌, true, false, List, [], ◌∷◌, length, map, All, Option, inl, inr, refl, sym, ◌∙◌, ap, subst, arith}
+use Rattle.std.proofs.Common.{◌≡◌, ◌≢◌, ℕ, ◌+◌, ◌-◌, ◌^◌, ◌<◌, true, false, List, [], ◌∷◌, length, map, All, Option, refl, sym, ◌∙◌, ap, subst, arith}
 use Rattle.std.specs.Prelude.{slice_get, nat_lt, ◌==◌, ◌&&◌}
 use Rattle.std.specs.List.{AllZip}
 use Rattle.std.proofs.Math.Logic.{⊎_elim}
 use Rattle.std.proofs.lemmas.Bool.{cases_Bool}
-use Rattle.std.proofs.lemmas.List.Sums.{sum_by-cons}
+use Rattle.std.proofs.lemmas.List.Elements.{All-cons, All-filter}
 use Rattle.replay_spec.specs.Phases.{last_item}
 use Rattle.replay_spec.specs.Values.{offset_of}
 use Rattle.replay_spec.specs.Data.{ActiveSegment, piece_of}
-use Rattle.replay_spec.specs.Images.{ImageOptions, ImageMemory, IsPlaced, bytes_on, start_of, least_start, greatest_end, extent, data_size, MayBeImage, IsStatic, MemoryImage, ImageOf, AreImages}
+use Rattle.replay_spec.specs.Images.{ImageOptions, ImageMemory, IsPlaced, bytes_on, start_of, MayBeImage, IsStatic, MemoryImage, ImageOf, AreImages}
+use Rattle.memory_images.specs.declared.laid.Laid.{Laid}
+use Rattle.memory_images.specs.Contents.{end_of as laid_end}
+use Rattle.memory_images.specs.Layout.{IsLaidFrom}
 use Rattle.memory_images.specs.Views.{IsAlike}
+use Rattle.memory_images.proofs.Dense.{low_of, high_of, data_of, dense}
 use Rattle.replay_spec.proofs.Placed.{all-head, all-tail, start-placed}
 
 pub alike_back : (a b : ActiveSegment) → IsAlike a b → IsAlike b a
@@ -21,15 +25,15 @@ all_alike_back [] (y ∷ ys) z = absurd z
 all_alike_back (x ∷ xs) [] z = absurd z
 all_alike_back (x ∷ xs) (y ∷ ys) z = (alike_back x y z.0, all_alike_back xs ys z.1)
 
--- the same, with the same start
-record StartsAlike (a b : ActiveSegment) : Type 0 where
-  pub memory : a.memory ≡ b.memory
-  pub start : start_of a ≡ start_of b
-  pub bytes : a.bytes ≡ b.bytes
+-- the bytes that a segment lays
+abbrev laid_of : ActiveSegment → Laid
+laid_of s = record { start = start_of s; bytes = record { ref_ptr = (0, 0); now = s.bytes } }
 
-all_cons : {X : Type 0} (P : X → Type 0) (x : X) (xs : List X) → P x → All P xs → All P (x ∷ xs)
-all_cons P x xs h hs zero d l = h
-all_cons P x xs h hs (suc k) d l = hs k d (omega arith)
+laid_own : (xs : List ActiveSegment) → AllZip IsLaidFrom (map laid_of xs) xs
+laid_own [] = tt
+laid_own (x ∷ xs) = (record { start = refl; bytes = refl }, laid_own xs)
+
+-- ---- what is placed
 
 module _ (imports : ℕ) (memories : List ImageMemory) where
   placed : (a b : ActiveSegment) → IsAlike a b → IsPlaced imports memories a → IsPlaced imports memories b
@@ -56,32 +60,53 @@ module _ (imports : ℕ) (memories : List ImageMemory) where
   all_placed [] [] z all = λ k d l. absurd (omega arith)
   all_placed [] (y ∷ ys) z all = absurd z
   all_placed (x ∷ xs) [] z all = absurd z
-  all_placed (x ∷ xs) (y ∷ ys) z all = all_cons (IsPlaced imports memories) y ys (placed x y z.0 (all-head (IsPlaced imports memories) x xs all))
+  all_placed (x ∷ xs) (y ∷ ys) z all = All-cons (IsPlaced imports memories) y ys (placed x y z.0 (all-head (IsPlaced imports memories) x xs all))
       (all_placed xs ys z.1 (all-tail (IsPlaced imports memories) x xs all))
 
-  starts : (xs ys : List ActiveSegment) → AllZip IsAlike xs ys → All (IsPlaced imports memories) xs → AllZip StartsAlike xs ys
-  starts [] [] z all = tt
-  starts [] (y ∷ ys) z all = absurd z
-  starts (x ∷ xs) [] z all = absurd z
-  starts (x ∷ xs) (y ∷ ys) z all = (
-    record { memory = z.0.memory; start = start x y z.0 (all-head (IsPlaced imports memories) x xs all); bytes = z.0.bytes },
-    starts xs ys z.1 (all-tail (IsPlaced imports memories) x xs all),
+  laid : (xs ys : List ActiveSegment) → AllZip IsAlike xs ys → All (IsPlaced imports memories) xs → AllZip IsLaidFrom (map laid_of xs) ys
+  laid [] [] z all = tt
+  laid [] (y ∷ ys) z all = absurd z
+  laid (x ∷ xs) [] z all = absurd z
+  laid (x ∷ xs) (y ∷ ys) z all = (
+    record { start = start x y z.0 (all-head (IsPlaced imports memories) x xs all); bytes = z.0.bytes },
+    laid xs ys z.1 (all-tail (IsPlaced imports memories) x xs all),
   )
 
--- ---- what starts alike is alike in all that the rule asks
+  fits : (xs : List ActiveSegment) → All (IsPlaced imports memories) xs → All (λ x. laid_end x < 2 ^ 64) (map laid_of xs)
+  fits [] all = λ k d l. absurd (omega arith)
+  fits (x ∷ xs) all = All-cons (λ l. laid_end l < 2 ^ 64) (laid_of x) (map laid_of xs) here (fits xs (all-tail (IsPlaced imports memories) x xs all)) where
+    here : laid_end (laid_of x) < 2 ^ 64
+    here =
+        let p = all-head (IsPlaced imports memories) x xs all in
+        let s = start-placed imports memories x p in
+        let w = p.within in
+        let k = p.known in
+        omega (arith, s, w, k)
 
-pieces : (xs ys : List ActiveSegment) → AllZip StartsAlike xs ys → map (piece_of offset_of) xs ≡ map (piece_of offset_of) ys
-pieces [] [] z = refl
-pieces [] (y ∷ ys) z = absurd z
-pieces (x ∷ xs) [] z = absurd z
-pieces (x ∷ xs) (y ∷ ys) z =
-    let m = z.0.memory in
-    let s = z.0.start in
-    let b = z.0.bytes in
-    let more = pieces xs ys z.1 in
-    rw (m, s, b, more) refl
+  pieces : (xs ys : List ActiveSegment) → AllZip IsAlike xs ys → All (IsPlaced imports memories) xs → map (piece_of offset_of) xs ≡ map (piece_of offset_of) ys
+  pieces [] [] z all = refl
+  pieces [] (y ∷ ys) z all = absurd z
+  pieces (x ∷ xs) [] z all = absurd z
+  pieces (x ∷ xs) (y ∷ ys) z all =
+      let m = z.0.memory in
+      let s = start x y z.0 (all-head (IsPlaced imports memories) x xs all) in
+      let b = z.0.bytes in
+      let more = pieces xs ys z.1 (all-tail (IsPlaced imports memories) x xs all) in
+      rw (m, s, b, more) refl
 
-on_memory : (m : ℕ) (xs ys : List ActiveSegment) → AllZip StartsAlike xs ys → AllZip StartsAlike (bytes_on m xs) (bytes_on m ys)
+  may : (options : ImageOptions) (memory : ImageMemory) (xs ys : List ActiveSegment) → AllZip IsAlike xs ys → All (IsPlaced imports memories) xs → MayBeImage options memory xs → MayBeImage options memory ys
+  may options memory xs ys z all h =
+      let l : List Laid = map laid_of xs in
+      let f = fits xs all in
+      record {
+        page = h.page;
+        dense = (dense options.max_image (high_of l - low_of l) (data_of l) l ys (laid xs ys z all) f refl refl).0
+            ((dense options.max_image (high_of l - low_of l) (data_of l) l xs (laid_own xs) f refl refl).1 h.dense);
+      }
+
+-- ---- the rule and the images
+
+on_memory : (m : ℕ) (xs ys : List ActiveSegment) → AllZip IsAlike xs ys → AllZip IsAlike (bytes_on m xs) (bytes_on m ys)
 on_memory m [] [] z = tt
 on_memory m [] (y ∷ ys) z = absurd z
 on_memory m (x ∷ xs) [] z = absurd z
@@ -94,67 +119,28 @@ on_memory m (x ∷ xs) (y ∷ ys) z =
     (λ (no : (x.memory == m && nat_lt 0 (length x.bytes)) ≡ false). let other = sym same ∙ no in rw (no, other) more)
     (cases_Bool (x.memory == m && nat_lt 0 (length x.bytes)))
 
-least : (xs ys : List ActiveSegment) (x y : ActiveSegment) → StartsAlike x y → AllZip StartsAlike xs ys → least_start (x ∷ xs) ≡ least_start (y ∷ ys)
-least [] [] x y h z = h.start
-least [] (w ∷ ws) x y h z = absurd z
-least (v ∷ vs) [] x y h z = absurd z
-least (v ∷ vs) (w ∷ ws) x y h z = let s = h.start in let more = least vs ws v w z.0 z.1 in omega (arith, s, more)
-
-greatest : (xs ys : List ActiveSegment) → AllZip StartsAlike xs ys → greatest_end xs ≡ greatest_end ys
-greatest [] [] z = refl
-greatest [] (y ∷ ys) z = absurd z
-greatest (x ∷ xs) [] z = absurd z
-greatest (x ∷ xs) (y ∷ ys) z = let s = z.0.start in let n = ap length z.0.bytes in let more = greatest xs ys z.1 in omega (arith, s, n, more)
-
-extents : (xs ys : List ActiveSegment) → AllZip StartsAlike xs ys → extent xs ≡ extent ys
-extents [] [] z = refl
-extents [] (y ∷ ys) z = absurd z
-extents (x ∷ xs) [] z = absurd z
-extents (x ∷ xs) (y ∷ ys) z = let low = least xs ys x y z.0 z.1 in let high = greatest (x ∷ xs) (y ∷ ys) z in omega (arith, low, high)
-
-counts : (xs ys : List ActiveSegment) → AllZip StartsAlike xs ys → data_size xs ≡ data_size ys
-counts [] [] z = refl
-counts [] (y ∷ ys) z = absurd z
-counts (x ∷ xs) [] z = absurd z
-counts (x ∷ xs) (y ∷ ys) z =
-    let one = sum_by-cons (λ (s : ActiveSegment). length s.bytes) x xs in
-    let two = sum_by-cons (λ (s : ActiveSegment). length s.bytes) y ys in
-    let n = ap length z.0.bytes in
-    let more = counts xs ys z.1 in
-    omega (arith, one, two, n, more)
-
-some : (xs ys : List ActiveSegment) → AllZip StartsAlike xs ys → ys ≢ [] → xs ≢ []
+some : (xs ys : List ActiveSegment) → AllZip IsAlike xs ys → ys ≢ [] → xs ≢ []
 some [] [] z ne e = ne refl
 some [] (y ∷ ys) z ne e = z
 some (x ∷ xs) ys z ne e = cc
 
-may : (options : ImageOptions) (memory : ImageMemory) (xs ys : List ActiveSegment) → AllZip StartsAlike xs ys → MayBeImage options memory xs → MayBeImage options memory ys
-may options memory xs ys z h =
-    let e = extents xs ys z in
-    let n = counts xs ys z in
-    record {
-      page = h.page;
-      dense = ⊎_elim (λ (d : extent xs < 2 * data_size xs). inl (omega (arith, d, e, n))) (λ (d : extent xs < options.max_image). inr (omega (arith, d, e))) h.dense;
-    }
-
--- ---- the rule and the images
-
 pub static_alike : (options : ImageOptions) (imports : ℕ) (memories : List ImageMemory) (xs ys : List ActiveSegment) → AllZip IsAlike xs ys
     → IsStatic options imports memories xs → IsStatic options imports memories ys
 static_alike options imports memories xs ys z h =
-    let s = starts imports memories xs ys z h.placed in
     record {
       enabled = h.enabled;
       placed = all_placed imports memories xs ys z h.placed;
       images = λ m memory at ne.
-          let on = on_memory (imports + m) xs ys s in
-          may options memory (bytes_on (imports + m) xs) (bytes_on (imports + m) ys) on (h.images m memory at (some (bytes_on (imports + m) xs) (bytes_on (imports + m) ys) on ne));
+          let n = imports + m in
+          let on = on_memory n xs ys z in
+          may imports memories options memory (bytes_on n xs) (bytes_on n ys) on (All-filter (λ s. s.memory == n && nat_lt 0 (length s.bytes)) (IsPlaced imports memories) xs h.placed)
+          (h.images m memory at (some (bytes_on n xs) (bytes_on n ys) on ne));
     }
 
 pub images_alike : (imports : ℕ) (memories : List ImageMemory) (page count : ℕ) (xs ys : List ActiveSegment) (images : List (Option MemoryImage)) → AllZip IsAlike xs ys
     → All (IsPlaced imports memories) xs → AreImages page count xs images → AreImages page count ys images
 images_alike imports memories page count xs ys images z all h =
-    let same = pieces xs ys (starts imports memories xs ys z all) in
+    let same = pieces imports memories xs ys z all in
     record {
       count = h.count;
       each = λ m image at. subst (λ ps. ImageOf page (λ place. last_item m place 0 ps) image) same (h.each m image at);

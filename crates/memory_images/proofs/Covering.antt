@@ -28,11 +28,21 @@ abbrev Told : ℕ → ℕ → ℕ → List Laid → Option ℕ → Type 0
 Told n d place laid None = last_item 0 place d (map piece_of laid) ≡ d
 Told n d place laid (Some s) = Numbered n d place laid s
 
-within_is : (start end place : ℕ) → is_within start end place ≡ true → (start ≤ place) × (place < end)
+pub within_yes : (start end place : ℕ) → start ≤ place → place < end → is_within start end place ≡ true
+within_yes start end place h l = grind (arith, nat_tests)
+
+pub within_low : (start end place : ℕ) → place < start → is_within start end place ≡ false
+within_low start end place h = grind (arith, nat_tests)
+
+pub within_high : (start end place : ℕ) → end ≤ place → is_within start end place ≡ false
+within_high start end place h = grind (arith, nat_tests)
+
+pub within_is : (start end place : ℕ) → is_within start end place ≡ true → (start ≤ place) × (place < end)
 within_is start end place h = (grind (arith, nat_tests), grind (arith, nat_tests))
 
 not_within : (start end place : ℕ) → is_within start end place ≡ false → (place < start) ⊎ (end ≤ place)
-not_within start end place h = ⊎_elim inl (λ (ge : start ≤ place). ⊎_elim (λ (lt : place < end). absurd (let y : is_within start end place ≡ true = grind (arith, nat_tests) in let f : true ≡ false = sym y ∙ h in cc)) inr (cases_lt place end)) (cases_lt place start)
+not_within start end place h = ⊎_elim inl
+    (λ (ge : start ≤ place). ⊎_elim (λ (lt : place < end). absurd (let f : true ≡ false = sym (within_yes start end place ge lt) ∙ h in cc)) inr (cases_lt place end)) (cases_lt place start)
 
 -- what a piece gives at a place
 covers : (x : Laid) (place : ℕ) → x.start ≤ place → place < end_of x → item_at 0 place (piece_of x) ≡ Some (get_or x.bytes.now (place - x.start) 0)

@@ -3,12 +3,11 @@ use Rattle.std.proofs.Common.{◌≡◌, ◌≢◌, ℕ, zero, suc, ◌<◌, ◌
 use Rattle.std.specs.Prelude.{slice_get}
 use Rattle.std.proofs.Math.Logic.{⊎_elim}
 use Rattle.std.proofs.lemmas.Bool.{cases_eq, cases_lt}
-use Rattle.std.proofs.lemmas.Bool.Decides.{nat_tests}
 use Rattle.std.proofs.lemmas.Option.{get_or_from_slice_get, slice_get_within}
 use Rattle.memory_images.specs.Ranges.{is_within, later_or, last_cover_from}
 use Rattle.memory_images.specs.declared.laid.Laid.{Laid}
 use Rattle.memory_images.specs.Contents.{contents_of, end_of, byte_in, pair_of, AreInOrder}
-use Rattle.memory_images.proofs.Covering.{covered, uncovered}
+use Rattle.memory_images.proofs.Covering.{within_yes, covered, uncovered}
 
 pub none_some : {A C : Type 0} (o : Option A) (x : A) → o ≡ None → o ≡ Some x → C
 none_some o x n s = absurd cc
@@ -27,9 +26,6 @@ pair_at {X} R xs i j x y all g h lt =
     let P : X → Type 0 = λ v. R v (get_or xs j x) in
     let Q : X → Type 0 = λ v. R x v in
     subst Q (get_or_from_slice_get xs j y x h) (subst P (get_or_from_slice_get xs i x x g) (all i j x lt (slice_get_within xs j y h)))
-
-within_yes : (start end place : ℕ) → start ≤ place → place < end → is_within start end place ≡ true
-within_yes start end place h l = grind (arith, nat_tests)
 
 -- where no pair covers, no piece does
 none_covers : (n place : ℕ) (laid : List Laid) (k : ℕ) (x : Laid) → last_cover_from n place (map pair_of laid) ≡ None → slice_get laid k ≡ Some x → is_within x.start (end_of x) place ≡ false

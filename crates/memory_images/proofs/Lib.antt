@@ -1,8 +1,4 @@
-mod Orders
-mod Step
-mod Claim
-mod Values
-mod Covered
+mod Sweeping
 mod Covering
 mod InOrder
 mod Ranges

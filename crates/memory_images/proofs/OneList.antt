@@ -1,16 +1,13 @@
 -- The ranges that are written by segments are one list.
-use Rattle.std.proofs.Common.{◌≡◌, ℕ, suc, ◌<◌, ◌≤◌, false, List, [], ◌∷◌, All, AllPairs, Some, None, refl, sym, ◌∙◌, ap, arith}
+use Rattle.std.proofs.Common.{◌≡◌, ℕ, suc, ◌<◌, ◌≤◌, List, [], ◌∷◌, All, AllPairs, Some, None, refl, sym, ◌∙◌, ap, arith}
 use Rattle.std.proofs.Math.Logic.{⊎_elim}
 use Rattle.std.proofs.lemmas.Bool.{cases_lt}
-use Rattle.std.proofs.lemmas.Bool.Decides.{nat_tests}
-use Rattle.std.proofs.lemmas.List.Elements.{All-head, All-tail, All-weaker}
+use Rattle.std.proofs.lemmas.List.Elements.{All-head, All-tail}
 use Rattle.memory_images.specs.declared.written.Written.{Written}
-use Rattle.memory_images.specs.Ranges.{is_within, segment_at, IsBefore, AreWritten}
+use Rattle.memory_images.specs.Ranges.{segment_at, IsBefore, AreWritten}
 use Rattle.memory_images.proofs.InOrder.{none_some, two_some, pair_at}
-use Rattle.memory_images.proofs.Ranges.{within_yes, within_high, pairs_behind, range_at}
-
-within_low : (start end place : ℕ) → place < start → is_within start end place ≡ false
-within_low start end place h = grind (arith, nat_tests)
+use Rattle.memory_images.proofs.Covering.{within_yes, within_low, within_high}
+use Rattle.memory_images.proofs.Ranges.{pairs_behind, range_at}
 
 -- ranges, in order and none empty
 record AreRanges (ws : List Written) : Type 0 where

@@ -1,19 +1,10 @@
 -- The segment of a range, by the range's place in the list.
 use Rattle.std.proofs.Common.{◌≡◌, ℕ, zero, suc, ◌<◌, ◌≤◌, Bool, true, false, List, [], ◌∷◌, AllPairs, Some, refl, arith}
 use Rattle.std.specs.Prelude.{slice_get}
-use Rattle.std.proofs.lemmas.Bool.Decides.{nat_tests}
 use Rattle.memory_images.specs.declared.written.Written.{Written}
 use Rattle.memory_images.specs.Ranges.{is_within, segment_at, IsBefore}
+use Rattle.memory_images.proofs.Covering.{within_yes, within_high, within_is}
 use Rattle.memory_images.proofs.InOrder.{two_some, pair_at}
-
-pub within_yes : (start end place : ℕ) → start ≤ place → place < end → is_within start end place ≡ true
-within_yes start end place h l = grind (arith, nat_tests)
-
-pub within_high : (start end place : ℕ) → end ≤ place → is_within start end place ≡ false
-within_high start end place h = grind (arith, nat_tests)
-
-within_is : (start end place : ℕ) → is_within start end place ≡ true → (start ≤ place) × (place < end)
-within_is start end place h = (grind (arith, nat_tests), grind (arith, nat_tests))
 
 pub pairs_behind : {X : Type 0} (R : X → X → Type 0) (x : X) (xs : List X) → AllPairs R (x ∷ xs) → AllPairs R xs
 pairs_behind R x xs all = λ i j d lt k. all (suc i) (suc j) d (omega arith) (omega arith)

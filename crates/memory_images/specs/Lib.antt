@@ -1,5 +1,5 @@
 pub mod Ranges
-pub mod Gaps
+pub mod Sweep
 pub mod Contents
 pub mod Image
 pub mod Images

@@ -14,7 +14,7 @@ mod plan;
 mod rule;
 mod segment;
 mod span;
-mod uncovered;
+mod sweep;
 mod written;
 
 pub use error::ImageError;

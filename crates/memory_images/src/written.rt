@@ -1,14 +1,13 @@
 //! Ranges of places and the segment that each belongs to.
 
 ghost use Rattle.std.specs.Prelude.{◌≡◌, ◌+◌, ◌^◌, ◌<◌, All, IfOk};
-ghost use Rattle.std.specs.Ordering.{nat_cmp};
-ghost use Rattle.std.specs.BTreeMap.{values, IsOrdered};
 ghost use Rattle.memory_images.specs.Ranges.{AreWritten};
+ghost use Rattle.memory_images.specs.Sweep.{AreStarts};
 
-use crate::uncovered::claim;
+use crate::sweep::advance;
 use entity_map::OutOfMemory;
 use std::alloc::Global;
-use std::collections::BTreeMap;
+use std::collections::BinaryHeap;
 
 /// Places from `start` up to `end`, which belong to the segment of this number.
 #[derive(Clone, Copy, Debug, PartialEq, Eq)]
@@ -23,21 +22,28 @@ pub fn written_ranges(alloc: Global, segments: &[(u64, u64)]) -> Result<Vec<Writ
     requires { All (λ pair. pair.0 + pair.1 < 2 ^ 64) segments.now }
     ensures { IfOk result (λ v. AreWritten segments.now v.items) }
 {
-    let mut gaps = BTreeMap::new(alloc);
-    gaps.insert(0, u64::MAX)?;
-    let mut pieces = BTreeMap::new(alloc);
-    'segments: for i in (0..segments.len()).rev() {
-        let (start, length) = segments[i];
-        claim(&mut gaps, &mut pieces, start, start + length, i)?;
+    let starts = starts_of(alloc, segments)?;
+    let mut active = BinaryHeap::new(alloc);
+    let mut ranges = Vec::new(alloc);
+    let mut at = 0;
+    'starts: for i in 0..starts.len() {
+        let (start, segment) = starts[i];
+        advance(segments, &mut active, &mut ranges, at, start)?;
+        active.push(segment)?;
+        at = start;
     }
-    in_order(alloc, pieces)
+    advance(segments, &mut active, &mut ranges, at, u64::MAX)?;
+    Ok(ranges)
 }
 
-fn in_order(alloc: Global, pieces: BTreeMap<u64, Written>) -> Result<Vec<Written>, OutOfMemory>
-    ensures items { IfOk result (λ v. v.items ≡ values pieces) }
-    ensures ordered { IsOrdered nat_cmp pieces }
+/// Where each segment starts, and its number, from low starts to high ones.
+fn starts_of(alloc: Global, segments: &[(u64, u64)]) -> Result<Vec<(u64, usize)>, OutOfMemory>
+    ensures { IfOk result (λ v. AreStarts segments.now v.items) }
 {
-    let _count = pieces.len();
-    let ranges = pieces.into_values().collect(alloc)?;
-    Ok(ranges)
+    let mut starts = Vec::with_capacity(alloc, segments.len())?;
+    'segments: for i in 0..segments.len() {
+        starts.push((segments[i].0, i))?;
+    }
+    starts.sort_by_key(|start| start.0)?;
+    Ok(starts)
 }

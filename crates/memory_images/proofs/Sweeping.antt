@@ -1,0 +1,271 @@
+-- Ranges that are found from low places to high ones.
+use Rattle.std.proofs.Common.{◌≡◌, ◌≢◌, ℕ, zero, suc, ◌+◌, ◌-◌, ◌^◌, ◌<◌, ◌≤◌, Bool, true, false, List, [], ◌∷◌, ◌++◌, length, take, get_or, min, All, AllPairs, Option, Some, None, refl, sym, ◌∙◌, ap, subst, arith}
+use Rattle.std.specs.Prelude.{Contains, IsSome, IfSome, slice_get, slice_set}
+use Rattle.std.specs.BinaryHeap.{IsUpperBound}
+use Rattle.std.specs.List.Sorted.{IsPermutation}
+use Rattle.std.specs.Ordering.{nat_cmp}
+use Rattle.std.proofs.Math.Logic.{⊎_elim}
+use Rattle.std.proofs.lemmas.Bool.{cases_eq, cases_lt}
+use Rattle.std.proofs.lemmas.List.{take_all, take_more, take_more_set, length-take, length-set, get_or-take}
+use Rattle.std.proofs.lemmas.List.Elements.{All-push, All-cons, Contains-append_left, Contains-push, All-tail, All-take}
+use Rattle.std.proofs.lemmas.List.Quantifiers.{all_pairs_push}
+use Rattle.std.proofs.lemmas.List.Sorted.{All-permutation, Contains-permutation, le_from_greatest}
+use Rattle.memory_images.specs.declared.written.Written.{Written}
+use Rattle.memory_images.specs.Ranges.{is_within, later_or, last_cover, last_cover_from, segment_at, IsBefore, AreWritten}
+use Rattle.memory_images.specs.Sweep.{start_of, end_of, AreWrittenBelow, AreBegun, AreActive, Keeps, AreStarts}
+use Rattle.std.proofs.lemmas.Option.{slice_get-get_or}
+use Rattle.memory_images.proofs.InOrder.{two_some, pair_at}
+use Rattle.memory_images.proofs.Covering.{within_yes, within_low, within_high}
+
+-- what is read at a place of a list is what stands there
+pub read_at : {X : Type 0} (xs : List X) (n : ℕ) (x y : X) → n < length xs → x ≡ get_or xs n x → slice_get xs n ≡ Some y → x ≡ y
+read_at xs n x y l is at = two_some (slice_get xs n) x y (slice_get-get_or xs n x l ∙ ap Some (sym is)) at
+
+-- ---- the last pair that covers a place
+
+not_within : (start end place : ℕ) → (start ≤ place → place < end → ⊥) → is_within start end place ≡ false
+not_within start end place never = ⊎_elim (within_low start end place)
+    (λ (ge : start ≤ place). ⊎_elim (λ (l : place < end). absurd (never ge l)) (within_high start end place) (cases_lt place end)) (cases_lt place start)
+
+none_is : (n place : ℕ) (ps : List (ℕ × ℕ)) → ((k : ℕ) → k < length ps → start_of ps k ≤ place → place < end_of ps k → ⊥) → last_cover_from n place ps ≡ None
+none_is n place [] none = refl
+none_is n place (p ∷ ps) none =
+    let here = not_within p.0 (p.0 + p.1) place (none 0 (omega arith)) in
+    let behind = none_is (suc n) place ps (λ k l. none (suc k) (omega arith)) in
+    rw (behind, here) refl
+
+last_is : (n place : ℕ) (ps : List (ℕ × ℕ)) (k : ℕ) → k < length ps → start_of ps k ≤ place → place < end_of ps k
+    → ((j : ℕ) → k < j → j < length ps → start_of ps j ≤ place → place < end_of ps j → ⊥) → last_cover_from n place ps ≡ Some (n + k)
+last_is n place [] k l from upto none = absurd (omega arith)
+last_is n place (p ∷ ps) zero l from upto none =
+    let here = within_yes p.0 (p.0 + p.1) place from upto in
+    let behind = none_is (suc n) place ps (λ j m. none (suc j) (omega arith) (omega arith)) in
+    let same : n ≡ n + 0 = omega arith in
+    rw (behind, here) (ap Some same)
+last_is n place (p ∷ ps) (suc k) l from upto none =
+    let behind = last_is (suc n) place ps k (omega arith) from upto (λ j m i. none (suc j) (omega arith) (omega arith)) in
+    let same : suc n + k ≡ n + suc k = omega arith in
+    rw behind (ap Some same)
+
+-- ---- one more range
+
+at-push : (ws : List Written) (w : Written) (place : ℕ) → segment_at (ws ++ w ∷ []) place ≡ later_or (segment_at ws place) (is_within w.start w.end place) w.segment
+at-push [] w place = refl
+at-push (v ∷ ws) w place = over (is_within v.start v.end place) refl (at-push ws w place) where
+  over : (b : Bool) → is_within v.start v.end place ≡ b → segment_at (ws ++ w ∷ []) place ≡ later_or (segment_at ws place) (is_within w.start w.end place) w.segment
+      → segment_at ((v ∷ ws) ++ w ∷ []) place ≡ later_or (segment_at (v ∷ ws) place) (is_within w.start w.end place) w.segment
+  over true is more = rw is refl
+  over false is more = rw is more
+
+not_later : (o : Option ℕ) (n : ℕ) → later_or o false n ≡ o
+not_later (Some k) n = refl
+not_later None n = refl
+
+none_above : (n place : ℕ) (ws : List Written) → n ≤ place → All (λ w. w.end ≤ n) ws → segment_at ws place ≡ None
+none_above n place [] l all = refl
+none_above n place (w ∷ ws) l all =
+    let here = within_high w.start w.end place (let e : w.end ≤ n = all 0 w (omega arith) in omega arith) in
+    rw here (none_above n place ws l (All-tail (λ (v : Written). v.end ≤ n) w ws all))
+
+module _ (segments : List (ℕ × ℕ)) (start end : ℕ) (some : start < end) where
+  -- the last range reaches from a start or below it up to an end
+  reaches : (init : List Written) (w : Written) → w.start ≤ start → w.end ≡ end → ((place : ℕ) → start ≤ place → place < end → last_cover segments place ≡ Some w.segment)
+      → ((place : ℕ) → place < start → segment_at (init ++ w ∷ []) place ≡ last_cover segments place) → All (λ v. v.end ≤ start) init → All (λ v. v.start < v.end) init
+      → AllPairs IsBefore (init ++ w ∷ []) → AreWrittenBelow segments end (init ++ w ∷ [])
+  reaches init w from upto owner low below somes ordered = record {
+    places = λ place l. ⊎_elim (low place)
+        (λ (ge : start ≤ place).
+        let none = none_above start place init ge below in
+        let here = within_yes w.start w.end place (omega arith) (omega arith) in
+        at-push init w place ∙ rw (none, here) (sym (owner place ge l))) (cases_lt place start);
+    below = All-push (λ (v : Written). v.end ≤ end) init w (λ k d l. let e = below k d l in omega arith) (omega arith);
+    some = All-push (λ (v : Written). v.start < v.end) init w somes (omega arith);
+    ordered = ordered;
+  }
+
+  module _ (ranges : List Written) (w : Written) (upto : w.end ≡ end) (owner : (place : ℕ) → start ≤ place → place < end → last_cover segments place ≡ Some w.segment)
+      (a : AreWrittenBelow segments start ranges) where
+    -- one more range, where the last is not the same segment's and ends before
+    pub added : w.start ≡ start → ((last : Written) → slice_get ranges (length ranges - 1) ≡ Some last → last.end ≡ start → last.segment ≡ w.segment → ⊥) → AreWrittenBelow segments end (ranges ++ w ∷ [])
+    added from other = reaches ranges w (omega arith) upto owner low a.below a.some (all_pairs_push IsBefore ranges w a.ordered before) where
+      low : (place : ℕ) → place < start → segment_at (ranges ++ w ∷ []) place ≡ last_cover segments place
+      low place l = let out = within_low w.start w.end place (omega arith) in at-push ranges w place ∙ rw out (not_later (segment_at ranges place) w.segment) ∙ a.places place l
+
+      before : (k : ℕ) (d : Written) → k < length ranges → IsBefore (get_or ranges k d) w
+      before k d l = record {
+        apart = let e = a.below k d l in omega arith;
+        differ = λ touch same. ⊎_elim
+            (λ (last : k ≡ length ranges - 1). other (get_or ranges k d) (rw (← last) (slice_get-get_or ranges k d l)) (touch ∙ from) same)
+            (λ (ne : k ≢ length ranges - 1).
+            let b = (a.ordered k (length ranges - 1) d (omega arith) (omega arith)).apart in
+            let s : (get_or ranges (length ranges - 1) d).start < (get_or ranges (length ranges - 1) d).end = a.some (length ranges - 1) d (omega arith) in
+            let e : (get_or ranges (length ranges - 1) d).end ≤ start = a.below (length ranges - 1) d (omega arith) in
+            omega (arith, b, s, e, touch, from)) (cases_eq k (length ranges - 1));
+      }
+
+    -- the last range, which ends at the start and is the same segment's, made longer
+    pub lengthened : (last : Written) (n : ℕ) → n + 1 ≡ length ranges → last ≡ get_or ranges n last → last.end ≡ start → last.segment ≡ w.segment → w.start ≡ last.start
+        → AreWrittenBelow segments end (slice_set ranges n w)
+    lengthened last n count is_last touch same from =
+        rw new_is (reaches init w low_start upto owner low (All-take (λ (v : Written). v.end ≤ start) n ranges a.below) (All-take (λ (v : Written). v.start < v.end) n ranges a.some)
+        (all_pairs_push IsBefore init w pairs before)) where
+          init : List Written
+          init = take n ranges
+
+          old_is : init ++ last ∷ [] ≡ ranges
+          old_is = ap (λ (l : Written). init ++ l ∷ []) is_last ∙ sym (take_more ranges n last (omega arith)) ∙ take_all (n + 1) ranges (omega arith)
+
+          new_is : slice_set ranges n w ≡ init ++ w ∷ []
+          new_is = sym (take_all (n + 1) (slice_set ranges n w) (let l = length-set ranges n w in omega arith)) ∙ take_more_set ranges n w (omega arith)
+
+          some_last : last.start < last.end
+          some_last = rw is_last (a.some n last (omega arith))
+
+          low_start : w.start ≤ start
+          low_start = let s = some_last in omega (arith, s, from, touch)
+
+          same_within : (place : ℕ) → place < start → is_within w.start w.end place ≡ is_within last.start last.end place
+          same_within place l = ⊎_elim
+              (λ (lt : place < w.start). within_low w.start w.end place lt ∙ sym (within_low last.start last.end place (omega (arith, lt, from))))
+              (λ (ge : w.start ≤ place). within_yes w.start w.end place ge (omega arith) ∙ sym (within_yes last.start last.end place (omega (arith, ge, from)) (omega (arith, l, touch))))
+              (cases_lt place w.start)
+
+          low : (place : ℕ) → place < start → segment_at (init ++ w ∷ []) place ≡ last_cover segments place
+          low place l = at-push init w place ∙ ap (λ b. later_or (segment_at init place) b w.segment) (same_within place l)
+              ∙ ap (later_or (segment_at init place) (is_within last.start last.end place)) (sym same) ∙ sym (at-push init last place)
+              ∙ ap (λ ws. segment_at ws place) old_is ∙ a.places place l
+
+          size : length init ≡ n
+          size = let l = length-take n ranges in omega arith
+
+          pairs : AllPairs IsBefore init
+          pairs i j e lt l =
+              let s = size in
+              let x = get_or-take n ranges i e (omega arith) in
+              let y = get_or-take n ranges j e (omega arith) in
+              rw (x, y) (a.ordered i j e lt (omega arith))
+
+          before : (k : ℕ) (e : Written) → k < length init → IsBefore (get_or init k e) w
+          before k e l =
+              let s = size in
+              let x = get_or-take n ranges k e (omega arith) in
+              let b : IsBefore (get_or ranges k e) last = pair_at IsBefore ranges k n (get_or ranges k e) last a.ordered (slice_get-get_or ranges k e (omega arith)) (slice_get-get_or ranges n last (omega arith) ∙ ap Some (sym is_last)) (omega arith) in
+              let c = b.apart in
+              rw x (record { apart = omega (arith, c, from); differ = λ meet alike. b.differ (meet ∙ from) (alike ∙ sym same) })
+
+-- ---- active segments
+
+of_all : (P : ℕ → Type 0) (xs : List ℕ) (x : ℕ) → All P xs → Contains xs x → P x
+of_all P xs x all c = subst P c.2 (all c.0 x c.1)
+
+module _ (segments : List (ℕ × ℕ)) (from at limit : ℕ) (old active : List ℕ) (begun : AreBegun segments from active) (acts : AreActive segments from limit old) (keeps : Keeps segments at old active)
+    (low : from ≤ at) where
+  -- the last of the active segments has what it covers
+  pub owns : (top : ℕ) → Contains active top → IsUpperBound nat_cmp top active → (place : ℕ) → at ≤ place → place < min limit (end_of segments top) → last_cover segments place ≡ Some top
+  owns top is_top greatest place l m =
+      let b = of_all (λ k. (k < length segments) × (start_of segments k ≤ from)) active top begun is_top in
+      let begins = b.1 in
+      let same : 0 + top ≡ top = omega arith in
+      last_is 0 place segments top b.0 (omega (arith, begins)) (omega arith) later ∙ ap Some same where
+        later : (j : ℕ) → top < j → j < length segments → start_of segments j ≤ place → place < end_of segments j → ⊥
+        later j lt k begins ends =
+            let c = keeps j (acts j k (omega arith) (omega arith)) (omega arith) in
+            let le : j ≤ top = of_all (λ y. y ≤ top) active j (le_from_greatest top active greatest) c in
+            omega arith
+
+  -- no segment is active any more
+  pub idle : (ranges : List Written) → length active ≡ 0 → at ≤ limit → AreWrittenBelow segments at ranges → AreWrittenBelow segments limit ranges
+  idle ranges none high a = record {
+    places = λ place l. ⊎_elim (a.places place)
+        (λ (ge : at ≤ place). none_above at place ranges ge a.below ∙ sym (none_is 0 place segments
+        (λ k m begins ends. let c = keeps k (acts k m (omega arith) (omega arith)) (omega arith) in let e = c.1 in omega (arith, e, none)))) (cases_lt place at);
+    below = λ k d l. let e = a.below k d l in omega arith;
+    some = a.some;
+    ordered = a.ordered;
+  }
+
+-- what stays active once the first, which has ended, is taken out
+module _ (segments : List (ℕ × ℕ)) (from at next : ℕ) (old active rest : List ℕ) (top : ℕ) (some : 0 < length active) (is_top : top ≡ get_or active 0 top) (begun : AreBegun segments from active)
+    (keeps : Keeps segments at old active) (up : at ≤ next) (ended : end_of segments top ≤ next) where
+  pub popped : (o : Option ℕ) → IsSome o → IfSome o (λ x. x ≡ get_or active 0 x) → IfSome o (λ x. IsPermutation active (x ∷ rest)) → AreBegun segments from rest × Keeps segments next old rest
+  popped None is first moved = absurd (let e : false ≡ true = is in cc)
+  popped (Some x) is first moved =
+      let P : ℕ → Type 0 = λ k. (k < length segments) × (start_of segments k ≤ from) in
+      let same : x ≡ top = read_at active 0 x top some first (slice_get-get_or active 0 top some ∙ ap Some (sym is_top)) in
+      (All-tail P x rest (All-permutation P active (x ∷ rest) moved begun), kept same) where
+        kept : x ≡ top → Keeps segments next old rest
+        kept same k c past = let d = Contains-permutation active (x ∷ rest) k moved (keeps k c (omega arith)) in behind d.0 d.1 d.2 where
+          behind : (i : ℕ) → i < length (x ∷ rest) → get_or (x ∷ rest) i k ≡ k → Contains rest k
+          behind zero l is = absurd (let e : end_of segments top ≡ end_of segments k = ap (end_of segments) (sym same ∙ is) in omega (arith, e))
+          behind (suc i) l is = (i, omega arith, is)
+
+-- ---- from start to start
+
+-- those of the first segments that reach past a place are active
+abbrev pub AreKept : List (ℕ × ℕ) → List (ℕ × ℕ) → ℕ → ℕ → List ℕ → Type 0
+AreKept segments starts i at active = (j : ℕ) → j < i → at < end_of segments (get_or starts j (0, 0)).1 → Contains active (get_or starts j (0, 0)).1
+
+module _ (segments starts : List (ℕ × ℕ)) (are : AreStarts segments starts) where
+  -- where the others start at a limit or above
+  pub acts : (i at limit : ℕ) (active : List ℕ) → AreKept segments starts i at active → ((j : ℕ) → i ≤ j → j < length starts → limit ≤ (get_or starts j (0, 0)).0) → AreActive segments at limit active
+  acts i at limit active kept late k l begins past =
+      let c = are.each k l in
+      let own : ℕ × ℕ = (start_of segments k, k) in
+      let same : get_or starts c.0 (0, 0) ≡ own = two_some (slice_get starts c.0) (get_or starts c.0 (0, 0)) own (slice_get-get_or starts c.0 (0, 0) c.1) (slice_get-get_or starts c.0 own c.1 ∙ ap Some c.2) in
+      let number : (get_or starts c.0 (0, 0)).1 ≡ k = ap (λ (s : ℕ × ℕ). s.1) same in
+      ⊎_elim (λ (lt : c.0 < i). subst (Contains active) number (kept c.0 lt (let e = ap (end_of segments) number in omega (arith, e, past))))
+      (λ (ge : i ≤ c.0). absurd (let e = ap (λ (s : ℕ × ℕ). s.0) same in let m = late c.0 ge c.1 in omega (arith, e, m, begins))) (cases_lt c.0 i)
+
+  module _ (i at : ℕ) (first : ℕ × ℕ) (within : i < length starts) (is : first ≡ get_or starts i first) where
+    is_first : first ≡ get_or starts i (0, 0)
+    is_first = read_at starts i first (get_or starts i (0, 0)) within is (slice_get-get_or starts i (0, 0) within)
+
+    pub rises : (j : ℕ) → i ≤ j → j < length starts → first.0 ≤ (get_or starts j (0, 0)).0
+    rises j ge l = let s = ap (λ (s : ℕ × ℕ). s.0) is_first in let r = are.rise i j (0, 0) ge l in omega (arith, s, r)
+
+    pub reached : ((j : ℕ) → i ≤ j → j < length starts → at ≤ (get_or starts j (0, 0)).0) → at ≤ first.0
+    reached low = let s = ap (λ (s : ℕ × ℕ). s.0) is_first in let l = low i (omega arith) within in omega (arith, s, l)
+
+    own : (first.1 < length segments) × (first.0 ≡ start_of segments first.1)
+    own = rw is (are.numbers i first within)
+
+    pub small : All (λ pair. pair.0 + pair.1 < 2 ^ 64) segments → first.0 ≤ 2 ^ 64 - 1
+    small fits = let o = own in let s = o.1 in let f : end_of segments first.1 < 2 ^ 64 = fits first.1 (0, 0) o.0 in omega (arith, s, f)
+
+    module _ (old mid new : List ℕ) (moved : IsPermutation (first.1 ∷ mid) new) where
+      pub begun_more : AreBegun segments first.0 mid → AreBegun segments first.0 new
+      begun_more begun =
+          let P : ℕ → Type 0 = λ k. (k < length segments) × (start_of segments k ≤ first.0) in
+          let o = own in
+          let s = o.1 in
+          All-permutation P (first.1 ∷ mid) new moved (All-cons P first.1 mid (o.0, omega (arith, s)) begun)
+
+      pub kept_more : at ≤ first.0 → AreKept segments starts i at old → Keeps segments first.0 old mid → AreKept segments starts (i + 1) first.0 new
+      kept_more up kept keeps j l past = Contains-permutation (first.1 ∷ mid) new (get_or starts j (0, 0)).1 moved (⊎_elim
+          (λ (lt : j < i). let c = keeps (get_or starts j (0, 0)).1 (kept j lt (omega (arith, up, past))) past in (suc c.0, omega (arith, c.1), c.2))
+          (λ (ge : i ≤ j). let same : i ≡ j = omega arith in (0, omega arith, ap (λ (s : ℕ × ℕ). s.1) is_first ∙ ap (λ n. (get_or starts n (0, 0)).1) same)) (cases_lt j i))
+
+-- ---- the starts
+
+abbrev pub IsNumber : List (ℕ × ℕ) → ℕ × ℕ → Type 0
+IsNumber segments s = (s.1 < length segments) × (s.0 ≡ start_of segments s.1)
+
+module _ (segments starts : List (ℕ × ℕ)) (i : ℕ) (within : i < length segments) where
+  pub each_more : ((k : ℕ) → k < i → Contains starts (start_of segments k, k)) → (k : ℕ) → k < i + 1 → Contains (starts ++ (start_of segments i, i) ∷ []) (start_of segments k, k)
+  each_more each k l = ⊎_elim (λ (lt : k < i). Contains-append_left starts ((start_of segments i, i) ∷ []) (start_of segments k, k) (each k lt))
+      (λ (ge : i ≤ k).
+      let same : i ≡ k = omega arith in
+      subst (λ n. Contains (starts ++ (start_of segments i, i) ∷ []) (start_of segments n, n)) same (Contains-push starts (start_of segments i, i))) (cases_lt k i)
+
+  pub numbers_more : All (IsNumber segments) starts → All (IsNumber segments) (starts ++ (start_of segments i, i) ∷ [])
+  numbers_more all = All-push (IsNumber segments) starts (start_of segments i, i) all (within, refl)
+
+-- ranges below the greatest number of 64 bits are all
+pub all_written : (segments : List (ℕ × ℕ)) (ranges : List Written) → All (λ pair. pair.0 + pair.1 < 2 ^ 64) segments → AreWrittenBelow segments (2 ^ 64 - 1) ranges → AreWritten segments ranges
+all_written segments ranges fits a = record {
+  places = λ place. ⊎_elim (a.places place)
+      (λ (ge : 2 ^ 64 - 1 ≤ place). none_above (2 ^ 64 - 1) place ranges ge a.below
+      ∙ sym (none_is 0 place segments (λ k l begins ends. let f : end_of segments k < 2 ^ 64 = fits k (0, 0) l in omega arith))) (cases_lt place (2 ^ 64 - 1));
+  some = a.some;
+  ordered = a.ordered;
+}
