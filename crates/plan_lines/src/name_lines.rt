@@ -2,8 +2,9 @@
 
 ghost use Rattle.std.specs.Prelude.{◌≡◌, ◌++◌, All, OnOk};
 ghost use Rattle.std.specs.List.{flat_map};
-ghost use Rattle.plan_lines.specs.NameLines.{IsInPool, HasName, quoted_atom, kind_text, kind_number, entity_text, import_line, export_line, module_name_line, module_name_lines, function_name_line};
+ghost use Rattle.plan_lines.specs.NameLines.{IsInPool, HasName, quoted_atom, entity_text, import_line, export_line, module_name_line, module_name_lines, function_name_line};
 
+use crate::expressions::append_operand;
 use crate::quoted::append_quoted;
 use crate::text::Text;
 use entity_map::{Atom, EntityRef, OutOfMemory, StringPool};
@@ -19,36 +20,16 @@ fn append_atom(text: &mut Text, pool: &StringPool, atom: Atom) -> Result<(), Out
     append_quoted(text, pool.get(atom))
 }
 
-fn kind_name(entity: EntityIndex) -> &'static str
-    ensures { result.now ≡ kind_text entity }
-{
-    match entity {
-        EntityIndex::Function(_) => "function",
-        EntityIndex::Table(_) => "table",
-        EntityIndex::Memory(_) => "memory",
-        EntityIndex::Global(_) => "global",
-        EntityIndex::Tag(_) => "tag",
-    }
-}
-
-fn kind_number(entity: EntityIndex) -> u32
-    ensures { result ≡ kind_number entity }
-{
-    match entity {
-        EntityIndex::Function(index) => index.as_u32(),
-        EntityIndex::Table(index) => index.as_u32(),
-        EntityIndex::Memory(index) => index.as_u32(),
-        EntityIndex::Global(index) => index.as_u32(),
-        EntityIndex::Tag(index) => index.as_u32(),
-    }
-}
-
 fn append_entity(text: &mut Text, entity: EntityIndex) -> Result<(), OutOfMemory>
     ensures { OnOk result (text.new ≡ text.old ++ entity_text entity) }
 {
-    text.push_str(kind_name(entity))?;
-    text.push_byte(b' ')?;
-    text.push_number(kind_number(entity))
+    match entity {
+        EntityIndex::Function(index) => append_operand(text, "function", index.as_u32()),
+        EntityIndex::Table(index) => append_operand(text, "table", index.as_u32()),
+        EntityIndex::Memory(index) => append_operand(text, "memory", index.as_u32()),
+        EntityIndex::Global(index) => append_operand(text, "global", index.as_u32()),
+        EntityIndex::Tag(index) => append_operand(text, "tag", index.as_u32()),
+    }
 }
 
 /// Appends the line of an import, with its place among the imports. The texts of its names must be in the pool.

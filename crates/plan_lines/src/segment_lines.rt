@@ -17,7 +17,7 @@ ghost use Rattle.plan_lines.specs.SegmentLines.{
 
 use crate::expressions::append_expression;
 use crate::memory_lines::append_images;
-use crate::numbers::append_named;
+use crate::numbers::{append_named, append_pair};
 use crate::text::Text;
 use entity_map::{EntityRef, OutOfMemory, PrimaryMap};
 use init_plan::{MemoryInit, MemoryInitialization, MemorySegmentOffset};
@@ -143,10 +143,8 @@ pub fn append_segment(
 ) -> Result<(), OutOfMemory>
     ensures { OnOk result (text.new ≡ text.old ++ segment_line (number_of memory) (number_of index) offset.now) }
 {
-    text.push_str("segment ")?;
-    text.push_number(memory.as_u32())?;
-    text.push_byte(b' ')?;
-    text.push_number(index.as_u32())?;
+    text.push_str("segment")?;
+    append_pair(text, memory.as_u32(), index.as_u32())?;
     text.push_str(" at ")?;
     append_offset(text, offset)?;
     text.push_byte(b'\n')

@@ -42,16 +42,24 @@ impl Text {
     }
 
     /// Appends words.
-    #[inline]
+    #[inline(always)]
     pub fn push_str(&mut self, words: &str) -> Result<(), OutOfMemory>
         ensures { OnOk result (self.new ≡ self.old ++ words.now) }
     {
-        self.bytes.extend_from_slice(words.as_bytes())?;
+        self.push_bytes(words.as_bytes())
+    }
+
+    // Appends bytes.
+    #[inline(always)]
+    pub(crate) fn push_bytes(&mut self, bytes: &[u8]) -> Result<(), OutOfMemory>
+        ensures { OnOk result (self.new ≡ self.old ++ bytes.now) }
+    {
+        self.bytes.extend_from_slice(bytes)?;
         Ok(())
     }
 
     /// Appends one byte.
-    #[inline]
+    #[inline(always)]
     pub fn push_byte(&mut self, byte: u8) -> Result<(), OutOfMemory>
         ensures { OnOk result (self.new ≡ self.old ++ byte ∷ []) }
     {
@@ -60,7 +68,7 @@ impl Text {
     }
 
     /// Appends a number in decimal, with a minus sign where it is below 0.
-    #[inline]
+    #[inline(always)]
     pub fn push_number<I: Integer>(&mut self, number: I) -> Result<(), OutOfMemory>
         ensures { OnOk result (self.new ≡ self.old ++ I.text number) }
     {

@@ -5,7 +5,7 @@ ghost use Rattle.std.specs.List.{flat_map};
 ghost use Rattle.plan_lines.specs.Numbers.{keyed_lines};
 ghost use Rattle.plan_lines.specs.TypeLines.{trampoline_text, type_line, listed_number, declared_line, signature_line};
 
-use crate::numbers::{append_named, append_numbers};
+use crate::numbers::{append_named, append_numbers, append_pair_line};
 use crate::text::Text;
 use entity_map::{EntityRef, OutOfMemory, PrimaryMap};
 use wasm_index::{ModuleInternedTypeIndex, TypeIndex};
@@ -60,11 +60,7 @@ pub fn append_declared(
     ensures { OnOk result (text.new ≡ text.old ++ keyed_lines declared_line types.now) }
 {
     for (index, interned) in types.iter() {
-        append_numbers(
-            text,
-            "declared",
-            &[index.as_u32().into(), listed_number(*interned).into()],
-        )?;
+        append_pair_line(text, "declared", index.as_u32(), listed_number(*interned))?;
     }
     Ok(())
 }
