@@ -26,3 +26,4 @@ pub mod Balance
 pub mod PlannedLists
 pub mod SameNames
 pub mod Digests
+pub mod Filled

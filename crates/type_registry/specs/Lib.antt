@@ -10,3 +10,4 @@ pub mod Fresh
 pub mod Planning
 pub mod FreeIndices
 pub mod Balanced
+pub mod Hashing
