@@ -7,15 +7,15 @@ ghost use Rattle.import_match.specs.Definitions.{Definition, names_of, found, Is
 ghost use Rattle.import_match.specs.Kept.{definition_of, definitions_of};
 
 use crate::error::LinkError;
+use crate::hashing::SeededSip;
 use crate::names::Names;
 use indexmap::IndexMap;
 use std::alloc::{AllocFailed, Global};
-use std::hash::{BuildHasherDefault, DefaultHasher};
 use wasm_types::EntityType;
 
-/// The type of each definition by its names. Names come one by one, and strangers choose them who know those that stand before, so no seed helps that is taken
-/// before they come: each pair is hashed whole by SipHash, of which no names with one digest are known.
-pub(crate) type Definitions = IndexMap<Names, EntityType, BuildHasherDefault<DefaultHasher>>;
+/// The type of each definition by its names. Each pair is hashed whole by SipHash from a seed that is given: strangers who choose names know those that stand before,
+/// so a seed that is taken from names is no help.
+pub(crate) type Definitions = IndexMap<Names, EntityType, SeededSip>;
 
 /// The definition under two names: its number and its type.
 pub(crate) fn find(definitions: &Definitions, names: &Names) -> Option<(usize, EntityType)>

@@ -5,6 +5,7 @@ mod definitions;
 mod engine_types;
 mod error;
 mod exports;
+mod hashing;
 mod imports;
 mod laws;
 mod linker;

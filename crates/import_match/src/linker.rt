@@ -12,10 +12,10 @@ ghost use Rattle.import_match.specs.Refusals.{ComesExactly, IsOutOfMemory};
 use crate::definitions::{Definitions, append, append_all, new_names};
 use crate::error::LinkError;
 use crate::exports::planned_exports;
+use crate::hashing::SeededSip;
 use crate::imports::resolve_imports;
 use indexmap::IndexMap;
 use std::alloc::Global;
-use std::hash::BuildHasherDefault;
 use std::marker::Model;
 use type_registry::{ModuleKey, TypeRegistry};
 use wasm_module::Module;
@@ -48,9 +48,17 @@ impl Linker {
     pub fn new(alloc: Global) -> Self
         ensures { result ≡ [] }
     {
+        Linker::with_seed(alloc, 0)
+    }
+
+    /// The same, whose names are hashed from a seed. Where strangers choose names, it is a number that they do not know, as one from the system's source of
+    /// random bytes.
+    pub fn with_seed(alloc: Global, seed: u64) -> Self
+        ensures { result ≡ [] }
+    {
         Linker {
             alloc,
-            definitions: IndexMap::with_hasher(alloc, BuildHasherDefault::new()),
+            definitions: IndexMap::with_hasher(alloc, SeededSip::new(seed)),
         }
     }
 
