@@ -102,8 +102,11 @@ function readValueType(cursor, named) {
   return { kind: "ref", isNullable: byte === 0x63 };
 }
 
+// Of a table or its elements, where a shared type has no spelling.
 function readReferenceType(cursor, named) {
-  const at = cursor.at, read = readValueType(cursor, named);
+  const at = cursor.at;
+  if (cursor.bytes[at] === 0x65) throw new Stop(at, "a type of references must stand here");
+  const read = readValueType(cursor, named);
   if (read.kind !== "ref") throw new Stop(at, "a type of references must stand here");
   return read;
 }
