@@ -33,18 +33,19 @@ function plainWords(words, begin, end, numbers) {
 class Comparison {
   constructor(one, other) {
     Object.assign(this, { one, other });
-    const numbering = new Numbering(), ours = numbering.numbersOf(one), theirs = new Map();
-    numbering.numbersOf(other).forEach((number, index) => theirs.set(number, index));
-    // Each row: a type of one module or null, and that of the other or null.
-    this.pairs = Array.from(ours, (number, index) => [index, theirs.get(number) ?? null]);
+    const numbering = new Numbering(), ours = numbering.numbersOf(one), theirs = numbering.numbersOf(other);
+    const firstOf = numbers => numbers.reduceRight((known, number, index) => known.set(number, index), new Map());
+    const ownFirst = firstOf(ours), otherFirst = firstOf(theirs);
+    // Each row: a type of one module or null, and the first type of the other that is equal, or null.
+    this.pairs = Array.from(ours, (number, index) => [index, otherFirst.get(number) ?? null]);
     this.common = this.pairs.filter(([, found]) => found !== null).length;
-    const taken = new Set(this.pairs.map(([, found]) => found));
-    for (const index of theirs.values()) if (!taken.has(index)) this.pairs.push([null, index]);
+    theirs.forEach((number, index) => ownFirst.has(number) || this.pairs.push([null, index]));
+    this.onlyOther = this.pairs.length - one.plan.types;
   }
 
   summary() {
-    const { one, other, common } = this;
-    return { common, onlyOne: one.plan.types - common, onlyOther: other.plan.types - common, types: this.pairs.length, images: this.images(), regions: this.regions(), counts: this.counts() };
+    const { one, common, onlyOther } = this;
+    return { common, onlyOne: one.plan.types - common, onlyOther, types: this.pairs.length, images: this.images(), regions: this.regions(), counts: this.counts() };
   }
 
   types(from, to) {

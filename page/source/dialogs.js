@@ -62,7 +62,7 @@ async function showBytes(plan, { of, index = 0, title, base, marked = null }) {
       following = told.next;
       return told.bytes;
     },
-    draw: (bytes, from) => scrolled("bytes", el("pre", {}, ...hexRows(bytes, from, base, marked))),
+    draw: (bytes, from) => boxed("bytes", el("pre", {}, ...hexRows(bytes, from, base, marked))),
   });
   const jump = el("input", { type: "text", inputmode: "text", "aria-label": "address to go to, as 4096 or 0x1000", placeholder: "0x1000" });
   const go = event => {

@@ -7,7 +7,8 @@ const SIMPLE = {
 // Reads one expression. `wanted` is the class that its place wants, and `visible` how many globals it may name. What the rules of typing
 // refuse is told to `places`. Returns the constant where the whole expression is one constant number.
 function readExpression(cursor, places, wanted, visible) {
-  const from = cursor.at, stack = [];
+  const from = cursor.at, plain = readPlainConstant(cursor, wanted), stack = [];
+  if (plain !== null) return plain;
   let constant = null, count = 0, isBroken = false;
   const breaks = (at, what) => {
     if (!isBroken) places.breaks(6, at, what);
@@ -31,6 +32,20 @@ function readExpression(cursor, places, wanted, visible) {
   const left = stack.join(", ");
   if (!isBroken && wanted && left !== wanted) breaks(from, `this expression leaves ${left || "nothing"}, and its place wants ${wanted}`);
   return count === 1 ? constant : null;
+}
+
+// The constant of an expression that is one i32.const, as almost all are; or null, and then nothing is read.
+function readPlainConstant(cursor, wanted) {
+  const from = cursor.at;
+  if (wanted !== "i32" || cursor.bytes[from] !== 0x41) return null;
+  cursor.at++;
+  const constant = cursor.signed(32);
+  if (cursor.at < cursor.end && cursor.bytes[cursor.at] === 0x0b) {
+    cursor.at++;
+    return constant;
+  }
+  cursor.at = from;
+  return null;
 }
 
 // One operator: what it takes and gives; or null at the end of the expression.

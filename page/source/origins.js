@@ -105,7 +105,7 @@ class Origins {
     const sources = this.told.activeData.filter(i => this.places.data[i].memory === row.memory && this.places.data[i].length > 0);
     for (const source of sources.slice(0, MOST)) {
       const { constant, length: bytes } = this.places.data[source];
-      facts.push({ ...this.dataItem(source), text: `${bytes} bytes at ${constant === null ? "an expression" : BigInt.asUintN(64, constant)}, number ${source} of the data section (11)` });
+      facts.push({ ...this.dataItem(source), text: `${bytes} bytes at ${placeOfConstant(constant)}, number ${source} of the data section (11)` });
     }
     if (sources.length > MOST) facts.push({ label: "and", text: `${(sources.length - MOST).toLocaleString("en")} more data segments; where two overlap the later one stands` });
     facts.push(this.section(11));
@@ -152,6 +152,12 @@ class Origins {
     if (this.plan.start !== NONE) facts.push({ label: "calls", text: `function ${this.plan.start}` }, this.section(8));
     return { title: "startup", facts: [...facts, ...this.line("startup", 0)] };
   }
+}
+
+// A constant as the place that it names: without a sign, of 32 or 64 bits.
+function placeOfConstant(constant) {
+  if (constant === null) return "an expression";
+  return typeof constant === "bigint" ? BigInt.asUintN(64, constant).toLocaleString("en") : (constant >>> 0).toLocaleString("en");
 }
 
 function rangeWords(space, from, to) {

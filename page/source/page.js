@@ -57,7 +57,11 @@ function readAddress() {
   takeOptionWords(options === null ? ["--cow", "--lazy-tables"] : options.split(" "));
   checkOptions();
   byId("command").textContent = commandWords();
-  for (const side of ["one", "other"]) if (EXAMPLES[words.get(side)] && sides[side]?.example !== words.get(side)) takeExample(side, words.get(side));
+  for (const side of ["one", "other"]) {
+    const example = words.get(side);
+    if (EXAMPLES[example] && sides[side]?.example !== example) takeExample(side, example);
+    else if (sides[side]) planSide(side);
+  }
 }
 
 const commandWords = () => ["./translate FILE.wasm", ...optionWords()].join(" ");

@@ -54,9 +54,14 @@ function table(caption, columns, rows) {
   return el("table", {}, el("caption", { class: "unseen" }, caption), el("thead", {}, head), el("tbody", {}, ...body));
 }
 
-// What may be wider or taller than its place: the keyboard can scroll it.
-function scrolled(label, ...inside) {
-  return el("div", { class: "scroll tall", tabindex: "0", role: "region", "aria-label": label }, ...inside);
+// What may be wider than its place: the keyboard can scroll it.
+function scrolled(label, inside, more = "") {
+  return el("div", { class: `scroll${more}`, tabindex: "0", role: "region", "aria-label": label }, inside);
+}
+
+// What may be taller too.
+function boxed(label, inside) {
+  return scrolled(label, inside, " tall");
 }
 
 // Says something to who cannot see the page.

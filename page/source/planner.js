@@ -112,8 +112,15 @@ class Rows {
 
   // One number of a row.
   number(index, name) {
-    const field = this.planner.layout.records[this.kind].fields[name];
-    return this.planner.number(this.at + index * this.size + field.at, field.number);
+    return this.column(name)(index);
+  }
+
+  // One number of each row: a call that is as quick as can be, for lists that are gone through whole. The memory must not grow meanwhile.
+  column(name) {
+    const { view } = this.planner, { at, number } = this.planner.layout.records[this.kind].fields[name];
+    const begin = this.at + at, { size } = this;
+    if (number === 4) return index => view.getUint32(begin + index * size, true);
+    return index => this.planner.number(begin + index * size, number);
   }
 
   slice(from, to) {

@@ -37,20 +37,21 @@ class Cursor {
     return this.unsigned(32);
   }
 
-  // A number with a sign, of at most so many bits, as it is written: exact.
+  // A number with a sign, of at most so many bits: a BigInt where there are 64.
   signed(bits) {
-    const from = this.at;
-    let value = 0n, place = 0n, left = bits;
+    const from = this.at, isLong = bits === 64;
+    let value = isLong ? 0n : 0, read = 0;
     for (;;) {
-      const byte = this.byte();
-      if (left < 7) {
+      const byte = this.byte(), left = bits - read;
+      if (left <= 7) {
         const above = (byte & 127) >> (left - 1), all = 127 >> (left - 1);
-        if (byte & 128 || above !== 0 && above !== all) throw new Stop(from, `a number does not fit in ${bits} bits`);
-      } else if (left === 7 && byte & 128) throw new Stop(from, `a number does not fit in ${bits} bits`);
-      value |= BigInt(byte & 127) << place;
-      place += 7n;
-      left -= 7;
-      if (!(byte & 128)) return byte & 64 ? value - (1n << place) : value;
+        if (byte & 128 || (above !== 0 && above !== all)) throw new Stop(from, `a number does not fit in ${bits} bits`);
+      }
+      value += isLong ? BigInt(byte & 127) << BigInt(read) : (byte & 127) * 2 ** read;
+      read += 7;
+      if (byte & 128) continue;
+      if (!(byte & 64)) return value;
+      return isLong ? value - (1n << BigInt(read)) : value - 2 ** read;
     }
   }
 
@@ -87,8 +88,8 @@ function readHeapType(cursor, named) {
     return;
   }
   const index = cursor.signed(33);
-  if (index < 0n) throw new Stop(at, "no heap type begins with this byte");
-  named(at, Number(index));
+  if (index < 0) throw new Stop(at, "no heap type begins with this byte");
+  named(at, index);
 }
 
 // Returns the class of the value: that of its number, or "ref"; and whether there is a value to begin with.
@@ -141,9 +142,9 @@ function readComposite(cursor, named) {
     case 0x5e: return { kind: "array", fields: [field(cursor)] };
     case 0x5d: {
       const place = cursor.at, index = cursor.signed(33);
-      if (index < 0n) throw new Stop(place, "a continuation names a type by its index");
-      named(place, Number(index));
-      return { kind: "cont", fields: [], of: { at: place, index: Number(index) } };
+      if (index < 0) throw new Stop(place, "a continuation names a type by its index");
+      named(place, index);
+      return { kind: "cont", fields: [], of: { at: place, index } };
     }
     case 0x65: throw new Stop(at, "a shared type", true);
     default: throw new Stop(at, "no type begins with this byte");

@@ -26,11 +26,13 @@ class Told {
     this.imported = this.plan.entities;
     this.declaredOf = new Grouped(this.plan.declared.length, this.plan.types, i => this.plan.declared.get(i));
     this.functionsOf = new Grouped(this.plan.functions.length, this.plan.types, i => this.plan.functions.get(i));
-    const { segments } = this.plan, memories = this.plan.memories.length;
-    this.segmentsOf = new Grouped(segments.length, memories, i => segments.number(i, "memory"));
-    this.imagesOf = new Grouped(this.plan.images.length, memories, i => this.plan.images.number(i, "memory"));
-    this.activeData = this.places.data.flatMap((segment, i) => (segment.memory === null ? [] : [i]));
-    this.activeElements = this.places.elements.flatMap((element, i) => (element.isActive ? [i] : []));
+    const { segments, images, runtime_ranges: ranges } = this.plan, memories = this.plan.memories.length;
+    this.segmentsOf = new Grouped(segments.length, memories, segments.column("memory"));
+    this.imagesOf = new Grouped(images.length, memories, images.column("memory"));
+    this.begins = ranges.column("begin");
+    this.ends = ranges.column("end");
+    this.activeData = placesOf(this.places.data, segment => segment.memory !== null);
+    this.activeElements = placesOf(this.places.elements, element => element.isActive);
     this.groupOf = new Uint32Array(this.plan.types);
     for (let g = 0; g < this.plan.groups.length; g++) this.groupOf.fill(g, this.plan.groups.number(g, "begin"), this.plan.groups.number(g, "end"));
   }
@@ -90,20 +92,17 @@ class Told {
 
   // The images of a memory, or its segments where it has none, that begin at a known place.
   *parts(memory) {
-    const { images, segments, runtime } = this.plan, length = i => this.runtimeLength(i);
-    if (this.plan.images_made) {
-      for (const i of this.imagesOf.of(memory)) yield { kind: "image", index: i, at: Number(images.number(i, "offset")), runtime: images.number(i, "runtime"), length: length(images.number(i, "runtime")) };
-    } else {
-      for (const i of this.segmentsOf.of(memory)) {
-        if (segments.number(i, "kind") > this.numbers.at_constant) continue;
-        yield { kind: "segment", index: i, at: Number(segments.number(i, "offset")), runtime: segments.number(i, "runtime"), length: length(segments.number(i, "runtime")) };
-      }
+    const isImage = this.plan.images_made !== 0, list = isImage ? this.plan.images : this.plan.segments, of = isImage ? this.imagesOf : this.segmentsOf;
+    const offset = list.column("offset"), data = list.column("runtime"), kind = isImage ? () => this.numbers.at_byte : list.column("kind");
+    for (const index of of.of(memory)) {
+      if (kind(index) > this.numbers.at_constant) continue;
+      const runtime = data(index);
+      yield { kind: isImage ? "image" : "segment", index, at: Number(offset(index)), runtime, length: this.runtimeLength(runtime) };
     }
   }
 
   runtimeLength(index) {
-    const { begin, end } = this.plan.runtime_ranges.get(index);
-    return end - begin;
+    return this.ends(index) - this.begins(index);
   }
 
   // How full a part of a memory is, in columns: the share of bytes that are not zero in images, and of bytes that segments write.
@@ -243,12 +242,15 @@ class Told {
 class Grouped {
   constructor(count, groups, groupOf) {
     this.begins = new Uint32Array(groups + 1);
-    const of = Uint32Array.from({ length: count }, (_, i) => groupOf(i));
-    for (const group of of) this.begins[group + 1]++;
+    const of = new Uint32Array(count);
+    for (let i = 0; i < count; i++) {
+      of[i] = groupOf(i);
+      this.begins[of[i] + 1]++;
+    }
     for (let g = 0; g < groups; g++) this.begins[g + 1] += this.begins[g];
     const next = this.begins.slice();
     this.items = new Uint32Array(count);
-    of.forEach((group, i) => (this.items[next[group]++] = i));
+    for (let i = 0; i < count; i++) this.items[next[of[i]]++] = i;
   }
 
   count(group) {
@@ -262,6 +264,13 @@ class Grouped {
   slice(group, from, to) {
     return Array.from(this.of(group).subarray(from, to));
   }
+}
+
+// Where the items stand that are meant.
+function placesOf(items, isMeant) {
+  const places = [];
+  for (let i = 0; i < items.length; i++) if (isMeant(items[i])) places.push(i);
+  return places;
 }
 
 // How many of these bytes are not zero.

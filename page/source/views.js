@@ -2,10 +2,6 @@
 
 const PART = 100;
 
-function view(summary, ask, open) {
-  return { summary, ask, ...open };
-}
-
 // Where a part comes from, as a button.
 function originButton(plan, kind, index, words = "where from", label = `where ${kind} ${index} comes from`) {
   return button(words, () => showOrigin(plan, kind, index), { "aria-label": label });
@@ -68,7 +64,7 @@ function spansPart(plan, memory, rows) {
   ]));
   const paging = new Paging({ label: `${kind}s of memory ${memory.index}`, unit: kind, count: rows, size: PART, load: (from, to) => plan.ask("spans", { memory: memory.index, from, to }), draw });
   paging.show();
-  return rows > 8 ? scrolled(`${kind}s of memory ${memory.index}`, paging.element) : el("div", { class: "scroll" }, paging.element);
+  return boxed(`${kind}s of memory ${memory.index}`, paging.element);
 }
 
 const placeWords = place => (typeof place === "string" ? el("code", {}, place) : spoken(place));
@@ -86,7 +82,7 @@ function passivePart(plan) {
   ]));
   const paging = new Paging({ label: "passive segments", unit: "segment", count: passive, size: PART, load: (from, to) => plan.ask("passive", { from, to }), draw });
   paging.show();
-  return el("div", {}, el("h3", {}, "Passive segments"), el("p", { class: "soft" }, "Kept for code that copies them by memory.init."), el("div", { class: "scroll" }, paging.element));
+  return el("div", {}, el("h3", {}, "Passive segments"), el("p", { class: "soft" }, "Kept for code that copies them by memory.init."), boxed("passive segments", paging.element));
 }
 
 // Tables.
@@ -119,7 +115,7 @@ function elementsPart(plan, elements) {
   const draw = rows => table("element segments that are left", ["segment", "#table", "at", "#elements", "look"], rows.map(row => [`segment ${row.index}`, spoken(row.table), placeWords(row.place), spoken(row.count), originButton(plan, "elements", row.index)]));
   const paging = new Paging({ label: "element segments that are left", unit: "segment", count: elements, size: PART, load: (from, to) => plan.ask("elements", { from, to }), draw });
   paging.show();
-  return el("div", {}, el("h3", {}, "Element segments that are left"), el("p", { class: "soft" }, "Startup writes them in order."), el("div", { class: "scroll" }, paging.element));
+  return el("div", {}, el("h3", {}, "Element segments that are left"), el("p", { class: "soft" }, "Startup writes them in order."), boxed("element segments that are left", paging.element));
 }
 
 // The context. White words stand on each of these colours.
@@ -135,7 +131,7 @@ function contextCard(plan) {
   const rows = regions.map((region, i) => [
     [el("span", { class: "key", style: `background: ${region.size ? COLOURS[i % COLOURS.length] : "transparent"}` }), button(region.name, () => showOrigin(plan, "region", region.line), { class: "plain" })], spoken(region.begin), spoken(region.size),
   ]);
-  return card("Context", el("p", { class: "soft" }, `${count(context, "byte")} that code of the module finds everything by, one region after the other.`), bar, el("div", { class: "ends" }, el("span", {}, "0"), el("span", {}, spoken(context))), el("div", { class: "scroll" }, table("regions of the context", ["region", "#begins", "#bytes"], rows)));
+  return card("Context", el("p", { class: "soft" }, `${count(context, "byte")} that code of the module finds everything by, one region after the other.`), bar, el("div", { class: "ends" }, el("span", {}, "0"), el("span", {}, spoken(context))), scrolled("regions of the context", table("regions of the context", ["region", "#begins", "#bytes"], rows)));
 }
 
 // Types.
@@ -148,7 +144,7 @@ function typesCard(plan) {
   ]));
   const paging = new Paging({ label: "interned types", unit: "type", count: types, size: PART, load: (from, to) => plan.ask("types", { from, to }), draw });
   paging.show();
-  return card("Types", el("p", { class: "soft" }, intro), types > 8 ? scrolled("interned types", paging.element) : el("div", { class: "scroll" }, paging.element));
+  return card("Types", el("p", { class: "soft" }, intro), boxed("interned types", paging.element));
 }
 
 function declaredWords({ declared, declaredCount }) {
@@ -162,7 +158,7 @@ function textCard(plan) {
   let chosen = null;
   const draw = (rows, from) => el("pre", { class: "text" }, ...rows.map((row, i) => el("span", { class: from + i === chosen ? "line chosen" : "line", "data-number": spoken(from + i + 1) }, row)));
   const paging = new Paging({ label: "the text", unit: "line", first: 1, count: lines, size: 400, load: (from, to) => plan.ask("lines", { from: from - 1, to: to - 1 }), draw: (rows, from) => draw(rows, from - 1) });
-  const box = scrolled("the text of the plan", paging.element);
+  const box = boxed("the text of the plan", paging.element);
   body.append(box);
   // Shows a line and moves the keyboard there.
   plan.goToLine = async line => {

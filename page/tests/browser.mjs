@@ -105,10 +105,16 @@ export class Tab {
     await this.send("Emulation.setEmulatedMedia", { features: [{ name: "prefers-color-scheme", value: name }] });
   }
 
-  // A picture of the whole page, or of its first part.
-  async picture(mostHigh = Infinity) {
+  // A picture of what is in view.
+  async viewed() {
+    const { data } = await this.send("Page.captureScreenshot", {});
+    return Buffer.from(data, "base64");
+  }
+
+  // A picture of the whole page.
+  async picture() {
     const { cssContentSize: { width, height } } = await this.send("Page.getLayoutMetrics");
-    const clip = { x: 0, y: 0, width, height: Math.min(height, mostHigh), scale: 1 };
+    const clip = { x: 0, y: 0, width, height, scale: 1 };
     const { data } = await this.send("Page.captureScreenshot", { captureBeyondViewport: true, clip });
     return Buffer.from(data, "base64");
   }
