@@ -266,7 +266,6 @@ typedef struct {
     uint8_t supertype_list, function_list;  /* BOBBINAZURE_NO_INDEX without one */
     uint32_t supertype;
     uint32_t function;          /* of a continuation or an exception */
-    uint32_t trampoline;        /* an interned type, or BOBBINAZURE_NONE */
     bobbinazure_span fields;    /* of plan.fields: fields, or parameters and then results */
     size_t results;             /* how many of them are results */
 } bobbinazure_type;
@@ -281,6 +280,8 @@ typedef struct {
 } bobbinazure_layout;
 
 typedef struct { uint32_t offset, is_ref; } bobbinazure_layout_field;
+
+typedef struct { uint32_t type, trampoline; } bobbinazure_trampoline;  /* interned types */
 
 #define BOBBINAZURE_LIST(T) struct { const T *at; size_t len; }
 
@@ -332,11 +333,13 @@ typedef struct {
     BOBBINAZURE_LIST(uint8_t) import_names;
     BOBBINAZURE_LIST(bobbinazure_export) exports;
     BOBBINAZURE_LIST(uint8_t) export_names;
-    BOBBINAZURE_LIST(bobbinazure_bytes) module_names;           /* the module's name, if it has one, in the module's bytes */
+    BOBBINAZURE_LIST(bobbinazure_span) module_names;            /* the module's name, if it has one, in module_text */
     BOBBINAZURE_LIST(bobbinazure_layout) layouts;               /* of the objects of interned types that have some */
     BOBBINAZURE_LIST(bobbinazure_layout_field) layout_fields;
     BOBBINAZURE_LIST(bobbinazure_type) interned;                /* each interned type */
     BOBBINAZURE_LIST(bobbinazure_field) fields;
+    BOBBINAZURE_LIST(bobbinazure_trampoline) trampolines;       /* of the types that have one, in order */
+    BOBBINAZURE_LIST(uint8_t) module_text;
 } bobbinazure_plan;
 
 /* Each list of a plan. */
@@ -347,7 +350,7 @@ typedef struct {
     EACH(global_expressions.parts) EACH(global_expressions.operators) EACH(segment_places.parts) EACH(segment_places.operators) \
     EACH(element_places.parts) EACH(element_places.operators) EACH(table_values.parts) EACH(table_values.operators) \
     EACH(imports) EACH(import_names) EACH(exports) EACH(export_names) EACH(module_names) EACH(layouts) EACH(layout_fields) \
-    EACH(interned) EACH(fields)
+    EACH(interned) EACH(fields) EACH(trampolines) EACH(module_text)
 
 typedef struct {
     bobbinazure_bytes text;
@@ -356,14 +359,15 @@ typedef struct {
 
 /* Plans the module that the bytes spell. Takes the bytes and the options, which it reads while it runs; the plan refers to the bytes where a
  * segment or a name stands there, so they must outlive it. At PLANNED the plan is whole, and bobbinazure_plan_free frees it; at REFUSED its
- * three first fields say why; else it is unchanged. The plan that is passed in comes from bobbinazure_plan_init: what it held is not freed. */
+ * three first fields say why; at NO_MEMORY it has the lists that were made, which bobbinazure_plan_free frees; at WRONG_OPTIONS it is unchanged.
+ * The plan that is passed in comes from bobbinazure_plan_init: what it held is not freed. */
 uint32_t bobbinazure_make_plan(const uint8_t *bytes, size_t len, const bobbinazure_options *options, bobbinazure_plan *plan);
 
 /* The same plan as text, or the line of the refusal, in UTF-8 without a zero at the end. The text comes from bobbinazure_text_init, refers to
  * none of the bytes, and bobbinazure_text_free frees it. At WRONG_OPTIONS and NO_MEMORY it is unchanged. */
 uint32_t bobbinazure_make_text(const uint8_t *bytes, size_t len, const bobbinazure_options *options, bobbinazure_text *text);
 
-/* Both of one plan. Where there is no memory for one of them, none is made. */
+/* Both of one plan. At NO_MEMORY the text is unchanged. */
 uint32_t bobbinazure_make_plan_and_text(const uint8_t *bytes, size_t len, const bobbinazure_options *options, bobbinazure_plan *plan, bobbinazure_text *text);
 
 /* Those of the program without a word. */

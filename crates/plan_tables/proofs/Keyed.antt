@@ -1,0 +1,8 @@
+-- The values of a list with keys.
+use Rattle.std.proofs.Common.{◌≡◌, ℕ, ◌+◌, List, [], ◌∷◌, map, refl, ap}
+use Rattle.entity_map.specs.Keyed.{keyed_from}
+
+-- what is made of the values alone
+pub map_keyed : {K V X : Type 0} (at : ℕ → K) (f : V → X) (n : ℕ) (xs : List V) → map (λ (p : K × V). f p.1) (keyed_from at n xs) ≡ map f xs
+map_keyed at f n [] = refl
+map_keyed at f n (x ∷ xs) = ap (λ rest. f x ∷ rest) (map_keyed at f (n + 1) xs)

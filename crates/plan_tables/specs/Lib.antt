@@ -1,0 +1,11 @@
+pub mod Context
+pub mod Facts
+pub mod Kinds
+pub mod Memories
+pub mod Numbers
+pub mod Plan
+pub mod Segments
+pub mod Spans
+pub mod Tables
+pub mod Types
+pub mod Values

@@ -1,0 +1,13 @@
+-- Small numbers for what has none.
+use Rattle.std.specs.Prelude.{ℕ, Bool, if◌then◌else◌}
+use Rattle.wasm_types.specs.declared.limits.IndexType.{IndexType}
+use Rattle.wasm_types.specs.declared.limits.IndexType.TheVariants.{I32, I64}
+
+-- 1 for yes, 0 for no
+abbrev pub bit : Bool → ℕ
+bit b = if b then 1 else 0
+
+-- whether numbers of 64 bits address something
+abbrev pub wide_bit : IndexType → ℕ
+wide_bit I32 = 0
+wide_bit I64 = 1

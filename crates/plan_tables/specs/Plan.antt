@@ -1,0 +1,25 @@
+-- What a record says of a plan.
+use Rattle.std.specs.Prelude.{◌≡◌, [], map}
+use Rattle.vm_offsets.specs.Layouts.{fields_of, pointer_of, size_of_context}
+use Rattle.vm_offsets.specs.Regions.{context_regions}
+use Rattle.plan.specs.declared.plan.Plan.{Plan}
+use Rattle.plan_tables.specs.declared.record.PlanRecord.{PlanRecord}
+use Rattle.plan_tables.specs.Context.{TellsContext, region_told, placed_back}
+use Rattle.plan_tables.specs.Facts.{entities_row, facts_row}
+use Rattle.plan_tables.specs.Kinds.{TellsKinds}
+use Rattle.plan_tables.specs.Memories.{TellsMemories}
+use Rattle.plan_tables.specs.Tables.{TellsTables}
+use Rattle.plan_tables.specs.Types.{TellsTypes}
+
+-- the record tells the plan
+pub record Tells (plan : Plan) (r : PlanRecord) : Type 0 where
+  pub planned : (r.refusal ≡ 0) × (r.refusal_detail ≡ 0) × (r.refusal_line.now ≡ [])
+  pub entities : r.entities ≡ entities_row plan.translation.module
+  pub facts : r.facts ≡ facts_row plan.translation plan.types
+  pub context : TellsContext plan.offsets r.context
+  pub types : TellsTypes plan.translation plan.types r.types
+  pub kinds : TellsKinds plan.translation.module r.kinds
+  pub memories : TellsMemories plan.translation r.memories
+  pub tables : TellsTables plan.translation r.tables
+  -- the regions of the context, the last one first
+  pub regions : map region_told r.regions.now ≡ placed_back (size_of_context plan.offsets) (context_regions (pointer_of plan.offsets) (fields_of plan.offsets))

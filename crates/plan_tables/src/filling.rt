@@ -1,0 +1,41 @@
+//! A plan becomes tables.
+
+ghost use Rattle.std.specs.Prelude.{OnOk};
+ghost use Rattle.plan_tables.specs.Plan.{Tells};
+
+use crate::context::{context_row, regions_of};
+use crate::facts::{entities_row, facts_row};
+use crate::kinds::kinds_record;
+use crate::memories::memories_record;
+use crate::record::PlanRecord;
+use crate::tables::tables_record;
+use crate::types::types_record;
+use entity_map::OutOfMemory;
+use plan::Plan;
+use std::alloc::Global;
+
+/// Puts the tables of a plan into a record. They stand in memory that nothing of this library holds on to; bytes that the plan has from the module
+/// stay there. The plan is left without the bytes of its runtime data.
+///
+/// # Errors
+/// `OutOfMemory` where a table finds no memory: the record has the tables that were made before then.
+pub fn fill_record<'d>(
+    alloc: Global,
+    plan: &mut Plan<'d>,
+    out: &mut PlanRecord<'d>,
+) -> Result<(), OutOfMemory>
+    ensures { OnOk result (Tells plan.old out.new) }
+{
+    out.refusal = 0;
+    out.refusal_detail = 0;
+    out.refusal_line = &[];
+    out.entities = entities_row(&plan.translation.module);
+    out.facts = facts_row(&plan.translation, &plan.types);
+    out.context = context_row(&plan.offsets);
+    out.types = types_record(alloc, &plan.translation, &plan.types)?;
+    out.kinds = kinds_record(alloc, &plan.translation.module)?;
+    out.tables = tables_record(alloc, &plan.translation)?;
+    out.regions = regions_of(alloc, &plan.offsets)?.leak();
+    out.memories = memories_record(alloc, &mut plan.translation)?;
+    Ok(())
+}

@@ -1,0 +1,26 @@
+//! Safe Rust over the planner's C interface.
+//!
+//! ```no_run
+//! # fn main() -> Result<(), Box<dyn std::error::Error>> {
+//! let bytes = std::fs::read("module.wasm")?;
+//! let options = bobbinazure::Options { cow: true, ..Default::default() };
+//! let plan = bobbinazure::Plan::new(&bytes, &options)?;
+//! for image in plan.images() {
+//!     println!("memory {} begins as {} bytes at {}", image.memory, plan.bytes(image.runtime).len(), image.offset);
+//! }
+//! # Ok(())
+//! # }
+//! ```
+//!
+//! A `Plan` borrows the module's bytes, as in the planner itself, and gives its tables back when it is dropped.
+
+mod error;
+mod list;
+mod record;
+mod rows;
+
+pub use error::{Error, Reason};
+pub use record::{Plan, plan_and_text, text};
+pub use rows::{
+    Context, Elements, Entities, Global, Image, Memory, Options, Passive, Range, Region, Runtime, Segment, Span, Table, Tag, Value,
+};

@@ -1,0 +1,38 @@
+//! A list that the library made.
+
+use std::ffi::c_void;
+use std::slice;
+
+unsafe extern "C" {
+    fn free(block: *mut c_void);
+}
+
+/// A list of the record: where it stands, and how many items it has.
+#[repr(C)]
+pub(crate) struct List<T> {
+    at: *const T,
+    len: usize,
+}
+
+impl<T> List<T> {
+    pub(crate) fn empty() -> Self {
+        List { at: std::ptr::NonNull::dangling().as_ptr(), len: 0 }
+    }
+
+    pub(crate) fn as_slice(&self) -> &[T] {
+        // SAFETY: the list is empty, or as the library made it, and is not freed while it can be borrowed.
+        unsafe { slice::from_raw_parts(self.at, self.len) }
+    }
+
+    /// Gives back the block of a list that the library made.
+    ///
+    /// # Safety
+    /// Nothing borrows the list, and no other list has its block.
+    pub(crate) unsafe fn free(&mut self) {
+        if self.len > 0 {
+            // SAFETY: the library took the block of each list that is not empty from malloc.
+            unsafe { free(self.at.cast_mut().cast()) }
+        }
+        *self = List::empty();
+    }
+}

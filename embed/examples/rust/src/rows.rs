@@ -1,0 +1,192 @@
+//! The rows of a plan's tables, as the header has them.
+
+/// What a plan is made with.
+#[repr(C)]
+#[derive(Clone, Copy, Debug, PartialEq, Eq)]
+pub struct Options {
+    /// Memories begin as images, where the data segments allow it.
+    pub cow: bool,
+    /// Tables begin as images, as far as their elements allow it.
+    pub lazy_tables: bool,
+    pub branch_hints: bool,
+    pub native_debug: bool,
+    pub guest_debug: bool,
+    /// The bytes of a pointer of the target: 4 or 8.
+    pub pointer: u8,
+    /// 0 drc, 1 null.
+    pub collector: u8,
+    /// The page size of images: a power of two.
+    pub page_size: u64,
+    /// The size from which on an image must be half full of data.
+    pub max_image: u64,
+}
+
+impl Default for Options {
+    fn default() -> Self {
+        Options {
+            cow: false,
+            lazy_tables: false,
+            branch_hints: false,
+            native_debug: false,
+            guest_debug: false,
+            pointer: 8,
+            collector: 0,
+            page_size: 4096,
+            max_image: 1 << 20,
+        }
+    }
+}
+
+/// How many entities of each kind there are, imported ones among them, and how many are imported.
+#[repr(C)]
+#[derive(Clone, Copy, Debug, Default, PartialEq, Eq)]
+pub struct Entities {
+    pub functions: u64,
+    pub imported_functions: u64,
+    pub tables: u64,
+    pub imported_tables: u64,
+    pub memories: u64,
+    pub imported_memories: u64,
+    pub globals: u64,
+    pub imported_globals: u64,
+    pub tags: u64,
+    pub imported_tags: u64,
+}
+
+/// Where the parts of a context begin, in bytes.
+#[repr(C)]
+#[derive(Clone, Copy, Debug, Default, PartialEq, Eq)]
+pub struct Context {
+    pub size: u32,
+    pub imported_memories: u32,
+    pub memories: u32,
+    pub owned_memories: u32,
+    pub imported_functions: u32,
+    pub imported_tables: u32,
+    pub imported_globals: u32,
+    pub imported_tags: u32,
+    pub tables: u32,
+    pub globals: u32,
+    pub tags: u32,
+    pub func_refs: u32,
+    pub runtime_data_bases: u32,
+    pub runtime_data_lengths: u32,
+}
+
+/// From one number up to another.
+#[repr(C)]
+#[derive(Clone, Copy, Debug, PartialEq, Eq)]
+pub struct Range {
+    pub begin: u32,
+    pub end: u32,
+}
+
+/// A part of a list of the plan.
+#[repr(C)]
+#[derive(Clone, Copy, Debug, PartialEq, Eq)]
+pub struct Span {
+    pub begin: usize,
+    pub len: usize,
+}
+
+/// The type of a value or a field; the constants of the header name its numbers.
+#[repr(C)]
+#[derive(Clone, Copy, Debug, PartialEq, Eq)]
+pub struct Value {
+    pub kind: u8,
+    pub nullable: bool,
+    pub heap: u8,
+    pub list: u8,
+    pub index: u32,
+}
+
+#[repr(C)]
+#[derive(Clone, Copy, Debug, PartialEq, Eq)]
+pub struct Memory {
+    /// In pages, as the next.
+    pub minimum: u64,
+    /// `u64::MAX` where there is none.
+    pub maximum: u64,
+    pub page_size_log2: u8,
+    pub shared: bool,
+    pub wide: bool,
+}
+
+#[repr(C)]
+#[derive(Clone, Copy, Debug, PartialEq, Eq)]
+pub struct Table {
+    /// In cells, as the next.
+    pub minimum: u64,
+    /// `u64::MAX` where there is none.
+    pub maximum: u64,
+    pub element: Value,
+    pub wide: u32,
+}
+
+#[repr(C)]
+#[derive(Clone, Copy, Debug, PartialEq, Eq)]
+pub struct Global {
+    pub value: Value,
+    pub writable: u32,
+}
+
+#[repr(C)]
+#[derive(Clone, Copy, Debug, PartialEq, Eq)]
+pub struct Tag {
+    pub signature: u32,
+    pub exception: u32,
+}
+
+/// Runtime data: an image, or the bytes of a segment.
+#[repr(C)]
+pub struct Runtime {
+    pub(crate) made: u32,
+    pub(crate) bytes: crate::list::List<u8>,
+}
+
+#[repr(C)]
+#[derive(Clone, Copy, Debug, PartialEq, Eq)]
+pub struct Image {
+    pub memory: u32,
+    /// The runtime data that holds it.
+    pub runtime: u32,
+    pub offset: u64,
+}
+
+/// A data segment that is left to be written.
+#[repr(C)]
+#[derive(Clone, Copy, Debug, PartialEq, Eq)]
+pub struct Segment {
+    pub memory: u32,
+    /// The runtime data that it writes.
+    pub runtime: u32,
+    /// 0 and 1: `offset` is the place; 2: the global that holds it; 3: another expression.
+    pub kind: u32,
+    pub offset: u64,
+}
+
+#[repr(C)]
+#[derive(Clone, Copy, Debug, PartialEq, Eq)]
+pub struct Passive {
+    pub segment: u32,
+    pub runtime: u32,
+}
+
+/// An element segment that is left to be written.
+#[repr(C)]
+#[derive(Clone, Copy, Debug, PartialEq, Eq)]
+pub struct Elements {
+    pub table: u32,
+    /// As of a data segment, never 0.
+    pub kind: u32,
+    pub offset: u64,
+    pub count: u64,
+}
+
+/// A region of the context.
+#[repr(C)]
+pub struct Region {
+    pub begin: u32,
+    pub size: u32,
+    pub(crate) name: crate::list::List<u8>,
+}
