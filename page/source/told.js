@@ -1,4 +1,4 @@
-// What a plan tells, in rows that the page shows. All of it is read from the records; only the words of a type come from the text.
+// What a plan tells, in rows that the page shows. Numbers and bytes are read from the records; the words of types, expressions and names from the text.
 
 const PREVIEW = 24;
 const FEW = 12;
@@ -45,10 +45,10 @@ class Told {
     const regions = plan.regions.slice(0, plan.regions.length).map((region, line) => ({ ...region, name: region.name.text, line })).reverse();
     const counts = Object.fromEntries(Object.entries(plan).filter(([, list]) => list instanceof Rows).map(([key, list]) => [key, list.length]));
     const startup = this.nameOf(["startup_none", "startup_always", "startup_if_memories_need_init"], plan.startup);
-    const module = plan.module_names.length ? plan.module_names.get(0).text : null;
+    const named = this.lines.lineOf("name", 0), module = named === null ? null : unquoted(this.lines.line(named).slice("name ".length));
     return {
       ...base, counts, regions, startup, module, startupType: plan.startup_type, entities: plan.entities, types: plan.types, start: plan.start === NONE ? null : plan.start,
-      hasImages: plan.images_made !== 0, align: plan.data_align, context: plan.context.size, needsObjects: plan.needs_gc_heap !== 0, layouts: plan.layouts.length,
+      hasImages: plan.images_made !== 0, align: plan.data_align, context: plan.context.size, needsObjects: plan.needs_gc_heap !== 0, layouts: this.lines.kinds.get("layout")?.count ?? 0,
     };
   }
 
@@ -190,10 +190,17 @@ class Told {
     return line === null ? "" : this.lines.line(line).replace(/^type \d+ /, "");
   }
 
-  // The name of a function that the module's name section gives.
+  // The name of a function that the module's name section gives: its line is found by halves, since the lines go by functions.
   functionName(index) {
-    this.functionNames ??= new Map(this.plan.function_names.slice(0, this.plan.function_names.length).map(row => [row.function, row.name.text]));
-    return this.functionNames.get(index) ?? null;
+    const found = this.lines.kinds.get("func-name");
+    let low = 0, high = found?.count ?? 0;
+    while (low < high) {
+      const middle = (low + high) >> 1, [, number, name] = /^func-name (\d+) (.*)$/.exec(this.lines.line(found.first + middle));
+      if (Number(number) === index) return unquoted(name);
+      if (Number(number) < index) low = middle + 1;
+      else high = middle;
+    }
+    return null;
   }
 
   // The names under which an entity is imported and exported: the first few.
@@ -202,25 +209,24 @@ class Told {
     return this.entityNames.get(`${kind} ${index}`) ?? [];
   }
 
-  // The names of memories and tables: those of functions may be a million.
+  // The names of memories and tables. Those of functions may be a million, so lines are read by parts.
   gatherNames() {
-    const names = new Map(), kinds = { [this.numbers.table]: "table", [this.numbers.memory]: "memory" };
-    const words = (list, { begin, len }) => new TextDecoder().decode(list.view.subarray(begin, begin + len));
-    const add = (row, name) => {
-      const key = `${kinds[row.kind]} ${row.index}`, known = names.get(key) ?? names.set(key, []).get(key);
-      if (known.length < 3) known.push(name);
+    const names = new Map(), quoted = '("(?:[^"\\\\]|\\\\..)*")';
+    const add = (key, words) => {
+      const known = names.get(key) ?? names.set(key, []).get(key);
+      if (known.length < 3) known.push(words);
     };
-    const { imports, exports, import_names, export_names } = this.plan;
-    for (let i = 0; i < imports.length; i++) {
-      if (!kinds[imports.number(i, "kind")]) continue;
-      const row = imports.get(i);
-      add(row, `imported as “${words(import_names, row.from)}” “${words(import_names, row.name)}”`);
-    }
-    for (let i = 0; i < exports.length; i++) {
-      if (!kinds[exports.number(i, "kind")]) continue;
-      const row = exports.get(i);
-      add(row, `exported as “${words(export_names, row.name)}”`);
-    }
+    const take = (word, form, said) => {
+      const { first, count } = this.lines.kinds.get(word) ?? { first: 0, count: 0 };
+      for (let from = first; from < first + count; from += 10000) {
+        for (const line of this.lines.slice(from, Math.min(first + count, from + 10000))) {
+          const found = form.exec(line);
+          if (found) add(`${found.at(-2)} ${found.at(-1)}`, said(...found.slice(1, -2).map(unquoted)));
+        }
+      }
+    };
+    take("import", new RegExp(`^import \\d+ ${quoted} ${quoted} (memory|table) (\\d+)$`), (module, name) => `imported as “${module}” “${name}”`);
+    take("export", new RegExp(`^export ${quoted} (memory|table) (\\d+)$`), name => `exported as “${name}”`);
     return names;
   }
 
@@ -263,6 +269,16 @@ class Grouped {
 
   slice(group, from, to) {
     return Array.from(this.of(group).subarray(from, to));
+  }
+}
+
+// A name of the text as it was: bytes that do not print stand there by two digits.
+function unquoted(words) {
+  const plain = words.slice(1, -1).replaceAll("%", "%25").replace(/\\([0-9a-f]{2})/g, "%$1");
+  try {
+    return decodeURIComponent(plain);
+  } catch {
+    return words.slice(1, -1);
   }
 }
 

@@ -48,7 +48,7 @@ export async function checkInNode({ page, root, program, report }) {
 // Lists against the text, in which each has its lines.
 function checkRecords({ parts, own, report }) {
   const { plan, lines } = own, kinds = word => lines.kinds.get(word)?.count ?? 0;
-  const counts = { declared: "declared", group: "groups", image: "images", segment: "segments", runtime: "runtime", region: "regions", element: "elements", import: "imports", export: "exports" };
+  const counts = { declared: "declared", group: "groups", image: "images", segment: "segments", runtime: "runtime", region: "regions", element: "elements" };
   const wrong = Object.entries(counts).filter(([word, list]) => kinds(word) !== plan[list].length).map(([word, list]) => `${word}: ${kinds(word)} lines, ${plan[list].length} rows`);
   report("the lists of its own plan are as long as its text says", () => wrong.length === 0, wrong);
   const origins = new parts.Origins(own), told = [];
