@@ -31,7 +31,9 @@ class Asking {
     this.waiting.clear();
   }
 
-  ask(question, words = {}) {
+  // Asks the worker, once it holds the planner.
+  async ask(question, words = {}) {
+    if (question !== "load") await this.loaded;
     return new Promise((done, failed) => {
       this.waiting.set(++this.last, [done, failed]);
       this.worker.postMessage({ id: this.last, question, words });

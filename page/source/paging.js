@@ -5,15 +5,21 @@ class Paging {
   constructor({ label, unit, count, size, load, draw, first = 0 }) {
     Object.assign(this, { label, unit, count, size, load, draw, from: first });
     this.body = el("div", {});
-    this.where = el("span", { "aria-live": "polite" });
+    this.where = el("span", {});
     this.place = el("input", { type: "number", min: first, max: first + count - 1, "aria-label": `first ${unit} to show` });
-    this.place.onchange = () => this.show(Number(this.place.value));
+    this.place.onchange = () => this.go(Number(this.place.value));
     this.first = first;
     this.buttons = [["First", () => first], ["Previous", () => this.from - size], ["Next", () => this.from + size], ["Last", () => first + size * Math.floor((count - 1) / size)]]
-      .map(([words, to]) => button(words, () => this.show(to()), { "aria-label": `${words} ${unit}s` }));
+      .map(([words, to]) => button(words, () => this.go(to()), { "aria-label": `${words} ${plural(unit)}` }));
     const pager = el("nav", { class: "pager", "aria-label": `parts of: ${label}`, hidden: count <= size }, ...this.buttons, el("label", {}, "from ", this.place), this.where);
     this.element = el("div", {}, pager, this.body);
     this.turn = 0;
+  }
+
+  // Shows another part, and says which.
+  async go(from) {
+    await this.show(from);
+    say(`${this.label}: ${this.where.textContent}`);
   }
 
   // Shows the part that begins here. Of two questions the later one counts.
@@ -25,9 +31,10 @@ class Paging {
     this.body.replaceChildren(this.draw(rows, this.from));
     this.place.value = this.from;
     this.where.textContent = `${spoken(this.from)} to ${spoken(to - 1)}, of ${count(this.count, this.unit)}`;
-    const [first, previous, next, last] = this.buttons, isFirst = this.from <= this.first, isLast = to >= this.first + this.count;
-    first.disabled = previous.disabled = isFirst;
-    next.disabled = last.disabled = isLast;
+    const [first, previous, next, last] = this.buttons, isFirst = this.from === this.first, isLast = to === this.first + this.count;
+    // They stay where the keyboard is: one that is disabled would lose it.
+    for (const it of [first, previous]) it.setAttribute("aria-disabled", String(isFirst));
+    for (const it of [next, last]) it.setAttribute("aria-disabled", String(isLast));
     return this;
   }
 }

@@ -22,7 +22,8 @@ function svg(name, words, ...inside) {
 }
 
 const spoken = number => number.toLocaleString("en");
-const count = (number, one, more = `${one}s`) => `${spoken(number)} ${number === 1 || number === 1n ? one : more}`;
+const plural = word => `${word.replace(/y$/, "ie")}s`;
+const count = (number, one, more = plural(one)) => `${spoken(number)} ${number === 1 || number === 1n ? one : more}`;
 const hexOf = (number, digits = 1) => number.toString(16).toUpperCase().padStart(digits, "0");
 
 function sizeWords(bytes) {

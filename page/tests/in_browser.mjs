@@ -249,8 +249,12 @@ class PageCheck {
     this.report("in the browser: two modules are compared", () => said.includes("3 types of a small linked program are types of changed.wasm too") && said.includes("1 byte differs, the first at 1,048,576"), [said.slice(0, 400)]);
     await this.tab.until("document.querySelectorAll('table').length > 3");
     await this.shot("comparison");
-    await this.tab.value("document.querySelector('[name=shown][value=one]').click()");
-    await this.tab.until("document.querySelector('.text .line') !== null");
+    await this.tab.value("[...document.querySelectorAll('.plain')].find(it => it.textContent === 'defined globals').click()");
+    await this.tab.until("document.getElementById('dialog').open");
+    await this.tab.value("[...document.querySelectorAll('#dialog-body button')].find(it => it.textContent.startsWith('line ')).click()");
+    await this.tab.until("document.querySelector('.line.chosen') !== null");
+    const line = await this.tab.value("document.querySelector('.line.chosen').textContent");
+    this.report("in the browser: a region that is compared leads to its line", () => line === "region 16 defined globals", [line]);
   }
 
   async saving() {
