@@ -9,8 +9,13 @@ class Paging {
     this.place = el("input", { type: "number", min: first, max: first + count - 1, "aria-label": `first ${unit} to show` });
     this.place.onchange = () => this.go(Number(this.place.value));
     this.first = first;
-    this.buttons = [["First", () => first], ["Previous", () => this.from - size], ["Next", () => this.from + size], ["Last", () => first + size * Math.floor((count - 1) / size)]]
-      .map(([words, to]) => button(words, () => this.go(to()), { "aria-label": `${words} ${plural(unit)}` }));
+    const places = {
+      First: () => first,
+      Previous: () => this.from - size,
+      Next: () => (this.from + size < first + count ? this.from + size : this.from),
+      Last: () => first + size * Math.floor((count - 1) / size),
+    };
+    this.buttons = Object.entries(places).map(([words, to]) => button(words, () => this.go(to()), { "aria-label": `${words} ${plural(unit)}` }));
     const pager = el("nav", { class: "pager", "aria-label": `parts of: ${label}`, hidden: count <= size }, ...this.buttons, el("label", {}, "from ", this.place), this.where);
     this.element = el("div", {}, pager, this.body);
     this.turn = 0;
