@@ -15,6 +15,7 @@
 //! A `Plan` borrows the module's bytes, as in the planner itself, and gives its tables back when it is dropped.
 
 mod error;
+mod layout;
 mod list;
 mod record;
 mod rows;
@@ -22,5 +23,6 @@ mod rows;
 pub use error::{Error, Reason};
 pub use record::{Plan, plan_and_text, text};
 pub use rows::{
-    Context, Elements, Entities, Global, Image, Memory, Options, Passive, Range, Region, Runtime, Segment, Span, Table, Tag, Value,
+    Context, Elements, Entities, Export, Field, FunctionName, Global, GlobalValue, Hints, Image, Import, Layout, LayoutField, Memory, Operator,
+    Options, Passive, PassiveElements, Range, Region, Runtime, Segment, Span, Table, Tag, Trampoline, Type, Value,
 };

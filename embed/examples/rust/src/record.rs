@@ -107,12 +107,42 @@ record! {
     elements: Elements;
     /// The regions of the context, the last one first.
     regions: Region;
+    passive_elements: PassiveElements;
+    function_names: FunctionName;
+    /// How many hints of branches each function has that has some.
+    hints: Hints;
+    /// The defined globals that begin as a known value.
+    global_values: GlobalValue;
+    /// The other defined globals.
+    expressed_globals: u32;
+    global_expressions: Span;
+    global_operators: Operator;
+    segment_places: Span;
+    segment_operators: Operator;
+    element_places: Span;
+    element_operators: Operator;
+    table_values: Span;
+    table_operators: Operator;
+    imports: Import;
+    import_text: u8;
+    exports: Export;
+    export_text: u8;
+    module_names: Span;
+    /// The layouts of the objects of interned types that have some.
+    layouts: Layout;
+    layout_fields: LayoutField;
+    /// The interned types.
+    interned: Type;
+    fields: Field;
+    /// The interned types that have a trampoline, in order.
+    trampolines: Trampoline;
+    module_text: u8;
 }
 
 #[repr(C)]
 pub(crate) struct Text {
-    text: List<u8>,
-    made: u32,
+    pub(crate) text: List<u8>,
+    pub(crate) made: u32,
 }
 
 impl Text {
@@ -212,10 +242,58 @@ impl Plan<'_> {
         self.record.needs_gc_heap != 0
     }
 
+    /// The module's name.
+    pub fn module_name(&self) -> Option<&str> {
+        self.module_names().first().map(|part| name(self.module_text(), *part))
+    }
+
+    /// The name of the module from which an import comes, and its own name there.
+    pub fn import_names(&self, import: usize) -> (&str, &str) {
+        let row = &self.imports()[import];
+        (name(self.import_text(), row.from), name(self.import_text(), row.name))
+    }
+
+    pub fn export_name(&self, export: usize) -> &str {
+        name(self.export_text(), self.exports()[export].name)
+    }
+
+    /// The operators of the place of a data segment; none where the place is planned.
+    pub fn segment_expression(&self, segment: usize) -> &[Operator] {
+        part(self.segment_operators(), self.segment_places()[segment])
+    }
+
+    /// The operators of the place of an element segment.
+    pub fn element_expression(&self, segment: usize) -> &[Operator] {
+        part(self.element_operators(), self.element_places()[segment])
+    }
+
+    /// The operators of the first value of a defined table; none where its cells begin as null.
+    pub fn table_expression(&self, table: usize) -> &[Operator] {
+        part(self.table_operators(), self.table_values()[table])
+    }
+
+    /// The operators of a global of `expressed_globals`.
+    pub fn global_expression(&self, place: usize) -> &[Operator] {
+        part(self.global_operators(), self.global_expressions()[place])
+    }
+
     /// The first cells of a defined table: functions by their indices, `u32::MAX` for the null reference.
     pub fn table_image(&self, table: usize) -> &[u32] {
-        let part = self.table_images()[table];
-        &self.cells()[part.begin..part.begin + part.len]
+        part(self.cells(), self.table_images()[table])
+    }
+}
+
+fn part<T>(list: &[T], span: Span) -> &[T] {
+    &list[span.begin..span.begin + span.len]
+}
+
+fn name(text: &[u8], span: Span) -> &str {
+    std::str::from_utf8(part(text, span)).unwrap_or("")
+}
+
+impl FunctionName {
+    pub fn name(&self) -> &str {
+        std::str::from_utf8(self.name.as_slice()).unwrap_or("")
     }
 }
 

@@ -190,3 +190,117 @@ pub struct Region {
     pub size: u32,
     pub(crate) name: crate::list::List<u8>,
 }
+
+/// The name of a function, in the module's bytes.
+#[repr(C)]
+pub struct FunctionName {
+    pub function: u32,
+    pub(crate) name: crate::list::List<u8>,
+}
+
+/// How many hints of branches a function has.
+#[repr(C)]
+#[derive(Clone, Copy, Debug, PartialEq, Eq)]
+pub struct Hints {
+    pub function: u32,
+    pub count: u64,
+}
+
+/// A passive element segment.
+#[repr(C)]
+#[derive(Clone, Copy, Debug, PartialEq, Eq)]
+pub struct PassiveElements {
+    pub element: Value,
+    pub count: u64,
+}
+
+/// An operator of a constant expression; the constants of the header name its numbers.
+#[repr(C)]
+#[derive(Clone, Copy, Debug, PartialEq, Eq)]
+pub struct Operator {
+    pub code: u8,
+    pub heap: u8,
+    pub list: u8,
+    pub index: u32,
+    pub low: u64,
+    pub high: u64,
+}
+
+/// A defined global that begins as a known value.
+#[repr(C)]
+#[derive(Clone, Copy, Debug, PartialEq, Eq)]
+pub struct GlobalValue {
+    pub global: u32,
+    pub value: Operator,
+}
+
+/// An import; `Plan::import_names` has its two names.
+#[repr(C)]
+#[derive(Clone, Copy, Debug, PartialEq, Eq)]
+pub struct Import {
+    pub kind: u32,
+    pub index: u32,
+    pub from: Span,
+    pub name: Span,
+}
+
+/// An export; `Plan::export_name` has its name.
+#[repr(C)]
+#[derive(Clone, Copy, Debug, PartialEq, Eq)]
+pub struct Export {
+    pub kind: u32,
+    pub index: u32,
+    pub name: Span,
+}
+
+/// The layout of the objects of an interned type.
+#[repr(C)]
+#[derive(Clone, Copy, Debug, PartialEq, Eq)]
+pub struct Layout {
+    pub ty: u32,
+    /// 0 an array, 1 a struct, 2 an exception.
+    pub kind: u32,
+    pub size: u32,
+    pub align: u32,
+    pub element: u32,
+    pub refs: u32,
+    pub fields: Span,
+}
+
+#[repr(C)]
+#[derive(Clone, Copy, Debug, PartialEq, Eq)]
+pub struct LayoutField {
+    pub offset: u32,
+    pub is_ref: u32,
+}
+
+/// An interned type.
+#[repr(C)]
+#[derive(Clone, Copy, Debug, PartialEq, Eq)]
+pub struct Type {
+    /// 0 an array, 1 a function, 2 a struct, 3 a continuation, 4 an exception.
+    pub kind: u8,
+    pub is_final: bool,
+    pub shared: bool,
+    pub supertype_list: u8,
+    pub function_list: u8,
+    pub supertype: u32,
+    pub function: u32,
+    pub fields: Span,
+    pub results: usize,
+}
+
+/// A field, a parameter or a result.
+#[repr(C)]
+#[derive(Clone, Copy, Debug, PartialEq, Eq)]
+pub struct Field {
+    pub value: Value,
+    pub writable: u32,
+}
+
+#[repr(C)]
+#[derive(Clone, Copy, Debug, PartialEq, Eq)]
+pub struct Trampoline {
+    pub ty: u32,
+    pub trampoline: u32,
+}

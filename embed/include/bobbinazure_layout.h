@@ -1,0 +1,257 @@
+/* The sizes and the offsets of the structs of bobbinazure.h, where pointers have 8 bytes: the library's records have the same. */
+#ifndef BOBBINAZURE_LAYOUT_H
+#define BOBBINAZURE_LAYOUT_H
+
+#include <bobbinazure.h>
+
+#if UINTPTR_MAX == UINT64_MAX
+
+#ifdef __cplusplus
+#define BOBBINAZURE_ASSERT static_assert
+#else
+#define BOBBINAZURE_ASSERT _Static_assert
+#endif
+#define BOBBINAZURE_SIZE(T, bytes) BOBBINAZURE_ASSERT(sizeof(bobbinazure_##T) == bytes, "the size of " #T)
+#define BOBBINAZURE_AT(T, field, bytes) BOBBINAZURE_ASSERT(offsetof(bobbinazure_##T, field) == bytes, "the offset of " #field " in " #T)
+
+BOBBINAZURE_SIZE(options, 24);
+BOBBINAZURE_AT(options, cow, 0);
+BOBBINAZURE_AT(options, lazy_tables, 1);
+BOBBINAZURE_AT(options, branch_hints, 2);
+BOBBINAZURE_AT(options, native_debug, 3);
+BOBBINAZURE_AT(options, guest_debug, 4);
+BOBBINAZURE_AT(options, pointer, 5);
+BOBBINAZURE_AT(options, collector, 6);
+BOBBINAZURE_AT(options, page_size, 8);
+BOBBINAZURE_AT(options, max_image, 16);
+
+BOBBINAZURE_SIZE(entities, 80);
+BOBBINAZURE_AT(entities, functions, 0);
+BOBBINAZURE_AT(entities, imported_functions, 8);
+BOBBINAZURE_AT(entities, tables, 16);
+BOBBINAZURE_AT(entities, imported_tables, 24);
+BOBBINAZURE_AT(entities, memories, 32);
+BOBBINAZURE_AT(entities, imported_memories, 40);
+BOBBINAZURE_AT(entities, globals, 48);
+BOBBINAZURE_AT(entities, imported_globals, 56);
+BOBBINAZURE_AT(entities, tags, 64);
+BOBBINAZURE_AT(entities, imported_tags, 72);
+
+BOBBINAZURE_SIZE(memory, 24);
+BOBBINAZURE_AT(memory, minimum, 0);
+BOBBINAZURE_AT(memory, maximum, 8);
+BOBBINAZURE_AT(memory, page_size_log2, 16);
+BOBBINAZURE_AT(memory, shared, 17);
+BOBBINAZURE_AT(memory, wide, 18);
+
+BOBBINAZURE_SIZE(range, 8);
+BOBBINAZURE_AT(range, begin, 0);
+BOBBINAZURE_AT(range, end, 4);
+
+BOBBINAZURE_SIZE(span, 16);
+BOBBINAZURE_AT(span, begin, 0);
+BOBBINAZURE_AT(span, len, 8);
+
+BOBBINAZURE_SIZE(bytes, 16);
+BOBBINAZURE_AT(bytes, at, 0);
+BOBBINAZURE_AT(bytes, len, 8);
+
+BOBBINAZURE_SIZE(runtime, 24);
+BOBBINAZURE_AT(runtime, made, 0);
+BOBBINAZURE_AT(runtime, bytes, 8);
+
+BOBBINAZURE_SIZE(image, 16);
+BOBBINAZURE_AT(image, memory, 0);
+BOBBINAZURE_AT(image, runtime, 4);
+BOBBINAZURE_AT(image, offset, 8);
+
+BOBBINAZURE_SIZE(segment, 24);
+BOBBINAZURE_AT(segment, memory, 0);
+BOBBINAZURE_AT(segment, runtime, 4);
+BOBBINAZURE_AT(segment, kind, 8);
+BOBBINAZURE_AT(segment, offset, 16);
+
+BOBBINAZURE_SIZE(passive, 8);
+BOBBINAZURE_AT(passive, segment, 0);
+BOBBINAZURE_AT(passive, runtime, 4);
+
+BOBBINAZURE_SIZE(elements, 24);
+BOBBINAZURE_AT(elements, table, 0);
+BOBBINAZURE_AT(elements, kind, 4);
+BOBBINAZURE_AT(elements, offset, 8);
+BOBBINAZURE_AT(elements, count, 16);
+
+BOBBINAZURE_SIZE(region, 24);
+BOBBINAZURE_AT(region, begin, 0);
+BOBBINAZURE_AT(region, size, 4);
+BOBBINAZURE_AT(region, name, 8);
+
+BOBBINAZURE_SIZE(context, 56);
+BOBBINAZURE_AT(context, size, 0);
+BOBBINAZURE_AT(context, imported_memories, 4);
+BOBBINAZURE_AT(context, memories, 8);
+BOBBINAZURE_AT(context, owned_memories, 12);
+BOBBINAZURE_AT(context, imported_functions, 16);
+BOBBINAZURE_AT(context, imported_tables, 20);
+BOBBINAZURE_AT(context, imported_globals, 24);
+BOBBINAZURE_AT(context, imported_tags, 28);
+BOBBINAZURE_AT(context, tables, 32);
+BOBBINAZURE_AT(context, globals, 36);
+BOBBINAZURE_AT(context, tags, 40);
+BOBBINAZURE_AT(context, func_refs, 44);
+BOBBINAZURE_AT(context, runtime_data_bases, 48);
+BOBBINAZURE_AT(context, runtime_data_lengths, 52);
+
+BOBBINAZURE_SIZE(value, 8);
+BOBBINAZURE_AT(value, kind, 0);
+BOBBINAZURE_AT(value, nullable, 1);
+BOBBINAZURE_AT(value, heap, 2);
+BOBBINAZURE_AT(value, list, 3);
+BOBBINAZURE_AT(value, index, 4);
+
+BOBBINAZURE_SIZE(table, 32);
+BOBBINAZURE_AT(table, minimum, 0);
+BOBBINAZURE_AT(table, maximum, 8);
+BOBBINAZURE_AT(table, element, 16);
+BOBBINAZURE_AT(table, wide, 24);
+
+BOBBINAZURE_SIZE(global, 12);
+BOBBINAZURE_AT(global, value, 0);
+BOBBINAZURE_AT(global, writable, 8);
+
+BOBBINAZURE_SIZE(tag, 8);
+BOBBINAZURE_AT(tag, signature, 0);
+BOBBINAZURE_AT(tag, exception, 4);
+
+BOBBINAZURE_SIZE(function_name, 24);
+BOBBINAZURE_AT(function_name, function, 0);
+BOBBINAZURE_AT(function_name, name, 8);
+
+BOBBINAZURE_SIZE(hints, 16);
+BOBBINAZURE_AT(hints, function, 0);
+BOBBINAZURE_AT(hints, count, 8);
+
+BOBBINAZURE_SIZE(passive_elements, 16);
+BOBBINAZURE_AT(passive_elements, element, 0);
+BOBBINAZURE_AT(passive_elements, count, 8);
+
+BOBBINAZURE_SIZE(operator, 24);
+BOBBINAZURE_AT(operator, code, 0);
+BOBBINAZURE_AT(operator, heap, 1);
+BOBBINAZURE_AT(operator, list, 2);
+BOBBINAZURE_AT(operator, index, 4);
+BOBBINAZURE_AT(operator, low, 8);
+BOBBINAZURE_AT(operator, high, 16);
+
+BOBBINAZURE_SIZE(global_value, 32);
+BOBBINAZURE_AT(global_value, global, 0);
+BOBBINAZURE_AT(global_value, value, 8);
+
+BOBBINAZURE_SIZE(import, 40);
+BOBBINAZURE_AT(import, kind, 0);
+BOBBINAZURE_AT(import, index, 4);
+BOBBINAZURE_AT(import, from, 8);
+BOBBINAZURE_AT(import, name, 24);
+
+BOBBINAZURE_SIZE(export, 24);
+BOBBINAZURE_AT(export, kind, 0);
+BOBBINAZURE_AT(export, index, 4);
+BOBBINAZURE_AT(export, name, 8);
+
+BOBBINAZURE_SIZE(field, 12);
+BOBBINAZURE_AT(field, value, 0);
+BOBBINAZURE_AT(field, writable, 8);
+
+BOBBINAZURE_SIZE(type, 40);
+BOBBINAZURE_AT(type, kind, 0);
+BOBBINAZURE_AT(type, is_final, 1);
+BOBBINAZURE_AT(type, shared, 2);
+BOBBINAZURE_AT(type, supertype_list, 3);
+BOBBINAZURE_AT(type, function_list, 4);
+BOBBINAZURE_AT(type, supertype, 8);
+BOBBINAZURE_AT(type, function, 12);
+BOBBINAZURE_AT(type, fields, 16);
+BOBBINAZURE_AT(type, results, 32);
+
+BOBBINAZURE_SIZE(layout, 40);
+BOBBINAZURE_AT(layout, type, 0);
+BOBBINAZURE_AT(layout, kind, 4);
+BOBBINAZURE_AT(layout, size, 8);
+BOBBINAZURE_AT(layout, align, 12);
+BOBBINAZURE_AT(layout, element, 16);
+BOBBINAZURE_AT(layout, refs, 20);
+BOBBINAZURE_AT(layout, fields, 24);
+
+BOBBINAZURE_SIZE(layout_field, 8);
+BOBBINAZURE_AT(layout_field, offset, 0);
+BOBBINAZURE_AT(layout_field, is_ref, 4);
+
+BOBBINAZURE_SIZE(trampoline, 8);
+BOBBINAZURE_AT(trampoline, type, 0);
+BOBBINAZURE_AT(trampoline, trampoline, 4);
+
+BOBBINAZURE_SIZE(expressions, 32);
+BOBBINAZURE_AT(expressions, parts, 0);
+BOBBINAZURE_AT(expressions, operators, 16);
+
+BOBBINAZURE_SIZE(plan, 864);
+BOBBINAZURE_AT(plan, refusal, 0);
+BOBBINAZURE_AT(plan, refusal_detail, 4);
+BOBBINAZURE_AT(plan, refusal_line, 8);
+BOBBINAZURE_AT(plan, entities, 24);
+BOBBINAZURE_AT(plan, startup, 104);
+BOBBINAZURE_AT(plan, startup_type, 108);
+BOBBINAZURE_AT(plan, images_made, 112);
+BOBBINAZURE_AT(plan, types, 116);
+BOBBINAZURE_AT(plan, data_align, 120);
+BOBBINAZURE_AT(plan, start, 128);
+BOBBINAZURE_AT(plan, needs_gc_heap, 132);
+BOBBINAZURE_AT(plan, context, 136);
+BOBBINAZURE_AT(plan, declared, 192);
+BOBBINAZURE_AT(plan, groups, 208);
+BOBBINAZURE_AT(plan, functions, 224);
+BOBBINAZURE_AT(plan, escapes, 240);
+BOBBINAZURE_AT(plan, signatures, 256);
+BOBBINAZURE_AT(plan, memories, 272);
+BOBBINAZURE_AT(plan, tables, 288);
+BOBBINAZURE_AT(plan, globals, 304);
+BOBBINAZURE_AT(plan, tags, 320);
+BOBBINAZURE_AT(plan, runtime, 336);
+BOBBINAZURE_AT(plan, runtime_ranges, 352);
+BOBBINAZURE_AT(plan, images, 368);
+BOBBINAZURE_AT(plan, segments, 384);
+BOBBINAZURE_AT(plan, passive, 400);
+BOBBINAZURE_AT(plan, table_images, 416);
+BOBBINAZURE_AT(plan, cells, 432);
+BOBBINAZURE_AT(plan, elements, 448);
+BOBBINAZURE_AT(plan, regions, 464);
+BOBBINAZURE_AT(plan, passive_elements, 480);
+BOBBINAZURE_AT(plan, function_names, 496);
+BOBBINAZURE_AT(plan, hints, 512);
+BOBBINAZURE_AT(plan, global_values, 528);
+BOBBINAZURE_AT(plan, expressed_globals, 544);
+BOBBINAZURE_AT(plan, global_expressions, 560);
+BOBBINAZURE_AT(plan, segment_places, 592);
+BOBBINAZURE_AT(plan, element_places, 624);
+BOBBINAZURE_AT(plan, table_values, 656);
+BOBBINAZURE_AT(plan, imports, 688);
+BOBBINAZURE_AT(plan, import_names, 704);
+BOBBINAZURE_AT(plan, exports, 720);
+BOBBINAZURE_AT(plan, export_names, 736);
+BOBBINAZURE_AT(plan, module_names, 752);
+BOBBINAZURE_AT(plan, layouts, 768);
+BOBBINAZURE_AT(plan, layout_fields, 784);
+BOBBINAZURE_AT(plan, interned, 800);
+BOBBINAZURE_AT(plan, fields, 816);
+BOBBINAZURE_AT(plan, trampolines, 832);
+BOBBINAZURE_AT(plan, module_text, 848);
+
+BOBBINAZURE_SIZE(text, 24);
+BOBBINAZURE_AT(text, text, 0);
+BOBBINAZURE_AT(text, made, 16);
+
+#undef BOBBINAZURE_AT
+#undef BOBBINAZURE_SIZE
+#undef BOBBINAZURE_ASSERT
+#endif
+#endif
