@@ -11,7 +11,7 @@ EXAMPLES = HERE.parent / "examples"
 
 # Each list in the order in which its files need one another. The worker's files are run in node too, by the checks.
 WORKER = ["planner", "lines", "reading", "expressions", "places", "told", "origins", "comparing", "worker"]
-PAGE = ["asking", "parts", "paging", "views", "dialogs", "answers", "comparison", "page"]
+PAGE = ["asking", "parts", "paging", "memories", "tables", "contexts", "text", "dialogs", "answers", "comparison", "page"]
 
 
 def script_of(names):

@@ -1,10 +1,17 @@
 // What the page says of a module: its plan, or why there is none.
 
+// By their numbers, from 1 on.
 const RULES = [
-  "", "a type of the type section names a type that is not there yet, or breaks a rule of supertypes", "a function or tag names no function type of the module",
-  "the counts of functions and bodies, or of data segments, do not agree, or a body has too many locals", "the limits of a table or memory are out of range",
-  "a table of references that cannot be null says no first value", "a constant expression leaves another type than its place wants",
-  "an export names what is not there, or two exports have one name", "the start function is not there, or it takes or gives values", "a segment names a table, memory or function that is not there",
+  "",
+  "a type of the type section names a type that is not there yet, or breaks a rule of supertypes",
+  "a function or tag names no function type of the module",
+  "the counts of functions and bodies, or of data segments, do not agree, or a body has too many locals",
+  "the limits of a table or memory are out of range",
+  "a table of references that cannot be null says no first value",
+  "a constant expression leaves another type than its place wants",
+  "an export names what is not there, or two exports have one name",
+  "the start function is not there, or it takes or gives values",
+  "a segment names a table, memory or function that is not there",
   "a reference names a type that is not there",
 ];
 const UNSUPPORTED = {
@@ -31,31 +38,69 @@ function answerOf(plan) {
   return [card("Result", el("p", { class: "result bad" }, why))];
 }
 
-function resultCard(plan) {
-  const { summary } = plan, { entities, counts } = summary;
-  const startup = { startup_none: ["none", "nothing has to run"], startup_always: ["always", `type ${summary.startupType}`], startup_if_memories_need_init: ["if needed", "where a memory does not begin as its image"] }[summary.startup];
-  const facts = [
-    ["functions", entities.functions, `${spoken(entities.imported_functions)} imported`],
-    ["memories", entities.memories, summary.hasImages ? count(counts.images, "image") : `${count(counts.segments, "segment")} left`],
-    ["tables", entities.tables, counts.elements ? `${count(counts.elements, "segment")} left` : "no segment left"],
-    ["globals", entities.globals, `${spoken(entities.imported_globals)} imported`],
-    ["tags", entities.tags, `${spoken(entities.imported_tags)} imported`],
+// When startup runs, and what more there is to say of it.
+function startupWords(summary) {
+  switch (summary.startup) {
+    case "startup_none": return ["none", "nothing has to run"];
+    case "startup_always": return ["always", `type ${summary.startupType}`];
+    default: return ["if needed", "where a memory does not begin as its image"];
+  }
+}
+
+function factsOf(summary) {
+  const { entities, counts } = summary, imported = kind => `${spoken(entities[`imported_${kind}`])} imported`;
+  const memories = summary.hasImages ? count(counts.images, "image") : `${count(counts.segments, "segment")} left`;
+  const tables = counts.elements ? `${count(counts.elements, "segment")} left` : "no segment left";
+  return [
+    ["functions", entities.functions, imported("functions")],
+    ["memories", entities.memories, memories],
+    ["tables", entities.tables, tables],
+    ["globals", entities.globals, imported("globals")],
+    ["tags", entities.tags, imported("tags")],
     ["types", summary.types, `${spoken(counts.declared)} declared`],
     ["context", summary.context, "bytes"],
-    ["startup", startup[0], startup[1]],
+    ["startup", ...startupWords(summary)],
   ];
-  const list = el("dl", { class: "facts" }, ...facts.map(([name, number, more]) => el("div", {}, el("dt", {}, name), el("dd", {}, el("span", { class: "number" }, typeof number === "number" ? spoken(number) : number), el("span", { class: "soft small" }, more)))));
-  const more = [summary.module ? `The module’s name is “${summary.module}”.` : null, summary.start === null ? null : `Its start function is ${summary.start}.`, summary.needsObjects ? `It needs a heap of objects; ${count(summary.layouts, "type has", "types have")} a layout.` : null].filter(Boolean).join(" ");
-  return card("Result", el("p", { class: "result" }, el("b", { class: "good" }, "Planned"), ` ${summary.name}, ${sizeWords(summary.size)}, in ${timeWords(summary.time)}`), list, el("p", {}, more, " ", summary.startup === "startup_none" ? null : originButton(plan, "startup", 0, "where startup comes from")));
+}
+
+function factPart([name, told, more]) {
+  const number = el("span", { class: "number" }, typeof told === "number" ? spoken(told) : told);
+  return el("div", {}, el("dt", {}, name), el("dd", {}, number, el("span", { class: "soft small" }, more)));
+}
+
+function resultCard(plan) {
+  const { summary } = plan;
+  const result = [el("b", { class: "good" }, "Planned"), ` ${summary.name}, ${sizeWords(summary.size)}, in ${timeWords(summary.time)}`];
+  const more = [
+    summary.module !== null && `The module’s name is “${summary.module}”.`,
+    summary.start !== null && `Its start function is ${summary.start}.`,
+    summary.needsObjects && "It needs a heap of objects.",
+    summary.layouts > 0 && `${count(summary.layouts, "type has", "types have")} a layout.`,
+  ];
+  const startup = summary.startup === "startup_none" ? null : originButton(plan, "startup", 0, "where startup comes from");
+  return card(
+    "Result",
+    el("p", { class: "result" }, ...result),
+    el("dl", { class: "facts" }, ...factsOf(summary).map(factPart)),
+    el("p", {}, more.filter(Boolean).join(" "), " ", startup),
+  );
 }
 
 function refusalCard(plan) {
-  const { summary } = plan, { refusal } = summary, { place } = refusal;
-  const parts = [el("p", { class: "result" }, el("b", { class: "bad" }, "Refused"), ` ${summary.name}, ${sizeWords(summary.size)}`), el("p", {}, el("b", {}, "What: "), `${reasonOf(refusal)}.`)];
-  if (place) {
-    const section = place.section ? `, in the ${place.section.name} section (${place.section.id})${place.section.title ? ` “${place.section.title}”` : ""}` : "";
-    parts.push(el("p", {}, el("b", {}, "Where: "), `byte ${spoken(place.at)} (0x${hexOf(place.at)})${section}: ${place.what}. `, button("bytes there", () => showBytes(plan, { of: "module", title: `byte ${place.at} of ${summary.name}`, base: 0, marked: { from: place.at, to: place.at + 1 } }))));
-    parts.push(el("p", { class: "soft small" }, "The planner says what, and that is proved. Where is found by this page’s script."));
-  } else parts.push(el("p", {}, el("b", {}, "Where: "), "the page’s script finds no single place for it."));
-  return card("Result", ...parts);
+  const { summary } = plan, { refusal } = summary;
+  return card(
+    "Result",
+    el("p", { class: "result" }, el("b", { class: "bad" }, "Refused"), ` ${summary.name}, ${sizeWords(summary.size)}`),
+    el("p", {}, el("b", {}, "What: "), `${reasonOf(refusal)}.`),
+    el("p", {}, el("b", {}, "Where: "), ...wherePart(plan, refusal.place)),
+    el("p", { class: "soft small" }, "The planner says what, and that is proved. Where is found by this page’s script."),
+  );
+}
+
+function wherePart(plan, place) {
+  if (!place) return ["the page’s script finds no single place for it."];
+  const { at, what, section } = place, title = section?.title ? ` “${section.title}”` : "";
+  const where = section ? `, in the ${section.name} section (${section.id})${title}` : "";
+  const show = () => showBytes(plan, { of: "module", title: `byte ${at} of ${plan.summary.name}`, base: 0, marked: { from: at, to: at + 1 } });
+  return [`byte ${spoken(at)} (0x${hexOf(at)})${where}: ${what}. `, button("bytes there", show)];
 }

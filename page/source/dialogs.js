@@ -42,9 +42,18 @@ async function showOrigin(plan, kind, index) {
 }
 
 function factParts(plan, { text, bytes, line }) {
-  const parts = [line === undefined ? text : el("code", {}, text.length > 400 ? `${text.slice(0, 400)} …` : text)];
-  if (line !== undefined) parts.push(" ", button(`line ${spoken(line + 1)}`, () => { closeDialog(); plan.goToLine(line); }, { "aria-label": `go to line ${line + 1} of the text` }));
-  if (bytes) parts.push(" ", button(`bytes ${spoken(bytes.from)} to ${spoken(bytes.to)} of the module`, () => showBytes(plan, { of: "module", title: `${text}: bytes of the module`, base: 0, marked: bytes })));
+  const shown = text.length > 400 ? `${text.slice(0, 400)} …` : text, parts = [line === undefined ? shown : el("code", {}, shown)];
+  if (line !== undefined) {
+    const go = () => {
+      closeDialog();
+      plan.goToLine(line);
+    };
+    parts.push(" ", button(`line ${spoken(line + 1)}`, go, { "aria-label": `go to line ${line + 1} of the text` }));
+  }
+  if (bytes) {
+    const show = () => showBytes(plan, { of: "module", title: `${text}: bytes of the module`, base: 0, marked: bytes });
+    parts.push(" ", button(`bytes ${spoken(bytes.from)} to ${spoken(bytes.to)} of the module`, show));
+  }
   return parts;
 }
 
@@ -71,8 +80,10 @@ async function showBytes(plan, { of, index = 0, title, base, marked = null }) {
     if (Number.isFinite(place)) paging.show(place - (((place % ROW) + ROW) % ROW));
   };
   const forward = () => (following === null ? say("all that follows is zero") : paging.show(following - (following % ROW)));
-  const tools = el("form", { class: "pager", onsubmit: go }, jump, el("button", {}, "Go to address"), button("Next that is not zero", forward), button("Save", async () => save(await plan.ask("blob", { of, index }), of === "module" ? plan.summary.name : `runtime-${index}.bin`)));
-  openDialog(title, el("div", {}, el("p", { class: "soft" }, `${count(length, "byte")}${base ? `, from address ${spoken(base)} on` : ""}`), tools, paging.element));
+  const store = async () => save(await plan.ask("blob", { of, index }), of === "module" ? plan.summary.name : `runtime-${index}.bin`);
+  const tools = [jump, el("button", {}, "Go to address"), button("Next that is not zero", forward), button("Save", store)];
+  const words = count(length, "byte") + (base ? `, from address ${spoken(base)} on` : "");
+  openDialog(title, el("div", {}, el("p", { class: "soft" }, words), el("form", { class: "pager", onsubmit: go }, ...tools), paging.element));
   await paging.show(begin);
 }
 

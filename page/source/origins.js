@@ -109,12 +109,14 @@ class Origins {
     }
     if (sources.length > MOST) facts.push({ label: "and", text: `${(sources.length - MOST).toLocaleString("en")} more data segments; where two overlap the later one stands` });
     facts.push(this.section(11));
-    return { title: `image of memory ${row.memory}`, facts: [...facts, ...this.line("image", index), ...this.line("segment", index, "line, where it is written"), ...this.line("runtime", row.runtime, "line of its bytes")], runtime: row.runtime };
+    facts.push(...this.line("image", index), ...this.line("segment", index, "line, where it is written"), ...this.line("runtime", row.runtime, "line of its bytes"));
+    return { title: `image of memory ${row.memory}`, facts, runtime: row.runtime };
   }
 
   passive(index) {
     const row = this.plan.passive.get(index), facts = [{ label: "kept for", text: "memory.init, which code may run" }, this.dataItem(row.segment), this.section(11)];
-    return { title: `passive data segment ${row.segment}`, facts: [...facts, ...this.line("passive-data", index), ...this.line("runtime", row.runtime, "line of its bytes")], runtime: row.runtime };
+    facts.push(...this.line("passive-data", index), ...this.line("runtime", row.runtime, "line of its bytes"));
+    return { title: `passive data segment ${row.segment}`, facts, runtime: row.runtime };
   }
 
   // Images take the first active element segments, and those that are left keep their order: they are the last ones.
@@ -131,7 +133,8 @@ class Origins {
 
   table(index) {
     const own = index - this.plan.entities.imported_tables, facts = [], taken = this.told.activeElements.slice(0, this.told.activeElements.length - this.plan.elements.length);
-    facts.push(own < 0 ? { label: "index", text: `${index}, imported` } : this.item(`table ${index}`, 4, this.places.tables.slice(this.plan.entities.imported_tables).map(table => table.at), own));
+    const starts = this.places.tables.slice(this.plan.entities.imported_tables).map(table => table.at);
+    facts.push(own < 0 ? { label: "index", text: `${index}, imported` } : this.item(`table ${index}`, 4, starts, own));
     const sources = taken.filter(i => this.places.elements[i].table === index);
     for (const source of sources.slice(0, MOST)) facts.push(this.item(`element segment ${source}`, 9, this.elementStarts(), source));
     if (sources.length > MOST) facts.push({ label: "and", text: `${sources.length - MOST} more element segments` });
@@ -143,7 +146,8 @@ class Origins {
   }
 
   memory(index) {
-    const imported = this.plan.entities.imported_memories, facts = [{ label: "index", text: index < imported ? `${index}, imported` : `${index}: number ${index - imported} of the memory section (5)` }];
+    const imported = this.plan.entities.imported_memories;
+    const facts = [{ label: "index", text: index < imported ? `${index}, imported` : `${index}: number ${index - imported} of the memory section (5)` }];
     return { title: `memory ${index}`, facts: [...facts, this.section(index < imported ? 2 : 5), ...this.line("memories", 0)] };
   }
 

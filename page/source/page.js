@@ -122,7 +122,9 @@ function setPlan(side, summary) {
 }
 
 function showFault(side, error) {
-  byId("answer").replaceChildren(card("Result", el("p", { class: "result bad" }, `${sides[side]?.name ?? "The module"} cannot be planned here: ${error.message}.`), el("p", { class: "soft" }, "The page needs WebAssembly with memories of 64 bits: Chrome from 133 on, Firefox from 134 on.")));
+  const what = `${sides[side]?.name ?? "The module"} cannot be planned here: ${error.message}.`;
+  const needs = "The page needs WebAssembly with memories of 64 bits: Chrome from 133 on, Firefox from 134 on.";
+  byId("answer").replaceChildren(card("Result", el("p", { class: "result bad" }, what), el("p", { class: "soft" }, needs)));
   say(error.message);
   sides[side] = null;
 }

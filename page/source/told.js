@@ -157,14 +157,18 @@ class Told {
       const index = from + i, own = index - imported_tables, { begin, len } = own < 0 ? { begin: 0, len: 0 } : this.plan.table_images.get(own);
       let full = 0;
       for (let cell = begin; cell < begin + len; cell++) if (this.plan.cells.get(cell) !== NONE) full++;
-      return { index, isImported: own < 0, minimum: table.minimum, maximum: table.maximum === UNBOUNDED ? null : table.maximum, isWide: table.wide !== 0, element: valueWords(table.element, this.numbers), cells: len, full, names: this.namesOf("table", index) };
+      return {
+        index, isImported: own < 0, minimum: table.minimum, maximum: table.maximum === UNBOUNDED ? null : table.maximum, isWide: table.wide !== 0,
+        element: valueWords(table.element, this.numbers), cells: len, full, names: this.namesOf("table", index),
+      };
     });
   }
 
   // Cells of a table's image: functions by their numbers, null where there is none.
   cells(table, from, to) {
     const { begin, len } = this.plan.table_images.get(table - this.plan.entities.imported_tables);
-    return this.plan.cells.slice(begin + from, begin + Math.min(to, len)).map((cell, i) => ({ place: from + i, function: cell === NONE ? null : cell, name: cell === NONE ? null : this.functionName(cell) }));
+    const told = (cell, i) => (cell === NONE ? { place: from + i, function: null, name: null } : { place: from + i, function: cell, name: this.functionName(cell) });
+    return this.plan.cells.slice(begin + from, begin + Math.min(to, len)).map(told);
   }
 
   elements(from, to) {
