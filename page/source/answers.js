@@ -43,7 +43,7 @@ function startupWords(summary) {
   switch (summary.startup) {
     case "startup_none": return ["none", "nothing has to run"];
     case "startup_always": return ["always", `type ${summary.startupType}`];
-    default: return ["if needed", "where a memory does not begin as its image"];
+    default: return ["if needed", "without images"];
   }
 }
 

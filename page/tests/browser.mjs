@@ -111,10 +111,10 @@ export class Tab {
     return Buffer.from(data, "base64");
   }
 
-  // A picture of the whole page.
-  async picture() {
+  // A picture of the whole page, or of a part of its height.
+  async picture(from = 0, to = Infinity) {
     const { cssContentSize: { width, height } } = await this.send("Page.getLayoutMetrics");
-    const clip = { x: 0, y: 0, width, height, scale: 1 };
+    const clip = { x: 0, y: from, width, height: Math.min(height, to) - from, scale: 1 };
     const { data } = await this.send("Page.captureScreenshot", { captureBeyondViewport: true, clip });
     return Buffer.from(data, "base64");
   }

@@ -48,6 +48,12 @@ class PageCheck {
     if (this.shots) writeFileSync(join(this.shots, `${name}.png`), isOfView ? await this.tab.viewed() : await this.tab.picture());
   }
 
+  // A picture from the top of one element to the bottom of another.
+  async part(first, last) {
+    const place = (selector, side) => this.tab.value(`document.querySelector("${selector}").getBoundingClientRect().${side} + scrollY`);
+    return this.tab.picture(await place(first, "top"), (await place(last, "bottom")) + 24);
+  }
+
   // Waits until a side has the plan of this name.
   async planned(name, side = "one") {
     await this.tab.until(`sides.${side}?.name === ${JSON.stringify(name)} && sides.${side}?.plan != null && !sides.${side}.isPlanning`);
@@ -81,6 +87,9 @@ class PageCheck {
     await this.tab.scheme("dark");
     await this.shot("planner-dark");
     await this.tab.scheme("light");
+    await this.tab.resize(1000, 900);
+    if (this.shots) writeFileSync(join(this.shots, "readme.png"), await this.part("#answer", ".bar"));
+    await this.tab.send("Emulation.clearDeviceMetricsOverride");
   }
 
   // All modules of plan_cases, by the page’s worker.
