@@ -1,8 +1,15 @@
 pub mod Context
+pub mod Expressions
 pub mod Facts
+pub mod Functions
+pub mod Globals
+pub mod Interned
 pub mod Kinds
+pub mod Layouts
 pub mod Memories
+pub mod Names
 pub mod Numbers
+pub mod Operators
 pub mod Plan
 pub mod Segments
 pub mod Spans

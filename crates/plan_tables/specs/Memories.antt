@@ -16,7 +16,7 @@ use Rattle.plan_tables.specs.declared.record.MemoriesRecord.{MemoriesRecord}
 use Rattle.plan_tables.specs.declared.rows.ImageRow.{ImageRow}
 use Rattle.plan_tables.specs.declared.rows.NumberRange.{NumberRange}
 use Rattle.plan_tables.specs.declared.rows.PassiveRow.{PassiveRow}
-use Rattle.plan_tables.specs.Segments.{segment_rows}
+use Rattle.plan_tables.specs.Segments.{segment_row, planned_of}
 
 abbrev pub data_range : Range ℕ → NumberRange
 data_range range = record { begin = range.start; end = range.end }
@@ -42,5 +42,5 @@ pub record TellsMemories (t : ModuleTranslation) (r : MemoriesRecord) : Type 0 w
   -- the images, by the runtime data that hold them
   pub images : r.images.now ≡ image_rows t.module.memory_initialization
   -- what is left to be written, in order
-  pub segments : r.segments.now ≡ segment_rows t.memory_init
+  pub segments : r.segments.now ≡ map segment_row (planned_of t.memory_init)
   pub passive : r.passive.now ≡ flat_map (λ p. passive_row p.0 p.1) (keyed index_of t.runtime_data_map.items)

@@ -5,9 +5,15 @@ use Rattle.vm_offsets.specs.Regions.{context_regions}
 use Rattle.plan.specs.declared.plan.Plan.{Plan}
 use Rattle.plan_tables.specs.declared.record.PlanRecord.{PlanRecord}
 use Rattle.plan_tables.specs.Context.{TellsContext, region_told, placed_back}
+use Rattle.plan_tables.specs.Expressions.{TellsPlaces}
 use Rattle.plan_tables.specs.Facts.{entities_row, facts_row}
+use Rattle.plan_tables.specs.Functions.{TellsFunctions}
+use Rattle.plan_tables.specs.Globals.{TellsGlobals}
+use Rattle.plan_tables.specs.Interned.{TellsInterned}
 use Rattle.plan_tables.specs.Kinds.{TellsKinds}
+use Rattle.plan_tables.specs.Layouts.{TellsLayouts}
 use Rattle.plan_tables.specs.Memories.{TellsMemories}
+use Rattle.plan_tables.specs.Names.{TellsNames, own_name}
 use Rattle.plan_tables.specs.Tables.{TellsTables}
 use Rattle.plan_tables.specs.Types.{TellsTypes}
 
@@ -23,3 +29,11 @@ pub record Tells (plan : Plan) (r : PlanRecord) : Type 0 where
   pub tables : TellsTables plan.translation r.tables
   -- the regions of the context, the last one first
   pub regions : map region_told r.regions.now ≡ placed_back (size_of_context plan.offsets) (context_regions (pointer_of plan.offsets) (fields_of plan.offsets))
+  pub functions : TellsFunctions plan.translation r.functions
+  pub globals : TellsGlobals plan.translation r.globals
+  -- the operators of each constant expression
+  pub places : TellsPlaces plan.translation r.places
+  pub names : TellsNames plan.translation.module r.names
+  pub module_text : r.module_text.now ≡ own_name plan.translation.module.strings plan.translation.module.name
+  pub layouts : TellsLayouts plan.layouts r.layouts
+  pub interned : TellsInterned plan.types r.interned

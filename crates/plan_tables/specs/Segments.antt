@@ -1,5 +1,5 @@
 -- What the tables say of segments that are left to be written.
-use Rattle.std.specs.Prelude.{ℕ, List, [], ◌∷◌, map}
+use Rattle.std.specs.Prelude.{ℕ, List, [], ◌∷◌}
 use Rattle.std.specs.Int.{cast_unsigned, w32, w64}
 use Rattle.wasm_index.specs.declared.index.Index.{Index}
 use Rattle.wasm_index.specs.declared.spaces.MemorySpace.{MemorySpace}
@@ -41,9 +41,10 @@ segment_row s = record {
   offset = (offset_place s.1).1;
 }
 
-abbrev pub segment_rows : MemoryInit → List SegmentRow
-segment_rows (init.Unprocessed segments) = []
-segment_rows (init.Processed segments) = map segment_row segments.items
+-- the segments as they are planned
+abbrev pub planned_of : MemoryInit → List (Index MemorySpace × MemorySegmentOffset × Index RuntimeDataSpace)
+planned_of (init.Unprocessed segments) = []
+planned_of (init.Processed segments) = segments.items
 
 abbrev pub element_row : TableSegment → ElementsRow
 element_row s = record {

@@ -2,11 +2,19 @@
 #![tactic(auto)]
 
 mod context;
+mod expressions;
 mod facts;
 mod filling;
+mod functions;
+mod globals;
+mod interned;
 mod kinds;
+mod layouts;
 mod memories;
+mod names;
 mod numbers;
+mod operators;
+mod places;
 mod record;
 mod rows;
 mod runtime;
@@ -17,9 +25,13 @@ mod values;
 
 pub use filling::fill_record;
 pub use record::{
-    KindsRecord, MemoriesRecord, PlanRecord, RegionRow, RuntimeRow, TablesRecord, TypesRecord,
+    ExportsRecord, ExpressionsRecord, FunctionNameRow, FunctionsRecord, GlobalsRecord,
+    ImportsRecord, InternedRecord, KindsRecord, LayoutsRecord, MemoriesRecord, NamesRecord,
+    PlacesRecord, PlanRecord, RegionRow, RuntimeRow, TablesRecord, TypesRecord,
 };
 pub use rows::{
-    Context, ElementsRow, Entities, Facts, GlobalRow, ImageRow, MemoryRow, NumberRange, PassiveRow,
-    SegmentRow, Span, TableRow, TagRow, ValueRow,
+    Context, ElementsRow, Entities, ExportRow, Facts, FieldRow, GlobalRow, GlobalValueRow,
+    HintsRow, ImageRow, ImportRow, LayoutFieldRow, LayoutRow, MemoryRow, NumberRange, OperatorRow,
+    PassiveElementsRow, PassiveRow, SegmentRow, Span, TableRow, TagRow, TrampolineRow, TypeRow,
+    ValueRow,
 };

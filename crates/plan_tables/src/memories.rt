@@ -9,7 +9,7 @@ ghost use Rattle.plan_tables.specs.Memories.{data_range, image_row, image_rows, 
 use crate::record::MemoriesRecord;
 use crate::rows::{ImageRow, NumberRange, PassiveRow};
 use crate::runtime::{empty_rows, take_bytes};
-use crate::segments::segments_of;
+use crate::segments::{planned_of, segments_of};
 use entity_map::{EntityRef, OutOfMemory, PrimaryMap, SecondaryMap};
 use init_plan::ModuleTranslation;
 use std::alloc::Global;
@@ -26,7 +26,7 @@ pub(crate) fn memories_record<'d>(
 {
     let ranges = ranges_of(alloc, translation.module.runtime_data.as_slice())?;
     let images = images_of(alloc, &translation.module.memory_initialization)?;
-    let segments = segments_of(alloc, &translation.memory_init)?;
+    let segments = segments_of(alloc, planned_of(&translation.memory_init))?;
     let passive = passive_of(alloc, &translation.runtime_data_map)?;
     let mut runtime = empty_rows(alloc, translation.runtime_data.len())?;
     take_bytes(

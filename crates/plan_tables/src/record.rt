@@ -1,8 +1,9 @@
 //! The record of a plan, which C can read.
 
 use crate::rows::{
-    Context, ElementsRow, Entities, Facts, GlobalRow, ImageRow, MemoryRow, NumberRange, PassiveRow,
-    SegmentRow, Span, TableRow, TagRow,
+    Context, ElementsRow, Entities, ExportRow, Facts, FieldRow, GlobalRow, GlobalValueRow,
+    HintsRow, ImageRow, ImportRow, LayoutFieldRow, LayoutRow, MemoryRow, NumberRange, OperatorRow,
+    PassiveElementsRow, PassiveRow, SegmentRow, Span, TableRow, TagRow, TrampolineRow, TypeRow,
 };
 
 /// Bytes that a plan refers to, of the module or made by the plan: `bobbinazure_runtime`.
@@ -74,6 +75,98 @@ pub struct TablesRecord<'d> {
     pub elements: &'d [ElementsRow],
 }
 
+/// The name of a function: `bobbinazure_function_name`.
+#[repr(C)]
+#[derive(Clone, Copy)]
+pub struct FunctionNameRow<'d> {
+    pub function: u32,
+    pub name: &'d [u8],
+}
+
+/// Constant expressions: `bobbinazure_expressions`.
+#[repr(C)]
+#[derive(Clone, Copy)]
+pub struct ExpressionsRecord<'d> {
+    /// The part of each.
+    pub parts: &'d [Span],
+    pub operators: &'d [OperatorRow],
+}
+
+/// What functions have beside their types, and passive elements.
+#[repr(C)]
+#[derive(Clone, Copy)]
+pub struct FunctionsRecord<'d> {
+    pub passive_elements: &'d [PassiveElementsRow],
+    pub names: &'d [FunctionNameRow<'d>],
+    pub hints: &'d [HintsRow],
+}
+
+/// How globals begin.
+#[repr(C)]
+#[derive(Clone, Copy)]
+pub struct GlobalsRecord<'d> {
+    pub values: &'d [GlobalValueRow],
+    /// The defined globals that begin as the value of an expression.
+    pub expressed: &'d [u32],
+}
+
+/// Imports, and their names end to end.
+#[repr(C)]
+#[derive(Clone, Copy)]
+pub struct ImportsRecord<'d> {
+    pub rows: &'d [ImportRow],
+    pub names: &'d [u8],
+}
+
+/// Exports, and their names end to end.
+#[repr(C)]
+#[derive(Clone, Copy)]
+pub struct ExportsRecord<'d> {
+    pub rows: &'d [ExportRow],
+    pub names: &'d [u8],
+}
+
+/// Layouts of objects, and their fields end to end.
+#[repr(C)]
+#[derive(Clone, Copy)]
+pub struct LayoutsRecord<'d> {
+    pub rows: &'d [LayoutRow],
+    pub fields: &'d [LayoutFieldRow],
+}
+
+/// Interned types, and their fields end to end.
+#[repr(C)]
+#[derive(Clone, Copy)]
+pub struct InternedRecord<'d> {
+    pub types: &'d [TypeRow],
+    pub fields: &'d [FieldRow],
+    /// The types that have a trampoline, in order.
+    pub trampolines: &'d [TrampolineRow],
+}
+
+/// The constant expressions of a plan.
+#[repr(C)]
+#[derive(Clone, Copy)]
+pub struct PlacesRecord<'d> {
+    /// Of each global that begins as the value of an expression.
+    pub globals: ExpressionsRecord<'d>,
+    /// Of the place of each data segment that is left; none where the place is planned.
+    pub segments: ExpressionsRecord<'d>,
+    /// Of the place of each element segment that is left.
+    pub elements: ExpressionsRecord<'d>,
+    /// Of the first value of each defined table; none where its cells begin as null.
+    pub tables: ExpressionsRecord<'d>,
+}
+
+/// Imports and exports with their names, and which part of its text the module's name is.
+#[repr(C)]
+#[derive(Clone, Copy)]
+pub struct NamesRecord<'d> {
+    pub imports: ImportsRecord<'d>,
+    pub exports: ExportsRecord<'d>,
+    pub own: &'d [Span],
+}
+
 /// A plan, or why there is none: `bobbinazure_plan`, in which the fields of each part stand one after another.
 #[repr(C)]
 #[derive(Clone, Copy)]
@@ -93,4 +186,12 @@ pub struct PlanRecord<'d> {
     pub tables: TablesRecord<'d>,
     /// The regions of the context, the last one first.
     pub regions: &'d [RegionRow],
+    pub functions: FunctionsRecord<'d>,
+    pub globals: GlobalsRecord<'d>,
+    pub places: PlacesRecord<'d>,
+    pub names: NamesRecord<'d>,
+    pub layouts: LayoutsRecord<'d>,
+    pub interned: InternedRecord<'d>,
+    /// The text of the module's name.
+    pub module_text: &'d [u8],
 }

@@ -172,3 +172,123 @@ pub struct ElementsRow {
     pub offset: u64,
     pub count: u64,
 }
+
+/// An operator of a constant expression: `bobbinazure_operator`.
+#[repr(C)]
+#[derive(Clone, Copy)]
+pub struct OperatorRow {
+    /// In the order of `ConstOp`.
+    pub code: u8,
+    /// Of a null reference, what it is to, and which list the index is of.
+    pub heap: u8,
+    pub list: u8,
+    /// The global, the function or the type that it names.
+    pub index: u32,
+    /// The bits of a constant, of a vector the lower half; a number of elements.
+    pub low: u64,
+    pub high: u64,
+}
+
+/// A defined global that begins as a known value: `bobbinazure_global_value`.
+#[repr(C)]
+#[derive(Clone, Copy)]
+pub struct GlobalValueRow {
+    pub global: u32,
+    pub value: OperatorRow,
+}
+
+/// How many hints of branches a function has: `bobbinazure_hints`.
+#[repr(C)]
+#[derive(Clone, Copy)]
+pub struct HintsRow {
+    pub function: u32,
+    pub count: u64,
+}
+
+/// A passive element segment, by the type of its elements and their number: `bobbinazure_passive_elements`.
+#[repr(C)]
+#[derive(Clone, Copy)]
+pub struct PassiveElementsRow {
+    pub element: ValueRow,
+    pub count: u64,
+}
+
+/// An import: the kind and the index of its entity, and its two names as parts of the imports' names: `bobbinazure_import`.
+#[repr(C)]
+#[derive(Clone, Copy)]
+pub struct ImportRow {
+    pub kind: u32,
+    pub index: u32,
+    /// The name of the module from which it comes.
+    pub from: Span,
+    pub name: Span,
+}
+
+/// An export: the kind and the index of its entity, and its name as a part of the exports' names: `bobbinazure_export`.
+#[repr(C)]
+#[derive(Clone, Copy)]
+pub struct ExportRow {
+    pub kind: u32,
+    pub index: u32,
+    pub name: Span,
+}
+
+/// The layout of the objects of an interned type: `bobbinazure_layout`.
+#[repr(C)]
+#[derive(Clone, Copy)]
+pub struct LayoutRow {
+    pub ty: u32,
+    /// 0 an array, 1 a struct, 2 an exception.
+    pub kind: u32,
+    /// In bytes; of an array, those before its elements.
+    pub size: u32,
+    pub align: u32,
+    /// The bytes of an element of an array.
+    pub element: u32,
+    /// Whether the elements of an array are references that are collected.
+    pub refs: u32,
+    pub fields: Span,
+}
+
+/// A field of a layout: `bobbinazure_layout_field`.
+#[repr(C)]
+#[derive(Clone, Copy)]
+pub struct LayoutFieldRow {
+    pub offset: u32,
+    pub is_ref: u32,
+}
+
+/// An interned type: `bobbinazure_type`.
+#[repr(C)]
+#[derive(Clone, Copy)]
+pub struct TypeRow {
+    /// 0 an array, 1 a function, 2 a struct, 3 a continuation, 4 an exception.
+    pub kind: u8,
+    pub is_final: u8,
+    pub shared: u8,
+    pub supertype_list: u8,
+    pub function_list: u8,
+    pub supertype: u32,
+    /// The function type of a continuation or an exception.
+    pub function: u32,
+    /// Its fields, or its parameters and then its results.
+    pub fields: Span,
+    /// How many of them are results.
+    pub results: usize,
+}
+
+/// A field, a parameter or a result: `bobbinazure_field`.
+#[repr(C)]
+#[derive(Clone, Copy)]
+pub struct FieldRow {
+    pub value: ValueRow,
+    pub writable: u32,
+}
+
+/// An interned type that has a trampoline: `bobbinazure_trampoline`.
+#[repr(C)]
+#[derive(Clone, Copy)]
+pub struct TrampolineRow {
+    pub ty: u32,
+    pub trampoline: u32,
+}

@@ -1,7 +1,7 @@
 //! Segments that are left to be written, as tables.
 
 ghost use Rattle.std.specs.Prelude.{◌≡◌, map, IfOk};
-ghost use Rattle.plan_tables.specs.Segments.{operator_place, expression_place, offset_place, segment_row, segment_rows, element_row};
+ghost use Rattle.plan_tables.specs.Segments.{operator_place, expression_place, offset_place, segment_row, planned_of, element_row};
 
 use crate::rows::{ElementsRow, SegmentRow};
 use entity_map::{EntityRef, OutOfMemory};
@@ -55,7 +55,20 @@ fn segment_row(segment: &(MemoryIndex, MemorySegmentOffset, RuntimeDataIndex)) -
     }
 }
 
-fn planned_segments(
+/// The data segments as they are planned, in order.
+pub(crate) fn planned_of<'a>(
+    init: &'a MemoryInit<'_>,
+) -> &'a [(MemoryIndex, MemorySegmentOffset, RuntimeDataIndex)]
+    ensures { result.now ≡ planned_of init.now }
+{
+    match init {
+        MemoryInit::Unprocessed(_) => &[],
+        MemoryInit::Processed(planned) => planned.as_slice(),
+    }
+}
+
+/// The data segments that are left to be written, in order.
+pub(crate) fn segments_of(
     alloc: Global,
     planned: &[(MemoryIndex, MemorySegmentOffset, RuntimeDataIndex)],
 ) -> Result<Vec<SegmentRow>, OutOfMemory>
@@ -66,19 +79,6 @@ fn planned_segments(
         rows.push(segment_row(segment))?;
     }
     Ok(rows)
-}
-
-/// The data segments that are left to be written, in order.
-pub(crate) fn segments_of(
-    alloc: Global,
-    init: &MemoryInit<'_>,
-) -> Result<Vec<SegmentRow>, OutOfMemory>
-    ensures { IfOk result (λ rows. rows.items ≡ segment_rows init.now) }
-{
-    match init {
-        MemoryInit::Unprocessed(_) => Ok(Vec::new(alloc)),
-        MemoryInit::Processed(planned) => planned_segments(alloc, planned),
-    }
 }
 
 fn element_row(segment: &TableSegment) -> ElementsRow

@@ -85,7 +85,8 @@ pub(crate) fn ref_row(ty: WasmRefType) -> ValueRow
     }
 }
 
-fn plain_row(kind: u8) -> ValueRow
+/// A type without parts, by its kind.
+pub(crate) fn plain_row(kind: u8) -> ValueRow
     ensures { result ≡ plain_row kind }
 {
     ValueRow {

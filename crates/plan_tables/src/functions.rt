@@ -1,0 +1,89 @@
+//! Names of functions, their hints, and passive elements as tables.
+
+ghost use Rattle.std.specs.Prelude.{◌≡◌, map, IfOk};
+ghost use Rattle.std.specs.List.{flat_map};
+ghost use Rattle.entity_map.specs.Keyed.{keyed};
+ghost use Rattle.wasm_index.specs.Index.{number_of, index_of};
+ghost use Rattle.init_plan.specs.Views.{hints_of};
+ghost use Rattle.plan_tables.specs.Functions.{name_told, hints_row, passive_elements_row, TellsFunctions};
+
+use crate::record::{FunctionNameRow, FunctionsRecord};
+use crate::rows::{HintsRow, PassiveElementsRow};
+use crate::values::ref_row;
+use entity_map::{EntityRef, OutOfMemory};
+use init_plan::ModuleTranslation;
+use std::alloc::Global;
+use std::collections::BTreeMap;
+use wasm_index::FuncIndex;
+use wasm_types::WasmRefType;
+
+// The names of functions, in the module's bytes.
+fn function_names_of<'d>(
+    alloc: Global,
+    names: &BTreeMap<FuncIndex, &'d str>,
+) -> Result<Vec<FunctionNameRow<'d>>, OutOfMemory>
+    ensures { IfOk result (λ rows. map name_told rows.items ≡ map (λ name. (number_of name.0, name.1.now)) names.now.entries) }
+{
+    let mut rows = Vec::new(alloc);
+    for (function, name) in names.iter() {
+        rows.push(FunctionNameRow {
+            function: function.as_u32(),
+            name: name.as_bytes(),
+        })?;
+    }
+    Ok(rows)
+}
+
+// How many hints of branches each function has that has some.
+fn hints_rows(
+    alloc: Global,
+    translation: &ModuleTranslation<'_>,
+) -> Result<Vec<HintsRow>, OutOfMemory>
+    ensures { IfOk result (λ rows. rows.items
+        ≡ flat_map (λ p. hints_row p.0 (hints_of translation.now (number_of p.0))) (keyed index_of translation.now.module.functions)) }
+{
+    let mut rows = Vec::new(alloc);
+    for (function, _) in translation.module.functions.iter() {
+        if let Some(hints) = translation.branch_hints(function) {
+            rows.push(HintsRow {
+                function: function.as_u32(),
+                count: hints.len() as u64,
+            })?;
+        }
+    }
+    Ok(rows)
+}
+
+// The passive element segments.
+fn passive_elements_of(
+    alloc: Global,
+    elements: &[(WasmRefType, u64)],
+) -> Result<Vec<PassiveElementsRow>, OutOfMemory>
+    ensures { IfOk result (λ rows. rows.items ≡ map passive_elements_row elements.now) }
+{
+    let mut rows = Vec::with_capacity(alloc, elements.len())?;
+    for segment in elements {
+        rows.push(PassiveElementsRow {
+            element: ref_row(segment.0),
+            count: segment.1,
+        })?;
+    }
+    Ok(rows)
+}
+
+/// The tables of names of functions, hints and passive elements.
+pub(crate) fn functions_record<'d>(
+    alloc: Global,
+    translation: &ModuleTranslation<'d>,
+) -> Result<FunctionsRecord<'d>, OutOfMemory>
+    ensures { IfOk result (TellsFunctions translation.now) }
+{
+    let elements = passive_elements_of(alloc, translation.module.passive_elements.as_slice())?;
+    let names = function_names_of(alloc, &translation.debuginfo.name_section.func_names)?;
+    let hints = hints_rows(alloc, translation)?;
+    Ok(FunctionsRecord {
+        passive_elements: elements.leak(),
+        names: names.leak(),
+        hints: hints.leak(),
+    })
+}
