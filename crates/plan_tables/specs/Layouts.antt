@@ -1,5 +1,5 @@
 -- What the tables say of the layouts of objects.
-use Rattle.std.specs.Prelude.{◌≡◌, ℕ, ◌+◌, List, [], ◌∷◌, ◌++◌, length, map, Option, Some, None, if◌then◌else◌}
+use Rattle.std.specs.Prelude.{◌≡◌, ℕ, ◌+◌, List, [], ◌∷◌, length, map, Option, Some, None, if◌then◌else◌}
 use Rattle.std.specs.List.{flat_map}
 use Rattle.entity_map.specs.Keyed.{keyed}
 use Rattle.wasm_index.specs.Index.{number_of, index_of}

@@ -11,8 +11,10 @@ use Rattle.wasm_index.specs.Index.{number_of, index_of}
 use Rattle.wasm_module.specs.declared.memory_initialization.MemoryInitialization.{MemoryInitialization}
 use Rattle.wasm_module.specs.declared.memory_initialization.MemoryInitialization.TheVariants as initialization
 use Rattle.init_plan.specs.declared.translation.ModuleTranslation.{ModuleTranslation}
-use Rattle.init_plan.specs.Views.{bytes_of}
+use Rattle.init_plan.specs.declared.translation.RuntimeBytes.{RuntimeBytes}
+use Rattle.init_plan.specs.declared.translation.RuntimeBytes.TheVariants as runtime
 use Rattle.plan_tables.specs.declared.record.MemoriesRecord.{MemoriesRecord}
+use Rattle.plan_tables.specs.declared.record.RuntimeRow.{RuntimeRow}
 use Rattle.plan_tables.specs.declared.rows.ImageRow.{ImageRow}
 use Rattle.plan_tables.specs.declared.rows.NumberRange.{NumberRange}
 use Rattle.plan_tables.specs.declared.rows.PassiveRow.{PassiveRow}
@@ -35,9 +37,17 @@ abbrev pub passive_row : Index DataSpace → Option (Index RuntimeDataSpace) →
 passive_row segment None = []
 passive_row segment (Some index) = record { segment = number_of segment; runtime = number_of index } ∷ []
 
+-- whether the bytes were made by the plan, and the bytes
+abbrev pub runtime_row : RuntimeBytes → ℕ × List ℕ
+runtime_row (runtime.Borrowed bytes) = (0, bytes.now)
+runtime_row (runtime.Owned bytes) = (1, bytes.items)
+
+abbrev pub runtime_told : RuntimeRow → ℕ × List ℕ
+runtime_told row = (row.made, row.bytes.now)
+
 pub record TellsMemories (t : ModuleTranslation) (r : MemoriesRecord) : Type 0 where
-  -- the bytes of each runtime data
-  pub runtime : map (λ row. row.bytes.now) r.runtime.now ≡ map bytes_of t.runtime_data
+  -- the bytes of each runtime data, and which of them the plan made
+  pub runtime : map runtime_told r.runtime.now ≡ map runtime_row t.runtime_data
   pub ranges : r.runtime_ranges.now ≡ map data_range t.module.runtime_data
   -- the images, by the runtime data that hold them
   pub images : r.images.now ≡ image_rows t.module.memory_initialization

@@ -19,6 +19,7 @@ mod record;
 mod rows;
 mod runtime;
 mod segments;
+mod sizes;
 mod tables;
 mod types;
 mod values;

@@ -1,7 +1,7 @@
 //! The bytes of runtime data, moved out of a plan.
 
 ghost use Rattle.std.specs.Prelude.{◌≡◌, length, map, IfOk};
-ghost use Rattle.init_plan.specs.Views.{bytes_of};
+ghost use Rattle.plan_tables.specs.Memories.{runtime_told, runtime_row};
 
 use crate::record::RuntimeRow;
 use entity_map::OutOfMemory;
@@ -11,7 +11,7 @@ use std::mem;
 
 // The bytes of one runtime data, whose owner is left without any.
 fn taken_row<'d>(bytes: &mut RuntimeBytes<'d>) -> RuntimeRow<'d>
-    ensures { result.bytes.now ≡ bytes_of bytes.old }
+    ensures { runtime_told result ≡ runtime_row bytes.old }
 {
     match mem::replace(bytes, RuntimeBytes::Borrowed(&[])) {
         RuntimeBytes::Borrowed(bytes) => RuntimeRow { made: 0, bytes },
@@ -39,7 +39,7 @@ pub(crate) fn empty_rows<'d>(
 /// Takes the bytes of each runtime data; those that the plan made are not copied.
 pub(crate) fn take_bytes<'d>(planned: &mut [RuntimeBytes<'d>], rows: &mut [RuntimeRow<'d>])
     requires { length rows.old ≡ length planned.old }
-    ensures { map (λ row. row.bytes.now) rows.new ≡ map bytes_of planned.old }
+    ensures { map runtime_told rows.new ≡ map runtime_row planned.old }
 {
     for place in 0..rows.len() {
         rows[place] = taken_row(&mut planned[place]);

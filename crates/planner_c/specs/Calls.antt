@@ -1,5 +1,5 @@
 -- What the calls from C promise.
-use Rattle.std.specs.Prelude.{◌≡◌, ◌⊎◌, ◌≤◌, ℕ, zero, suc, Bool, true, false, nat_eq, not, List, None}
+use Rattle.std.specs.Prelude.{◌≡◌, ◌⊎◌, ◌≤◌, ℕ, zero, suc, Bool, false, nat_eq, not, List, None}
 use Rattle.std.specs.Int.{IsPowerOfTwo}
 use Rattle.command_words.specs.declared.command.Collector.{Collector}
 use Rattle.command_words.specs.declared.command.Collector.TheVariants.{Drc, Null}
@@ -9,6 +9,7 @@ use Rattle.plan.specs.declared.error.TranslateError.{TranslateError}
 use Rattle.translate.specs.Options.{Options, options_of}
 use Rattle.translate.specs.Planned.{IsPlanned, HasCause}
 use Rattle.planner_c.specs.declared.options.PlanOptions.{PlanOptions}
+use Rattle.planner_c.specs.declared.text.TextRecord.{TextRecord}
 
 -- a switch is on unless it is 0
 abbrev pub is_on : ℕ → Bool
@@ -62,3 +63,7 @@ pub record HasRefusal (o : PlanOptions) (bytes : List ℕ) (P : TranslateError �
   pub refusal : TranslateError
   pub cause : HasCause (options_for o) bytes refusal
   pub holds : P refusal
+
+-- the record has a text, and says whether it stands in memory of its own
+abbrev pub GivesText : ℕ → List ℕ → TextRecord → Type 0
+GivesText made text r = (r.text.now ≡ text) × (r.made ≡ made)

@@ -8,7 +8,7 @@ ghost use Rattle.translate.specs.Valid.{IsValid};
 ghost use Rattle.plan_text.specs.PlanText.{IsPrintable, text_of_plan};
 ghost use Rattle.plan_text.specs.Refusals.{text_of_refusal};
 ghost use Rattle.plan_tables.specs.Plan.{Tells};
-ghost use Rattle.planner_c.specs.Calls.{HasPlan, HasRefusal, AreRight, IsStatus, options_for};
+ghost use Rattle.planner_c.specs.Calls.{HasPlan, HasRefusal, GivesText, AreRight, IsStatus, options_for};
 ghost use Rattle.planner_c.specs.Refusals.{TellsRefusal};
 
 use crate::options::{PlanOptions, command_of};
@@ -68,8 +68,8 @@ pub extern "C" fn bobbinazure_make_text<'d>(
     out: &mut TextRecord<'d>,
 ) -> u32
     ensures statuses { IsStatus result }
-    ensures planned { result ≡ 0 → HasPlan options.now bytes.now (λ plan. out.new.text.now ≡ text_of_plan plan) }
-    ensures refused { result ≡ 1 → HasRefusal options.now bytes.now (λ refusal. out.new.text.now ≡ text_of_refusal refusal) }
+    ensures planned { result ≡ 0 → HasPlan options.now bytes.now (λ plan. GivesText 1 (text_of_plan plan) out.new) }
+    ensures refused { result ≡ 1 → HasRefusal options.now bytes.now (λ refusal. GivesText 0 (text_of_refusal refusal) out.new) }
     ensures taken { AreRight options.now → result ≢ 2 }
     ensures same { (result ≡ 2) ⊎ (result ≡ 5) → out.new ≡ out.old }
     ensures complete { IsValid (options_for options.now) bytes.now → result ≢ 1 }
@@ -103,8 +103,8 @@ pub extern "C" fn bobbinazure_make_plan_and_text<'d>(
     text_out: &mut TextRecord<'d>,
 ) -> u32
     ensures statuses { IsStatus result }
-    ensures planned { result ≡ 0 → HasPlan options.now bytes.now (λ plan. Tells plan out.new × (text_out.new.text.now ≡ text_of_plan plan)) }
-    ensures refused { result ≡ 1 → HasRefusal options.now bytes.now (λ refusal. TellsRefusal refusal out.new × (text_out.new.text.now ≡ text_of_refusal refusal)) }
+    ensures planned { result ≡ 0 → HasPlan options.now bytes.now (λ plan. Tells plan out.new × GivesText 1 (text_of_plan plan) text_out.new) }
+    ensures refused { result ≡ 1 → HasRefusal options.now bytes.now (λ refusal. TellsRefusal refusal out.new × GivesText 0 (text_of_refusal refusal) text_out.new) }
     ensures taken { AreRight options.now → result ≢ 2 }
     ensures same { result ≡ 2 → (out.new ≡ out.old) × (text_out.new ≡ text_out.old) }
     ensures complete { IsValid (options_for options.now) bytes.now → result ≢ 1 }
@@ -162,6 +162,7 @@ fn texted<'d>(
 ) -> Result<(Plan<'d>, Vec<u8>), TranslateError>
     requires { IsUsable command.now }
     ensures planned { IfOk result (λ answer. IsPlanned (options_of command.now) bytes.now answer.0) }
+    ensures printable { IfOk result (λ answer. IsPrintable answer.0.translation) }
     ensures text { IfOk result (λ answer. answer.1.items ≡ text_of_plan answer.0) }
     ensures cause { IfErr result (HasCause (options_of command.now) bytes.now) }
     ensures complete { IsValid (options_of command.now) bytes.now → SucceedsOrNoMemory result }

@@ -1,4 +1,4 @@
-use Rattle.std.proofs.Common.{◌≡◌, List, map, ap, arith}
+use Rattle.std.proofs.Common.{◌≡◌, map, ap}
 use Rattle.std.specs.List.{flat_map}
 use Rattle.entity_map.specs.Keyed.{keyed}
 use Rattle.wasm_index.specs.declared.spaces.ModuleInternedTypeSpace.{ModuleInternedTypeSpace}

@@ -1,4 +1,4 @@
-use Rattle.std.proofs.Common.{◌∙◌, subst}
+use Rattle.std.proofs.Common.{◌∙◌, refl, subst}
 use Rattle.command_words.specs.declared.command.Command.{Command}
 use Rattle.translate.specs.Options.{options_of}
 use Rattle.translate.specs.Planned.{IsPlanned}
@@ -8,5 +8,5 @@ pub returns-in-Ok-fill_record-clause-planned : goal.returns-in-Ok-fill_record-cl
 returns-in-Ok-fill_record-clause-planned c = λ success. record {
   plan = c.in-Ok.plan;
   planned = subst (λ (d : Command). IsPlanned (options_of d) c.args.bytes.now c.in-Ok.plan) c.in-Some.ensures.command c.in-Ok.ensures.planned;
-  holds = (c.in-Ok-fill_record.ensures, c.leak.ensures.value ∙ c.in-Ok.ensures.text);
+  holds = (c.in-Ok-fill_record.ensures, (c.leak.ensures.value ∙ c.in-Ok.ensures.text, refl));
 }
