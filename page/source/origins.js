@@ -142,13 +142,13 @@ class Origins {
     let before = 0;
     for (let i = 0; i < own; i++) if (this.plan.table_images.get(i).len) before++;
     const line = own >= 0 && this.plan.table_images.get(own).len ? this.line("table-image", before) : [];
-    return { title: `table ${index}`, facts: [...facts, ...line] };
+    return { title: `table ${index}`, facts: [...facts, ...line, ...this.line("tables", 0, "line of all tables")] };
   }
 
   memory(index) {
     const imported = this.plan.entities.imported_memories;
     const facts = [{ label: "index", text: index < imported ? `${index}, imported` : `${index}: number ${index - imported} of the memory section (5)` }];
-    return { title: `memory ${index}`, facts: [...facts, this.section(index < imported ? 2 : 5), ...this.line("memories", 0)] };
+    return { title: `memory ${index}`, facts: [...facts, this.section(index < imported ? 2 : 5), ...this.line("memories", 0, "line of all memories")] };
   }
 
   startup() {
