@@ -16,12 +16,15 @@ export class Browser {
     this.waiting = new Map();
     this.last = 0;
     const out = this.process.stdio[4];
-    let rest = "";
+    // An answer comes in pieces, up to a zero byte.
+    const pieces = [];
     out.setEncoding("utf8");
     out.on("data", text => {
-      const parts = (rest + text).split("\0");
-      rest = parts.pop();
-      for (const part of parts) this.hear(JSON.parse(part));
+      const parts = text.split("\0");
+      for (const part of parts.slice(0, -1)) {
+        this.hear(JSON.parse(pieces.splice(0).join("") + part));
+      }
+      pieces.push(parts.at(-1));
     });
     this.ended = new Promise(done => this.process.on("exit", done));
   }
