@@ -83,7 +83,7 @@ function takeExample(side, example) {
 function take(side, name, blob, example = null) {
   if (side === "other") showOtherSide();
   sides[side] = { name, blob, example, isPlanning: sides[side]?.isPlanning ?? false, plan: null };
-  shown = side === "one" && sides.other === null ? "one" : shown;
+  if (shown !== "comparison") shown = side;
   history.replaceState(null, "", addressWords());
   return planSide(side);
 }
@@ -129,17 +129,20 @@ function showFault(side, error) {
   sides[side] = null;
 }
 
-// What is shown: one plan, or both compared.
+// What is shown: one plan, or both compared. Where one is planned anew, its answer comes with it.
 async function showAnswer() {
   const plans = [sides.one?.plan, sides.other?.plan], areBoth = plans.every(plan => plan?.summary.status === "planned");
   byId("shown").hidden = !sides.other;
   document.querySelector("[name=shown][value=comparison]").disabled = !areBoth;
   if (shown === "comparison" && !areBoth) shown = "one";
+  if (shown !== "comparison" && !sides[shown]?.plan) shown = plans[0] ? "one" : "other";
   document.querySelector(`[name=shown][value=${shown}]`).checked = true;
-  if (shown === "comparison") {
+  if (shown !== "comparison") {
+    if (sides[shown]?.plan) byId("answer").replaceChildren(...answerOf(sides[shown].plan));
+  } else if (!Object.values(sides).some(side => side.isPlanning)) {
     const summary = await asking.ask("compare");
     byId("answer").replaceChildren(...comparisonOf(summary, (question, words) => asking.ask(question, words), plans.map(goingBack)));
-  } else if (sides[shown]?.plan) byId("answer").replaceChildren(...answerOf(sides[shown].plan));
+  }
 }
 
 // A plan whose lines are shown by leaving the comparison.
@@ -228,6 +231,8 @@ function preparePage() {
   byId("stop").onclick = stop;
   byId("shown").onchange = event => { shown = event.target.value; showAnswer(); };
   addEventListener("hashchange", readAddress);
+  // A question that comes while its module is planned anew has no answer.
+  addEventListener("unhandledrejection", event => say(event.reason?.message ?? String(event.reason)));
   readAddress();
 }
 

@@ -23,7 +23,6 @@ class Told {
     this.lines = new Lines(this.status <= this.numbers.refused ? this.answer.text.view : new Uint8Array());
     this.places = new Places(this.module);
     if (!this.isPlanned) return;
-    this.imported = this.plan.entities;
     this.declaredOf = new Grouped(this.plan.declared.length, this.plan.types, i => this.plan.declared.get(i));
     this.functionsOf = new Grouped(this.plan.functions.length, this.plan.types, i => this.plan.functions.get(i));
     const { segments, images, runtime_ranges: ranges } = this.plan, memories = this.plan.memories.length;
@@ -48,7 +47,7 @@ class Told {
     const named = this.lines.lineOf("name", 0), module = named === null ? null : unquoted(this.lines.line(named).slice("name ".length));
     return {
       ...base, counts, regions, startup, module, startupType: plan.startup_type, entities: plan.entities, types: plan.types, start: plan.start === NONE ? null : plan.start,
-      hasImages: plan.images_made !== 0, align: plan.data_align, context: plan.context.size, needsObjects: plan.needs_gc_heap !== 0, layouts: this.lines.kinds.get("layout")?.count ?? 0,
+      hasImages: plan.images_made !== 0, context: plan.context.size, needsObjects: plan.needs_gc_heap !== 0, layouts: this.lines.kinds.get("layout")?.count ?? 0,
     };
   }
 

@@ -54,7 +54,7 @@ const chromium = words["no-browser"] ? null : words.chromium ?? process.env.CHRO
 if (!chromium) notTried.push("the page in a browser (no Chromium is found)");
 else {
   if (words.shots) mkdirSync(words.shots, { recursive: true });
-  await checkInBrowser({ page, root, program, report, chromium, shots: words.shots ?? null });
+  await checkInBrowser({ page, root, program, report, leave: what => notTried.push(what), chromium, shots: words.shots ?? null });
 }
 for (const what of notTried) console.log(`not tried: ${what}`);
 console.log(`${passed} passed, ${failed} failed${notTried.length ? `, ${notTried.length} not tried` : ""}`);
