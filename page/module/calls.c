@@ -1,0 +1,24 @@
+// The inline functions of the C interface's header, as calls of the module: what they fill and free is written there alone.
+#include "bobbinazure.h"
+
+#define CALL(name) __attribute__((export_name(#name))) void name
+
+CALL(page_options_init)(bobbinazure_options *options) {
+    *options = bobbinazure_options_init();
+}
+
+CALL(page_plan_init)(bobbinazure_plan *plan) {
+    *plan = bobbinazure_plan_init();
+}
+
+CALL(page_plan_free)(bobbinazure_plan *plan) {
+    bobbinazure_plan_free(plan);
+}
+
+CALL(page_text_init)(bobbinazure_text *text) {
+    *text = bobbinazure_text_init();
+}
+
+CALL(page_text_free)(bobbinazure_text *text) {
+    bobbinazure_text_free(text);
+}

@@ -1,0 +1,59 @@
+// Two plans side by side.
+
+function comparisonOf(summary, ask, plans) {
+  const names = plans.map(plan => plan.summary.name);
+  return [countsCard(summary, names), sharedTypesCard(summary, ask, names), imagesCard(summary, plans), contextsCard(summary, plans)];
+}
+
+const cellOf = (words, isDifferent, isNumber = true) => el("td", { class: [isNumber && "n", isDifferent && "differs"].filter(Boolean).join(" ") || null }, ...[words].flat());
+
+function countsCard({ counts }, names) {
+  const shownAs = it => (typeof it === "number" ? spoken(it) : it.replace("startup_", "").replaceAll("_", " "));
+  const rows = counts.map(([name, one, other]) => [name, cellOf(shownAs(one), one !== other), cellOf(shownAs(other), one !== other)]);
+  return card("Compared", scrolled("counts of both", table("counts of both", ["", `#${names[0]}`, `#${names[1]}`], rows)));
+}
+
+const isOrAre = number => (number === 1 ? "is" : "are");
+
+function sharedTypesCard({ types, common, onlyOne, onlyOther }, ask, [one, other]) {
+  const words = [
+    `${count(common, "type")} of ${one} ${common === 1 ? "is a type" : "are types"} of ${other} too, by their interned lists; `,
+    `${spoken(onlyOne)} ${isOrAre(onlyOne)} not. Of the types of ${other}, ${spoken(onlyOther)} ${isOrAre(onlyOther)} not in ${one}.`,
+  ];
+  const row = it => {
+    const isDifferent = it.one === null || it.other === null, number = index => (index === null ? "—" : `type ${spoken(index)}`);
+    return [cellOf(number(it.one), isDifferent), cellOf(number(it.other), isDifferent), el("code", {}, it.words)];
+  };
+  const draw = rows => table("types of both", [`#in ${one}`, `#in ${other}`, "what it is"], rows.map(row));
+  return card("Types of both", el("p", {}, ...words), listed({ ask }, { label: "types of both", unit: "row", count: types, question: "differences", draw }));
+}
+
+function imagesCard({ images }, plans) {
+  if (!images.length) return card("Images of both", el("p", { class: "soft" }, "No memory of either begins as an image."));
+  const part = (image, plan) => {
+    if (!image) return "none";
+    const look = bytesButton(plan, image, `bytes of the image in ${plan.summary.name}`, image.at);
+    return [`${count(image.length, "byte")} from ${spoken(image.at)} on `, look];
+  };
+  const said = ({ differing, first }) => {
+    const words = differing ? `${count(differing, "byte differs", "bytes differ")}, the first at ${spoken(first)}` : "the same bytes";
+    return cellOf(words, differing > 0, false);
+  };
+  const rows = images.map(it => [`memory ${it.memory}`, part(it.one, plans[0]), part(it.other, plans[1]), said(it)]);
+  const columns = ["memory", plans[0].summary.name, plans[1].summary.name, "difference"];
+  return card("Images of both", boxed("images of both", table("images of both", columns, rows)));
+}
+
+function contextsCard({ regions }, plans) {
+  const row = ({ name, line, one, other }) => {
+    const pair = i => [cellOf(spoken(one[i]), one[i] !== other[i]), cellOf(spoken(other[i]), one[i] !== other[i])];
+    return [button(name, () => showOrigin(plans[0], "region", line), { class: "plain" }), ...pair(0), ...pair(1)];
+  };
+  const [one, other] = plans.map(plan => plan.summary.name);
+  const columns = ["region", `#begins in ${one}`, `#begins in ${other}`, `#bytes in ${one}`, `#bytes in ${other}`];
+  return card(
+    "Contexts of both",
+    el("p", { class: "soft" }, "Marked where they differ."),
+    scrolled("contexts of both", table("contexts of both", columns, regions.map(row))),
+  );
+}

@@ -1,0 +1,102 @@
+// What opens over the page: where a part comes from, and bytes. One stands over the other, and the last one closed gives back the keyboard.
+
+const opened = [];
+
+function openDialog(title, body, isOver = byId("dialog").open) {
+  const dialog = byId("dialog");
+  if (isOver && dialog.open) opened.push({ title: byId("dialog-title").textContent, body: [...byId("dialog-body").childNodes] });
+  fillDialog(title, [body]);
+  if (!dialog.open) dialog.showModal();
+  byId("dialog-title").focus();
+}
+
+function fillDialog(title, nodes) {
+  byId("dialog-title").textContent = title;
+  byId("dialog-body").replaceChildren(...nodes);
+  byId("dialog-back").hidden = opened.length === 0;
+}
+
+function closeDialog() {
+  opened.length = 0;
+  byId("dialog").close();
+}
+
+function prepareDialog() {
+  byId("dialog-close").onclick = closeDialog;
+  byId("dialog").onclose = () => (opened.length = 0);
+  byId("dialog").onclick = event => event.target === byId("dialog") && closeDialog();
+  byId("dialog-back").onclick = () => {
+    const { title, body } = opened.pop();
+    fillDialog(title, body);
+    byId("dialog-title").focus();
+  };
+}
+
+// Where a part of a plan comes from.
+async function showOrigin(plan, kind, index) {
+  const { title, facts, runtime } = await plan.ask("origin", { kind, index });
+  const list = el("dl", { class: "origin" });
+  for (const fact of facts) list.append(el("dt", {}, fact.label), el("dd", {}, ...factParts(plan, fact)));
+  const more = runtime === undefined ? [] : [el("p", {}, button("bytes that it writes", () => showBytes(plan, { of: "runtime", index: runtime, title: `bytes of ${title}`, base: 0 })))];
+  openDialog(title, el("div", {}, list, ...more));
+}
+
+function factParts(plan, { text, bytes, line }) {
+  const shown = text.length > 400 ? `${text.slice(0, 400)} …` : text, parts = [line === undefined ? shown : el("code", {}, shown)];
+  if (line !== undefined) {
+    const go = () => {
+      closeDialog();
+      plan.goToLine(line);
+    };
+    parts.push(" ", button(`line ${spoken(line + 1)}`, go, { "aria-label": `go to line ${line + 1} of the text` }));
+  }
+  if (bytes) {
+    const show = () => showBytes(plan, { of: "module", title: `${text}: bytes of the module`, base: 0, marked: bytes });
+    parts.push(" ", button(`bytes ${spoken(bytes.from)} to ${spoken(bytes.to)} of the module`, show));
+  }
+  return parts;
+}
+
+const ROW = 16, ROWS = 32;
+
+// Bytes in rows of sixteen. `base` is the address of the first; `marked` are the bytes that are meant.
+async function showBytes(plan, { of, index = 0, title, base, marked = null }) {
+  const begin = marked ? marked.from - (marked.from % ROW) : 0;
+  const { length, next } = await plan.ask("bytes", { of, index, from: 0, to: 0 });
+  let following = next;
+  const paging = new Paging({
+    label: title, unit: "byte", count: length, size: ROW * ROWS,
+    load: async (from, to) => {
+      const told = await plan.ask("bytes", { of, index, from, to });
+      following = told.next;
+      return told.bytes;
+    },
+    draw: (bytes, from) => boxed("bytes", el("pre", {}, ...hexRows(bytes, from, base, marked))),
+  });
+  const jump = el("input", { type: "text", inputmode: "text", "aria-label": "address to go to, as 4096 or 0x1000", placeholder: "0x1000" });
+  const go = event => {
+    event.preventDefault();
+    const place = Number(jump.value) - base;
+    if (Number.isFinite(place)) paging.show(place - (((place % ROW) + ROW) % ROW));
+  };
+  const forward = () => (following === null ? say("all that follows is zero") : paging.show(following - (following % ROW)));
+  const store = async () => save(await plan.ask("blob", { of, index }), of === "module" ? plan.summary.name : `runtime-${index}.bin`);
+  const tools = [jump, el("button", {}, "Go to address"), button("Next that is not zero", forward), button("Save", store)];
+  const words = count(length, "byte") + (base ? `, from address ${spoken(base)} on` : "");
+  openDialog(title, el("div", {}, el("p", { class: "soft" }, words), el("form", { class: "pager", onsubmit: go }, ...tools), paging.element));
+  await paging.show(begin);
+}
+
+function hexRows(bytes, from, base, marked) {
+  const isMarked = place => marked && place >= marked.from && place < marked.to, parts = [];
+  for (let row = 0; row < bytes.length; row += ROW) {
+    parts.push(`${hexOf(base + from + row, 8)}  `);
+    const part = bytes.subarray(row, row + ROW);
+    part.forEach((byte, i) => {
+      const place = from + row + i, pair = hexOf(byte, 2);
+      parts.push(isMarked(place) ? el("mark", {}, pair) : pair, i === 7 ? "  " : " ");
+    });
+    parts.push(" ".repeat(3 * (ROW - part.length) + (part.length <= 7 ? 1 : 0)), ` ${lettersOf(part)}\n`);
+  }
+  return parts;
+}

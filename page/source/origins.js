@@ -1,0 +1,170 @@
+// Where a part of a plan comes from: facts with the section, the index there and the bytes of the module, and the line of the text.
+
+const REGIONS = {
+  "static vmctx data": { what: "the same in every context: a mark, and pointers to the store, to built-in functions, to the epoch, to the heap of objects and to the types" },
+  "imported memories": { section: 2, space: "memories", isImported: true, what: "where each imported memory is found" },
+  "defined memories": { section: 5, space: "memories", what: "a pointer to the definition of each memory of the module" },
+  "owned memories": { section: 5, space: "memories", what: "the definition of each memory of the module that is not shared: where its bytes begin and how many there are" },
+  "imported functions": { section: 2, space: "functions", isImported: true, what: "the code of each imported function and the context it wants" },
+  "imported tables": { section: 2, space: "tables", isImported: true, what: "where each imported table is found" },
+  "imported globals": { section: 2, space: "globals", isImported: true, what: "where each imported global is found" },
+  "imported tags": { section: 2, space: "tags", isImported: true, what: "where each imported tag is found" },
+  "defined tables": { section: 4, space: "tables", what: "where the cells of each table of the module begin and how many there are" },
+  "defined globals": { section: 6, space: "globals", what: "sixteen bytes for each global of the module, and what comes before them so that they stand at a multiple of sixteen" },
+  "defined tags": { section: 13, space: "tags", what: "the type of each tag of the module" },
+  "module functions": { section: 3, what: "a reference to each function that can leave the module: one that is exported, or that a table or a global may hold" },
+  "startup funcref": { what: "a reference to the function that runs at the start, where there is one" },
+  "runtime data base pointers": { section: 11, what: "where each image and each segment that is left begins" },
+  "runtime data lengths": { section: 11, what: "how many bytes each image and each segment that is left has" },
+};
+const MOST = 40;
+
+class Origins {
+  constructor(told) {
+    this.told = told;
+    this.plan = told.plan;
+    this.places = told.places;
+  }
+
+  of(kind, index) {
+    return this[kind](index);
+  }
+
+  line(kind, index, label = "line in the text") {
+    const line = this.told.lines.lineOf(kind, index);
+    return line === null ? [] : [{ label, text: this.told.lines.line(line), line }];
+  }
+
+  // A section with its number of items, or that there is none.
+  section(id) {
+    const section = this.places.section(id);
+    if (!section) return { label: "section", text: `there is no ${SECTIONS[id]} section` };
+    const items = section.count === null ? "" : `, ${section.count.toLocaleString("en")} ${section.count === 1 ? "item" : "items"}`;
+    return { label: "section", text: `${section.name} section (${id})${items}`, bytes: { from: section.from, to: section.to } };
+  }
+
+  // An item of a section: its index there and its bytes.
+  item(label, id, starts, index) {
+    return { label, text: `number ${index} of the ${SECTIONS[id]} section (${id})`, bytes: this.places.spanOf(starts, index, id) };
+  }
+
+  region(number) {
+    const region = this.plan.regions.get(number), name = region.name.text, known = REGIONS[name] ?? { what: "" };
+    const facts = [
+      { label: "place", text: `from byte ${region.begin} of the context, ${region.size} bytes` },
+      { label: "holds", text: known.what },
+    ];
+    if (known.space) {
+      const all = this.plan.entities[known.space], imported = this.plan.entities[`imported_${known.space}`];
+      facts.push({ label: "index", text: rangeWords(known.space, known.isImported ? 0 : imported, known.isImported ? imported : all) });
+    }
+    if (known.section) facts.push(this.section(known.section));
+    return { title: name, facts: [...facts, ...this.line("region", number)] };
+  }
+
+  type(index) {
+    const { told, plan } = this, group = told.groupOf[index], { begin, end } = plan.groups.get(group), facts = [];
+    facts.push({ label: "type", text: told.typeWords(index) });
+    facts.push({ label: "group", text: end - begin === 1 ? `group ${group}, alone` : `group ${group}, types ${begin} to ${end - 1}` });
+    for (const declared of told.declaredOf.slice(index, 0, MOST)) facts.push(this.item(`declared as ${declared}`, 1, this.places.typeStarts, declared));
+    const count = told.declaredOf.count(index);
+    if (count > MOST) facts.push({ label: "and", text: `${(count - MOST).toLocaleString("en")} more of the type section, all equal to it` });
+    if (count === 0) facts.push({ label: "declared", text: "nowhere: the planner made it, for calls from outside, for an exception or for the start" });
+    if (plan.startup && plan.startup_type === index) facts.push({ label: "used", text: "by the function that runs at the start" });
+    this.usersOf(index, facts);
+    return { title: `type ${index}`, facts: [...facts, ...this.line("type", index), ...this.line("group", group, "its group’s line")] };
+  }
+
+  usersOf(index, facts) {
+    const functions = this.told.functionsOf.slice(index, 0, MOST), count = this.told.functionsOf.count(index);
+    if (!count) return;
+    const words = functions.map(f => f + (this.told.functionName(f) ? ` (${this.told.functionName(f)})` : "")).join(", ");
+    facts.push({ label: count === 1 ? "function of it" : "functions of it", text: words + (count > MOST ? ` and ${(count - MOST).toLocaleString("en")} more` : "") });
+  }
+
+  segment(index) {
+    const row = this.plan.segments.get(index), source = this.told.activeData[index];
+    const facts = [{ label: "writes", text: `${row.runtime === NONE ? 0 : this.told.runtimeLength(row.runtime)} bytes of memory ${row.memory} at ${this.told.placed(row, index)}` }];
+    if (source !== undefined) facts.push(this.dataItem(source));
+    facts.push(this.section(11));
+    return { title: `segment ${index}`, facts: [...facts, ...this.line("segment", index), ...this.line("runtime", row.runtime, "line of its bytes")], runtime: row.runtime };
+  }
+
+  dataItem(index) {
+    return this.item(`data segment ${index}`, 11, this.dataStarts(), index);
+  }
+
+  dataStarts() {
+    this.starts ??= this.places.data.map(segment => segment.at);
+    return this.starts;
+  }
+
+  image(index) {
+    const row = this.plan.images.get(index), length = this.told.runtimeLength(row.runtime), facts = [];
+    facts.push({ label: "begins as", text: `${length} bytes of memory ${row.memory}, from ${row.offset} on` });
+    const sources = this.told.activeData.filter(i => this.places.data[i].memory === row.memory && this.places.data[i].length > 0);
+    for (const source of sources.slice(0, MOST)) {
+      const { constant, length: bytes } = this.places.data[source];
+      facts.push({ ...this.dataItem(source), text: `${bytes} bytes at ${placeOfConstant(constant)}, number ${source} of the data section (11)` });
+    }
+    if (sources.length > MOST) facts.push({ label: "and", text: `${(sources.length - MOST).toLocaleString("en")} more data segments; where two overlap the later one stands` });
+    facts.push(this.section(11));
+    facts.push(...this.line("image", index), ...this.line("segment", index, "line, where it is written"), ...this.line("runtime", row.runtime, "line of its bytes"));
+    return { title: `image of memory ${row.memory}`, facts, runtime: row.runtime };
+  }
+
+  passive(index) {
+    const row = this.plan.passive.get(index), facts = [{ label: "kept for", text: "memory.init, which code may run" }, this.dataItem(row.segment), this.section(11)];
+    facts.push(...this.line("passive-data", index), ...this.line("runtime", row.runtime, "line of its bytes"));
+    return { title: `passive data segment ${row.segment}`, facts, runtime: row.runtime };
+  }
+
+  // Images take the first active element segments, and those that are left keep their order: they are the last ones.
+  elements(index) {
+    const row = this.plan.elements.get(index), source = this.told.activeElements[this.told.activeElements.length - this.plan.elements.length + index];
+    const facts = [{ label: "writes", text: `${row.count} elements to table ${row.table}` }];
+    if (source !== undefined) facts.push(this.item(`element segment ${source}`, 9, this.elementStarts(), source));
+    return { title: `element segment ${source ?? index}`, facts: [...facts, this.section(9), ...this.line("element", index)] };
+  }
+
+  elementStarts() {
+    return this.places.elements.map(element => element.at);
+  }
+
+  table(index) {
+    const own = index - this.plan.entities.imported_tables, facts = [], taken = this.told.activeElements.slice(0, this.told.activeElements.length - this.plan.elements.length);
+    const starts = this.places.tables.slice(this.plan.entities.imported_tables).map(table => table.at);
+    facts.push(own < 0 ? { label: "index", text: `${index}, imported` } : this.item(`table ${index}`, 4, starts, own));
+    const sources = taken.filter(i => this.places.elements[i].table === index);
+    for (const source of sources.slice(0, MOST)) facts.push(this.item(`element segment ${source}`, 9, this.elementStarts(), source));
+    if (sources.length > MOST) facts.push({ label: "and", text: `${sources.length - MOST} more element segments` });
+    facts.push(this.section(own < 0 ? 2 : 4));
+    let before = 0;
+    for (let i = 0; i < own; i++) if (this.plan.table_images.get(i).len) before++;
+    const line = own >= 0 && this.plan.table_images.get(own).len ? this.line("table-image", before) : [];
+    return { title: `table ${index}`, facts: [...facts, ...line, ...this.line("tables", 0, "line of all tables")] };
+  }
+
+  memory(index) {
+    const imported = this.plan.entities.imported_memories;
+    const facts = [{ label: "index", text: index < imported ? `${index}, imported` : `${index}: number ${index - imported} of the memory section (5)` }];
+    return { title: `memory ${index}`, facts: [...facts, this.section(index < imported ? 2 : 5), ...this.line("memories", 0, "line of all memories")] };
+  }
+
+  startup() {
+    const facts = [{ label: "type", text: `type ${this.plan.startup_type}` }];
+    if (this.plan.start !== NONE) facts.push({ label: "calls", text: `function ${this.plan.start}` }, this.section(8));
+    return { title: "startup", facts: [...facts, ...this.line("startup", 0)] };
+  }
+}
+
+// A constant as the place that it names: without a sign, of 32 or 64 bits.
+function placeOfConstant(constant) {
+  if (constant === null) return "an expression";
+  return typeof constant === "bigint" ? BigInt.asUintN(64, constant).toLocaleString("en") : (constant >>> 0).toLocaleString("en");
+}
+
+function rangeWords(space, from, to) {
+  if (from === to) return `no ${space}`;
+  return to - from === 1 ? `number ${from} of the ${space}` : `numbers ${from} to ${to - 1} of the ${space}`;
+}

@@ -1,0 +1,239 @@
+// The page: modules that were chosen, options, and what is shown.
+
+const EXAMPLES = { linked: "a small linked program", overlap: "two segments that overlap", planner: "the planner’s own module" };
+// The option words of the program, by the fields of the C interface's options.
+const SWITCHES = { cow: "--cow", lazy_tables: "--lazy-tables", branch_hints: "--branch-hints", native_debug: "--native-debug", guest_debug: "--guest-debug" };
+const CHOICES = { pointer: ["--ptr=", "8"], collector: ["--gc=", "0"], page_size: ["--page=", "4096"], max_image: ["--max-image=", "1048576"] };
+const COLLECTORS = ["drc", "null"];
+
+const sides = { one: null, other: null };
+let asking = null, shown = "one";
+
+const bytesOf = text => Uint8Array.from(atob(text), letter => letter.charCodeAt(0));
+const exampleBytes = name => bytesOf(byId(`module-${name}`).textContent);
+
+// Options, and the address that keeps them.
+
+function optionWords() {
+  const form = byId("options").elements, words = Object.entries(SWITCHES).filter(([name]) => form[name].checked).map(([, word]) => word);
+  for (const [name, [word, usual]] of Object.entries(CHOICES)) {
+    const value = form[name].value;
+    if (value !== usual) words.push(word + (name === "collector" ? COLLECTORS[value] : value));
+  }
+  return words;
+}
+
+function takeOptionWords(words) {
+  const form = byId("options").elements;
+  for (const [name, word] of Object.entries(SWITCHES)) form[name].checked = words.includes(word);
+  for (const [name, [word, usual]] of Object.entries(CHOICES)) {
+    const given = words.find(it => it.startsWith(word))?.slice(word.length);
+    form[name].value = given === undefined ? usual : name === "collector" ? String(Math.max(0, COLLECTORS.indexOf(given))) : given;
+  }
+}
+
+function optionValues() {
+  const form = byId("options").elements, values = {};
+  for (const name of Object.keys(SWITCHES)) values[name] = form[name].checked ? 1 : 0;
+  for (const name of Object.keys(CHOICES)) values[name] = Math.min(Number.MAX_SAFE_INTEGER, Math.max(0, Math.floor(Number(form[name].value) || 0)));
+  return values;
+}
+
+// Says what is wrong with the options beside them. The planner refuses them too.
+function checkOptions() {
+  const field = byId("options").elements.page_size, number = Math.floor(Number(field.value)), isPower = number > 0 && Number.isInteger(Math.log2(number));
+  byId("page-size-fault").hidden = isPower;
+  field.setAttribute("aria-invalid", String(!isPower));
+}
+
+function addressWords() {
+  const words = new URLSearchParams({ options: optionWords().join(" ") });
+  for (const side of ["one", "other"]) if (sides[side]?.example) words.set(side, sides[side].example);
+  return `#${words}`;
+}
+
+function readAddress() {
+  const words = new URLSearchParams(location.hash.slice(1)), options = words.get("options");
+  takeOptionWords(options === null ? ["--cow", "--lazy-tables"] : options.split(" "));
+  checkOptions();
+  byId("command").textContent = commandWords();
+  for (const side of ["one", "other"]) {
+    const example = words.get(side);
+    if (EXAMPLES[example] && sides[side]?.example !== example) takeExample(side, example);
+    else if (sides[side]) planSide(side);
+  }
+}
+
+const commandWords = () => ["./translate FILE.wasm", ...optionWords()].join(" ");
+
+function optionsChanged() {
+  checkOptions();
+  byId("command").textContent = commandWords();
+  history.replaceState(null, "", addressWords());
+  for (const side of ["one", "other"]) if (sides[side]) planSide(side);
+}
+
+// Modules.
+
+function takeExample(side, example) {
+  return take(side, EXAMPLES[example], new Blob([exampleBytes(example)]), example);
+}
+
+// Takes a module for a side, and plans it.
+function take(side, name, blob, example = null) {
+  if (side === "other") showOtherSide();
+  sides[side] = { name, blob, example, isPlanning: sides[side]?.isPlanning ?? false, plan: null };
+  if (shown !== "comparison") shown = side;
+  history.replaceState(null, "", addressWords());
+  return planSide(side);
+}
+
+// Plans what a side has. Where it changes meanwhile, it is planned once more, so that questions do not queue.
+async function planSide(side) {
+  const at = sides[side];
+  at.isStale = true;
+  if (at.isPlanning) return;
+  at.isPlanning = true;
+  showProgress(side);
+  try {
+    let summary = null;
+    while (sides[side]?.isStale) {
+      sides[side].isStale = false;
+      const { name, blob } = sides[side];
+      summary = await asking.ask("open", { side, name, blob, options: optionValues() });
+    }
+    setPlan(side, summary);
+  } catch (error) {
+    if (error.message !== "stopped") showFault(side, error);
+    else sides[side] = null;
+  } finally {
+    if (sides[side]) sides[side].isPlanning = false;
+    hideProgress();
+  }
+}
+
+function setPlan(side, summary) {
+  sides[side].isPlanning = false;
+  sides[side].plan = { summary, side, ask: (question, words) => asking.ask(question, { side, ...words }) };
+  byId(`name-${side}`).textContent = summary.name;
+  const isRefused = summary.status !== "planned";
+  say(`${summary.name}: ${isRefused ? "refused" : `planned in ${timeWords(summary.time)}`}`);
+  showAnswer();
+}
+
+function showFault(side, error) {
+  const what = `${sides[side]?.name ?? "The module"} cannot be planned here: ${error.message}.`;
+  const needs = "The page needs WebAssembly with memories of 64 bits: Chrome from 133 on, Firefox from 134 on.";
+  byId("answer").replaceChildren(card("Result", el("p", { class: "result bad" }, what), el("p", { class: "soft" }, needs)));
+  say(error.message);
+  sides[side] = null;
+}
+
+// What is shown: one plan, or both compared. Where one is planned anew, its answer comes with it.
+async function showAnswer() {
+  const plans = [sides.one?.plan, sides.other?.plan], areBoth = plans.every(plan => plan?.summary.status === "planned");
+  byId("shown").hidden = !sides.other;
+  document.querySelector("[name=shown][value=comparison]").disabled = !areBoth;
+  if (shown === "comparison" && !areBoth) shown = "one";
+  if (shown !== "comparison" && !sides[shown]?.plan) shown = plans[0] ? "one" : "other";
+  document.querySelector(`[name=shown][value=${shown}]`).checked = true;
+  if (shown !== "comparison") {
+    if (sides[shown]?.plan) byId("answer").replaceChildren(...answerOf(sides[shown].plan));
+  } else if (!Object.values(sides).some(side => side.isPlanning)) {
+    const summary = await asking.ask("compare");
+    byId("answer").replaceChildren(...comparisonOf(summary, (question, words) => asking.ask(question, words), plans.map(goingBack)));
+  }
+}
+
+// A plan whose lines are shown by leaving the comparison.
+function goingBack(plan) {
+  return { ...plan, goToLine: async line => { shown = plan.side; await showAnswer(); await plan.goToLine(line); } };
+}
+
+// How far an opening is.
+
+let clock = null, begun = 0;
+
+function showProgress(side) {
+  begun = performance.now();
+  clearInterval(clock);
+  clock = setInterval(() => {
+    const seconds = (performance.now() - begun) / 1000;
+    if (seconds > 0.3) byId("progress").hidden = false;
+    byId("progress-time").textContent = `${seconds.toFixed(1)} s`;
+  }, 100);
+}
+
+function hearProgress({ side, step, of, what }) {
+  const name = sides[side]?.name ?? "the module";
+  byId("progress-what").textContent = `${name}: ${what} (step ${Math.min(step + 1, of)} of ${of})`;
+  byId("progress-bar").max = of;
+  byId("progress-bar").value = step;
+  if (performance.now() - begun > 300) say(`${name}: ${what}`);
+}
+
+function hideProgress() {
+  if (Object.values(sides).some(side => side?.isPlanning)) return;
+  clearInterval(clock);
+  byId("progress").hidden = true;
+}
+
+// Ends what runs. A module that was planned before is planned again, since the worker that held it is gone.
+function stop() {
+  const kept = Object.entries(sides).filter(([, side]) => side && !side.isPlanning);
+  asking.restart();
+  say("stopped");
+  for (const [side] of kept) planSide(side);
+}
+
+// Opening: choosing, dropping, examples.
+
+function showOtherSide() {
+  byId("other-side").hidden = false;
+  byId("beside").hidden = true;
+  byId("beside").setAttribute("aria-expanded", "true");
+}
+
+function prepareOpening() {
+  for (const side of ["one", "other"]) {
+    const input = byId(`file-${side}`);
+    input.onchange = () => input.files[0] && take(side, input.files[0].name, input.files[0]);
+  }
+  for (const box of document.querySelectorAll(".drop")) {
+    for (const choice of box.querySelectorAll("[data-example]")) choice.onclick = () => takeExample(box.dataset.side, choice.dataset.example);
+  }
+  byId("beside").onclick = () => {
+    showOtherSide();
+    byId("file-other").focus();
+  };
+  const sideOf = event => event.target.closest?.(".drop")?.dataset.side ?? "one";
+  const mark = side => document.querySelectorAll(".drop").forEach(box => box.classList.toggle("over", box.dataset.side === side));
+  addEventListener("dragover", event => { event.preventDefault(); mark(sideOf(event)); });
+  addEventListener("dragleave", () => mark(null));
+  addEventListener("drop", event => {
+    event.preventDefault();
+    mark(null);
+    const file = event.dataTransfer.files[0];
+    if (file) take(sideOf(event), file.name, file);
+  });
+}
+
+function preparePage() {
+  const module = exampleBytes("planner");
+  byId("planner-size").textContent = sizeWords(module.length);
+  asking = new Asking({ script: byId("worker-script").textContent, module, layout: JSON.parse(byId("layout").textContent) }, hearProgress);
+  asking.loaded.catch(error => showFault("one", error));
+  prepareDialog();
+  prepareOpening();
+  byId("options").onchange = optionsChanged;
+  byId("options").onsubmit = event => event.preventDefault();
+  byId("copy-link").onclick = () => copy(location.href.split("#")[0] + addressWords(), "the link");
+  byId("stop").onclick = stop;
+  byId("shown").onchange = event => { shown = event.target.value; showAnswer(); };
+  addEventListener("hashchange", readAddress);
+  // A question that comes while its module is planned anew has no answer.
+  addEventListener("unhandledrejection", event => say(event.reason?.message ?? String(event.reason)));
+  readAddress();
+}
+
+preparePage();

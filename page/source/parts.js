@@ -1,0 +1,92 @@
+// Small parts that all views are made of.
+
+const byId = id => document.getElementById(id);
+
+// An element with attributes, listeners (`onclick`) and what is inside it.
+function el(name, words = {}, ...inside) {
+  const node = document.createElement(name);
+  for (const [key, value] of Object.entries(words)) {
+    if (typeof value === "function") node[key] = value;
+    else if (value === true) node.setAttribute(key, "");
+    else if (value !== false && value !== null && value !== undefined) node.setAttribute(key, value);
+  }
+  node.append(...inside.filter(it => it !== null && it !== undefined));
+  return node;
+}
+
+function svg(name, words, ...inside) {
+  const node = document.createElementNS("http://www.w3.org/2000/svg", name);
+  for (const [key, value] of Object.entries(words)) node.setAttribute(key, value);
+  node.append(...inside);
+  return node;
+}
+
+const spoken = number => number.toLocaleString("en");
+const plural = word => `${word.replace(/y$/, "ie")}s`;
+const count = (number, one, more = plural(one)) => `${spoken(number)} ${number === 1 || number === 1n ? one : more}`;
+const hexOf = (number, digits = 1) => number.toString(16).toUpperCase().padStart(digits, "0");
+
+function sizeWords(bytes) {
+  for (const [unit, name] of [[2 ** 40, "TiB"], [2 ** 30, "GiB"], [2 ** 20, "MiB"], [2 ** 10, "KiB"]]) {
+    if (bytes >= unit) return `${(bytes / unit).toFixed(1).replace(/\.0$/, "")} ${name}`;
+  }
+  return count(bytes, "byte");
+}
+
+const timeWords = ms => (ms < 1000 ? `${ms.toFixed(1)} ms` : `${(ms / 1000).toFixed(2)} s`);
+
+// Bytes as letters, with a dot for what is none.
+const lettersOf = bytes => Array.from(bytes, byte => (byte > 31 && byte < 127 ? String.fromCharCode(byte) : "·")).join("");
+
+function button(words, onclick, more = {}) {
+  return el("button", { type: "button", onclick, ...more }, words);
+}
+
+function card(title, ...inside) {
+  const id = `title-${title.toLowerCase().replace(/\W+/g, "-")}`;
+  return el("section", { class: "card", "aria-labelledby": id }, el("h2", { id }, title), ...inside);
+}
+
+// A table with named columns; a column of numbers is named with "#" before it. Each row is a list of nodes and words.
+function table(caption, columns, rows) {
+  const isNumber = columns.map(name => name.startsWith("#"));
+  const head = el("tr", {}, ...columns.map((name, i) => el("th", { scope: "col", class: isNumber[i] && "n" }, name.replace("#", ""))));
+  const body = rows.map(row => el("tr", {}, ...row.map((it, i) => (it instanceof HTMLTableCellElement ? it : el("td", { class: isNumber[i] && "n" }, ...[it].flat())))));
+  return el("table", {}, el("caption", { class: "unseen" }, caption), el("thead", {}, head), el("tbody", {}, ...body));
+}
+
+// What may be wider than its place: the keyboard can scroll it.
+function scrolled(label, inside, more = "") {
+  return el("div", { class: `scroll${more}`, tabindex: "0", role: "region", "aria-label": label }, inside);
+}
+
+// What may be taller too.
+function boxed(label, inside) {
+  return scrolled(label, inside, " tall");
+}
+
+// Says something to who cannot see the page.
+function say(words) {
+  byId("said").textContent = words;
+}
+
+async function copy(words, what) {
+  try {
+    await navigator.clipboard.writeText(words);
+  } catch {
+    const area = el("textarea", { class: "unseen" });
+    area.value = words;
+    (document.querySelector("dialog[open]") ?? document.body).append(area);
+    area.select();
+    document.execCommand("copy");
+    area.remove();
+  }
+  say(`${what} copied`);
+}
+
+function save(blob, name) {
+  const link = el("a", { href: URL.createObjectURL(blob), download: name });
+  link.click();
+  setTimeout(() => URL.revokeObjectURL(link.href), 60000);
+  say(`${name} saved`);
+}

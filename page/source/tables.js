@@ -1,0 +1,46 @@
+// The tables of a plan.
+
+function tablesCard(plan) {
+  const { entities, counts } = plan.summary;
+  if (!entities.tables) return card("Tables", el("p", { class: "soft" }, "The module has no table."));
+  const draw = rows => el("div", {}, ...rows.map(row => tablePart(plan, row)));
+  const all = listed(plan, { label: "tables", unit: "table", count: entities.tables, size: 10, question: "tables", draw, isBoxed: false });
+  return card("Tables", all, counts.elements ? elementsPart(plan, counts.elements) : null);
+}
+
+function tablePart(plan, row) {
+  const words = joined([
+    row.isImported && "imported",
+    count(row.minimum, "cell"),
+    row.maximum !== null && `at most ${spoken(row.maximum)}`,
+    `of ${row.element}`,
+    row.isWide && "cells are named by 64 bits",
+    ...row.names,
+  ]);
+  const part = el("div", {}, el("h3", {}, `table ${row.index} `, originButton(plan, "table", row.index)), el("p", { class: "soft" }, words));
+  if (!row.cells) return part;
+  const draw = cells => el("ol", { class: "cells", start: cells[0]?.place ?? 0 }, ...cells.map(cellPart));
+  part.append(
+    el("p", {}, `It begins as an image of ${count(row.cells, "cell")}, ${count(row.full, "function")} among them:`),
+    listed(plan, { label: `cells of table ${row.index}`, unit: "cell", count: row.cells, size: 250, question: "cells", words: { table: row.index }, draw }),
+  );
+  return part;
+}
+
+function cellPart(cell) {
+  const isNull = cell.function === null, name = cell.name ? `: ${cell.name}` : "";
+  return el("li", { class: isNull ? "cell" : "cell full", title: `cell ${cell.place}${name}` }, isNull ? "null" : String(cell.function));
+}
+
+function elementsPart(plan, elements) {
+  const label = "element segments that are left";
+  const row = it => [`segment ${it.index}`, spoken(it.table), placeWords(it.place), spoken(it.count), originButton(plan, "elements", it.index)];
+  const draw = rows => table(label, ["segment", "#table", "at", "#elements", "look"], rows.map(row));
+  return el(
+    "div",
+    {},
+    el("h3", {}, "Element segments that are left"),
+    el("p", { class: "soft" }, "Startup writes them in order."),
+    listed(plan, { label, unit: "segment", count: elements, question: "elements", draw }),
+  );
+}

@@ -1,0 +1,77 @@
+// The checks that need no browser: texts, records, and what the script adds to them.
+import { spawnSync } from "node:child_process";
+import { readFileSync } from "node:fs";
+import { join } from "node:path";
+import { difference, optionsOf, readModules } from "./cases.mjs";
+import { compile, partsOf } from "./page_parts.mjs";
+
+export async function checkInNode({ page, root, program, report }) {
+  const parts = partsOf(page), compiled = await compile(parts.planner);
+  const told = (bytes, words, name = "module.wasm") => {
+    const it = new parts.Told(new parts.Planner(compiled, parts.layout), name, bytes, optionsOf(words));
+    it.index();
+    return it;
+  };
+  const textOf = it => Buffer.from(it.answer.text.view);
+  const ofProgram = (bytes, words) => spawnSync(program, ["plan", ...words], { input: bytes, maxBuffer: 2 ** 30 });
+
+  const wanted = readFileSync(join(root, "crates/translate_tool/stdout"));
+  report("the linked program has the text of the program’s stored run", () => textOf(told(parts.linked, ["--cow", "--lazy-tables"])).equals(wanted));
+
+  const modules = readModules(join(root, "crates/plan_cases/data"));
+  const wrong = [], others = [], unfound = [];
+  for (const made of modules) {
+    const it = told(made.bytes, made.words), text = textOf(it);
+    const differs = difference(made, { status: it.status, text: text.toString(), data: place => it.runtime(place).view });
+    if (differs) wrong.push(`${made.file}: ${made.name}: ${differs}`);
+    if (program) {
+      const run = ofProgram(made.bytes, made.words);
+      if (run.status !== it.status || !run.stdout.equals(text)) others.push(`${made.file}: ${made.name}`);
+    }
+    const { refusal } = it.summary();
+    if (refusal && !refusal.place && !["too_large", "offset_overflow"].includes(refusal.kind)) unfound.push(`${made.file}: ${made.name}: ${refusal.line}`);
+    if (it.isPlanned && (it.places.stop || it.places.broken.size)) wrong.push(`${made.file}: ${made.name}: planned, and the script finds a fault: ${it.places.stop?.what ?? [...it.places.broken].join()}`);
+  }
+  report(`each of the ${modules.length} modules of plan_cases has what its case says`, () => wrong.length === 0, wrong);
+  if (program) report(`each of them has the text of ${program}`, () => others.length === 0, others);
+  report("each refusal has its place, where there is one", () => unfound.length === 0, unfound);
+
+  const own = told(parts.planner, ["--cow", "--lazy-tables"], "planner.wasm");
+  report("the planner plans its own module", () => own.isPlanned && own.plan.functions.length === own.places.functions.length && own.plan.declared.length === own.places.types.length);
+  if (program) report("its own plan has the text of the program", () => ofProgram(parts.planner, ["--cow", "--lazy-tables"]).stdout.equals(textOf(own)));
+
+  checkRecords({ parts, own, report });
+  checkHeap({ parts, compiled, report });
+  checkComparison({ parts, told, own, report });
+}
+
+// Lists against the text, in which each has its lines.
+function checkRecords({ parts, own, report }) {
+  const { plan, lines } = own, kinds = word => lines.kinds.get(word)?.count ?? 0;
+  const counts = { declared: "declared", group: "groups", image: "images", segment: "segments", runtime: "runtime", region: "regions", element: "elements" };
+  const wrong = Object.entries(counts).filter(([word, list]) => kinds(word) !== plan[list].length).map(([word, list]) => `${word}: ${kinds(word)} lines, ${plan[list].length} rows`);
+  report("the lists of its own plan are as long as its text says", () => wrong.length === 0, wrong);
+  const origins = new parts.Origins(own), told = [];
+  for (let i = 0; i < plan.regions.length; i++) told.push(origins.of("region", i));
+  for (let i = 0; i < plan.types; i++) told.push(origins.of("type", i));
+  for (const kind of ["image", "table", "memory"]) told.push(origins.of(kind, 0));
+  report("each region and type of it, its image, table and memory has a line of the text", () => told.every(it => it.facts.some(fact => fact.line !== undefined)));
+}
+
+// What a run took is free again: a thousand runs in one memory take no more than the first ones.
+function checkHeap({ parts, compiled, report }) {
+  const planner = new parts.Planner(compiled, parts.layout), options = optionsOf(["--cow", "--lazy-tables"]), size = () => planner.calls.memory.buffer.byteLength;
+  const runs = count => { for (let i = 0; i < count; i++) planner.drop(planner.make(i % 3 ? parts.linked : parts.overlap.subarray(0, i % 31), options)); };
+  runs(10);
+  const before = size();
+  runs(1000);
+  report("a thousand runs in one memory leave it as large as the first ten", () => size() === before, [`${before} bytes, then ${size()}`]);
+}
+
+function checkComparison({ parts, told, own, report }) {
+  const linked = told(parts.linked, ["--cow"]), same = new parts.Comparison(linked, told(parts.linked, ["--cow"])).summary();
+  report("a module has all types, images and regions of itself", () => same.onlyOne === 0 && same.onlyOther === 0 && same.images.every(image => image.differing === 0) && same.regions.every(({ one, other }) => String(one) === String(other)));
+  const two = new parts.Comparison(linked, own), words = index => own.typeWords(index).replace(/ trampoline \d+$/, "");
+  const rows = two.types(0, two.pairs.length).filter(row => row.one !== null && row.other !== null);
+  report("types that two modules share are spelled alike", () => rows.length > 0 && rows.every(row => row.words.replace(/ trampoline \d+$/, "") === words(row.other)));
+}
