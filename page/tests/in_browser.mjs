@@ -41,7 +41,6 @@ class PageCheck {
     this.tab = await this.browser.open(this.url + hash);
     await this.tab.until("document.readyState === 'complete' && typeof asking !== 'undefined' && asking !== null");
     await this.tab.value("asking.loaded.then(() => true)");
-    await this.tab.send("Accessibility.enable");
     await this.tab.send("DOM.enable");
   }
 
@@ -216,7 +215,10 @@ class PageCheck {
 
   // What a screen reader is told: each control and picture has a name.
   async names() {
-    const { nodes } = await this.tab.send("Accessibility.getFullAXTree"), roles = ["button", "checkbox", "combobox", "MenuListPopup", "spinbutton", "textbox", "searchbox", "radio", "link", "image", "region", "table", "progressbar", "dialog"];
+    await this.tab.send("Accessibility.enable");
+    const { nodes } = await this.tab.send("Accessibility.getFullAXTree");
+    await this.tab.send("Accessibility.disable");
+    const roles = ["button", "checkbox", "combobox", "MenuListPopup", "spinbutton", "textbox", "searchbox", "radio", "link", "image", "region", "table", "progressbar", "dialog"];
     const used = nodes.filter(node => !node.ignored && roles.includes(node.role?.value)), nameless = used.filter(node => !node.name?.value && node.role.value !== "MenuListPopup");
     this.report(`in the browser: ${used.length} controls, tables and pictures have names`, () => used.length > 30 && nameless.length === 0, nameless.map(node => JSON.stringify(node.role)));
     const twice = await this.tab.value("[...document.querySelectorAll('[id]')].map(it => it.id).filter((id, i, all) => all.indexOf(id) !== i)");
