@@ -49,7 +49,7 @@ other-count r l lower key count is = by (nat_eq r.registrations key) refl where
   by true e = absurd (omega (arith, eqb-true r.registrations key e, lower key (is-held (r.held key) count is)))
   by false e = is
 
--- a module that was let go
+-- a module that was released
 pub released-count : (r : Registry) (key : ℕ) → count_of (released r key) key ≡ None
 released-count r key = by (r.held key) refl where
   by : (o : Option Module) → r.held key ≡ o → count_of (released_by r key o) key ≡ None

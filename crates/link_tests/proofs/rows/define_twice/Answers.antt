@@ -16,7 +16,7 @@ define_exports-requires-2 c =
     let count = length c.args.types.now.types in
     c.requires.exports c.register.new.registry c.in_ok-key.key _ (has-count c.register.new.registry c.in_ok-key.key count c.in_ok-key.ensures.itself)
 
--- once it was let go
+-- once it was released
 
 pub define_exports-requires-3 : goal.define_exports-requires-3
 define_exports-requires-3 c =
