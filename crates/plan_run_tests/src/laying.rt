@@ -11,7 +11,7 @@ use init_plan::{ModuleTranslation, RuntimeBytes};
 use paged_memory::PagedMemory;
 use plan::Plan;
 use plan_run::{Imports, Laid, LayError, Value, is_finished, lay};
-use run_laws::finished_law;
+use run_laws::translated_is_finished;
 use std::alloc::Global;
 use std::test::Fail;
 use translate::translate_module;
@@ -203,7 +203,7 @@ fn laid_of(
 /// What is seen of a row.
 pub(crate) fn picture(alloc: Global, row: &Row) -> Result<Option<Picture>, Fail> {
     // Each plan can be laid; it does nothing when it is run.
-    finished_law();
+    translated_is_finished();
     let imports = given(alloc, row)?;
     let tunables = Tunables {
         debug_native: false,

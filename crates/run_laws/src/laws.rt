@@ -30,7 +30,7 @@ use plan_run::agreement_law;
 
 /// What is planned can be laid: what `translate` answers, once both finalize calls have succeeded on it, and the translation of each plan that
 /// `translate_module` answers.
-pub fn finished_law()
+pub fn translated_is_finished()
     ensures translated { (tunables : Tunables) (index : Index StaticModuleSpace) (validator : ℕ) (bytes : List ℕ) (types : BuilderState)
         (options : ImageOptions) (lazy : Bool) (old mid new : ModuleTranslation) → IsTranslated tunables index validator bytes old types
         → IsPowerOfTwo options.page → MemoriesArePlanned options old mid → TablesArePlanned lazy mid new → Finished new }

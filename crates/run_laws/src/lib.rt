@@ -3,4 +3,4 @@
 
 mod laws;
 
-pub use laws::{fields_law, finished_law, laid_law};
+pub use laws::{fields_law, laid_law, translated_is_finished};

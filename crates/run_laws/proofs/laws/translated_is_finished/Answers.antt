@@ -1,7 +1,7 @@
 use Rattle.run_laws.proofs.Translated.{translated-finished}
 use Rattle.run_laws.proofs.PlannedWhole.{planned-finished}
 use Rattle.module_environ.proofs.HoldsLists.{holds_memories}
-use Rattle.run_laws.proofs.laws.finished_law.Goals as goal
+use Rattle.run_laws.proofs.laws.translated_is_finished.Goals as goal
 
 pub returns-clause-translated : goal.returns-clause-translated
 returns-clause-translated c = λ tunables index validator bytes types options lazy old mid new told page memories tables.
