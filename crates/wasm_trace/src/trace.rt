@@ -78,7 +78,12 @@ pub trait TypeTrace {
             &mut |edge: &mut EngineOrModuleTypeIndex|
                 requires { CanBeRuntimeEdge (F.pre module_to_engine.now) edge.old }
             {
-                *edge = used_edge(*edge, module_to_engine);
+                *edge = match *edge {
+                    EngineOrModuleTypeIndex::Module(index) => {
+                        EngineOrModuleTypeIndex::Engine(module_to_engine(index))
+                    }
+                    canonical => canonical,
+                };
                 Ok(())
             },
         )
@@ -120,7 +125,22 @@ pub trait TypeTrace {
             &mut |edge: &mut EngineOrModuleTypeIndex|
                 requires { CanBeConsedEdge (F.pre module_to_engine.now) start end edge.old }
             {
-                *edge = compared_edge(*edge, start, end, module_to_engine);
+                *edge = match *edge {
+                    EngineOrModuleTypeIndex::Module(index) => {
+                        let number = index.as_u32();
+                        if number < start {
+                            // Made anew of its number: the borrow checker takes an index that was read as moved.
+                            let index = ModuleInternedTypeIndex::from_u32(number);
+                            EngineOrModuleTypeIndex::Engine(module_to_engine(index))
+                        } else {
+                            prove!(number < end);
+                            EngineOrModuleTypeIndex::RecGroup(RecGroupRelativeTypeIndex::from_u32(
+                                number - start,
+                            ))
+                        }
+                    }
+                    other => other,
+                };
                 Ok(())
             },
         )
@@ -143,44 +163,4 @@ pub trait TypeTrace {
 
     /// The view tells values apart.
     ghost injective: { (x y : Self) → view x ≡ view y → x ≡ y };
-}
-
-// What becomes of an edge in types that are used.
-fn used_edge<F>(edge: EngineOrModuleTypeIndex, module_to_engine: &F) -> EngineOrModuleTypeIndex
-where
-    F: Fn(ModuleInternedTypeIndex) -> VMSharedTypeIndex,
-    requires { CanBeRuntimeEdge (F.pre module_to_engine.now) edge }
-    ensures { IsRuntimeEdge (F.post module_to_engine.now) edge result }
-{
-    match edge {
-        EngineOrModuleTypeIndex::Module(index) => {
-            EngineOrModuleTypeIndex::Engine(module_to_engine(index))
-        }
-        canonical => canonical,
-    }
-}
-
-// What becomes of an edge in types that are compared, those of a group from `start` to `end`.
-fn compared_edge<F>(
-    edge: EngineOrModuleTypeIndex,
-    start: u32,
-    end: u32,
-    module_to_engine: &F,
-) -> EngineOrModuleTypeIndex
-where
-    F: Fn(ModuleInternedTypeIndex) -> VMSharedTypeIndex,
-    requires { CanBeConsedEdge (F.pre module_to_engine.now) start end edge }
-    ensures { IsConsedEdge (F.post module_to_engine.now) start edge result }
-{
-    match edge {
-        EngineOrModuleTypeIndex::Module(index) if start <= index.as_u32() => {
-            let number = index.as_u32();
-            prove!(number < end);
-            EngineOrModuleTypeIndex::RecGroup(RecGroupRelativeTypeIndex::from_u32(number - start))
-        }
-        EngineOrModuleTypeIndex::Module(index) => {
-            EngineOrModuleTypeIndex::Engine(module_to_engine(index))
-        }
-        other => other,
-    }
 }
