@@ -129,8 +129,6 @@ pub trait TypeTrace {
                     EngineOrModuleTypeIndex::Module(index) => {
                         let number = index.as_u32();
                         if number < start {
-                            // Made anew of its number: the borrow checker takes an index that was read as moved.
-                            let index = ModuleInternedTypeIndex::from_u32(number);
                             EngineOrModuleTypeIndex::Engine(module_to_engine(index))
                         } else {
                             prove!(number < end);
