@@ -78,7 +78,8 @@ pub trait TypeTrace {
             &mut |edge: &mut EngineOrModuleTypeIndex|
                 requires { CanBeRuntimeEdge (F.pre module_to_engine.now) edge.old }
             {
-                *edge = match *edge {
+                let old = *edge;
+                *edge = match old {
                     EngineOrModuleTypeIndex::Module(index) => {
                         EngineOrModuleTypeIndex::Engine(module_to_engine(index))
                     }
@@ -125,7 +126,8 @@ pub trait TypeTrace {
             &mut |edge: &mut EngineOrModuleTypeIndex|
                 requires { CanBeConsedEdge (F.pre module_to_engine.now) start end edge.old }
             {
-                *edge = match *edge {
+                let old = *edge;
+                *edge = match old {
                     EngineOrModuleTypeIndex::Module(index) => {
                         let number = index.as_u32();
                         if number < start {
