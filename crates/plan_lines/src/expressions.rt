@@ -44,7 +44,7 @@ fn append_null(text: &mut Text, heap_type: WasmHeapType) -> Result<(), OutOfMemo
     ensures { OnOk result (text.new ≡ text.old ++ operator_text (ConstOp.RefNull heap_type)) }
 {
     text.push_str("ref.null ")?;
-    text.push_display(heap_type)
+    text.push_display(&heap_type)
 }
 
 fn append_operands(text: &mut Text, name: &str, first: u32, second: u32) -> Result<(), OutOfMemory>

@@ -84,7 +84,7 @@ pub fn append_passive_element(
 {
     append_named(text, "passive-element", index.as_u32())?;
     text.push_byte(b' ')?;
-    text.push_display(ty)?;
+    text.push_display(&ty)?;
     text.push_byte(b' ')?;
     text.push_number(count)?;
     text.push_byte(b'\n')

@@ -28,10 +28,11 @@ fn among_defined<Space, Defined>(imported: usize, index: Index<Space>) -> Option
     requires { number_of index < u32.MAX }
     ensures { result ≡ defined_at imported index }
 {
-    if index.index() < imported {
+    let index = index.index();
+    if index < imported {
         None
     } else {
-        Some(EntityRef::new(index.index() - imported))
+        Some(EntityRef::new(index - imported))
     }
 }
 

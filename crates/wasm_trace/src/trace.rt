@@ -78,7 +78,8 @@ pub trait TypeTrace {
             &mut |edge: &mut EngineOrModuleTypeIndex|
                 requires { CanBeRuntimeEdge (F.pre module_to_engine.now) edge.old }
             {
-                *edge = match *edge {
+                let old = *edge;
+                *edge = match old {
                     EngineOrModuleTypeIndex::Module(index) => {
                         EngineOrModuleTypeIndex::Engine(module_to_engine(index))
                     }
@@ -125,16 +126,18 @@ pub trait TypeTrace {
             &mut |edge: &mut EngineOrModuleTypeIndex|
                 requires { CanBeConsedEdge (F.pre module_to_engine.now) start end edge.old }
             {
-                *edge = match *edge {
-                    EngineOrModuleTypeIndex::Module(index) if start <= index.as_u32() => {
-                        let number = index.as_u32();
-                        prove!(number < end);
-                        EngineOrModuleTypeIndex::RecGroup(RecGroupRelativeTypeIndex::from_u32(
-                            number - start,
-                        ))
-                    }
+                let old = *edge;
+                *edge = match old {
                     EngineOrModuleTypeIndex::Module(index) => {
-                        EngineOrModuleTypeIndex::Engine(module_to_engine(index))
+                        let number = index.as_u32();
+                        if number < start {
+                            EngineOrModuleTypeIndex::Engine(module_to_engine(index))
+                        } else {
+                            prove!(number < end);
+                            EngineOrModuleTypeIndex::RecGroup(RecGroupRelativeTypeIndex::from_u32(
+                                number - start,
+                            ))
+                        }
                     }
                     other => other,
                 };

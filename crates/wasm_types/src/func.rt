@@ -41,14 +41,18 @@ impl Model for WasmFuncType {
 }
 
 // How many of the types are references to collected objects.
+#[tactic(auto, using(std::proofs::lemmas::List::Sums::count_by_more_yes, std::proofs::lemmas::List::Sums::count_by_more_no))]
 fn objects_among(types: &[WasmValType]) -> u32
     requires { length types.now ≤ u32.MAX }
     ensures { result ≡ count_by val_is_object types.now }
 {
-    types
-        .iter()
-        .filter(|ty| ty.is_vmgcref_type_and_not_i31())
-        .count() as u32
+    let mut count = 0;
+    for ty in types {
+        if ty.is_vmgcref_type_and_not_i31() {
+            count += 1;
+        }
+    }
+    count
 }
 
 // Whether a trampoline passes each of the types as it is.

@@ -8,14 +8,12 @@ ghost use Rattle.wasm_types.specs.Memories.{minimum_bytes};
 ghost use Rattle.wasm_types.specs.Sizes.{maximum_bytes};
 ghost use Rattle.wasm_types.specs.Texts.{ref_text, group_text, subtyping_text, field_text, exn_text};
 ghost use Rattle.wasm_types.specs.Trampolines.{trampoline_of};
-ghost use Rattle.wasm_types.specs.declared.value.TheConstants.WasmRefType as references;
-ghost use Rattle.wasm_types.specs.declared.value.TheConstants.WasmValType as values;
 
 use crate::field::{WasmFieldType, WasmStorageType};
 use crate::heap::WasmHeapType;
 use crate::index::EngineOrModuleTypeIndex;
 use crate::limits::IndexType;
-use crate::value::WasmValType;
+use crate::value::{WasmRefType, WasmValType};
 
 /// The texts of a few types.
 pub fn worked_texts()
@@ -91,8 +89,14 @@ pub fn worked_sizes()
 {}
 
 /// The named reference types.
-pub fn worked_names()
-    ensures funcref { references.FUNCREF ≡ record { nullable = true; heap_type = WasmHeapType.Func } }
-    ensures externref { references.EXTERNREF ≡ record { nullable = true; heap_type = WasmHeapType.Extern } }
-    ensures value { values.FUNCREF ≡ WasmValType.Ref (record { nullable = true; heap_type = WasmHeapType.Func }) }
-{}
+pub fn worked_names() -> (WasmRefType, WasmRefType, WasmValType)
+    ensures funcref { result.0 ≡ record { nullable = true; heap_type = WasmHeapType.Func } }
+    ensures externref { result.1 ≡ record { nullable = true; heap_type = WasmHeapType.Extern } }
+    ensures value { result.2 ≡ WasmValType.Ref (record { nullable = true; heap_type = WasmHeapType.Func }) }
+{
+    (
+        WasmRefType::FUNCREF,
+        WasmRefType::EXTERNREF,
+        WasmValType::FUNCREF,
+    )
+}
