@@ -66,20 +66,9 @@ fn append_values(text: &mut Text, types: &[WasmValType]) -> Result<(), OutOfMemo
 fn append_value(text: &mut Text, ty: &WasmValType) -> Result<(), OutOfMemory>
     ensures { OnOk result (text.new ≡ text.old ++ codes " " ++ val_text ty.now) }
 {
-    match ty {
-        WasmValType::I32 => text.push_str(" i32"),
-        WasmValType::I64 => text.push_str(" i64"),
-        WasmValType::F32 => text.push_str(" f32"),
-        WasmValType::F64 => text.push_str(" f64"),
-        WasmValType::V128 => text.push_str(" v128"),
-        WasmValType::Ref(_) => append_reference(text, ty),
-    }
-}
-
-// Out of line, so that the loop over the others stays short.
-fn append_reference(text: &mut Text, ty: &WasmValType) -> Result<(), OutOfMemory>
-    ensures { OnOk result (text.new ≡ text.old ++ codes " " ++ val_text ty.now) }
-{
     text.push_byte(b' ')?;
-    text.push_display(ty)
+    match ty.word() {
+        Some(word) => text.push_str(word),
+        None => text.push_display(ty),
+    }
 }
