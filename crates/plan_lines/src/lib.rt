@@ -16,6 +16,7 @@ mod table_lines;
 mod text;
 mod type_lines;
 mod type_list_lines;
+mod type_words;
 mod worked;
 
 pub use context_lines::{append_context, append_region, append_regions};

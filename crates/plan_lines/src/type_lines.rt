@@ -7,6 +7,7 @@ ghost use Rattle.plan_lines.specs.TypeLines.{trampoline_text, type_line, listed_
 
 use crate::numbers::{append_named, append_numbers, append_pair_line};
 use crate::text::Text;
+use crate::type_words::append_subtype;
 use entity_map::{EntityRef, OutOfMemory, PrimaryMap};
 use wasm_index::{ModuleInternedTypeIndex, TypeIndex};
 use wasm_types::{EngineOrModuleTypeIndex, WasmSubType};
@@ -36,7 +37,7 @@ pub fn append_type(
     text.push_str("type ")?;
     text.push_number(index.as_u32())?;
     text.push_byte(b' ')?;
-    text.push_display(ty)?;
+    append_subtype(text, ty)?;
     append_trampoline(text, trampoline)?;
     text.push_byte(b'\n')
 }
