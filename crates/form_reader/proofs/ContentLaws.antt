@@ -1,12 +1,9 @@
 -- Sections, as far as they are taken: of custom sections those that are none of interface types.
-use Rattle.std.proofs.Common.{◌≡◌, ℕ, ◌+◌, List, [], ◌∷◌, ◌++◌, Option, Some, None, Ok, Err, Bool, true, false, cond, refl, ap, subst, sym, ◌∙◌, append_assoc, arith, inl, inr}
-use Rattle.std.specs.Prelude.{◌⊎◌, ◌==◌, ◌||◌, nat_le, Contains, codes, bytes_eq}
-use Rattle.std.proofs.lemmas.Bool.{cases_Bool}
-use Rattle.std.proofs.lemmas.List.Elements.{Contains-push_cases}
-use Rattle.std.proofs.lemmas.Slice.Eq.{bytes_eq-Decides}
+use Rattle.std.proofs.Common.{◌≡◌, ℕ, ◌+◌, List, [], ◌∷◌, ◌++◌, Option, Some, None, Bool, true, false, refl, ap, subst, sym, ◌∙◌, append_assoc, inl, inr}
+use Rattle.std.specs.Prelude.{◌⊎◌, ◌==◌, nat_le}
 use Rattle.wasm_spec.specs.declared.operators.What.{What}
 use Rattle.wasm_spec.specs.declared.operators.What.TheVariants as what
-use Rattle.wasm_spec.specs.Module.{Payload, Types, Imports, FunctionTypes, Tables, Memories, Tags, Globals, Exports, Start, Elements, DataCount, Code, Segments, Custom}
+use Rattle.wasm_spec.specs.Module.{Payload, Types, Imports, FunctionTypes, Tables, Memories, Tags, Globals, Exports, Start, Elements, DataCount, Segments, Custom}
 use Rattle.wasm_spec.specs.Parts as part
 use Rattle.wasm_spec.specs.Parts.{Part, Joined, StopsLater, FilledStops}
 use Rattle.wasm_spec.specs.EntryGrammar.{name}

@@ -1,4 +1,4 @@
-use Rattle.std.proofs.Common.{◌≡◌, ◌-◌, length}
+use Rattle.std.proofs.Common.{◌≡◌, ◌-◌}
 use Rattle.form_reader.specs.ExpressionLaws.{operators_at}
 use Rattle.form_reader.proofs.Loop.{with_front}
 use Rattle.form_reader.proofs.cursor.Cursor.expression.Given as goal
