@@ -4,8 +4,8 @@ use Rattle.std.specs.Prelude.{true, false, ◌==◌}
 use Rattle.std.proofs.lemmas.Bool.{eq-eqb, ne_eqb}
 use Rattle.form_reader.specs.Reading.{whole}
 use Rattle.form_reader.specs.ReadingNumbers.{unsigned_at, vector_at}
-use Rattle.form_reader.proofs.Agrees.{Agrees, Fills, gives_agrees, nothing_agrees, then_agrees, choose_agrees, first_byte_agrees, whole_fills}
-use Rattle.form_reader.proofs.NumberLaws.{unsigned_agrees, vector_agrees}
+use Rattle.form_reader.specs.Agrees.{Agrees, Fills, gives_agrees, nothing_agrees, then_agrees, choose_agrees, first_byte_agrees, whole_fills}
+use Rattle.form_reader.specs.NumberLaws.{unsigned_agrees, vector_agrees}
 use Rattle.custom_sections.specs.declared.hints.Hint.{Hint}
 use Rattle.custom_sections.specs.Reading.{taken}
 use Rattle.custom_sections.specs.HintGrammar as grammar

@@ -2,8 +2,7 @@
 use Rattle.std.specs.Prelude.{ℕ, zero, suc, List, [], ◌∷◌, ◌++◌, length, Bool, true, false, ◌==◌, ◌&&◌, Option, Some, None, Result, Ok, Err, if◌then◌else◌}
 use Rattle.std.specs.Option.{option_or}
 use Rattle.form_reader.specs.Reading.{Fault, Reader, ◌>>=◌, gives_at, first_byte_at, whole}
-use Rattle.form_reader.specs.ReadingNumbers.{unsigned_at, counted_bytes_at}
-use Rattle.form_reader.specs.ReadingEntries.{name_at}
+use Rattle.form_reader.specs.ReadingNumbers.{unsigned_at, counted_bytes_at, name_at}
 
 -- ---- vectors up to a fault
 

@@ -7,7 +7,7 @@ ghost use Rattle.custom_sections.specs.Views.{text_of, locals_of, names_of};
 ghost use Rattle.custom_sections.specs.NameReading.{naming_at, names_before, locals_before, vector_before, sized_subsection_at};
 ghost use Rattle.custom_sections.specs.NameReading.{subsection as subsection_names, joined, is_filled as filled, names_of_section};
 ghost use Rattle.form_reader.specs.Reading.{whole};
-ghost use Rattle.form_reader.specs.ReadingEntries.{name_at};
+ghost use Rattle.form_reader.specs.ReadingNumbers.{name_at};
 
 use crate::parts::{counted_bytes, first_byte, name, u32_at};
 use entity_map::OutOfMemory;

@@ -3,8 +3,7 @@
 ghost use Rattle.std.specs.Prelude.{◌≡◌};
 ghost use Rattle.std.specs.Option.{option_map};
 ghost use Rattle.form_reader.specs.Reading.{uncons};
-ghost use Rattle.form_reader.specs.ReadingNumbers.{unsigned_at, counted_bytes_at};
-ghost use Rattle.form_reader.specs.ReadingEntries.{name_at};
+ghost use Rattle.form_reader.specs.ReadingNumbers.{unsigned_at, counted_bytes_at, name_at};
 ghost use Rattle.custom_sections.specs.Reading.{taken};
 
 /// The most bytes of a number of 32 bits.
@@ -69,7 +68,7 @@ pub(crate) fn counted_bytes(bytes: &[u8]) -> Option<(&[u8], &[u8])>
 }
 
 /// A name, which is text, and the bytes after it.
-#[tactic(auto, unfolding(form_reader::specs::ReadingEntries::name_at))]
+#[tactic(auto, unfolding(form_reader::specs::ReadingNumbers::name_at))]
 pub(crate) fn name(bytes: &[u8]) -> Option<(&str, &[u8])>
     ensures { option_map (λ x. (x.0.now, x.1.now)) result ≡ taken (name_at bytes.now) }
 {

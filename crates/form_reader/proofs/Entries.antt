@@ -1,38 +1,39 @@
--- A module has no more entries in its lists than bytes.
+-- A module has no more entries in its lists than bytes, those of the lists of its types among them.
 use Rattle.std.proofs.Common.{◌≡◌, ◌≤◌, ◌<◌, ◌+◌, ◌^◌, ℕ, zero, suc, List, [], ◌∷◌, ◌++◌, length, map, Bool, true, false, Option, Some, None, refl, ap, ◌∙◌, arith, length-append}
 use Rattle.std.specs.Prelude.{nat_le, ◌==◌}
-use Rattle.std.specs.List.{flat_map, filter_map, cons_option}
+use Rattle.std.specs.List.{flat_map, filter_map, cons_option, All}
 use Rattle.std.proofs.lemmas.List.{length-map}
 use Rattle.std.proofs.lemmas.List.Concat.{flat_map-append}
+use Rattle.std.proofs.lemmas.List.Elements.{All-nil, All-cons}
 use Rattle.wasm_spec.specs.declared.entities.TypeRef.{TypeRef}
 use Rattle.wasm_spec.specs.declared.types.UnpackedIndex.{UnpackedIndex}
 use Rattle.wasm_spec.specs.Numbers.{SpellsUnsigned}
 use Rattle.wasm_spec.specs.Parts.{Part, ◌>>=◌, choose, gives, first_byte, unsigned, non_negative, elements, vector, sized}
-use Rattle.wasm_spec.specs.TypeData.{Group}
-use Rattle.wasm_spec.specs.Module.{Import, Payload, Types, Imports, FunctionTypes, Tables, Memories, Tags, Globals, Exports, Start, Elements, DataCount, Code, Segments, Module, groups, groups_of_section, imports, imports_of_section, imported_of, function_types_of_section, tables_of_section, memories_of_section, tags_of_section, globals_of_section, exports_of_section, elements_of_section, bodies_of_section, segments_of_section, types, function_import, table_import, memory_import, global_import, tag_import}
-use Rattle.wasm_spec.specs.TypeGrammar.{value_type, storage_type, field_type, composite_after, supertype, with_supertype, group, sub_type_after, memory_type, global_type, tag_type}
+use Rattle.wasm_spec.specs.TypeData.{Composite, Func, Array, Struct, Cont, Exn, SubType, Group, value_of, field_of}
+use Rattle.wasm_spec.specs.Module.{Import, Payload, Types, Imports, FunctionTypes, Tables, Memories, Tags, Globals, Exports, Start, Elements, DataCount, Segments, Module, groups, groups_of_section, imports, imports_of_section, imported_of, function_types_of_section, tables_of_section, memories_of_section, tags_of_section, globals_of_section, exports_of_section, elements_of_section, bodies_of_section, segments_of_section, types, function_import, table_import, memory_import, global_import, tag_import}
+use Rattle.wasm_spec.specs.TypeGrammar.{value_type, storage_type, field_type, function_type, composite_after, with_supertype, group, sub_type_after, memory_type, global_type, tag_type}
 use Rattle.wasm_spec.specs.EntryGrammar.{name, import_entry, export_entry, table_entry, global_entry, element_segment, body, data_segment}
 use Rattle.wasm_spec.specs.Grammar.{custom_contents, entries_as, number_as, code_at, section_contents, placed_section, order_of, section, next_order, SpellsSections, Spells, header}
-use Rattle.wasm_spec.specs.Sizes.{HasFewEntries}
+use Rattle.wasm_spec.specs.Sizes.{HasFewEntries, CompositeHasShortLists, HasShortLists, HasShortTypes}
 
 -- ---- parts of at least one byte
 
-pub record TakesBytes {A : Type 0} (part : Part A) : Type 0 where
-  pub takes : (bytes : List ℕ) (x : A) → part.spells bytes x → 1 ≤ length bytes
+record TakesBytes {A : Type 0} (part : Part A) : Type 0 where
+  takes : (bytes : List ℕ) (x : A) → part.spells bytes x → 1 ≤ length bytes
 
-pub first_takes : {A : Type 0} (part : ℕ → Part A) → TakesBytes (first_byte part)
+first_takes : {A : Type 0} (part : ℕ → Part A) → TakesBytes (first_byte part)
 first_takes {A} part = record { takes = some } where
   some : (bytes : List ℕ) (x : A) → (first_byte part).spells bytes x → 1 ≤ length bytes
   some [] x s = absurd s
   some (b ∷ bytes) x s = omega arith
 
-pub number_takes : (k : ℕ) → TakesBytes (unsigned k)
+number_takes : (k : ℕ) → TakesBytes (unsigned k)
 number_takes k = record { takes = some } where
   some : (bytes : List ℕ) (n : ℕ) → SpellsUnsigned k bytes n → 1 ≤ length bytes
   some [] n s = absurd s.form
   some (b ∷ bytes) n s = omega arith
 
-pub then_takes : {A B : Type 0} (first : Part A) (second : A → Part B) → TakesBytes first → TakesBytes (first >>= second)
+then_takes : {A B : Type 0} (first : Part A) (second : A → Part B) → TakesBytes first → TakesBytes (first >>= second)
 then_takes first second t = record {
   takes = λ bytes x s. let n = t.takes s.front s.value s.is_first in
       omega (arith, ap length s.parts, length-append s.front s.back);
@@ -71,12 +72,12 @@ data_segment_takes = then_takes (unsigned 32) _ (number_takes 32)
 -- ---- elements
 
 -- the sum of what each element counts
-abbrev pub total : {A : Type 0} → (A → ℕ) → List A → ℕ
+abbrev total : {A : Type 0} → (A → ℕ) → List A → ℕ
 total count [] = 0
 total count (x ∷ xs) = count x + total count xs
 
 -- an element counts at most its bytes
-abbrev pub CountsBytes : {A : Type 0} → (A → ℕ) → Part A → Type 0
+abbrev CountsBytes : {A : Type 0} → (A → ℕ) → Part A → Type 0
 CountsBytes {A} count part = (bytes : List ℕ) (x : A) → part.spells bytes x → count x ≤ length bytes
 
 elements_count : {A : Type 0} (count : A → ℕ) (part : Part A) → CountsBytes count part → (n : ℕ) (bytes : List ℕ) (xs : List A)
@@ -88,32 +89,34 @@ elements_count count part counts (suc n) bytes xs s =
     let others = elements_count count part counts n t.front t.value t.is_first in
     rw t.is_second.1 (omega (arith, ap length s.parts, length-append s.front s.back, ap length t.parts, length-append t.front t.back))
 
-pub vector_counts : {A : Type 0} (count : A → ℕ) (part : Part A) → CountsBytes count part → (bytes : List ℕ) (xs : List A)
-    → (vector part).spells bytes xs → total count xs ≤ length bytes
+-- their count takes a byte too
+vector_counts : {A : Type 0} (count : A → ℕ) (part : Part A) → CountsBytes count part → (bytes : List ℕ) (xs : List A)
+    → (vector part).spells bytes xs → 1 + total count xs ≤ length bytes
 vector_counts count part counts bytes xs s =
     let n = elements_count count part counts s.value s.back xs s.is_second in
-    omega (arith, ap length s.parts, length-append s.front s.back)
+    let first = (number_takes 32).takes s.front s.value s.is_first in
+    omega (arith, n, first, ap length s.parts, length-append s.front s.back)
 
 total_ones : {A : Type 0} (xs : List A) → total (λ x. 1) xs ≡ length xs
 total_ones [] = refl
 total_ones (x ∷ xs) = let ones = total_ones xs in omega (arith, ones)
 
--- elements that take bytes are no more than their bytes
-pub vector_few : {A : Type 0} (part : Part A) → TakesBytes part → (bytes : List ℕ) (xs : List A) → (vector part).spells bytes xs
-    → length xs ≤ length bytes
+total-append : {A : Type 0} (count : A → ℕ) (xs ys : List A) → total count (xs ++ ys) ≡ total count xs + total count ys
+total-append count [] ys = omega arith
+total-append count (x ∷ xs) ys = let others = total-append count xs ys in omega (arith, others)
+
+-- elements that take bytes are fewer than the bytes of their vector
+vector_few : {A : Type 0} (part : Part A) → TakesBytes part → (bytes : List ℕ) (xs : List A) → (vector part).spells bytes xs
+    → 1 + length xs ≤ length bytes
 vector_few part t bytes xs s = let n = vector_counts (λ x. 1) part t.takes bytes xs s in omega (arith, n, total_ones xs)
 
 -- ---- groups of types
 
 -- a choice is one of the two
-pub chosen : {A : Type 0} (b : Bool) (p q : Part A) (bytes : List ℕ) (x : A) (n : ℕ) → (p.spells bytes x → n ≤ length bytes)
+chosen : {A : Type 0} (b : Bool) (p q : Part A) (bytes : List ℕ) (x : A) (n : ℕ) → (p.spells bytes x → n ≤ length bytes)
     → (q.spells bytes x → n ≤ length bytes) → (choose b p q).spells bytes x → n ≤ length bytes
 chosen true p q bytes x n one other s = one s
 chosen false p q bytes x n one other s = other s
-
-chosen_takes : {A : Type 0} (b : Bool) (p q : Part A) → TakesBytes p → TakesBytes q → TakesBytes (choose b p q)
-chosen_takes true p q one other = one
-chosen_takes false p q one other = other
 
 non_negative_takes : (k : ℕ) → TakesBytes (non_negative k)
 non_negative_takes k = record { takes = some } where
@@ -121,62 +124,101 @@ non_negative_takes k = record { takes = some } where
   some [] n s = absurd s.form
   some (b ∷ bytes) n s = omega arith
 
-vector_takes : {A : Type 0} (part : Part A) → TakesBytes (vector part)
-vector_takes part = then_takes (unsigned 32) _ (number_takes 32)
+-- how many entries the lists of a type have
+abbrev wide : Composite UnpackedIndex UnpackedIndex → ℕ
+wide (Func f) = length f.params + length f.results
+wide (Struct fields) = length fields
+wide (Exn e) = length e.fields
+wide _ = 0
 
-unspelled_takes : {A : Type 0} (part : Part A) → ((bytes : List ℕ) (x : A) → ¬ part.spells bytes x) → TakesBytes part
-unspelled_takes part none = record { takes = λ bytes x s. absurd (none bytes x s) }
+abbrev width : SubType UnpackedIndex UnpackedIndex → ℕ
+width t = wide t.composite.inner
 
--- a type takes a byte after its first
-composite_after_takes : (b : ℕ) → TakesBytes (composite_after b)
-composite_after_takes b =
-    chosen_takes (b == 0x60) _ _ (then_takes (vector value_type) _ (vector_takes value_type))
-    (chosen_takes (b == 0x5F) _ _ (then_takes (vector field_type) _ (vector_takes field_type))
-    (chosen_takes (b == 0x5E) _ _ (then_takes field_type _ (then_takes storage_type _ (first_takes _)))
-    (chosen_takes (b == 0x5D) _ _ (then_takes (non_negative 33) _ (non_negative_takes 33))
-    (chosen_takes (b == 0x65) _ _ (unspelled_takes _ (λ bytes x s. s)) (unspelled_takes _ (λ bytes x s. s))))))
+-- a type, and the entries of its lists
+abbrev member : SubType UnpackedIndex UnpackedIndex → ℕ
+member t = 1 + width t
 
-with_supertype_takes : (is_final : Bool) → TakesBytes (with_supertype is_final)
-with_supertype_takes is_final = then_takes supertype _ (then_takes (unsigned 32) _ (number_takes 32))
+function_wide : CountsBytes (λ c. 1 + wide c) function_type
+function_wide bytes x s =
+    let t = s.is_second in
+    let params = vector_few value_type (first_takes _) s.front s.value s.is_first in
+    let results = vector_few value_type (first_takes _) t.front t.value t.is_first in
+    let both : wide x ≡ length (map value_of s.value) + length (map value_of t.value) = ap wide t.is_second.1 in
+    omega (arith, params, results, both, length-map s.value value_of, length-map t.value value_of, ap length s.parts, length-append s.front s.back, ap length t.parts, length-append t.front t.back)
 
-sub_type_after_takes : (b : ℕ) → TakesBytes (sub_type_after b)
-sub_type_after_takes b =
-    chosen_takes (b == 0x50) _ _ (with_supertype_takes false)
-    (chosen_takes (b == 0x4F) _ _ (with_supertype_takes true)
-    (then_takes (composite_after b) _ (composite_after_takes b)))
+field_takes : TakesBytes field_type
+field_takes = then_takes storage_type _ (first_takes _)
 
-one_member : (b : ℕ) (bytes : List ℕ) (g : Group UnpackedIndex UnpackedIndex) → (sub_type_after b >>= λ t. gives (t ∷ [])).spells bytes g
-    → 1 + length g ≤ 1 + length bytes
-one_member b bytes g s =
-    let one : length g ≡ 1 = ap length s.is_second.1 in
-    let after = (sub_type_after_takes b).takes s.front s.value s.is_first in
-    omega (arith, one, after, ap length s.parts, length-append s.front s.back)
+composite_wide : (b : ℕ) → CountsBytes (λ c. 1 + wide c) (composite_after b)
+composite_wide b bytes x =
+    chosen (b == 0x60) _ _ bytes x (1 + wide x) (function_wide bytes x)
+    (chosen (b == 0x5F) _ _ bytes x (1 + wide x) (λ s.
+    let n = vector_few field_type field_takes s.front s.value s.is_first in
+    omega (arith, n, ap wide s.is_second.1, length-map s.value field_of, ap length s.parts, length-append s.front s.back))
+    (chosen (b == 0x5E) _ _ bytes x (1 + wide x) (λ s.
+    let n = field_takes.takes s.front s.value s.is_first in
+    omega (arith, n, ap wide s.is_second.1, ap length s.parts, length-append s.front s.back))
+    (chosen (b == 0x5D) _ _ bytes x (1 + wide x) (λ s.
+    let n = (non_negative_takes 33).takes s.front s.value s.is_first in
+    omega (arith, n, ap wide s.is_second.1, ap length s.parts, length-append s.front s.back))
+    (chosen (b == 0x65) _ _ bytes x (1 + wide x) (λ s. absurd s) (λ s. absurd s)))))
 
--- a group and each of its members take a byte
-group_counts : CountsBytes (λ g. 1 + length g) group
-group_counts [] g s = absurd s
-group_counts (b ∷ bytes) g s = by_first (b == 0x4E) s where
+first_wide : CountsBytes (λ c. 1 + wide c) (first_byte composite_after)
+first_wide [] x s = absurd s
+first_wide (b ∷ bytes) x s = let n = composite_wide b bytes x s in omega (arith, n)
+
+super_wide : (is_final : Bool) → CountsBytes member (with_supertype is_final)
+super_wide is_final bytes x s =
+    let t = s.is_second in
+    let n = first_wide t.front t.value t.is_first in
+    omega (arith, n, ap width t.is_second.1, ap length s.parts, length-append s.front s.back, ap length t.parts, length-append t.front t.back)
+
+sub_type_wide : (b : ℕ) → CountsBytes member (sub_type_after b)
+sub_type_wide b bytes x =
+    chosen (b == 0x50) _ _ bytes x (member x) (super_wide false bytes x)
+    (chosen (b == 0x4F) _ _ bytes x (member x) (super_wide true bytes x) (λ s.
+    let n = composite_wide b s.front s.value s.is_first in
+    omega (arith, n, ap width s.is_second.1, ap length s.parts, length-append s.front s.back)))
+
+member_wide : CountsBytes member (first_byte sub_type_after)
+member_wide [] x s = absurd s
+member_wide (b ∷ bytes) x s = let n = sub_type_wide b bytes x s in omega (arith, n)
+
+-- a group takes a byte beside its members
+group_wide : CountsBytes (λ g. 1 + total member g) group
+group_wide [] g s = absurd s
+group_wide (b ∷ bytes) g s = by_first (b == 0x4E) s where
   by_first : (many : Bool) → (choose many (vector (first_byte sub_type_after)) (sub_type_after b >>= λ t. gives (t ∷ []))).spells bytes g
-      → 1 + length g ≤ length (b ∷ bytes)
-  by_first true s = let n = vector_few (first_byte sub_type_after) (first_takes sub_type_after) bytes g s in omega (arith, n)
-  by_first false s = let n = one_member b bytes g s in omega (arith, n)
+      → 1 + total member g ≤ length (b ∷ bytes)
+  by_first true s = let n = vector_counts member (first_byte sub_type_after) member_wide bytes g s in omega (arith, n)
+  by_first false s =
+      let n = sub_type_wide b s.front s.value s.is_first in
+      omega (arith, n, ap (total member) s.is_second.1, ap length s.parts, length-append s.front s.back)
 
-total_members : (gs : List (Group UnpackedIndex UnpackedIndex)) → total (λ g. 1 + length g) gs ≡ length gs + length (flat_map (λ g. g) gs)
+total_members : (ts : List (SubType UnpackedIndex UnpackedIndex)) → total member ts ≡ length ts + total width ts
 total_members [] = refl
-total_members (g ∷ gs) =
-    let members = total_members gs in
-    omega (arith, members, length-append g (flat_map (λ (h : Group UnpackedIndex UnpackedIndex). h) gs))
+total_members (t ∷ ts) = let others = total_members ts in omega (arith, others)
+
+total_groups : (gs : List (Group UnpackedIndex UnpackedIndex))
+    → total (λ g. 1 + total member g) gs ≡ length gs + total member (flat_map (λ g. g) gs)
+total_groups [] = refl
+total_groups (g ∷ gs) =
+    let others = total_groups gs in
+    omega (arith, others, total-append member g (flat_map (λ (h : Group UnpackedIndex UnpackedIndex). h) gs))
 
 groups_few : (bytes : List ℕ) (gs : List (Group UnpackedIndex UnpackedIndex)) → (vector group).spells bytes gs
-    → length gs + length (flat_map (λ g. g) gs) ≤ length bytes
-groups_few bytes gs s = let n = vector_counts (λ g. 1 + length g) group group_counts bytes gs s in omega (arith, n, total_members gs)
+    → length gs + length (flat_map (λ g. g) gs) + total width (flat_map (λ g. g) gs) ≤ length bytes
+groups_few bytes gs s =
+    let n = vector_counts (λ g. 1 + total member g) group group_wide bytes gs s in
+    omega (arith, n, total_groups gs, total_members (flat_map (λ (g : Group UnpackedIndex UnpackedIndex). g) gs))
 
 -- ---- sections
 
 -- how many entries a section has in all lists together
 abbrev entries : Payload → ℕ
 entries p =
-    length (groups_of_section p) + length (flat_map (λ g. g) (groups_of_section p)) + length (imports_of_section p) + length (function_types_of_section p)
+    length (groups_of_section p) + length (flat_map (λ g. g) (groups_of_section p)) + total width (flat_map (λ g. g) (groups_of_section p))
+    + length (imports_of_section p) + length (function_types_of_section p)
     + length (tables_of_section p)
     + length (memories_of_section p) + length (tags_of_section p) + length (globals_of_section p) + length (exports_of_section p)
     + length (elements_of_section p) + length (bodies_of_section p) + length (segments_of_section p)
@@ -272,7 +314,7 @@ section_few place next (id ∷ bytes) p s = let n = chosen (id == 0) _ _ bytes p
 -- the entries of all lists of a module
 abbrev all_entries : Module → ℕ
 all_entries m =
-    length (groups m) + length (types m) + length (imports m) + length (flat_map function_types_of_section m) + length (flat_map tables_of_section m)
+    length (groups m) + length (types m) + total width (types m) + length (imports m) + length (flat_map function_types_of_section m) + length (flat_map tables_of_section m)
     + length (flat_map memories_of_section m) + length (flat_map tags_of_section m) + length (flat_map globals_of_section m)
     + length (flat_map exports_of_section m) + length (flat_map elements_of_section m) + length (flat_map bodies_of_section m)
     + length (flat_map segments_of_section m)
@@ -286,12 +328,18 @@ all_types : (p : Payload) (ps : Module) → length (types (p ∷ ps)) ≡ length
 all_types p ps = ap length (flat_map-append (λ (g : Group UnpackedIndex UnpackedIndex). g) (groups_of_section p) (groups ps))
     ∙ length-append (flat_map (λ g. g) (groups_of_section p)) (types ps)
 
+all_widths : (p : Payload) (ps : Module)
+    → total width (types (p ∷ ps)) ≡ total width (flat_map (λ g. g) (groups_of_section p)) + total width (types ps)
+all_widths p ps = ap (total width) (flat_map-append (λ (g : Group UnpackedIndex UnpackedIndex). g) (groups_of_section p) (groups ps))
+    ∙ total-append width (flat_map (λ g. g) (groups_of_section p)) (types ps)
+
 all_more : (p : Payload) (ps : Module) → all_entries (p ∷ ps) ≡ entries p + all_entries ps
 all_more p ps =
     omega (
       arith,
       one_list groups_of_section p ps,
       all_types p ps,
+      all_widths p ps,
       one_list imports_of_section p ps,
       one_list function_types_of_section p ps,
       one_list tables_of_section p ps,
@@ -345,3 +393,21 @@ few_entries bytes m s short =
       bodies = omega (arith, n);
       segments = omega (arith, n);
     }
+
+-- ---- the lists of types
+
+narrow : (c : Composite UnpackedIndex UnpackedIndex) → wide c < 2 ^ 30 → CompositeHasShortLists c
+narrow (Func f) n = (omega (arith, n), omega (arith, n))
+narrow (Array f) n = tt
+narrow (Struct fs) n = n
+narrow (Cont f) n = tt
+narrow (Exn e) n = n
+
+all_narrow : (ts : List (SubType UnpackedIndex UnpackedIndex)) → total width ts < 2 ^ 30 → All HasShortLists ts
+all_narrow [] n = All-nil HasShortLists
+all_narrow (t ∷ ts) n = All-cons HasShortLists t ts (narrow t.composite.inner (omega (arith, n))) (all_narrow ts (omega (arith, n)))
+
+pub short_types : (bytes : List ℕ) (m : Module) → Spells bytes m → length bytes < 2 ^ 30 → HasShortTypes m
+short_types bytes m s short =
+    let n = sections_few m 8 0 s.body s.are_sections in
+    all_narrow (types m) (omega (arith, n, short, ap length s.parts, length-append header s.body))

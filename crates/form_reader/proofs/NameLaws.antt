@@ -5,8 +5,7 @@ use Rattle.std.specs.Str.{is_utf8}
 use Rattle.std.proofs.lemmas.Bool.{false_from_ne_true}
 use Rattle.std.proofs.lemmas.Str.{IsUtf8-from_is_utf8, is_utf8-from_IsUtf8}
 use Rattle.form_reader.specs.Reading.{Bad}
-use Rattle.form_reader.specs.ReadingNumbers.{counted_bytes_at}
-use Rattle.form_reader.specs.ReadingEntries.{name_at}
+use Rattle.form_reader.specs.ReadingNumbers.{counted_bytes_at, name_at}
 
 pub name_taken : (bytes text rest : List ℕ) → counted_bytes_at bytes ≡ Ok (text, rest) → IsUtf8 text → name_at bytes ≡ Ok (text, rest)
 unfolding name_at

@@ -9,7 +9,7 @@ use Rattle.form_reader.specs.declared.error.ReadError.{ReadError}
 use Rattle.form_reader.specs.declared.error.ReadError.TheVariants as errors
 use Rattle.form_reader.specs.Reading.{Bad, Stops, Fails}
 use Rattle.form_reader.specs.ReadingSections.{module_at}
-use Rattle.form_reader.proofs.Agrees.{ok_not_err, bad_not_stops}
+use Rattle.form_reader.specs.Agrees.{ok_not_err, bad_not_stops}
 use Rattle.form_reader.proofs.SectionLaws.{module_found, module_again, module_stopped, module_stops_again, module_once}
 
 pub error_is : (result : Result Form ReadError) (d e f : ReadError) → result ≡ Err d → d ≡ e → result ≡ Err f → e ≡ f

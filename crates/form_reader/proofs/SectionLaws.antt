@@ -15,16 +15,17 @@ use Rattle.wasm_spec.specs.Grammar as grammar
 use Rattle.wasm_spec.specs.Grammar.{SpellsSections, next_order, order_after_all, magic, header, Spells, Stops as IsStopped, IsComponent}
 use Rattle.wasm_spec.specs.Interfaces.{IsNoInterface, HasNoInterfaceTypes}
 use Rattle.form_reader.specs.Reading.{Fault, Bad, Stops, and_then, measured_at}
-use Rattle.form_reader.specs.ReadingSections.{section_at, sections_at, is_component, module_at}
-use Rattle.form_reader.proofs.Agrees.{Agrees, ok, err, ok_is, ok_not_err, bad_not_stops, step_ok, step_err}
-use Rattle.form_reader.proofs.MadeLaws.{measured_agrees}
-use Rattle.form_reader.proofs.ContentLaws.{section_taken, section_agrees, taken_spells, spelled_is_taken, taken_stops, stops_taken, plain_or_stops, section_once}
+use Rattle.form_reader.specs.SectionRows.{custom_taken, section_by, section}
+use Rattle.form_reader.specs.ReadingSections.{sections_at, is_component, module_at}
+use Rattle.form_reader.specs.Agrees.{Agrees, ok, err, ok_is, ok_not_err, bad_not_stops, step_ok, step_err}
+use Rattle.form_reader.specs.MadeLaws.{measured_agrees}
+use Rattle.form_reader.proofs.ContentLaws.{taken_spells, spelled_is_taken, taken_stops, stops_taken, plain_or_stops, section_once}
 
 -- ---- sections
 
 -- a section with the number of its bytes
-one_agrees : (place next : ℕ) → Agrees (measured_at (section_at place next)) (part.measured (section_taken place next))
-one_agrees place next = measured_agrees (section_agrees place next)
+one_agrees : (place next : ℕ) → Agrees (measured_at (section place next).read) (part.measured (section_by custom_taken place next))
+one_agrees place next = measured_agrees (section place next).agrees
 
 -- the sections after one that was read, in at most k steps
 abbrev later_at : ℕ → ℕ → ℕ → (Payload × ℕ) × List ℕ → Result Module Fault
@@ -49,7 +50,7 @@ sections_found zero place next [] ps e = subst (Found place next []) (ok_is [] p
 sections_found (suc k) place next [] ps e = subst (Found place next []) (ok_is [] ps e) (refl, All-nil IsNoInterface)
 sections_found zero place next (b ∷ bytes) ps e = absurd cc
 sections_found (suc k) place next (b ∷ bytes) ps e =
-    let s = step_ok (measured_at (section_at place next) (b ∷ bytes)) (later_at k place next) ps e in
+    let s = step_ok (measured_at (section place next).read (b ∷ bytes)) (later_at k place next) ps e in
     let p = s.0.0.0 in
     let t = step_ok (sections_at k (place + s.0.0.1) (next_order next p) s.0.1) (λ ps. Ok (p ∷ ps)) ps s.2 in
     let f = (one_agrees place next).found (b ∷ bytes) s.0.0 s.0.1 s.1 in
@@ -69,13 +70,13 @@ ReadOrStopped ps r = (r ≡ Ok ps) ⊎ ((¬ HasNoInterfaceTypes ps) × Stopped r
 
 -- a section that is none of interface types is read
 read_plain : (place next : ℕ) (front rest : List ℕ) (p : Payload) → (grammar.section place next).spells front p → IsNoInterface p
-    → measured_at (section_at place next) (front ++ rest) ≡ Ok ((p, length front), rest)
+    → measured_at (section place next).read (front ++ rest) ≡ Ok ((p, length front), rest)
 read_plain place next front rest p is none = (one_agrees place next).again front (p, length front) rest
     (spelled_is_taken place next front p is none, refl)
 
 -- in a section that stops reading stops
 read_stops : (place next : ℕ) (bytes : List ℕ) (w : What) → (grammar.section place next).stops bytes w
-    → measured_at (section_at place next) bytes ≡ Err (Stops w)
+    → measured_at (section place next).read bytes ≡ Err (Stops w)
 read_stops place next bytes w s = (one_agrees place next).stops_again bytes w (stops_taken place next bytes w s)
 
 sections_again : (ps : Module) (k place next : ℕ) (bytes : List ℕ) → SpellsSections place next bytes ps → length bytes ≤ k
@@ -91,7 +92,7 @@ sections_again (p ∷ ps) (suc k) place next bytes (c ∷ cs, back, parts, is, l
     rw parts (first (plain_or_stops place next (c ∷ cs) p is)
     (sections_again ps k (place + length (c ∷ cs)) (next_order next p) back later (omega arith))) where
       rest : ReadOrStopped ps (sections_at k (place + length (c ∷ cs)) (next_order next p) back)
-          → measured_at (section_at place next) (c ∷ (cs ++ back)) ≡ Ok ((p, length (c ∷ cs)), back)
+          → measured_at (section place next).read (c ∷ (cs ++ back)) ≡ Ok ((p, length (c ∷ cs)), back)
           → ReadOrStopped (p ∷ ps) (sections_at (suc k) place next (c ∷ (cs ++ back)))
       rest (inl e) one = inl (rw (one, e) refl)
       rest (inr (some, (w, e))) one = inr (λ none. some (All-tail IsNoInterface p ps none), (w, rw (one, e) refl))
@@ -113,9 +114,9 @@ sections_stopped (suc k) place next [] w e = absurd (ok_not_err [] (Stops w) e)
 sections_stopped zero place next (b ∷ bytes) w e = absurd (bad_not_stops w e)
 sections_stopped (suc k) place next (b ∷ bytes) w e =
     here (λ i m l h. sections_stopped k i m l w h)
-    (step_err (measured_at (section_at place next) (b ∷ bytes)) (later_at k place next) (Stops w) e) where
+    (step_err (measured_at (section place next).read (b ∷ bytes)) (later_at k place next) (Stops w) e) where
       there : ((i m : ℕ) (l : List ℕ) → sections_at k i m l ≡ Err (Stops w) → StopFrom i m l w) → (p : (Payload × ℕ) × List ℕ)
-          → measured_at (section_at place next) (b ∷ bytes) ≡ Ok p
+          → measured_at (section place next).read (b ∷ bytes) ≡ Ok p
           → ((sections_at k (place + p.0.1) (next_order next p.0.0) p.1 ≡ Err (Stops w))
           ⊎ ((ps : Module) × (sections_at k (place + p.0.1) (next_order next p.0.0) p.1 ≡ Ok ps) × (ok (p.0.0 ∷ ps) ≡ Err (Stops w))))
           → StopFrom place next (b ∷ bytes) w
@@ -137,8 +138,8 @@ sections_stopped (suc k) place next (b ∷ bytes) w e =
           }
 
       here : ((i m : ℕ) (l : List ℕ) → sections_at k i m l ≡ Err (Stops w) → StopFrom i m l w)
-          → ((measured_at (section_at place next) (b ∷ bytes) ≡ Err (Stops w))
-          ⊎ ((p : (Payload × ℕ) × List ℕ) × (measured_at (section_at place next) (b ∷ bytes) ≡ Ok p)
+          → ((measured_at (section place next).read (b ∷ bytes) ≡ Err (Stops w))
+          ⊎ ((p : (Payload × ℕ) × List ℕ) × (measured_at (section place next).read (b ∷ bytes) ≡ Ok p)
           × (later_at k place next p ≡ Err (Stops w)))) → StopFrom place next (b ∷ bytes) w
       here ih (inl h) =
           let stops : (grammar.section (place + 0) next).stops (b ∷ bytes) w = let P : ℕ
@@ -172,7 +173,7 @@ sections_stop_again (p ∷ ps) (suc k) place next front back w (c ∷ f, b, part
     rw all (first (plain_or_stops place next (c ∷ f) p is)
     (sections_stop_again ps k (place + length (c ∷ f)) (next_order next p) b back w later stops (omega arith))) where
       rest : Stopped (sections_at k (place + length (c ∷ f)) (next_order next p) (b ++ back))
-          → measured_at (section_at place next) (c ∷ (f ++ (b ++ back))) ≡ Ok ((p, length (c ∷ f)), b ++ back)
+          → measured_at (section place next).read (c ∷ (f ++ (b ++ back))) ≡ Ok ((p, length (c ∷ f)), b ++ back)
           → Stopped (sections_at (suc k) place next (c ∷ (f ++ (b ++ back))))
       rest (v, e) one = (v, rw (one, e) refl)
 

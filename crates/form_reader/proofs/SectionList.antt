@@ -7,8 +7,9 @@ use Rattle.wasm_spec.specs.Module.{Payload}
 use Rattle.wasm_spec.specs.Grammar as grammar
 use Rattle.wasm_spec.specs.Grammar.{next_order}
 use Rattle.form_reader.specs.Reading.{and_then, Fails, Fault, Bad, Stops}
-use Rattle.form_reader.specs.ReadingSections.{section_at, sections_at, all_sections_at}
-use Rattle.form_reader.proofs.ContentLaws.{section_agrees, taken_spells}
+use Rattle.form_reader.specs.SectionRows.{section}
+use Rattle.form_reader.specs.ReadingSections.{sections_at, all_sections_at}
+use Rattle.form_reader.proofs.ContentLaws.{taken_spells}
 
 -- ---- the loop
 
@@ -28,10 +29,10 @@ all_so_far (Err fault) = refl
 
 -- ---- as many steps as there are bytes are enough
 
-pub section_shortens : (place next : ℕ) (bytes : List ℕ) (p : Payload) (rest : List ℕ) → section_at place next bytes ≡ Ok (p, rest)
+pub section_shortens : (place next : ℕ) (bytes : List ℕ) (p : Payload) (rest : List ℕ) → (section place next).read bytes ≡ Ok (p, rest)
     → length rest < length bytes
 section_shortens place next bytes p rest e = by_front
-    (let f = (section_agrees place next).found bytes p rest e in (f.0, f.1, (taken_spells place next f.0 p f.2).0)) where
+    (let f = (section place next).agrees.found bytes p rest e in (f.0, f.1, (taken_spells place next f.0 p f.2).0)) where
       by_front : ((front : List ℕ) × (bytes ≡ front ++ rest) × (grammar.section place next).spells front p) → length rest < length bytes
       by_front ([], parts, is) = absurd is
       by_front (c ∷ front, parts, is) = let long : length bytes ≡ suc (length front + length rest) =
@@ -60,11 +61,11 @@ same_steps (suc j) (suc k) place next [] l m = refl
 same_steps zero (suc k) place next (b ∷ bytes) l m = absurd (omega arith)
 same_steps (suc j) zero place next (b ∷ bytes) l m = absurd (omega arith)
 same_steps (suc j) (suc k) place next (b ∷ bytes) l m =
-    measured_then (section_at place next (b ∷ bytes)) (length (b ∷ bytes)) (λ p. others j place next p.0.1 (p.0.0, p.1))
-    ∙ later (λ i n rest s t. same_steps j k i n rest s t) (section_at place next (b ∷ bytes)) refl
-    ∙ sym (measured_then (section_at place next (b ∷ bytes)) (length (b ∷ bytes)) (λ p. others k place next p.0.1 (p.0.0, p.1))) where
+    measured_then ((section place next).read (b ∷ bytes)) (length (b ∷ bytes)) (λ p. others j place next p.0.1 (p.0.0, p.1))
+    ∙ later (λ i n rest s t. same_steps j k i n rest s t) ((section place next).read (b ∷ bytes)) refl
+    ∙ sym (measured_then ((section place next).read (b ∷ bytes)) (length (b ∷ bytes)) (λ p. others k place next p.0.1 (p.0.0, p.1))) where
       later : ((i n : ℕ) (rest : List ℕ) → length rest ≤ j → length rest ≤ k → sections_at j i n rest ≡ sections_at k i n rest)
-          → (r : Result (Payload × List ℕ) Fault) → section_at place next (b ∷ bytes) ≡ r
+          → (r : Result (Payload × List ℕ) Fault) → (section place next).read (b ∷ bytes) ≡ r
           → and_then r (after_some j place next (b ∷ bytes)) ≡ and_then r (after_some k place next (b ∷ bytes))
       later ih (Err fault) e = refl
       later ih (Ok p) e =
@@ -78,13 +79,13 @@ all_others : ℕ → ℕ → List ℕ → Payload × List ℕ → Result (List P
 all_others place next bytes p = and_then (all_sections_at (place + (length bytes - length p.1)) (next_order next p.0) p.1) (λ ps. Ok (p.0 ∷ ps))
 
 first_step : (place next : ℕ) (bytes : List ℕ) → (length bytes ≡ 0 → ⊥)
-    → all_sections_at place next bytes ≡ and_then (section_at place next bytes) (all_others place next bytes)
+    → all_sections_at place next bytes ≡ and_then ((section place next).read bytes) (all_others place next bytes)
 unfolding sections_at all_others
 first_step place next [] some = absurd (some refl)
 first_step place next (c ∷ bytes) some =
-    measured_then (section_at place next (c ∷ bytes)) (length (c ∷ bytes)) (λ p. others (length bytes) place next p.0.1 (p.0.0, p.1))
-    ∙ later (section_at place next (c ∷ bytes)) refl where
-      later : (r : Result (Payload × List ℕ) Fault) → section_at place next (c ∷ bytes) ≡ r
+    measured_then ((section place next).read (c ∷ bytes)) (length (c ∷ bytes)) (λ p. others (length bytes) place next p.0.1 (p.0.0, p.1))
+    ∙ later ((section place next).read (c ∷ bytes)) refl where
+      later : (r : Result (Payload × List ℕ) Fault) → (section place next).read (c ∷ bytes) ≡ r
           → and_then r (after_some (length bytes) place next (c ∷ bytes)) ≡ and_then r (all_others place next (c ∷ bytes))
       later (Err fault) e = refl
       later (Ok p) e =
@@ -100,17 +101,17 @@ module _ (front : List Payload) (place next : ℕ) (bytes : List ℕ) (total : R
   unfolding sections_at
   section_end none = sym so_far ∙ rw (nil_from_length bytes none) (ap (λ (ps : List Payload). Ok ps) (append-nil front))
 
-  pub section_more : (p : Payload) (rest : List ℕ) → (length bytes ≡ 0 → ⊥) → section_at place next bytes ≡ Ok (p, rest)
+  pub section_more : (p : Payload) (rest : List ℕ) → (length bytes ≡ 0 → ⊥) → (section place next).read bytes ≡ Ok (p, rest)
       → with_payloads (front ++ p ∷ []) (all_sections_at (place + (length bytes - length rest)) (next_order next p) rest) ≡ total
   unfolding all_others
   section_more p rest some h =
       sym (regroup front p (all_sections_at (place + (length bytes - length rest)) (next_order next p) rest))
       ∙ sym (ap (with_payloads front) (first_step place next bytes some ∙ rw h refl)) ∙ so_far
 
-  section_stays : (fault : Fault) → (length bytes ≡ 0 → ⊥) → section_at place next bytes ≡ Err fault → total ≡ Err fault
+  section_stays : (fault : Fault) → (length bytes ≡ 0 → ⊥) → (section place next).read bytes ≡ Err fault → total ≡ Err fault
   section_stays fault some h = sym so_far ∙ rw (first_step place next bytes some, h) refl
 
-  pub section_fails : (error : ReadError) → (length bytes ≡ 0 → ⊥) → Fails error (section_at place next bytes) → Fails error total
+  pub section_fails : (error : ReadError) → (length bytes ≡ 0 → ⊥) → Fails error ((section place next).read bytes) → Fails error total
   section_fails errors.OutOfMemory some h = tt
   section_fails errors.TooLarge some h = h
   section_fails errors.Malformed some h = section_stays Bad some h

@@ -1,8 +1,13 @@
+pub mod Agrees
+pub mod EntryRows
+pub mod ExpressionLaws
+pub mod ExpressionRows
+pub mod MadeLaws
+pub mod NumberLaws
 pub mod Outcomes
 pub mod Reading
 pub mod ReadingNumbers
-pub mod ReadingTypes
-pub mod ReadingExpressions
-pub mod ReadingEntries
 pub mod ReadingSections
-pub mod ReadingVectors
+pub mod Rows
+pub mod SectionRows
+pub mod TypeRows

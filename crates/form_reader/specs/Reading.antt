@@ -17,6 +17,11 @@ Reader A = List ℕ → Result (A × List ℕ) Fault
 abbrev pub Filler : Type 0 → Type 0
 Filler A = List ℕ → Result A Fault
 
+-- the first byte, and the bytes after it
+abbrev pub uncons : List ℕ → Option (ℕ × List ℕ)
+uncons [] = None
+uncons (b ∷ bytes) = Some (b, bytes)
+
 -- ---- what a function returned
 
 -- the error is the fault, or memory ran out
@@ -30,6 +35,15 @@ Fails errors.OutOfMemory read = Unit {0}
 abbrev pub Gives : {A B : Type 0} → (A → B) → Result A ReadError → Result B Fault → Type 0
 Gives view (Ok x) read = read ≡ Ok (view x)
 Gives view (Err e) read = Fails e read
+
+-- what a function returned that read from the old bytes and left the new ones
+abbrev pub Reads : {A B : Type 0} → Reader B → (A → B) → List ℕ → List ℕ → Result A ReadError → Type 0
+Reads read view old new result = Gives (λ x. (view x, new)) result (read old)
+
+-- the first byte was read
+abbrev pub ByteRead : List ℕ → List ℕ → Result ℕ ReadError → Type 0
+ByteRead old new (Ok b) = Some (b, new) ≡ uncons old
+ByteRead old new (Err e) = (e ≡ errors.Malformed) × (None ≡ uncons old)
 
 -- ---- the least readers
 
@@ -80,11 +94,6 @@ optional_at test p = choose_at test (p >>= λ x. gives_at (Some x)) (gives_at No
 
 abbrev pub checked_at : {A : Type 0} → (A → Bool) → Reader A → Reader A
 checked_at test p bytes = and_then (p bytes) (λ x. if test x.0 then Ok x else Err Bad)
-
--- the first byte, and the bytes after it
-abbrev pub uncons : List ℕ → Option (ℕ × List ℕ)
-uncons [] = None
-uncons (b ∷ bytes) = Some (b, bytes)
 
 abbrev pub after_byte : {A : Type 0} → (ℕ → Reader A) → Option (ℕ × List ℕ) → Result (A × List ℕ) Fault
 after_byte part None = Err Bad

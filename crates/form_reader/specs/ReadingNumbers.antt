@@ -1,10 +1,11 @@
 -- Reading of numbers, and of what they count.
 use Rattle.std.specs.Prelude.{ℕ, ℤ, pos, zero, suc, ◌-◌, ◌^◌, ◌%◌, ◌-ℤ◌, neg_ℤ, List, [], ◌∷◌, length, Option, Some, None, Result, Ok, Err, nat_lt, nat_le, int_le, int_lt, ◌&&◌, if◌then◌else◌}
 use Rattle.std.specs.Option.{option_map}
+use Rattle.std.specs.Str.{is_utf8}
 use Rattle.wasm_spec.specs.Numbers.{sevens, last_or, most_bytes}
 use Rattle.form_reader.specs.declared.numbers.Sevens.{Sevens}
 use Rattle.form_reader.specs.declared.numbers.WideSevens.{WideSevens}
-use Rattle.form_reader.specs.Reading.{Fault, Bad, Reader, Filler, ◌>>=◌, and_then, elements_at, raw_bytes_at}
+use Rattle.form_reader.specs.Reading.{Fault, Bad, Reader, Filler, ◌>>=◌, and_then, checked_at, elements_at, raw_bytes_at}
 
 -- the bytes up to the first below 128, where that is among the first k, and the rest
 abbrev pub number_bytes : ℕ → List ℕ → Option (List ℕ × List ℕ)
@@ -66,6 +67,10 @@ vector_at part = unsigned_at 32 >>= λ count. elements_at part count
 
 unfoldable pub counted_bytes_at : Reader (List ℕ)
 counted_bytes_at = unsigned_at 32 >>= λ count. raw_bytes_at count
+
+-- a name is text
+unfoldable pub name_at : Reader (List ℕ)
+name_at = checked_at is_utf8 counted_bytes_at
 
 -- contents that fill the bytes that a size counts
 unfoldable pub sized_at : {A : Type 0} → Filler A → Reader A

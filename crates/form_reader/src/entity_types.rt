@@ -1,47 +1,63 @@
 //! Table, global and tag types (core specification, 5.3, table, global and tag types).
 
-ghost use Rattle.std.specs.Prelude.{◌≡◌};
-ghost use Rattle.form_reader.specs.Reading.{Gives};
-ghost use Rattle.form_reader.specs.ReadingTypes.{table_type_at, global_type_at, tag_type_at};
+ghost use Rattle.std.specs.Prelude.{◌≡◌, ℕ};
+ghost use Rattle.form_reader.specs.Reading.{Reads};
+ghost use Rattle.form_reader.specs.TypeRows.{table_type, global_type, tag_type};
 
+use crate::cursor::Cursor;
 use crate::error::ReadError;
-use crate::fields::mutability;
-use crate::limits::table_limits;
-use crate::numbers::{first_byte, u32_at};
-use crate::value_types::{reference_type, value_type};
+use crate::vectors::Entry;
 use std::alloc::Global;
 use wasm_spec::{GlobalType, TableType};
 
-/// A table type.
-#[tactic(auto, unfolding(crate::specs::ReadingTypes::table_type_at))]
-pub fn table_type(bytes: &[u8]) -> Result<(TableType, &[u8]), ReadError>
-    ensures { Gives (λ x. (x.0, x.1.now)) result (table_type_at bytes.now) }
-{
-    let (element_type, rest) = reference_type(bytes)?;
-    table_limits(element_type, rest)
+/// A tag type, which is the index of its function type.
+pub struct TagType;
+
+impl<'d> Entry<'d> for TagType {
+    type Value = u32;
+
+    ghost Seen = { ℕ };
+
+    ghost form = { tag_type.read };
+
+    ghost view = { λ x. x };
+
+    fn read(_alloc: Global, cursor: &mut Cursor<'d>) -> Result<u32, ReadError> {
+        cursor.tag_type()
+    }
 }
 
-/// A global type.
-#[tactic(auto, unfolding(crate::specs::ReadingTypes::global_type_at))]
-pub fn global_type(alloc: Global, bytes: &[u8]) -> Result<(GlobalType, &[u8]), ReadError>
-    ensures { Gives (λ x. (x.0, x.1.now)) result (global_type_at bytes.now) }
-{
-    let (content_type, rest) = value_type(alloc, bytes)?;
-    let (mutable, rest) = mutability(rest)?;
-    let global_type = GlobalType {
-        content_type,
-        mutable,
-    };
-    Ok((global_type, rest))
-}
+impl<'d> Cursor<'d> {
+    /// A table type.
+    #[tactic(auto, unfolding(crate::specs::TypeRows::table_type))]
+    pub fn table_type(&mut self) -> Result<TableType, ReadError>
+        ensures { Reads table_type.read (λ x. x) self.old.rest.now self.new.rest.now result }
+    {
+        let element_type = self.reference_type()?;
+        self.table_limits(element_type)
+    }
 
-/// A tag type: the index of its function type. `_alloc` is unused: `vector` gives the allocator to every reader of elements.
-#[tactic(auto, unfolding(crate::specs::ReadingTypes::tag_type_at))]
-pub fn tag_type(_alloc: Global, bytes: &[u8]) -> Result<(u32, &[u8]), ReadError>
-    ensures { Gives (λ x. (x.0, x.1.now)) result (tag_type_at bytes.now) }
-{
-    match first_byte(bytes) {
-        Some((0, rest)) => u32_at(rest),
-        _ => Err(ReadError::Malformed),
+    /// A global type.
+    #[tactic(auto, unfolding(crate::specs::TypeRows::global_type))]
+    pub fn global_type(&mut self) -> Result<GlobalType, ReadError>
+        ensures { Reads global_type.read (λ x. x) self.old.rest.now self.new.rest.now result }
+    {
+        let content_type = self.value_type()?;
+        let mutable = self.mutability()?;
+        Ok(GlobalType {
+            content_type,
+            mutable,
+        })
+    }
+
+    /// A tag type.
+    #[tactic(auto, unfolding(crate::specs::TypeRows::tag_type))]
+    pub fn tag_type(&mut self) -> Result<u32, ReadError>
+        ensures { Reads tag_type.read (λ x. x) self.old.rest.now self.new.rest.now result }
+    {
+        match self.byte()? {
+            0 => self.u32(),
+            _ => Err(ReadError::Malformed),
+        }
     }
 }

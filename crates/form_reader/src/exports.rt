@@ -1,51 +1,48 @@
 //! Exports (core specification, 5.5, export section).
 
-ghost use Rattle.std.specs.Prelude.{map};
+ghost use Rattle.wasm_spec.specs.Module as plain;
 ghost use Rattle.form_data.specs.Views.{export_of};
-ghost use Rattle.form_reader.specs.Reading.{Gives};
-ghost use Rattle.form_reader.specs.ReadingEntries.{external_kind_at, export_entry_at};
-ghost use Rattle.form_reader.specs.ReadingSections.{all_entries_at};
+ghost use Rattle.form_reader.specs.Reading.{Reads};
+ghost use Rattle.form_reader.specs.EntryRows.{external_kind, export_entry};
 
+use crate::cursor::Cursor;
 use crate::error::ReadError;
-use crate::names::name;
-use crate::numbers::{first_byte, u32_at};
-use crate::vectors::entries;
+use crate::vectors::Entry;
 use form_data::Export;
 use std::alloc::Global;
 use wasm_spec::ExternalKind;
 
-/// The kind of what is exported.
-#[tactic(auto, unfolding(crate::specs::ReadingEntries::external_kind_at))]
-fn external_kind(bytes: &[u8]) -> Result<(ExternalKind, &[u8]), ReadError>
-    ensures { Gives (λ x. (x.0, x.1.now)) result (external_kind_at bytes.now) }
-{
-    let Some((kind, rest)) = first_byte(bytes) else {
-        return Err(ReadError::Malformed);
-    };
-    match kind {
-        0x00 => Ok((ExternalKind::Func, rest)),
-        0x01 => Ok((ExternalKind::Table, rest)),
-        0x02 => Ok((ExternalKind::Memory, rest)),
-        0x03 => Ok((ExternalKind::Global, rest)),
-        0x04 => Ok((ExternalKind::Tag, rest)),
-        _ => Err(ReadError::Malformed),
+impl<'d> Entry<'d> for Export<'d> {
+    type Value = Export<'d>;
+
+    ghost Seen = { plain.Export };
+
+    ghost form = { export_entry.read };
+
+    ghost view = { export_of };
+
+    #[tactic(auto, unfolding(crate::specs::EntryRows::export_entry))]
+    fn read(_alloc: Global, cursor: &mut Cursor<'d>) -> Result<Export<'d>, ReadError> {
+        let name = cursor.name()?;
+        let kind = cursor.external_kind()?;
+        let index = cursor.u32()?;
+        Ok(Export { name, kind, index })
     }
 }
 
-/// An export. `_alloc` is unused: `vector` gives the allocator to every reader of elements.
-#[tactic(auto, unfolding(crate::specs::ReadingEntries::export_entry_at))]
-fn export<'d>(_alloc: Global, bytes: &'d [u8]) -> Result<(Export<'d>, &'d [u8]), ReadError>
-    ensures { Gives (λ x. (export_of x.0, x.1.now)) result (export_entry_at bytes.now) }
-{
-    let (name, rest) = name(bytes)?;
-    let (kind, rest) = external_kind(rest)?;
-    let (index, rest) = u32_at(rest)?;
-    Ok((Export { name, kind, index }, rest))
-}
-
-/// The exports that fill a section.
-pub fn exports<'d>(alloc: Global, bytes: &'d [u8]) -> Result<(Vec<Export<'d>>, &'d [u8]), ReadError>
-    ensures { Gives (λ x. (map export_of x.0.items, x.1.now)) result (all_entries_at export_entry_at bytes.now) }
-{
-    entries(alloc, bytes, export)
+impl<'d> Cursor<'d> {
+    /// The kind of what is exported.
+    #[tactic(auto, unfolding(crate::specs::EntryRows::external_kind))]
+    fn external_kind(&mut self) -> Result<ExternalKind, ReadError>
+        ensures { Reads external_kind.read (λ x. x) self.old.rest.now self.new.rest.now result }
+    {
+        match self.byte()? {
+            0x00 => Ok(ExternalKind::Func),
+            0x01 => Ok(ExternalKind::Table),
+            0x02 => Ok(ExternalKind::Memory),
+            0x03 => Ok(ExternalKind::Global),
+            0x04 => Ok(ExternalKind::Tag),
+            _ => Err(ReadError::Malformed),
+        }
+    }
 }

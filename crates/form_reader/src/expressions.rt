@@ -1,39 +1,48 @@
 //! Constant expressions (core specification, 5.4, expressions).
 
-ghost use Rattle.std.specs.Prelude.{map};
+ghost use Rattle.wasm_spec.specs.Module as plain;
 ghost use Rattle.form_data.specs.Views.{expression_of};
-ghost use Rattle.form_reader.specs.Reading.{Gives};
-ghost use Rattle.form_reader.specs.ReadingNumbers.{vector_at};
-ghost use Rattle.form_reader.specs.ReadingExpressions.{expression_at};
+ghost use Rattle.form_reader.specs.Reading.{Reads};
+ghost use Rattle.form_reader.specs.ExpressionLaws.{expression_at};
 
+use crate::cursor::Cursor;
 use crate::error::ReadError;
-use crate::numbers::first_byte;
-use crate::operators::{END, operator};
-use crate::vectors::vector;
+use crate::operators::END;
+use crate::vectors::Entry;
 use form_data::ConstExpr;
 use std::alloc::Global;
 
-/// The operators up to the end mark.
-pub fn expression(alloc: Global, bytes: &[u8]) -> Result<(ConstExpr, &[u8]), ReadError>
-    ensures { Gives (λ x. (expression_of x.0, x.1.now)) result (expression_at bytes.now) }
-{
-    // Most expressions are one operator.
-    let mut ops = Vec::with_capacity(alloc, 1)?;
-    let mut rest = bytes;
-    while let Some((first, after)) = first_byte(rest) {
-        if first == END {
-            return Ok((ConstExpr { ops }, after));
-        }
-        let (op, after) = operator(first, after)?;
-        ops.push(op)?;
-        rest = after;
+impl<'d> Entry<'d> for ConstExpr {
+    type Value = ConstExpr;
+
+    ghost Seen = { plain.Expression };
+
+    ghost form = { expression_at };
+
+    ghost view = { expression_of };
+
+    fn read(alloc: Global, cursor: &mut Cursor<'d>) -> Result<ConstExpr, ReadError> {
+        cursor.expression(alloc)
     }
-    Err(ReadError::Malformed)
 }
 
-/// A count, and that many expressions.
-pub fn expressions(alloc: Global, bytes: &[u8]) -> Result<(Vec<ConstExpr>, &[u8]), ReadError>
-    ensures { Gives (λ x. (map expression_of x.0.items, x.1.now)) result (vector_at expression_at bytes.now) }
-{
-    vector(alloc, bytes, expression)
+impl<'d> Cursor<'d> {
+    /// The operators up to the end mark.
+    pub fn expression(&mut self, alloc: Global) -> Result<ConstExpr, ReadError>
+        ensures { Reads expression_at expression_of self.old.rest.now self.new.rest.now result }
+    {
+        // Most expressions are one operator.
+        let mut ops = Vec::with_capacity(alloc, 1)?;
+        // Each operator takes a byte at least.
+        let most = self.rest.len();
+        'operators: for _ in 0..most {
+            let first = self.byte()?;
+            if first == END {
+                return Ok(ConstExpr { ops });
+            }
+            let op = self.operator(first)?;
+            ops.push(op)?;
+        }
+        Err(ReadError::Malformed)
+    }
 }

@@ -3,6 +3,7 @@
 
 mod code;
 mod contents;
+mod cursor;
 mod elements;
 mod entity_types;
 mod error;
@@ -14,14 +15,12 @@ mod imports;
 mod laws;
 mod limits;
 mod module;
-mod names;
 mod numbers;
 mod operators;
 mod sections;
 mod segments;
 mod tables;
 mod type_groups;
-mod type_lists;
 mod value_types;
 mod vectors;
 

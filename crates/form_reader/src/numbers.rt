@@ -2,9 +2,10 @@
 
 ghost use Rattle.std.specs.Prelude.{◌≡◌, ◌≤◌, ◌<◌, ◌^◌, IfSome};
 ghost use Rattle.std.specs.Option.{option_map};
-ghost use Rattle.form_reader.specs.Reading.{Gives, uncons};
+ghost use Rattle.form_reader.specs.Reading.{Reads, uncons};
 ghost use Rattle.form_reader.specs.ReadingNumbers.{unsigned_at, signed_at, non_negative_at, signed_of, found_at, sevens_of, wide_sevens_of};
 
+use crate::cursor::Cursor;
 use crate::error::ReadError;
 
 /// The most bytes of a number of 32 bits.
@@ -33,7 +34,7 @@ pub struct WideSevens {
 
 /// The first byte, and the bytes after it.
 #[inline]
-pub fn first_byte(bytes: &[u8]) -> Option<(u8, &[u8])>
+fn first_byte(bytes: &[u8]) -> Option<(u8, &[u8])>
     ensures { option_map (λ x. (x.0, x.1.now)) result ≡ uncons bytes.now }
 {
     match bytes {
@@ -88,32 +89,6 @@ fn wide_sevens_at(bytes: &[u8]) -> Option<(WideSevens, &[u8])>
     None
 }
 
-#[tactic(auto, unfolding(crate::specs::ReadingNumbers::unsigned_at))]
-fn long_u32_at(bytes: &[u8]) -> Result<(u32, &[u8]), ReadError>
-    ensures { Gives (λ x. (x.0, x.1.now)) result (unsigned_at 32 bytes.now) }
-{
-    let Some((found, rest)) = sevens_at(bytes) else {
-        return Err(ReadError::Malformed);
-    };
-    match u32::try_from(found.sum) {
-        Ok(number) => Ok((number, rest)),
-        Err(_) => Err(ReadError::Malformed),
-    }
-}
-
-#[tactic(auto, unfolding(crate::specs::ReadingNumbers::unsigned_at))]
-fn long_u64_at(bytes: &[u8]) -> Result<(u64, &[u8]), ReadError>
-    ensures { Gives (λ x. (x.0, x.1.now)) result (unsigned_at 64 bytes.now) }
-{
-    let Some((found, rest)) = wide_sevens_at(bytes) else {
-        return Err(ReadError::Malformed);
-    };
-    match u64::try_from(found.sum) {
-        Ok(number) => Ok((number, rest)),
-        Err(_) => Err(ReadError::Malformed),
-    }
-}
-
 /// The number that the bytes spell where it is signed: bit 6 of the last byte is its sign.
 fn signed(found: &Sevens) -> i64
     requires below { found.now.sum < found.now.weight }
@@ -142,101 +117,149 @@ fn wide_signed(found: &WideSevens) -> i128
     }
 }
 
-#[tactic(auto, unfolding(crate::specs::ReadingNumbers::signed_at))]
-fn long_s32_at(bytes: &[u8]) -> Result<(i32, &[u8]), ReadError>
-    ensures { Gives (λ x. (x.0, x.1.now)) result (signed_at 32 bytes.now) }
-{
-    let Some((found, rest)) = sevens_at(bytes) else {
-        return Err(ReadError::Malformed);
-    };
-    match i32::try_from(signed(&found)) {
-        Ok(number) => Ok((number, rest)),
-        Err(_) => Err(ReadError::Malformed),
+impl<'d> Cursor<'d> {
+    #[tactic(auto, unfolding(crate::specs::ReadingNumbers::unsigned_at))]
+    fn long_u32(&mut self) -> Result<u32, ReadError>
+        ensures { Reads (unsigned_at 32) (λ x. x) self.old.rest.now self.new.rest.now result }
+    {
+        let Some((found, rest)) = sevens_at(self.rest) else {
+            return Err(ReadError::Malformed);
+        };
+        self.rest = rest;
+        match u32::try_from(found.sum) {
+            Ok(number) => Ok(number),
+            Err(_) => Err(ReadError::Malformed),
+        }
     }
-}
 
-#[tactic(auto, unfolding(crate::specs::ReadingNumbers::signed_at))]
-fn long_s64_at(bytes: &[u8]) -> Result<(i64, &[u8]), ReadError>
-    ensures { Gives (λ x. (x.0, x.1.now)) result (signed_at 64 bytes.now) }
-{
-    let Some((found, rest)) = wide_sevens_at(bytes) else {
-        return Err(ReadError::Malformed);
-    };
-    match i64::try_from(wide_signed(&found)) {
-        Ok(number) => Ok((number, rest)),
-        Err(_) => Err(ReadError::Malformed),
+    #[tactic(auto, unfolding(crate::specs::ReadingNumbers::unsigned_at))]
+    fn long_u64(&mut self) -> Result<u64, ReadError>
+        ensures { Reads (unsigned_at 64) (λ x. x) self.old.rest.now self.new.rest.now result }
+    {
+        let Some((found, rest)) = wide_sevens_at(self.rest) else {
+            return Err(ReadError::Malformed);
+        };
+        self.rest = rest;
+        match u64::try_from(found.sum) {
+            Ok(number) => Ok(number),
+            Err(_) => Err(ReadError::Malformed),
+        }
     }
-}
 
-/// A signed number of 33 bits that is not negative, and so below 2^32: bit 6 of the last byte is its sign.
-#[tactic(auto, unfolding(crate::specs::ReadingNumbers::non_negative_at))]
-fn long_non_negative_s33_at(bytes: &[u8]) -> Result<(u32, &[u8]), ReadError>
-    ensures { Gives (λ x. (x.0, x.1.now)) result (non_negative_at 33 bytes.now) }
-{
-    let Some((found, rest)) = sevens_at(bytes) else {
-        return Err(ReadError::Malformed);
-    };
-    let is_negative = found.last % 128 >= 64;
-    if is_negative {
-        return Err(ReadError::Malformed);
+    #[tactic(auto, unfolding(crate::specs::ReadingNumbers::signed_at))]
+    fn long_s32(&mut self) -> Result<i32, ReadError>
+        ensures { Reads (signed_at 32) (λ x. x) self.old.rest.now self.new.rest.now result }
+    {
+        let Some((found, rest)) = sevens_at(self.rest) else {
+            return Err(ReadError::Malformed);
+        };
+        self.rest = rest;
+        match i32::try_from(signed(&found)) {
+            Ok(number) => Ok(number),
+            Err(_) => Err(ReadError::Malformed),
+        }
     }
-    match u32::try_from(found.sum) {
-        Ok(number) => Ok((number, rest)),
-        Err(_) => Err(ReadError::Malformed),
-    }
-}
 
-/// An unsigned number of 32 bits. Most numbers have one byte, so that has a path of its own.
-#[inline]
-pub fn u32_at(bytes: &[u8]) -> Result<(u32, &[u8]), ReadError>
-    ensures { Gives (λ x. (x.0, x.1.now)) result (unsigned_at 32 bytes.now) }
-{
-    match first_byte(bytes) {
-        Some((byte, rest)) if byte < 128 => Ok((u32::from(byte), rest)),
-        _ => long_u32_at(bytes),
+    #[tactic(auto, unfolding(crate::specs::ReadingNumbers::signed_at))]
+    fn long_s64(&mut self) -> Result<i64, ReadError>
+        ensures { Reads (signed_at 64) (λ x. x) self.old.rest.now self.new.rest.now result }
+    {
+        let Some((found, rest)) = wide_sevens_at(self.rest) else {
+            return Err(ReadError::Malformed);
+        };
+        self.rest = rest;
+        match i64::try_from(wide_signed(&found)) {
+            Ok(number) => Ok(number),
+            Err(_) => Err(ReadError::Malformed),
+        }
     }
-}
 
-/// An unsigned number of 64 bits.
-#[inline]
-pub fn u64_at(bytes: &[u8]) -> Result<(u64, &[u8]), ReadError>
-    ensures { Gives (λ x. (x.0, x.1.now)) result (unsigned_at 64 bytes.now) }
-{
-    match first_byte(bytes) {
-        Some((byte, rest)) if byte < 128 => Ok((u64::from(byte), rest)),
-        _ => long_u64_at(bytes),
+    /// A signed number of 33 bits that is not negative, and so below 2^32: bit 6 of the last byte is its sign.
+    #[tactic(auto, unfolding(crate::specs::ReadingNumbers::non_negative_at))]
+    fn long_non_negative_s33(&mut self) -> Result<u32, ReadError>
+        ensures { Reads (non_negative_at 33) (λ x. x) self.old.rest.now self.new.rest.now result }
+    {
+        let Some((found, rest)) = sevens_at(self.rest) else {
+            return Err(ReadError::Malformed);
+        };
+        self.rest = rest;
+        let is_negative = found.last % 128 >= 64;
+        if is_negative {
+            return Err(ReadError::Malformed);
+        }
+        match u32::try_from(found.sum) {
+            Ok(number) => Ok(number),
+            Err(_) => Err(ReadError::Malformed),
+        }
     }
-}
 
-/// A signed number of 32 bits.
-#[inline]
-pub fn s32_at(bytes: &[u8]) -> Result<(i32, &[u8]), ReadError>
-    ensures { Gives (λ x. (x.0, x.1.now)) result (signed_at 32 bytes.now) }
-{
-    match first_byte(bytes) {
-        Some((byte, rest)) if byte < 64 => Ok((i32::from(byte), rest)),
-        _ => long_s32_at(bytes),
+    /// An unsigned number of 32 bits. Most numbers have one byte, so that has a path of its own.
+    #[inline]
+    pub fn u32(&mut self) -> Result<u32, ReadError>
+        ensures { Reads (unsigned_at 32) (λ x. x) self.old.rest.now self.new.rest.now result }
+    {
+        match first_byte(self.rest) {
+            Some((byte, rest)) if byte < 128 => {
+                self.rest = rest;
+                Ok(u32::from(byte))
+            }
+            _ => self.long_u32(),
+        }
     }
-}
 
-/// A signed number of 64 bits.
-#[inline]
-pub fn s64_at(bytes: &[u8]) -> Result<(i64, &[u8]), ReadError>
-    ensures { Gives (λ x. (x.0, x.1.now)) result (signed_at 64 bytes.now) }
-{
-    match first_byte(bytes) {
-        Some((byte, rest)) if byte < 64 => Ok((i64::from(byte), rest)),
-        _ => long_s64_at(bytes),
+    /// An unsigned number of 64 bits.
+    #[inline]
+    pub fn u64(&mut self) -> Result<u64, ReadError>
+        ensures { Reads (unsigned_at 64) (λ x. x) self.old.rest.now self.new.rest.now result }
+    {
+        match first_byte(self.rest) {
+            Some((byte, rest)) if byte < 128 => {
+                self.rest = rest;
+                Ok(u64::from(byte))
+            }
+            _ => self.long_u64(),
+        }
     }
-}
 
-/// A signed number of 33 bits that is not negative, as the indices of heap types are.
-#[inline]
-pub fn non_negative_s33_at(bytes: &[u8]) -> Result<(u32, &[u8]), ReadError>
-    ensures { Gives (λ x. (x.0, x.1.now)) result (non_negative_at 33 bytes.now) }
-{
-    match first_byte(bytes) {
-        Some((byte, rest)) if byte < 64 => Ok((u32::from(byte), rest)),
-        _ => long_non_negative_s33_at(bytes),
+    /// A signed number of 32 bits.
+    #[inline]
+    pub fn s32(&mut self) -> Result<i32, ReadError>
+        ensures { Reads (signed_at 32) (λ x. x) self.old.rest.now self.new.rest.now result }
+    {
+        match first_byte(self.rest) {
+            Some((byte, rest)) if byte < 64 => {
+                self.rest = rest;
+                Ok(i32::from(byte))
+            }
+            _ => self.long_s32(),
+        }
+    }
+
+    /// A signed number of 64 bits.
+    #[inline]
+    pub fn s64(&mut self) -> Result<i64, ReadError>
+        ensures { Reads (signed_at 64) (λ x. x) self.old.rest.now self.new.rest.now result }
+    {
+        match first_byte(self.rest) {
+            Some((byte, rest)) if byte < 64 => {
+                self.rest = rest;
+                Ok(i64::from(byte))
+            }
+            _ => self.long_s64(),
+        }
+    }
+
+    /// A signed number of 33 bits that is not negative, as the indices of heap types are.
+    #[inline]
+    pub fn non_negative_s33(&mut self) -> Result<u32, ReadError>
+        ensures { Reads (non_negative_at 33) (λ x. x) self.old.rest.now self.new.rest.now result }
+    {
+        match first_byte(self.rest) {
+            Some((byte, rest)) if byte < 64 => {
+                self.rest = rest;
+                Ok(u32::from(byte))
+            }
+            _ => self.long_non_negative_s33(),
+        }
     }
 }

@@ -3,12 +3,12 @@
 ghost use Rattle.std.specs.Prelude.{◌≡◌, ◌+◌, ◌<◌, ◌^◌, length, map};
 ghost use Rattle.wasm_spec.specs.Grammar.{order_of as spec_order_of, section_id as spec_section_id, next_order as spec_next_order};
 ghost use Rattle.form_data.specs.Views.{payload_of};
-ghost use Rattle.form_reader.specs.Reading.{Gives};
-ghost use Rattle.form_reader.specs.ReadingSections.{section_at, all_sections_at};
+ghost use Rattle.form_reader.specs.Reading.{Gives, Reads};
+ghost use Rattle.form_reader.specs.ReadingSections.{all_sections_at};
+ghost use Rattle.form_reader.specs.SectionRows.{section};
 
-use crate::contents::{custom, section_contents};
+use crate::cursor::Cursor;
 use crate::error::ReadError;
-use crate::numbers::first_byte;
 use form_data::Payload;
 use std::alloc::Global;
 
@@ -57,26 +57,26 @@ fn next_order(next: usize, payload: &Payload<'_>) -> usize
     }
 }
 
-/// A section that stands at a place of the input, where the next one has at least the order `next`.
-#[tactic(auto, unfolding(crate::specs::ReadingSections::section_at))]
-fn section<'d>(
-    alloc: Global,
-    place: usize,
-    next: usize,
-    bytes: &'d [u8],
-) -> Result<(Payload<'d>, &'d [u8]), ReadError>
-    requires { place + length bytes.now < 2 ^ 30 }
-    ensures { Gives (λ x. (payload_of x.0, x.1.now)) result (section_at place next bytes.now) }
-{
-    let Some((id, rest)) = first_byte(bytes) else {
-        return Err(ReadError::Malformed);
-    };
-    if id == CUSTOM {
-        return custom(rest);
-    }
-    match order_of(id) {
-        Some(order) if next <= order => section_contents(alloc, place + 1, id, rest),
-        _ => Err(ReadError::Malformed),
+impl<'d> Cursor<'d> {
+    /// A section that stands at a place of the input, where the next one has at least the order `next`.
+    #[tactic(auto, unfolding(crate::specs::SectionRows::section))]
+    fn section(
+        &mut self,
+        alloc: Global,
+        place: usize,
+        next: usize,
+    ) -> Result<Payload<'d>, ReadError>
+        requires { place + length self.now.rest.now < 2 ^ 30 }
+        ensures { Reads (section place next).read payload_of self.old.rest.now self.new.rest.now result }
+    {
+        let id = self.byte()?;
+        if id == CUSTOM {
+            return self.custom();
+        }
+        match order_of(id) {
+            Some(order) if next <= order => self.section_contents(alloc, place + 1, id),
+            _ => Err(ReadError::Malformed),
+        }
     }
 }
 
@@ -90,15 +90,15 @@ pub fn sections<'d>(
     ensures { Gives (λ x. map payload_of x.items) result (all_sections_at start 0 bytes.now) }
 {
     let mut payloads = Vec::new(alloc);
-    let mut rest = bytes;
+    let mut cursor = Cursor { rest: bytes };
     let mut place = start;
     let mut next = 0;
-    while !rest.is_empty() {
-        let (payload, after) = section(alloc, place, next, rest)?;
-        place += rest.len() - after.len();
+    'sections: while !cursor.rest.is_empty() {
+        let before = cursor.rest.len();
+        let payload = cursor.section(alloc, place, next)?;
+        place += before - cursor.rest.len();
         next = next_order(next, &payload);
         payloads.push(payload)?;
-        rest = after;
     }
     Ok(payloads)
 }

@@ -1,72 +1,65 @@
 //! Data segments (core specification, 5.5, data section).
 
-ghost use Rattle.std.specs.Prelude.{map};
+ghost use Rattle.wasm_spec.specs.Module as plain;
 ghost use Rattle.form_data.specs.Views.{segment_of};
-ghost use Rattle.form_reader.specs.Reading.{Gives};
-ghost use Rattle.form_reader.specs.ReadingEntries.{active_segment_at, passive_segment_at, data_segment_at};
-ghost use Rattle.form_reader.specs.ReadingSections.{all_entries_at};
+ghost use Rattle.form_reader.specs.Reading.{Reads};
+ghost use Rattle.form_reader.specs.EntryRows.{active_segment, passive_segment, data_segment};
 
+use crate::cursor::Cursor;
 use crate::error::ReadError;
-use crate::expressions::expression;
-use crate::numbers::u32_at;
-use crate::vectors::{counted_bytes, entries};
+use crate::vectors::Entry;
 use form_data::{DataKind, DataSegment};
 use std::alloc::Global;
 
-/// An offset into a memory, and bytes.
-#[tactic(auto, unfolding(crate::specs::ReadingEntries::active_segment_at))]
-fn active_segment<'d>(
-    alloc: Global,
-    memory_index: u32,
-    bytes: &'d [u8],
-) -> Result<(DataSegment<'d>, &'d [u8]), ReadError>
-    ensures { Gives (λ x. (segment_of x.0, x.1.now)) result (active_segment_at memory_index bytes.now) }
-{
-    let (offset, rest) = expression(alloc, bytes)?;
-    let (bytes, rest) = counted_bytes(rest)?;
-    let kind = DataKind::Active {
-        memory_index,
-        offset,
-    };
-    Ok((DataSegment { kind, bytes }, rest))
-}
+impl<'d> Entry<'d> for DataSegment<'d> {
+    type Value = DataSegment<'d>;
 
-/// Bytes that are kept for later.
-#[tactic(auto, unfolding(crate::specs::ReadingEntries::passive_segment_at))]
-fn passive_segment<'d>(bytes: &'d [u8]) -> Result<(DataSegment<'d>, &'d [u8]), ReadError>
-    ensures { Gives (λ x. (segment_of x.0, x.1.now)) result (passive_segment_at bytes.now) }
-{
-    let (bytes, rest) = counted_bytes(bytes)?;
-    let kind = DataKind::Passive;
-    Ok((DataSegment { kind, bytes }, rest))
-}
+    ghost Seen = { plain.Segment };
 
-/// A data segment, after its flag.
-#[tactic(auto, unfolding(crate::specs::ReadingEntries::data_segment_at, crate::specs::ReadingEntries::flagged_segment_at))]
-fn data_segment<'d>(
-    alloc: Global,
-    bytes: &'d [u8],
-) -> Result<(DataSegment<'d>, &'d [u8]), ReadError>
-    ensures { Gives (λ x. (segment_of x.0, x.1.now)) result (data_segment_at bytes.now) }
-{
-    let (flag, rest) = u32_at(bytes)?;
-    match flag {
-        0 => active_segment(alloc, 0, rest),
-        1 => passive_segment(rest),
-        2 => {
-            let (memory_index, rest) = u32_at(rest)?;
-            active_segment(alloc, memory_index, rest)
+    ghost form = { data_segment.read };
+
+    ghost view = { segment_of };
+
+    #[tactic(auto, unfolding(crate::specs::EntryRows::data_segment, crate::specs::EntryRows::flagged_segment))]
+    fn read(alloc: Global, cursor: &mut Cursor<'d>) -> Result<DataSegment<'d>, ReadError> {
+        match cursor.u32()? {
+            0 => cursor.active_segment(alloc, 0),
+            1 => cursor.passive_segment(),
+            2 => {
+                let memory_index = cursor.u32()?;
+                cursor.active_segment(alloc, memory_index)
+            }
+            _ => Err(ReadError::Malformed),
         }
-        _ => Err(ReadError::Malformed),
     }
 }
 
-/// The data segments that fill a section.
-pub fn data_segments<'d>(
-    alloc: Global,
-    bytes: &'d [u8],
-) -> Result<(Vec<DataSegment<'d>>, &'d [u8]), ReadError>
-    ensures { Gives (λ x. (map segment_of x.0.items, x.1.now)) result (all_entries_at data_segment_at bytes.now) }
-{
-    entries(alloc, bytes, data_segment)
+impl<'d> Cursor<'d> {
+    /// An offset into a memory, and bytes.
+    #[tactic(auto, unfolding(crate::specs::EntryRows::active_segment))]
+    fn active_segment(
+        &mut self,
+        alloc: Global,
+        memory_index: u32,
+    ) -> Result<DataSegment<'d>, ReadError>
+        ensures { Reads (active_segment memory_index).read segment_of self.old.rest.now self.new.rest.now result }
+    {
+        let offset = self.expression(alloc)?;
+        let bytes = self.counted_bytes()?;
+        let kind = DataKind::Active {
+            memory_index,
+            offset,
+        };
+        Ok(DataSegment { kind, bytes })
+    }
+
+    /// Bytes that are kept for later.
+    #[tactic(auto, unfolding(crate::specs::EntryRows::passive_segment))]
+    fn passive_segment(&mut self) -> Result<DataSegment<'d>, ReadError>
+        ensures { Reads passive_segment.read segment_of self.old.rest.now self.new.rest.now result }
+    {
+        let bytes = self.counted_bytes()?;
+        let kind = DataKind::Passive;
+        Ok(DataSegment { kind, bytes })
+    }
 }

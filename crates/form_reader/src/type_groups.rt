@@ -1,19 +1,19 @@
 //! Composite types, subtypes and groups (core specification, 5.3, composite and recursive types).
 
-ghost use Rattle.std.specs.Prelude.{◌≡◌, map};
+ghost use Rattle.wasm_spec.specs.declared.types.UnpackedIndex.{UnpackedIndex};
+ghost use Rattle.wasm_spec.specs.TypeData as data_of;
 ghost use Rattle.form_data.specs.Views.{composite_of, sub_type_of, group_of};
-ghost use Rattle.form_reader.specs.Reading.{Gives, first_byte_at};
-ghost use Rattle.form_reader.specs.ReadingNumbers.{vector_at};
-ghost use Rattle.form_reader.specs.ReadingTypes.{function_type_at, composite_after_at, supertype_at, with_supertype_at, sub_type_after_at, group_at};
+ghost use Rattle.form_reader.specs.Reading.{Reads, first_byte_at};
+ghost use Rattle.form_reader.specs.Rows.{first_byte};
+ghost use Rattle.form_reader.specs.TypeRows.{function_type, composite_after, supertype, with_supertype, sub_type_after, group};
 
+use crate::cursor::Cursor;
 use crate::error::ReadError;
-use crate::fields::{field_type, field_types};
-use crate::numbers::{first_byte, non_negative_s33_at, u32_at};
-use crate::value_types::{SHARED, value_types};
-use crate::vectors::vector;
+use crate::value_types::SHARED;
+use crate::vectors::Entry;
 use form_data::{CompositeInnerType, FuncType, RecGroup, SubType};
 use std::alloc::Global;
-use wasm_spec::{UnpackedIndex, What};
+use wasm_spec::{FieldType, UnpackedIndex, ValType, What};
 
 /// The first bytes of composite types.
 const FUNCTION: u8 = 0x60;
@@ -32,132 +32,117 @@ const FINAL: u8 = 0x4F;
 /// The byte before the members of a group.
 const GROUP: u8 = 0x4E;
 
-/// The types of parameters and of results.
-#[tactic(auto, unfolding(crate::specs::ReadingTypes::function_type_at))]
-fn function_type(alloc: Global, bytes: &[u8]) -> Result<(CompositeInnerType, &[u8]), ReadError>
-    ensures { Gives (λ x. (composite_of x.0, x.1.now)) result (function_type_at bytes.now) }
-{
-    let (params, rest) = value_types(alloc, bytes)?;
-    let (results, rest) = value_types(alloc, rest)?;
-    Ok((CompositeInnerType::Func(FuncType { params, results }), rest))
-}
+impl<'d> Entry<'d> for SubType {
+    type Value = SubType;
 
-/// What follows the first byte of a composite type.
-#[tactic(auto, unfolding(crate::specs::ReadingTypes::composite_after_at))]
-fn composite_after(
-    alloc: Global,
-    first: u8,
-    bytes: &[u8],
-) -> Result<(CompositeInnerType, &[u8]), ReadError>
-    ensures { Gives (λ x. (composite_of x.0, x.1.now)) result (composite_after_at first bytes.now) }
-{
-    match first {
-        FUNCTION => function_type(alloc, bytes),
-        STRUCT => {
-            let (fields, rest) = field_types(alloc, bytes)?;
-            Ok((CompositeInnerType::Struct(fields), rest))
-        }
-        ARRAY => {
-            let (field, rest) = field_type(alloc, bytes)?;
-            Ok((CompositeInnerType::Array(field), rest))
-        }
-        CONTINUATION => {
-            let (index, rest) = non_negative_s33_at(bytes)?;
-            Ok((CompositeInnerType::Cont(UnpackedIndex::Module(index)), rest))
-        }
-        SHARED => Err(ReadError::Unsupported(What::Shared)),
-        _ => Err(ReadError::Malformed),
+    ghost Seen = { data_of.SubType UnpackedIndex UnpackedIndex };
+
+    ghost form = { (first_byte sub_type_after).read };
+
+    ghost view = { sub_type_of };
+
+    fn read(alloc: Global, cursor: &mut Cursor<'d>) -> Result<SubType, ReadError> {
+        let first = cursor.byte()?;
+        cursor.sub_type_after(alloc, first)
     }
 }
 
-/// The supertypes of a type, of which there may be one.
-#[tactic(auto, unfolding(crate::specs::ReadingTypes::supertype_at))]
-fn supertype(bytes: &[u8]) -> Result<(Option<UnpackedIndex>, &[u8]), ReadError>
-    ensures { Gives (λ x. (x.0, x.1.now)) result (supertype_at bytes.now) }
-{
-    let (count, rest) = u32_at(bytes)?;
-    match count {
-        0 => Ok((None, rest)),
-        1 => {
-            let (index, rest) = u32_at(rest)?;
-            Ok((Some(UnpackedIndex::Module(index)), rest))
+impl<'d> Entry<'d> for RecGroup {
+    type Value = RecGroup;
+
+    ghost Seen = { data_of.Group UnpackedIndex UnpackedIndex };
+
+    ghost form = { group.read };
+
+    ghost view = { group_of };
+
+    /// A subtype alone, or the members of a group.
+    #[tactic(auto, unfolding(crate::specs::TypeRows::group))]
+    fn read(alloc: Global, cursor: &mut Cursor<'d>) -> Result<RecGroup, ReadError> {
+        let first = cursor.byte()?;
+        if first == GROUP {
+            let types = cursor.vector::<SubType>(alloc)?;
+            return Ok(RecGroup { types });
         }
-        _ => Err(ReadError::Unsupported(What::Supertypes)),
+        let sub_type = cursor.sub_type_after(alloc, first)?;
+        let mut types = Vec::with_capacity(alloc, 1)?;
+        types.push(sub_type)?;
+        Ok(RecGroup { types })
     }
 }
 
-/// The supertypes of a type, and then its composite type.
-#[tactic(auto, unfolding(crate::specs::ReadingTypes::with_supertype_at))]
-fn with_supertype(
-    alloc: Global,
-    is_final: bool,
-    bytes: &[u8],
-) -> Result<(SubType, &[u8]), ReadError>
-    ensures { Gives (λ x. (sub_type_of x.0, x.1.now)) result (with_supertype_at is_final bytes.now) }
-{
-    let (supertype, rest) = supertype(bytes)?;
-    let Some((first, rest)) = first_byte(rest) else {
-        return Err(ReadError::Malformed);
-    };
-    let (composite, rest) = composite_after(alloc, first, rest)?;
-    let sub_type = SubType {
-        is_final,
-        supertype,
-        composite,
-    };
-    Ok((sub_type, rest))
-}
+impl<'d> Cursor<'d> {
+    /// The types of parameters and of results.
+    #[tactic(auto, unfolding(crate::specs::TypeRows::function_type))]
+    fn function_type(&mut self, alloc: Global) -> Result<CompositeInnerType, ReadError>
+        ensures { Reads function_type.read composite_of self.old.rest.now self.new.rest.now result }
+    {
+        let params = self.vector::<ValType>(alloc)?;
+        let results = self.vector::<ValType>(alloc)?;
+        Ok(CompositeInnerType::Func(FuncType { params, results }))
+    }
 
-/// What follows the first byte of a subtype; a composite type alone is final and has no supertype.
-#[tactic(auto, unfolding(crate::specs::ReadingTypes::sub_type_after_at))]
-fn sub_type_after(alloc: Global, first: u8, bytes: &[u8]) -> Result<(SubType, &[u8]), ReadError>
-    ensures { Gives (λ x. (sub_type_of x.0, x.1.now)) result (sub_type_after_at first bytes.now) }
-{
-    match first {
-        OPEN => with_supertype(alloc, false, bytes),
-        FINAL => with_supertype(alloc, true, bytes),
-        _ => {
-            let (composite, rest) = composite_after(alloc, first, bytes)?;
-            let sub_type = SubType {
-                is_final: true,
-                supertype: None,
-                composite,
-            };
-            Ok((sub_type, rest))
+    /// What follows the first byte of a composite type.
+    #[tactic(auto, unfolding(crate::specs::TypeRows::composite_after))]
+    fn composite_after(&mut self, alloc: Global, first: u8) -> Result<CompositeInnerType, ReadError>
+        ensures { Reads (composite_after first).read composite_of self.old.rest.now self.new.rest.now result }
+    {
+        match first {
+            FUNCTION => self.function_type(alloc),
+            STRUCT => Ok(CompositeInnerType::Struct(self.vector::<FieldType>(alloc)?)),
+            ARRAY => Ok(CompositeInnerType::Array(self.field_type()?)),
+            CONTINUATION => {
+                let index = self.non_negative_s33()?;
+                Ok(CompositeInnerType::Cont(UnpackedIndex::Module(index)))
+            }
+            SHARED => Err(ReadError::Unsupported(What::Shared)),
+            _ => Err(ReadError::Malformed),
         }
     }
-}
 
-fn sub_type(alloc: Global, bytes: &[u8]) -> Result<(SubType, &[u8]), ReadError>
-    ensures { Gives (λ x. (sub_type_of x.0, x.1.now)) result (first_byte_at sub_type_after_at bytes.now) }
-{
-    match first_byte(bytes) {
-        Some((first, rest)) => sub_type_after(alloc, first, rest),
-        None => Err(ReadError::Malformed),
+    /// The supertypes of a type, of which there may be one.
+    #[tactic(auto, unfolding(crate::specs::TypeRows::supertype))]
+    fn supertype(&mut self) -> Result<Option<UnpackedIndex>, ReadError>
+        ensures { Reads supertype.read (λ x. x) self.old.rest.now self.new.rest.now result }
+    {
+        match self.u32()? {
+            0 => Ok(None),
+            1 => Ok(Some(UnpackedIndex::Module(self.u32()?))),
+            _ => Err(ReadError::Unsupported(What::Supertypes)),
+        }
     }
-}
 
-/// A count, and that many subtypes.
-fn sub_types(alloc: Global, bytes: &[u8]) -> Result<(Vec<SubType>, &[u8]), ReadError>
-    ensures { Gives (λ x. (map sub_type_of x.0.items, x.1.now)) result (vector_at (first_byte_at sub_type_after_at) bytes.now) }
-{
-    vector(alloc, bytes, sub_type)
-}
-
-/// A subtype alone, or the members of a group.
-#[tactic(auto, unfolding(crate::specs::ReadingTypes::group_at))]
-pub fn group(alloc: Global, bytes: &[u8]) -> Result<(RecGroup, &[u8]), ReadError>
-    ensures { Gives (λ x. (group_of x.0, x.1.now)) result (group_at bytes.now) }
-{
-    let Some((first, rest)) = first_byte(bytes) else {
-        return Err(ReadError::Malformed);
-    };
-    if first == GROUP {
-        let (types, rest) = sub_types(alloc, rest)?;
-        return Ok((RecGroup { types }, rest));
+    /// The supertypes of a type, and then its composite type.
+    #[tactic(auto, unfolding(crate::specs::TypeRows::with_supertype))]
+    fn with_supertype(&mut self, alloc: Global, is_final: bool) -> Result<SubType, ReadError>
+        ensures { Reads (with_supertype is_final).read sub_type_of self.old.rest.now self.new.rest.now result }
+    {
+        let supertype = self.supertype()?;
+        let first = self.byte()?;
+        let composite = self.composite_after(alloc, first)?;
+        Ok(SubType {
+            is_final,
+            supertype,
+            composite,
+        })
     }
-    let (sub_type, rest) = sub_type_after(alloc, first, rest)?;
-    let mut types = Vec::with_capacity(alloc, 1)?;
-    types.push(sub_type)?;
-    Ok((RecGroup { types }, rest))
+
+    /// What follows the first byte of a subtype; a composite type alone is final and has no supertype.
+    #[tactic(auto, unfolding(crate::specs::TypeRows::sub_type_after))]
+    fn sub_type_after(&mut self, alloc: Global, first: u8) -> Result<SubType, ReadError>
+        ensures { Reads (sub_type_after first).read sub_type_of self.old.rest.now self.new.rest.now result }
+    {
+        match first {
+            OPEN => self.with_supertype(alloc, false),
+            FINAL => self.with_supertype(alloc, true),
+            _ => {
+                let composite = self.composite_after(alloc, first)?;
+                Ok(SubType {
+                    is_final: true,
+                    supertype: None,
+                    composite,
+                })
+            }
+        }
+    }
 }

@@ -1,14 +1,14 @@
 //! Heap, reference and value types (core specification, 5.3, value types).
 
 ghost use Rattle.std.specs.Prelude.{◌≡◌};
+ghost use Rattle.wasm_spec.specs.declared.types.ValType as declared;
 ghost use Rattle.wasm_spec.specs.TypeGrammar.{named_by, number_types, abstract_heap as spec_abstract_heap};
-ghost use Rattle.form_reader.specs.Reading.{Gives};
-ghost use Rattle.form_reader.specs.ReadingNumbers.{vector_at};
-ghost use Rattle.form_reader.specs.ReadingTypes.{heap_type_at, reference_after_at, reference_type_at, value_after_at, value_type_at};
+ghost use Rattle.form_reader.specs.Reading.{Reads};
+ghost use Rattle.form_reader.specs.TypeRows.{heap_type, reference_after, reference_type, value_after, value_type};
 
+use crate::cursor::Cursor;
 use crate::error::ReadError;
-use crate::numbers::{first_byte, non_negative_s33_at};
-use crate::vectors::vector;
+use crate::vectors::Entry;
 use std::alloc::Global;
 use wasm_spec::{AbstractHeapType, HeapType, RefType, UnpackedIndex, ValType, What};
 
@@ -40,17 +40,6 @@ const HEAP_TYPES: [AbstractHeapType; 14] = [
     AbstractHeapType::NoCont,
 ];
 
-/// The byte of the first number or vector type; the others follow it in order.
-const FIRST_NUMBER_TYPE: u8 = 0x7B;
-
-const NUMBER_TYPES: [ValType; 5] = [
-    ValType::V128,
-    ValType::F64,
-    ValType::F32,
-    ValType::I64,
-    ValType::I32,
-];
-
 fn abstract_heap(byte: u8) -> Option<AbstractHeapType>
     ensures { result ≡ spec_abstract_heap byte }
 {
@@ -59,94 +48,109 @@ fn abstract_heap(byte: u8) -> Option<AbstractHeapType>
 }
 
 /// The number or vector type of a byte.
+#[inline]
 fn number_type(byte: u8) -> Option<ValType>
     ensures { result ≡ named_by 0x7B number_types byte }
 {
-    let place = byte.checked_sub(FIRST_NUMBER_TYPE)?;
-    NUMBER_TYPES.get(usize::from(place)).copied()
+    match byte {
+        0x7F => Some(ValType::I32),
+        0x7E => Some(ValType::I64),
+        0x7D => Some(ValType::F32),
+        0x7C => Some(ValType::F64),
+        0x7B => Some(ValType::V128),
+        _ => None,
+    }
 }
 
-/// The byte of an abstract heap type, or a type index.
-#[tactic(auto, unfolding(crate::specs::ReadingTypes::heap_type_at, crate::specs::ReadingTypes::concrete_at))]
-pub fn heap_type(bytes: &[u8]) -> Result<(HeapType, &[u8]), ReadError>
-    ensures { Gives (λ x. (x.0, x.1.now)) result (heap_type_at bytes.now) }
-{
-    let Some((first, rest)) = first_byte(bytes) else {
-        return Err(ReadError::Malformed);
-    };
-    if let Some(heap) = abstract_heap(first) {
-        return Ok((HeapType::Abstract(heap), rest));
+impl<'d> Entry<'d> for ValType {
+    type Value = ValType;
+
+    ghost Seen = { declared.ValType };
+
+    ghost form = { value_type.read };
+
+    ghost view = { λ x. x };
+
+    #[inline]
+    fn read(_alloc: Global, cursor: &mut Cursor<'d>) -> Result<ValType, ReadError> {
+        cursor.value_type()
     }
-    if first == SHARED {
-        return Err(ReadError::Unsupported(What::Shared));
-    }
-    let (index, rest) = non_negative_s33_at(bytes)?;
-    Ok((HeapType::Concrete(UnpackedIndex::Module(index)), rest))
 }
 
-/// What follows the first byte of a reference type; that of an abstract heap type alone is its nullable reference.
-#[tactic(auto, unfolding(crate::specs::ReadingTypes::reference_after_at))]
-pub fn reference_after(first: u8, bytes: &[u8]) -> Result<(RefType, &[u8]), ReadError>
-    ensures { Gives (λ x. (x.0, x.1.now)) result (reference_after_at first bytes.now) }
-{
-    if first == NULLABLE || first == NOT_NULLABLE {
-        let (heap, rest) = heap_type(bytes)?;
-        let nullable = first == NULLABLE;
-        return Ok((RefType { nullable, heap }, rest));
+impl<'d> Cursor<'d> {
+    /// The byte of an abstract heap type, or a type index.
+    #[tactic(auto, unfolding(crate::specs::TypeRows::heap_type, crate::specs::TypeRows::concrete))]
+    pub fn heap_type(&mut self) -> Result<HeapType, ReadError>
+        ensures { Reads heap_type.read (λ x. x) self.old.rest.now self.new.rest.now result }
+    {
+        let before = self.rest;
+        let first = self.byte()?;
+        if let Some(heap) = abstract_heap(first) {
+            return Ok(HeapType::Abstract(heap));
+        }
+        if first == SHARED {
+            return Err(ReadError::Unsupported(What::Shared));
+        }
+        // The byte is the first of the index.
+        self.rest = before;
+        let index = self.non_negative_s33()?;
+        Ok(HeapType::Concrete(UnpackedIndex::Module(index)))
     }
-    let Some(heap) = abstract_heap(first) else {
-        return Err(ReadError::Malformed);
-    };
-    let heap = HeapType::Abstract(heap);
-    Ok((
-        RefType {
+
+    /// What follows the first byte of a reference type; that of an abstract heap type alone is its nullable reference.
+    #[tactic(auto, unfolding(crate::specs::TypeRows::reference_after))]
+    pub fn reference_after(&mut self, first: u8) -> Result<RefType, ReadError>
+        ensures { Reads (reference_after first).read (λ x. x) self.old.rest.now self.new.rest.now result }
+    {
+        if first == NULLABLE || first == NOT_NULLABLE {
+            let heap = self.heap_type()?;
+            let nullable = first == NULLABLE;
+            return Ok(RefType { nullable, heap });
+        }
+        let Some(heap) = abstract_heap(first) else {
+            return Err(ReadError::Malformed);
+        };
+        let heap = HeapType::Abstract(heap);
+        Ok(RefType {
             nullable: true,
             heap,
-        },
-        bytes,
-    ))
-}
-
-/// A reference type.
-#[tactic(auto, unfolding(crate::specs::ReadingTypes::reference_type_at))]
-pub fn reference_type(bytes: &[u8]) -> Result<(RefType, &[u8]), ReadError>
-    ensures { Gives (λ x. (x.0, x.1.now)) result (reference_type_at bytes.now) }
-{
-    match first_byte(bytes) {
-        Some((first, rest)) => reference_after(first, rest),
-        None => Err(ReadError::Malformed),
+        })
     }
-}
 
-/// What follows the first byte of a value type.
-#[tactic(auto, unfolding(crate::specs::ReadingTypes::value_after_at))]
-pub fn value_after(first: u8, bytes: &[u8]) -> Result<(ValType, &[u8]), ReadError>
-    ensures { Gives (λ x. (x.0, x.1.now)) result (value_after_at first bytes.now) }
-{
-    if let Some(number) = number_type(first) {
-        return Ok((number, bytes));
+    /// A reference type.
+    #[tactic(auto, unfolding(crate::specs::TypeRows::reference_type))]
+    pub fn reference_type(&mut self) -> Result<RefType, ReadError>
+        ensures { Reads reference_type.read (λ x. x) self.old.rest.now self.new.rest.now result }
+    {
+        let first = self.byte()?;
+        self.reference_after(first)
     }
-    if first == SHARED {
-        return Err(ReadError::Unsupported(What::Shared));
-    }
-    let (reference, rest) = reference_after(first, bytes)?;
-    Ok((ValType::Ref(reference), rest))
-}
 
-/// A value type. `_alloc` is unused: `vector` gives the allocator to every reader of elements.
-#[tactic(auto, unfolding(crate::specs::ReadingTypes::value_type_at))]
-pub fn value_type(_alloc: Global, bytes: &[u8]) -> Result<(ValType, &[u8]), ReadError>
-    ensures { Gives (λ x. (x.0, x.1.now)) result (value_type_at bytes.now) }
-{
-    match first_byte(bytes) {
-        Some((first, rest)) => value_after(first, rest),
-        None => Err(ReadError::Malformed),
+    /// What follows the first byte of a value type.
+    #[tactic(auto, unfolding(crate::specs::TypeRows::value_after))]
+    pub fn value_after(&mut self, first: u8) -> Result<ValType, ReadError>
+        ensures { Reads (value_after first).read (λ x. x) self.old.rest.now self.new.rest.now result }
+    {
+        if let Some(number) = number_type(first) {
+            return Ok(number);
+        }
+        if first == SHARED {
+            return Err(ReadError::Unsupported(What::Shared));
+        }
+        let reference = self.reference_after(first)?;
+        Ok(ValType::Ref(reference))
     }
-}
 
-/// A count, and that many value types.
-pub fn value_types(alloc: Global, bytes: &[u8]) -> Result<(Vec<ValType>, &[u8]), ReadError>
-    ensures { Gives (λ x. (x.0.items, x.1.now)) result (vector_at value_type_at bytes.now) }
-{
-    vector(alloc, bytes, value_type)
+    /// A value type. Most are number types, so they have a path of their own.
+    #[inline]
+    #[tactic(auto, unfolding(crate::specs::TypeRows::value_type, crate::specs::TypeRows::value_after))]
+    pub fn value_type(&mut self) -> Result<ValType, ReadError>
+        ensures { Reads value_type.read (λ x. x) self.old.rest.now self.new.rest.now result }
+    {
+        let first = self.byte()?;
+        if let Some(number) = number_type(first) {
+            return Ok(number);
+        }
+        self.value_after(first)
+    }
 }

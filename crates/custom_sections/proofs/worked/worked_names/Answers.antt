@@ -1,7 +1,6 @@
 use Rattle.std.proofs.Common.{refl, lit<}
 use Rattle.form_reader.specs.Reading.{whole, raw_bytes_at}
-use Rattle.form_reader.specs.ReadingNumbers.{unsigned_at, found_at, counted_bytes_at}
-use Rattle.form_reader.specs.ReadingEntries.{name_at}
+use Rattle.form_reader.specs.ReadingNumbers.{unsigned_at, found_at, counted_bytes_at, name_at}
 use Rattle.custom_sections.specs.NameReading.{elements_before, vector_before, naming_at, subsection, sized_subsection_at, subsections_before, names_of_section}
 use Rattle.custom_sections.proofs.WorkedNames.{one_char}
 use Rattle.custom_sections.proofs.worked.worked_names.Goals as goal

@@ -1,8 +1,7 @@
 use Rattle.std.proofs.Common.{arith}
 use Rattle.std.proofs.lemmas.Result.{err_from_is_err_and}
 use Rattle.form_reader.specs.declared.error.ReadError.TheVariants as errors
-use Rattle.form_reader.proofs.Entries.{few_entries}
-use Rattle.form_reader.proofs.Widths.{short_types}
+use Rattle.form_reader.proofs.Entries.{few_entries, short_types}
 use Rattle.form_reader.proofs.Outcomes.{error_is, read_spells, read_none, read_only, fails_spelled, fails_unsupported, fails_malformed, fails_nowhere}
 use Rattle.form_reader.proofs.module.read_module.Goals as goal
 

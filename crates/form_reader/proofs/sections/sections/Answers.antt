@@ -7,8 +7,8 @@ use Rattle.form_reader.specs.ReadingSections.{all_sections_at}
 use Rattle.form_reader.proofs.SectionList.{all_so_far, section_end, section_more, section_fails, section_shortens}
 use Rattle.form_reader.proofs.sections.sections.Goals as goal
 
-pub loop-rest-init : goal.loop-rest-init
-loop-rest-init c = record {
+pub sections-init : goal.sections-init
+sections-init c = record {
   small = omega arith;
   so_far =
       rw c.new-payloads.ensures.items (all_so_far (all_sections_at c.args.start 0 c.args.bytes.now));
@@ -17,36 +17,36 @@ loop-rest-init c = record {
 pub returns-in_err-payload : goal.returns-in_err-payload
 returns-in_err-payload c =
     let p = err_from_is_err_and c.from_residual.result c.from_residual.ensures.1 in
-    rw (p.1, p.2) (section_fails (map payload_of c.loop-rest.payloads.items) c.loop-rest.place c.loop-rest.next c.loop-rest.rest.now
-    (all_sections_at c.args.start 0 c.args.bytes.now) c.loop-rest.invariant.so_far c.in_err-payload.field-0.0
-    (eqb-false _ _ (sym c.loop-rest-test.ensures)) c.in_err-payload.ensures)
+    rw (p.1, p.2) (section_fails (map payload_of c.sections.payloads.items) c.sections.place c.sections.next c.sections.cursor.rest.now
+    (all_sections_at c.args.start 0 c.args.bytes.now) c.sections.invariant.so_far c.in_err-payload.field-0.0
+    (eqb-false _ _ (sym c.sections-test.ensures)) c.in_err-payload.ensures)
 
 pub overflow_sub-place : goal.overflow_sub-place
 overflow_sub-place c = let short =
-    section_shortens c.loop-rest.place c.loop-rest.next c.loop-rest.rest.now _ c.in_ok-payload.after.now c.in_ok-payload.ensures in omega arith
+    section_shortens c.sections.place c.sections.next c.sections.cursor.rest.now _ c.section.new.self.rest.now c.in_ok-payload.ensures in omega arith
 
 pub overflow_add-place : goal.overflow_add-place
 overflow_add-place c = let short =
-    section_shortens c.loop-rest.place c.loop-rest.next c.loop-rest.rest.now _ c.in_ok-payload.after.now c.in_ok-payload.ensures in
-    omega (arith, c.loop-rest.invariant.small)
+    section_shortens c.sections.place c.sections.next c.sections.cursor.rest.now _ c.section.new.self.rest.now c.in_ok-payload.ensures in
+    omega (arith, c.sections.invariant.small)
 
-pub loop-rest-smaller : goal.loop-rest-smaller
-loop-rest-smaller c = section_shortens c.loop-rest.place c.loop-rest.next c.loop-rest.rest.now _ c.in_ok-payload.after.now c.in_ok-payload.ensures
+pub sections-smaller : goal.sections-smaller
+sections-smaller c = section_shortens c.sections.place c.sections.next c.sections.cursor.rest.now _ c.section.new.self.rest.now c.in_ok-payload.ensures
 
-pub loop-rest-preserved : goal.loop-rest-preserved
-loop-rest-preserved c =
+pub sections-preserved : goal.sections-preserved
+sections-preserved c =
     let p = c.in_ok-payload.payload in
-    let short = section_shortens c.loop-rest.place c.loop-rest.next c.loop-rest.rest.now _ c.in_ok-payload.after.now c.in_ok-payload.ensures in
-    let e : map payload_of c.push.new.self.items ≡ map payload_of c.loop-rest.payloads.items ++ payload_of p ∷ [] =
-    rw c.in_ok-push.ensures.items (map_push _ c.loop-rest.payloads.items p) in
+    let short = section_shortens c.sections.place c.sections.next c.sections.cursor.rest.now _ c.section.new.self.rest.now c.in_ok-payload.ensures in
+    let e : map payload_of c.push.new.self.items ≡ map payload_of c.sections.payloads.items ++ payload_of p ∷ [] =
+    rw c.in_ok-push.ensures.items (map_push _ c.sections.payloads.items p) in
     record {
-      small = omega (arith, c.loop-rest.invariant.small);
+      small = omega (arith, c.sections.invariant.small);
       so_far = rw (e, c.next_order-next.ensures) (section_more
-          (map payload_of c.loop-rest.payloads.items) c.loop-rest.place c.loop-rest.next c.loop-rest.rest.now _ c.loop-rest.invariant.so_far
-          (payload_of p) c.in_ok-payload.after.now (eqb-false _ _ (sym c.loop-rest-test.ensures)) c.in_ok-payload.ensures);
+          (map payload_of c.sections.payloads.items) c.sections.place c.sections.next c.sections.cursor.rest.now _ c.sections.invariant.so_far
+          (payload_of p) c.section.new.self.rest.now (eqb-false _ _ (sym c.sections-test.ensures)) c.in_ok-payload.ensures);
     }
 
 pub returns : goal.returns
 returns c = section_end
-    (map payload_of c.loop-rest.payloads.items) c.loop-rest.place c.loop-rest.next c.loop-rest.rest.now _ c.loop-rest.invariant.so_far
-    (eqb-true _ _ (sym c.loop-rest-test.ensures))
+    (map payload_of c.sections.payloads.items) c.sections.place c.sections.next c.sections.cursor.rest.now _ c.sections.invariant.so_far
+    (eqb-true _ _ (sym c.sections-test.ensures))

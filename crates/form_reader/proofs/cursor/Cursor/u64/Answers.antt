@@ -1,0 +1,5 @@
+use Rattle.form_reader.proofs.ShortNumbers.{short_u64}
+use Rattle.form_reader.proofs.cursor.Cursor.u64.Goals as goal
+
+pub returns-in-Some : goal.returns-in-Some
+returns-in-Some c = rw c.from.ensures (short_u64 c.in-Some.byte c.in-Some.rest.now c.args.self.now.rest.now c.in-Some.ensures c.if-byte-lt128.true)

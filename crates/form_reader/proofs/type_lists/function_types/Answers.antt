@@ -1,6 +1,0 @@
-use Rattle.form_reader.specs.ReadingNumbers.{unsigned_at}
-use Rattle.form_reader.proofs.CountedGives.{plain_entries_give}
-use Rattle.form_reader.proofs.type_lists.function_types.Goals as goal
-
-pub returns : goal.returns
-returns c = plain_entries_give (unsigned_at 32) _ (λ at one h. h.1) c.args.bytes.now c.entries.result c.entries.ensures
