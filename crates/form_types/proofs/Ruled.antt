@@ -5,7 +5,7 @@ use Rattle.std.specs.Option.{option_to_list}
 use Rattle.std.specs.List.{All}
 use Rattle.std.proofs.lemmas.List.{length-map, map-append, append-nil}
 use Rattle.std.proofs.lemmas.List.Folds.{length-flat_map-take}
-use Rattle.std.proofs.lemmas.List.Elements.{All-nil, All-cons, All-head, All-tail, All-append, All-map}
+use Rattle.std.proofs.lemmas.List.Elements.{All-nil, All-cons, All-head, All-tail, All-append, All-map, All-weaker}
 use Rattle.form_lists.proofs.AllSections.{All-joined}
 use Rattle.wasm_spec.specs.declared.types.UnpackedIndex.{UnpackedIndex}
 use Rattle.wasm_spec.specs.declared.types.UnpackedIndex.TheVariants.{Module, RecGroup, Id}
@@ -17,13 +17,13 @@ use Rattle.type_spec.proofs.Homes.{joined, size}
 use Rattle.rule_spec.specs.Lists.{Declared, Lists, declared_from, declared_groups, lists_of_module}
 use Rattle.rule_spec.specs.TypeRules.{IsBelow, KindIsBelow, IsDeclaredWell}
 use Rattle.form_types.specs.declared.groups.GroupWithKey.{GroupWithKey}
-use Rattle.form_data.specs.Views.{group_of}
+use Rattle.form_data.specs.Views.{group_of, sub_type_of}
 use Rattle.form_types.specs.Types.{NamedGroup, types_by_id}
 use Rattle.form_types.specs.declared.building.Numbering.{Numbering}
 use Rattle.form_types.specs.Keys.{key_of}
 use Rattle.form_types.specs.Groups.{GroupAndKey, read_key, group_and_key, with_key, lent_groups}
 use Rattle.form_types.specs.Placed.{place_of, placed}
-use Rattle.form_types.proofs.Steps.{NearIn, all-becomes}
+use Rattle.form_types.proofs.Steps.{NearIn}
 use Rattle.form_types.proofs.Built.{Built, places}
 
 -- ---- the declared types are the joined groups
@@ -63,7 +63,7 @@ module _ (l : Lists) where
 
   kind-near : (end : ℕ) (kind : Composite UnpackedIndex UnpackedIndex) → KindIsBelow end kind → All (λ i. place_of i < end) (composite_edges (λ i. i) kind)
   unfolding KindIsBelow
-  kind-near end kind below = all-becomes (IsBelow end) (λ i. place_of i < end) (place-below end) (composite_edges (λ i. i) kind) below
+  kind-near end kind below = All-weaker (IsBelow end) (λ i. place_of i < end) (place-below end) (composite_edges (λ i. i) kind) below
 
   members-near : (end index : ℕ) (g : NamedGroup) → index + length g ≤ end → All (IsDeclaredWell l) (declared_from end index g)
       → All (λ i. place_of i < end) (group_edges (λ i. i) g)
@@ -121,12 +121,12 @@ module _ (m : plain.Module) (done : List NamedGroup) (g : NamedGroup) (rest : Li
   at : get_or (plain.groups m) (length done) [] ≡ g
   at = ap (λ l. get_or l (length done) []) (sym whole) ∙ behind done g rest []
 
-  pub room : size (places done) + length g ≤ length (plain.types m)
+  room : size (places done) + length g ≤ length (plain.types m)
   room =
       let fits = length-flat_map-take (λ (g : NamedGroup). g) (plain.groups m) (length done) [] below in
       omega (arith, fits, ap length at, size-places done, ap (λ l. length (types_by_id l)) done-is)
 
-  pub near-next : All (IsDeclaredWell (lists_of_module m)) (declared_groups 0 (plain.groups m))
+  near-next : All (IsDeclaredWell (lists_of_module m)) (declared_groups 0 (plain.groups m))
       → NearIn (record { start = size (places done); members = placed g })
   near-next all =
       coe 0 1 (t. NearIn (record { start = size (places (sym done-is t)); members = placed (at t) })) (rules-near m (length done) below all)
@@ -167,23 +167,35 @@ no-items [] none = refl
 no-items (x ∷ xs) none = absurd (omega arith)
 
 -- the last was numbered
-pub walked : (m : plain.Module) (n : Numbering) (done rest : List GroupWithKey) (count : ℕ) → Walks m n done rest count → count ≡ 0 → Built (plain.groups m) n
-walked m n done rest count w none =
+pub walked : {m : plain.Module} {n : Numbering} {done rest : List GroupWithKey} {count : ℕ} → Walks m n done rest count → count ≡ 0 → Built (plain.groups m) n
+walked {m = m} {n = n} {done = done} {rest = rest} w none =
     let over : rest ≡ [] = no-items rest (sym w.counts ∙ none) in
     let done-all : map group_and_key done ≡ map with_key (plain.groups m) =
     ap (map group_and_key) (sym (append-nil done) ∙ ap (λ l. done ++ l) (sym over)) ∙ w.all in
     subst (λ l. Built l n) (lent-are done (plain.groups m) done-all) w.built
 
-module _ (m : plain.Module) (n : Numbering) (done rest : List GroupWithKey) (count : ℕ) (w : Walks m n done rest count)
-    (item : GroupWithKey) (rest' : List GroupWithKey) (next : rest ≡ item ∷ rest') where
+module _ {m : plain.Module} {n : Numbering} {done rest : List GroupWithKey} {count : ℕ} (w : Walks m n done rest count)
+    {item : GroupWithKey} {rest' : List GroupWithKey} (next : rest ≡ item ∷ rest') where
   all-next : map group_and_key (done ++ item ∷ rest') ≡ map with_key (plain.groups m)
   all-next = ap (λ l. map group_and_key (done ++ l)) (sym next) ∙ w.all
 
-  pub whole-next : lent_groups done ++ group_of item.group.now ∷ lent_groups rest' ≡ plain.groups m
+  whole-next : lent_groups done ++ group_of item.group.now ∷ lent_groups rest' ≡ plain.groups m
   whole-next = sym (map-append (λ (f : GroupWithKey). group_of f.group.now) done (item ∷ rest')) ∙ lent-are (done ++ item ∷ rest') (plain.groups m) all-next
 
   pub key-next : key_of item.key ≡ read_key (group_of item.group.now)
   key-next = item-keyed done item rest' (plain.groups m) all-next
+
+  pub room-next : size (places (lent_groups done)) + length item.group.now.types.items ≤ length (plain.types m)
+  room-next =
+      omega (
+        arith,
+        room m (lent_groups done) (group_of item.group.now) (lent_groups rest') whole-next,
+        length-map item.group.now.types.items sub_type_of,
+      )
+
+  pub near-item : All (IsDeclaredWell (lists_of_module m)) (declared_groups 0 (plain.groups m))
+      → NearIn (record { start = size (places (lent_groups done)); members = placed (group_of item.group.now) })
+  near-item all = near-next m (lent_groups done) (group_of item.group.now) (lent_groups rest') whole-next all
 
   pub walks-more : (n' : Numbering) (count' : ℕ) → Built (lent_groups done ++ group_of item.group.now ∷ []) n' → count' + 1 ≡ count
       → Walks m n' (done ++ item ∷ []) rest' count'
