@@ -2,11 +2,13 @@
 use Rattle.std.proofs.Common.{◌≡◌, ◌∙◌, ℕ, true, false, nat_eq, List, map, refl, sym, ap, subst}
 use Rattle.std.specs.Cmp.Lexicographic.{pointwise}
 use Rattle.std.specs.Bool.{Decides}
-use Rattle.std.proofs.lemmas.Bool.{and_parts, and_from, eqb-true, eq-eqb}
-use Rattle.std.proofs.lemmas.Slice.Eq.{bytes_eq-Decides, slice_eq-Decides}
+use Rattle.std.proofs.lemmas.Bool.{eqb-true}
+use Rattle.std.proofs.lemmas.Bool.Decides.{Decides-and}
+use Rattle.std.proofs.lemmas.Slice.Eq.{bytes_eq-Decides}
 use Rattle.wasm_spec.specs.declared.types.UnpackedIndex.{UnpackedIndex}
 use Rattle.wasm_spec.specs.declared.types.UnpackedIndex.TheVariants.{Module, RecGroup, Id}
 use Rattle.wasm_spec.specs.contracts.types.UnpackedIndexPartialEq.TheImpl as index
+use Rattle.wasm_spec.specs.contracts.types.UnpackedIndexEq.TheImpl.Laws as index_equal
 use Rattle.std.specs.Prelude.{slice_index}
 use Rattle.wasm_spec.specs.TypeData.{Group, map_group, group_edges}
 use Rattle.form_types.specs.Types.{NamedGroup}
@@ -16,6 +18,7 @@ use Rattle.type_data.specs.TypeShapes.{group_shape}
 use Rattle.type_data.specs.Names.{plainly}
 use Rattle.type_data.specs.ListLaws.{map-same, map-twice}
 use Rattle.type_spec.specs.Equality.{Target, Inside, Earlier, target, canonical}
+use Rattle.type_spec.proofs.Tests.{all-decide}
 use Rattle.form_types.specs.declared.canonical.CanonicalGroup.{CanonicalGroup}
 use Rattle.form_types.specs.contracts.canonical.CanonicalGroupPartialEq.TheImpl as group
 use Rattle.form_types.specs.Codes.{group_codes}
@@ -54,27 +57,16 @@ index-told (RecGroup i) (RecGroup j) same = ap RecGroup (eqb-true i j same)
 index-told (Id i) (Id j) same = let one = eqb-true i.0 j.0 same in λ k. Id (record { 0 = one k })
 index-told _ _ same = let off : false ≡ true = same in cc
 
-index-same : (i : UnpackedIndex) → index.ghosts.eq i i ≡ true
-index-same (Module i) = eq-eqb i i refl
-index-same (RecGroup i) = eq-eqb i i refl
-index-same (Id i) = eq-eqb i.0 i.0 refl
+index-decides : (i j : UnpackedIndex) → Decides (index.ghosts.eq i j) (i ≡ j)
+index-decides i j = (index-told i j, λ same. subst (λ k. index.ghosts.eq i k ≡ true) same (index_equal.laws-law.refl i))
 
-indices-decide : (is js : List UnpackedIndex) → Decides (pointwise index.ghosts.eq is js) (is ≡ js)
-indices-decide is js =
-    slice_eq-Decides (λ i j. (index-told i j, (λ same. subst (λ k. index.ghosts.eq i k ≡ true) same (index-same i)))) is js _ refl
-
-pub key-told : (a b : CanonicalGroup) → group.ghosts.eq a b ≡ true → key_of a ≡ key_of b
-key-told a b same =
-    let both = and_parts (pointwise nat_eq a.frame.items b.frame.items) (pointwise index.ghosts.eq a.references.items b.references.items) same in
-    let codes = (bytes_eq-Decides a.frame.items b.frame.items).0 both.0 in
-    let references = (indices-decide a.references.items b.references.items).0 both.1 in
-    λ i. record { codes = codes i; references = references i }
-
-pub key-same : (a b : CanonicalGroup) → key_of a ≡ key_of b → group.ghosts.eq a b ≡ true
-key-same a b same =
-    and_from (pointwise nat_eq a.frame.items b.frame.items) (pointwise index.ghosts.eq a.references.items b.references.items)
-    ((bytes_eq-Decides a.frame.items b.frame.items).1 (ap (λ (f : GroupKey). f.codes) same))
-    ((indices-decide a.references.items b.references.items).1 (ap (λ (f : GroupKey). f.references) same))
+pub key-decides : (a b : CanonicalGroup) → Decides (group.ghosts.eq a b) (key_of a ≡ key_of b)
+key-decides a b =
+    let both = Decides-and (pointwise nat_eq a.frame.items b.frame.items) (pointwise index.ghosts.eq a.references.items b.references.items)
+    (bytes_eq-Decides a.frame.items b.frame.items) (all-decide index.ghosts.eq index-decides a.references.items b.references.items) in (
+      (λ same. let parts = both.0 same in λ i. record { codes = parts.0 i; references = parts.1 i }),
+      (λ same. both.1 ((λ i. (same i).codes), (λ i. (same i).references))),
+    )
 
 -- ---- what is made is the key
 

@@ -24,7 +24,7 @@ use Rattle.form_types.specs.Types.{NamedGroup, types_by_id, IsIdBelow, NameEarli
 use Rattle.form_types.specs.Numbered.{first_id}
 use Rattle.form_types.specs.Keys.{GroupKey, group_key, key_of}
 use Rattle.form_types.proofs.InOrder.{AreGiven, given-more}
-use Rattle.form_types.proofs.KeyLaws.{group_key-exact, key-told, key-same}
+use Rattle.form_types.proofs.KeyLaws.{group_key-exact, key-decides}
 
 -- ---- what a canonical group reads
 
@@ -359,7 +359,7 @@ module _ (gs : List (Group ℕ ℕ)) (number : ℕ → ℕ) (keys : List Canonic
           elim (cases_lt k (length keys)) [
             | inl old ↦ f k old (at ∙ ap group_key (stays k old).key)
             | inr ge ↦
-                let no : true ≡ false = sym (key-same key q (is_key ∙ ap group_key (sym (last-key k (last k lt ge))) ∙ sym at)) ∙ other in
+                let no : true ≡ false = sym ((key-decides key q).1 (is_key ∙ ap group_key (sym (last-key k (last k lt ge))) ∙ sym at)) ∙ other in
                 absurd (cc)
           ]
 
@@ -367,7 +367,7 @@ module _ (gs : List (Group ℕ ℕ)) (number : ℕ → ℕ) (keys : List Canonic
       tells-more q true same = (
         length keys,
         omega (arith, length-append keys (canonical number next-home ∷ [])),
-        sym (key-told key q same) ∙ is_key ∙ ap group_key (sym (last-key (length keys) refl)),
+        sym ((key-decides key q).0 same) ∙ is_key ∙ ap group_key (sym (last-key (length keys) refl)),
         sym (last-first (length keys) refl),
       )
       tells-more q false other = tells-still q other (get q) (st.tells q)
