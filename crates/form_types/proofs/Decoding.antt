@@ -1,6 +1,7 @@
 -- Frames are told apart by their bytes.
-use Rattle.std.proofs.Common.{◌≡◌, ◌∙◌, ℕ, ◌+◌, Bool, true, false, nat_eq, List, [], ◌∷◌, ◌++◌, map, Option, Some, None, if◌then◌else◌, refl, sym, ap, arith, append_assoc}
+use Rattle.std.proofs.Common.{◌≡◌, ◌∙◌, ℕ, ◌+◌, ◌-◌, Bool, true, false, nat_eq, nat_lt, List, [], ◌∷◌, ◌++◌, map, Option, Some, None, if◌then◌else◌, refl, sym, ap, arith, append_assoc}
 use Rattle.std.specs.Prelude.{is_some}
+use Rattle.std.proofs.lemmas.Bool.{le-ltb}
 use Rattle.std.specs.Option.{option_map}
 use Rattle.std.specs.List.{flat_map}
 use Rattle.std.proofs.lemmas.List.Folds.{flat_map-map}
@@ -8,6 +9,7 @@ use Rattle.wasm_spec.specs.declared.types.AbstractHeapType.TheVariants as heap
 use Rattle.wasm_spec.specs.TypeData.{Heap, Concrete, Abstract, Value, I32, I64, F32, F64, V128, Ref, Storage, I8, I16, Val, Field, Function, Composite, Func, Array, Struct, Cont, Exn, SubType, Group, map_heap, map_value, map_storage, map_field, map_composite, map_sub_type, map_group}
 use Rattle.type_data.specs.ListLaws.{map-twice}
 use Rattle.type_spec.specs.Same.{Gap}
+use Rattle.type_spec.proofs.Tests.{byte_heap, byte-back}
 use Rattle.form_types.specs.Codes.{flag, ended, heap_code, value_code, storage_code, field_codes, function_codes, fields_codes, composite_codes, sub_type_codes, group_codes}
 
 -- ---- codes do not depend on references
@@ -60,85 +62,69 @@ module _ {H H' : Type 0} (h : H → H') where
     group-mapped x = flat_map-map sub_type_codes (map_sub_type h f) x ∙ (λ i. flat_map (λ t. sub_type-mapped t i) x)
 
 -- ---- a code is that of one storage type, and not the end mark
+heap_of : ℕ → Heap Gap
+heap_of n = if nat_eq n 0x60 then Concrete tt else Abstract (byte_heap n)
+
+plain_of : ℕ → Storage Gap
+plain_of n =
+    if nat_eq n 0x7F then Val I32 else
+    if nat_eq n 0x7E then Val I64 else
+    if nat_eq n 0x7D then Val F32 else
+    if nat_eq n 0x7C then Val F64 else
+    if nat_eq n 0x7B then Val V128 else
+    if nat_eq n 0x78 then I8 else
+    I16
+
 abbrev to : Bool → Heap Gap → Option (Storage Gap)
 to nullable h = Some (Val (Ref (record { nullable = nullable; heap = h })))
 
 decode : ℕ → Option (Storage Gap)
 decode n =
-    if nat_eq n 0x7F then Some (Val I32) else
-    if nat_eq n 0x7E then Some (Val I64) else
-    if nat_eq n 0x7D then Some (Val F32) else
-    if nat_eq n 0x7C then Some (Val F64) else
-    if nat_eq n 0x7B then Some (Val V128) else
-    if nat_eq n 0x78 then Some I8 else
-    if nat_eq n 0x77 then Some I16 else
-    if nat_eq n 0x60 then to true (Concrete tt) else
-    if nat_eq n 0xE0 then to false (Concrete tt) else
-    if nat_eq n 0x74 then to true (Abstract heap.NoExn) else
-    if nat_eq n 0x73 then to true (Abstract heap.NoFunc) else
-    if nat_eq n 0x72 then to true (Abstract heap.NoExtern) else
-    if nat_eq n 0x71 then to true (Abstract heap.None) else
-    if nat_eq n 0x70 then to true (Abstract heap.Func) else
-    if nat_eq n 0x6F then to true (Abstract heap.Extern) else
-    if nat_eq n 0x6E then to true (Abstract heap.Any) else
-    if nat_eq n 0x6D then to true (Abstract heap.Eq) else
-    if nat_eq n 0x6C then to true (Abstract heap.I31) else
-    if nat_eq n 0x6B then to true (Abstract heap.Struct) else
-    if nat_eq n 0x6A then to true (Abstract heap.Array) else
-    if nat_eq n 0x69 then to true (Abstract heap.Exn) else
-    if nat_eq n 0x75 then to true (Abstract heap.NoCont) else
-    if nat_eq n 0x68 then to true (Abstract heap.Cont) else
-    if nat_eq n 0xF4 then to false (Abstract heap.NoExn) else
-    if nat_eq n 0xF3 then to false (Abstract heap.NoFunc) else
-    if nat_eq n 0xF2 then to false (Abstract heap.NoExtern) else
-    if nat_eq n 0xF1 then to false (Abstract heap.None) else
-    if nat_eq n 0xF0 then to false (Abstract heap.Func) else
-    if nat_eq n 0xEF then to false (Abstract heap.Extern) else
-    if nat_eq n 0xEE then to false (Abstract heap.Any) else
-    if nat_eq n 0xED then to false (Abstract heap.Eq) else
-    if nat_eq n 0xEC then to false (Abstract heap.I31) else
-    if nat_eq n 0xEB then to false (Abstract heap.Struct) else
-    if nat_eq n 0xEA then to false (Abstract heap.Array) else
-    if nat_eq n 0xE9 then to false (Abstract heap.Exn) else
-    if nat_eq n 0xF5 then to false (Abstract heap.NoCont) else
-    if nat_eq n 0xE8 then to false (Abstract heap.Cont) else
-    None
+    if nat_lt n 0x60 then None else
+    if nat_lt n 0x76 then to true (heap_of n) else
+    if nat_lt n 0x80 then Some (plain_of n) else
+    to false (heap_of (n - 128))
+
+-- the code of a heap type, which is that of a nullable reference
+record IsHeapCode (h : Heap Gap) : Type 0 where
+  pub low : nat_lt (heap_code h) 0x60 ≡ false
+  pub high : nat_lt (heap_code h) 0x76 ≡ true
+  pub back : heap_of (heap_code h) ≡ h
+
+heap-back : (h : Heap Gap) → IsHeapCode h
+unfolding heap_of
+heap-back (Concrete a) = record { low = refl; high = refl; back = refl }
+heap-back (Abstract heap.NoExn) = record { low = refl; high = refl; back = ap Abstract (byte-back heap.NoExn) }
+heap-back (Abstract heap.NoFunc) = record { low = refl; high = refl; back = ap Abstract (byte-back heap.NoFunc) }
+heap-back (Abstract heap.NoExtern) = record { low = refl; high = refl; back = ap Abstract (byte-back heap.NoExtern) }
+heap-back (Abstract heap.None) = record { low = refl; high = refl; back = ap Abstract (byte-back heap.None) }
+heap-back (Abstract heap.Func) = record { low = refl; high = refl; back = ap Abstract (byte-back heap.Func) }
+heap-back (Abstract heap.Extern) = record { low = refl; high = refl; back = ap Abstract (byte-back heap.Extern) }
+heap-back (Abstract heap.Any) = record { low = refl; high = refl; back = ap Abstract (byte-back heap.Any) }
+heap-back (Abstract heap.Eq) = record { low = refl; high = refl; back = ap Abstract (byte-back heap.Eq) }
+heap-back (Abstract heap.I31) = record { low = refl; high = refl; back = ap Abstract (byte-back heap.I31) }
+heap-back (Abstract heap.Struct) = record { low = refl; high = refl; back = ap Abstract (byte-back heap.Struct) }
+heap-back (Abstract heap.Array) = record { low = refl; high = refl; back = ap Abstract (byte-back heap.Array) }
+heap-back (Abstract heap.Exn) = record { low = refl; high = refl; back = ap Abstract (byte-back heap.Exn) }
+heap-back (Abstract heap.NoCont) = record { low = refl; high = refl; back = ap Abstract (byte-back heap.NoCont) }
+heap-back (Abstract heap.Cont) = record { low = refl; high = refl; back = ap Abstract (byte-back heap.Cont) }
 
 reference-back : (nullable : Bool) (h : Heap Gap) → decode (value_code (Ref (record { nullable = nullable; heap = h }))) ≡ to nullable h
 unfolding decode
-reference-back true (Concrete a) = refl
-reference-back true (Abstract heap.NoExn) = refl
-reference-back true (Abstract heap.NoFunc) = refl
-reference-back true (Abstract heap.NoExtern) = refl
-reference-back true (Abstract heap.None) = refl
-reference-back true (Abstract heap.Func) = refl
-reference-back true (Abstract heap.Extern) = refl
-reference-back true (Abstract heap.Any) = refl
-reference-back true (Abstract heap.Eq) = refl
-reference-back true (Abstract heap.I31) = refl
-reference-back true (Abstract heap.Struct) = refl
-reference-back true (Abstract heap.Array) = refl
-reference-back true (Abstract heap.Exn) = refl
-reference-back true (Abstract heap.NoCont) = refl
-reference-back true (Abstract heap.Cont) = refl
-reference-back false (Concrete a) = refl
-reference-back false (Abstract heap.NoExn) = refl
-reference-back false (Abstract heap.NoFunc) = refl
-reference-back false (Abstract heap.NoExtern) = refl
-reference-back false (Abstract heap.None) = refl
-reference-back false (Abstract heap.Func) = refl
-reference-back false (Abstract heap.Extern) = refl
-reference-back false (Abstract heap.Any) = refl
-reference-back false (Abstract heap.Eq) = refl
-reference-back false (Abstract heap.I31) = refl
-reference-back false (Abstract heap.Struct) = refl
-reference-back false (Abstract heap.Array) = refl
-reference-back false (Abstract heap.Exn) = refl
-reference-back false (Abstract heap.NoCont) = refl
-reference-back false (Abstract heap.Cont) = refl
+reference-back true h =
+    let is = heap-back h in
+    rw (is.low, is.high) (ap (to true) is.back)
+reference-back false h =
+    let is = heap-back h in
+    let n = heap_code h + 128 in
+    let a : nat_lt n 0x60 ≡ false = le-ltb n 0x60 (omega arith) in
+    let b : nat_lt n 0x76 ≡ false = le-ltb n 0x76 (omega arith) in
+    let c : nat_lt n 0x80 ≡ false = le-ltb n 0x80 (omega arith) in
+    let back : n - 128 ≡ heap_code h = omega arith in
+    rw (a, b, c, back) (ap (to false) is.back)
 
 storage-back : (x : Storage Gap) → decode (storage_code x) ≡ Some x
-unfolding decode
+unfolding decode plain_of
 storage-back I8 = refl
 storage-back I16 = refl
 storage-back (Val I32) = refl

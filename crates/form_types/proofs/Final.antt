@@ -1,5 +1,5 @@
 -- What is numbered at the end is what the module's types are.
-use Rattle.std.proofs.Common.{true, false, ◌≡◌, ◌∙◌, ℕ, ◌+◌, ◌-◌, ◌^◌, ◌<◌, ◌≤◌, List, [], length, get_or, map, Option, Some, None, refl, sym, ap, subst, arith}
+use Rattle.std.proofs.Common.{true, false, ◌≡◌, ◌∙◌, ℕ, ◌-◌, ◌^◌, ◌<◌, List, [], length, get_or, map, Option, Some, None, refl, sym, ap, subst, arith}
 use Rattle.std.specs.Prelude.{IsSomeAnd, slice_index, slice_get}
 use Rattle.std.specs.Option.{option_map}
 use Rattle.std.specs.List.{All}
@@ -13,8 +13,8 @@ use Rattle.wasm_spec.specs.TypeData.{SubType, Group, Composite, Func, Array, Str
 use Rattle.wasm_spec.specs.Module as plain
 use Rattle.wasm_spec.specs.Sizes.{CompositeHasShortLists, HasShortLists, HasShortTypes}
 use Rattle.type_data.specs.TypeShapes.{sub_type_shape}
-use Rattle.type_spec.specs.Equality.{Home, home}
-use Rattle.type_spec.proofs.Homes.{size, home-within, home-again, home-type}
+use Rattle.type_spec.specs.Equality.{home}
+use Rattle.type_spec.proofs.Homes.{size, home-within, home-type}
 use Rattle.type_spec.proofs.Numbers.{place, exact}
 use Rattle.rule_spec.specs.Lists.{Declared, declared_groups, lists_of_module, kind_at}
 use Rattle.rule_spec.specs.TypeRules.{IsFunction, NamesFunctionType, IndexNamesFunctionType, IsDeclaredWell}
@@ -25,7 +25,7 @@ use Rattle.form_types.specs.Types.{NamedGroup, TypesData, types_by_id, NamesFunc
 use Rattle.form_types.specs.Seen.{ids_of}
 use Rattle.form_types.specs.Placed.{place_of, id_at, named_index}
 use Rattle.form_types.specs.Numbered.{HasItsId, AreNumbered}
-use Rattle.form_types.proofs.Steps.{renamed-is}
+use Rattle.form_types.proofs.Steps.{below-all, in-row, told-apart, group-renamed}
 use Rattle.form_types.proofs.Built.{places, Built}
 use Rattle.form_types.proofs.Ruled.{declared-types, places-joined, size-places}
 
@@ -56,28 +56,20 @@ module _ (m : plain.Module) (n : Numbering) (b : Built (plain.groups m) n) (vali
 
   stands : (i : ℕ) → i < size gs → HasItsId t (home gs i) i (slice_index ids i)
   stands i h =
-      let s = b.numbered.held i h in
-      let row : (r : ℕ) → r < (home gs i).start + length (home gs i).members → (home gs i).start ≤ r
-      → number r ≡ number (home gs i).start + (r - (home gs i).start) = λ r high low.
-      let inside : r < size gs = omega (arith, high, (home-within gs i h).high) in
-      let again = home-again gs i r h (record { from = low; to = high }) in
-      b.numbered.in_row r inside ∙ ap (λ (g : Home). number g.start + (r - g.start)) again in
-      record {
-        number = s.at;
-        below = s.below;
-        group = s.group
-            ∙ sym (renamed-is number (number (home gs i).start) (home gs i) (λ r. r < (home gs i).start + length (home gs i).members) row (b.numbered.near i h));
-        member = b.numbered.in_row i h ∙ ap (λ f. f + place gs i) (sym s.first);
-      }
+      let s = b.numbered.stands i h in
+      record { number = s.at; below = omega (arith, s.below, b.numbered.listed.long); group = group-renamed b.numbered i h; member = s.number_is }
 
   pub numbered : AreNumbered m t
   numbered = record {
     each = b.counted ∙ all;
-    exact = λ i j h k. exact gs gs number number (size gs) (size gs) b.numbered.tells i j (within i h) (within j k);
-    row = λ i h. b.numbered.in_row i (within i h);
+    exact = λ i j h k. exact gs gs number number (size gs) (size gs) (told-apart b.numbered) i j (within i h) (within j k);
+    row = λ i h.
+        let w = home-within gs i (within i h) in
+        let first = in-row b.numbered i (home gs i).start (within i h) (record { from = omega arith; to = omega (arith, w.from, w.to) }) in
+        omega (arith, first, (b.numbered.stands i (within i h)).number_is);
     held = λ i h. stands i (within i h);
-    in_order = λ i id h lt. b.numbered.in_order i id (within i h) lt;
-    nothing_else = λ id lt. let f = b.numbered.nothing_else id lt in (f.0, omega (arith, f.1, all), f.2);
+    in_order = λ i id h lt. b.numbered.given.in_order i id (within i h) lt;
+    nothing_else = λ id lt. let f = b.numbered.given.nothing_else id lt in (f.0, omega (arith, f.1, all), f.2);
   }
 
   -- ---- the type of an id
@@ -107,7 +99,7 @@ module _ (m : plain.Module) (n : Numbering) (b : Built (plain.groups m) n) (vali
   each-type : (P : SubType UnpackedIndex UnpackedIndex → Type 0) (d : SubType UnpackedIndex UnpackedIndex)
       → ((j : ℕ) → j < length (plain.types m) → P (map_sub_type rename rename (get_or (plain.types m) j d))) → All P known
   each-type P d each = All-from_get_or P known d (λ id lt.
-      let f = b.numbered.nothing_else id lt in
+      let f = b.numbered.given.nothing_else id lt in
       subst P (sym (ap (λ k. get_or known k d) (sym f.2) ∙ some_type f.0 f.1 d)) (each f.0 (omega (arith, f.1, all))))
 
   short-mapped : (x : SubType UnpackedIndex UnpackedIndex) → HasShortLists x → HasShortLists (map_sub_type rename rename x)
@@ -148,7 +140,7 @@ module _ (m : plain.Module) (n : Numbering) (b : Built (plain.groups m) n) (vali
         let inside = within r lt in
         let one : get_or (plain.types m) r x ≡ x = get_or_from_slice_get (plain.types m) r x x at in
         let found : slice_get known (number r) ≡ Some (map_sub_type rename rename x) =
-        slice_get-get_or known (number r) x (b.numbered.below r inside)
+        slice_get-get_or known (number r) x (below-all b.numbered r inside)
         ∙ ap (λ y. Some y) (some_type r inside x ∙ ap (map_sub_type rename rename) one) in
         subst (λ o. IsSomeAnd o (λ y. IsFunction y.composite.inner)) (sym found) (function-mapped x.composite.inner is)
 
@@ -170,12 +162,12 @@ module _ (m : plain.Module) (n : Numbering) (b : Built (plain.groups m) n) (vali
   pub sound : All (IsDeclaredWell (lists_of_module m)) (declared_groups 0 (plain.groups m)) → HasShortTypes m → length (plain.types m) < 2 ^ 30
       → IsSound t
   sound well short few = record {
-    references = b.numbered.references;
+    references = b.numbered.listed.references;
     continuations = each-type (ContinuesFunction known) empty (λ j lt.
         continues (get_or (plain.types m) j empty) (declared_at j lt));
     lists = each-type HasShortLists empty (λ j lt.
         short-mapped (get_or (plain.types m) j empty) (All-get_or HasShortLists (plain.types m) j empty lt short));
-    declared = All-from_get_or (λ id. id < length known) ids 0 (λ i lt. b.numbered.below i (omega (arith, lt, b.counted)));
+    declared = All-from_get_or (λ id. id < length known) ids 0 (λ i lt. below-all b.numbered i (omega (arith, lt, b.counted)));
     few = omega (arith, b.numbered.few, all, few);
   } where
     empty : SubType UnpackedIndex UnpackedIndex

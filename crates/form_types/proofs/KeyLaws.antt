@@ -1,10 +1,14 @@
 -- A key is that of one canonical group, and looking up tells keys apart.
-use Rattle.std.proofs.Common.{◌≡◌, ◌∙◌, ℕ, Bool, true, false, nat_eq, ◌&&◌, List, [], ◌∷◌, map, refl, sym, ap}
+use Rattle.std.proofs.Common.{◌≡◌, ◌∙◌, ℕ, true, false, nat_eq, List, map, refl, sym, ap, subst}
 use Rattle.std.specs.Cmp.Lexicographic.{pointwise}
-use Rattle.std.proofs.lemmas.Bool.{eqb-true, eq-eqb}
+use Rattle.std.specs.Bool.{Decides}
+use Rattle.std.proofs.lemmas.Bool.{eqb-true}
+use Rattle.std.proofs.lemmas.Bool.Decides.{Decides-and}
+use Rattle.std.proofs.lemmas.Slice.Eq.{bytes_eq-Decides}
 use Rattle.wasm_spec.specs.declared.types.UnpackedIndex.{UnpackedIndex}
 use Rattle.wasm_spec.specs.declared.types.UnpackedIndex.TheVariants.{Module, RecGroup, Id}
 use Rattle.wasm_spec.specs.contracts.types.UnpackedIndexPartialEq.TheImpl as index
+use Rattle.wasm_spec.specs.contracts.types.UnpackedIndexEq.TheImpl.Laws as index_equal
 use Rattle.std.specs.Prelude.{slice_index}
 use Rattle.wasm_spec.specs.TypeData.{Group, map_group, group_edges}
 use Rattle.form_types.specs.Types.{NamedGroup}
@@ -12,34 +16,30 @@ use Rattle.form_types.specs.Placed.{place_of, placed}
 use Rattle.type_data.specs.Shapes.{erased}
 use Rattle.type_data.specs.TypeShapes.{group_shape}
 use Rattle.type_data.specs.Names.{plainly}
-use Rattle.type_data.specs.ListLaws.{map-twice}
+use Rattle.type_data.specs.ListLaws.{map-same, map-twice}
 use Rattle.type_spec.specs.Equality.{Target, Inside, Earlier, target, canonical}
+use Rattle.type_spec.proofs.Tests.{all-decide}
 use Rattle.form_types.specs.declared.canonical.CanonicalGroup.{CanonicalGroup}
 use Rattle.form_types.specs.contracts.canonical.CanonicalGroupPartialEq.TheImpl as group
-use Rattle.form_types.specs.Ids.{id_of}
 use Rattle.form_types.specs.Codes.{group_codes}
 use Rattle.form_types.specs.Keys.{GroupKey, index_of, canonical_index, targets, group_key, key_of}
 use Rattle.form_types.proofs.Decoding.{group-mapped, group-told}
 
 -- ---- equal keys are those of one group
 
-index-told : (s t : Target ℕ) → index_of s ≡ index_of t → s ≡ t
-index-told (Inside p) (Inside q) same = let one : p ≡ q = cc in ap Inside one
-index-told (Earlier a) (Earlier b) same = let one : id_of a ≡ id_of b = cc in λ i. Earlier (one i).0
-index-told (Inside p) (Earlier b) same = cc
-index-told (Earlier a) (Inside q) same = cc
+-- what an index of a key is of
+named : UnpackedIndex → Target ℕ
+named (RecGroup place) = Inside place
+named (Id id) = Earlier id.0
+named (Module place) = Inside place
 
-indices-told : (ss ts : List (Target ℕ)) → map index_of ss ≡ map index_of ts → ss ≡ ts
-indices-told [] [] same = refl
-indices-told [] (t ∷ ts) same = cc
-indices-told (s ∷ ss) [] same = cc
-indices-told (s ∷ ss) (t ∷ ts) same =
-    let whole : index_of s ∷ map index_of ss ≡ index_of t ∷ map index_of ts = same in
-    let head : index_of s ≡ index_of t = cc in
-    let tail : map index_of ss ≡ map index_of ts = cc in
-    let one = index-told s t head in
-    let rest = indices-told ss ts tail in
-    λ i. one i ∷ rest i
+named-back : (t : Target ℕ) → named (index_of t) ≡ t
+unfolding named
+named-back (Inside place) = refl
+named-back (Earlier id) = refl
+
+all-back : (ts : List (Target ℕ)) → map named (map index_of ts) ≡ ts
+all-back ts = map-twice index_of named (λ t. t) named-back ts ∙ map-same (λ t. t) (λ t. refl) ts
 
 pub group_key-exact : (g h : Group (Target ℕ) (Target ℕ)) → group_key g ≡ group_key h → g ≡ h
 group_key-exact g h same =
@@ -47,62 +47,26 @@ group_key-exact g h same =
     let references : map index_of (group_edges (λ t. t) g) ≡ map index_of (group_edges (λ t. t) h) = ap (λ (f : GroupKey). f.references) same in
     (plainly group_shape).determined g h
     (group-told _ _ (group-mapped erased erased g ∙ codes ∙ sym (group-mapped erased erased h)))
-    (indices-told _ _ references)
+    (sym (all-back _) ∙ ap (map named) references ∙ all-back _)
 
 -- ---- keys that are looked up are equal where they say the same
 
-nat-told : (m n : ℕ) → nat_eq m n ≡ true → m ≡ n
-nat-told m n same = eqb-true m n same
+index-told : (i j : UnpackedIndex) → index.ghosts.eq i j ≡ true → i ≡ j
+index-told (Module i) (Module j) same = ap Module (eqb-true i j same)
+index-told (RecGroup i) (RecGroup j) same = ap RecGroup (eqb-true i j same)
+index-told (Id i) (Id j) same = let one = eqb-true i.0 j.0 same in λ k. Id (record { 0 = one k })
+index-told _ _ same = let off : false ≡ true = same in cc
 
-nat-same : (n : ℕ) → nat_eq n n ≡ true
-nat-same n = eq-eqb n n refl
+index-decides : (i j : UnpackedIndex) → Decides (index.ghosts.eq i j) (i ≡ j)
+index-decides i j = (index-told i j, λ same. subst (λ k. index.ghosts.eq i k ≡ true) same (index_equal.laws-law.refl i))
 
-unpacked-told : (i j : UnpackedIndex) → index.ghosts.eq i j ≡ true → i ≡ j
-unpacked-told (Module i) (Module j) same = ap Module (nat-told i j same)
-unpacked-told (RecGroup i) (RecGroup j) same = ap RecGroup (nat-told i j same)
-unpacked-told (Id i) (Id j) same = let one = nat-told i.0 j.0 same in λ k. Id (record { 0 = one k })
-unpacked-told _ _ same = let off : false ≡ true = same in cc
-
-unpacked-same : (i : UnpackedIndex) → index.ghosts.eq i i ≡ true
-unpacked-same (Module i) = nat-same i
-unpacked-same (RecGroup i) = nat-same i
-unpacked-same (Id i) = nat-same i.0
-
-and-both : (a b : Bool) → (a && b) ≡ true → (a ≡ true) × (b ≡ true)
-and-both true b both = (refl, both)
-and-both false b both = cc
-
-both-and : (a b : Bool) → a ≡ true → b ≡ true → (a && b) ≡ true
-both-and true b first second = second
-both-and false b first second = cc
-
-module _ {A : Type 0} (test : A → A → Bool) where
-  list-told : ((a b : A) → test a b ≡ true → a ≡ b) → (xs ys : List A) → pointwise test xs ys ≡ true → xs ≡ ys
-  list-told each [] [] same = refl
-  list-told each [] (y ∷ ys) same = cc
-  list-told each (x ∷ xs) [] same = cc
-  list-told each (x ∷ xs) (y ∷ ys) same =
-      let both = and-both (test x y) (pointwise test xs ys) same in
-      let head = each x y both.0 in
-      let tail = list-told each xs ys both.1 in
-      λ i. head i ∷ tail i
-
-  list-same : ((a : A) → test a a ≡ true) → (xs : List A) → pointwise test xs xs ≡ true
-  list-same each [] = refl
-  list-same each (x ∷ xs) = both-and (test x x) (pointwise test xs xs) (each x) (list-same each xs)
-
-pub key-told : (a b : CanonicalGroup) → group.ghosts.eq a b ≡ true → key_of a ≡ key_of b
-key-told a b same =
-    let both = and-both (pointwise nat_eq a.frame.items b.frame.items) (pointwise index.ghosts.eq a.references.items b.references.items) same in
-    let codes = list-told nat_eq nat-told a.frame.items b.frame.items both.0 in
-    let references = list-told index.ghosts.eq unpacked-told a.references.items b.references.items both.1 in
-    λ i. record { codes = codes i; references = references i }
-
-pub key-same : (a b : CanonicalGroup) → key_of a ≡ key_of b → group.ghosts.eq a b ≡ true
-key-same a b same =
-    both-and (pointwise nat_eq a.frame.items b.frame.items) (pointwise index.ghosts.eq a.references.items b.references.items)
-    (ap (λ (f : GroupKey). pointwise nat_eq a.frame.items f.codes) (sym same) ∙ list-same nat_eq nat-same a.frame.items)
-    (ap (λ (f : GroupKey). pointwise index.ghosts.eq a.references.items f.references) (sym same) ∙ list-same index.ghosts.eq unpacked-same a.references.items)
+pub key-decides : (a b : CanonicalGroup) → Decides (group.ghosts.eq a b) (key_of a ≡ key_of b)
+key-decides a b =
+    let both = Decides-and (pointwise nat_eq a.frame.items b.frame.items) (pointwise index.ghosts.eq a.references.items b.references.items)
+    (bytes_eq-Decides a.frame.items b.frame.items) (all-decide index.ghosts.eq index-decides a.references.items b.references.items) in (
+      (λ same. let parts = both.0 same in λ i. record { codes = parts.0 i; references = parts.1 i }),
+      (λ same. both.1 ((λ i. (same i).codes), (λ i. (same i).references))),
+    )
 
 -- ---- what is made is the key
 

@@ -3,6 +3,7 @@ mod Looking
 mod Adding
 mod Decoding
 mod KeyLaws
+mod InOrder
 pub mod Steps
 mod Listing
 mod Rows

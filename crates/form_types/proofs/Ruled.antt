@@ -3,27 +3,29 @@ use Rattle.std.proofs.Common.{◌≡◌, ◌∙◌, ℕ, zero, suc, ◌+◌, ◌
 use Rattle.std.specs.Prelude.{IfSome}
 use Rattle.std.specs.Option.{option_to_list}
 use Rattle.std.specs.List.{All}
-use Rattle.std.proofs.lemmas.List.{length-map, map-append, append-nil}
+use Rattle.std.proofs.Math.Seq.{take-append_seam, get_or-append_seam}
+use Rattle.std.proofs.lemmas.List.{length-map, map-append, append-nil, nil_from_length}
 use Rattle.std.proofs.lemmas.List.Folds.{length-flat_map-take}
-use Rattle.std.proofs.lemmas.List.Elements.{All-nil, All-cons, All-head, All-tail, All-append, All-map}
-use Rattle.form_lists.proofs.AllSections.{All-joined}
+use Rattle.std.proofs.lemmas.List.Elements.{All-nil, All-cons, All-head, All-tail, All-append, All-map, All-weaker}
+use Rattle.form_lists.proofs.AllSections.{All-joined, All-from_map}
 use Rattle.wasm_spec.specs.declared.types.UnpackedIndex.{UnpackedIndex}
 use Rattle.wasm_spec.specs.declared.types.UnpackedIndex.TheVariants.{Module, RecGroup, Id}
 use Rattle.wasm_spec.specs.TypeData.{Composite, sub_type_edges, group_edges, composite_edges, map_sub_type}
 use Rattle.wasm_spec.specs.Module as plain
+use Rattle.type_data.specs.ListLaws.{map-same, map-twice}
 use Rattle.type_data.specs.TypeShapes.{group_shape}
 use Rattle.type_data.specs.Names.{plainly}
 use Rattle.type_spec.proofs.Homes.{joined, size}
 use Rattle.rule_spec.specs.Lists.{Declared, Lists, declared_from, declared_groups, lists_of_module}
 use Rattle.rule_spec.specs.TypeRules.{IsBelow, KindIsBelow, IsDeclaredWell}
 use Rattle.form_types.specs.declared.groups.GroupWithKey.{GroupWithKey}
-use Rattle.form_data.specs.Views.{group_of}
+use Rattle.form_data.specs.Views.{group_of, sub_type_of}
 use Rattle.form_types.specs.Types.{NamedGroup, types_by_id}
 use Rattle.form_types.specs.declared.building.Numbering.{Numbering}
 use Rattle.form_types.specs.Keys.{key_of}
 use Rattle.form_types.specs.Groups.{GroupAndKey, read_key, group_and_key, with_key, lent_groups}
 use Rattle.form_types.specs.Placed.{place_of, placed}
-use Rattle.form_types.proofs.Steps.{NearIn, all-becomes}
+use Rattle.form_types.proofs.Steps.{NearIn}
 use Rattle.form_types.proofs.Built.{Built, places}
 
 -- ---- the declared types are the joined groups
@@ -63,7 +65,7 @@ module _ (l : Lists) where
 
   kind-near : (end : ℕ) (kind : Composite UnpackedIndex UnpackedIndex) → KindIsBelow end kind → All (λ i. place_of i < end) (composite_edges (λ i. i) kind)
   unfolding KindIsBelow
-  kind-near end kind below = all-becomes (IsBelow end) (λ i. place_of i < end) (place-below end) (composite_edges (λ i. i) kind) below
+  kind-near end kind below = All-weaker (IsBelow end) (λ i. place_of i < end) (place-below end) (composite_edges (λ i. i) kind) below
 
   members-near : (end index : ℕ) (g : NamedGroup) → index + length g ≤ end → All (IsDeclaredWell l) (declared_from end index g)
       → All (λ i. place_of i < end) (group_edges (λ i. i) g)
@@ -103,58 +105,40 @@ rules-near m k lt all =
 
 -- ---- the groups of a form, as they are taken one by one
 
-front : {A : Type 0} (xs ys : List A) → take (length xs) (xs ++ ys) ≡ xs
-front [] ys = refl
-front (x ∷ xs) ys = ap (λ l. x ∷ l) (front xs ys)
-
-behind : {A : Type 0} (xs : List A) (y : A) (ys : List A) (d : A) → get_or (xs ++ y ∷ ys) (length xs) d ≡ y
-behind [] y ys d = refl
-behind (x ∷ xs) y ys d = behind xs y ys d
-
 module _ (m : plain.Module) (done : List NamedGroup) (g : NamedGroup) (rest : List NamedGroup) (whole : done ++ g ∷ rest ≡ plain.groups m) where
   below : length done < length (plain.groups m)
   below = omega (arith, ap length whole, length-append done (g ∷ rest))
 
   done-is : done ≡ take (length done) (plain.groups m)
-  done-is = sym (front done (g ∷ rest)) ∙ ap (take (length done)) whole
+  done-is = sym (take-append_seam done (g ∷ rest)) ∙ ap (take (length done)) whole
 
   at : get_or (plain.groups m) (length done) [] ≡ g
-  at = ap (λ l. get_or l (length done) []) (sym whole) ∙ behind done g rest []
+  at = ap (λ l. get_or l (length done) []) (sym whole) ∙ get_or-append_seam done g rest []
 
-  pub room : size (places done) + length g ≤ length (plain.types m)
+  room : size (places done) + length g ≤ length (plain.types m)
   room =
       let fits = length-flat_map-take (λ (g : NamedGroup). g) (plain.groups m) (length done) [] below in
       omega (arith, fits, ap length at, size-places done, ap (λ l. length (types_by_id l)) done-is)
 
-  pub near-next : All (IsDeclaredWell (lists_of_module m)) (declared_groups 0 (plain.groups m))
+  near-next : All (IsDeclaredWell (lists_of_module m)) (declared_groups 0 (plain.groups m))
       → NearIn (record { start = size (places done); members = placed g })
   near-next all =
       coe 0 1 (t. NearIn (record { start = size (places (sym done-is t)); members = placed (at t) })) (rules-near m (length done) below all)
 
 -- what is lent are the groups, with their keys
 lent-are : (fs : List GroupWithKey) (gs : List NamedGroup) → map group_and_key fs ≡ map with_key gs → lent_groups fs ≡ gs
-lent-are [] [] same = refl
-lent-are [] (g ∷ gs) same = cc
-lent-are (f ∷ fs) [] same = cc
-lent-are (f ∷ fs) (g ∷ gs) same =
-    let whole : group_and_key f ∷ map group_and_key fs ≡ with_key g ∷ map with_key gs = same in
-    let head : group_and_key f ≡ with_key g = cc in
-    let tail : map group_and_key fs ≡ map with_key gs = cc in
-    let rest = lent-are fs gs tail in
-    λ i. (head i).group ∷ rest i
+lent-are fs gs same =
+    sym (map-twice group_and_key (λ x. x.group) (λ f. group_of f.group.now) (λ f. refl) fs) ∙ ap (map (λ (x : GroupAndKey). x.group)) same
+    ∙ map-twice with_key (λ x. x.group) (λ g. g) (λ g. refl) gs ∙ map-same (λ g. g) (λ g. refl) gs
+
+abbrev IsKeyed : GroupAndKey → Type 0
+IsKeyed x = x.key ≡ read_key x.group
 
 item-keyed : (fs : List GroupWithKey) (f : GroupWithKey) (rest : List GroupWithKey) (gs : List NamedGroup) → map group_and_key (fs ++ f ∷ rest) ≡ map with_key gs
-    → key_of f.key ≡ read_key (group_of f.group.now)
-item-keyed [] f rest [] same = cc
-item-keyed [] f rest (g ∷ gs) same =
-    let whole : group_and_key f ∷ map group_and_key rest ≡ with_key g ∷ map with_key gs = same in
-    let head : group_and_key f ≡ with_key g = cc in
-    ap (λ (x : GroupAndKey). x.key) head ∙ ap (λ (x : GroupAndKey). read_key x.group) (sym head)
-item-keyed (e ∷ es) f rest [] same = cc
-item-keyed (e ∷ es) f rest (g ∷ gs) same =
-    let whole : group_and_key e ∷ map group_and_key (es ++ f ∷ rest) ≡ with_key g ∷ map with_key gs = same in
-    let tail : map group_and_key (es ++ f ∷ rest) ≡ map with_key gs = cc in
-    item-keyed es f rest gs tail
+    → IsKeyed (group_and_key f)
+item-keyed fs f rest gs same =
+    let all = All-from_map IsKeyed group_and_key (fs ++ f ∷ rest) (subst (All IsKeyed) (sym same) (All-map IsKeyed with_key gs (λ k d lt. refl))) in
+    subst (λ x. IsKeyed (group_and_key x)) (get_or-append_seam fs f rest f) (all (length fs) f (omega (arith, length-append fs (f ∷ rest))))
 
 -- some groups are numbered, and `count` come next
 pub record Walks (m : plain.Module) (n : Numbering) (done rest : List GroupWithKey) (count : ℕ) : Type 0 where
@@ -162,28 +146,36 @@ pub record Walks (m : plain.Module) (n : Numbering) (done rest : List GroupWithK
   pub all : map group_and_key (done ++ rest) ≡ map with_key (plain.groups m)
   pub counts : count ≡ length rest
 
-no-items : {A : Type 0} (xs : List A) → length xs ≡ 0 → xs ≡ []
-no-items [] none = refl
-no-items (x ∷ xs) none = absurd (omega arith)
-
 -- the last was numbered
-pub walked : (m : plain.Module) (n : Numbering) (done rest : List GroupWithKey) (count : ℕ) → Walks m n done rest count → count ≡ 0 → Built (plain.groups m) n
-walked m n done rest count w none =
-    let over : rest ≡ [] = no-items rest (sym w.counts ∙ none) in
+pub walked : {m : plain.Module} {n : Numbering} {done rest : List GroupWithKey} {count : ℕ} → Walks m n done rest count → count ≡ 0 → Built (plain.groups m) n
+walked {m = m} {n = n} {done = done} {rest = rest} w none =
+    let over : rest ≡ [] = nil_from_length rest (sym w.counts ∙ none) in
     let done-all : map group_and_key done ≡ map with_key (plain.groups m) =
     ap (map group_and_key) (sym (append-nil done) ∙ ap (λ l. done ++ l) (sym over)) ∙ w.all in
     subst (λ l. Built l n) (lent-are done (plain.groups m) done-all) w.built
 
-module _ (m : plain.Module) (n : Numbering) (done rest : List GroupWithKey) (count : ℕ) (w : Walks m n done rest count)
-    (item : GroupWithKey) (rest' : List GroupWithKey) (next : rest ≡ item ∷ rest') where
+module _ {m : plain.Module} {n : Numbering} {done rest : List GroupWithKey} {count : ℕ} (w : Walks m n done rest count)
+    {item : GroupWithKey} {rest' : List GroupWithKey} (next : rest ≡ item ∷ rest') where
   all-next : map group_and_key (done ++ item ∷ rest') ≡ map with_key (plain.groups m)
   all-next = ap (λ l. map group_and_key (done ++ l)) (sym next) ∙ w.all
 
-  pub whole-next : lent_groups done ++ group_of item.group.now ∷ lent_groups rest' ≡ plain.groups m
+  whole-next : lent_groups done ++ group_of item.group.now ∷ lent_groups rest' ≡ plain.groups m
   whole-next = sym (map-append (λ (f : GroupWithKey). group_of f.group.now) done (item ∷ rest')) ∙ lent-are (done ++ item ∷ rest') (plain.groups m) all-next
 
   pub key-next : key_of item.key ≡ read_key (group_of item.group.now)
   key-next = item-keyed done item rest' (plain.groups m) all-next
+
+  pub room-next : size (places (lent_groups done)) + length item.group.now.types.items ≤ length (plain.types m)
+  room-next =
+      omega (
+        arith,
+        room m (lent_groups done) (group_of item.group.now) (lent_groups rest') whole-next,
+        length-map item.group.now.types.items sub_type_of,
+      )
+
+  pub near-item : All (IsDeclaredWell (lists_of_module m)) (declared_groups 0 (plain.groups m))
+      → NearIn (record { start = size (places (lent_groups done)); members = placed (group_of item.group.now) })
+  near-item all = near-next m (lent_groups done) (group_of item.group.now) (lent_groups rest') whole-next all
 
   pub walks-more : (n' : Numbering) (count' : ℕ) → Built (lent_groups done ++ group_of item.group.now ∷ []) n' → count' + 1 ≡ count
       → Walks m n' (done ++ item ∷ []) rest' count'

@@ -1,67 +1,64 @@
 -- One group more is numbered.
-use Rattle.std.proofs.Common.{◌≡◌, ◌∙◌, ◌↔◌, ℕ, ◌+◌, ◌-◌, ◌<◌, ◌≤◌, List, [], ◌∷◌, ◌++◌, length, get_or, map, Bool, true, false, cond, nat_le, Option, Some, None, refl, sym, ap, subst, arith, ◌⊎◌, inl, inr, length-append}
-use Rattle.std.specs.List.{AllZip, All}
-use Rattle.std.proofs.lemmas.Bool.{ltb-true, ltb-false, leb-true, leb-false}
-use Rattle.std.proofs.lemmas.List.{length-map, append-nil, get_or_append_left, take-append-le}
-use Rattle.std.proofs.Math.Seq.{get_or-append_seam, take-length}
+use Rattle.std.proofs.Common.{◌≡◌, ◌≢◌, ◌∙◌, ℕ, zero, suc, ◌+◌, ◌-◌, ◌<◌, ◌≤◌, List, [], ◌∷◌, ◌++◌, length, get_or, take, Bool, true, false, cond, nat_le, Option, Some, None, refl, sym, ap, subst, arith, inl, inr, length-append}
+use Rattle.std.specs.List.{All, AllPairs}
+use Rattle.std.proofs.lemmas.Bool.{cases_lt, leb-true, leb-false}
+use Rattle.std.proofs.lemmas.List.{length-map, append-nil, get_or_append_left, get_or_default, get_or_push, take-append-le}
+use Rattle.std.proofs.Math.Seq.{take-length}
 use Rattle.std.proofs.lemmas.List.Concat.{flat_map-append}
-use Rattle.std.proofs.lemmas.List.Elements.{All-nil, All-head, All-tail, All-cons, All-map}
-use lib.Dec.{ltb, leb}
+use Rattle.std.proofs.lemmas.List.Elements.{All-map, All-weaker}
+use Rattle.std.proofs.lemmas.List.Folds.{length-flat_map-take}
+use Rattle.std.proofs.lemmas.List.Quantifiers.{all_pairs_push}
 use Rattle.wasm_spec.specs.declared.types.UnpackedIndex.{UnpackedIndex}
 use Rattle.wasm_spec.specs.declared.types.UnpackedIndex.TheVariants.{Id}
 use Rattle.wasm_spec.specs.TypeData.{Group, map_group, group_edges}
 use Rattle.type_data.specs.TypeShapes.{group_shape}
 use Rattle.type_data.specs.Names.{plainly, alike-mapped}
 use Rattle.type_spec.specs.Equality.{Target, Inside, Earlier, target, target_by, Home, home, canonical}
-use Rattle.type_spec.proofs.Homes.{size, home-within, home-again, home-before, home-last, size-more}
-use Rattle.type_spec.proofs.Numbers.{place, TellApart}
+use Rattle.type_spec.proofs.ByNames.{zip-known-itself}
+use Rattle.type_spec.proofs.Homes.{size, Holds, home-within, home-again, home-before, home-last, size-more}
+use Rattle.type_spec.proofs.Numbers.{TellApart}
+use Rattle.form_types.specs.declared.canonical.CanonicalGroup.{CanonicalGroup}
+use Rattle.form_types.specs.contracts.canonical.CanonicalGroupPartialEq.TheImpl as group
 use Rattle.form_types.specs.Ids.{id_of}
 use Rattle.form_types.specs.Types.{NamedGroup, types_by_id, IsIdBelow, NameEarlier}
 use Rattle.form_types.specs.Numbered.{first_id}
-use Rattle.form_types.specs.Keys.{GroupKey, group_key}
-use Rattle.form_types.proofs.KeyLaws.{group_key-exact}
+use Rattle.form_types.specs.Keys.{GroupKey, group_key, key_of}
+use Rattle.form_types.proofs.InOrder.{AreGiven, given-more}
+use Rattle.form_types.proofs.KeyLaws.{group_key-exact, key-decides}
 
 -- ---- what a canonical group reads
 
+abbrev pub Canonical : Type 0
+Canonical = Group (Target ℕ) (Target ℕ)
+
 -- a canonical group reads the numbers of earlier types alone
-pub canonical-agrees : (number number' : ℕ → ℕ) (g : Home) → ((i : ℕ) → i < g.start → number' i ≡ number i)
+canonical-agrees : (number number' : ℕ → ℕ) (g : Home) → ((i : ℕ) → i < g.start → number' i ≡ number i)
     → canonical number' g ≡ canonical number g
 canonical-agrees number number' g agree = ap (λ f. map_group f f g.members) (λ k i. by i (nat_le g.start i) refl k) where
   by : (i : ℕ) (b : Bool) → nat_le g.start i ≡ b → target_by b (i - g.start) (number' i) ≡ target_by b (i - g.start) (number i)
   by i true e = refl
   by i false e = ap Earlier (agree i (leb-false g.start i e))
 
-pub canonical-length : (number : ℕ → ℕ) (g : Home) → length (canonical number g) ≡ length g.members
-canonical-length number g = length-map g.members _
-
 -- what a reference of a canonical group names, where the group's first member has an id
-abbrev pub resolved : ℕ → Target ℕ → UnpackedIndex
+abbrev resolved : ℕ → Target ℕ → UnpackedIndex
 resolved first (Inside p) = Id (id_of (first + p))
 resolved first (Earlier id) = Id (id_of id)
 
 -- a canonical group, by ids
-abbrev pub by_ids : ℕ → Group (Target ℕ) (Target ℕ) → NamedGroup
+abbrev by_ids : ℕ → Canonical → NamedGroup
 by_ids first c = map_group (resolved first) (resolved first) c
 
 abbrev pub renamed : (ℕ → ℕ) → Group ℕ ℕ → NamedGroup
 renamed number g = map_group (λ i. Id (id_of (number i))) (λ i. Id (id_of (number i))) g
 
-all-zip : {A : Type 0} (P : A → Type 0) (Q : A → A → Type 0) → ((a : A) → P a → Q a a) → (xs : List A) → All P xs → AllZip Q xs xs
-all-zip P Q each [] all = tt
-all-zip P Q each (x ∷ xs) all = (each x (All-head P x xs all), all-zip P Q each xs (All-tail P x xs all))
-
-pub all-becomes : {A : Type 0} (P Q : A → Type 0) → ((a : A) → P a → Q a) → (xs : List A) → All P xs → All Q xs
-all-becomes P Q each [] all = All-nil Q
-all-becomes P Q each (x ∷ xs) all = All-cons Q x xs (each x (All-head P x xs all)) (all-becomes P Q each xs (All-tail P x xs all))
-
 -- a group by the numbers of what it names is its canonical group, by ids
-pub renamed-is : (number : ℕ → ℕ) (first : ℕ) (g : Home) (P : ℕ → Type 0)
+renamed-is : (number : ℕ → ℕ) (first : ℕ) (g : Home) (P : ℕ → Type 0)
     → ((r : ℕ) → P r → g.start ≤ r → number r ≡ first + (r - g.start)) → All P (group_edges (λ r. r) g.members)
     → renamed number g.members ≡ by_ids first (canonical number g)
 renamed-is number first g P row all =
     alike-mapped (plainly group_shape) (λ r. Id (id_of (number r))) (λ r. resolved first (target number g.start r)) g.members g.members (record {
       frames = refl;
-      edges = all-zip P (λ r s. Id (id_of (number r)) ≡ resolved first (target number g.start s))
+      edges = zip-known-itself P (λ r s. Id (id_of (number r)) ≡ resolved first (target number g.start s))
           (λ r p. by r p (nat_le g.start r) refl) (group_edges (λ r. r) g.members) all;
     })
     ∙ sym ((plainly group_shape).map_twice (target number g.start) (resolved first) g.members) where
@@ -69,7 +66,7 @@ renamed-is number first g P row all =
       by r p true e = ap (λ n. Id (id_of n)) (row r p (leb-true g.start r e))
       by r p false e = refl
 
--- ---- what is known of the first groups
+-- ---- groups, and where their members begin
 
 -- each reference names a type before the group's end
 abbrev pub NearIn : Home → Type 0
@@ -88,398 +85,305 @@ references-more first (h ∷ groups) g earlier here =
     omega (arith, length-append h (types_by_id groups)) in
     (earlier.0, references-more (first + length h) groups g earlier.1 (rw e at here))
 
-module _ {K : Type 0} (view : K → GroupKey) where
-  -- a type's group stands among the groups, its first member at the id of its own first
-  pub record Stood (groups : List NamedGroup) (number : ℕ → ℕ) (g : Home) : Type 0 where
-    pub at : ℕ
-    pub below : at < length groups
-    pub group : get_or groups at [] ≡ by_ids (number g.start) (canonical number g)
-    pub first : first_id groups at ≡ number g.start
+-- an id is that of a place of one group
+one-group : (groups : List NamedGroup) (a b p q : ℕ) → p < length (get_or groups a []) → q < length (get_or groups b [])
+    → first_id groups a + p ≡ first_id groups b + q → a ≡ b
+one-group [] a b p q i j same = absurd (omega arith)
+one-group (g ∷ gs) zero zero p q i j same = refl
+one-group (g ∷ gs) zero (suc b) p q i j same = absurd (omega (arith, length-append g (types_by_id (take b gs))))
+one-group (g ∷ gs) (suc a) zero p q i j same = absurd (omega (arith, length-append g (types_by_id (take a gs))))
+one-group (g ∷ gs) (suc a) (suc b) p q i j same =
+    ap suc (one-group gs a b p q i j (omega (arith, length-append g (types_by_id (take a gs)), length-append g (types_by_id (take b gs)))))
 
-  pub record IsNumbered (gs : List (Group ℕ ℕ)) (number : ℕ → ℕ) (groups : List NamedGroup) (get : K → Option ℕ) : Type 0 where
-    pub few : length (types_by_id groups) ≤ size gs
-    pub tells : TellApart gs gs number number (size gs) (size gs)
-    pub in_row : (i : ℕ) → i < size gs → number i ≡ number (home gs i).start + place gs i
-    pub below : (i : ℕ) → i < size gs → number i < length (types_by_id groups)
-    pub found : (key : K) (first : ℕ) → get key ≡ Some first → (i : ℕ) × (i < size gs) × (view key ≡ group_key (canonical number (home gs i)))
-    pub kept : (i : ℕ) (key : K) → i < size gs → view key ≡ group_key (canonical number (home gs i)) → get key ≡ Some (number (home gs i).start)
-    pub held : (i : ℕ) → i < size gs → Stood groups number (home gs i)
-    pub in_order : (i id : ℕ) → i < size gs → id < number i → (j : ℕ) × (j < i) × (number j ≡ id)
-    pub nothing_else : (id : ℕ) → id < length (types_by_id groups) → (j : ℕ) × (j < size gs) × (number j ≡ id)
-    pub near : (i : ℕ) → i < size gs → NearIn (home gs i)
-    pub references : NameEarlier 0 groups
+-- a key stands at one place
+one-key : (keys : List Canonical) (a b : ℕ) → AllPairs (λ c d. c ≢ d) keys → a < length keys → b < length keys
+    → get_or keys a [] ≡ get_or keys b [] → a ≡ b
+one-key keys a b apart i j same =
+    elim (cases_lt a b) [
+      | inl lt ↦ absurd (apart a b [] lt j same)
+      | inr ge ↦ elim (cases_lt b a) [ inl lt ↦ absurd (apart b a [] lt i (sym same)) | inr le ↦ omega (arith, ge, le) ]
+    ]
 
-  some-is : (x y : ℕ) → Some x ≡ Some y → x ≡ y
-  some-is x y e = cc
+-- ---- what is known of the first groups
 
-  -- a group of `m` types comes next, whose members get numbers in a row
-  module _ (gs : List (Group ℕ ℕ)) (number : ℕ → ℕ) (groups : List NamedGroup) (get : K → Option ℕ) (st : IsNumbered gs number groups get)
-      (m : Group ℕ ℕ) (some : 0 < length m) (key : K) (is_key : view key ≡ group_key (canonical number (record { start = size gs; members = m })))
-      (bounded : NearIn (record { start = size gs; members = m })) where
-    abbrev next-home : Home
-    next-home = record { start = size gs; members = m }
+-- the groups of some keys by ids, each key once
+pub record AreListed (keys : List Canonical) (groups : List NamedGroup) : Type 0 where
+  pub long : length groups ≡ length keys
+  pub are : (k : ℕ) → k < length keys → get_or groups k [] ≡ by_ids (first_id groups k) (get_or keys k [])
+  pub apart : AllPairs (λ c d. c ≢ d) keys
+  pub references : NameEarlier 0 groups
 
-    abbrev more : List (Group ℕ ℕ)
-    more = gs ++ m ∷ []
+-- a type has its number in the group of its key, whose references are near
+pub record Stands (keys : List Canonical) (groups : List NamedGroup) (number : ℕ → ℕ) (i : ℕ) (g : Home) : Type 0 where
+  pub at : ℕ
+  pub below : at < length keys
+  pub key : get_or keys at [] ≡ canonical number g
+  pub number_is : number i ≡ first_id groups at + (i - g.start)
+  pub near : NearIn g
 
-    -- an earlier type against a member
-    abbrev Crosses : ℕ → Type 0
-    Crosses first = (i p : ℕ) → i < size gs → p < length m
-        → (number i ≡ first + p) ↔ ((place gs i ≡ p) × (canonical number (home gs i) ≡ canonical number next-home))
+-- what is noted of a key: the first id of its group, or that there is none
+abbrev pub TellsAt : List Canonical → List NamedGroup → GroupKey → Option ℕ → Type 0
+TellsAt keys groups key (Some first) = (k : ℕ) × (k < length keys) × (key ≡ group_key (get_or keys k [])) × (first ≡ first_id groups k)
+TellsAt keys groups key None = (k : ℕ) → k < length keys → key ≡ group_key (get_or keys k []) → ⊥
 
-    cross-new : get key ≡ None → Crosses (length (types_by_id groups))
-    cross-new none i p h k = (
-      (λ same. absurd (omega (arith, st.below i h, same))),
-      (λ same. absurd (let held = st.kept i key h (is_key ∙ ap group_key (sym same.1)) in let off : None ≡ Some (number (home gs i).start) = sym none ∙ held in cc)),
-    )
+pub record IsNumbered (gs : List (Group ℕ ℕ)) (number : ℕ → ℕ) (keys : List Canonical) (groups : List NamedGroup) (get : CanonicalGroup → Option ℕ) : Type 0 where
+  pub few : length (types_by_id groups) ≤ size gs
+  pub listed : AreListed keys groups
+  pub tells : (q : CanonicalGroup) → TellsAt keys groups (key_of q) (get q)
+  pub stands : (i : ℕ) → i < size gs → Stands keys groups number i (home gs i)
+  pub given : AreGiven number (size gs) (length (types_by_id groups))
 
-    -- the earlier group that has the key
-    pub record Met (first : ℕ) : Type 0 where
-      pub one : ℕ
-      pub lt : one < size gs
-      pub same : canonical number (home gs one) ≡ canonical number next-home
-      pub first_is : number (home gs one).start ≡ first
+first-low : (keys : List Canonical) (groups : List NamedGroup) → AreListed keys groups → (k : ℕ) → k < length keys
+    → first_id groups k + length (get_or groups k []) ≤ length (types_by_id groups)
+first-low keys groups listed k lt = length-flat_map-take (λ (g : NamedGroup). g) groups k [] (omega (arith, lt, listed.long))
 
-    met-one : (first : ℕ) → get key ≡ Some first → Met first
-    met-one first e =
-        let f = st.found key first e in
-        record {
-          one = f.0;
-          lt = f.1;
-          same = group_key-exact _ _ (sym f.2 ∙ is_key);
-          first_is = some-is _ _ (sym (st.kept f.0 key f.1 f.2) ∙ e);
-        }
+-- ---- what follows at once
 
-    pub record MetAt (first p : ℕ) : Type 0 where
-      pub other : ℕ
-      pub lt : other < size gs
-      pub number_is : number other ≡ first + p
-      pub place_is : place gs other ≡ p
-      pub same : canonical number (home gs other) ≡ canonical number next-home
+module _ {gs : List (Group ℕ ℕ)} {number : ℕ → ℕ} {keys : List Canonical} {groups : List NamedGroup} {get : CanonicalGroup → Option ℕ}
+    (st : IsNumbered gs number keys groups get) where
+  pub found-low : (q : CanonicalGroup) (first : ℕ) → get q ≡ Some first → first ≤ length (types_by_id groups)
+  found-low q first is = let f = subst (TellsAt keys groups (key_of q)) is (st.tells q) in omega (arith, f.3, first-low keys groups st.listed f.0 f.1)
 
-    met-at : (first : ℕ) → get key ≡ Some first → (p : ℕ) → p < length m → MetAt first p
-    met-at first e p k =
-        let w = met-one first e in
-        let long : length (home gs w.one).members ≡ length m =
-        sym (canonical-length number (home gs w.one)) ∙ ap length w.same ∙ canonical-length number next-home in
-        let inside = home-within gs w.one w.lt in
-        let j = (home gs w.one).start + p in
-        let again : home gs j ≡ home gs w.one = home-again gs w.one j w.lt (record { from = omega arith; to = omega (arith, long) }) in
-        let lt : j < size gs = omega (arith, inside.high, long) in
-        let at : place gs j ≡ p = ap (λ (g : Home). j - g.start) again ∙ omega arith in
-        record {
-          other = j;
-          lt = lt;
-          number_is = st.in_row j lt ∙ (λ t. number (again t).start + at t) ∙ ap (λ x. x + p) w.first_is;
-          place_is = at;
-          same = ap (λ g. canonical number g) again ∙ w.same;
-        }
+  group-is : (i : ℕ) (h : i < size gs) → get_or groups (st.stands i h).at [] ≡ by_ids (first_id groups (st.stands i h).at) (canonical number (home gs i))
+  group-is i h = let s = st.stands i h in st.listed.are s.at s.below ∙ ap (by_ids (first_id groups s.at)) s.key
 
-    cross-old : (first : ℕ) → get key ≡ Some first → Crosses first
-    cross-old first e i p h k =
-        let f = met-at first e p k in
-        let told = st.tells i f.other h f.lt in (
-          (λ same. let both = told.0 (same ∙ sym f.number_is) in (both.0 ∙ f.place_is, both.1 ∙ f.same)),
-          (λ same. told.1 (same.0 ∙ sym f.place_is, same.1 ∙ sym f.same) ∙ f.number_is),
-        )
+  group-long : (i : ℕ) (h : i < size gs) → length (get_or groups (st.stands i h).at []) ≡ length (home gs i).members
+  group-long i h = ap length (group-is i h) ∙ length-map (canonical number (home gs i)) _ ∙ length-map (home gs i).members _
 
-    module _ (first : ℕ) (crosses : (i p : ℕ) → i < size gs → p < length m
-        → (number i ≡ first + p) ↔ ((place gs i ≡ p) × (canonical number (home gs i) ≡ canonical number next-home)))
-        (number' : ℕ → ℕ) (agree : (i : ℕ) → i < size gs → number' i ≡ number i)
-        (fresh : (p : ℕ) → p < length m → number' (size gs + p) ≡ first + p) where
-      earlier-key : (i : ℕ) → i < size gs → canonical number' (home more i) ≡ canonical number (home gs i)
-      earlier-key i h =
-          ap (canonical number') (home-before gs m i h)
-          ∙ canonical-agrees number number' (home gs i) (λ r lt. agree r (omega (arith, lt, (home-within gs i h).from)))
+  -- the place of a type is one of its group
+  within : (i : ℕ) (h : i < size gs) → i - (home gs i).start < length (get_or groups (st.stands i h).at [])
+  within i h = let w = home-within gs i h in omega (arith, group-long i h, w.from, w.to)
 
-      member-home : (p : ℕ) → p < length m → home more (size gs + p) ≡ next-home
-      member-home p h = home-last gs m (size gs + p) (omega arith) (omega arith)
+  pub below-all : (i : ℕ) → i < size gs → number i < length (types_by_id groups)
+  below-all i h = let s = st.stands i h in omega (arith, s.number_is, within i h, first-low keys groups st.listed s.at s.below)
 
-      member-key : (p : ℕ) → p < length m → canonical number' (home more (size gs + p)) ≡ canonical number next-home
-      member-key p h = ap (canonical number') (member-home p h) ∙ canonical-agrees number number' next-home agree
+  same-key : (i j : ℕ) (h : i < size gs) (k : j < size gs) → canonical number (home gs i) ≡ canonical number (home gs j) → (st.stands i h).at ≡ (st.stands j k).at
+  same-key i j h k same =
+      let x = st.stands i h in
+      let y = st.stands j k in
+      one-key keys x.at y.at st.listed.apart x.below y.below (x.key ∙ same ∙ sym y.key)
 
-      earlier-place : (i : ℕ) → i < size gs → place more i ≡ place gs i
-      earlier-place i h = ap (λ (g : Home). i - g.start) (home-before gs m i h)
+  -- the members of a group have numbers in a row
+  pub in-row : (i r : ℕ) (h : i < size gs) → Holds (home gs i) r → number r ≡ first_id groups (st.stands i h).at + (r - (home gs i).start)
+  in-row i r h holds =
+      let again = home-again gs i r h holds in
+      let inside : r < size gs = omega (arith, holds.to, (home-within gs i h).high) in
+      (st.stands r inside).number_is
+      ∙ (λ t. first_id groups (same-key r i inside h (ap (canonical number) again) t) + (r - (again t).start))
 
-      member-place : (p : ℕ) → p < length m → place more (size gs + p) ≡ p
-      member-place p h = ap (λ (g : Home). size gs + p - g.start) (member-home p h) ∙ omega arith
-
-      abbrev Told : ℕ → ℕ → Type 0
-      Told i j = (number' i ≡ number' j) ↔ ((place more i ≡ place more j) × (canonical number' (home more i) ≡ canonical number' (home more j)))
-
-      told-earlier : (i j : ℕ) → i < size gs → j < size gs → Told i j
-      told-earlier i j h k =
-          let a = sym (agree i h) in let b = sym (agree j k) in
-          let x = sym (earlier-place i h) in let y = sym (earlier-place j k) in
-          let u = sym (earlier-key i h) in let v = sym (earlier-key j k) in
-          coe 0 1 (t. (a t ≡ b t) ↔ ((x t ≡ y t) × (u t ≡ v t))) (st.tells i j h k)
-
-      told-cross : (i p : ℕ) → i < size gs → p < length m → Told i (size gs + p)
-      told-cross i p h k =
-          let a = sym (agree i h) in let b = sym (fresh p k) in
-          let x = sym (earlier-place i h) in let y = sym (member-place p k) in
-          let u = sym (earlier-key i h) in let v = sym (member-key p k) in
-          coe 0 1 (t. (a t ≡ b t) ↔ ((x t ≡ y t) × (u t ≡ v t))) (crosses i p h k)
-
-      told-members : (p q : ℕ) → p < length m → q < length m → Told (size gs + p) (size gs + q)
-      told-members p q h k =
-          let a = sym (fresh p h) in let b = sym (fresh q k) in
-          let x = sym (member-place p h) in let y = sym (member-place q k) in
-          let u = sym (member-key p h) in let v = sym (member-key q k) in
-          coe 0 1 (t. (a t ≡ b t) ↔ ((x t ≡ y t) × (u t ≡ v t)))
-          ((λ (same : first + p ≡ first + q). let one : p ≡ q = omega arith in (one, refl)), (λ same. ap (λ n. first + n) same.0))
-
-      told-turned : (i j : ℕ) → Told i j → Told j i
-      told-turned i j t = (
-        (λ same. let both = t.0 (sym same) in (sym both.0, sym both.1)),
-        (λ same. sym (t.1 (sym same.0, sym same.1))),
+  pub told-apart : TellApart gs gs number number (size gs) (size gs)
+  told-apart i j h k =
+      let x = st.stands i h in
+      let y = st.stands j k in (
+        (λ same.
+            let one : x.at ≡ y.at =
+            one-group groups x.at y.at (i - (home gs i).start) (j - (home gs j).start) (within i h) (within j k) (sym x.number_is ∙ same ∙ y.number_is) in
+            let place : i - (home gs i).start ≡ j - (home gs j).start = omega (arith, same, x.number_is, y.number_is, ap (first_id groups) one) in
+            (place, sym x.key ∙ ap (λ a. get_or keys a []) one ∙ y.key)),
+        (λ both. x.number_is ∙ (λ t. first_id groups (same-key i j h k both.1 t) + both.0 t) ∙ sym y.number_is),
       )
 
-      -- an earlier type, or a member
-      either : (i : ℕ) → i < size more → (i < size gs) ⊎ ((p : ℕ) × (p < length m) × (size gs + p ≡ i))
-      either i h = by (ltb i (size gs)) refl where
-        by : (b : Bool) → ltb i (size gs) ≡ b → (i < size gs) ⊎ ((p : ℕ) × (p < length m) × (size gs + p ≡ i))
-        by true e = inl (ltb-true i (size gs) e)
-        by false e = let l = ltb-false i (size gs) e in inr (i - size gs, omega (arith, size-more gs m), omega arith)
+  -- its group is that which its declared group becomes
+  pub group-renamed : (i : ℕ) (h : i < size gs) → get_or groups (st.stands i h).at [] ≡ renamed number (home gs i).members
+  group-renamed i h =
+      let g = home gs i in
+      group-is i h
+      ∙ sym (renamed-is number (first_id groups (st.stands i h).at) g (λ r. r < g.start + length g.members)
+      (λ r high low. in-row i r h (record { from = low; to = high })) (st.stands i h).near)
 
-      pub told-all : TellApart more more number' number' (size more) (size more)
-      told-all i j h k =
-          elim (either i h) [
-            | inl a ↦ elim (either j k) [
-              | inl b ↦ told-earlier i j a b
-              | inr (q, b, e) ↦ subst (λ y. Told i y) e (told-cross i q a b)
-            ]
-            | inr (p, a, d) ↦ subst (λ x. Told x j) d (elim (either j k) [
-              | inl b ↦ told-turned j (size gs + p) (told-cross j p b a)
-              | inr (q, b, e) ↦ subst (λ y. Told (size gs + p) y) e (told-members p q a b)
-            ])
-          ]
+-- ---- a group comes next, whose members get numbers in a row
 
-      pub first-member : number' (size gs) ≡ first
-      first-member =
-          let e : size gs + 0 ≡ size gs = omega arith in
-          let f : first + 0 ≡ first = omega arith in
-          ap number' (sym e) ∙ fresh 0 some ∙ f
+-- what stands at a place, stands there in longer lists
+record Stays (keys keys' : List Canonical) (groups groups' : List NamedGroup) (k : ℕ) : Type 0 where
+  pub below : k < length keys'
+  pub key : get_or keys' k [] ≡ get_or keys k []
+  pub first : first_id groups' k ≡ first_id groups k
 
-      earlier-start : (i : ℕ) → i < size gs → number' (home more i).start ≡ number (home gs i).start
-      earlier-start i h =
-          ap (λ (g : Home). number' g.start) (home-before gs m i h)
-          ∙ agree (home gs i).start (omega (arith, (home-within gs i h).from, h))
+module _ (gs : List (Group ℕ ℕ)) (number : ℕ → ℕ) (keys : List Canonical) (groups : List NamedGroup) (get : CanonicalGroup → Option ℕ)
+    (st : IsNumbered gs number keys groups get) (m : Group ℕ ℕ) (number' : ℕ → ℕ) (agree : (i : ℕ) → i < size gs → number' i ≡ number i) where
+  abbrev next-home : Home
+  next-home = record { start = size gs; members = m }
 
-      member-start : (p : ℕ) → p < length m → number' (home more (size gs + p)).start ≡ first
-      member-start p h = ap (λ (g : Home). number' g.start) (member-home p h) ∙ first-member
+  abbrev more : List (Group ℕ ℕ)
+  more = gs ++ m ∷ []
 
-      pub in-row-all : (i : ℕ) → i < size more → number' i ≡ number' (home more i).start + place more i
-      in-row-all i h =
-          elim (either i h) [
-            | inl a ↦ agree i a ∙ st.in_row i a ∙ sym (λ t. earlier-start i a t + earlier-place i a t)
-            | inr (p, a, d) ↦ subst (λ x. number' x ≡ number' (home more x).start + place more x) d
-                (fresh p a ∙ sym (λ t. member-start p a t + member-place p a t))
-          ]
+  abbrev total : ℕ
+  total = length (types_by_id groups)
 
-      near-all : (i : ℕ) → i < size more → NearIn (home more i)
-      near-all i h =
-          elim (either i h) [
-            | inl a ↦ subst (λ g. NearIn g) (sym (home-before gs m i a)) (st.near i a)
-            | inr (p, a, d) ↦ subst (λ x. NearIn (home more x)) d (subst (λ g. NearIn g) (sym (member-home p a)) bounded)
-          ]
+  -- the place of the key of the group
+  record Comes (keys' : List Canonical) (groups' : List NamedGroup) (first : ℕ) : Type 0 where
+    pub at : ℕ
+    pub below : at < length keys'
+    pub key : get_or keys' at [] ≡ canonical number next-home
+    pub first_is : first_id groups' at ≡ first
+    pub near : NearIn next-home
 
-      -- what was known of an earlier type's group
-      stood-earlier : (groups' : List NamedGroup) (i : ℕ) → i < size gs → Stood groups' number (home gs i) → Stood groups' number' (home more i)
-      stood-earlier groups' i h s = record {
-        at = s.at;
-        below = s.below;
-        group = s.group ∙ sym (λ t. by_ids (earlier-start i h t) (earlier-key i h t));
-        first = s.first ∙ sym (earlier-start i h);
-      }
+  stands-more : (keys' : List Canonical) (groups' : List NamedGroup) (first : ℕ) → ((k : ℕ) → k < length keys → Stays keys keys' groups groups' k)
+      → ((p : ℕ) → p < length m → number' (size gs + p) ≡ first + p) → (0 < length m → Comes keys' groups' first)
+      → (i : ℕ) → i < size more → Stands keys' groups' number' i (home more i)
+  stands-more keys' groups' first stays fresh comes i h =
+      elim (cases_lt i (size gs)) [
+        | inl old ↦
+            let s = st.stands i old in
+            let t = stays s.at s.below in
+            subst (Stands keys' groups' number' i) (sym (home-before gs m i old)) (record {
+              at = s.at;
+              below = t.below;
+              key = t.key ∙ s.key
+                  ∙ sym (canonical-agrees number number' (home gs i) (λ r lt. agree r (omega (arith, lt, old, (home-within gs i old).from))));
+              number_is = omega (arith, agree i old, s.number_is, t.first);
+              near = s.near;
+            })
+        | inr new ↦
+            let inside : i < size gs + length m = omega (arith, h, size-more gs m) in
+            let c = comes (omega (arith, inside, new)) in
+            let at : size gs + (i - size gs) ≡ i = omega (arith, new) in
+            subst (Stands keys' groups' number' i) (sym (home-last gs m i new inside)) (record {
+              at = c.at;
+              below = c.below;
+              key = c.key ∙ sym (canonical-agrees number number' next-home agree);
+              number_is = omega (arith, ap number' at, fresh (i - size gs) (omega (arith, inside, new)), c.first_is);
+              near = c.near;
+            })
+      ]
 
-      stood-member : (groups' : List NamedGroup) (at p : ℕ) → p < length m → at < length groups'
-          → get_or groups' at [] ≡ by_ids first (canonical number next-home) → first_id groups' at ≡ first → Stood groups' number' (home more (size gs + p))
-      stood-member groups' at p h below group starts = record {
-        at = at;
-        below = below;
-        group = group ∙ sym (λ t. by_ids (member-start p h t) (member-key p h t));
-        first = starts ∙ sym (member-start p h);
-      }
+  given-next : (first count' : ℕ) → first ≤ total → ((p : ℕ) → p < length m → number' (size gs + p) ≡ first + p)
+      → ((id : ℕ) → id < count' → total ≤ id → id < first + length m) → AreGiven number' (size more) count'
+  given-next first count' low fresh up =
+      subst (λ n. AreGiven number' n count') (sym (size-more gs m)) (given-more number number' (size gs) total first (length m) st.given low agree fresh count' up)
 
-    -- a group with a key that was met
-    module _ (first : ℕ) (e : get key ≡ Some first) (number' : ℕ → ℕ) (agree : (i : ℕ) → i < size gs → number' i ≡ number i)
-        (fresh : (p : ℕ) → p < length m → number' (size gs + p) ≡ first + p) (get' : K → Option ℕ) (same : (q : K) → get' q ≡ get q) where
-      pub numbered-old : IsNumbered more number' groups get'
-      numbered-old = record {
-        few = omega (arith, st.few, size-more gs m);
-        tells = told-all first (cross-old first e) number' agree fresh;
-        in_row = in-row-all first (cross-old first e) number' agree fresh;
-        below = λ i h. elim (either first (cross-old first e) number' agree fresh i h) [
-          | inl a ↦ rw (agree i a) (st.below i a)
-          | inr (p, a, d) ↦ let f = met-at first e p a in
-              subst (λ x. number' x < length (types_by_id groups)) d (omega (arith, fresh p a, f.number_is, st.below f.other f.lt))
-        ];
-        found = λ q v is.
-            let f = st.found q v (sym (same q) ∙ is) in
-            (f.0, omega (arith, f.1, size-more gs m), f.2 ∙ ap group_key (sym (earlier-key first (cross-old first e) number' agree fresh f.0 f.1)));
-        kept = λ i q h is. elim (either first (cross-old first e) number' agree fresh i h) [
-          | inl a ↦ same q ∙ st.kept i q a (is ∙ ap group_key (earlier-key first (cross-old first e) number' agree fresh i a))
-              ∙ ap (λ n. Some n) (sym (earlier-start first (cross-old first e) number' agree fresh i a))
-          | inr (p, a, d) ↦
-              let w = met-one first e in
-              let back = subst (λ x. view q ≡ group_key (canonical number' (home more x))) (sym d) is in
-              same q ∙ st.kept w.one q w.lt (back ∙ ap group_key (member-key first (cross-old first e) number' agree fresh p a ∙ sym w.same))
-              ∙ ap (λ n. Some n) (w.first_is ∙ subst (λ x. first ≡ number' (home more x).start) d (sym (member-start first (cross-old first e) number' agree fresh p a)))
-        ];
-        held = λ i h. elim (either first (cross-old first e) number' agree fresh i h) [
-          | inl a ↦ stood-earlier first (cross-old first e) number' agree fresh groups i a (st.held i a)
-          | inr (p, a, d) ↦
-              let w = met-one first e in
-              let s = st.held w.one w.lt in
-              subst (λ x. Stood groups number' (home more x)) d
-              (stood-member first (cross-old first e) number' agree fresh groups s.at p a s.below
-              (s.group ∙ (λ t. by_ids (w.first_is t) (w.same t))) (s.first ∙ w.first_is))
-        ];
-        in_order = λ i id h lt. elim (either first (cross-old first e) number' agree fresh i h) [
-          | inl a ↦
-              let f = st.in_order i id a (rw (agree i a) at lt) in
-              (f.0, f.1, agree f.0 (omega (arith, f.1, a)) ∙ f.2)
-          | inr (p, a, d) ↦
-              let w = met-at first e p a in
-              let number_is : number' i ≡ number w.other = ap number' (sym d) ∙ fresh p a ∙ sym w.number_is in
-              let f = st.in_order w.other id w.lt (rw number_is at lt) in
-              (f.0, omega (arith, f.1, w.lt, d), agree f.0 (omega (arith, f.1, w.lt)) ∙ f.2)
-        ];
-        nothing_else = λ id lt.
-            let f = st.nothing_else id lt in
-            (f.0, omega (arith, f.1, size-more gs m), agree f.0 f.1 ∙ f.2);
-        near = near-all first (cross-old first e) number' agree fresh;
-        references = st.references;
-      }
+  -- the groups stay: this one has no types, or its key was met
+  numbered-same : (first : ℕ) → first ≤ total → ((p : ℕ) → p < length m → number' (size gs + p) ≡ first + p)
+      → (0 < length m → Comes keys groups first) → (get' : CanonicalGroup → Option ℕ) → ((q : CanonicalGroup) → get' q ≡ get q) → IsNumbered more number' keys groups get'
+  numbered-same first low fresh comes get' same = record {
+    few = omega (arith, st.few, size-more gs m);
+    listed = st.listed;
+    tells = λ q. subst (TellsAt keys groups (key_of q)) (sym (same q)) (st.tells q);
+    stands = stands-more keys groups first (λ k lt. record { below = lt; key = refl; first = refl }) fresh comes;
+    given = given-next first total low fresh (λ id lt ge. absurd (omega (arith, lt, ge)));
+  }
 
-    -- a group with a new key
-    abbrev total : ℕ
-    total = length (types_by_id groups)
+  pub numbered-empty : length m ≡ 0 → IsNumbered more number' keys groups get
+  numbered-empty none =
+      numbered-same 0 (omega arith) (λ p lt. absurd (omega (arith, lt, none))) (λ some. absurd (omega (arith, some, none))) get (λ q. refl)
 
-    module _ (none : get key ≡ None) (number' : ℕ → ℕ) (agree : (i : ℕ) → i < size gs → number' i ≡ number i)
-        (fresh : (p : ℕ) → p < length m → number' (size gs + p) ≡ total + p) (g : NamedGroup) (is_g : g ≡ renamed number' m) where
+  module _ (key : CanonicalGroup) (is_key : key_of key ≡ group_key (canonical number next-home)) (near : NearIn next-home) where
+    pub numbered-old : (first : ℕ) → get key ≡ Some first → ((p : ℕ) → p < length m → number' (size gs + p) ≡ first + p)
+        → (get' : CanonicalGroup → Option ℕ) → ((q : CanonicalGroup) → get' q ≡ get q) → IsNumbered more number' keys groups get'
+    numbered-old first met fresh get' same =
+        let f = subst (TellsAt keys groups (key_of key)) met (st.tells key) in
+        numbered-same first (found-low st key first met) fresh
+        (λ some. record { at = f.0; below = f.1; key = group_key-exact _ _ (sym f.2 ∙ is_key); first_is = sym f.3; near = near }) get' same
+
+    -- a new key
+    module _ (none : get key ≡ None) (fresh : (p : ℕ) → p < length m → number' (size gs + p) ≡ total + p) (g : NamedGroup) (is_g : g ≡ renamed number' m) where
+      abbrev keys' : List Canonical
+      keys' = keys ++ canonical number next-home ∷ []
+
+      abbrev groups' : List NamedGroup
+      groups' = groups ++ g ∷ []
+
       number-of : (r : ℕ) → size gs ≤ r → r < size gs + length m → number' r ≡ total + (r - size gs)
       number-of r low high =
           let e : size gs + (r - size gs) ≡ r = omega arith in
           ap number' (sym e) ∙ fresh (r - size gs) (omega arith)
 
       named-below : (r : ℕ) → r < size gs + length m → number' r < total + length m
-      named-below r high = by (ltb r (size gs)) refl where
-        by : (b : Bool) → ltb r (size gs) ≡ b → number' r < total + length m
-        by true e = let l = ltb-true r (size gs) e in omega (arith, agree r l, st.below r l)
-        by false e = let l = ltb-false r (size gs) e in omega (arith, number-of r l high)
+      named-below r high =
+          elim (cases_lt r (size gs)) [
+            | inl old ↦ omega (arith, agree r old, below-all st r old)
+            | inr new ↦ omega (arith, number-of r new high, new, high)
+          ]
 
-      group-is : g ≡ by_ids total (canonical number next-home)
-      group-is =
-          is_g ∙ renamed-is number' total next-home (λ r. r < size gs + length m) (λ r high low. number-of r low high) bounded
+      new-is : g ≡ by_ids total (canonical number next-home)
+      new-is =
+          is_g ∙ renamed-is number' total next-home (λ r. r < size gs + length m) (λ r high low. number-of r low high) near
           ∙ ap (by_ids total) (canonical-agrees number number' next-home agree)
 
-      group-long : length g ≡ length m
-      group-long = ap length is_g ∙ length-map m _
+      new-long : length g ≡ length m
+      new-long = ap length is_g ∙ length-map m _
 
-      total-is : length (types_by_id (groups ++ g ∷ [])) ≡ total + length m
-      total-is = total-more groups g ∙ ap (λ n. total + n) group-long
+      total-is : length (types_by_id groups') ≡ total + length m
+      total-is = total-more groups g ∙ ap (λ n. total + n) new-long
 
-      group-names : All (IsIdBelow (0 + total + length g)) (group_edges (λ r. r) g)
-      group-names =
-          let edges : group_edges (λ r. r) (renamed number' m) ≡ map (λ i. Id (id_of (number' i))) (group_edges (λ r. r) m) =
-          (plainly group_shape).edges_map (λ i. Id (id_of (number' i))) m in
-          let each : All (λ r. IsIdBelow (0 + total + length g) (Id (id_of (number' r)))) (group_edges (λ r. r) m) =
-          all-becomes (λ r. r < size gs + length m) (λ r. IsIdBelow (0 + total + length g) (Id (id_of (number' r))))
-          (λ r high. let l = named-below r high in omega (arith, l, group-long)) (group_edges (λ r. r) m) bounded in
+      new-names : All (IsIdBelow (0 + total + length g)) (group_edges (λ r. r) g)
+      new-names =
+          let to : ℕ → UnpackedIndex = λ r. Id (id_of (number' r)) in
+          let each : All (λ r. IsIdBelow (0 + total + length g) (to r)) (group_edges (λ r. r) m) =
+          All-weaker (λ r. r < size gs + length m) (λ r. IsIdBelow (0 + total + length g) (to r))
+          (λ r high. omega (arith, named-below r high, new-long)) (group_edges (λ r. r) m) near in
           subst (λ x. All (IsIdBelow (0 + total + length g)) (group_edges (λ r. r) x)) (sym is_g)
-          (subst (All (IsIdBelow (0 + total + length g))) (sym edges)
-          (All-map (IsIdBelow (0 + total + length g)) (λ i. Id (id_of (number' i))) (group_edges (λ r. r) m) each))
+          (subst (All (IsIdBelow (0 + total + length g))) (sym ((plainly group_shape).edges_map to m))
+          (All-map (IsIdBelow (0 + total + length g)) to (group_edges (λ r. r) m) each))
 
-      earlier-group : (i : ℕ) → Stood groups number (home gs i) → Stood (groups ++ g ∷ []) number (home gs i)
-      earlier-group i s = record {
-        at = s.at;
-        below = omega (arith, s.below, length-append groups (g ∷ []));
-        group = get_or_append_left groups (g ∷ []) [] s.at s.below ∙ s.group;
-        first = ap (λ l. length (types_by_id l)) (take-append-le s.at groups (g ∷ []) (omega (arith, s.below))) ∙ s.first;
+      stays : (k : ℕ) → k < length keys → Stays keys keys' groups groups' k
+      stays k lt = record {
+        below = omega (arith, lt, length-append keys (canonical number next-home ∷ []));
+        key = get_or_append_left keys (canonical number next-home ∷ []) [] k lt;
+        first = ap (λ l. length (types_by_id l)) (take-append-le k groups (g ∷ []) (omega (arith, lt, st.listed.long)));
       }
 
-      last-first : first_id (groups ++ g ∷ []) (length groups) ≡ total
-      last-first = ap (λ l. length (types_by_id l)) (take-append-le (length groups) groups (g ∷ []) (omega arith) ∙ take-length groups)
+      last-first : (k : ℕ) → length keys ≡ k → first_id groups' k ≡ total
+      last-first k e =
+          let end : k ≡ length groups = sym e ∙ sym st.listed.long in
+          ap (λ l. length (types_by_id l))
+          (ap (λ n. take n groups') end ∙ take-append-le (length groups) groups (g ∷ []) (omega arith) ∙ take-length groups)
 
-      module _ (get' : K → Option ℕ) (test : K → Bool) (is_test : (q : K) → test q ≡ true → view key ≡ view q)
-          (tests : (q : K) → view key ≡ view q → test q ≡ true) (puts : (q : K) → get' q ≡ cond (test q) (Some total) (get q)) where
-        found-new : (q : K) (first : ℕ) → get' q ≡ Some first → (i : ℕ) × (i < size more) × (view q ≡ group_key (canonical number' (home more i)))
-        found-new q first is = by (test q) refl where
-          by : (b : Bool) → test q ≡ b → (i : ℕ) × (i < size more) × (view q ≡ group_key (canonical number' (home more i)))
-          by true e =
-              let same = is_test q e in (
-                size gs + 0,
-                omega (arith, size-more gs m, some),
-                sym same ∙ is_key ∙ ap group_key (sym (member-key total (cross-new none) number' agree fresh 0 some)),
-              )
-          by false e =
-              let old : get q ≡ Some first = ap (λ b. cond b (Some total) (get q)) (sym e) ∙ sym (puts q) ∙ is in
-              let f = st.found q first old in
-              (f.0, omega (arith, f.1, size-more gs m), f.2 ∙ ap group_key (sym (earlier-key total (cross-new none) number' agree fresh f.0 f.1)))
+      last-key : (k : ℕ) → length keys ≡ k → get_or keys' k [] ≡ canonical number next-home
+      last-key k e = get_or_push keys (canonical number next-home) [] k e
 
-        kept-earlier : (i : ℕ) (q : K) → i < size gs → view q ≡ group_key (canonical number' (home more i)) → get' q ≡ Some (number' (home more i).start)
-        kept-earlier i q a is = by (test q) refl where
-          by : (b : Bool) → test q ≡ b → get' q ≡ Some (number' (home more i).start)
-          by true e =
-              let held = st.kept i key a (is_test q e ∙ is ∙ ap group_key (earlier-key total (cross-new none) number' agree fresh i a)) in
-              absurd (let off : None ≡ Some (number (home gs i).start) = sym none ∙ held in cc)
-          by false e =
-              puts q ∙ ap (λ b. cond b (Some total) (get q)) e
-              ∙ st.kept i q a (is ∙ ap group_key (earlier-key total (cross-new none) number' agree fresh i a))
-              ∙ ap (λ n. Some n) (sym (earlier-start total (cross-new none) number' agree fresh i a))
+      -- a place of the lists is an earlier one, or the last
+      last : (k : ℕ) → k < length keys' → length keys ≤ k → length keys ≡ k
+      last k lt ge = omega (arith, lt, ge, length-append keys (canonical number next-home ∷ []))
 
-        kept-member : (p : ℕ) (q : K) → p < length m → view q ≡ group_key (canonical number' (home more (size gs + p)))
-            → get' q ≡ Some (number' (home more (size gs + p)).start)
-        kept-member p q a is =
-            let same = tests q (is_key ∙ ap group_key (sym (member-key total (cross-new none) number' agree fresh p a)) ∙ sym is) in
-            puts q ∙ ap (λ b. cond b (Some total) (get q)) same
-            ∙ ap (λ n. Some n) (sym (member-start total (cross-new none) number' agree fresh p a))
+      listed-more : AreListed keys' groups'
+      listed-more = record {
+        long = omega (arith, st.listed.long, length-append keys (canonical number next-home ∷ []), length-append groups (g ∷ []));
+        are = λ k lt.
+            elim (cases_lt k (length keys)) [
+              | inl old ↦ get_or_append_left groups (g ∷ []) [] k (omega (arith, old, st.listed.long)) ∙ st.listed.are k old
+                  ∙ sym (λ t. by_ids ((stays k old).first t) ((stays k old).key t))
+              | inr ge ↦
+                  let e = last k lt ge in
+                  get_or_push groups g [] k (st.listed.long ∙ e) ∙ new-is ∙ sym (λ t. by_ids (last-first k e t) (last-key k e t))
+            ];
+        apart = all_pairs_push (λ c d. c ≢ d) keys (canonical number next-home) st.listed.apart (λ k d lt same.
+            subst (TellsAt keys groups (key_of key)) none (st.tells key) k lt (is_key ∙ ap group_key (sym same ∙ get_or_default keys k d [] lt)));
+        references = references-more 0 groups g st.listed.references new-names;
+      }
 
-        pub numbered-new : IsNumbered more number' (groups ++ g ∷ []) get'
-        numbered-new = record {
-          few = omega (arith, st.few, size-more gs m, total-is);
-          tells = told-all total (cross-new none) number' agree fresh;
-          in_row = in-row-all total (cross-new none) number' agree fresh;
-          below = λ i h. elim (either total (cross-new none) number' agree fresh i h) [
-            | inl a ↦ omega (arith, agree i a, st.below i a, total-is)
-            | inr (p, a, d) ↦ subst (λ x. number' x < length (types_by_id (groups ++ g ∷ []))) d (omega (arith, fresh p a, total-is, a))
-          ];
-          found = found-new;
-          kept = λ i q h is. elim (either total (cross-new none) number' agree fresh i h) [
-            | inl a ↦ kept-earlier i q a is
-            | inr (p, a, d) ↦ subst (λ x. get' q ≡ Some (number' (home more x).start)) d
-                (kept-member p q a (subst (λ x. view q ≡ group_key (canonical number' (home more x))) (sym d) is))
-          ];
-          held = λ i h. elim (either total (cross-new none) number' agree fresh i h) [
-            | inl a ↦ stood-earlier total (cross-new none) number' agree fresh (groups ++ g ∷ []) i a (earlier-group i (st.held i a))
-            | inr (p, a, d) ↦ subst (λ x. Stood (groups ++ g ∷ []) number' (home more x)) d
-                (stood-member total (cross-new none) number' agree fresh (groups ++ g ∷ []) (length groups) p a
-                (omega (arith, length-append groups (g ∷ []))) (get_or-append_seam groups g [] [] ∙ group-is) last-first)
-          ];
-          in_order = λ i id h lt. elim (either total (cross-new none) number' agree fresh i h) [
-            | inl a ↦
-                let f = st.in_order i id a (rw (agree i a) at lt) in
-                (f.0, f.1, agree f.0 (omega (arith, f.1, a)) ∙ f.2)
-            | inr (p, a, d) ↦
-                let high : id < total + p = omega (arith, lt, ap number' d, fresh p a) in
-                elim (known id) [
-                  | inl l ↦ let f = st.nothing_else id l in (f.0, omega (arith, f.1, d), agree f.0 f.1 ∙ f.2)
-                  | inr l ↦ (size gs + (id - total), omega (arith, l, high, d), fresh (id - total) (omega (arith, l, high, a)) ∙ omega (arith, l))
-                ]
-          ];
-          nothing_else = λ id lt. elim (known id) [
-            | inl l ↦ let f = st.nothing_else id l in (f.0, omega (arith, f.1, size-more gs m), agree f.0 f.1 ∙ f.2)
-            | inr l ↦
-                let high : id - total < length m = omega (arith, l, lt, total-is) in
-                (size gs + (id - total), omega (arith, high, size-more gs m), fresh (id - total) high ∙ omega (arith, l))
-          ];
-          near = near-all total (cross-new none) number' agree fresh;
-          references = references-more 0 groups g st.references group-names;
-        } where
-          known : (id : ℕ) → (id < total) ⊎ (total ≤ id)
-          known id = by (ltb id total) refl where
-            by : (b : Bool) → ltb id total ≡ b → (id < total) ⊎ (total ≤ id)
-            by true e = inl (ltb-true id total e)
-            by false e = inr (ltb-false id total e)
+      tells-still : (q : CanonicalGroup) → group.ghosts.eq key q ≡ false → (o : Option ℕ) → TellsAt keys groups (key_of q) o
+          → TellsAt keys' groups' (key_of q) o
+      tells-still q other (Some first) f = let s = stays f.0 f.1 in (f.0, s.below, f.2 ∙ ap group_key (sym s.key), f.3 ∙ sym s.first)
+      tells-still q other None f = λ k lt at.
+          elim (cases_lt k (length keys)) [
+            | inl old ↦ f k old (at ∙ ap group_key (stays k old).key)
+            | inr ge ↦
+                let no : true ≡ false = sym ((key-decides key q).1 (is_key ∙ ap group_key (sym (last-key k (last k lt ge))) ∙ sym at)) ∙ other in
+                absurd (cc)
+          ]
+
+      tells-more : (q : CanonicalGroup) (b : Bool) → group.ghosts.eq key q ≡ b → TellsAt keys' groups' (key_of q) (cond b (Some total) (get q))
+      tells-more q true same = (
+        length keys,
+        omega (arith, length-append keys (canonical number next-home ∷ [])),
+        sym ((key-decides key q).0 same) ∙ is_key ∙ ap group_key (sym (last-key (length keys) refl)),
+        sym (last-first (length keys) refl),
+      )
+      tells-more q false other = tells-still q other (get q) (st.tells q)
+
+      pub numbered-new : (get' : CanonicalGroup → Option ℕ) → ((q : CanonicalGroup) → get' q ≡ cond (group.ghosts.eq key q) (Some total) (get q))
+          → IsNumbered more number' keys' groups' get'
+      numbered-new get' puts = record {
+        few = omega (arith, st.few, size-more gs m, total-is);
+        listed = listed-more;
+        tells = λ q. subst (TellsAt keys' groups' (key_of q)) (sym (puts q)) (tells-more q (group.ghosts.eq key q) refl);
+        stands = stands-more keys' groups' total stays fresh (λ some. record {
+          at = length keys;
+          below = omega (arith, length-append keys (canonical number next-home ∷ []));
+          key = last-key (length keys) refl;
+          first_is = last-first (length keys) refl;
+          near = near;
+        });
+        given = given-next total (length (types_by_id groups')) (omega arith) fresh (λ id lt ge. omega (arith, lt, total-is));
+      }

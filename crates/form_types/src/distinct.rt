@@ -1,6 +1,6 @@
 //! The distinct groups, while they are found.
 
-ghost use Rattle.std.specs.Prelude.{◌≡◌, ◌+◌, ◌<◌, ◌^◌, ◌++◌, ◌∷◌, [], length, map, replicate, OnOk};
+ghost use Rattle.std.specs.Prelude.{◌≡◌, ◌+◌, ◌<◌, ◌^◌, ◌++◌, ◌∷◌, [], length, map, OnOk};
 ghost use Rattle.form_data.specs.Views.{group_of};
 ghost use Rattle.form_types.specs.Distinct.{IsListed};
 
@@ -40,22 +40,11 @@ impl Distinct {
         ensures { OnOk result (IsListed self.new (map group_of self.old.groups.items ++ group_of group ∷ [])) }
     {
         let number = self.groups.len() as u32;
-        let count = group.types.len();
-        let end = self.next + count as u32;
-        push_number(&mut self.numbers, number, count)?;
+        let end = self.next + group.types.len() as u32;
+        self.numbers.resize(end as usize, number)?;
         self.spans.push((self.next, end))?;
         self.groups.push(group)?;
         self.next = end;
         Ok(())
     }
-}
-
-#[tactic(auto, using(crate::proofs::Listing::replicate_none, crate::proofs::Listing::replicate_more))]
-fn push_number(numbers: &mut Vec<u32>, number: u32, count: usize) -> Result<(), AllocError>
-    ensures { OnOk result (numbers.new.items ≡ numbers.old.items ++ replicate count number) }
-{
-    for _member in 0..count {
-        numbers.push(number)?;
-    }
-    Ok(())
 }

@@ -1,53 +1,28 @@
 -- The tests decide: types without references are equal exactly where the test says so.
-use Rattle.std.proofs.Common.{◌≡◌, ◌∙◌, ℕ, Bool, true, false, nat_eq, ◌&&◌, List, [], ◌∷◌, Option, Some, None, if◌then◌else◌, refl, sym, ap, subst}
-use Rattle.std.proofs.lemmas.Bool.{eqb-true, eq-eqb}
-use Rattle.std.specs.Bool.{beq}
+use Rattle.std.proofs.Common.{◌≡◌, ◌∙◌, ℕ, Bool, nat_eq, ◌&&◌, List, Option, Some, None, if◌then◌else◌, refl, sym, ap}
+use Rattle.std.specs.Bool.{Decides, beq}
+use Rattle.std.specs.Cmp.{booleans_Decides}
 use Rattle.std.specs.Cmp.Lexicographic.{pointwise}
+use Rattle.std.proofs.lemmas.Bool.{eqb-true, eq-eqb}
+use Rattle.std.proofs.lemmas.Bool.Decides.{Decides-and}
+use Rattle.std.proofs.lemmas.Slice.Eq.{slice_eq-Decides}
 use Rattle.wasm_spec.specs.declared.types.AbstractHeapType.{AbstractHeapType}
 use Rattle.wasm_spec.specs.declared.types.AbstractHeapType.TheVariants as heap
 use Rattle.wasm_spec.specs.TypeData.{Heap, Concrete, Abstract, Reference, Value, I32, I64, F32, F64, V128, Ref, Storage, I8, I16, Val, Field, Function, Composite, Func, Array, Struct, Cont, Exn, Shared, SubType, Group}
 use Rattle.type_spec.specs.Same.{heap_byte, Gap, same_heap, same_reference, same_value, same_storage, same_field, same_function, same_composite, same_supertype, same_shared, same_sub_type, same_frame}
 
-pub and-both : (a b : Bool) → (a && b) ≡ true → (a ≡ true) × (b ≡ true)
-and-both true b both = (refl, both)
-and-both false b both = cc
+-- a test of two parts, which determine the whole
+both-decide : {A B C : Type 0} (first : A → B) (second : A → C) (test : B → B → Bool) (test' : C → C → Bool)
+    → ((x y : B) → Decides (test x y) (x ≡ y)) → ((x y : C) → Decides (test' x y) (x ≡ y))
+    → ((a b : A) → first a ≡ first b → second a ≡ second b → a ≡ b) → (a b : A) → Decides (test (first a) (first b) && test' (second a) (second b)) (a ≡ b)
+both-decide first second test test' decides decides' whole a b =
+    let both = Decides-and (test (first a) (first b)) (test' (second a) (second b)) (decides (first a) (first b)) (decides' (second a) (second b)) in
+    ((λ same. let parts = both.0 same in whole a b parts.0 parts.1), (λ same. both.1 (ap first same, ap second same)))
 
-pub both-and : (a b : Bool) → a ≡ true → b ≡ true → (a && b) ≡ true
-both-and true b first second = second
-both-and false b first second = cc
+pub all-decide : {A : Type 0} (test : A → A → Bool) → ((a b : A) → Decides (test a b) (a ≡ b)) → (xs ys : List A) → Decides (pointwise test xs ys) (xs ≡ ys)
+all-decide test decides xs ys = slice_eq-Decides decides xs ys _ refl
 
-beq-sound : (a b : Bool) → beq a b ≡ true → a ≡ b
-beq-sound true true same = refl
-beq-sound false false same = refl
-beq-sound a b same = cc
-
-beq-same : (a : Bool) → beq a a ≡ true
-beq-same true = refl
-beq-same false = refl
-
-pub nat-sound : (m n : ℕ) → nat_eq m n ≡ true → m ≡ n
-nat-sound m n same = eqb-true m n same
-
-pub nat-same : (n : ℕ) → nat_eq n n ≡ true
-nat-same n = eq-eqb n n refl
-
--- a test that decides equality of the items of two lists decides that of the lists
-module _ {A : Type 0} (test : A → A → Bool) where
-  list-sound : ((a b : A) → test a b ≡ true → a ≡ b) → (xs ys : List A) → pointwise test xs ys ≡ true → xs ≡ ys
-  list-sound each [] [] same = refl
-  list-sound each [] (y ∷ ys) same = cc
-  list-sound each (x ∷ xs) [] same = cc
-  list-sound each (x ∷ xs) (y ∷ ys) same =
-      let both = and-both (test x y) (pointwise test xs ys) same in
-      let head = each x y both.0 in
-      let tail = list-sound each xs ys both.1 in
-      λ i. head i ∷ tail i
-
-  list-same : ((a : A) → test a a ≡ true) → (xs : List A) → pointwise test xs xs ≡ true
-  list-same each [] = refl
-  list-same each (x ∷ xs) = both-and (test x x) (pointwise test xs xs) (each x) (list-same each xs)
-
-byte_heap : ℕ → AbstractHeapType
+pub byte_heap : ℕ → AbstractHeapType
 byte_heap n =
     if nat_eq n 0x74 then heap.NoExn else
     if nat_eq n 0x73 then heap.NoFunc else
@@ -64,7 +39,7 @@ byte_heap n =
     if nat_eq n 0x75 then heap.NoCont else
     heap.Cont
 
-byte-back : (a : AbstractHeapType) → byte_heap (heap_byte a) ≡ a
+pub byte-back : (a : AbstractHeapType) → byte_heap (heap_byte a) ≡ a
 unfolding byte_heap
 byte-back heap.NoExn = refl
 byte-back heap.NoFunc = refl
@@ -81,122 +56,75 @@ byte-back heap.Exn = refl
 byte-back heap.NoCont = refl
 byte-back heap.Cont = refl
 
-heap-sound : (a b : Heap Gap) → same_heap a b ≡ true → a ≡ b
-heap-sound (Concrete a) (Concrete b) same = refl
-heap-sound (Abstract a) (Abstract b) same =
-    ap Abstract (sym (byte-back a) ∙ ap byte_heap (nat-sound (heap_byte a) (heap_byte b) same) ∙ byte-back b)
-heap-sound a b same = cc
+heap-decides : (a b : Heap Gap) → Decides (same_heap a b) (a ≡ b)
+heap-decides (Concrete a) (Concrete b) = (λ same. refl, λ same. refl)
+heap-decides (Abstract a) (Abstract b) = (
+  (λ same. ap Abstract (sym (byte-back a) ∙ ap byte_heap (eqb-true (heap_byte a) (heap_byte b) same) ∙ byte-back b)),
+  (λ same. let one : a ≡ b = cc in eq-eqb (heap_byte a) (heap_byte b) (ap heap_byte one)),
+)
+heap-decides a b = (λ same. cc, λ same. cc)
 
-heap-same : (a : Heap Gap) → same_heap a a ≡ true
-heap-same (Concrete a) = refl
-heap-same (Abstract a) = nat-same (heap_byte a)
+reference-decides : (a b : Reference Gap) → Decides (same_reference a b) (a ≡ b)
+reference-decides =
+    both-decide (λ (r : Reference Gap). r.nullable) (λ (r : Reference Gap). r.heap) beq same_heap booleans_Decides heap-decides
+    (λ a b nullable heap i. record { nullable = nullable i; heap = heap i })
 
-reference-sound : (a b : Reference Gap) → same_reference a b ≡ true → a ≡ b
-reference-sound a b same =
-    let both = and-both (beq a.nullable b.nullable) (same_heap a.heap b.heap) same in
-    let nullable = beq-sound a.nullable b.nullable both.0 in
-    let heap = heap-sound a.heap b.heap both.1 in
-    λ i. record { nullable = nullable i; heap = heap i }
+value-decides : (a b : Value Gap) → Decides (same_value a b) (a ≡ b)
+value-decides I32 I32 = (λ same. refl, λ same. refl)
+value-decides I64 I64 = (λ same. refl, λ same. refl)
+value-decides F32 F32 = (λ same. refl, λ same. refl)
+value-decides F64 F64 = (λ same. refl, λ same. refl)
+value-decides V128 V128 = (λ same. refl, λ same. refl)
+value-decides (Ref a) (Ref b) = let d = reference-decides a b in (λ same. ap Ref (d.0 same), λ same. d.1 (cc))
+value-decides a b = (λ same. cc, λ same. cc)
 
-reference-same : (a : Reference Gap) → same_reference a a ≡ true
-reference-same a = both-and (beq a.nullable a.nullable) (same_heap a.heap a.heap) (beq-same a.nullable) (heap-same a.heap)
+storage-decides : (a b : Storage Gap) → Decides (same_storage a b) (a ≡ b)
+storage-decides I8 I8 = (λ same. refl, λ same. refl)
+storage-decides I16 I16 = (λ same. refl, λ same. refl)
+storage-decides (Val a) (Val b) = let d = value-decides a b in (λ same. ap Val (d.0 same), λ same. d.1 (cc))
+storage-decides a b = (λ same. cc, λ same. cc)
 
-value-sound : (a b : Value Gap) → same_value a b ≡ true → a ≡ b
-value-sound I32 I32 same = refl
-value-sound I64 I64 same = refl
-value-sound F32 F32 same = refl
-value-sound F64 F64 same = refl
-value-sound V128 V128 same = refl
-value-sound (Ref a) (Ref b) same = ap Ref (reference-sound a b same)
-value-sound a b same = cc
+field-decides : (a b : Field Gap) → Decides (same_field a b) (a ≡ b)
+field-decides =
+    both-decide (λ (f : Field Gap). f.element) (λ (f : Field Gap). f.mutable) same_storage beq storage-decides booleans_Decides
+    (λ a b element mutable i. record { element = element i; mutable = mutable i })
 
-value-same : (a : Value Gap) → same_value a a ≡ true
-value-same (Ref a) = reference-same a
-value-same a = refl
+function-decides : (a b : Function Gap) → Decides (same_function a b) (a ≡ b)
+function-decides =
+    both-decide (λ (f : Function Gap). f.params) (λ (f : Function Gap). f.results) (pointwise same_value) (pointwise same_value)
+    (all-decide same_value value-decides) (all-decide same_value value-decides) (λ a b params results i. record { params = params i; results = results i })
 
-storage-sound : (a b : Storage Gap) → same_storage a b ≡ true → a ≡ b
-storage-sound I8 I8 same = refl
-storage-sound I16 I16 same = refl
-storage-sound (Val a) (Val b) same = ap Val (value-sound a b same)
-storage-sound a b same = cc
+composite-decides : (a b : Composite Gap Gap) → Decides (same_composite a b) (a ≡ b)
+composite-decides (Func a) (Func b) = let d = function-decides a b in (λ same. ap Func (d.0 same), λ same. d.1 (cc))
+composite-decides (Array a) (Array b) = let d = field-decides a b in (λ same. ap Array (d.0 same), λ same. d.1 (cc))
+composite-decides (Struct a) (Struct b) = let d = all-decide same_field field-decides a b in (λ same. ap Struct (d.0 same), λ same. d.1 (cc))
+composite-decides (Cont a) (Cont b) = (λ same. refl, λ same. refl)
+composite-decides (Exn a) (Exn b) =
+    let d = all-decide same_field field-decides a.fields b.fields in (
+      (λ same. let fields = d.0 same in λ i. Exn (record { function = tt; fields = fields i })),
+      (λ same. let one : a ≡ b = cc in d.1 (λ i. (one i).fields)),
+    )
+composite-decides a b = (λ same. cc, λ same. cc)
 
-storage-same : (a : Storage Gap) → same_storage a a ≡ true
-storage-same (Val a) = value-same a
-storage-same a = refl
+supertype-decides : (a b : Option Gap) → Decides (same_supertype a b) (a ≡ b)
+supertype-decides None None = (λ same. refl, λ same. refl)
+supertype-decides (Some a) (Some b) = (λ same. refl, λ same. refl)
+supertype-decides a b = (λ same. cc, λ same. cc)
 
-field-sound : (a b : Field Gap) → same_field a b ≡ true → a ≡ b
-field-sound a b same =
-    let both = and-both (same_storage a.element b.element) (beq a.mutable b.mutable) same in
-    let element = storage-sound a.element b.element both.0 in
-    let mutable = beq-sound a.mutable b.mutable both.1 in
-    λ i. record { element = element i; mutable = mutable i }
+shared-decides : (a b : Shared Gap Gap) → Decides (same_shared a b) (a ≡ b)
+shared-decides =
+    both-decide (λ (s : Shared Gap Gap). s.inner) (λ (s : Shared Gap Gap). s.shared) same_composite beq composite-decides booleans_Decides
+    (λ a b inner shared i. record { inner = inner i; shared = shared i })
 
-field-same : (a : Field Gap) → same_field a a ≡ true
-field-same a = both-and (same_storage a.element a.element) (beq a.mutable a.mutable) (storage-same a.element) (beq-same a.mutable)
+sub_type-decides : (a b : SubType Gap Gap) → Decides (same_sub_type a b) (a ≡ b)
+sub_type-decides a b =
+    let rest = Decides-and (same_supertype a.supertype b.supertype) (same_shared a.composite b.composite)
+    (supertype-decides a.supertype b.supertype) (shared-decides a.composite b.composite) in
+    let all = Decides-and (beq a.is_final b.is_final) (same_supertype a.supertype b.supertype && same_shared a.composite b.composite)
+    (booleans_Decides a.is_final b.is_final) rest in (
+      (λ same. let p = all.0 same in λ i. record { is_final = p.0 i; supertype = p.1.0 i; composite = p.1.1 i }),
+      (λ same. all.1 ((λ i. (same i).is_final), ((λ i. (same i).supertype), (λ i. (same i).composite)))),
+    )
 
-function-sound : (a b : Function Gap) → same_function a b ≡ true → a ≡ b
-function-sound a b same =
-    let both = and-both (pointwise same_value a.params b.params) (pointwise same_value a.results b.results) same in
-    let params = list-sound same_value value-sound a.params b.params both.0 in
-    let results = list-sound same_value value-sound a.results b.results both.1 in
-    λ i. record { params = params i; results = results i }
-
-function-same : (a : Function Gap) → same_function a a ≡ true
-function-same a = both-and (pointwise same_value a.params a.params) (pointwise same_value a.results a.results)
-    (list-same same_value value-same a.params) (list-same same_value value-same a.results)
-
-composite-sound : (a b : Composite Gap Gap) → same_composite a b ≡ true → a ≡ b
-composite-sound (Func a) (Func b) same = ap Func (function-sound a b same)
-composite-sound (Array a) (Array b) same = ap Array (field-sound a b same)
-composite-sound (Struct a) (Struct b) same = ap Struct (list-sound same_field field-sound a b same)
-composite-sound (Cont a) (Cont b) same = refl
-composite-sound (Exn a) (Exn b) same =
-    let fields = list-sound same_field field-sound a.fields b.fields same in
-    λ i. Exn (record { function = tt; fields = fields i })
-composite-sound a b same = cc
-
-composite-same : (a : Composite Gap Gap) → same_composite a a ≡ true
-composite-same (Func a) = function-same a
-composite-same (Array a) = field-same a
-composite-same (Struct a) = list-same same_field field-same a
-composite-same (Cont a) = refl
-composite-same (Exn a) = list-same same_field field-same a.fields
-
-supertype-sound : (a b : Option Gap) → same_supertype a b ≡ true → a ≡ b
-supertype-sound None None same = refl
-supertype-sound (Some a) (Some b) same = refl
-supertype-sound a b same = cc
-
-supertype-same : (a : Option Gap) → same_supertype a a ≡ true
-supertype-same None = refl
-supertype-same (Some a) = refl
-
-shared-sound : (a b : Shared Gap Gap) → same_shared a b ≡ true → a ≡ b
-shared-sound a b same =
-    let both = and-both (same_composite a.inner b.inner) (beq a.shared b.shared) same in
-    let inner = composite-sound a.inner b.inner both.0 in
-    let shared = beq-sound a.shared b.shared both.1 in
-    λ i. record { inner = inner i; shared = shared i }
-
-shared-same : (a : Shared Gap Gap) → same_shared a a ≡ true
-shared-same a = both-and (same_composite a.inner a.inner) (beq a.shared a.shared) (composite-same a.inner) (beq-same a.shared)
-
-sub_type-sound : (a b : SubType Gap Gap) → same_sub_type a b ≡ true → a ≡ b
-sub_type-sound a b same =
-    let both = and-both (beq a.is_final b.is_final) (same_supertype a.supertype b.supertype && same_shared a.composite b.composite) same in
-    let rest = and-both (same_supertype a.supertype b.supertype) (same_shared a.composite b.composite) both.1 in
-    let is_final = beq-sound a.is_final b.is_final both.0 in
-    let supertype = supertype-sound a.supertype b.supertype rest.0 in
-    let composite = shared-sound a.composite b.composite rest.1 in
-    λ i. record { is_final = is_final i; supertype = supertype i; composite = composite i }
-
-sub_type-same : (a : SubType Gap Gap) → same_sub_type a a ≡ true
-sub_type-same a =
-    both-and (beq a.is_final a.is_final) (same_supertype a.supertype a.supertype && same_shared a.composite a.composite) (beq-same a.is_final)
-    (both-and (same_supertype a.supertype a.supertype) (same_shared a.composite a.composite) (supertype-same a.supertype) (shared-same a.composite))
-
-pub frame-sound : (a b : Group Gap Gap) → same_frame a b ≡ true → a ≡ b
-frame-sound = list-sound same_sub_type sub_type-sound
-
-pub frame-same : (a b : Group Gap Gap) → a ≡ b → same_frame a b ≡ true
-frame-same a b same = subst (λ c. same_frame a c ≡ true) same (list-same same_sub_type sub_type-same a)
+pub frame-decides : (a b : Group Gap Gap) → Decides (same_frame a b) (a ≡ b)
+frame-decides = all-decide same_sub_type sub_type-decides
