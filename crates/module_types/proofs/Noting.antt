@@ -3,19 +3,17 @@ use Rattle.std.proofs.Common.{◌≡◌, ◌≢◌, ◌∙◌, ℕ, zero, suc, B
 use Rattle.std.specs.Prelude.{if◌then◌else◌}
 use Rattle.std.proofs.lemmas.Bool.{eqb-true, eq-eqb}
 use Rattle.entity_map.specs.Secondary.{written}
-use Rattle.entity_map.specs.declared.packed.PackedOption.{PackedOption}
-use Rattle.wasm_index.specs.declared.index.Index.{Index}
 use Rattle.module_types.specs.Builder.{noted}
 use Rattle.module_types.specs.Noted.{noted_at, note_of, notes_of}
 
-module _ {Space : Type 0} (none v : PackedOption (Index Space)) (k : ℕ) (is_none : note_of none ≡ None) (is : note_of v ≡ Some k) where
-  here : (xs : List (PackedOption (Index Space))) (n : ℕ) → noted_at (notes_of (written none xs n v)) n ≡ Some k
+module _ (none v k : ℕ) (is_none : note_of none ≡ None) (is : note_of v ≡ Some k) where
+  here : (xs : List ℕ) (n : ℕ) → noted_at (notes_of (written none xs n v)) n ≡ Some k
   here [] zero = is
   here [] (suc n) = here [] n
   here (x ∷ xs) zero = is
   here (x ∷ xs) (suc n) = here xs n
 
-  elsewhere : (xs : List (PackedOption (Index Space))) (n m : ℕ) → n ≢ m → noted_at (notes_of (written none xs n v)) m ≡ noted_at (notes_of xs) m
+  elsewhere : (xs : List ℕ) (n m : ℕ) → n ≢ m → noted_at (notes_of (written none xs n v)) m ≡ noted_at (notes_of xs) m
   elsewhere [] zero zero other = absurd (other refl)
   elsewhere [] zero (suc m) other = refl
   elsewhere [] (suc n) zero other = is_none
@@ -25,7 +23,7 @@ module _ {Space : Type 0} (none v : PackedOption (Index Space)) (k : ℕ) (is_no
   elsewhere (x ∷ xs) (suc n) zero other = refl
   elsewhere (x ∷ xs) (suc n) (suc m) other = elsewhere xs n m (λ e. other (ap suc e))
 
-  pub noted-written : (xs : List (PackedOption (Index Space))) (n m : ℕ)
+  pub noted-written : (xs : List ℕ) (n m : ℕ)
       → noted_at (notes_of (written none xs n v)) m ≡ noted (noted_at (notes_of xs)) n k m
   noted-written xs n m = by (nat_eq n m) refl where
     by : (test : Bool) → nat_eq n m ≡ test → noted_at (notes_of (written none xs n v)) m ≡ (if test then Some k else noted_at (notes_of xs) m)

@@ -64,23 +64,16 @@ fn lent<'t>(ty: &'t TryCow<'t, WasmFuncType>) -> &'t WasmFuncType
     }
 }
 
-// The field of an exception type for a parameter.
-fn field_of_param(ty: WasmValType) -> WasmFieldType
-    ensures { result ≡ field_at ty }
-{
-    WasmFieldType {
-        element_type: WasmStorageType::Val(ty),
-        mutable: false,
-    }
-}
-
 // The fields of an exception type: one for each parameter.
 fn fields_of_params(alloc: Global, types: &[WasmValType]) -> Result<Vec<WasmFieldType>, OutOfMemory>
     ensures { IfOk result (λ v. v.items ≡ map field_at types.now) }
 {
     let mut fields = Vec::with_capacity(alloc, types.len())?;
     for ty in types {
-        fields.push(field_of_param(*ty))?;
+        fields.push(WasmFieldType {
+            element_type: WasmStorageType::Val(*ty),
+            mutable: false,
+        })?;
     }
     Ok(fields)
 }

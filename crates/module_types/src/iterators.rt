@@ -34,8 +34,10 @@ impl<'a> Iterator for RecGroups<'a> {
     ghost remaining = { item_count (λ left. left) };
 
     fn next(&mut self) -> Option<(ModuleInternedRecGroupIndex, Range<ModuleInternedTypeIndex>)> {
-        let (index, range) = self.groups.next()?;
-        Some((index, range.start..range.end))
+        match self.groups.next() {
+            Some((index, range)) => Some((index, range.start..range.end)),
+            None => None,
+        }
     }
 }
 

@@ -6,16 +6,18 @@ ghost use Rattle.wasm_index.specs.Index.{number_of};
 ghost use Rattle.module_types.specs.Builder.{noted};
 ghost use Rattle.module_types.specs.Noted.{noted_at};
 
-use entity_map::{OutOfMemory, PackedOption};
+use entity_map::{EntityRef, OutOfMemory};
 use std::alloc::Global;
-use std::marker::Model;
+use std::marker::{Model, PhantomData};
 use wasm_index::Index;
 
 /// The index that was noted under each number, if one was. Its memory grows with the greatest such number, so the numbers are to be those
 /// of a list that stands in memory. (A secondary map is for keys below `u32::MAX`; here each number may be a key.)
 #[derive(Drop)]
 pub(crate) struct NotedIndices<Space> {
-    items: Vec<PackedOption<Index<Space>>>,
+    // Numbers of indices, and `u32::MAX` where none was noted.
+    items: Vec<u32>,
+    space: PhantomData<Space>,
 }
 
 /// A contract sees the list of the numbers of the indices, each at its place.
@@ -35,6 +37,7 @@ impl<Space> NotedIndices<Space> {
     {
         NotedIndices {
             items: Vec::new(alloc),
+            space: PhantomData,
         }
     }
 
@@ -42,9 +45,11 @@ impl<Space> NotedIndices<Space> {
     pub(crate) fn get(&self, number: u32) -> Option<Index<Space>>
         ensures { option_map number_of result ≡ noted_at self.now number }
     {
-        match self.items.get(number as usize) {
-            Some(packed) => packed.expand(),
-            None => None,
+        let noted = *self.items.get(number as usize)?;
+        if noted == u32::MAX {
+            None
+        } else {
+            Some(Index::from_u32(noted))
         }
     }
 
@@ -53,14 +58,14 @@ impl<Space> NotedIndices<Space> {
         requires { number_of index < u32.MAX }
         ensures { OnOk result (noted_at self.new ≡ noted (noted_at self.old) number (number_of index)) }
     {
-        let none = PackedOption::from(None);
+        let noted = index.as_u32();
         let place = number as usize;
         if place < self.items.len() {
-            self.items[place] = PackedOption::from(index);
+            self.items[place] = noted;
             return Ok(());
         }
-        self.items.resize(place + 1, none)?;
-        self.items[place] = PackedOption::from(index);
+        self.items.resize(place + 1, u32::MAX)?;
+        self.items[place] = noted;
         Ok(())
     }
 }

@@ -1,7 +1,7 @@
-use Rattle.std.proofs.Common.{◌≡◌, ◌∙◌, ◌<◌, ◌≤◌, ◌+◌, ◌-◌, ◌++◌, ℕ, List, Option, Some, None, length, take, slice_set, ap, arith}
+use Rattle.std.proofs.Common.{◌≡◌, ◌∙◌, ◌<◌, ◌≤◌, ◌+◌, ◌-◌, ◌++◌, ℕ, List, Option, Some, None, length, take, slice_set, refl, ap, arith}
 use Rattle.std.proofs.Math.ListN.{replicate}
 use Rattle.std.specs.Prelude.{vec_len}
-use Rattle.std.specs.Option.{option_map}
+use Rattle.entity_map.specs.Entity.{reserved_number}
 use Rattle.entity_map.proofs.PackedLemmas.{unpacked-index}
 use Rattle.entity_map.proofs.Written.{written-within, written-grown}
 use Rattle.wasm_index.specs.Index.{number_of}
@@ -15,12 +15,10 @@ returns-then-place-len g c =
     let xs = c.self.inside.items.items in
     let n = c.args.number in
     let k = number_of c.args.index in
-    let none = c.from-none.result in
-    let v = c.from.result in
+    let v = c.as_u32-noted.result in
     let within : n < length xs = omega (arith, c.if-place-len.true, c.len.ensures) in
-    let is_none : note_of none ≡ None = ap (option_map number_of) c.from-none.ensures in
-    let is : note_of v ≡ Some k = ap (option_map number_of) (c.from.ensures ∙ unpacked-index number_of c.args.index c.requires) in
-    (λ j m. (ap (λ ys. noted_at (notes_of ys) m) (written-within none xs n v within) ∙ noted-written none v k is_none is xs n m) j)
+    let is : note_of v ≡ Some k = ap note_of c.as_u32-noted.ensures ∙ unpacked-index (λ k. k) k c.requires in
+    (λ j m. (ap (λ ys. noted_at (notes_of ys) m) (written-within reserved_number xs n v within) ∙ noted-written reserved_number v k refl is xs n m) j)
     ∙ ap (λ (notes : List (Option ℕ)). noted (noted_at notes) n k) c.self.view_is
 
 pub returns : goal.returns
@@ -28,14 +26,12 @@ returns g c =
     let xs = c.self.inside.items.items in
     let n = c.args.number in
     let k = number_of c.args.index in
-    let none = c.from-none.result in
-    let v = c.from-2.result in
+    let v = c.as_u32-noted.result in
     let past : vec_len c.self.inside.items ≤ n = omega (arith, c.if-place-len.false, c.len.ensures) in
     let long : vec_len c.self.inside.items ≡ length xs = c.self.inside.items.ok.0 in
-    let grown : c.resize.new.self.items ≡ take (n + 1) xs ++ replicate (n + 1 - vec_len c.self.inside.items) none = c.in_ok-resize.ensures.items in
-    let is_none : note_of none ≡ None = ap (option_map number_of) c.from-none.ensures in
-    let is : note_of v ≡ Some k = ap (option_map number_of) (c.from-2.ensures ∙ unpacked-index number_of c.args.index c.requires) in
+    let grown : c.resize.new.self.items ≡ take (n + 1) xs ++ replicate (n + 1 - vec_len c.self.inside.items) reserved_number = c.in_ok-resize.ensures.items in
+    let is : note_of v ≡ Some k = ap note_of c.as_u32-noted.ensures ∙ unpacked-index (λ k. k) k c.requires in
     (λ j m. (ap (λ ys. noted_at (notes_of (slice_set ys n v)) m) grown
-    ∙ ap (λ ys. noted_at (notes_of ys) m) (written-grown none xs n (vec_len c.self.inside.items) v long past)
-    ∙ noted-written none v k is_none is xs n m) j)
+    ∙ ap (λ ys. noted_at (notes_of ys) m) (written-grown reserved_number xs n (vec_len c.self.inside.items) v long past)
+    ∙ noted-written reserved_number v k refl is xs n m) j)
     ∙ ap (λ (notes : List (Option ℕ)). noted (noted_at notes) n k) c.self.view_is
