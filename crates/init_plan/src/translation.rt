@@ -158,8 +158,10 @@ impl<'d> ModuleTranslation<'d> {
         ensures err { OnErr result (passive_data_of self.new ≡ passive_data_of self.old) }
         ensures same { SameButPassive self.old self.new }
     {
-        self.private_parts.passive_data.push((index, bytes))?;
-        Ok(())
+        match self.private_parts.passive_data.push((index, bytes)) {
+            Ok(()) => Ok(()),
+            Err(_) => Err(OutOfMemory),
+        }
     }
 
     /// The types of the module, by ids, once they are set.

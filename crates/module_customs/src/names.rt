@@ -133,7 +133,10 @@ fn add_function_names<'d>(
 {
     for (function, name) in names {
         if (*function as usize) < declared {
-            kept.insert(FuncIndex::from_u32(*function), *name)?;
+            match kept.insert(FuncIndex::from_u32(*function), *name) {
+                Ok(_) => {}
+                Err(_) => return Err(OutOfMemory),
+            }
         }
     }
     Ok(())

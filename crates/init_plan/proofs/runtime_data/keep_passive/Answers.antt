@@ -1,12 +1,13 @@
-use Rattle.std.proofs.Common.{◌≡◌, ◌<◌, ◌++◌, [], length, map, drop, sym, ◌∙◌, arith}
+use Rattle.std.proofs.Common.{◌≡◌, ◌<◌, ◌++◌, [], length, map, drop, subst, sym, ◌∙◌, arith}
 use Rattle.std.proofs.lemmas.List.{append-nil, drop_all, length-map}
 use Rattle.init_plan.specs.Views.{bytes_of, passive_segment_of}
 use Rattle.init_plan.proofs.Entered.{All-read_map, entered, entered-found, entered-in_order, entered-others}
 use Rattle.init_plan.proofs.runtime_data.keep_passive.Goals as goal
 
 pub insert-requires : goal.insert-requires
-insert-requires c = All-read_map passive_segment_of
-    (λ p. p.0 < 4294967295) c.args.segments.now c.loop-index.index-index _ c.loop-index-test.true c.requires.numbered
+insert-requires c = subst (λ s. (passive_segment_of s).0 < 4294967295) (sym c.loop-index-item.is)
+    (All-read_map passive_segment_of (λ p. p.0 < 4294967295) c.args.segments.now c.loop-index.index-index c.loop-index-item.result
+    c.loop-index-test.true c.requires.numbered)
 
 pub returns-clause-found : goal.returns-clause-found
 returns-clause-found c =
