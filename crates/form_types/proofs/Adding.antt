@@ -2,7 +2,7 @@
 use Rattle.std.proofs.Common.{◌≡◌, ◌∙◌, ℕ, ◌+◌, ◌<◌, List, [], ◌∷◌, ◌++◌, length, map, take, get_or, sym, ap, append_assoc}
 use Rattle.std.specs.List.{flat_map}
 use Rattle.std.proofs.lemmas.List.{append-nil, map_more}
-use Rattle.std.proofs.lemmas.List.Concat.{flat_map-append, flat_map_single}
+use Rattle.std.proofs.lemmas.List.Concat.{flat_map-append}
 use Rattle.wasm_spec.specs.declared.types.UnpackedIndex.{UnpackedIndex}
 use Rattle.form_types.specs.declared.canonical.CanonicalGroup.{CanonicalGroup}
 use Rattle.form_types.specs.Codes.{ended}
@@ -41,17 +41,6 @@ module _ {X Y : Type 0} (view : Y → X) where
         frame = both.frame ∙ ap (λ l. a.frame.items ++ l) (sym (one-more codes ys k y lt at));
         names = both.names ∙ ap (λ l. a.references.items ++ l) (sym (one-more edges ys k y lt at));
       }
-
-  pub Adds-code : (code : X → ℕ) (edges : X → List UnpackedIndex) (ys : List Y) (a b c : CanonicalGroup) (k : ℕ) (y : Y)
-      → k < length ys → y ≡ get_or ys k y
-      → Adds a b (map code (map view (take k ys))) (flat_map edges (map view (take k ys)))
-      → Adds b c (code (view y) ∷ []) (edges (view y))
-      → Adds a c (map code (map view (take (k + 1) ys))) (flat_map edges (map view (take (k + 1) ys)))
-  Adds-code code edges ys a b c k y lt at first second =
-      let single = flat_map_single code in
-      let more = Adds-more (λ x. code x ∷ []) edges ys a b c k y lt at
-      (record { frame = first.frame ∙ ap (λ l. a.frame.items ++ l) (sym (single (map view (take k ys)))); names = first.names }) second in
-      record { frame = more.frame ∙ ap (λ l. a.frame.items ++ l) (single (map view (take (k + 1) ys))); names = more.names }
 
 -- the end mark
 pub Adds-end : (a b : CanonicalGroup) (frame : List ℕ) (cs : List ℕ) (rs : List UnpackedIndex) → Adds a b cs rs

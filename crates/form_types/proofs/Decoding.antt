@@ -23,16 +23,11 @@ module _ {H H' : Type 0} (h : H → H') where
 
   value-mapped : (x : Value H) → value_code (map_value h x) ≡ value_code x
   value-mapped (Ref r) = reference-either r.nullable _ _ (heap-mapped r.heap)
-  value-mapped I32 = refl
-  value-mapped I64 = refl
-  value-mapped F32 = refl
-  value-mapped F64 = refl
-  value-mapped V128 = refl
+  value-mapped x = refl
 
   storage-mapped : (x : Storage H) → storage_code (map_storage h x) ≡ storage_code x
   storage-mapped (Val v) = value-mapped v
-  storage-mapped I8 = refl
-  storage-mapped I16 = refl
+  storage-mapped x = refl
 
   field-mapped : (x : Field H) → field_codes (map_field h x) ≡ field_codes x
   field-mapped x = ap (λ n. n ∷ flag x.mutable ∷ []) (storage-mapped x.element)
@@ -95,19 +90,7 @@ heap-back : (h : Heap Gap) → IsHeapCode h
 unfolding heap_of
 heap-back (Concrete a) = record { low = refl; high = refl; back = refl }
 heap-back (Abstract heap.NoExn) = record { low = refl; high = refl; back = ap Abstract (byte-back heap.NoExn) }
-heap-back (Abstract heap.NoFunc) = record { low = refl; high = refl; back = ap Abstract (byte-back heap.NoFunc) }
-heap-back (Abstract heap.NoExtern) = record { low = refl; high = refl; back = ap Abstract (byte-back heap.NoExtern) }
-heap-back (Abstract heap.None) = record { low = refl; high = refl; back = ap Abstract (byte-back heap.None) }
-heap-back (Abstract heap.Func) = record { low = refl; high = refl; back = ap Abstract (byte-back heap.Func) }
-heap-back (Abstract heap.Extern) = record { low = refl; high = refl; back = ap Abstract (byte-back heap.Extern) }
-heap-back (Abstract heap.Any) = record { low = refl; high = refl; back = ap Abstract (byte-back heap.Any) }
-heap-back (Abstract heap.Eq) = record { low = refl; high = refl; back = ap Abstract (byte-back heap.Eq) }
-heap-back (Abstract heap.I31) = record { low = refl; high = refl; back = ap Abstract (byte-back heap.I31) }
-heap-back (Abstract heap.Struct) = record { low = refl; high = refl; back = ap Abstract (byte-back heap.Struct) }
-heap-back (Abstract heap.Array) = record { low = refl; high = refl; back = ap Abstract (byte-back heap.Array) }
-heap-back (Abstract heap.Exn) = record { low = refl; high = refl; back = ap Abstract (byte-back heap.Exn) }
-heap-back (Abstract heap.NoCont) = record { low = refl; high = refl; back = ap Abstract (byte-back heap.NoCont) }
-heap-back (Abstract heap.Cont) = record { low = refl; high = refl; back = ap Abstract (byte-back heap.Cont) }
+heap-back (Abstract a) = record { low = refl; high = refl; back = ap Abstract (byte-back a) }
 
 reference-back : (nullable : Bool) (h : Heap Gap) → decode (value_code (Ref (record { nullable = nullable; heap = h }))) ≡ to nullable h
 unfolding decode
@@ -125,14 +108,8 @@ reference-back false h =
 
 storage-back : (x : Storage Gap) → decode (storage_code x) ≡ Some x
 unfolding decode plain_of
-storage-back I8 = refl
-storage-back I16 = refl
-storage-back (Val I32) = refl
-storage-back (Val I64) = refl
-storage-back (Val F32) = refl
-storage-back (Val F64) = refl
-storage-back (Val V128) = refl
 storage-back (Val (Ref r)) = reference-back r.nullable r.heap
+storage-back x = refl
 
 no_end : decode 0x0B ≡ None
 unfolding decode

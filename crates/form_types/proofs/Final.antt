@@ -8,7 +8,7 @@ use Rattle.std.proofs.lemmas.List.Concat.{get_or-flat_map}
 use Rattle.std.proofs.lemmas.List.Elements.{All-get_or, All-from_get_or}
 use Rattle.std.proofs.lemmas.Option.{slice_get-map, slice_get-get_or, slice_get_within, get_or_from_slice_get}
 use Rattle.wasm_spec.specs.declared.types.UnpackedIndex.{UnpackedIndex}
-use Rattle.wasm_spec.specs.declared.types.UnpackedIndex.TheVariants.{Module, RecGroup, Id}
+use Rattle.wasm_spec.specs.declared.types.UnpackedIndex.TheVariants.{Module}
 use Rattle.wasm_spec.specs.TypeData.{SubType, Group, Composite, Func, Array, Struct, Cont, Exn, map_value, map_field, map_sub_type, map_composite}
 use Rattle.wasm_spec.specs.Module as plain
 use Rattle.wasm_spec.specs.Sizes.{CompositeHasShortLists, HasShortLists, HasShortTypes}
@@ -113,10 +113,7 @@ module _ (m : plain.Module) (n : Numbering) (b : Built (plain.groups m) n) (vali
 
   function-mapped : (c : Composite UnpackedIndex UnpackedIndex) → IsFunction c → IsFunction (map_composite rename rename c)
   function-mapped (Func f) is = tt
-  function-mapped (Array f) is = absurd is
-  function-mapped (Struct fs) is = absurd is
-  function-mapped (Cont f) is = absurd is
-  function-mapped (Exn e) is = absurd is
+  function-mapped c is = absurd is
 
   -- a declared function type has a function type's id
   names-function : (r : ℕ) → NamesFunctionType (lists_of_module m) r → NamesFunction known (id_at ids r)
@@ -149,15 +146,11 @@ module _ (m : plain.Module) (n : Numbering) (b : Built (plain.groups m) n) (vali
   continues x is = by x.composite.inner is where
     index : (i : UnpackedIndex) → IndexNamesFunctionType (lists_of_module m) i → NamesFunction known (rename i)
     index (Module i) is = names-function i is
-    index (RecGroup i) is = absurd is
-    index (Id i) is = absurd is
+    index i is = absurd is
 
     by : (c : Composite UnpackedIndex UnpackedIndex) → rule.ContinuesFunction (lists_of_module m) c → CompositeContinues known (map_composite rename rename c)
-    by (Func f) is = tt
-    by (Array f) is = tt
-    by (Struct fs) is = tt
     by (Cont f) is = index f is
-    by (Exn e) is = tt
+    by c is = tt
 
   pub sound : All (IsDeclaredWell (lists_of_module m)) (declared_groups 0 (plain.groups m)) → HasShortTypes m → length (plain.types m) < 2 ^ 30
       → IsSound t

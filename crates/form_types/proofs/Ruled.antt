@@ -9,7 +9,7 @@ use Rattle.std.proofs.lemmas.List.Folds.{length-flat_map-take}
 use Rattle.std.proofs.lemmas.List.Elements.{All-nil, All-cons, All-head, All-tail, All-append, All-map, All-weaker}
 use Rattle.form_lists.proofs.AllSections.{All-joined, All-from_map}
 use Rattle.wasm_spec.specs.declared.types.UnpackedIndex.{UnpackedIndex}
-use Rattle.wasm_spec.specs.declared.types.UnpackedIndex.TheVariants.{Module, RecGroup, Id}
+use Rattle.wasm_spec.specs.declared.types.UnpackedIndex.TheVariants.{Module}
 use Rattle.wasm_spec.specs.TypeData.{Composite, sub_type_edges, group_edges, composite_edges, map_sub_type}
 use Rattle.wasm_spec.specs.Module as plain
 use Rattle.type_data.specs.ListLaws.{map-same, map-twice}
@@ -54,8 +54,7 @@ size-places gs = ap length (places-joined gs) ∙ length-map (types_by_id gs) _
 module _ (l : Lists) where
   place-below : (end : ℕ) (i : UnpackedIndex) → IsBelow end i → place_of i < end
   place-below end (Module i) below = below
-  place-below end (RecGroup i) below = absurd below
-  place-below end (Id i) below = absurd below
+  place-below end i below = absurd below
 
   supertype-near : (end index : ℕ) (s : Option UnpackedIndex) → index ≤ end → IfSome s (IsBelow index)
       → All (λ i. place_of i < end) (option_to_list s)

@@ -42,19 +42,7 @@ byte_heap n =
 pub byte-back : (a : AbstractHeapType) → byte_heap (heap_byte a) ≡ a
 unfolding byte_heap
 byte-back heap.NoExn = refl
-byte-back heap.NoFunc = refl
-byte-back heap.NoExtern = refl
-byte-back heap.None = refl
-byte-back heap.Func = refl
-byte-back heap.Extern = refl
-byte-back heap.Any = refl
-byte-back heap.Eq = refl
-byte-back heap.I31 = refl
-byte-back heap.Struct = refl
-byte-back heap.Array = refl
-byte-back heap.Exn = refl
-byte-back heap.NoCont = refl
-byte-back heap.Cont = refl
+byte-back a = refl
 
 heap-decides : (a b : Heap Gap) → Decides (same_heap a b) (a ≡ b)
 heap-decides (Concrete a) (Concrete b) = (λ same. refl, λ same. refl)
