@@ -118,8 +118,8 @@ function metWords({ imports, met, first }, name) {
 function importsTable({ imports }, ask, exporter, importer) {
   const row = it => [
     button(spoken(it.number), () => showOrigin(importer, "import", it.number), { class: "plain", "aria-label": `where import ${it.number} comes from` }),
-    nameWords(it.from),
-    nameWords(it.name),
+    `“${it.from}”`,
+    `“${it.name}”`,
     entityParts(it),
     givenParts(it, exporter),
   ];
@@ -129,13 +129,11 @@ function importsTable({ imports }, ask, exporter, importer) {
   return paging;
 }
 
-const LONG = 80;
-const nameWords = name => `“${name.length > LONG ? `${name.slice(0, LONG)} …` : name}”`;
 const entityParts = ({ kind, index, type }) => [`${kind} ${spoken(index)}, `, type.startsWith("(") ? el("code", {}, type) : type];
 
 function givenParts({ answer, rule, given }, exporter) {
   const fault = answer === "given" ? [] : [el("b", { class: "bad" }, rule ?? "missing"), given ? ": " : ""];
   if (!given) return fault;
   const look = () => showOrigin(exporter, "export", given.number);
-  return [...fault, button(`export ${spoken(given.number)}`, look, { class: "plain", "aria-label": `where export ${given.number} comes from` }), ` ${nameWords(given.name)}, `, ...entityParts(given)];
+  return [...fault, button(`export ${spoken(given.number)}`, look, { class: "plain", "aria-label": `where export ${given.number} comes from` }), ` “${given.name}”, `, ...entityParts(given)];
 }

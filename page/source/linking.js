@@ -40,8 +40,10 @@ class Linking {
   }
 
   row(number) {
-    const it = this.importer.externals.import(number), answer = this.importer.nameOf(["given", "missing", "mismatch"], this.answers[number]), detail = this.details[number];
-    const found = { given: () => detail, missing: () => null, mismatch: () => this.exporter.externals.exportNamed(it.name) }[answer]();
-    return { ...it, answer, rule: answer === "mismatch" ? this.rules.get(detail) : null, given: found === null ? null : this.exporter.externals.export(found) };
+    const { importer, exporter } = this, it = importer.externals.import(number), detail = this.details[number];
+    const answer = importer.nameOf(["given", "missing", "mismatch"], this.answers[number]);
+    const found = { given: () => detail, missing: () => null, mismatch: () => exporter.externals.exportNamed(it.name) }[answer]();
+    const rule = answer === "mismatch" ? this.rules.get(detail) : null, given = found === null ? null : exporter.externals.export(found);
+    return { ...it, from: shortened(it.from), name: shortened(it.name), answer, rule, given: given && { ...given, name: shortened(given.name) } };
   }
 }

@@ -52,7 +52,8 @@ const ANSWERS = {
     return linking.summary();
   },
 
-  imports: ({ from, to }) => linking.rows(from, to),
+  // None, where a module is planned anew meanwhile.
+  imports: ({ from, to }) => linking?.rows(from, to) ?? [],
   memories: ({ side, from, to }) => sides[side].memories(from, to),
   picture: ({ side, memory, from, to, columns }) => sides[side].picture(memory, from, to, columns),
   partAt: ({ side, memory, place }) => sides[side].partAt(memory, place),

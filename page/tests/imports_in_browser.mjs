@@ -17,7 +17,7 @@ export class ImportChecks extends Opened {
 
   // Waits until the section says this.
   async says(words, seconds = 60) {
-    await this.tab.until(`document.querySelector("${CARD} .result")?.textContent === ${JSON.stringify(words)}`, seconds);
+    await this.tab.until(`document.querySelector("${CARD} .result b")?.textContent === ${JSON.stringify(words)}`, seconds);
     await this.tab.until(`document.querySelector("${CARD} tbody") !== null || ${words.endsWith("no imports")}`);
   }
 
@@ -150,7 +150,7 @@ export class ImportChecks extends Opened {
   async links() {
     const other = new Opened({ ...this });
     await other.open(`#${new URLSearchParams({ options: "--cow", one: "overlap", other: "linked", importer: "one", as: "env" })}`);
-    await other.tab.until(`document.querySelector("${CARD} .result")?.textContent === "two segments that overlap has no imports"`);
+    await other.tab.until(`document.querySelector("${CARD} .result b")?.textContent === "two segments that overlap has no imports"`);
     const told = await other.tab.value("[document.querySelector('[name=importer]:checked').value, document.getElementById('module-name').value, document.querySelector('[name=shown]:checked').value, location.hash]");
     const words = new URLSearchParams(told[3].slice(1));
     this.report("in the browser: an address brings the comparison, its direction and its name", () => told.slice(0, 3).join() === "one,env,comparison" && words.get("importer") === "one" && words.get("as") === "env", told);
