@@ -157,6 +157,31 @@ enum {
     BOBBINAZURE_EXN_OBJECT = 2
 };
 
+/* What an import is answered. */
+enum {
+    BOBBINAZURE_GIVEN = 0,          /* detail: the number of the export, counted from 0 */
+    BOBBINAZURE_MISSING = 1,        /* no export stands under its names */
+    BOBBINAZURE_MISMATCH = 2        /* detail: the first rule that the export breaks, of the next enum; line: its text */
+};
+
+/* The rules by which an export matches an import, in the order in which they are asked. */
+enum {
+    BOBBINAZURE_MISMATCH_KIND = 1,
+    BOBBINAZURE_MISMATCH_FUNC_TYPE = 2,
+    BOBBINAZURE_MISMATCH_TABLE_ELEMENT = 3,
+    BOBBINAZURE_MISMATCH_TABLE_INDEX_TYPE = 4,
+    BOBBINAZURE_MISMATCH_TABLE_MIN = 5,
+    BOBBINAZURE_MISMATCH_TABLE_MAX = 6,
+    BOBBINAZURE_MISMATCH_MEMORY_INDEX_TYPE = 7,
+    BOBBINAZURE_MISMATCH_MEMORY_SHARED = 8,
+    BOBBINAZURE_MISMATCH_MEMORY_PAGE = 9,
+    BOBBINAZURE_MISMATCH_MEMORY_MIN = 10,
+    BOBBINAZURE_MISMATCH_MEMORY_MAX = 11,
+    BOBBINAZURE_MISMATCH_GLOBAL_MUTABILITY = 12,
+    BOBBINAZURE_MISMATCH_GLOBAL_TYPE = 13,
+    BOBBINAZURE_MISMATCH_TAG_TYPE = 14
+};
+
 /* In place of an index where there is none, and of the null reference in a table. */
 #define BOBBINAZURE_NONE UINT32_MAX
 /* In place of a greatest size where there is none. */
@@ -357,6 +382,19 @@ typedef struct {
     uint32_t made;              /* 0: the text is not to be freed */
 } bobbinazure_text;
 
+typedef struct {
+    uint32_t answer;            /* BOBBINAZURE_GIVEN .. */
+    uint32_t detail;
+    bobbinazure_bytes line;     /* of a mismatch, else empty; not to be freed */
+} bobbinazure_import_answer;
+
+typedef struct {
+    uint32_t refused;           /* 1: the first module, 2: the second; 0, as the next two, where both are planned */
+    uint32_t refusal, refusal_detail;
+    bobbinazure_bytes refusal_line;                     /* as the program prints it; not to be freed */
+    BOBBINAZURE_LIST(bobbinazure_import_answer) answers; /* of each import of the second module, in order */
+} bobbinazure_link_record;
+
 /* Plans the module that the bytes spell. Takes the bytes and the options, which it reads while it runs; the plan refers to the bytes where a
  * segment or a name stands there, so they must outlive it. At PLANNED the plan is whole, and bobbinazure_plan_free frees it; at REFUSED its
  * three first fields say why; at NO_MEMORY it has the lists that were made, which bobbinazure_plan_free frees; at WRONG_OPTIONS it is unchanged.
@@ -369,6 +407,14 @@ uint32_t bobbinazure_make_text(const uint8_t *bytes, size_t len, const bobbinazu
 
 /* Both of one plan. At NO_MEMORY the text is unchanged. */
 uint32_t bobbinazure_make_plan_and_text(const uint8_t *bytes, size_t len, const bobbinazure_options *options, bobbinazure_plan *plan, bobbinazure_text *text);
+
+/* What each import of the second module is given by the exports of the first, which stand under the name of a module, in UTF-8 without a zero at
+ * the end. Both modules are planned with the options. At PLANNED the record has an answer for each import, whether or not all are given, and
+ * bobbinazure_link_free frees them; at REFUSED its four first fields say which module is refused, the first where both are, and why; at
+ * WRONG_OPTIONS, as where the name is not UTF-8, and at NO_MEMORY it is unchanged. The record that is passed in comes from
+ * bobbinazure_link_init, and refers to no bytes of the modules. */
+uint32_t bobbinazure_link(const uint8_t *exporter, size_t exporter_len, const uint8_t *importer, size_t importer_len,
+                          const uint8_t *as_module, size_t as_module_len, const bobbinazure_options *options, bobbinazure_link_record *links);
 
 /* Those of the program without a word. */
 static inline bobbinazure_options bobbinazure_options_init(void) {
@@ -394,6 +440,16 @@ static inline bobbinazure_text bobbinazure_text_init(void) {
     return text;
 }
 
+static inline bobbinazure_link_record bobbinazure_link_init(void) {
+    static const uint64_t nothing[4] = {0, 0, 0, 0};
+    const void *at = nothing;
+    bobbinazure_link_record links;
+    memset(&links, 0, sizeof links);
+    memcpy(&links.refusal_line.at, &at, sizeof at);
+    memcpy(&links.answers.at, &at, sizeof at);
+    return links;
+}
+
 /* Gives back what a call filled, and leaves empty lists. What was never filled may be freed too. */
 static inline void bobbinazure_plan_free(bobbinazure_plan *plan) {
     for (size_t i = 0; i < plan->runtime.len; i++)
@@ -407,6 +463,11 @@ static inline void bobbinazure_plan_free(bobbinazure_plan *plan) {
 static inline void bobbinazure_text_free(bobbinazure_text *text) {
     if (text->made && text->text.len) free((void *)text->text.at);
     *text = bobbinazure_text_init();
+}
+
+static inline void bobbinazure_link_free(bobbinazure_link_record *links) {
+    if (links->answers.len) free((void *)links->answers.at);
+    *links = bobbinazure_link_init();
 }
 
 #ifdef __cplusplus

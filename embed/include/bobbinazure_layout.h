@@ -250,6 +250,18 @@ BOBBINAZURE_SIZE(text, 24);
 BOBBINAZURE_AT(text, text, 0);
 BOBBINAZURE_AT(text, made, 16);
 
+BOBBINAZURE_SIZE(import_answer, 24);
+BOBBINAZURE_AT(import_answer, answer, 0);
+BOBBINAZURE_AT(import_answer, detail, 4);
+BOBBINAZURE_AT(import_answer, line, 8);
+
+BOBBINAZURE_SIZE(link_record, 48);
+BOBBINAZURE_AT(link_record, refused, 0);
+BOBBINAZURE_AT(link_record, refusal, 4);
+BOBBINAZURE_AT(link_record, refusal_detail, 8);
+BOBBINAZURE_AT(link_record, refusal_line, 16);
+BOBBINAZURE_AT(link_record, answers, 32);
+
 #undef BOBBINAZURE_AT
 #undef BOBBINAZURE_SIZE
 #undef BOBBINAZURE_ASSERT

@@ -10,8 +10,8 @@ SOURCE = HERE / "source"
 EXAMPLES = HERE.parent / "examples"
 
 # Each list in the order in which its files need one another. The worker's files are run in node too, by the checks.
-WORKER = ["planner", "lines", "reading", "expressions", "places", "told", "origins", "comparing", "worker"]
-PAGE = ["asking", "parts", "paging", "memories", "tables", "contexts", "text", "dialogs", "answers", "comparison", "page"]
+WORKER = ["words", "planner", "lines", "reading", "expressions", "places", "externals", "told", "origins", "comparing", "linking", "worker"]
+PAGE = ["words", "asking", "parts", "paging", "memories", "tables", "contexts", "text", "dialogs", "answers", "imports", "comparison", "page"]
 
 
 def script_of(names):

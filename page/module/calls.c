@@ -22,3 +22,11 @@ CALL(page_text_init)(bobbinazure_text *text) {
 CALL(page_text_free)(bobbinazure_text *text) {
     bobbinazure_text_free(text);
 }
+
+CALL(page_link_record_init)(bobbinazure_link_record *links) {
+    *links = bobbinazure_link_init();
+}
+
+CALL(page_link_record_free)(bobbinazure_link_record *links) {
+    bobbinazure_link_free(links);
+}

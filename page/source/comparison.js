@@ -1,8 +1,10 @@
 // Two plans side by side.
 
+// Where one of them is refused there is no summary, and it is said which.
 function comparisonOf(summary, ask, plans) {
+  if (!summary) return [importsCard(ask, plans)];
   const names = plans.map(plan => plan.summary.name);
-  return [countsCard(summary, names), sharedTypesCard(summary, ask, names), imagesCard(summary, plans), contextsCard(summary, plans)];
+  return [countsCard(summary, names), sharedTypesCard(summary, ask, names), imagesCard(summary, plans), contextsCard(summary, plans), importsCard(ask, plans)];
 }
 
 const cellOf = (words, isDifferent, isNumber = true) => el("td", { class: [isNumber && "n", isDifferent && "differs"].filter(Boolean).join(" ") || null }, ...[words].flat());

@@ -41,20 +41,9 @@ function memoriesCard(plan) {
   );
 }
 
-// What a memory or table is, in words: what is true of it.
-const joined = words => words.filter(Boolean).join(", ");
-
 function memoryPart(plan, row) {
   const bytes = Number(row.minimum) * row.page;
-  const words = joined([
-    row.isImported && "imported",
-    count(row.minimum, row.page === 1 ? "byte" : "page"),
-    row.maximum !== null && `at most ${spoken(row.maximum)}`,
-    bytes > 0 && sizeWords(bytes),
-    row.isWide && "addresses of 64 bits",
-    row.isShared && "shared",
-    ...row.names,
-  ]);
+  const words = joined([row.isImported && "imported", memoryWords(row), ...row.names]);
   const part = el("div", {}, el("h3", {}, `memory ${row.index} `, originButton(plan, "memory", row.index)), el("p", { class: "soft" }, words));
   if (bytes > 0) part.append(...memoryPictures(plan, row, bytes));
   const rows = plan.summary.hasImages ? row.images : row.segments;

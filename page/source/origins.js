@@ -151,11 +151,28 @@ class Origins {
     return { title: `memory ${index}`, facts: [...facts, this.section(index < imported ? 2 : 5), ...this.line("memories", 0, "line of all memories")] };
   }
 
+  import(number) {
+    const { from, name, kind, index, type } = this.told.externals.import(number), { importStarts } = this.places;
+    const facts = [{ label: "names", text: `“${from}” “${name}”` }, ...entityFacts(kind, index, type), this.item(`import ${number}`, 2, importStarts, number), this.section(2)];
+    return { title: `import ${number}`, facts: [...facts, ...this.line("import", number)] };
+  }
+
+  export(number) {
+    const { name, kind, index, type } = this.told.externals.export(number), { exportStarts } = this.places;
+    const facts = [{ label: "name", text: `“${name}”` }, ...entityFacts(kind, index, type), this.item(`export ${number}`, 7, exportStarts, number), this.section(7)];
+    return { title: `export ${number}`, facts: [...facts, ...this.line("export", number)] };
+  }
+
   startup() {
     const facts = [{ label: "type", text: `type ${this.plan.startup_type}` }];
     if (this.plan.start !== NONE) facts.push({ label: "calls", text: `function ${this.plan.start}` }, this.section(8));
     return { title: "startup", facts: [...facts, ...this.line("startup", 0)] };
   }
+}
+
+// What an import or export is: its index by its kind, and its type.
+function entityFacts(kind, index, type) {
+  return [{ label: "index", text: `${kind} ${index}` }, { label: "type", text: type }];
 }
 
 // A constant as the place that it names: without a sign, of 32 or 64 bits.

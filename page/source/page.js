@@ -7,7 +7,7 @@ const CHOICES = { pointer: ["--ptr=", "8"], collector: ["--gc=", "0"], page_size
 const COLLECTORS = ["drc", "null"];
 
 const sides = { one: null, other: null };
-let asking = null, shown = "one";
+let asking = null, shown = "one", isComparisonAwaited = false;
 
 const bytesOf = text => Uint8Array.from(atob(text), letter => letter.charCodeAt(0));
 const exampleBytes = name => bytesOf(byId(`module-${name}`).textContent);
@@ -49,7 +49,13 @@ function checkOptions() {
 function addressWords() {
   const words = new URLSearchParams({ options: optionWords().join(" ") });
   for (const side of ["one", "other"]) if (sides[side]?.example) words.set(side, sides[side].example);
+  if (shown === "comparison") words.set("importer", matching.importer);
+  if (shown === "comparison" && matching.name !== null) words.set("as", matching.name);
   return `#${words}`;
+}
+
+function keepAddress() {
+  history.replaceState(null, "", addressWords());
 }
 
 function readAddress() {
@@ -62,6 +68,9 @@ function readAddress() {
     if (EXAMPLES[example] && sides[side]?.example !== example) takeExample(side, example);
     else if (sides[side]) planSide(side);
   }
+  // An address that says whose imports are matched is one of a comparison.
+  isComparisonAwaited = words.has("importer");
+  Object.assign(matching, { importer: words.get("importer") === "one" ? "one" : "other", name: words.get("as"), isStopped: false });
 }
 
 const commandWords = () => ["./translate FILE.wasm", ...optionWords()].join(" ");
@@ -69,7 +78,7 @@ const commandWords = () => ["./translate FILE.wasm", ...optionWords()].join(" ")
 function optionsChanged() {
   checkOptions();
   byId("command").textContent = commandWords();
-  history.replaceState(null, "", addressWords());
+  keepAddress();
   for (const side of ["one", "other"]) if (sides[side]) planSide(side);
 }
 
@@ -83,8 +92,10 @@ function takeExample(side, example) {
 function take(side, name, blob, example = null) {
   if (side === "other") showOtherSide();
   sides[side] = { name, blob, example, isPlanning: sides[side]?.isPlanning ?? false, plan: null };
+  if (side === matching.importer) matching.name = null;
+  matching.isStopped = false;
   if (shown !== "comparison") shown = side;
-  history.replaceState(null, "", addressWords());
+  keepAddress();
   return planSide(side);
 }
 
@@ -94,7 +105,7 @@ async function planSide(side) {
   at.isStale = true;
   if (at.isPlanning) return;
   at.isPlanning = true;
-  showProgress(side);
+  showProgress();
   try {
     let summary = null;
     while (sides[side]?.isStale) {
@@ -131,17 +142,37 @@ function showFault(side, error) {
 
 // What is shown: one plan, or both compared. Where one is planned anew, its answer comes with it.
 async function showAnswer() {
-  const plans = [sides.one?.plan, sides.other?.plan], areBoth = plans.every(plan => plan?.summary.status === "planned");
+  const plans = [sides.one?.plan, sides.other?.plan], areAll = states => plans.every(plan => states.includes(plan?.summary.status)), areBoth = areAll(["planned", "refused"]);
   byId("shown").hidden = !sides.other;
   document.querySelector("[name=shown][value=comparison]").disabled = !areBoth;
+  if (isComparisonAwaited && areBoth) showComparison();
   if (shown === "comparison" && !areBoth) shown = "one";
   if (shown !== "comparison" && !sides[shown]?.plan) shown = plans[0] ? "one" : "other";
   document.querySelector(`[name=shown][value=${shown}]`).checked = true;
   if (shown !== "comparison") {
     if (sides[shown]?.plan) byId("answer").replaceChildren(...answerOf(sides[shown].plan));
   } else if (!Object.values(sides).some(side => side.isPlanning)) {
-    const summary = await asking.ask("compare");
-    byId("answer").replaceChildren(...comparisonOf(summary, (question, words) => asking.ask(question, words), plans.map(goingBack)));
+    const summary = areAll(["planned"]) ? await asking.ask("compare") : null;
+    byId("answer").replaceChildren(...comparisonOf(summary, askOfBoth, plans.map(goingBack)));
+  }
+}
+
+function showComparison() {
+  shown = "comparison";
+  isComparisonAwaited = false;
+  keepAddress();
+}
+
+// Asks the worker of both plans. Matching takes as long as planning, so it is shown how far that is.
+async function askOfBoth(question, words) {
+  if (question !== "link") return asking.ask(question, words);
+  matchings++;
+  showProgress();
+  try {
+    return await asking.ask(question, words);
+  } finally {
+    matchings--;
+    hideProgress();
   }
 }
 
@@ -152,9 +183,9 @@ function goingBack(plan) {
 
 // How far an opening is.
 
-let clock = null, begun = 0;
+let clock = null, begun = 0, matchings = 0;
 
-function showProgress(side) {
+function showProgress() {
   begun = performance.now();
   clearInterval(clock);
   clock = setInterval(() => {
@@ -173,7 +204,7 @@ function hearProgress({ side, step, of, what }) {
 }
 
 function hideProgress() {
-  if (Object.values(sides).some(side => side?.isPlanning)) return;
+  if (matchings || Object.values(sides).some(side => side?.isPlanning)) return;
   clearInterval(clock);
   byId("progress").hidden = true;
 }
@@ -229,7 +260,12 @@ function preparePage() {
   byId("options").onsubmit = event => event.preventDefault();
   byId("copy-link").onclick = () => copy(location.href.split("#")[0] + addressWords(), "the link");
   byId("stop").onclick = stop;
-  byId("shown").onchange = event => { shown = event.target.value; showAnswer(); };
+  byId("shown").onchange = event => {
+    shown = event.target.value;
+    isComparisonAwaited = false;
+    keepAddress();
+    showAnswer();
+  };
   addEventListener("hashchange", readAddress);
   // A question that comes while its module is planned anew has no answer.
   addEventListener("unhandledrejection", event => say(event.reason?.message ?? String(event.reason)));

@@ -21,23 +21,6 @@ function svg(name, words, ...inside) {
   return node;
 }
 
-const spoken = number => number.toLocaleString("en");
-const plural = word => `${word.replace(/y$/, "ie")}s`;
-const count = (number, one, more = plural(one)) => `${spoken(number)} ${number === 1 || number === 1n ? one : more}`;
-const hexOf = (number, digits = 1) => number.toString(16).toUpperCase().padStart(digits, "0");
-
-function sizeWords(bytes) {
-  for (const [unit, name] of [[2 ** 40, "TiB"], [2 ** 30, "GiB"], [2 ** 20, "MiB"], [2 ** 10, "KiB"]]) {
-    if (bytes >= unit) return `${(bytes / unit).toFixed(1).replace(/\.0$/, "")} ${name}`;
-  }
-  return count(bytes, "byte");
-}
-
-const timeWords = ms => (ms < 1000 ? `${ms.toFixed(1)} ms` : `${(ms / 1000).toFixed(2)} s`);
-
-// Bytes as letters, with a dot for what is none.
-const lettersOf = bytes => Array.from(bytes, byte => (byte > 31 && byte < 127 ? String.fromCharCode(byte) : "·")).join("");
-
 function button(words, onclick, more = {}) {
   return el("button", { type: "button", onclick, ...more }, words);
 }

@@ -45,10 +45,16 @@ class Planner {
     return new Uint8Array(this.calls.memory.buffer, at, length);
   }
 
+  // Room with these bytes.
+  holding(bytes) {
+    const at = this.room(bytes.length || 1);
+    this.bytes(at, bytes.length).set(bytes);
+    return at;
+  }
+
   // Plans a module. The answer has its status, the plan and the text; both stand in this planner's memory.
   make(bytes, options) {
-    const input = this.room(bytes.length || 1);
-    this.bytes(input, bytes.length).set(bytes);
+    const input = this.holding(bytes);
     const places = { options: this.begun("options"), plan: this.begun("plan"), text: this.begun("text") };
     this.write("options", places.options, options);
     const words = [input, bytes.length, places.options, places.plan, places.text].map(BigInt);
@@ -61,6 +67,21 @@ class Planner {
     this.calls.page_plan_free(BigInt(answer.places.plan));
     this.calls.page_text_free(BigInt(answer.places.text));
     for (const at of [answer.input, ...Object.values(answer.places)]) this.free(at);
+  }
+
+  // What each import of one module is given by the exports of another, which stand under the name of a module.
+  link(exporter, importer, name, options) {
+    const inputs = [exporter, importer, new TextEncoder().encode(name)].map(bytes => [this.holding(bytes), bytes.length]);
+    const places = { options: this.begun("options"), record: this.begun("link_record") };
+    this.write("options", places.options, options);
+    const status = this.calls.bobbinazure_link(...[...inputs.flat(), places.options, places.record].map(BigInt));
+    return { status, inputs: inputs.map(([at]) => at), places, record: this.read("link_record", places.record) };
+  }
+
+  // Gives back what the answers of a link stand in.
+  dropLink({ inputs, places }) {
+    this.calls.page_link_record_free(BigInt(places.record));
+    for (const at of [...inputs, ...Object.values(places)]) this.free(at);
   }
 
   // A number of so many bytes: exact, so one past 2^53 is a BigInt.
@@ -115,10 +136,12 @@ class Rows {
     return this.column(name)(index);
   }
 
-  // One number of each row: a call that is as quick as can be, for lists that are gone through whole. The memory must not grow meanwhile.
-  column(name) {
-    const { view } = this.planner, { at, number } = this.planner.layout.records[this.kind].fields[name];
-    const begin = this.at + at, { size } = this;
+  // One number of each row, or of a record in it: a call that is as quick as can be, for lists that are gone through whole. The memory must not
+  // grow meanwhile.
+  column(name, inner = null) {
+    const { view, layout } = this.planner, field = layout.records[this.kind].fields[name];
+    const { at, number } = inner === null ? field : layout.records[field.record].fields[inner];
+    const begin = this.at + at + (inner === null ? 0 : field.at), { size } = this;
     if (number === 4) return index => view.getUint32(begin + index * size, true);
     return index => this.planner.number(begin + index * size, number);
   }

@@ -9,14 +9,7 @@ function tablesCard(plan) {
 }
 
 function tablePart(plan, row) {
-  const words = joined([
-    row.isImported && "imported",
-    count(row.minimum, "cell"),
-    row.maximum !== null && `at most ${spoken(row.maximum)}`,
-    `of ${row.element}`,
-    row.isWide && "cells are named by 64 bits",
-    ...row.names,
-  ]);
+  const words = joined([row.isImported && "imported", tableWords(row), ...row.names]);
   const part = el("div", {}, el("h3", {}, `table ${row.index} `, originButton(plan, "table", row.index)), el("p", { class: "soft" }, words));
   if (!row.cells) return part;
   const draw = cells => el("ol", { class: "cells", start: cells[0]?.place ?? 0 }, ...cells.map(cellPart));

@@ -23,6 +23,7 @@ class Told {
     this.lines = new Lines(this.status <= this.numbers.refused ? this.answer.text.view : new Uint8Array());
     this.places = new Places(this.module);
     if (!this.isPlanned) return;
+    this.externals = new Externals(this);
     this.declaredOf = new Grouped(this.plan.declared.length, this.plan.types, i => this.plan.declared.get(i));
     this.functionsOf = new Grouped(this.plan.functions.length, this.plan.types, i => this.plan.functions.get(i));
     const { segments, images, runtime_ranges: ranges } = this.plan, memories = this.plan.memories.length;
@@ -57,10 +58,14 @@ class Told {
   }
 
   refusal() {
-    const { refusal, refusal_detail: detail } = this.plan;
+    const cause = this.causeOf(this.plan);
+    return { ...cause, line: this.lines.line(0), place: this.places.placeOf(cause.kind, cause.rule) };
+  }
+
+  // Why a record says that a module is refused.
+  causeOf({ refusal, refusal_detail: rule }) {
     const kind = this.nameOf(["malformed", "invalid", "unsupported", "too_large", "offset_overflow"], refusal);
-    const what = this.nameOf(["component", "shared", "supertypes", "operator", "exact_import", "interface_types"], detail);
-    return { kind, rule: detail, what, line: this.lines.line(0), place: this.places.placeOf(kind, detail) };
+    return { kind, rule, what: this.nameOf(["component", "shared", "supertypes", "operator", "exact_import", "interface_types"], rule) };
   }
 
   runtime(index) {
@@ -69,11 +74,10 @@ class Told {
 
   memories(from, to) {
     return this.plan.memories.slice(from, to).map((memory, i) => {
-      const index = from + i, page = 2 ** memory.page_size_log2;
+      const index = from + i, told = memoryOf(memory);
       return {
-        index, page, minimum: memory.minimum, maximum: memory.maximum === UNBOUNDED ? null : memory.maximum, isShared: memory.shared !== 0, isWide: memory.wide !== 0,
-        isImported: index < this.plan.entities.imported_memories, images: this.imagesOf.count(index), segments: this.segmentsOf.count(index), span: this.span(index, page, memory.minimum),
-        names: this.namesOf("memory", index),
+        index, ...told, isImported: index < this.plan.entities.imported_memories, images: this.imagesOf.count(index), segments: this.segmentsOf.count(index),
+        span: this.span(index, told.page, told.minimum), names: this.namesOf("memory", index),
       };
     });
   }
@@ -156,10 +160,7 @@ class Told {
       const index = from + i, own = index - imported_tables, { begin, len } = own < 0 ? { begin: 0, len: 0 } : this.plan.table_images.get(own);
       let full = 0;
       for (let cell = begin; cell < begin + len; cell++) if (this.plan.cells.get(cell) !== NONE) full++;
-      return {
-        index, isImported: own < 0, minimum: table.minimum, maximum: table.maximum === UNBOUNDED ? null : table.maximum, isWide: table.wide !== 0,
-        element: valueWords(table.element, this.numbers), cells: len, full, names: this.namesOf("table", index),
-      };
+      return { index, isImported: own < 0, ...tableOf(table, this.numbers), cells: len, full, names: this.namesOf("table", index) };
     });
   }
 
@@ -297,14 +298,4 @@ function countFull(bytes, from, to) {
   let full = 0;
   for (let i = Math.max(0, from); i < Math.min(to, bytes.length); i++) if (bytes[i] !== 0) full++;
   return full;
-}
-
-// A value's type in the words of the text.
-function valueWords(value, numbers) {
-  const named = prefix => Object.keys(numbers).filter(name => name.startsWith(prefix));
-  if (value.kind !== numbers.ref) return ["i32", "i64", "f32", "f64", "v128", "i8", "i16"].find(name => numbers[name] === value.kind) ?? "?";
-  const heap = named("heap_").find(name => numbers[name] === value.heap)?.slice(5) ?? "?";
-  const words = heap.startsWith("concrete_") ? `${heap.slice(9)} (module ${value.index})` : heap.replace("no_", "no");
-  if (value.nullable && (words === "func" || words === "extern")) return `${words}ref`;
-  return value.nullable ? `(ref null ${words})` : `(ref ${words})`;
 }

@@ -2,7 +2,7 @@
 
 const STEPS = ["reading the file", "planning", "finding the lines of the text", "done"];
 
-let compiled = null, layout = null, comparison = null;
+let compiled = null, layout = null, comparison = null, linking = null;
 const sides = { one: null, other: null };
 
 // Says how far the opening of a module is.
@@ -19,7 +19,7 @@ const ANSWERS = {
   },
 
   async open({ side, name, blob, options }) {
-    sides[side] = comparison = null;
+    sides[side] = comparison = linking = null;
     step(side, 0);
     const bytes = new Uint8Array(await blob.arrayBuffer());
     step(side, 1);
@@ -32,7 +32,7 @@ const ANSWERS = {
   },
 
   close({ side }) {
-    sides[side] = comparison = null;
+    sides[side] = comparison = linking = null;
   },
 
   compare() {
@@ -44,6 +44,16 @@ const ANSWERS = {
     return comparison.types(from, to);
   },
 
+  // Plans both modules once more, so it takes as long as that.
+  link({ importer, name }) {
+    linking = null;
+    postMessage({ progress: { side: importer, step: 0, of: 1, what: "matching the imports" } });
+    linking = new Linking(new Planner(compiled, layout), sides[importer === "one" ? "other" : "one"], sides[importer], name);
+    return linking.summary();
+  },
+
+  // None, where a module is planned anew meanwhile.
+  imports: ({ from, to }) => linking?.rows(from, to) ?? [],
   memories: ({ side, from, to }) => sides[side].memories(from, to),
   picture: ({ side, memory, from, to, columns }) => sides[side].picture(memory, from, to, columns),
   partAt: ({ side, memory, place }) => sides[side].partAt(memory, place),

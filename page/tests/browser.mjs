@@ -47,7 +47,7 @@ export class Browser {
   async open(url) {
     const { targetId } = await this.send("Target.createTarget", { url });
     const { sessionId } = await this.send("Target.attachToTarget", { targetId, flatten: true });
-    return new Tab(this, sessionId);
+    return new Tab(this, sessionId, targetId);
   }
 
   async close() {
@@ -63,8 +63,12 @@ export class Browser {
 }
 
 export class Tab {
-  constructor(browser, session) {
-    Object.assign(this, { browser, session });
+  constructor(browser, session, target) {
+    Object.assign(this, { browser, session, target });
+  }
+
+  close() {
+    return this.browser.send("Target.closeTarget", { targetId: this.target });
   }
 
   send(method, params = {}) {

@@ -6,74 +6,27 @@ import { cpus, loadavg, tmpdir } from "node:os";
 import { join } from "node:path";
 import { pathToFileURL } from "node:url";
 import { Browser } from "./browser.mjs";
-import { optionsOf, readModules } from "./cases.mjs";
+import { readModules } from "./cases.mjs";
+import { ImportChecks } from "./imports_in_browser.mjs";
 import { manySegments } from "./modules.mjs";
+import { NARROW, Opened, STANDS_STILL } from "./opened.mjs";
 import { compile, partsOf } from "./page_parts.mjs";
 
 const SECONDS = 5;
-const STANDS_STILL = 250;
-const NARROW = 360;
 
-export async function checkInBrowser({ page, root, program, report, leave, chromium, shots }) {
+export async function checkInBrowser({ page, chromium, ...more }) {
   const browser = new Browser(chromium), folder = mkdtempSync(join(tmpdir(), "page-files-"));
   try {
-    const parts = partsOf(page), it = new PageCheck({ browser, parts, compiled: await compile(parts.planner), url: pathToFileURL(page).href, root, program, report, leave, folder, shots });
-    await it.open();
-    for (const check of ["examples", "modules", "files", "dropping", "refusals", "address", "dialogs", "keyboard", "names", "narrow", "colours", "comparison", "saving", "stopping", "many"]) {
-      try {
-        await it[check]();
-      } catch (error) {
-        report(`in the browser: ${check}`, () => false, [String(error.stack ?? error)]);
-      }
-    }
+    const parts = partsOf(page), given = { browser, folder, parts, compiled: await compile(parts.planner), url: pathToFileURL(page).href, ...more };
+    for (const Checks of [PageChecks, ImportChecks]) await new Checks(given).run();
   } finally {
     await browser.close();
     rmSync(folder, { recursive: true });
   }
 }
 
-class PageCheck {
-  constructor(parts) {
-    Object.assign(this, parts);
-  }
-
-  async open(hash = "") {
-    this.tab = await this.browser.open(this.url + hash);
-    await this.tab.until("document.readyState === 'complete' && typeof asking !== 'undefined' && asking !== null");
-    await this.tab.value("asking.loaded.then(() => true)");
-    await this.tab.send("DOM.enable");
-  }
-
-  async shot(name, isOfView = false) {
-    if (this.shots) writeFileSync(join(this.shots, `${name}.png`), isOfView ? await this.tab.viewed() : await this.tab.picture());
-  }
-
-  // A picture from the top of one element to the bottom of another.
-  async part(first, last) {
-    const place = (selector, side) => this.tab.value(`document.querySelector("${selector}").getBoundingClientRect().${side} + scrollY`);
-    return this.tab.picture(await place(first, "top"), (await place(last, "bottom")) + 24);
-  }
-
-  // Waits until a side has the plan of this name.
-  async planned(name, side = "one") {
-    await this.tab.until(`sides.${side}?.name === ${JSON.stringify(name)} && sides.${side}?.plan != null && !sides.${side}.isPlanning`);
-  }
-
-  text(side = "one") {
-    return this.tab.value(`asking.ask("blob", { side: "${side}", of: "text" }).then(blob => blob.text())`);
-  }
-
-  // The text’s checksum, where it is too long to be handed over.
-  sum(side = "one") {
-    return this.tab.value(`asking.ask("blob", { side: "${side}", of: "text" }).then(blob => blob.arrayBuffer()).then(bytes => crypto.subtle.digest("SHA-256", bytes))
-      .then(sum => Array.from(new Uint8Array(sum), byte => byte.toString(16).padStart(2, "0")).join(""))`);
-  }
-
-  // The text that the same planner gives in node, which was compared with the program’s.
-  expected(bytes, words) {
-    const told = new this.parts.Told(new this.parts.Planner(this.compiled, this.parts.layout), "", bytes, optionsOf(words));
-    return told.answer.text.text;
-  }
+class PageChecks extends Opened {
+  static all = ["examples", "modules", "files", "dropping", "refusals", "address", "dialogs", "keyboard", "names", "narrow", "colours", "comparison", "saving", "stopping", "many"];
 
   async examples() {
     await this.shot("empty");
@@ -123,10 +76,7 @@ class PageCheck {
   }
 
   async files() {
-    const file = join(this.folder, "given.wasm");
-    writeFileSync(file, this.parts.linked);
-    await this.tab.chooseFile("#file-one", file);
-    await this.planned("given.wasm");
+    await this.give("one", "given.wasm", this.parts.linked);
     const text = await this.text();
     this.report("in the browser: a chosen file is planned", () => text === this.expected(this.parts.linked, ["--cow", "--lazy-tables"]));
   }
@@ -141,11 +91,8 @@ class PageCheck {
   }
 
   async refusals() {
-    const bytes = Buffer.from("0061736d0100000005040101 0903".replace(" ", ""), "hex"), file = join(this.folder, "limits.wasm");
-    writeFileSync(file, bytes);
-    await this.tab.chooseFile("#file-one", file);
-    await this.planned("limits.wasm");
-    const said = await this.tab.value("document.getElementById('answer').textContent");
+    await this.give("one", "limits.wasm", Buffer.from("0061736d01000000050401010903", "hex"));
+    const said = await this.said("#answer");
     this.report("in the browser: a refusal says what and where", () => said.includes("rule 4") && said.includes("byte 11 (0xB), in the memory section (5)"), [said]);
     await this.shot("refused");
   }
@@ -255,15 +202,13 @@ class PageCheck {
   }
 
   async comparison() {
-    const file = join(this.folder, "changed.wasm"), changed = Buffer.from(this.parts.linked);
+    const changed = Buffer.from(this.parts.linked);
     changed[changed.indexOf("hello")] = 0x48;
-    writeFileSync(file, changed);
     await this.tab.value("document.getElementById('beside').click()");
-    await this.tab.chooseFile("#file-other", file);
-    await this.planned("changed.wasm", "other");
+    await this.give("other", "changed.wasm", changed);
     await this.tab.value("document.querySelector('[name=shown][value=comparison]').click()");
     await this.tab.until("document.getElementById('answer').textContent.includes('Contexts of both')");
-    const said = await this.tab.value("document.getElementById('answer').textContent");
+    const said = await this.said("#answer");
     this.report("in the browser: two modules are compared", () => said.includes("3 types of a small linked program are types of changed.wasm too") && said.includes("1 byte differs, the first at 1,048,576"), [said.slice(0, 400)]);
     await this.tab.until("document.querySelectorAll('table').length > 3");
     await this.shot("comparison");

@@ -3,6 +3,7 @@ import { spawnSync } from "node:child_process";
 import { readFileSync } from "node:fs";
 import { join } from "node:path";
 import { difference, optionsOf, readModules } from "./cases.mjs";
+import { checkImports } from "./imports_in_node.mjs";
 import { compile, partsOf } from "./page_parts.mjs";
 
 export async function checkInNode({ page, root, program, report }) {
@@ -43,6 +44,7 @@ export async function checkInNode({ page, root, program, report }) {
   checkRecords({ parts, own, report });
   checkHeap({ parts, compiled, report });
   checkComparison({ parts, told, own, report });
+  checkImports({ parts, compiled, told, root, report });
 }
 
 // Lists against the text, in which each has its lines.

@@ -32,3 +32,25 @@ export function manySegments(count) {
     Buffer.from([0x00, 0x61, 0x73, 0x6d, 0x01, 0x00, 0x00, 0x00, 0x05, memory.length, ...memory, 0x0b, ...unsigned(at)]), contents.subarray(0, at),
   ]);
 }
+
+const HEADER = [0x00, 0x61, 0x73, 0x6d, 0x01, 0x00, 0x00, 0x00];
+const TYPE = [0x01, 0x04, 0x01, 0x60, 0x00, 0x00];
+
+function section(id, parts) {
+  const contents = Buffer.concat(parts.map(part => Buffer.from(part)));
+  return Buffer.concat([Buffer.from([id, ...unsigned(contents.length)]), contents]);
+}
+
+const name = words => [...unsigned(words.length), ...Buffer.from(words)];
+
+// A module that exports its one function under so many names.
+export function manyExports(count) {
+  const each = Array.from({ length: count }, (_, i) => [...name(`f${i}`), 0x00, 0x00]);
+  return Buffer.concat([Buffer.from([...HEADER, ...TYPE, 0x03, 0x02, 0x01, 0x00]), section(7, [unsigned(count), ...each]), Buffer.from([0x0a, 0x04, 0x01, 0x02, 0x00, 0x0b])]);
+}
+
+// A module that imports so many functions, under these names.
+export function manyImports(count) {
+  const each = Array.from({ length: count }, (_, i) => [...name("m"), ...name(`f${i}`), 0x00, 0x00]);
+  return Buffer.concat([Buffer.from([...HEADER, ...TYPE]), section(2, [unsigned(count), ...each])]);
+}
