@@ -4,6 +4,9 @@ pub mod Noting
 pub mod Ordering
 pub mod GroupMembers
 pub mod Exceptions
+pub mod Packing
+pub mod Chaining
+pub mod Linking
 pub mod Shows
 pub mod Elements
 pub mod Parts

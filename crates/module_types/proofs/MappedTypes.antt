@@ -46,3 +46,8 @@ module _ (tells : (x y : WasmFuncType) → (func.ghosts.eq x y ≡ true → x �
   pub mapped-same : mapped f ≡ g → same_mapped (mapped f) g ≡ true
   mapped-same e =
       sym tie ∙ (tells (trampoline_of (function_at f)) (function_at g)).1 (mapped-is (function_at f) ∙ ap function_at (ap mapped (function-back f) ∙ e))
+
+-- a mapped type is its own mapped type
+pub trampoline-twice : (f : WasmFuncType) → trampoline_of (trampoline_of f) ≡ trampoline_of f
+trampoline-twice f =
+    mapped-is (trampoline_of f) ∙ ap function_at (ap mapped (called-mapped f) ∙ mapped-twice (called_of f)) ∙ sym (mapped-is f)

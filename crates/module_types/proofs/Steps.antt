@@ -5,7 +5,7 @@ use Rattle.std.specs.Option.{option_map}
 use Rattle.std.specs.declared.ops.Range.{Range}
 use Rattle.std.proofs.lemmas.List.{length-map, length-append}
 use Rattle.wasm_spec.specs.TypeData.{Func}
-use Rattle.type_spec.specs.Interned.{Interned, Called, Built, mapped, same_mapped, plain, alone, now_known, knows, with_trampoline, assign_at, assign_trampoline, composite_at, opened}
+use Rattle.type_spec.specs.Interned.{Called, Built, mapped, same_mapped, plain, alone, now_known, knows, with_trampoline, assign_at, assign_trampoline, composite_at, opened}
 use Rattle.wasm_index.specs.Index.{number_of, index_of}
 use Rattle.wasm_types.specs.declared.func.WasmFuncType.{WasmFuncType}
 use Rattle.wasm_types.specs.declared.composite.WasmCompositeInnerType.{WasmCompositeInnerType}
@@ -16,7 +16,8 @@ use Rattle.wasm_types.specs.Trampolines.{trampoline_of}
 use Rattle.module_types.specs.Views.{TypeIndex, inner_of, interned_of, called_of, function_at, span_of}
 use Rattle.module_types.specs.TypeList.{TypeList, with_type, with_types, with_range, called_by}
 use Rattle.module_types.specs.Held.{built_of}
-use Rattle.module_types.proofs.Keys.{function-back, mapped-is, key-is}
+use Rattle.module_types.specs.Interner.{with_next_trampoline}
+use Rattle.module_types.proofs.Keys.{function-back, mapped-is, called-mapped, key-is}
 
 -- ---- lists
 
@@ -79,6 +80,10 @@ module _ (l : TypeList) (get : WasmFuncType → Option TypeIndex) where
         known_trampolines = held.known_trampolines;
       }
 
+number-or : (b : Bool) (k : TypeIndex) (o : Option TypeIndex) → option_map number_of (cond b (Some k) o) ≡ cond b (Some (number_of k)) (option_map number_of o)
+number-or true k o = refl
+number-or false k o = refl
+
 -- ---- a function and its trampoline
 
 module _ (l : TypeList) (get : WasmFuncType → Option TypeIndex) (i : ℕ) (f : WasmFuncType)
@@ -98,10 +103,6 @@ module _ (l : TypeList) (get : WasmFuncType → Option TypeIndex) (i : ℕ) (f :
       (λ j. record { types = old.types; groups = old.groups; trampolines = map-set (option_map number_of) l.trampolines i (Some k) j; known_trampolines = old.known_trampolines })
       ∙ sym (made (Some k) e)
 
-  number-noted : (b : Bool) (k : TypeIndex) (o : Option TypeIndex) → option_map number_of (cond b (Some k) o) ≡ cond b (Some (number_of k)) (option_map number_of o)
-  number-noted true k o = refl
-  number-noted false k o = refl
-
   -- what came next where the trampoline was not known
   abbrev unmet : Bool → Built
   unmet b =
@@ -116,7 +117,7 @@ module _ (l : TypeList) (get : WasmFuncType → Option TypeIndex) (i : ℕ) (f :
     noted : (g : Called) → option_map number_of (later (function_at g)) ≡ now_known old.known_trampolines (mapped (called_of f)) (number_of k) g
     noted g =
         ap (option_map number_of) (puts (function_at g))
-        ∙ number-noted (func.ghosts.eq (trampoline_of f) (function_at g)) k (get (function_at g))
+        ∙ number-or (func.ghosts.eq (trampoline_of f) (function_at g)) k (get (function_at g))
         ∙ ap (λ b. cond b (Some (number_of k)) (old.known_trampolines g)) (key-is f (function_at g))
         ∙ ap (λ h. cond (same_mapped (mapped (called_of f)) h) (Some (number_of k)) (old.known_trampolines g)) (function-back g)
 
@@ -136,14 +137,9 @@ module _ (l : TypeList) (get : WasmFuncType → Option TypeIndex) (i : ℕ) (f :
       known-now none later k puts ∙ ap (λ n. with_trampoline (knows old (mapped (called_of f)) n) i n) at ∙ sym (made-new none true is_own)
 
   -- a new type is appended
-  pub known-new : (none : None ≡ get (trampoline_of f)) (later : WasmFuncType → Option TypeIndex) (k : TypeIndex) → number_of k ≡ length old.types
-      → ((q : WasmFuncType) → later q ≡ cond (func.ghosts.eq (trampoline_of f) q) (Some k) (get q)) → func.ghosts.eq (trampoline_of f) f ≡ false
-      → (t : Interned) → t ≡ plain (Func (mapped (called_of f)))
-      → alone (built_of (called_by l i k) later) t (Some (number_of k)) ≡ assign_trampoline old i (composite_at old.types i)
-  known-new none later k count puts not_own t is =
-      (λ j. alone (known-now none later k puts j) (is j) (Some (number_of k)))
-      ∙ ap (λ n. alone (with_trampoline (knows old (mapped (called_of f)) n) i n) (plain (Func (mapped (called_of f)))) (Some n)) count
-      ∙ sym (made-new none false not_own)
+  pub known-next : None ≡ get (trampoline_of f) → func.ghosts.eq (trampoline_of f) f ≡ false → (g : Called) → g ≡ mapped (called_of f)
+      → with_next_trampoline old i g ≡ assign_trampoline old i (composite_at old.types i)
+  known-next none not_own g is = ap (with_next_trampoline old i) is ∙ sym (made-new none false not_own)
 
   -- then there is one type more
   pub new-long : None ≡ get (trampoline_of f) → func.ghosts.eq (trampoline_of f) f ≡ false
@@ -151,6 +147,36 @@ module _ (l : TypeList) (get : WasmFuncType → Option TypeIndex) (i : ℕ) (f :
   new-long none not_own =
       ap (λ b. length b.types) (made-new none false not_own)
       ∙ length-append old.types (plain (Func (mapped (called_of f))) ∷ []) ∙ ap (λ n. n + 1) (length-map l.types interned_of)
+
+-- ---- the trampoline that comes next
+
+module _ (l : TypeList) (get : WasmFuncType → Option TypeIndex) where
+  called-is : (i : ℕ) (k : TypeIndex) → built_of (called_by l i k) get ≡ with_trampoline (built_of l get) i (number_of k)
+  called-is i k = λ j. record (built_of l get) { trampolines = map-set (option_map number_of) l.trampolines i (Some k) j }
+
+  pub next-is : (i : ℕ) (k : TypeIndex) (f : Called) → number_of k ≡ length (map interned_of l.types)
+      → knows (alone (built_of (called_by l i k) get) (plain (Func f)) (Some (number_of k))) f (number_of k) ≡ with_next_trampoline (built_of l get) i f
+  next-is i k f count =
+      (λ j. knows (alone (called-is i k j) (plain (Func f)) (Some (number_of k))) f (number_of k))
+      ∙ ap (λ n. alone (with_trampoline (knows (built_of l get) f n) i n) (plain (Func f)) (Some n)) count
+
+  -- a type that is its own mapped type is noted
+  module _ (f : WasmFuncType) (own : trampoline_of f ≡ f) (later : WasmFuncType → Option TypeIndex) (k : TypeIndex)
+      (puts : (q : WasmFuncType) → later q ≡ cond (func.ghosts.eq f q) (Some k) (get q)) where
+    own-test : (g : Called) → func.ghosts.eq f (function_at g) ≡ same_mapped (called_of f) g
+    own-test g =
+        ap (λ h. func.ghosts.eq h (function_at g)) (sym own)
+        ∙ key-is f (function_at g)
+        ∙ (λ j. same_mapped ((sym (called-mapped f) ∙ ap called_of own) j) (function-back g j))
+
+    noted-at : (g : Called) → option_map number_of (later (function_at g)) ≡ now_known (built_of l get).known_trampolines (called_of f) (number_of k) g
+    noted-at g =
+        ap (option_map number_of) (puts (function_at g))
+        ∙ number-or (func.ghosts.eq f (function_at g)) k (get (function_at g))
+        ∙ ap (λ b. cond b (Some (number_of k)) (option_map number_of (get (function_at g)))) (own-test g)
+
+    pub noted-is : built_of l later ≡ knows (built_of l get) (called_of f) (number_of k)
+    noted-is = λ j. record (built_of l get) { known_trampolines = λ g. noted-at g j }
 
 not-function : (b : Built) (i : ℕ) (c : WasmCompositeInnerType) → ((f : WasmFuncType) → c ≡ inner.Func f → ⊥) → assign_trampoline b i (inner_of c) ≡ b
 not-function b i (inner.Func f) other = absurd (other f refl)

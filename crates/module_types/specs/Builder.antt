@@ -13,7 +13,7 @@ use Rattle.module_types.specs.TypeList.{TypeList}
 use Rattle.module_types.specs.Held.{built_of}
 use Rattle.module_types.specs.Noted.{noted_at}
 
--- what a builder keeps: the validator's number, its list, and the entries of its map of mapped types, in some order; and two lists: at the
+-- what a builder keeps: the validator's number, its list, and the mapped types that were met with their indices, in some order; and two lists: at the
 -- place of an id the group that was interned under it, and at the place of a function type its exception type
 pub record BuilderState : Type 0 where
   pub validator : ℕ

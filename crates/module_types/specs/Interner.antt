@@ -1,26 +1,42 @@
 -- What an interner holds.
-use Rattle.std.specs.Prelude.{◌≡◌, true, false, Option, Some, None}
-use Rattle.std.specs.HashMap.{get}
+use Rattle.std.specs.Prelude.{◌≡◌, ℕ, false, length, Option, Some, None}
+use Rattle.entity_map.specs.declared.seed.Seeded.{Seeded}
 use Rattle.wasm_types.specs.declared.func.WasmFuncType.{WasmFuncType}
 use Rattle.wasm_types.specs.Trampolines.{trampoline_of}
 use Rattle.module_types.specs.Views.{TypeIndex}
 use Rattle.module_types.specs.declared.interner.Trampoline.{Trampoline}
 use Rattle.module_types.specs.declared.interner.Trampoline.TheVariants.{Known, Itself, New}
 use Rattle.wasm_types.specs.contracts.equal.WasmFuncTypePartialEq.TheImpl as func
-use Rattle.type_spec.specs.Interned.{Built}
+use Rattle.wasm_spec.specs.TypeData.{Func}
+use Rattle.type_spec.specs.Interned.{Called, Built, plain, alone, with_trampoline, knows}
+use Rattle.module_types.specs.Orderly.{IsOrderly}
 use Rattle.module_types.specs.declared.interner.Interner.{Interner}
 use Rattle.module_types.specs.Held.{built_of}
+use Rattle.module_types.specs.Met.{digest_of, met_at, IsLinked}
+
+-- where the function types that were met stand
+abbrev pub known : Interner → WasmFuncType → Option TypeIndex
+known i = met_at i.list.types i.met
 
 abbrev pub built : Interner → Built
-built l = built_of l.list (get func.ghosts.eq l.trampolines)
+built i = built_of i.list (known i)
 
--- a mapped type whose trampoline is not known
-pub record IsNew (known : WasmFuncType → Option TypeIndex) (f key : WasmFuncType) : Type 0 where
-  pub key_is : key ≡ trampoline_of f
-  pub unknown : known (trampoline_of f) ≡ None
+-- each type that was met is found
+abbrev pub FindsMet : Interner → Type 0
+FindsMet i = IsLinked i.list.types i.met
+
+-- between growing calls
+pub record IsSound (i : Interner) : Type 0 where
+  pub orderly : IsOrderly (built i)
+  pub found : FindsMet i
+
+-- the type at an index gets the trampoline that comes next, of a mapped type
+abbrev pub with_next_trampoline : Built → ℕ → Called → Built
+with_next_trampoline b i f = let k = length b.types in alone (with_trampoline (knows b f k) i k) (plain (Func f)) (Some k)
 
 -- what is found of the mapped type of a function type
-abbrev pub IsTrampoline : (WasmFuncType → Option TypeIndex) → WasmFuncType → Trampoline → Type 0
-IsTrampoline known f (Known found) = known (trampoline_of f) ≡ Some found
-IsTrampoline known f (Itself key) = IsNew known f key × (func.ghosts.eq (trampoline_of f) f ≡ true)
-IsTrampoline known f (New key) = IsNew known f key × (func.ghosts.eq (trampoline_of f) f ≡ false)
+abbrev pub IsTrampoline : (WasmFuncType → Option TypeIndex) → Seeded → WasmFuncType → Trampoline → Type 0
+IsTrampoline at hasher f (Known found) = at (trampoline_of f) ≡ Some found
+IsTrampoline at hasher f (Itself digest) = (at (trampoline_of f) ≡ None) × (digest ≡ digest_of hasher (trampoline_of f)) × (trampoline_of f ≡ f)
+IsTrampoline at hasher f (New digest key) =
+    (at (trampoline_of f) ≡ None) × (digest ≡ digest_of hasher (trampoline_of f)) × (key ≡ trampoline_of f) × (func.ghosts.eq (trampoline_of f) f ≡ false)

@@ -3,11 +3,13 @@ pub mod TypeList
 pub mod Held
 pub mod Orderly
 pub mod Noted
+pub mod TypeParts
+pub mod Passed
+pub mod Met
 pub mod Interner
 pub mod Builder
 pub mod Conversion
 pub mod Runs
-pub mod TypeParts
 pub mod Lent
 pub mod TypeListShape
 pub mod ClosureAnswers

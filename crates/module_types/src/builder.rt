@@ -39,11 +39,11 @@ pub struct ModuleTypesBuilder {
     pub(crate) poisoned: bool,
 }
 
-/// A contract sees the list, the entries of the map of mapped types, and what is noted; `builder_view` is what they say.
+/// A contract sees the list, the mapped types that were met with their indices, and what is noted; `builder_view` is what they say.
 impl Model for ModuleTypesBuilder {
     ghost use Rattle.std.specs.Prelude.{◌≡◌, false};
-    ghost use Rattle.module_types.specs.Orderly.{IsOrderly};
-    ghost use Rattle.module_types.specs.Interner.{built};
+    ghost use Rattle.module_types.specs.Met.{entries_of, mets};
+    ghost use Rattle.module_types.specs.Interner.{IsSound};
     ghost use Rattle.module_types.specs.Builder.{BuilderState};
 
     ghost Value = { BuilderState };
@@ -51,14 +51,14 @@ impl Model for ModuleTypesBuilder {
     ghost view = { λ b. record {
       validator = b.validator.0;
       list = b.interner.list;
-      trampolines = b.interner.trampolines.entries;
+      trampolines = entries_of (mets b.interner.list.types b.interner.met.types.items);
       ids = b.ids;
       exceptions = b.exceptions;
       startup = b.startup;
       is_poisoned = b.poisoned;
     } };
 
-    ghost invariant = { λ b. b.poisoned ≡ false → IsOrderly (built b.interner) };
+    ghost invariant = { λ b. b.poisoned ≡ false → IsSound b.interner };
 }
 
 impl ModuleTypesBuilder {

@@ -1,37 +1,39 @@
 //! Groups one after another, with the trampolines of their functions.
 
-ghost use Rattle.std.specs.Prelude.{◌≡◌, ◌+◌, ◌-◌, ◌<◌, ◌≤◌, length, map, drop, IfOk, OnOk, IsTrue, true};
+ghost use Rattle.std.specs.Prelude.{◌≡◌, ◌+◌, ◌-◌, ◌<◌, ◌≤◌, [], ◌∷◌, ◌++◌, length, map, drop, Some, IfOk, OnOk, IsTrue, true};
 ghost use Rattle.std.specs.Option.{option_map};
 ghost use Rattle.wasm_spec.specs.TypeData.{Func};
 ghost use Rattle.type_spec.specs.Interned.{empty, plain, alone, assign_trampoline, assign_trampolines, opened, with_group, with_exception, with_startup, composite_at};
 ghost use Rattle.wasm_index.specs.Index.{number_of};
-ghost use Rattle.entity_map.specs.Cow.{value_of};
+ghost use Rattle.wasm_types.specs.Views.{func_in};
+ghost use Rattle.wasm_types.specs.Trampolines.{trampoline_of};
 ghost use Rattle.module_types.specs.Views.{called_of, interned_of, field_at};
 ghost use Rattle.module_types.specs.Orderly.{IsOrderly};
 ghost use Rattle.module_types.specs.Builder.{is_function};
-ghost use Rattle.module_types.specs.Interner.{built, IsTrampoline};
-ghost use Rattle.std.specs.HashMap.{get};
+ghost use Rattle.module_types.specs.Interner.{built, known, with_next_trampoline, FindsMet, IsTrampoline};
+ghost use Rattle.module_types.specs.Met.{digest_of};
 
 use crate::list::ModuleTypes;
-use entity_map::{EntityRef, OutOfMemory, Seeded, TryCow};
+use crate::met::MetTypes;
+use entity_map::{EntityRef, OutOfMemory, TryCow};
 use std::alloc::Global;
-use std::collections::HashMap;
 use wasm_index::ModuleInternedTypeIndex;
 use wasm_types::{
     EngineOrModuleTypeIndex, WasmCompositeInnerType, WasmCompositeType, WasmExnType, WasmFieldType,
     WasmFuncType, WasmStorageType, WasmSubType, WasmValType,
 };
 
-/// A list of interned types, and the trampoline that is known of each mapped type.
+/// A list of interned types, and which of them are mapped types that were met.
 #[derive(Drop)]
 pub(crate) struct Interner {
     pub(crate) list: ModuleTypes,
-    pub(crate) trampolines: HashMap<WasmFuncType, ModuleInternedTypeIndex, Seeded>,
+    pub(crate) met: MetTypes,
 }
 
 // A final function type without supertype.
 fn plain_function(ty: WasmFuncType) -> WasmSubType
-    ensures { interned_of result ≡ plain (Func (called_of ty)) }
+    ensures interned { interned_of result ≡ plain (Func (called_of ty)) }
+    ensures function { func_in result.composite_type.inner ≡ Some ty }
 {
     WasmSubType {
         is_final: true,
@@ -48,20 +50,10 @@ fn plain_function(ty: WasmFuncType) -> WasmSubType
 pub(crate) enum Trampoline {
     /// It is known, at an index.
     Known(ModuleInternedTypeIndex),
-    /// It is the function's own type, which is not known yet.
-    Itself(WasmFuncType),
-    /// It is another type, which is not known yet.
-    New(WasmFuncType),
-}
-
-// The type that is borrowed or owned.
-fn lent<'t>(ty: &'t TryCow<'t, WasmFuncType>) -> &'t WasmFuncType
-    ensures { result.now ≡ value_of ty.now }
-{
-    match ty {
-        TryCow::Borrowed(same) => same,
-        TryCow::Owned(mapped) => mapped,
-    }
+    /// It is the function's own type, of this digest, which is not known yet.
+    Itself(u64),
+    /// It is another type, of this digest, which is not known yet.
+    New(u64, WasmFuncType),
 }
 
 // The fields of an exception type: one for each parameter.
@@ -81,21 +73,23 @@ fn fields_of_params(alloc: Global, types: &[WasmValType]) -> Result<Vec<WasmFiel
 impl Interner {
     /// An interner that holds nothing.
     pub(crate) fn new(alloc: Global) -> Interner
-        ensures { built result ≡ empty }
+        ensures built { built result ≡ empty }
+        ensures found { FindsMet result }
     {
         Interner {
             list: ModuleTypes::new(alloc),
-            trampolines: HashMap::with_hasher(alloc, Seeded::new(0)),
+            met: MetTypes::new(alloc, 0),
         }
     }
 
-    // Lets the hashes of mapped types begin from a seed, as long as no trampoline is known.
+    // Lets the digests of mapped types begin from a seed, as long as no trampoline is known.
     fn seed_from(&mut self, alloc: Global, seed: u64)
-        ensures list { self.new.list ≡ self.old.list }
+        requires found { FindsMet self.old }
         ensures built { built self.new ≡ built self.old }
+        ensures found { FindsMet self.new }
     {
-        if self.trampolines.is_empty() {
-            self.trampolines = HashMap::with_hasher(alloc, Seeded::new(seed));
+        if self.met.types.is_empty() {
+            self.met = MetTypes::new(alloc, seed);
         }
     }
 
@@ -107,7 +101,11 @@ impl Interner {
     ) -> Result<(), OutOfMemory>
         requires types { length self.old.list.types < u32.MAX - 1 }
         requires groups { length self.old.list.groups < u32.MAX - 1 }
-        ensures { OnOk result (built self.new ≡ alone (built self.old) (interned_of ty) (option_map number_of trampoline)) }
+        requires found { FindsMet self.old }
+        ensures built { OnOk result (built self.new ≡ alone (built self.old) (interned_of ty) (option_map number_of trampoline)) }
+        ensures found { OnOk result (FindsMet self.new) }
+        ensures types { OnOk result (self.new.list.types ≡ self.old.list.types ++ ty ∷ []) }
+        ensures met { self.new.met ≡ self.old.met }
     {
         let start = self.list.push_called(ty, trampoline)?;
         let end = self.list.next_ty();
@@ -115,18 +113,41 @@ impl Interner {
         Ok(())
     }
 
-    // The type by which functions of a type are called: where it stands, or else the type. Looking up copies nothing.
+    // The type by which functions of a type are called: where it stands, or else the type with its digest.
     fn find_trampoline(&self, alloc: Global, func: &WasmFuncType) -> Result<Trampoline, OutOfMemory>
-        ensures { IfOk result (IsTrampoline (get ⟦<WasmFuncType as PartialEq>⟧.eq self.now.trampolines) func.now) }
+        requires found { FindsMet self.now }
+        ensures { IfOk result (IsTrampoline (known self.now) self.now.met.hasher func.now) }
     {
-        let mapped = func.trampoline_type(alloc)?;
-        if let Some(found) = self.trampolines.get(lent(&mapped)).copied() {
+        let digest = self.met.digest(func);
+        if let Some(found) = self.met.find(&self.list, digest, func) {
             return Ok(Trampoline::Known(found));
         }
-        match mapped {
-            TryCow::Borrowed(own) => Ok(Trampoline::Itself(own.try_clone(alloc)?)),
-            TryCow::Owned(other) => Ok(Trampoline::New(other)),
+        match func.trampoline_type(alloc)? {
+            TryCow::Borrowed(_) => Ok(Trampoline::Itself(digest)),
+            TryCow::Owned(other) => Ok(Trampoline::New(digest, other)),
         }
+    }
+
+    // Appends the trampoline of the type at an index, which comes next.
+    fn push_trampoline(
+        &mut self,
+        ty: ModuleInternedTypeIndex,
+        digest: u64,
+        mapped: WasmFuncType,
+    ) -> Result<(), OutOfMemory>
+        requires in_range { number_of ty < length self.old.list.types }
+        requires types { length self.old.list.types < u32.MAX - 1 }
+        requires groups { length self.old.list.groups < u32.MAX - 1 }
+        requires found { FindsMet self.old }
+        requires mapped { trampoline_of mapped ≡ mapped }
+        requires digest { digest ≡ digest_of self.old.met.hasher mapped }
+        ensures built { OnOk result (built self.new ≡ with_next_trampoline (built self.old) (number_of ty) (called_of mapped)) }
+        ensures found { OnOk result (FindsMet self.new) }
+    {
+        let trampoline = self.list.next_ty();
+        self.list.set_trampoline(ty, trampoline);
+        self.push_alone(plain_function(mapped), Some(trampoline))?;
+        self.met.note(digest, trampoline)
     }
 
     // Gives the type at an index its trampoline, if it is a function.
@@ -137,25 +158,21 @@ impl Interner {
     ) -> Result<(), OutOfMemory>
         requires in_range { number_of ty < length self.old.list.types }
         requires orderly { IsOrderly (built self.old) }
+        requires found { FindsMet self.old }
         requires room { length (assign_trampoline (built self.old) (number_of ty) (composite_at (built self.old).types (number_of ty))).types < u32.MAX }
-        ensures { OnOk result (built self.new ≡ assign_trampoline (built self.old) (number_of ty) (composite_at (built self.old).types (number_of ty))) }
+        ensures built { OnOk result (built self.new ≡ assign_trampoline (built self.old) (number_of ty) (composite_at (built self.old).types (number_of ty))) }
+        ensures found { OnOk result (FindsMet self.new) }
     {
         let WasmCompositeInnerType::Func(func) = &self.list[ty].composite_type.inner else {
             return Ok(());
         };
         match self.find_trampoline(alloc, func)? {
             Trampoline::Known(found) => self.list.set_trampoline(ty, found),
-            Trampoline::Itself(key) => {
-                self.trampolines.insert(key, ty)?;
+            Trampoline::Itself(digest) => {
+                self.met.note(digest, ty)?;
                 self.list.set_trampoline(ty, ty);
             }
-            Trampoline::New(key) => {
-                let copy = key.try_clone(alloc)?;
-                let trampoline = self.list.next_ty();
-                self.trampolines.insert(key, trampoline)?;
-                self.list.set_trampoline(ty, trampoline);
-                self.push_alone(plain_function(copy), Some(trampoline))?;
-            }
+            Trampoline::New(digest, mapped) => self.push_trampoline(ty, digest, mapped)?,
         }
         Ok(())
     }
@@ -164,8 +181,10 @@ impl Interner {
     fn assign_trampolines(&mut self, alloc: Global, first: usize) -> Result<(), OutOfMemory>
         requires in_range { first ≤ length self.old.list.types }
         requires orderly { IsOrderly (built self.old) }
+        requires found { FindsMet self.old }
         requires room { length (assign_trampolines (built self.old) first (drop first (built self.old).types)).types < u32.MAX }
-        ensures { OnOk result (built self.new ≡ assign_trampolines (built self.old) first (drop first (built self.old).types)) }
+        ensures built { OnOk result (built self.new ≡ assign_trampolines (built self.old) first (drop first (built self.old).types)) }
+        ensures found { OnOk result (FindsMet self.new) }
     {
         for i in first..self.list.len_types() {
             self.assign_trampoline(alloc, ModuleInternedTypeIndex::new(i))?;
@@ -177,9 +196,11 @@ impl Interner {
     fn open_group(&mut self, members: Vec<WasmSubType>) -> Result<(), OutOfMemory>
         requires filled { 0 < length members.items }
         requires orderly { IsOrderly (built self.old) }
+        requires found { FindsMet self.old }
         requires room { length (with_group (built self.old) (map interned_of members.items)).types < u32.MAX }
         ensures opened { OnOk result (built self.new ≡ opened (built self.old) (map interned_of members.items)) }
         ensures orderly { OnOk result (IsOrderly (built self.new)) }
+        ensures found { OnOk result (FindsMet self.new) }
     {
         let start = self.list.next_ty();
         self.list.push_all(members)?;
@@ -192,15 +213,17 @@ impl Interner {
     fn add_group(&mut self, alloc: Global, members: Vec<WasmSubType>) -> Result<(), OutOfMemory>
         requires filled { 0 < length members.items }
         requires orderly { IsOrderly (built self.old) }
+        requires found { FindsMet self.old }
         requires room { length (with_group (built self.old) (map interned_of members.items)).types < u32.MAX }
-        ensures { OnOk result (built self.new ≡ with_group (built self.old) (map interned_of members.items)) }
+        ensures built { OnOk result (built self.new ≡ with_group (built self.old) (map interned_of members.items)) }
+        ensures found { OnOk result (FindsMet self.new) }
     {
         let first = self.list.len_types();
         self.open_group(members)?;
         self.assign_trampolines(alloc, first)
     }
 
-    /// Appends a group, and then the trampolines that are missing. Where it is the first, mapped types are hashed from the seed.
+    /// Appends a group, and then the trampolines that are missing. Where it is the first, digests of mapped types begin from the seed.
     pub(crate) fn push_group(
         &mut self,
         alloc: Global,
@@ -209,8 +232,10 @@ impl Interner {
     ) -> Result<(), OutOfMemory>
         requires filled { 0 < length members.items }
         requires orderly { IsOrderly (built self.old) }
+        requires found { FindsMet self.old }
         requires room { length (with_group (built self.old) (map interned_of members.items)).types < u32.MAX }
-        ensures { OnOk result (built self.new ≡ with_group (built self.old) (map interned_of members.items)) }
+        ensures built { OnOk result (built self.new ≡ with_group (built self.old) (map interned_of members.items)) }
+        ensures found { OnOk result (FindsMet self.new) }
     {
         self.seed_from(alloc, seed);
         self.add_group(alloc, members)
@@ -225,8 +250,10 @@ impl Interner {
         requires in_range { number_of function < length self.old.list.types }
         requires function { IsTrue (is_function (composite_at (built self.old).types (number_of function))) }
         requires orderly { IsOrderly (built self.old) }
+        requires found { FindsMet self.old }
         requires room { length self.old.list.types < u32.MAX - 1 }
-        ensures { OnOk result (built self.new ≡ with_exception (built self.old) (number_of function)) }
+        ensures built { OnOk result (built self.new ≡ with_exception (built self.old) (number_of function)) }
+        ensures found { OnOk result (FindsMet self.new) }
     {
         let WasmCompositeInnerType::Func(func) = &self.list[function].composite_type.inner else {
             unreachable!()
@@ -249,8 +276,10 @@ impl Interner {
     /// Appends the startup type.
     pub(crate) fn push_startup(&mut self, alloc: Global) -> Result<(), OutOfMemory>
         requires orderly { IsOrderly (built self.old) }
+        requires found { FindsMet self.old }
         requires room { length self.old.list.types < u32.MAX - 1 }
-        ensures { OnOk result (built self.new ≡ with_startup (built self.old) true) }
+        ensures built { OnOk result (built self.new ≡ with_startup (built self.old) true) }
+        ensures found { OnOk result (FindsMet self.new) }
     {
         let ty = WasmFuncType::from_types(Vec::new(alloc), 0);
         self.push_alone(plain_function(ty), None)

@@ -10,7 +10,9 @@ mod interning;
 mod iterators;
 mod laws;
 mod list;
+mod met;
 mod noted;
+mod passed;
 mod trace;
 mod unwrap;
 

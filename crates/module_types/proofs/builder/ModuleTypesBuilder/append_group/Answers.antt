@@ -15,9 +15,12 @@ use Rattle.module_types.proofs.builder.ModuleTypesBuilder.append_group.Goals as 
 pub invariant_of-self-2 : goal.invariant_of-self-2
 invariant_of-self-2 c = λ e.
     let sound : c.self.inside.poisoned ≡ false = ap (λ (k : BuilderState). k.is_poisoned) c.self.view_is ∙ c.requires.sound in
-    let back = sym c.in_ok-push_group.ensures in
-    coe 0 1 (j. IsOrderly (back j)) (orderly-group (built c.self.inside.interner) (map interned_of c.args.members.items)
-    (omega (arith, c.requires.filled, length-map c.args.members.items interned_of)) (c.self.invariant sound))
+    let back = sym c.in_ok-push_group.ensures.built in
+    record {
+      orderly = coe 0 1 (j. IsOrderly (back j)) (orderly-group (built c.self.inside.interner) (map interned_of c.args.members.items)
+          (omega (arith, c.requires.filled, length-map c.args.members.items interned_of)) (c.self.invariant sound).orderly);
+      found = c.in_ok-push_group.ensures.found;
+    }
 
 pub note-requires : goal.note-requires
 note-requires c =
@@ -29,7 +32,7 @@ note-requires c =
       c.requires.room,
       ap (λ (k : BuilderState). length (with_group (builder_view k).built ts).types) c.self.view_is,
       group-long (builder_view old).built ts,
-      few-groups (builder_view old).built (c.self.invariant sound),
+      few-groups (builder_view old).built (c.self.invariant sound).orderly,
       length-map c.self.inside.interner.list.groups span_of,
       ap number_of c.next_rec_group-next.ensures,
     )
@@ -41,5 +44,5 @@ returns-clause-appended c =
     let sound : c.self.inside.poisoned ≡ false = ap (λ (k : BuilderState). k.is_poisoned) c.self.view_is ∙ c.requires.sound in
     shows-interned old _ ts c.args.id.0 c.next_rec_group-next.result
     (sym (ap (λ (k : BuilderState). (builder_view k).ids c.args.id.0) c.self.view_is ∙ c.requires.unheld))
-    c.in_ok-push_group.ensures c.next_rec_group-next.ensures c.in_ok-note.ensures refl refl refl (sym sound)
+    c.in_ok-push_group.ensures.built c.next_rec_group-next.ensures c.in_ok-note.ensures refl refl refl (sym sound)
     ∙ ap (λ (k : BuilderState). interns (builder_view k) c.args.id.0 ts) c.self.view_is

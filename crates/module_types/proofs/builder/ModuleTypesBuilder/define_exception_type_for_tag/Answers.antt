@@ -11,13 +11,16 @@ use Rattle.module_types.proofs.builder.ModuleTypesBuilder.define_exception_type_
 
 pub invariant_of-self-2 : goal.invariant_of-self-2
 invariant_of-self-2 c = λ e.
-    let back = sym (where-ok c.push_exception.result (sym c.if-is_err.ensures.value) c.push_exception.ensures) in
-    coe 0 1 (j. IsOrderly (back j)) ((grows-exception (built c.self.inside.interner) (number_of c.args.for_func_ty)).orderly (c.self.invariant c.if-self.false))
+    let back = sym (where-ok c.push_exception.result (sym c.if-is_err.ensures.value) c.push_exception.ensures.built) in
+    record {
+      orderly = coe 0 1 (j. IsOrderly (back j)) ((grows-exception (built c.self.inside.interner) (number_of c.args.for_func_ty)).orderly (c.self.invariant c.if-self.false).orderly);
+      found = where-ok c.push_exception.result (sym c.if-is_err.ensures.value) c.push_exception.ensures.found;
+    }
 
 pub returns-clause-defined : goal.returns-clause-defined
 returns-clause-defined c =
     let old : BuilderState = the_view c.self.inside in
     let puts = where-ok c.note.result (sym c.if-is_err-2.ensures.value) c.note.ensures in
     shows-excepted old _ c.as_u32-key.result c.next_ty-next.result c.in_default.ensures
-    (where-ok c.push_exception.result (sym c.if-is_err.ensures.value) c.push_exception.ensures ∙ ap (with_exception (builder_view old).built) (sym c.as_u32-key.ensures)) c.next_ty-next.ensures puts refl refl refl (sym c.if-self.false)
+    (where-ok c.push_exception.result (sym c.if-is_err.ensures.value) c.push_exception.ensures.built ∙ ap (with_exception (builder_view old).built) (sym c.as_u32-key.ensures)) c.next_ty-next.ensures puts refl refl refl (sym c.if-self.false)
     ∙ (λ j. excepts (builder_view (c.self.view_is j)) (c.as_u32-key.ensures j))

@@ -1,6 +1,5 @@
 use Rattle.std.proofs.Common.{◌≡◌, ◌∙◌, ◌<◌, false, length, map, sym, ap}
 use Rattle.std.proofs.lemmas.List.{length-map}
-use Rattle.wasm_index.specs.Index.{number_of}
 use Rattle.module_types.specs.Views.{interned_of, span_of}
 use Rattle.module_types.specs.TypeList.{TypeList}
 use Rattle.module_types.specs.Builder.{builder_view, interns}

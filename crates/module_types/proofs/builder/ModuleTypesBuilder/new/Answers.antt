@@ -4,4 +4,4 @@ use Rattle.module_types.proofs.Shows.{shows-new}
 use Rattle.module_types.proofs.builder.ModuleTypesBuilder.new.Goals as goal
 
 pub returns : goal.returns
-returns c = shows-new _ c.new.ensures c.new-2.ensures c.new-3.ensures refl refl ∙ ap new_builder c.id-validator.ensures
+returns c = shows-new _ c.new.ensures.built c.new-2.ensures c.new-3.ensures refl refl ∙ ap new_builder c.id-validator.ensures

@@ -9,12 +9,15 @@ use Rattle.module_types.proofs.builder.ModuleTypesBuilder.startup_func_type.Goal
 
 pub invariant_of-self-2 : goal.invariant_of-self-2
 invariant_of-self-2 c = λ e.
-    let back = sym (where-ok c.push_startup.result (sym c.if-is_err.ensures.value) c.push_startup.ensures) in
-    coe 0 1 (j. IsOrderly (back j)) ((grows-startup (built c.self.inside.interner)).orderly (c.self.invariant c.if-self.false))
+    let back = sym (where-ok c.push_startup.result (sym c.if-is_err.ensures.value) c.push_startup.ensures.built) in
+    record {
+      orderly = coe 0 1 (j. IsOrderly (back j)) ((grows-startup (built c.self.inside.interner)).orderly (c.self.invariant c.if-self.false).orderly);
+      found = where-ok c.push_startup.result (sym c.if-is_err.ensures.value) c.push_startup.ensures.found;
+    }
 
 pub returns-clause-made : goal.returns-clause-made
 returns-clause-made c =
     let old : BuilderState = the_view c.self.inside in
     shows-started old _ c.next_ty-next.result c.in_default.is
-    (where-ok c.push_startup.result (sym c.if-is_err.ensures.value) c.push_startup.ensures) c.next_ty-next.ensures refl refl refl refl (sym c.if-self.false)
+    (where-ok c.push_startup.result (sym c.if-is_err.ensures.value) c.push_startup.ensures.built) c.next_ty-next.ensures refl refl refl refl (sym c.if-self.false)
     ∙ ap (λ k. starts (builder_view k)) c.self.view_is

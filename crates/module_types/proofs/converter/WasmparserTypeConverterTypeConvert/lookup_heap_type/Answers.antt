@@ -2,7 +2,6 @@ use Rattle.std.proofs.Common.{◌∙◌, length, map, sym, ap}
 use Rattle.std.specs.Option.{option_map}
 use Rattle.wasm_spec.specs.declared.types.UnpackedIndex.TheVariants as index
 use Rattle.wasm_spec.specs.TypeData.{Concrete}
-use Rattle.wasm_index.specs.Index.{number_of}
 use Rattle.wasm_convert.specs.Known.{CanLookUp}
 use Rattle.module_types.specs.Views.{span_of}
 use Rattle.module_types.specs.Builder.{builder_view}

@@ -1,7 +1,7 @@
 use Rattle.std.proofs.Common.{◌∙◌, length, map, sym, ap}
 use Rattle.std.specs.Option.{option_map}
 use Rattle.wasm_spec.specs.declared.types.UnpackedIndex.TheVariants as index
-use Rattle.wasm_index.specs.Index.{number_of, index_of}
+use Rattle.wasm_index.specs.Index.{index_of}
 use Rattle.wasm_types.specs.declared.index.EngineOrModuleTypeIndex.TheVariants.{Module}
 use Rattle.wasm_convert.specs.Conversion.{index_in}
 use Rattle.wasm_convert.specs.Known.{CanLookUp}

@@ -1,66 +1,108 @@
-use Rattle.std.proofs.Common.{◌∙◌, Some, length, refl, sym, ap, subst, arith}
+use Rattle.std.proofs.Common.{◌≡◌, ◌∙◌, ℕ, List, Some, refl, sym, ap, subst, arith}
 use Rattle.std.proofs.lemmas.List.{length-map}
-use Rattle.std.specs.HashMap.{get}
-use Rattle.wasm_spec.specs.TypeData.{Func}
-use Rattle.type_spec.specs.Interned.{plain, alone}
+use Rattle.std.specs.Prelude.{slice_get, option_and_then}
+use Rattle.type_spec.specs.Interned.{assign_trampoline, composite_at}
 use Rattle.wasm_index.specs.Index.{number_of}
-use Rattle.wasm_types.specs.contracts.equal.WasmFuncTypePartialEq.TheImpl as func
-use Rattle.module_types.specs.Views.{interned_of, called_of, span_of}
+use Rattle.wasm_types.specs.declared.composite.WasmCompositeInnerType.TheVariants as inner
+use Rattle.wasm_types.specs.declared.func.WasmFuncType.{WasmFuncType}
+use Rattle.wasm_types.specs.declared.sub.WasmSubType.{WasmSubType}
+use Rattle.wasm_types.specs.Trampolines.{trampoline_of}
+use Rattle.wasm_types.specs.Views.{func_in}
+use Rattle.module_types.specs.Views.{TypeIndex, interned_of, called_of, span_of}
+use Rattle.module_types.specs.TypeList.{TypeList, called_by}
+use Rattle.module_types.specs.TypeParts.{part_at}
 use Rattle.module_types.specs.Held.{built_of}
-use Rattle.module_types.specs.Interner.{built, IsTrampoline}
+use Rattle.module_types.specs.Interner.{built, known, FindsMet, IsTrampoline}
+use Rattle.module_types.specs.declared.interner.Interner.{Interner}
+use Rattle.module_types.specs.declared.interner.Trampoline.TheVariants.{Itself}
+use Rattle.module_types.specs.declared.met.MetTypes.{MetTypes}
+use Rattle.module_types.specs.Met.{met_at, digest_of, IsLinked, IsNoted}
+use Rattle.module_types.proofs.Chaining.{equal}
 use Rattle.module_types.proofs.Keys.{called-mapped}
+use Rattle.module_types.proofs.MappedTypes.{trampoline-twice}
 use Rattle.module_types.proofs.Ordering.{few-groups}
-use Rattle.module_types.proofs.Steps.{composite-read, assign_trampoline-other, known-before, known-itself, known-new, new-long}
+use Rattle.module_types.proofs.Steps.{composite-read, assign_trampoline-other, known-before, known-itself, known-next, new-long}
 use Rattle.module_types.proofs.interner.Interner.assign_trampoline.Goals as goal
 
-pub returns-in_default : goal.returns-in_default
-returns-in_default c =
-    assign_trampoline-other c.args.self.now.list (get func.ghosts.eq c.args.self.now.trampolines) (number_of c.args.ty) c.index.result.now c.index.ensures c.in_default.not-Func
+pub returns-in_default-clause-built : goal.returns-in_default-clause-built
+returns-in_default-clause-built c =
+    assign_trampoline-other c.args.self.now.list (known c.args.self.now) (number_of c.args.ty) c.index.result.now c.index.ensures c.in_default.not-Func
 
-pub returns-in-Known : goal.returns-in-Known
-returns-in-Known c =
-    let old = get func.ghosts.eq c.args.self.now.trampolines in
-    let kind = composite-read c.args.self.now.list.types (number_of c.args.ty) c.index.result.now c.index.ensures _ c.in-Func.is in
-    ap (λ l. built_of l old) c.set_trampoline.ensures
-    ∙ known-before c.args.self.now.list old (number_of c.args.ty) c.in-Func.func kind c.in-Known.found
-    (sym (subst (IsTrampoline old c.in-Func.func) c.in-Known.is c.in_ok-found.ensures))
+pub returns-in-Known-clause-built : goal.returns-in-Known-clause-built
+returns-in-Known-clause-built c =
+    let i = c.args.self.now in
+    let kind = composite-read i.list.types (number_of c.args.ty) c.index.result.now c.index.ensures _ c.in-Func.is in
+    ap (λ (l : TypeList). built_of l (met_at l.types i.met)) c.set_trampoline.ensures
+    ∙ known-before i.list (known i) (number_of c.args.ty) c.in-Func.func kind c.in-Known.found
+    (sym (subst (IsTrampoline (known i) i.met.hasher c.in-Func.func) c.in-Known.is c.in_ok-found.ensures))
 
-pub returns-in_ok-insert-in-Itself : goal.returns-in_ok-insert-in-Itself
-returns-in_ok-insert-in-Itself c =
-    let old = get func.ghosts.eq c.args.self.now.trampolines in
-    let new = get func.ghosts.eq c.insert.new.self in
-    let kind = composite-read c.args.self.now.list.types (number_of c.args.ty) c.index.result.now c.index.ensures _ c.in-Func.is in
-    let own = subst (IsTrampoline old c.in-Func.func) c.in-Itself.is c.in_ok-found.ensures in
-    ap (λ l. built_of l new) c.set_trampoline-in-Itself.ensures
-    ∙ known-itself c.args.self.now.list old (number_of c.args.ty) c.in-Func.func kind (sym own.0.unknown)
-    new c.args.ty refl (rw own.0.key_is at c.in_ok-insert-in-Itself.ensures.updates.0) own.1
+pub returns-in-Known-clause-found : goal.returns-in-Known-clause-found
+returns-in-Known-clause-found c =
+    coe 0 1 (j. IsLinked (sym (ap (λ (l : TypeList). l.types) c.set_trampoline.ensures) j) c.args.self.now.met) c.requires.found
 
-pub push_alone-requires-clause-types : goal.push_alone-requires-clause-types
-push_alone-requires-clause-types c =
-    let old = get func.ghosts.eq c.args.self.now.trampolines in
-    let kind = composite-read c.args.self.now.list.types (number_of c.args.ty) c.index.result.now c.index.ensures _ c.in-Func.is in
-    let other = subst (IsTrampoline old c.in-Func.func) c.in-New.is c.in_ok-found.ensures in
-    let long = new-long c.args.self.now.list old (number_of c.args.ty) c.in-Func.func kind (sym other.0.unknown) other.1 in
-    omega (arith, long, c.requires.room, ap (λ l. length l.types) c.set_trampoline-in-New.ensures)
+-- a type that is its own mapped type is noted at its index
+module _ (i : Interner) (found : FindsMet i) (ty : TypeIndex) (x : WasmSubType) (read : slice_get i.list.types (number_of ty) ≡ Some x) (f : WasmFuncType)
+    (is : x.composite_type.inner ≡ inner.Func f) (digest : ℕ) (own : IsTrampoline (known i) i.met.hasher f (Itself digest)) (l : TypeList) (set : l ≡ called_by i.list (number_of ty) ty)
+    (met : MetTypes) (noted : (ts : List WasmSubType) (g : WasmFuncType) → IsLinked ts i.met → part_at func_in ts ty ≡ Some g → digest ≡ digest_of i.met.hasher g → IsNoted ts i.met met g ty) where
+  is-noted : IsNoted i.list.types i.met met (trampoline_of f) ty
+  is-noted = noted i.list.types (trampoline_of f) found
+      (ap (option_and_then (λ (t : WasmSubType). func_in t.composite_type.inner)) read ∙ ap func_in is ∙ ap Some (sym own.2)) own.1
 
-pub push_alone-requires-clause-groups : goal.push_alone-requires-clause-groups
-push_alone-requires-clause-groups c =
-    let old = get func.ghosts.eq c.args.self.now.trampolines in
-    let kind = composite-read c.args.self.now.list.types (number_of c.args.ty) c.index.result.now c.index.ensures _ c.in-Func.is in
-    let other = subst (IsTrampoline old c.in-Func.func) c.in-New.is c.in_ok-found.ensures in
-    let long = new-long c.args.self.now.list old (number_of c.args.ty) c.in-Func.func kind (sym other.0.unknown) other.1 in
-    let few = few-groups (built c.args.self.now) c.requires.orderly in
-    omega (arith, long, few, c.requires.room, ap (λ l. length l.groups) c.set_trampoline-in-New.ensures, length-map c.args.self.now.list.types interned_of, length-map c.args.self.now.list.groups span_of)
+  pub finds-itself : FindsMet (record { list = l; met = met })
+  finds-itself = coe 0 1 (j. IsLinked (sym (ap (λ (m : TypeList). m.types) set) j) met) is-noted.linked
 
-pub returns-in_ok-push_alone-in-New : goal.returns-in_ok-push_alone-in-New
-returns-in_ok-push_alone-in-New c =
-    let old = get func.ghosts.eq c.args.self.now.trampolines in
-    let new = get func.ghosts.eq c.insert-in-New.new.self in
-    let kind = composite-read c.args.self.now.list.types (number_of c.args.ty) c.index.result.now c.index.ensures _ c.in-Func.is in
-    let other = subst (IsTrampoline old c.in-Func.func) c.in-New.is c.in_ok-found.ensures in
-    let key = other.0.key_is in
-    let made = known-new c.args.self.now.list old (number_of c.args.ty) c.in-Func.func kind (sym other.0.unknown)
-    new c.next_ty-trampoline.result (ap number_of c.next_ty-trampoline.ensures ∙ sym (length-map c.args.self.now.list.types interned_of))
-    (rw key at c.in_ok-insert-in-New.ensures.updates.0) other.1
-    (plain (Func (called_of c.in_ok-copy-in-New.copy))) (ap (λ k. plain (Func (called_of k))) (c.in_ok-copy-in-New.ensures ∙ key) ∙ ap (λ k. plain (Func k)) (called-mapped c.in-Func.func)) in
-    c.in_ok-push_alone-in-New.ensures ∙ (λ j. alone (built_of (c.set_trampoline-in-New.ensures j) new) (c.plain_function.ensures j) (Some (number_of c.next_ty-trampoline.result))) ∙ made
+  pub gains-itself : built (record { list = l; met = met }) ≡ assign_trampoline (built i) (number_of ty) (composite_at (built i).types (number_of ty))
+  gains-itself =
+      ap (λ (m : TypeList). built_of m (met_at m.types met)) set
+      ∙ known-itself i.list (known i) (number_of ty) f (composite-read i.list.types (number_of ty) x read _ is) (sym own.0)
+      (met_at i.list.types met) ty refl is-noted.puts ((equal (trampoline_of f) f).1 own.2)
+
+pub returns-in_ok-note-in-Itself-clause-built : goal.returns-in_ok-note-in-Itself-clause-built
+returns-in_ok-note-in-Itself-clause-built c =
+    let i = c.args.self.now in
+    gains-itself i c.requires.found c.args.ty c.index.result.now c.index.ensures c.in-Func.func c.in-Func.is c.in-Itself.digest
+    (subst (IsTrampoline (known i) i.met.hasher c.in-Func.func) c.in-Itself.is c.in_ok-found.ensures) _ c.set_trampoline-in-Itself.ensures _ c.in_ok-note-in-Itself.ensures
+
+pub returns-in_ok-note-in-Itself-clause-found : goal.returns-in_ok-note-in-Itself-clause-found
+returns-in_ok-note-in-Itself-clause-found c =
+    let i = c.args.self.now in
+    finds-itself i c.requires.found c.args.ty c.index.result.now c.index.ensures c.in-Func.func c.in-Func.is c.in-Itself.digest
+    (subst (IsTrampoline (known i) i.met.hasher c.in-Func.func) c.in-Itself.is c.in_ok-found.ensures) _ c.set_trampoline-in-Itself.ensures _ c.in_ok-note-in-Itself.ensures
+
+-- another type comes next
+pub push_trampoline-requires-clause-types : goal.push_trampoline-requires-clause-types
+push_trampoline-requires-clause-types c =
+    let i = c.args.self.now in
+    let kind = composite-read i.list.types (number_of c.args.ty) c.index.result.now c.index.ensures _ c.in-Func.is in
+    let other = subst (IsTrampoline (known i) i.met.hasher c.in-Func.func) c.in-New.is c.in_ok-found.ensures in
+    let long = new-long i.list (known i) (number_of c.args.ty) c.in-Func.func kind (sym other.0) other.3 in
+    omega (arith, long, c.requires.room)
+
+pub push_trampoline-requires-clause-groups : goal.push_trampoline-requires-clause-groups
+push_trampoline-requires-clause-groups c =
+    let i = c.args.self.now in
+    let kind = composite-read i.list.types (number_of c.args.ty) c.index.result.now c.index.ensures _ c.in-Func.is in
+    let other = subst (IsTrampoline (known i) i.met.hasher c.in-Func.func) c.in-New.is c.in_ok-found.ensures in
+    let long = new-long i.list (known i) (number_of c.args.ty) c.in-Func.func kind (sym other.0) other.3 in
+    let few = few-groups (built i) c.requires.orderly in
+    omega (arith, long, few, c.requires.room, length-map i.list.types interned_of, length-map i.list.groups span_of)
+
+pub push_trampoline-requires-clause-mapped : goal.push_trampoline-requires-clause-mapped
+push_trampoline-requires-clause-mapped c =
+    let i = c.args.self.now in
+    let other = subst (IsTrampoline (known i) i.met.hasher c.in-Func.func) c.in-New.is c.in_ok-found.ensures in
+    ap trampoline_of other.2 ∙ trampoline-twice c.in-Func.func ∙ sym other.2
+
+pub push_trampoline-requires-clause-digest : goal.push_trampoline-requires-clause-digest
+push_trampoline-requires-clause-digest c =
+    let i = c.args.self.now in
+    let other = subst (IsTrampoline (known i) i.met.hasher c.in-Func.func) c.in-New.is c.in_ok-found.ensures in
+    other.1 ∙ ap (digest_of i.met.hasher) (sym other.2)
+
+pub returns-in_ok-push_trampoline-in-New-clause-built : goal.returns-in_ok-push_trampoline-in-New-clause-built
+returns-in_ok-push_trampoline-in-New-clause-built c =
+    let i = c.args.self.now in
+    let kind = composite-read i.list.types (number_of c.args.ty) c.index.result.now c.index.ensures _ c.in-Func.is in
+    let other = subst (IsTrampoline (known i) i.met.hasher c.in-Func.func) c.in-New.is c.in_ok-found.ensures in
+    c.in_ok-push_trampoline-in-New.ensures.built
+    ∙ known-next i.list (known i) (number_of c.args.ty) c.in-Func.func kind (sym other.0) other.3 (called_of c.in-New.mapped) (ap called_of other.2 ∙ called-mapped c.in-Func.func)

@@ -8,10 +8,10 @@ use Rattle.module_types.proofs.interner.Interner.assign_trampolines.Goals as goa
 
 pub assign_trampoline-requires-clause-room : goal.assign_trampoline-requires-clause-room
 assign_trampoline-requires-clause-room c =
-    let room = along-room (built c.args.self.now) (built c.loop-i.self) c.args.first c.loop-i.i c.loop-i.invariant (grind (arith, common_steps)) in
+    let room = along-room (built c.args.self.now) (built c.loop-i.self) c.args.first c.loop-i.i c.loop-i.invariant.along (grind (arith, common_steps)) in
     let now = built c.loop-i.self in
     let at = ap number_of c.new.ensures in
     omega (arith, room, c.requires.room, ap (λ n. length (assign_trampoline now n (composite_at now.types n)).types) at)
 
 pub loop-i-preserved : goal.loop-i-preserved
-loop-i-preserved c = along-more (built c.args.self.now) (built c.loop-i.self) c.args.first c.loop-i.i c.loop-i.invariant (grind (arith, common_steps)) (built c.assign_trampoline.new.self) (c.in_ok-assign_trampoline.ensures ∙ ap (λ n. assign_trampoline (built c.loop-i.self) n (composite_at (built c.loop-i.self).types n)) (ap number_of c.new.ensures))
+loop-i-preserved c = record { found = c.in_ok-assign_trampoline.ensures.found; along = along-more (built c.args.self.now) (built c.loop-i.self) c.args.first c.loop-i.i c.loop-i.invariant.along (grind (arith, common_steps)) (built c.assign_trampoline.new.self) (c.in_ok-assign_trampoline.ensures.built ∙ ap (λ n. assign_trampoline (built c.loop-i.self) n (composite_at (built c.loop-i.self).types n)) (ap number_of c.new.ensures)) }

@@ -1,13 +1,14 @@
 use Rattle.std.proofs.Common.{◌∙◌, ◌<◌, length, map, sym, ap, arith}
 use Rattle.std.proofs.lemmas.List.{length-map}
-use Rattle.std.specs.HashMap.{get}
+use Rattle.std.specs.declared.ops.Range.{Range}
 use Rattle.wasm_index.specs.Index.{index_of}
-use Rattle.wasm_types.specs.contracts.equal.WasmFuncTypePartialEq.TheImpl as func
-use Rattle.module_types.specs.Views.{interned_of, span_of}
-use Rattle.module_types.specs.TypeList.{with_range}
+use Rattle.module_types.specs.Views.{TypeIndex, interned_of, span_of}
+use Rattle.module_types.specs.TypeList.{TypeList, with_types, with_range}
 use Rattle.module_types.specs.Orderly.{IsOrderly}
 use Rattle.module_types.specs.Held.{built_of}
-use Rattle.module_types.specs.Interner.{built}
+use Rattle.module_types.specs.Interner.{known, built}
+use Rattle.module_types.specs.Met.{met_at, IsLinked}
+use Rattle.module_types.proofs.Linking.{known-on, linked-on}
 use Rattle.module_types.proofs.GroupMembers.{orderly-opened, group-long}
 use Rattle.module_types.proofs.Ordering.{few-groups}
 use Rattle.module_types.proofs.Steps.{opened-is}
@@ -39,10 +40,19 @@ push_rec_group-requires c =
 
 pub returns-clause-opened : goal.returns-clause-opened
 returns-clause-opened c =
-    let met = get func.ghosts.eq c.args.self.now.trampolines in
-    ap (λ l. built_of l met) (c.in_ok-push_rec_group.ensures.ok ∙ ap (λ l. with_range l (record { start = c.next_ty-start.result; end = c.next_ty-end.result })) c.in_ok-push_all.ensures)
-    ∙ opened-is c.args.self.now.list met c.args.members.items _ c.next_ty-start.ensures
+    let i = c.args.self.now in
+    let range : Range TypeIndex = record { start = c.next_ty-start.result; end = c.next_ty-end.result } in
+    let listed = c.in_ok-push_rec_group.ensures.ok ∙ ap (λ l. with_range l range) c.in_ok-push_all.ensures in
+    ap (λ (l : TypeList). built_of l (met_at l.types i.met)) listed
+    ∙ ap (built_of (with_range (with_types i.list c.args.members.items) range)) (known-on i.list.types c.args.members.items i.met c.requires.found)
+    ∙ opened-is i.list (known i) c.args.members.items range c.next_ty-start.ensures
     (c.next_ty-end.ensures ∙ ap (λ l. index_of (length l.types)) c.in_ok-push_all.ensures)
+
+pub returns-clause-found : goal.returns-clause-found
+returns-clause-found c =
+    let i = c.args.self.now in
+    let types = ap (λ (l : TypeList). l.types) c.in_ok-push_rec_group.ensures.ok ∙ ap (λ (l : TypeList). l.types) c.in_ok-push_all.ensures in
+    coe 0 1 (j. IsLinked (sym types j) i.met) (linked-on i.list.types c.args.members.items i.met c.requires.found)
 
 pub returns-clause-orderly : goal.returns-clause-orderly
 returns-clause-orderly c =

@@ -17,9 +17,9 @@ pub push_alone-requires-clause-groups : goal.push_alone-requires-clause-groups
 push_alone-requires-clause-groups c =
     omega (arith, few-groups (built c.args.self.now) c.requires.orderly, c.requires.room, length-map c.args.self.now.list.types interned_of, length-map c.args.self.now.list.groups span_of)
 
-pub returns : goal.returns
-returns c =
+pub returns-clause-built : goal.returns-clause-built
+returns-clause-built c =
     let kind = composite-read c.args.self.now.list.types (number_of c.args.function) c.index.result.now c.index.ensures _ c.in-Func.is in
     let made = exception-made (built c.args.self.now) (number_of c.args.function) c.in-Func.func kind c.in_ok-fields.fields.items
     (c.in_ok-fields.ensures ∙ ap (map field_at) c.params.ensures.listed) in
-    ok-to _ _ _ c.push_alone.result made c.push_alone.ensures
+    ok-to _ _ _ c.push_alone.result made c.push_alone.ensures.built

@@ -1,0 +1,173 @@
+-- Types that were met, chained by their digests.
+use Rattle.std.proofs.Common.{◌≡◌, ◌<◌, ◌≤◌, ℕ, zero, suc, ◌+◌, ◌-◌, Bool, true, false, cond, List, [], ◌∷◌, ◌++◌, length, take, map, Some, None, refl, sym, ap, ◌∙◌, inl, inr, arith}
+use Rattle.std.specs.Prelude.{◌⊎◌, ◌↔◌, slice_get, nat_eq, if◌then◌else◌}
+use Rattle.std.specs.Map.{lookup}
+use Rattle.std.proofs.lemmas.Bool.{eqb-true, eqb-false}
+use Rattle.std.proofs.lemmas.List.{length-append, reverse-append, take_all, take-append-le}
+use Rattle.wasm_types.specs.declared.func.WasmFuncType.{WasmFuncType}
+use Rattle.wasm_types.specs.contracts.equal.WasmFuncTypePartialEq.TheImpl as func
+use Rattle.wasm_types.specs.contracts.equal.WasmFuncTypeEq.TheImpl.Laws as func_equal
+use Rattle.wasm_types.proofs.Sound.{decides, function-sound}
+use Rattle.module_types.specs.Met.{Met, known_in, entry_of, Leads, AreChained}
+
+-- ---- equality of function types
+
+pub equal : (f g : WasmFuncType) → (func.ghosts.eq f g ≡ true) ↔ (f ≡ g)
+equal f g = decides func.ghosts.eq function-sound func_equal.laws-law.refl f g
+
+by-test : {P : Type 0} (b : Bool) → (b ≡ true → P) → (b ≡ false → P) → P
+by-test true holds fails = holds refl
+by-test false holds fails = fails refl
+
+pub unequal : (f g : WasmFuncType) → (f ≡ g → ⊥) → func.ghosts.eq f g ≡ false
+unequal f g off = by-test (func.ghosts.eq f g) (λ e. absurd (off ((equal f g).0 e))) (λ e. e)
+
+pub turned : (f g : WasmFuncType) → func.ghosts.eq f g ≡ func.ghosts.eq g f
+turned f g =
+    by-test (func.ghosts.eq g f)
+    (λ e. (equal f g).1 (sym ((equal g f).0 e)) ∙ sym e)
+    (λ e. unequal f g (λ s. let off : false ≡ true = sym e ∙ (equal g f).1 (sym s) in absurd cc) ∙ sym e)
+
+-- ---- lists
+
+pub at-map : {X Y : Type 0} (f : X → Y) (xs : List X) (i : ℕ) (x : X) → slice_get xs i ≡ Some x → slice_get (map f xs) i ≡ Some (f x)
+at-map f [] i x e = absurd cc
+at-map f (y ∷ ys) zero x e = let same : y ≡ x = cc in ap (λ z. Some (f z)) same
+at-map f (y ∷ ys) (suc i) x e = at-map f ys i x e
+
+pub below : {X : Type 0} (xs : List X) (i : ℕ) (x : X) → slice_get xs i ≡ Some x → i < length xs
+below [] i x e = absurd cc
+below (y ∷ ys) zero x e = omega arith
+below (y ∷ ys) (suc i) x e = let rest = below ys i x e in omega (arith, rest)
+
+taken-more : {X : Type 0} (xs : List X) (i : ℕ) (x : X) → slice_get xs i ≡ Some x → take (suc i) xs ≡ take i xs ++ x ∷ []
+taken-more [] i x e = absurd cc
+taken-more (y ∷ ys) zero x e = let same : y ≡ x = cc in ap (λ z. z ∷ []) same
+taken-more (y ∷ ys) (suc i) x e = ap (λ zs. y ∷ zs) (taken-more ys i x e)
+
+-- what stands in a list with one more at its end
+pub last-or : {X : Type 0} (xs : List X) (x : X) (i : ℕ) (y : X) → slice_get (xs ++ x ∷ []) i ≡ Some y → (slice_get xs i ≡ Some y) ⊎ ((i ≡ length xs) × (x ≡ y))
+last-or [] x zero y e = let same : x ≡ y = cc in inr (refl, same)
+last-or [] x (suc i) y e = absurd cc
+last-or (z ∷ zs) x zero y e = inl e
+last-or (z ∷ zs) x (suc i) y e = elim (last-or zs x i y e) [
+  | inl at ↦ inl at
+  | inr end ↦ inr (let n = end.0 in omega (arith, n), end.1)
+]
+
+-- ---- one more
+
+pub known-more : (rs : List Met) (r : Met) (f : WasmFuncType) → known_in (rs ++ r ∷ []) f ≡ cond (func.ghosts.eq f r.key) (Some r.ty) (known_in rs f)
+known-more rs r f = ap (λ es. lookup (func.ghosts.eq f) (map entry_of es)) (reverse-append rs (r ∷ []))
+
+-- a longer list leads as the shorter one did
+leads-on : (digest : WasmFuncType → ℕ) (rs : List Met) (f : WasmFuncType) (c n m : ℕ) → known_in (take m rs) f ≡ known_in (take n rs) f → n ≤ m
+    → Leads digest rs f c n → Leads digest rs f c m
+leads-on digest rs f zero n m same long leads = same ∙ leads
+leads-on digest rs f (suc k) n m same long leads = (let less = leads.0 in omega (arith, less, long), same ∙ leads.1, leads.2)
+
+leads-within : (digest : WasmFuncType → ℕ) (rs : List Met) (r : Met) (f : WasmFuncType) (c n : ℕ) → n ≤ length rs
+    → Leads digest rs f c n → Leads digest (rs ++ r ∷ []) f c n
+leads-within digest rs r f zero n long leads = ap (λ es. known_in es f) (take-append-le n rs (r ∷ []) long) ∙ leads
+leads-within digest rs r f (suc m) n long leads =
+    let less = leads.0 in (
+      less,
+      ap (λ es. known_in es f) (take-append-le n rs (r ∷ []) long) ∙ leads.1
+          ∙ sym (ap (λ es. known_in es f) (take-append-le (suc m) rs (r ∷ []) (omega (arith, less, long)))),
+      λ s at. elim (last-or rs r m s at) [
+        | inl there ↦ leads.2 s there
+        | inr end ↦ let n = end.0 in absurd (omega (arith, n, less, long))
+      ],
+    )
+
+module _ (digest : WasmFuncType → ℕ) (newest : ℕ → ℕ) (rs : List Met) (chained : AreChained digest newest rs) where
+  -- one of a chain, which is another type
+  pub steps-back : (f : WasmFuncType) (c : ℕ) (r : Met) → Leads digest rs f c (length rs) → 0 < c → slice_get rs (c - 1) ≡ Some r
+      → func.ghosts.eq f r.key ≡ false → Leads digest rs f r.before (length rs) × (r.before < c)
+  steps-back f zero r leads some at other = absurd (omega (arith, some))
+  steps-back f (suc m) r leads some at other =
+      let back : suc m - 1 ≡ m = omega arith in
+      let there : slice_get rs m ≡ Some r = ap (slice_get rs) (sym back) ∙ at in
+      let less = leads.0 in
+      let behind : Leads digest rs f r.before m = chained.next m r there f (sym (leads.2 r there)) in
+      let same : known_in (take (length rs) rs) f ≡ known_in (take m rs) f =
+      leads.1 ∙ ap (λ es. known_in es f) (taken-more rs m r there) ∙ known-more (take m rs) r f ∙ ap (λ b. cond b (Some r.ty) (known_in (take m rs) f)) other in
+      (leads-on digest rs f r.before m (length rs) same (omega (arith, less)) behind, before-less r.before m behind) where
+        before-less : (b n : ℕ) → Leads digest rs f b n → b < suc n
+        before-less zero n l = omega arith
+        before-less (suc k) n l = let less = l.0 in omega (arith, less)
+
+  whole : (f : WasmFuncType) → known_in (take (length rs) rs) f ≡ known_in rs f
+  whole f = ap (λ es. known_in es f) (take_all (length rs) rs (omega arith))
+
+  -- one of a chain, which is the type
+  pub found-there : (f : WasmFuncType) (c : ℕ) (r : Met) → Leads digest rs f c (length rs) → 0 < c → slice_get rs (c - 1) ≡ Some r
+      → func.ghosts.eq f r.key ≡ true → Some r.ty ≡ known_in rs f
+  found-there f zero r leads some at is = absurd (omega (arith, some))
+  found-there f (suc m) r leads some at is =
+      let back : suc m - 1 ≡ m = omega arith in
+      let there : slice_get rs m ≡ Some r = ap (slice_get rs) (sym back) ∙ at in
+      sym (sym (whole f) ∙ leads.1 ∙ ap (λ es. known_in es f) (taken-more rs m r there) ∙ known-more (take m rs) r f ∙ ap (λ b. cond b (Some r.ty) (known_in (take m rs) f)) is)
+
+  -- the end of a chain
+  pub found-nowhere : (f : WasmFuncType) (c : ℕ) → Leads digest rs f c (length rs) → c ≤ 0 → None ≡ known_in rs f
+  found-nowhere f zero leads none = sym (sym (whole f) ∙ leads)
+  found-nowhere f (suc m) leads none = absurd (omega (arith, none))
+
+  pub in-range : (f : WasmFuncType) (c : ℕ) → Leads digest rs f c (length rs) → 0 < c → c - 1 < length rs
+  in-range f zero leads some = absurd (omega (arith, some))
+  in-range f (suc m) leads some = let less = leads.0 in omega (arith, less)
+
+  -- one more is chained to the newest of its digest
+  module _ (r : Met) (behind : r.before ≡ newest (digest r.key)) (later : ℕ → ℕ)
+      (puts : (q : ℕ) → later q ≡ (if nat_eq (digest r.key) q then suc (length rs) else newest q)) where
+    abbrev all : List Met
+    all = rs ++ r ∷ []
+
+    long : length all ≡ length rs + 1
+    long = length-append rs (r ∷ [])
+
+    of-all : (f : WasmFuncType) → known_in (take (length all) all) f ≡ known_in all f
+    of-all f = ap (λ es. known_in es f) (take_all (length all) all (omega arith))
+
+    to-it : (f : WasmFuncType) → digest r.key ≡ digest f → Leads digest all f (suc (length rs)) (length all)
+    to-it f same = (
+      omega (arith, long),
+      ap (λ n. known_in (take n all) f) (let e : length all ≡ suc (length rs) = omega (arith, long) in e),
+      λ s at. elim (last-or rs r (length rs) s at) [
+        | inl there ↦ let less = below rs (length rs) s there in absurd (omega (arith, less))
+        | inr end ↦ sym (ap (λ (t : Met). digest t.key) end.1) ∙ same
+      ],
+    )
+
+    past-it : (f : WasmFuncType) → (digest r.key ≡ digest f → ⊥) → Leads digest all f (newest (digest f)) (length all)
+    past-it f off =
+        let other : func.ghosts.eq f r.key ≡ false = unequal f r.key (λ e. off (sym (ap digest e))) in
+        leads-on digest all f (newest (digest f)) (length rs) (length all)
+        (of-all f ∙ known-more rs r f ∙ ap (λ b. cond b (Some r.ty) (known_in rs f)) other ∙ sym (whole f)
+        ∙ sym (ap (λ es. known_in es f) (take-append-le (length rs) rs (r ∷ []) (omega arith))))
+        (omega (arith, long))
+        (leads-within digest rs r f (newest (digest f)) (length rs) (omega arith) (chained.first f))
+
+    pub first-more : (f : WasmFuncType) → Leads digest all f (later (digest f)) (length all)
+    first-more f =
+        by-test (nat_eq (digest r.key) (digest f))
+        (λ e. coe 0 1 (i. Leads digest all f (sym (puts (digest f) ∙ ap (λ b. if b then suc (length rs) else newest (digest f)) e) i) (length all))
+        (to-it f (eqb-true (digest r.key) (digest f) e)))
+        (λ e. coe 0 1 (i. Leads digest all f (sym (puts (digest f) ∙ ap (λ b. if b then suc (length rs) else newest (digest f)) e) i) (length all))
+        (past-it f (λ same. eqb-false (digest r.key) (digest f) e same)))
+
+    pub next-more : (i : ℕ) (s : Met) → slice_get all i ≡ Some s → (f : WasmFuncType) → digest f ≡ digest s.key → Leads digest all f s.before i
+    next-more i s at f same = elim (last-or rs r i s at) [
+      | inl there ↦ (let less = below rs i s there in leads-within digest rs r f s.before i (omega (arith, less)) (chained.next i s there f same))
+      | inr end ↦ (
+          let of_it : digest r.key ≡ digest f = ap (λ (t : Met). digest t.key) end.1 ∙ sym same in
+          let count : newest (digest f) ≡ s.before = ap newest (sym of_it) ∙ sym behind ∙ ap (λ (t : Met). t.before) end.1 in
+          let leads : Leads digest all f (newest (digest f)) (length rs) =
+          leads-within digest rs r f (newest (digest f)) (length rs) (omega arith) (chained.first f) in
+          coe 0 1 (j. Leads digest all f (count j) (sym end.0 j)) leads
+          )
+    ]
+
+    pub chained-more : AreChained digest later all
+    chained-more = record { first = first-more; next = next-more }

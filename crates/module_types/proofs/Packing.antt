@@ -1,0 +1,65 @@
+-- Codes in words, and lists compared item by item.
+use Rattle.std.proofs.Common.{◌≡◌, ◌<◌, ◌≤◌, ◌+◌, ◌*◌, ◌^◌, ℕ, zero, suc, Bool, ◌&&◌, List, [], ◌∷◌, length, get_or, drop, map, refl, sym, ap, ◌∙◌, arith}
+use Rattle.std.specs.Prelude.{if◌then◌else◌}
+use Rattle.std.specs.List.{fold, flat_map}
+use Rattle.std.specs.Hash as fed
+use Rattle.std.specs.Hash.FoldHasher as folding
+use Rattle.std.specs.Cmp.Lexicographic.{pointwise}
+use Rattle.std.specs.declared.hash.FoldHasher.{FoldHasher}
+use Rattle.std.proofs.lemmas.Bool.{lt-ltb, le-ltb}
+use Rattle.wasm_types.specs.declared.heap.WasmHeapTopType.TheVariants as top
+use Rattle.wasm_types.specs.declared.value.WasmValType.{WasmValType}
+use Rattle.wasm_types.specs.declared.value.WasmValType.TheVariants as val
+use Rattle.wasm_types.specs.declared.heap.WasmHeapTopType.{WasmHeapTopType}
+use Rattle.wasm_types.specs.Tops.{top_of, heap_of_top}
+use Rattle.wasm_types.specs.Trampolines.{trampoline_val}
+use Rattle.module_types.specs.Passed.{code_of_top, code_of, packed, words_of, fed_with}
+
+-- ---- words
+
+abbrev fed_next : FoldHasher → ℕ → List ℕ → Bool → FoldHasher
+fed_next h more cs b = fold folding.write h (flat_map fed.u64 (if b then packed more cs else (more ∷ packed 1 cs)))
+
+pub fed-kept : (h : FoldHasher) (word c : ℕ) (cs : List ℕ) → word * 16 + c < 2 ^ 60
+    → fold folding.write h (words_of (word * 16 + c) cs) ≡ fold folding.write h (words_of word (c ∷ cs))
+fed-kept h word c cs less = ap (fed_next h (word * 16 + c) cs) (sym (lt-ltb (word * 16 + c) (2 ^ 60) less))
+
+pub fed-full : (h later : FoldHasher) (word c : ℕ) (cs : List ℕ) → 2 ^ 60 ≤ word * 16 + c → later ≡ fold folding.write h (fed.u64 (word * 16 + c))
+    → fold folding.write later (words_of 1 cs) ≡ fold folding.write h (words_of word (c ∷ cs))
+fed-full h later word c cs full is =
+    ap (λ k. fold folding.write k (words_of 1 cs)) is ∙ ap (fed_next h (word * 16 + c) cs) (sym (le-ltb (word * 16 + c) (2 ^ 60) full))
+
+-- ---- a mapped type has the codes of the type
+
+top-code : (t : WasmHeapTopType) → code_of_top (top_of (heap_of_top t)) ≡ code_of_top t
+top-code top.Extern = refl
+top-code top.Any = refl
+top-code top.Func = refl
+top-code top.Exn = refl
+top-code top.Cont = refl
+
+same-code : (v : WasmValType) → code_of (trampoline_val v) ≡ code_of v
+same-code (val.Ref r) = top-code (top_of r.heap_type)
+same-code val.I32 = refl
+same-code val.I64 = refl
+same-code val.F32 = refl
+same-code val.F64 = refl
+same-code val.V128 = refl
+
+pub same-codes : (vs : List WasmValType) → map code_of (map trampoline_val vs) ≡ map code_of vs
+same-codes [] = refl
+same-codes (v ∷ vs) = λ i. same-code v i ∷ same-codes vs i
+
+pub same-feed : (h : FoldHasher) (vs : List WasmValType) → fed_with h (map trampoline_val vs) ≡ fed_with h vs
+same-feed h vs = ap (λ cs. fold folding.write h (words_of 1 cs)) (same-codes vs)
+
+-- ---- item by item
+
+module _ {X : Type 0} (eq : X → X → Bool) where
+  -- what stands at a place, and what comes after it
+  pub item-step : (t : X → X) (d : X) (xs ys : List X) (i : ℕ) → i < length xs → i < length ys
+      → pointwise eq (map t (drop i xs)) (drop i ys) ≡ (eq (t (get_or xs i d)) (get_or ys i d) && pointwise eq (map t (drop (suc i) xs)) (drop (suc i) ys))
+  item-step t d [] ys i in_xs in_ys = absurd (omega (arith, in_xs))
+  item-step t d (x ∷ xs) [] i in_xs in_ys = absurd (omega (arith, in_ys))
+  item-step t d (x ∷ xs) (y ∷ ys) zero in_xs in_ys = refl
+  item-step t d (x ∷ xs) (y ∷ ys) (suc i) in_xs in_ys = item-step t d xs ys i (omega (arith, in_xs)) (omega (arith, in_ys))

@@ -1,0 +1,29 @@
+use Rattle.std.proofs.Common.{◌∙◌, [], ◌∷◌, length, sym, ap}
+use Rattle.std.specs.declared.ops.Range.{Range}
+use Rattle.wasm_index.specs.Index.{index_of}
+use Rattle.module_types.specs.Views.{TypeIndex}
+use Rattle.module_types.specs.TypeList.{TypeList, with_type, with_range}
+use Rattle.module_types.specs.Held.{built_of}
+use Rattle.module_types.specs.Interner.{known}
+use Rattle.module_types.specs.Met.{met_at, IsLinked}
+use Rattle.module_types.proofs.Linking.{known-on, linked-on}
+use Rattle.module_types.proofs.Steps.{alone-is}
+use Rattle.module_types.proofs.interner.Interner.push_alone.Goals as goal
+
+pub returns-clause-built : goal.returns-clause-built
+returns-clause-built c =
+    let i = c.args.self.now in
+    let range : Range TypeIndex = record { start = c.in_ok-start.start; end = c.next_ty-end.result } in
+    let listed = c.in_ok-push_rec_group.ensures.ok ∙ ap (λ l. with_range l range) c.in_ok-start.ensures.ok in
+    ap (λ (l : TypeList). built_of l (met_at l.types i.met)) listed
+    ∙ ap (built_of (with_range (with_type i.list c.args.ty c.args.trampoline) range)) (known-on i.list.types (c.args.ty ∷ []) i.met c.requires.found)
+    ∙ alone-is i.list (known i) c.args.ty c.args.trampoline range c.in_ok-start.ensures.index
+    (c.next_ty-end.ensures ∙ ap (λ l. index_of (length l.types)) c.in_ok-start.ensures.ok)
+
+pub returns-clause-types : goal.returns-clause-types
+returns-clause-types c = ap (λ (l : TypeList). l.types) c.in_ok-push_rec_group.ensures.ok ∙ ap (λ (l : TypeList). l.types) c.in_ok-start.ensures.ok
+
+pub returns-clause-found : goal.returns-clause-found
+returns-clause-found c =
+    let i = c.args.self.now in
+    coe 0 1 (j. IsLinked (sym (returns-clause-types c) j) i.met) (linked-on i.list.types (c.args.ty ∷ []) i.met c.requires.found)

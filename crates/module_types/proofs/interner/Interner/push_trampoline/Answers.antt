@@ -1,0 +1,73 @@
+use Rattle.std.proofs.Common.{◌≡◌, ◌∙◌, ℕ, List, [], ◌∷◌, ◌++◌, length, Some, OnOk, sym, ap}
+use Rattle.std.specs.Prelude.{Result, Ok, Err}
+use Rattle.std.proofs.lemmas.List.{length-map}
+use Rattle.wasm_spec.specs.TypeData.{Func}
+use Rattle.type_spec.specs.Interned.{plain, alone, knows}
+use Rattle.wasm_index.specs.Index.{number_of, index_of}
+use Rattle.wasm_types.specs.declared.func.WasmFuncType.{WasmFuncType}
+use Rattle.wasm_types.specs.Trampolines.{trampoline_of}
+use Rattle.module_types.specs.declared.interner.Interner.{Interner}
+use Rattle.module_types.specs.declared.met.MetTypes.{MetTypes}
+use Rattle.wasm_types.specs.declared.sub.WasmSubType.{WasmSubType}
+use Rattle.wasm_types.specs.Views.{func_in}
+use Rattle.module_types.specs.Views.{TypeIndex, interned_of, called_of}
+use Rattle.module_types.specs.TypeList.{TypeList, called_by}
+use Rattle.module_types.specs.TypeParts.{part_at}
+use Rattle.module_types.specs.Held.{built_of}
+use Rattle.module_types.specs.Interner.{known, built, with_next_trampoline, FindsMet}
+use Rattle.module_types.specs.Met.{met_at, digest_of, IsLinked, IsNoted}
+use Rattle.module_types.proofs.Linking.{part-at-end}
+use Rattle.module_types.proofs.Steps.{next-is, noted-is}
+use Rattle.module_types.proofs.interner.Interner.push_trampoline.Goals as goal
+
+-- where the list stands still
+pub push_alone-requires-clause-found : goal.push_alone-requires-clause-found
+push_alone-requires-clause-found c =
+    let types = ap (λ (l : TypeList). l.types) c.set_trampoline.ensures in
+    coe 0 1 (j. IsLinked (sym types j) c.args.self.now.met) c.requires.found
+
+ok-then : {A E P Q : Type 0} (r : Result A E) → (P → Q) → OnOk r P → OnOk r Q
+ok-then (Ok x) f p = f p
+ok-then (Err x) f p = tt
+
+-- what follows once the type is noted
+module _ (i now : Interner) (met : MetTypes) (ty : ℕ) (k : TypeIndex) (mapped : WasmFuncType) (digest : ℕ) (own : trampoline_of mapped ≡ mapped)
+    (l : TypeList) (set : l ≡ called_by i.list ty k) (count : k ≡ index_of (length i.list.types)) (is : digest ≡ digest_of i.met.hasher mapped)
+    (t : WasmSubType) (plain_is : interned_of t ≡ plain (Func (called_of mapped))) (func_is : func_in t.composite_type.inner ≡ Some mapped)
+    (pushed : built now ≡ alone (built_of l (met_at l.types i.met)) (interned_of t) (Some (number_of k))) (found : FindsMet now)
+    (types : now.list.types ≡ l.types ++ t ∷ []) (met_is : now.met ≡ i.met)
+    (noted : (ts : List WasmSubType) (f : WasmFuncType) → IsLinked ts now.met → part_at func_in ts k ≡ Some f → digest ≡ digest_of now.met.hasher f → IsNoted ts now.met met f k) where
+  end : number_of k ≡ length l.types
+  end = ap number_of count ∙ sym (ap (λ (m : TypeList). length m.types) set)
+
+  is-noted : IsNoted now.list.types now.met met mapped k
+  is-noted = noted now.list.types mapped found (ap (λ ts. part_at func_in ts k) types ∙ part-at-end l.types t k mapped end func_is)
+      (is ∙ ap (λ (m : MetTypes). digest_of m.hasher mapped) (sym met_is))
+
+  pub finds : FindsMet (record { list = now.list; met = met })
+  finds = is-noted.linked
+
+  pub gained : built (record { list = now.list; met = met }) ≡ with_next_trampoline (built i) ty (called_of mapped)
+  gained =
+      noted-is now.list (known now) mapped own (met_at now.list.types met) k is-noted.puts
+      ∙ ap (λ b. knows b (called_of mapped) (number_of k))
+      (pushed ∙ (λ j. alone (built_of (set j) (met_at (set j).types i.met)) (plain_is j) (Some (number_of k))))
+      ∙ next-is i.list (known i) ty k (called_of mapped) (ap number_of count ∙ sym (length-map i.list.types interned_of))
+
+pub returns-clause-built : goal.returns-clause-built
+returns-clause-built c =
+    let pushed = c.in_ok-push_alone.ensures in
+    ok-then c.note.result
+    (λ noted. gained c.args.self.now c.push_alone.new.self _ (number_of c.args.ty) c.next_ty-trampoline.result c.args.mapped c.args.digest c.requires.mapped
+    _ c.set_trampoline.ensures c.next_ty-trampoline.ensures c.requires.digest c.plain_function.result c.plain_function.ensures.interned c.plain_function.ensures.function
+    pushed.built pushed.found pushed.types c.push_alone.ensures.met noted)
+    c.note.ensures
+
+pub returns-clause-found : goal.returns-clause-found
+returns-clause-found c =
+    let pushed = c.in_ok-push_alone.ensures in
+    ok-then c.note.result
+    (λ noted. finds c.args.self.now c.push_alone.new.self _ (number_of c.args.ty) c.next_ty-trampoline.result c.args.mapped c.args.digest c.requires.mapped
+    _ c.set_trampoline.ensures c.next_ty-trampoline.ensures c.requires.digest c.plain_function.result c.plain_function.ensures.interned c.plain_function.ensures.function
+    pushed.built pushed.found pushed.types c.push_alone.ensures.met noted)
+    c.note.ensures

@@ -1,0 +1,23 @@
+use Rattle.std.proofs.Common.{◌≡◌, ◌∙◌, ℕ, suc, ◌+◌, length, Bool, true, false, cond, Option, Some, refl, ap, arith}
+use Rattle.std.specs.Prelude.{nat_eq, if◌then◌else◌}
+use Rattle.std.specs.HashMap.{get}
+use Rattle.std.specs.Option.{unwrap_or}
+use Rattle.module_types.proofs.Linking.{is-noted}
+use Rattle.module_types.proofs.met.MetTypes.note.Goals as goal
+
+count-or : (b : Bool) (n m : ℕ) (o : Option ℕ) → n ≡ m → unwrap_or (cond b (Some n) o) 0 ≡ (if b then m else unwrap_or o 0)
+count-or true n m o e = e
+count-or false n m o e = refl
+
+counted : (b : Bool) (n m : ℕ) (o later : Option ℕ) → later ≡ cond b (Some n) o → n ≡ m → unwrap_or later 0 ≡ (if b then m else unwrap_or o 0)
+counted b n m o later e same = ap (λ x. unwrap_or x 0) e ∙ count-or b n m o same
+
+pub returns : goal.returns
+returns c =
+    let more : c.len-count.result + 1 ≡ suc (length c.args.self.now.types.items) = omega (arith, c.len-count.ensures) in
+    λ types f linked stands is.
+    is-noted types c.args.self.now _ f c.args.ty linked stands c.args.digest is refl (record { ty = c.args.ty; before = c.unwrap_or-before.result }) refl
+    (c.unwrap_or-before.ensures ∙ ap (λ o. unwrap_or o 0) c.in_ok-insert.ensures.old)
+    c.in_ok-push.ensures.items
+    (λ q. counted (nat_eq c.args.digest q) (c.len-count.result + 1) (suc (length c.args.self.now.types.items)) (get nat_eq c.args.self.now.newest q)
+    (get nat_eq c.insert.new.self q) (c.in_ok-insert.ensures.updates.0 q) more)

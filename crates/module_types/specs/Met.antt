@@ -1,0 +1,77 @@
+-- The mapped types that were met: each stands in a list, and those of one digest are chained, from the newest on.
+use Rattle.std.specs.Prelude.{◌≡◌, ℕ, zero, suc, ◌<◌, nat_eq, cond, List, [], map, reverse, take, length, slice_get, Option, Some, None, IsSome}
+use Rattle.std.specs.Option.{unwrap_or}
+use Rattle.std.specs.Map.{lookup}
+use Rattle.std.specs.HashMap.{get}
+use Rattle.std.specs.Hash.FoldHasher as folding
+use Rattle.entity_map.specs.declared.seed.Seeded.{Seeded}
+use Rattle.wasm_types.specs.declared.func.WasmFuncType.{WasmFuncType}
+use Rattle.wasm_types.specs.declared.sub.WasmSubType.{WasmSubType}
+use Rattle.wasm_types.specs.contracts.equal.WasmFuncTypePartialEq.TheImpl as func
+use Rattle.wasm_types.specs.Views.{func_in}
+use Rattle.module_types.specs.Views.{TypeIndex}
+use Rattle.module_types.specs.TypeParts.{part_at}
+use Rattle.module_types.specs.Passed.{fed_with}
+use Rattle.module_types.specs.declared.met.MetType.{MetType}
+use Rattle.module_types.specs.declared.met.MetTypes.{MetTypes}
+
+-- what stands for the type at an index where no function type stands
+abbrev pub no_function : WasmFuncType
+no_function = record { params = []; results = [] }
+
+-- a function type that was met: the type, the index at which it stands, and how many were met up to the one before with its digest
+pub record Met : Type 0 where
+  pub key : WasmFuncType
+  pub ty : TypeIndex
+  pub before : ℕ
+
+abbrev pub met_of : List WasmSubType → MetType → Met
+met_of types m = record { key = unwrap_or (part_at func_in types m.ty) no_function; ty = m.ty; before = m.before }
+
+abbrev pub mets : List WasmSubType → List MetType → List Met
+mets types ms = map (met_of types) ms
+
+abbrev pub entry_of : Met → WasmFuncType × TypeIndex
+entry_of r = (r.key, r.ty)
+
+-- each type with its index, the newest first
+abbrev pub entries_of : List Met → List (WasmFuncType × TypeIndex)
+entries_of rs = map entry_of (reverse rs)
+
+-- the index of a type, if it was met
+abbrev pub known_in : List Met → WasmFuncType → Option TypeIndex
+known_in rs f = lookup (func.ghosts.eq f) (entries_of rs)
+
+abbrev pub met_at : List WasmSubType → MetTypes → WasmFuncType → Option TypeIndex
+met_at types m = known_in (mets types m.types.items)
+
+-- ---- the chains
+
+-- of what a trampoline passes for its types
+unfoldable pub digest_of : Seeded → WasmFuncType → ℕ
+digest_of hasher f = folding.finish (fed_with (fed_with hasher.first f.params) f.results)
+
+-- how many were met up to the newest of a digest, or 0
+abbrev pub newest_of : MetTypes → ℕ → ℕ
+newest_of m digest = unwrap_or (get nat_eq m.newest digest) 0
+
+-- among the first `n` the chain from the place before `count` on has a type wherever it is
+abbrev pub Leads : (WasmFuncType → ℕ) → List Met → WasmFuncType → ℕ → ℕ → Type 0
+Leads digest rs f zero n = known_in (take n rs) f ≡ None
+Leads digest rs f (suc m) n =
+    (m < n) × (known_in (take n rs) f ≡ known_in (take (suc m) rs) f) × ((r : Met) → slice_get rs m ≡ Some r → digest r.key ≡ digest f)
+
+-- the newest of each digest leads to all of it, and each that was met to those before it
+pub record AreChained (digest : WasmFuncType → ℕ) (newest : ℕ → ℕ) (rs : List Met) : Type 0 where
+  pub first : (f : WasmFuncType) → Leads digest rs f (newest (digest f)) (length rs)
+  pub next : (i : ℕ) (r : Met) → slice_get rs i ≡ Some r → (f : WasmFuncType) → digest f ≡ digest r.key → Leads digest rs f r.before i
+
+-- each that was met stands in the list, and is found by its digest
+pub record IsLinked (types : List WasmSubType) (m : MetTypes) : Type 0 where
+  pub standing : (i : ℕ) (t : MetType) → slice_get m.types.items i ≡ Some t → IsSome (part_at func_in types t.ty)
+  pub chained : AreChained (digest_of m.hasher) (newest_of m) (mets types m.types.items)
+
+-- a type was noted at an index
+pub record IsNoted (types : List WasmSubType) (old new : MetTypes) (f : WasmFuncType) (ty : TypeIndex) : Type 0 where
+  pub linked : IsLinked types new
+  pub puts : (q : WasmFuncType) → met_at types new q ≡ cond (func.ghosts.eq f q) (Some ty) (met_at types old q)

@@ -1,0 +1,102 @@
+//! The mapped types that were met, found by their digests and compared where they stand.
+
+ghost use Rattle.std.specs.Prelude.{◌≡◌, [], List, Some, OnOk};
+ghost use Rattle.wasm_types.specs.declared.sub.WasmSubType.{WasmSubType};
+ghost use Rattle.wasm_types.specs.declared.func.WasmFuncType.{WasmFuncType};
+ghost use Rattle.wasm_types.specs.Trampolines.{trampoline_of};
+ghost use Rattle.wasm_types.specs.Views.{func_in};
+ghost use Rattle.module_types.specs.TypeParts.{part_at};
+ghost use Rattle.module_types.specs.Met.{digest_of, newest_of, met_at, IsLinked, IsNoted};
+
+use crate::list::ModuleTypes;
+use crate::passed::{feed, is_mapped};
+use entity_map::{OutOfMemory, Seeded};
+use std::alloc::Global;
+use std::collections::HashMap;
+use std::hash::{BuildHasher, Hasher};
+use wasm_index::ModuleInternedTypeIndex;
+use wasm_types::WasmFuncType;
+
+/// A function type that was met, by the index at which it stands in a list of types.
+#[derive(Clone, Copy)]
+pub(crate) struct MetType {
+    pub(crate) ty: ModuleInternedTypeIndex,
+    /// How many were met up to the one before with the same digest, or 0.
+    pub(crate) before: u32,
+}
+
+/// The function types that were met: each by the index at which it stands in a list of types, so that none is kept twice. Those of one
+/// digest are chained, from the newest on.
+#[derive(Drop)]
+pub(crate) struct MetTypes {
+    pub(crate) hasher: Seeded,
+    /// How many were met up to the newest of each digest.
+    pub(crate) newest: HashMap<u64, u32, Seeded>,
+    pub(crate) types: Vec<MetType>,
+}
+
+impl MetTypes {
+    /// None was met. Digests begin from the seed.
+    pub(crate) fn new(alloc: Global, seed: u64) -> MetTypes
+        ensures none { result.types.items ≡ [] }
+        ensures linked { (types : List WasmSubType) → IsLinked types result }
+    {
+        let hasher = Seeded::new(seed);
+        MetTypes {
+            hasher,
+            newest: HashMap::with_hasher(alloc, hasher),
+            types: Vec::new(alloc),
+        }
+    }
+
+    /// The digest of a function type, which is that of its mapped type.
+    pub(crate) fn digest(&self, func: &WasmFuncType) -> u64
+        ensures { result ≡ digest_of self.now.hasher (trampoline_of func.now) }
+    {
+        let mut hasher = self.hasher.build_hasher();
+        feed(&mut hasher, func.params());
+        feed(&mut hasher, func.results());
+        hasher.finish()
+    }
+
+    /// Where the mapped type of a function type of this digest stands, if it was met.
+    pub(crate) fn find(
+        &self,
+        list: &ModuleTypes,
+        digest: u64,
+        func: &WasmFuncType,
+    ) -> Option<ModuleInternedTypeIndex>
+        requires linked { IsLinked list.now.types self.now }
+        requires digest { digest ≡ digest_of self.now.hasher (trampoline_of func.now) }
+        ensures { result ≡ met_at list.now.types self.now (trampoline_of func.now) }
+    {
+        let mut left = self.newest.get(&digest).copied().unwrap_or(0);
+        while left > 0 {
+            let met = self.types[left as usize - 1];
+            if is_mapped(func, list[met.ty].composite_type.inner.unwrap_func()) {
+                return Some(met.ty);
+            }
+            left = met.before;
+        }
+        None
+    }
+
+    /// Notes a function type of this digest, which was not met and stands at an index.
+    pub(crate) fn note(
+        &mut self,
+        digest: u64,
+        ty: ModuleInternedTypeIndex,
+    ) -> Result<(), OutOfMemory>
+        ensures { OnOk result ((types : List WasmSubType) (f : WasmFuncType) → IsLinked types self.old → part_at func_in types ty ≡ Some f
+            → digest ≡ digest_of self.old.hasher f → IsNoted types self.old self.new f ty) }
+    {
+        // A list has fewer types, and none is met twice, so this never happens.
+        let count = self.types.len() + 1;
+        if count > u32::MAX as usize {
+            return Err(OutOfMemory);
+        }
+        let before = self.newest.insert(digest, count as u32)?.unwrap_or(0);
+        self.types.push(MetType { ty, before })?;
+        Ok(())
+    }
+}

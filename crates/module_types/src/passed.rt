@@ -1,0 +1,94 @@
+//! What a trampoline passes for the types of a function, fed to a hasher and compared, without a list of it.
+
+ghost use Rattle.std.specs.Prelude.{◌≡◌, ◌<◌, ◌^◌, ℕ, List, ◌∷◌, map};
+ghost use Rattle.std.specs.List.{fold};
+ghost use Rattle.std.specs.Cmp.Lexicographic.{pointwise};
+ghost use Rattle.std.specs.Hash.FoldHasher as folding;
+ghost use Rattle.wasm_types.specs.declared.value.WasmValType.{WasmValType};
+ghost use Rattle.wasm_types.specs.Trampolines.{trampoline_val, trampoline_of};
+ghost use Rattle.module_types.specs.Passed.{code_of, words_of, fed_with};
+
+use std::hash::{FoldHasher, Hasher};
+use wasm_types::{WasmFuncType, WasmHeapTopType, WasmRefType, WasmValType};
+
+// The code of what a trampoline passes for a value type, below 16.
+fn code(ty: &WasmValType) -> u64
+    ensures code { result ≡ code_of ty.now }
+    ensures below { result < 16 }
+{
+    match ty {
+        WasmValType::I32 => 0,
+        WasmValType::I64 => 1,
+        WasmValType::F32 => 2,
+        WasmValType::F64 => 3,
+        WasmValType::V128 => 4,
+        WasmValType::Ref(ty) => match ty.heap_type.top() {
+            WasmHeapTopType::Extern => 5,
+            WasmHeapTopType::Any => 6,
+            WasmHeapTopType::Func => 7,
+            WasmHeapTopType::Exn => 8,
+            WasmHeapTopType::Cont => 9,
+        },
+    }
+}
+
+// The word with one more code, of four bits. One with no room for another is fed to the hasher, and a new one begins.
+fn feed_code(hasher: &mut FoldHasher, word: u64, code: u64) -> u64
+    requires word { word < 2 ^ 60 }
+    requires code { code < 16 }
+    ensures word { result < 2 ^ 60 }
+    ensures fed { (cs : List ℕ) → fold folding.write hasher.new (words_of result cs) ≡ fold folding.write hasher.old (words_of word (code ∷ cs)) }
+{
+    let more = word * 16 + code;
+    if more < 1 << 60 {
+        return more;
+    }
+    hasher.write_u64(more);
+    1
+}
+
+/// Feeds a hasher what a trampoline passes for each of the types: fifteen codes to a word, behind a one that says how many there are.
+pub(crate) fn feed(hasher: &mut FoldHasher, types: &[WasmValType])
+    ensures { hasher.new ≡ fed_with hasher.old types.now }
+{
+    let mut word: u64 = 1;
+    for ty in types {
+        word = feed_code(hasher, word, code(ty));
+    }
+    hasher.write_u64(word);
+}
+
+// What a trampoline passes for a value type.
+fn passed(ty: &WasmValType) -> WasmValType
+    ensures { result ≡ trampoline_val ty.now }
+{
+    match ty {
+        WasmValType::Ref(ty) => WasmValType::Ref(WasmRefType {
+            nullable: true,
+            heap_type: ty.heap_type.top().into(),
+        }),
+        _ => *ty,
+    }
+}
+
+// Whether a trampoline passes each of the others for the types.
+fn are_passed(types: &[WasmValType], others: &[WasmValType]) -> bool
+    ensures { result ≡ pointwise ⟦<WasmValType as PartialEq>⟧.eq (map trampoline_val types.now) others.now }
+{
+    if types.len() != others.len() {
+        return false;
+    }
+    for i in 0..types.len() {
+        if passed(&types[i]) != others[i] {
+            return false;
+        }
+    }
+    true
+}
+
+/// Whether another type is the mapped type of a function type.
+pub(crate) fn is_mapped(func: &WasmFuncType, other: &WasmFuncType) -> bool
+    ensures { result ≡ ⟦<WasmFuncType as PartialEq>⟧.eq (trampoline_of func.now) other.now }
+{
+    are_passed(func.params(), other.params()) && are_passed(func.results(), other.results())
+}
