@@ -8,7 +8,7 @@ use Rattle.std.proofs.lemmas.List.Elements.{All-nil, All-cons}
 use Rattle.wasm_spec.specs.declared.entities.TypeRef.{TypeRef}
 use Rattle.wasm_spec.specs.declared.types.UnpackedIndex.{UnpackedIndex}
 use Rattle.wasm_spec.specs.Numbers.{SpellsUnsigned}
-use Rattle.wasm_spec.specs.Parts.{Part, ◌>>=◌, choose, gives, first_byte, unsigned, non_negative, elements, vector, sized}
+use Rattle.wasm_spec.specs.Parts.{Part, ◌>>=◌, choose, gives, nothing, first_byte, unsigned, non_negative, elements, vector, sized}
 use Rattle.wasm_spec.specs.TypeData.{Composite, Func, Array, Struct, Cont, Exn, SubType, Group, value_of, field_of}
 use Rattle.wasm_spec.specs.Module.{Import, Payload, Types, Imports, FunctionTypes, Tables, Memories, Tags, Globals, Exports, Start, Elements, DataCount, Segments, Module, groups, groups_of_section, imports, imports_of_section, imported_of, function_types_of_section, tables_of_section, memories_of_section, tags_of_section, globals_of_section, exports_of_section, elements_of_section, bodies_of_section, segments_of_section, types, function_import, table_import, memory_import, global_import, tag_import}
 use Rattle.wasm_spec.specs.TypeGrammar.{value_type, storage_type, field_type, function_type, composite_after, with_supertype, group, sub_type_after, memory_type, global_type, tag_type}
@@ -41,33 +41,6 @@ then_takes first second t = record {
 
 name_takes : TakesBytes name
 name_takes = let t = then_takes (unsigned 32) _ (number_takes 32) in record { takes = λ bytes x s. t.takes bytes x s.0 }
-
-import_entry_takes : TakesBytes import_entry
-import_entry_takes = then_takes name _ name_takes
-
-table_entry_takes : TakesBytes table_entry
-table_entry_takes = first_takes _
-
-memory_type_takes : TakesBytes memory_type
-memory_type_takes = first_takes _
-
-tag_type_takes : TakesBytes tag_type
-tag_type_takes = first_takes _
-
-global_entry_takes : TakesBytes global_entry
-global_entry_takes = then_takes global_type _ (then_takes value_type _ (first_takes _))
-
-export_entry_takes : TakesBytes export_entry
-export_entry_takes = then_takes name _ name_takes
-
-element_segment_takes : TakesBytes element_segment
-element_segment_takes = then_takes (unsigned 32) _ (number_takes 32)
-
-body_takes : TakesBytes body
-body_takes = then_takes (unsigned 32) _ (number_takes 32)
-
-data_segment_takes : TakesBytes data_segment
-data_segment_takes = then_takes (unsigned 32) _ (number_takes 32)
 
 -- ---- elements
 
@@ -113,10 +86,12 @@ vector_few part t bytes xs s = let n = vector_counts (λ x. 1) part t.takes byte
 -- ---- groups of types
 
 -- a choice is one of the two
-chosen : {A : Type 0} (b : Bool) (p q : Part A) (bytes : List ℕ) (x : A) (n : ℕ) → (p.spells bytes x → n ≤ length bytes)
-    → (q.spells bytes x → n ≤ length bytes) → (choose b p q).spells bytes x → n ≤ length bytes
-chosen true p q bytes x n one other s = one s
-chosen false p q bytes x n one other s = other s
+either_counts : {A : Type 0} {count : A → ℕ} (b : Bool) (p q : Part A) → CountsBytes count p → CountsBytes count q → CountsBytes count (choose b p q)
+either_counts true p q one other = one
+either_counts false p q one other = other
+
+nothing_counts : {A : Type 0} (count : A → ℕ) → CountsBytes count nothing
+nothing_counts count bytes x s = absurd s
 
 non_negative_takes : (k : ℕ) → TakesBytes (non_negative k)
 non_negative_takes k = record { takes = some } where
@@ -150,18 +125,18 @@ field_takes : TakesBytes field_type
 field_takes = then_takes storage_type _ (first_takes _)
 
 composite_wide : (b : ℕ) → CountsBytes (λ c. 1 + wide c) (composite_after b)
-composite_wide b bytes x =
-    chosen (b == 0x60) _ _ bytes x (1 + wide x) (function_wide bytes x)
-    (chosen (b == 0x5F) _ _ bytes x (1 + wide x) (λ s.
+composite_wide b =
+    either_counts (b == 0x60) _ _ function_wide
+    (either_counts (b == 0x5F) _ _ (λ bytes x s.
     let n = vector_few field_type field_takes s.front s.value s.is_first in
     omega (arith, n, ap wide s.is_second.1, length-map s.value field_of, ap length s.parts, length-append s.front s.back))
-    (chosen (b == 0x5E) _ _ bytes x (1 + wide x) (λ s.
+    (either_counts (b == 0x5E) _ _ (λ bytes x s.
     let n = field_takes.takes s.front s.value s.is_first in
     omega (arith, n, ap wide s.is_second.1, ap length s.parts, length-append s.front s.back))
-    (chosen (b == 0x5D) _ _ bytes x (1 + wide x) (λ s.
+    (either_counts (b == 0x5D) _ _ (λ bytes x s.
     let n = (non_negative_takes 33).takes s.front s.value s.is_first in
     omega (arith, n, ap wide s.is_second.1, ap length s.parts, length-append s.front s.back))
-    (chosen (b == 0x65) _ _ bytes x (1 + wide x) (λ s. absurd s) (λ s. absurd s)))))
+    (either_counts (b == 0x65) _ _ (λ bytes x s. absurd s) (nothing_counts _)))))
 
 first_wide : CountsBytes (λ c. 1 + wide c) (first_byte composite_after)
 first_wide [] x s = absurd s
@@ -174,9 +149,7 @@ super_wide is_final bytes x s =
     omega (arith, n, ap width t.is_second.1, ap length s.parts, length-append s.front s.back, ap length t.parts, length-append t.front t.back)
 
 sub_type_wide : (b : ℕ) → CountsBytes member (sub_type_after b)
-sub_type_wide b bytes x =
-    chosen (b == 0x50) _ _ bytes x (member x) (super_wide false bytes x)
-    (chosen (b == 0x4F) _ _ bytes x (member x) (super_wide true bytes x) (λ s.
+sub_type_wide b = either_counts (b == 0x50) _ _ (super_wide false) (either_counts (b == 0x4F) _ _ (super_wide true) (λ bytes x s.
     let n = composite_wide b s.front s.value s.is_first in
     omega (arith, n, ap width s.is_second.1, ap length s.parts, length-append s.front s.back)))
 
@@ -207,139 +180,101 @@ total_groups (g ∷ gs) =
     omega (arith, others, total-append member g (flat_map (λ (h : Group UnpackedIndex UnpackedIndex). h) gs))
 
 groups_few : (bytes : List ℕ) (gs : List (Group UnpackedIndex UnpackedIndex)) → (vector group).spells bytes gs
-    → length gs + length (flat_map (λ g. g) gs) + total width (flat_map (λ g. g) gs) ≤ length bytes
+    → length gs + total member (flat_map (λ g. g) gs) ≤ length bytes
 groups_few bytes gs s =
     let n = vector_counts (λ g. 1 + total member g) group group_wide bytes gs s in
-    omega (arith, n, total_groups gs, total_members (flat_map (λ (g : Group UnpackedIndex UnpackedIndex). g) gs))
+    omega (arith, n, total_groups gs)
 
 -- ---- sections
 
 -- how many entries a section has in all lists together
 abbrev entries : Payload → ℕ
 entries p =
-    length (groups_of_section p) + length (flat_map (λ g. g) (groups_of_section p)) + total width (flat_map (λ g. g) (groups_of_section p))
-    + length (imports_of_section p) + length (function_types_of_section p)
-    + length (tables_of_section p)
-    + length (memories_of_section p) + length (tags_of_section p) + length (globals_of_section p) + length (exports_of_section p)
-    + length (elements_of_section p) + length (bodies_of_section p) + length (segments_of_section p)
+    length (groups_of_section p) + total member (flat_map (λ g. g) (groups_of_section p)) + length (imports_of_section p)
+    + length (function_types_of_section p) + length (tables_of_section p) + length (memories_of_section p) + length (tags_of_section p)
+    + length (globals_of_section p) + length (exports_of_section p) + length (elements_of_section p) + length (bodies_of_section p)
+    + length (segments_of_section p)
 
--- what is made of a list has as many entries as its bytes at most
-abbrev Few : (List ℕ → Payload → Type 0) → Type 0
-Few spelled = (bytes : List ℕ) (p : Payload) → spelled bytes p → entries p ≤ length bytes
-
-entries_as_few : {A : Type 0} (part : Part A) (make : List A → Payload)
-    → ((bytes : List ℕ) (xs : List A) → (vector part).spells bytes xs → entries (make xs) ≤ length bytes) → Few (entries_as part make).spells
-entries_as_few part make few bytes p s =
+made_few : {A : Type 0} (part : Part A) (make : List A → Payload)
+    → ((bytes : List ℕ) (xs : List A) → (vector part).spells bytes xs → entries (make xs) ≤ length bytes) → CountsBytes entries (entries_as part make)
+made_few part make few bytes p s =
     let inside = s.is_second.1 in
     let n = few inside.front inside.value inside.is_first in
     rw inside.is_second.1
     (omega (arith, n, ap length s.parts, length-append s.front s.back, ap length inside.parts, length-append inside.front inside.back))
 
-types_few : Few (entries_as group Types).spells
-types_few = entries_as_few group Types (λ bytes gs s. let n = groups_few bytes gs s in omega (arith, n))
+-- entries that count as one each
+entries_few : {A : Type 0} (part : Part A) (make : List A → Payload) → TakesBytes part → ((xs : List A) → entries (make xs) ≡ length xs)
+    → CountsBytes entries (entries_as part make)
+entries_few part make takes one = made_few part make (λ bytes xs s. let n = vector_few part takes bytes xs s in omega (arith, n, one xs))
 
-imports_few : Few (entries_as import_entry Imports).spells
-imports_few = entries_as_few import_entry Imports (λ bytes is s. let n = vector_few import_entry import_entry_takes bytes is s in omega (arith, n))
+numbers_few : (k : ℕ → Payload) → ((n : ℕ) → entries (k n) ≡ 0) → CountsBytes entries (number_as k)
+numbers_few k none bytes p s = omega (arith, ap entries s.is_second.1.is_second.1, none s.is_second.1.value)
 
-function_types_few : Few (entries_as (unsigned 32) FunctionTypes).spells
-function_types_few = entries_as_few (unsigned 32) FunctionTypes
-    (λ bytes ts s. let n = vector_few (unsigned 32) (number_takes 32) bytes ts s in omega (arith, n))
-
-tables_few : Few (entries_as table_entry Tables).spells
-tables_few = entries_as_few table_entry Tables (λ bytes ts s. let n = vector_few table_entry table_entry_takes bytes ts s in omega (arith, n))
-
-memories_few : Few (entries_as memory_type Memories).spells
-memories_few = entries_as_few memory_type Memories (λ bytes ts s. let n = vector_few memory_type memory_type_takes bytes ts s in omega (arith, n))
-
-tags_few : Few (entries_as tag_type Tags).spells
-tags_few = entries_as_few tag_type Tags (λ bytes ts s. let n = vector_few tag_type tag_type_takes bytes ts s in omega (arith, n))
-
-globals_few : Few (entries_as global_entry Globals).spells
-globals_few = entries_as_few global_entry Globals (λ bytes gs s. let n = vector_few global_entry global_entry_takes bytes gs s in omega (arith, n))
-
-segments_few : Few (entries_as data_segment Segments).spells
-segments_few = entries_as_few data_segment Segments (λ bytes ss s. let n = vector_few data_segment data_segment_takes bytes ss s in omega (arith, n))
-
-exports_few : Few (entries_as export_entry Exports).spells
-exports_few = entries_as_few export_entry Exports (λ bytes es s. let n = vector_few export_entry export_entry_takes bytes es s in omega (arith, n))
-
-elements_few : Few (entries_as element_segment Elements).spells
-elements_few = entries_as_few element_segment Elements
-    (λ bytes es s. let n = vector_few element_segment element_segment_takes bytes es s in omega (arith, n))
-
-start_few : Few (number_as Start).spells
-start_few bytes p s = rw s.is_second.1.is_second.1 (omega arith)
-
-data_count_few : Few (number_as DataCount).spells
-data_count_few bytes p s = rw s.is_second.1.is_second.1 (omega arith)
-
-code_few : (place : ℕ) → Few (code_at place).spells
+code_few : (place : ℕ) → CountsBytes entries (code_at place)
 code_few place bytes p s =
     let inside = s.is_second.1 in
-    let n = vector_few body body_takes inside.front inside.value inside.is_first in
+    let n = vector_few body (then_takes (unsigned 32) _ (number_takes 32)) inside.front inside.value inside.is_first in
     rw inside.is_second.1
     (omega (arith, n, ap length s.parts, length-append s.front s.back, ap length inside.parts, length-append inside.front inside.back))
 
-customs_few : Few (sized custom_contents).spells
+contents_few : (place id : ℕ) → CountsBytes entries (section_contents place id)
+contents_few place id =
+    either_counts (id == 1) _ _ (made_few group Types (λ bytes gs s. let n = groups_few bytes gs s in omega (arith, n)))
+    (either_counts (id == 2) _ _ (entries_few import_entry Imports (then_takes name _ name_takes) (λ xs. omega arith))
+    (either_counts (id == 3) _ _ (entries_few (unsigned 32) FunctionTypes (number_takes 32) (λ xs. omega arith))
+    (either_counts (id == 4) _ _ (entries_few table_entry Tables (first_takes _) (λ xs. omega arith))
+    (either_counts (id == 5) _ _ (entries_few memory_type Memories (first_takes _) (λ xs. omega arith))
+    (either_counts (id == 13) _ _ (entries_few tag_type Tags (first_takes _) (λ xs. omega arith))
+    (either_counts (id == 6) _ _
+    (entries_few global_entry Globals (then_takes global_type _ (then_takes value_type _ (first_takes _))) (λ xs. omega arith))
+    (either_counts (id == 7) _ _ (entries_few export_entry Exports (then_takes name _ name_takes) (λ xs. omega arith))
+    (either_counts (id == 8) _ _ (numbers_few Start (λ n. refl))
+    (either_counts (id == 9) _ _ (entries_few element_segment Elements (then_takes (unsigned 32) _ (number_takes 32)) (λ xs. omega arith))
+    (either_counts (id == 12) _ _ (numbers_few DataCount (λ n. refl))
+    (either_counts (id == 10) _ _ (code_few place)
+    (either_counts (id == 11) _ _ (entries_few data_segment Segments (then_takes (unsigned 32) _ (number_takes 32)) (λ xs. omega arith))
+    (nothing_counts entries)))))))))))))
+
+placed_few : (place next id : ℕ) (o : Option ℕ) → CountsBytes entries (placed_section place next id o)
+placed_few place next id None = nothing_counts entries
+placed_few place next id (Some order) = either_counts (nat_le next order) _ _ (contents_few (place + 1) id) (nothing_counts entries)
+
+customs_few : CountsBytes entries (sized custom_contents)
 customs_few bytes p s = rw s.is_second.1.is_second (omega arith)
 
-contents_few : (place id : ℕ) → Few (section_contents place id).spells
-contents_few place id bytes p =
-    chosen (id == 1) _ _ bytes p (entries p) (types_few bytes p)
-    (chosen (id == 2) _ _ bytes p (entries p) (imports_few bytes p)
-    (chosen (id == 3) _ _ bytes p (entries p) (function_types_few bytes p)
-    (chosen (id == 4) _ _ bytes p (entries p) (tables_few bytes p)
-    (chosen (id == 5) _ _ bytes p (entries p) (memories_few bytes p)
-    (chosen (id == 13) _ _ bytes p (entries p) (tags_few bytes p)
-    (chosen (id == 6) _ _ bytes p (entries p) (globals_few bytes p)
-    (chosen (id == 7) _ _ bytes p (entries p) (exports_few bytes p)
-    (chosen (id == 8) _ _ bytes p (entries p) (start_few bytes p)
-    (chosen (id == 9) _ _ bytes p (entries p) (elements_few bytes p)
-    (chosen (id == 12) _ _ bytes p (entries p) (data_count_few bytes p)
-    (chosen (id == 10) _ _ bytes p (entries p) (code_few place bytes p)
-    (chosen (id == 11) _ _ bytes p (entries p) (segments_few bytes p) (λ s. absurd s)))))))))))))
-
-placed_few : (place next id : ℕ) (o : Option ℕ) → Few (placed_section place next id o).spells
-placed_few place next id None bytes p s = absurd s
-placed_few place next id (Some order) bytes p s = chosen (nat_le next order) _ _ bytes p (entries p) (contents_few (place + 1) id bytes p)
-    (λ t. absurd t) s
-
-section_few : (place next : ℕ) → Few (section place next).spells
+section_few : (place next : ℕ) → CountsBytes entries (section place next)
 section_few place next [] p s = absurd s
-section_few place next (id ∷ bytes) p s = let n = chosen (id == 0) _ _ bytes p (entries p) (customs_few bytes p)
-    (placed_few place next id (order_of id) bytes p) s in omega (arith, n)
+section_few place next (id ∷ bytes) p s =
+    let n = either_counts (id == 0) _ _ customs_few (placed_few place next id (order_of id)) bytes p s in
+    omega (arith, n)
 
 -- ---- modules
 
 -- the entries of all lists of a module
 abbrev all_entries : Module → ℕ
 all_entries m =
-    length (groups m) + length (types m) + total width (types m) + length (imports m) + length (flat_map function_types_of_section m) + length (flat_map tables_of_section m)
-    + length (flat_map memories_of_section m) + length (flat_map tags_of_section m) + length (flat_map globals_of_section m)
-    + length (flat_map exports_of_section m) + length (flat_map elements_of_section m) + length (flat_map bodies_of_section m)
-    + length (flat_map segments_of_section m)
+    length (groups m) + total member (types m) + length (imports m) + length (flat_map function_types_of_section m)
+    + length (flat_map tables_of_section m) + length (flat_map memories_of_section m) + length (flat_map tags_of_section m)
+    + length (flat_map globals_of_section m) + length (flat_map exports_of_section m) + length (flat_map elements_of_section m)
+    + length (flat_map bodies_of_section m) + length (flat_map segments_of_section m)
 
 -- of one list, the entries of the first section and those of the others
 one_list : {A : Type 0} (list : Payload → List A) (p : Payload) (ps : Module)
     → length (flat_map list (p ∷ ps)) ≡ length (list p) + length (flat_map list ps)
 one_list list p ps = length-append (list p) (flat_map list ps)
 
-all_types : (p : Payload) (ps : Module) → length (types (p ∷ ps)) ≡ length (flat_map (λ g. g) (groups_of_section p)) + length (types ps)
-all_types p ps = ap length (flat_map-append (λ (g : Group UnpackedIndex UnpackedIndex). g) (groups_of_section p) (groups ps))
-    ∙ length-append (flat_map (λ g. g) (groups_of_section p)) (types ps)
-
-all_widths : (p : Payload) (ps : Module)
-    → total width (types (p ∷ ps)) ≡ total width (flat_map (λ g. g) (groups_of_section p)) + total width (types ps)
-all_widths p ps = ap (total width) (flat_map-append (λ (g : Group UnpackedIndex UnpackedIndex). g) (groups_of_section p) (groups ps))
-    ∙ total-append width (flat_map (λ g. g) (groups_of_section p)) (types ps)
+all_members : (p : Payload) (ps : Module)
+    → total member (types (p ∷ ps)) ≡ total member (flat_map (λ g. g) (groups_of_section p)) + total member (types ps)
+all_members p ps = ap (total member) (flat_map-append (λ (g : Group UnpackedIndex UnpackedIndex). g) (groups_of_section p) (groups ps))
+    ∙ total-append member (flat_map (λ g. g) (groups_of_section p)) (types ps)
 
 all_more : (p : Payload) (ps : Module) → all_entries (p ∷ ps) ≡ entries p + all_entries ps
 all_more p ps =
     omega (
       arith,
       one_list groups_of_section p ps,
-      all_types p ps,
-      all_widths p ps,
+      all_members p ps,
       one_list imports_of_section p ps,
       one_list function_types_of_section p ps,
       one_list tables_of_section p ps,
@@ -379,7 +314,7 @@ few_entries bytes m s short =
     let body : length s.body ≤ length bytes = omega (arith, ap length s.parts, length-append header s.body) in
     record {
       groups = omega (arith, n);
-      types = omega (arith, n);
+      types = omega (arith, n, total_members (types m));
       imports = omega (arith, n);
       functions = let f = space_few function_import m (flat_map function_types_of_section m) in omega (arith, n, f);
       tables = let f = space_few table_import m (map (λ t. t.type) (flat_map tables_of_section m)) in
@@ -410,4 +345,4 @@ all_narrow (t ∷ ts) n = All-cons HasShortLists t ts (narrow t.composite.inner 
 pub short_types : (bytes : List ℕ) (m : Module) → Spells bytes m → length bytes < 2 ^ 30 → HasShortTypes m
 short_types bytes m s short =
     let n = sections_few m 8 0 s.body s.are_sections in
-    all_narrow (types m) (omega (arith, n, short, ap length s.parts, length-append header s.body))
+    all_narrow (types m) (omega (arith, n, short, total_members (types m), ap length s.parts, length-append header s.body))

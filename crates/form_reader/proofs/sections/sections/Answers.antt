@@ -1,4 +1,4 @@
-use Rattle.std.proofs.Common.{◌≡◌, ◌++◌, ◌∷◌, [], map, sym, arith}
+use Rattle.std.proofs.Common.{◌≡◌, ◌++◌, ◌∷◌, [], ◌-◌, ◌<◌, map, length, length-append, sym, arith}
 use Rattle.std.proofs.lemmas.Result.{err_from_is_err_and}
 use Rattle.std.proofs.lemmas.List.{map_push}
 use Rattle.std.proofs.lemmas.Bool.{eqb-true, eqb-false}
@@ -8,18 +8,23 @@ use Rattle.form_reader.proofs.SectionList.{all_so_far, section_end, section_more
 use Rattle.form_reader.proofs.sections.sections.Goals as goal
 
 pub sections-init : goal.sections-init
-sections-init c = record {
-  small = omega arith;
-  so_far =
-      rw c.new-payloads.ensures.items (all_so_far (all_sections_at c.args.start 0 c.args.bytes.now));
-}
+sections-init c =
+    let n : length c.args.bytes.now - 0 ≡ length c.args.bytes.now = omega arith in
+    record {
+      small = omega arith;
+      steps = rw c.new-payloads.ensures.items (omega arith);
+      so_far =
+          rw (c.new-payloads.ensures.items, n) (all_so_far (all_sections_at c.args.start 0 c.args.bytes.now));
+    }
 
 pub returns-in_err-payload : goal.returns-in_err-payload
 returns-in_err-payload c =
     let p = err_from_is_err_and c.from_residual.result c.from_residual.ensures.1 in
-    rw (p.1, p.2) (section_fails (map payload_of c.sections.payloads.items) c.sections.place c.sections.next c.sections.cursor.rest.now
-    (all_sections_at c.args.start 0 c.args.bytes.now) c.sections.invariant.so_far c.in_err-payload.field-0.0
-    (eqb-false _ _ (sym c.sections-test.ensures)) c.in_err-payload.ensures)
+    let some : length c.sections.cursor.rest.now ≡ 0 → ⊥ = eqb-false _ _ (sym c.sections-test.ensures) in
+    let left : length (map payload_of c.sections.payloads.items) < length c.args.bytes.now = omega (arith, some, c.sections.invariant.steps) in
+    rw (p.1, p.2) (section_fails (map payload_of c.sections.payloads.items) (length c.args.bytes.now) c.sections.place c.sections.next
+    c.sections.cursor.rest.now (all_sections_at c.args.start 0 c.args.bytes.now) c.sections.invariant.so_far some left c.in_err-payload.field-0.0
+    c.in_err-payload.ensures)
 
 pub overflow_sub-place : goal.overflow_sub-place
 overflow_sub-place c = let short =
@@ -36,17 +41,20 @@ sections-smaller c = section_shortens c.sections.place c.sections.next c.section
 pub sections-preserved : goal.sections-preserved
 sections-preserved c =
     let p = c.in_ok-payload.payload in
+    let front = map payload_of c.sections.payloads.items in
     let short = section_shortens c.sections.place c.sections.next c.sections.cursor.rest.now _ c.section.new.self.rest.now c.in_ok-payload.ensures in
-    let e : map payload_of c.push.new.self.items ≡ map payload_of c.sections.payloads.items ++ payload_of p ∷ [] =
+    let some : length c.sections.cursor.rest.now ≡ 0 → ⊥ = eqb-false _ _ (sym c.sections-test.ensures) in
+    let left : length front < length c.args.bytes.now = omega (arith, some, c.sections.invariant.steps) in
+    let e : map payload_of c.push.new.self.items ≡ front ++ payload_of p ∷ [] =
     rw c.in_ok-push.ensures.items (map_push _ c.sections.payloads.items p) in
     record {
       small = omega (arith, c.sections.invariant.small);
-      so_far = rw (e, c.next_order-next.ensures) (section_more
-          (map payload_of c.sections.payloads.items) c.sections.place c.sections.next c.sections.cursor.rest.now _ c.sections.invariant.so_far
-          (payload_of p) c.section.new.self.rest.now (eqb-false _ _ (sym c.sections-test.ensures)) c.in_ok-payload.ensures);
+      steps = rw e (omega (arith, short, length-append front (payload_of p ∷ []), c.sections.invariant.steps));
+      so_far = rw (e, c.next_order-next.ensures) (section_more front (length c.args.bytes.now) c.sections.place c.sections.next
+          c.sections.cursor.rest.now _ c.sections.invariant.so_far some left (payload_of p) c.section.new.self.rest.now c.in_ok-payload.ensures);
     }
 
 pub returns : goal.returns
 returns c = section_end
-    (map payload_of c.sections.payloads.items) c.sections.place c.sections.next c.sections.cursor.rest.now _ c.sections.invariant.so_far
-    (eqb-true _ _ (sym c.sections-test.ensures))
+    (map payload_of c.sections.payloads.items) (length c.args.bytes.now) c.sections.place c.sections.next c.sections.cursor.rest.now _
+    c.sections.invariant.so_far (eqb-true _ _ (sym c.sections-test.ensures))

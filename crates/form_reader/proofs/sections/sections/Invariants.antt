@@ -1,13 +1,15 @@
-use Rattle.std.proofs.Common.{◌≡◌, ◌+◌, ◌<◌, ◌^◌, map, length}
+use Rattle.std.proofs.Common.{◌≡◌, ◌+◌, ◌-◌, ◌<◌, ◌≤◌, ◌^◌, map, length}
 use Rattle.form_data.specs.Views.{payload_of}
-use Rattle.form_reader.specs.ReadingSections.{all_sections_at}
+use Rattle.form_reader.specs.ReadingSections.{sections_at, all_sections_at}
 use Rattle.form_reader.proofs.SectionList.{with_payloads}
 use Rattle.form_reader.proofs.sections.sections.Given as goal
 
 abbrev pub invariant-sections : goal.invariant-sections
 invariant-sections l = record {
   small : l.place + length l.cursor.rest.now < 2 ^ 30;
-  so_far : with_payloads (map payload_of l.payloads.items) (all_sections_at l.place l.next l.cursor.rest.now) ≡ all_sections_at l.start 0 l.bytes;
+  steps : length (map payload_of l.payloads.items) + length l.cursor.rest.now ≤ length l.bytes;
+  so_far : with_payloads (map payload_of l.payloads.items)
+      (sections_at (length l.bytes - length (map payload_of l.payloads.items)) l.place l.next l.cursor.rest.now) ≡ all_sections_at l.start 0 l.bytes;
 }
 
 abbrev pub decreases-sections : goal.decreases-sections
