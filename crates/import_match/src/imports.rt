@@ -1,11 +1,12 @@
 //! The definitions that the imports of a module are given.
 
-ghost use Rattle.std.specs.Prelude.{◌≡◌, All};
+ghost use Rattle.std.specs.Prelude.{◌≡◌, ◌<◌, All, length};
+ghost use Rattle.wasm_module.specs.Record.{record_of};
 ghost use Rattle.import_match.specs.Rules.{HasEngineTypes};
 ghost use Rattle.import_match.specs.Definitions.{Definition, names_of, found};
 ghost use Rattle.import_match.specs.Kept.{definitions_of};
 ghost use Rattle.import_match.specs.Linking.{wanted, CanImport, IsHeld};
-ghost use Rattle.import_match.specs.Resolving.{answer_at, resolved, IsAnswer};
+ghost use Rattle.import_match.specs.Resolving.{answer_at, resolved, IsAnswer, IsAnswerAt};
 
 use crate::definitions::{Definitions, find};
 use crate::engine_types::with_engine_types;
@@ -18,7 +19,7 @@ use wasm_module::Module;
 use wasm_types::EntityType;
 
 /// The number of the definition under the names of the import at a place, if it matches the type.
-fn resolve_import(
+fn answer(
     definitions: &Definitions,
     names: &Names,
     place: usize,
@@ -35,6 +36,27 @@ fn resolve_import(
         None => Ok(number),
         Some(rule) => Err(LinkError::Mismatch(place, rule)),
     }
+}
+
+/// The number of the definition of the import at a place of a held module. The names give room for those of the import.
+pub(crate) fn resolve_at(
+    definitions: &Definitions,
+    registry: &TypeRegistry,
+    key: ModuleKey,
+    module: &Module,
+    place: usize,
+    names: &mut Names,
+) -> Result<usize, LinkError>
+    requires definitions { All (λ (d : Definition). HasEngineTypes d.1) (definitions_of definitions.now) }
+    requires held { IsHeld registry.now key }
+    requires can { CanImport registry.now key «module».now }
+    requires place { place < length (record_of «module».now).initializers }
+    ensures { IsAnswerAt result (definitions_of definitions.now) (wanted registry.now key «module».now) place }
+{
+    let (from, own, ty) = module.import(place).unwrap();
+    names.set(from, own)?;
+    let want = with_engine_types(registry, key, ty);
+    answer(definitions, names, place, &want)
 }
 
 /// The number of the definition of each import of a held module, in order.
@@ -54,12 +76,8 @@ pub(crate) fn resolve_imports(
     let mut numbers = Vec::with_capacity(alloc, count)?;
     let mut names = Names::new(alloc);
     for place in 0..count {
-        let Some((from, own, ty)) = module.import(place) else {
-            unreachable!()
-        };
-        names.set(from, own)?;
-        let want = with_engine_types(registry, key, ty);
-        numbers.push(resolve_import(definitions, &names, place, &want)?)?;
+        let number = resolve_at(definitions, registry, key, module, place, &mut names)?;
+        numbers.push(number)?;
     }
     Ok(numbers)
 }

@@ -1,19 +1,21 @@
 //! The linker.
 
-ghost use Rattle.std.specs.Prelude.{◌≡◌, ◌↔◌, ◌⊎◌, ◌++◌, ◌∷◌, [], ℕ, length, All, Any, None, IsOk, IfOk, OnOk, OnErr, IfErr, IsErrOf};
+ghost use Rattle.std.specs.Prelude.{◌≡◌, ◌↔◌, ◌⊎◌, ◌++◌, ◌∷◌, [], ◌<◌, ℕ, length, All, Any, None, IsOk, IfOk, OnOk, OnErr, IfErr, IsErrOf};
 ghost use Rattle.import_match.specs.declared.error.LinkError.TheVariants as refused;
 ghost use Rattle.import_match.specs.declared.error.Mismatch.{Mismatch};
+ghost use Rattle.wasm_module.specs.Record.{record_of};
 ghost use Rattle.import_match.specs.Rules.{HasEngineTypes};
 ghost use Rattle.import_match.specs.Definitions.{Definition, IsDefined, AreOnce};
 ghost use Rattle.import_match.specs.Linking.{exported, wanted, CanExport, CanImport, IsHeld, IsNotHeld};
-ghost use Rattle.import_match.specs.Resolving.{resolved, IsAnswer, AreGiven, AreMatched, IsMissing, IsMismatched};
+ghost use Rattle.import_match.specs.Resolving.{resolved, IsAnswer, IsAnswerAt, AreGiven, AreMatched, IsMissing, IsMismatched};
 ghost use Rattle.import_match.specs.Refusals.{ComesExactly, IsOutOfMemory};
 
 use crate::definitions::{Definitions, append, append_all, new_names};
 use crate::error::LinkError;
 use crate::exports::planned_exports;
 use crate::hashing::SeededSip;
-use crate::imports::resolve_imports;
+use crate::imports::{resolve_at, resolve_imports};
+use crate::names::Names;
 use indexmap::IndexMap;
 use std::alloc::Global;
 use std::marker::Model;
@@ -157,5 +159,28 @@ impl Linker {
             return Err(LinkError::NotHeld);
         }
         resolve_imports(alloc, definitions, registry, key, module)
+    }
+
+    /// The number of the definition of one import of a held module, by its place: the one under its two names, which matches it.
+    ///
+    /// # Errors
+    /// `NotHeld`, `Missing` and `Mismatch` as by `resolve`, of this import alone; `OutOfMemory`.
+    pub fn resolve_import(
+        &self,
+        registry: &TypeRegistry,
+        key: ModuleKey,
+        module: &Module,
+        place: usize,
+    ) -> Result<usize, LinkError>
+        requires can { CanImport registry.now key «module».now }
+        requires place { place < length (record_of «module».now).initializers }
+        ensures answer { IsHeld registry.now key → IsAnswerAt result self.now (wanted registry.now key «module».now) place }
+        ensures not_held { IsErrOf result refused.NotHeld ↔ IsNotHeld registry.now key }
+    {
+        if registry.type_count(key).is_none() {
+            return Err(LinkError::NotHeld);
+        }
+        let mut names = Names::new(self.alloc);
+        resolve_at(&self.definitions, registry, key, module, place, &mut names)
     }
 }

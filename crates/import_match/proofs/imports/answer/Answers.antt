@@ -3,7 +3,7 @@ use Rattle.import_match.specs.Rules.{HasEngineTypes}
 use Rattle.import_match.specs.Definitions.{names_of}
 use Rattle.import_match.specs.Kept.{definitions_of}
 use Rattle.import_match.proofs.Finding.{found-type}
-use Rattle.import_match.proofs.imports.resolve_import.Goals as goal
+use Rattle.import_match.proofs.imports.answer.Goals as goal
 
 pub match_entity-requires-clause-have : goal.match_entity-requires-clause-have
 match_entity-requires-clause-have c =
