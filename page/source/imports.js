@@ -36,7 +36,11 @@ function importsCard(ask, plans) {
 }
 
 function stoppedPart(again) {
-  return el("p", {}, "The matching was stopped. ", button("Match the imports", () => again({})));
+  const begin = () => {
+    again({});
+    byId("module-name").focus();
+  };
+  return el("p", {}, "The matching was stopped. ", button("Match the imports", begin));
 }
 
 // Whose exports are given to whose imports.
