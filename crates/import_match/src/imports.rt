@@ -53,7 +53,9 @@ pub(crate) fn resolve_at(
     requires place { place < length (record_of «module».now).initializers }
     ensures { IsAnswerAt result (definitions_of definitions.now) (wanted registry.now key «module».now) place }
 {
-    let (from, own, ty) = module.import(place).unwrap();
+    let Some((from, own, ty)) = module.import(place) else {
+        unreachable!()
+    };
     names.set(from, own)?;
     let want = with_engine_types(registry, key, ty);
     answer(definitions, names, place, &want)
