@@ -52,14 +52,3 @@ same-codes (v ∷ vs) = λ i. same-code v i ∷ same-codes vs i
 
 pub same-feed : (h : FoldHasher) (vs : List WasmValType) → fed_with h (map trampoline_val vs) ≡ fed_with h vs
 same-feed h vs = ap (λ cs. fold folding.write h (words_of 1 cs)) (same-codes vs)
-
--- ---- item by item
-
-module _ {X : Type 0} (eq : X → X → Bool) where
-  -- what stands at a place, and what comes after it
-  pub item-step : (t : X → X) (d : X) (xs ys : List X) (i : ℕ) → i < length xs → i < length ys
-      → pointwise eq (map t (drop i xs)) (drop i ys) ≡ (eq (t (get_or xs i d)) (get_or ys i d) && pointwise eq (map t (drop (suc i) xs)) (drop (suc i) ys))
-  item-step t d [] ys i in_xs in_ys = absurd (omega (arith, in_xs))
-  item-step t d (x ∷ xs) [] i in_xs in_ys = absurd (omega (arith, in_ys))
-  item-step t d (x ∷ xs) (y ∷ ys) zero in_xs in_ys = refl
-  item-step t d (x ∷ xs) (y ∷ ys) (suc i) in_xs in_ys = item-step t d xs ys i (omega (arith, in_xs)) (omega (arith, in_ys))

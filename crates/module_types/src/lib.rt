@@ -10,6 +10,7 @@ mod interning;
 mod iterators;
 mod laws;
 mod list;
+mod mapped;
 mod met;
 mod noted;
 mod passed;

@@ -9,7 +9,8 @@ ghost use Rattle.module_types.specs.TypeParts.{part_at};
 ghost use Rattle.module_types.specs.Met.{digest_of, newest_of, met_at, IsLinked, IsNoted};
 
 use crate::list::ModuleTypes;
-use crate::passed::{feed, is_mapped};
+use crate::mapped::is_mapped;
+use crate::passed::feed;
 use entity_map::{OutOfMemory, Seeded};
 use std::alloc::Global;
 use std::collections::HashMap;

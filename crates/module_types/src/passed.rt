@@ -1,15 +1,12 @@
-//! What a trampoline passes for the types of a function, fed to a hasher and compared, without a list of it.
+//! What a trampoline passes for the types of a function, fed to a hasher without a list of it.
 
-ghost use Rattle.std.specs.Prelude.{◌≡◌, ◌<◌, ◌^◌, ℕ, List, ◌∷◌, map};
+ghost use Rattle.std.specs.Prelude.{◌≡◌, ◌<◌, ◌^◌, ℕ, List, ◌∷◌};
 ghost use Rattle.std.specs.List.{fold};
-ghost use Rattle.std.specs.Cmp.Lexicographic.{pointwise};
 ghost use Rattle.std.specs.Hash.FoldHasher as folding;
-ghost use Rattle.wasm_types.specs.declared.value.WasmValType.{WasmValType};
-ghost use Rattle.wasm_types.specs.Trampolines.{trampoline_val, trampoline_of};
 ghost use Rattle.module_types.specs.Passed.{code_of, words_of, fed_with};
 
 use std::hash::{FoldHasher, Hasher};
-use wasm_types::{WasmFuncType, WasmHeapTopType, WasmRefType, WasmValType};
+use wasm_types::{WasmHeapTopType, WasmValType};
 
 // The code of what a trampoline passes for a value type, below 16.
 fn code(ty: &WasmValType) -> u64
@@ -56,39 +53,4 @@ pub(crate) fn feed(hasher: &mut FoldHasher, types: &[WasmValType])
         word = feed_code(hasher, word, code(ty));
     }
     hasher.write_u64(word);
-}
-
-// What a trampoline passes for a value type.
-fn passed(ty: &WasmValType) -> WasmValType
-    ensures { result ≡ trampoline_val ty.now }
-{
-    match ty {
-        WasmValType::Ref(ty) => WasmValType::Ref(WasmRefType {
-            nullable: true,
-            heap_type: ty.heap_type.top().into(),
-        }),
-        _ => *ty,
-    }
-}
-
-// Whether a trampoline passes each of the others for the types.
-fn are_passed(types: &[WasmValType], others: &[WasmValType]) -> bool
-    ensures { result ≡ pointwise ⟦<WasmValType as PartialEq>⟧.eq (map trampoline_val types.now) others.now }
-{
-    if types.len() != others.len() {
-        return false;
-    }
-    for i in 0..types.len() {
-        if passed(&types[i]) != others[i] {
-            return false;
-        }
-    }
-    true
-}
-
-/// Whether another type is the mapped type of a function type.
-pub(crate) fn is_mapped(func: &WasmFuncType, other: &WasmFuncType) -> bool
-    ensures { result ≡ ⟦<WasmFuncType as PartialEq>⟧.eq (trampoline_of func.now) other.now }
-{
-    are_passed(func.params(), other.params()) && are_passed(func.results(), other.results())
 }
