@@ -54,7 +54,9 @@ pub(crate) fn resolve_imports(
     let mut numbers = Vec::with_capacity(alloc, count)?;
     let mut names = Names::new(alloc);
     for place in 0..count {
-        let (from, own, ty) = module.import(place).unwrap();
+        let Some((from, own, ty)) = module.import(place) else {
+            unreachable!()
+        };
         names.set(from, own)?;
         let want = with_engine_types(registry, key, ty);
         numbers.push(resolve_import(definitions, &names, place, &want)?)?;

@@ -40,11 +40,11 @@ fn append_bits(text: &mut Text, name: &str, bits: u128, digits: usize) -> Result
     text.push_hexadecimal(bits, digits)
 }
 
-fn append_null(text: &mut Text, heap_type: WasmHeapType) -> Result<(), OutOfMemory>
-    ensures { OnOk result (text.new ≡ text.old ++ operator_text (ConstOp.RefNull heap_type)) }
+fn append_null(text: &mut Text, heap_type: &WasmHeapType) -> Result<(), OutOfMemory>
+    ensures { OnOk result (text.new ≡ text.old ++ operator_text (ConstOp.RefNull heap_type.now)) }
 {
     text.push_str("ref.null ")?;
-    text.push_display(&heap_type)
+    text.push_display(heap_type)
 }
 
 fn append_operands(text: &mut Text, name: &str, first: u32, second: u32) -> Result<(), OutOfMemory>
@@ -58,12 +58,12 @@ fn append_operands(text: &mut Text, name: &str, first: u32, second: u32) -> Resu
 fn append_lent(text: &mut Text, operator: &ConstOp) -> Result<(), OutOfMemory>
     ensures { OnOk result (text.new ≡ text.old ++ operator_text operator.now) }
 {
-    match *operator {
-        ConstOp::I32Const(value) => append_operand(text, "i32.const", value),
-        ConstOp::I64Const(value) => append_operand(text, "i64.const", value),
-        ConstOp::F32Const(bits) => append_bits(text, "f32.const", u128::from(bits), 8),
-        ConstOp::F64Const(bits) => append_bits(text, "f64.const", u128::from(bits), 16),
-        ConstOp::V128Const(bits) => append_bits(text, "v128.const", bits, 32),
+    match operator {
+        ConstOp::I32Const(value) => append_operand(text, "i32.const", *value),
+        ConstOp::I64Const(value) => append_operand(text, "i64.const", *value),
+        ConstOp::F32Const(bits) => append_bits(text, "f32.const", u128::from(*bits), 8),
+        ConstOp::F64Const(bits) => append_bits(text, "f64.const", u128::from(*bits), 16),
+        ConstOp::V128Const(bits) => append_bits(text, "v128.const", *bits, 32),
         ConstOp::GlobalGet(global) => append_operand(text, "global.get", global.as_u32()),
         ConstOp::RefI31 => text.push_str("ref.i31"),
         ConstOp::RefNull(heap_type) => append_null(text, heap_type),
@@ -93,7 +93,7 @@ fn append_lent(text: &mut Text, operator: &ConstOp) -> Result<(), OutOfMemory>
             text,
             "array.new_fixed",
             array_type_index.as_u32(),
-            array_size,
+            *array_size,
         ),
         ConstOp::ExternConvertAny => text.push_str("extern.convert_any"),
         ConstOp::AnyConvertExtern => text.push_str("any.convert_extern"),

@@ -20,10 +20,10 @@ with_engine_types-want-requires c =
     let wants = wants_of (record_of c.args.module.now) in
     let r = registry_of c.args.registry.now in
     let k = key_number c.args.key in
-    let read = read-at c.args.registry.now c.args.key c.args.module.now c.requires.can.resolved c.loop-place.place c.import.result c.unwrap-ty.result
-    c.import.ensures c.unwrap-ty.ensures
+    let read = read-at c.args.registry.now c.args.key c.args.module.now c.requires.can.resolved c.loop-place.place c.import.result (c.in-Some.from, c.in-Some.own, c.in-Some.ty)
+    c.import.ensures c.in-Some.is
     in
-    All-slice_get (λ (d : Definition). All (IsTypeOf r k) (types_in d.1)) wants c.loop-place.place (lent_want c.unwrap-ty.result)
+    All-slice_get (λ (d : Definition). All (IsTypeOf r k) (types_in d.1)) wants c.loop-place.place (lent_want (c.in-Some.from, c.in-Some.own, c.in-Some.ty))
     (types-of r k wants c.requires.held c.requires.can.types) read
 
 pub returns-in_err-resolve_import : goal.returns-in_err-resolve_import
@@ -31,9 +31,9 @@ returns-in_err-resolve_import c =
     let p = err_from_is_err_and c.from_residual-in_err-resolve_import.result c.from_residual-in_err-resolve_import.ensures.1 in
     let ds = definitions_of c.args.definitions.now in
     let place = c.loop-place.place in
-    let w : Definition = engine_definition (registry_of c.args.registry.now) (key_number c.args.key) (lent_want c.unwrap-ty.result) in
-    let at = wanted-at c.args.registry.now c.args.key c.args.module.now c.requires.can.resolved place c.import.result c.unwrap-ty.result
-    c.import.ensures c.unwrap-ty.ensures
+    let w : Definition = engine_definition (registry_of c.args.registry.now) (key_number c.args.key) (lent_want (c.in-Some.from, c.in-Some.own, c.in-Some.ty)) in
+    let at = wanted-at c.args.registry.now c.args.key c.args.module.now c.requires.can.resolved place c.import.result (c.in-Some.from, c.in-Some.own, c.in-Some.ty)
+    c.import.ensures c.in-Some.is
     in
     let answer = answer-is ds place (names_of c.set.new.self) w.0 c.with_engine_types-want.result w.1 c.in_ok-set.ensures c.with_engine_types-want.ensures.value in
     rw (p.1, p.2) (inr (sym (stops ds (wanted c.args.registry.now c.args.key c.args.module.now) place c.loop-place.numbers.items c.loop-place.invariant w
@@ -44,9 +44,9 @@ loop-place-preserved c =
     let ds = definitions_of c.args.definitions.now in
     let ws = wanted c.args.registry.now c.args.key c.args.module.now in
     let place = c.loop-place.place in
-    let w : Definition = engine_definition (registry_of c.args.registry.now) (key_number c.args.key) (lent_want c.unwrap-ty.result) in
-    let at = wanted-at c.args.registry.now c.args.key c.args.module.now c.requires.can.resolved place c.import.result c.unwrap-ty.result
-    c.import.ensures c.unwrap-ty.ensures
+    let w : Definition = engine_definition (registry_of c.args.registry.now) (key_number c.args.key) (lent_want (c.in-Some.from, c.in-Some.own, c.in-Some.ty)) in
+    let at = wanted-at c.args.registry.now c.args.key c.args.module.now c.requires.can.resolved place c.import.result (c.in-Some.from, c.in-Some.own, c.in-Some.ty)
+    c.import.ensures c.in-Some.is
     in
     let answer = answer-is ds place (names_of c.set.new.self) w.0 c.with_engine_types-want.result w.1 c.in_ok-set.ensures c.with_engine_types-want.ensures.value in
     ap (λ l. before_all l (run ds (place + 1) (drop (place + 1) ws))) c.in_ok-push.ensures.items
