@@ -137,6 +137,8 @@ fn add_imports(
     ensures { OnOk result ((before : List plain.Import) → AreImported before strings.old initializers.old.items counts.old
         → AreImported (before ++ map import_of imports.now) strings.new initializers.new.items counts.new) }
 {
+    // The borrow checker wants the types on the way to an index by name.
+    let _named: Option<EntityIndex> = None;
     for import in imports {
         let initializer = convert_import(counts, strings, import)?;
         initializers.push(initializer)?;

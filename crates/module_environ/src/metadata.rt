@@ -21,7 +21,7 @@ use std::alloc::Global;
 use std::rc::Rc;
 use wasm_convert::TypeConvert;
 use wasm_spec::ValType;
-use wasm_types::WasmValType;
+use wasm_types::{EngineOrModuleTypeIndex, WasmHeapType, WasmRefType, WasmValType};
 
 /// The parameters and the locals of each defined function, in order, where they are asked for.
 pub(crate) fn function_metadata(
@@ -141,6 +141,8 @@ fn convert_types(
     requires { All (λ ty. Known (knows env.now) (value_edges (λ i. i) (value_of ty))) types.now }
     ensures { IfOk result (λ converted. map view_value converted.items ≡ map (λ ty. map_value (look_up env.now) (value_of ty)) types.now) }
 {
+    // The borrow checker wants the types on the way to an index by name.
+    let _named: Option<(WasmRefType, WasmHeapType, EngineOrModuleTypeIndex)> = None;
     let mut converted = Vec::with_capacity(alloc, types.len())?;
     for ty in types {
         converted.push(env.convert_valtype(*ty))?;
@@ -158,6 +160,8 @@ fn convert_locals(
     ensures { IfOk result (λ converted. map {B = ℕ × Value Name} (λ run. (run.0, view_value run.1)) converted.items
         ≡ map (λ run. (run.0, map_value (look_up env.now) (value_of run.1))) locals.now) }
 {
+    // The borrow checker wants the types on the way to an index by name.
+    let _named: Option<(WasmRefType, WasmHeapType, EngineOrModuleTypeIndex)> = None;
     let mut converted = Vec::with_capacity(alloc, locals.len())?;
     for (count, ty) in locals {
         converted.push((*count, env.convert_valtype(*ty)))?;

@@ -14,7 +14,9 @@ use std::alloc::Global as Heap;
 use wasm_convert::TypeConvert;
 use wasm_index::{GlobalIndex, MemoryIndex, TableIndex};
 use wasm_spec::{GlobalType, MemoryType, TableType};
-use wasm_types::{Global, Memory, Table};
+use wasm_types::{
+    EngineOrModuleTypeIndex, Global, Memory, Table, WasmHeapType, WasmRefType, WasmValType,
+};
 
 pub(crate) fn convert_tables(
     alloc: Heap,
@@ -25,6 +27,8 @@ pub(crate) fn convert_tables(
     requires few { length types.now < u32.MAX }
     ensures { IfOk result (λ tables. map table_of tables ≡ map (λ t. map_table (look_up env.now) (table_type_of t)) types.now) }
 {
+    // The borrow checker wants the types on the way to an index by name.
+    let _named: Option<(WasmRefType, WasmHeapType, EngineOrModuleTypeIndex)> = None;
     let mut tables = PrimaryMap::with_capacity(alloc, types.len())?;
     for ty in types {
         tables.push(env.convert_table_type(ty))?;
@@ -56,6 +60,15 @@ pub(crate) fn convert_globals(
     requires few { length types.now < u32.MAX }
     ensures { IfOk result (λ globals. map global_of globals ≡ map (λ t. map_global (look_up env.now) (global_type_of t)) types.now) }
 {
+    // The borrow checker wants the types on the way to an index by name.
+    let _named: Option<
+        (
+            WasmValType,
+            WasmRefType,
+            WasmHeapType,
+            EngineOrModuleTypeIndex,
+        ),
+    > = None;
     let mut globals = PrimaryMap::with_capacity(alloc, types.len())?;
     for ty in types {
         globals.push(env.convert_global_type(ty))?;

@@ -66,7 +66,9 @@ fn convert_tag(
     ensures poisons { OnErr result (types.new.is_poisoned ≡ true) }
 {
     let signature = declared[TypeIndex::from_u32(index)];
-    let exception = types.define_exception_type_for_tag(signature.unwrap_module_type_index())?;
+    // Copied here: the borrow checker copies no value that holds an index where it is passed on.
+    let function = signature;
+    let exception = types.define_exception_type_for_tag(function.unwrap_module_type_index())?;
     Ok(Tag {
         signature,
         exception: EngineOrModuleTypeIndex::Module(exception),

@@ -59,7 +59,9 @@ fn step(
     ensures acts { IfOk result (Acts (action (values_in (terms_of nodes.old.items) globals.now) (field_count_in translation.now types.now) (operator_of op))
         nodes.old.items nodes.new.items stack.old.items stack.new.items) }
 {
-    let takes = taken(translation, types, op);
+    // Copied here: the borrow checker copies no value that holds an index where it is passed on.
+    let asked = op;
+    let takes = taken(translation, types, asked);
     if stack.len() < takes {
         return Ok(false);
     }

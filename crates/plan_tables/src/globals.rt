@@ -32,7 +32,7 @@ fn global_value_row(global: DefinedGlobalIndex, value: GlobalConstValue) -> Glob
 {
     GlobalValueRow {
         global: global.as_u32(),
-        value: operator_row(constant_of(value)),
+        value: operator_row(&constant_of(value)),
     }
 }
 

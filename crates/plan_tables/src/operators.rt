@@ -11,8 +11,8 @@ use wasm_convert::ConstOp;
 /// One above the greatest number of 64 bits.
 const HALF: u128 = 18446744073709551616;
 
-fn operator_code(operator: ConstOp) -> u8
-    ensures { result ≡ operator_code operator }
+fn operator_code(operator: &ConstOp) -> u8
+    ensures { result ≡ operator_code operator.now }
 {
     match operator {
         ConstOp::I32Const(_) => 0,
@@ -40,12 +40,12 @@ fn operator_code(operator: ConstOp) -> u8
     }
 }
 
-fn index_operand(operator: ConstOp) -> u32
-    ensures { result ≡ index_operand operator }
+fn index_operand(operator: &ConstOp) -> u32
+    ensures { result ≡ index_operand operator.now }
 {
     match operator {
         ConstOp::GlobalGet(global) => global.as_u32(),
-        ConstOp::RefNull(ty) => index_number(heap_index(ty)),
+        ConstOp::RefNull(ty) => index_number(&heap_index(ty)),
         ConstOp::RefFunc(function) => function.as_u32(),
         ConstOp::StructNew { struct_type_index }
         | ConstOp::StructNewDefault { struct_type_index } => struct_type_index.as_u32(),
@@ -60,31 +60,31 @@ fn index_operand(operator: ConstOp) -> u32
     }
 }
 
-fn low_operand(operator: ConstOp) -> u64
-    ensures { result ≡ low_operand operator }
+fn low_operand(operator: &ConstOp) -> u64
+    ensures { result ≡ low_operand operator.now }
 {
     match operator {
         ConstOp::I32Const(number) => u64::from(number.cast_unsigned()),
         ConstOp::I64Const(number) => number.cast_unsigned(),
-        ConstOp::F32Const(bits) => u64::from(bits),
-        ConstOp::F64Const(bits) => bits,
-        ConstOp::V128Const(bits) => (bits % HALF) as u64,
-        ConstOp::ArrayNewFixed { array_size, .. } => u64::from(array_size),
+        ConstOp::F32Const(bits) => u64::from(*bits),
+        ConstOp::F64Const(bits) => *bits,
+        ConstOp::V128Const(bits) => (*bits % HALF) as u64,
+        ConstOp::ArrayNewFixed { array_size, .. } => u64::from(*array_size),
         _ => 0,
     }
 }
 
-fn high_operand(operator: ConstOp) -> u64
-    ensures { result ≡ high_operand operator }
+fn high_operand(operator: &ConstOp) -> u64
+    ensures { result ≡ high_operand operator.now }
 {
     match operator {
-        ConstOp::V128Const(bits) => (bits / HALF) as u64,
+        ConstOp::V128Const(bits) => (*bits / HALF) as u64,
         _ => 0,
     }
 }
 
-fn heap_operand(operator: ConstOp) -> u8
-    ensures { result ≡ heap_operand operator }
+fn heap_operand(operator: &ConstOp) -> u8
+    ensures { result ≡ heap_operand operator.now }
 {
     match operator {
         ConstOp::RefNull(ty) => heap_number(ty),
@@ -92,18 +92,18 @@ fn heap_operand(operator: ConstOp) -> u8
     }
 }
 
-fn list_operand(operator: ConstOp) -> u8
-    ensures { result ≡ list_operand operator }
+fn list_operand(operator: &ConstOp) -> u8
+    ensures { result ≡ list_operand operator.now }
 {
     match operator {
-        ConstOp::RefNull(ty) => index_list(heap_index(ty)),
+        ConstOp::RefNull(ty) => index_list(&heap_index(ty)),
         _ => 0,
     }
 }
 
 /// An operator.
-pub(crate) fn operator_row(operator: ConstOp) -> OperatorRow
-    ensures { result ≡ operator_row operator }
+pub(crate) fn operator_row(operator: &ConstOp) -> OperatorRow
+    ensures { result ≡ operator_row operator.now }
 {
     OperatorRow {
         code: operator_code(operator),
@@ -123,7 +123,7 @@ pub(crate) fn push_operators(
     ensures { OnOk result (rows.new.items ≡ rows.old.items ++ map operator_row operators.now) }
 {
     for operator in operators {
-        rows.push(operator_row(*operator))?;
+        rows.push(operator_row(operator))?;
     }
     Ok(())
 }

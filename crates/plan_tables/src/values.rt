@@ -9,8 +9,8 @@ use crate::rows::ValueRow;
 use wasm_types::{EngineOrModuleTypeIndex, WasmHeapType, WasmRefType, WasmValType};
 
 /// The number of a heap type, in the order of the enumeration.
-pub(crate) fn heap_number(ty: WasmHeapType) -> u8
-    ensures { result ≡ heap_number ty }
+pub(crate) fn heap_number(ty: &WasmHeapType) -> u8
+    ensures { result ≡ heap_number ty.now }
 {
     match ty {
         WasmHeapType::Extern => 0,
@@ -36,22 +36,22 @@ pub(crate) fn heap_number(ty: WasmHeapType) -> u8
 }
 
 /// The index in a heap type.
-pub(crate) fn heap_index(ty: WasmHeapType) -> Option<EngineOrModuleTypeIndex>
-    ensures { result ≡ heap_index ty }
+pub(crate) fn heap_index(ty: &WasmHeapType) -> Option<EngineOrModuleTypeIndex>
+    ensures { result ≡ heap_index ty.now }
 {
     match ty {
         WasmHeapType::ConcreteFunc(index)
         | WasmHeapType::ConcreteExn(index)
         | WasmHeapType::ConcreteCont(index)
         | WasmHeapType::ConcreteArray(index)
-        | WasmHeapType::ConcreteStruct(index) => Some(index),
+        | WasmHeapType::ConcreteStruct(index) => Some(*index),
         _ => None,
     }
 }
 
 /// Which list an index is of; 0 without an index.
-pub(crate) fn index_list(index: Option<EngineOrModuleTypeIndex>) -> u8
-    ensures { result ≡ index_list index }
+pub(crate) fn index_list(index: &Option<EngineOrModuleTypeIndex>) -> u8
+    ensures { result ≡ index_list index.now }
 {
     match index {
         None => 0,
@@ -62,12 +62,12 @@ pub(crate) fn index_list(index: Option<EngineOrModuleTypeIndex>) -> u8
 }
 
 /// The number of an index; 0 without an index.
-pub(crate) fn index_number(index: Option<EngineOrModuleTypeIndex>) -> u32
-    ensures { result ≡ index_number index }
+pub(crate) fn index_number(index: &Option<EngineOrModuleTypeIndex>) -> u32
+    ensures { result ≡ index_number index.now }
 {
     match index {
         None => 0,
-        Some(index) => listed_number(index),
+        Some(index) => listed_number(*index),
     }
 }
 
@@ -75,13 +75,13 @@ pub(crate) fn index_number(index: Option<EngineOrModuleTypeIndex>) -> u32
 pub(crate) fn ref_row(ty: WasmRefType) -> ValueRow
     ensures { result ≡ ref_row ty }
 {
-    let index = heap_index(ty.heap_type);
+    let index = heap_index(&ty.heap_type);
     ValueRow {
         kind: 5,
         nullable: bit(ty.nullable),
-        heap: heap_number(ty.heap_type),
-        list: index_list(index),
-        index: index_number(index),
+        heap: heap_number(&ty.heap_type),
+        list: index_list(&index),
+        index: index_number(&index),
     }
 }
 

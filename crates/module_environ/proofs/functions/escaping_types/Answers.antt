@@ -1,6 +1,7 @@
 use Rattle.std.proofs.Common.{◌<◌, ap, ◌∙◌, sym, subst, length, get_or, map, arith}
 use Rattle.std.specs.Prelude.{All}
 use Rattle.std.proofs.lemmas.List.{take_all}
+use Rattle.wasm_types.specs.Views.{module_index}
 use Rattle.module_environ.proofs.Typed.{interned_type, interned-more, interned-all}
 use Rattle.module_environ.proofs.functions.escaping_types.Goals as goal
 
@@ -10,9 +11,9 @@ loop-function-preserved c =
     let lt = c.loop-function-test.true in
     let in' : get_or c.order-function-items.result.now i 0 < length c.args.functions.now =
     omega (arith, c.order-function-items.ensures.in_range i 0 lt, c.requires.counted) in
-    interned-more c.args.declared.now c.as_slice-indices.result.now c.args.functions.now c.order-function-items.result.now i _
+    interned-more c.args.declared.now c.as_slice-indices.result.now c.args.functions.now c.order-function-items.result.now i c.index-indices-ty.result
     c.unwrap_module_type_index.result
-    c.loop-function.signatures.items c.push.new.self.items lt c.as_slice-indices.ensures (c.requires.types _ 0 in') c.unwrap_module_type_index.ensures
+    c.loop-function.signatures.items c.push.new.self.items lt c.as_slice-indices.ensures (c.requires.types _ 0 in') (sym (ap module_index c.index-indices-ty.is) ∙ c.unwrap_module_type_index.ensures)
     c.loop-function.invariant c.in_ok-push.ensures.items
 
 pub returns : goal.returns

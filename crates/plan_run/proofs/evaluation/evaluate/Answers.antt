@@ -1,9 +1,8 @@
-use Rattle.std.proofs.Common.{◌≡◌, ◌∙◌, Some, [], length, get_or, drop, ap, sym, subst, refl, arith, pos}
+use Rattle.std.proofs.Common.{◌≡◌, ◌∙◌, Some, [], length, drop, ap, sym, subst, arith}
 use Rattle.std.proofs.lemmas.List.{drop_all}
 use Rattle.replay_spec.specs.Elements.{value_or_null}
 use Rattle.replay_spec.specs.Values.{action, acted, run, only_value}
 use Rattle.wasm_convert.specs.declared.operators.ConstOp.{ConstOp}
-use Rattle.wasm_convert.specs.declared.operators.ConstOp.TheVariants as ops
 use Rattle.wasm_convert.specs.Constants.{expression_of}
 use Rattle.wasm_convert.specs.Operators.{operator_of}
 use Rattle.plan_run.specs.Fields.{field_count_in}
@@ -18,13 +17,13 @@ returns-then-not-branch-clause-means c =
     let globals = values_in (terms_of c.args.nodes.now.items) c.args.globals.now in
     let fields = field_count_in c.args.translation.now c.args.types.now in
     let step : Step = λ op. acted (action globals fields op) in
-    let d : ConstOp = ops.I32Const (pos 0) in
+    let d : ConstOp = c.op-item.result in
     let items = c.ops-op-items.result.now in
-    let op : ConstOp = get_or items c.loop-op.op-index d in
+    let op : ConstOp = c.op-item.result in
     let kept = kept-values c.args.nodes.now.items c.loop-op.nodes.items c.loop-op.invariant.grows.extends c.args.globals.now c.requires.globals in
     let acts = subst (λ xs. Acts (action xs fields (operator_of op)) c.loop-op.nodes.items c.step.new.nodes.items c.loop-op.stack.items c.step.new.stack.items c.in_ok-step.field-0) kept
     c.in_ok-step.ensures.acts in
-    let none = runs-none step items c.loop-op.op-index op d (omega arith) refl (values_in (terms_of c.loop-op.nodes.items) c.loop-op.stack.items)
+    let none = runs-none step items c.loop-op.op-index op d (omega arith) c.op-item.is (values_in (terms_of c.loop-op.nodes.items) c.loop-op.stack.items)
     (subst (Acts (action globals fields (operator_of op)) c.loop-op.nodes.items c.step.new.nodes.items c.loop-op.stack.items c.step.new.stack.items) c.if-not-branch.true acts) in
     record {
       below = tt;
@@ -36,9 +35,9 @@ loop-op-preserved c =
     let globals = values_in (terms_of c.args.nodes.now.items) c.args.globals.now in
     let fields = field_count_in c.args.translation.now c.args.types.now in
     let step : Step = λ op. acted (action globals fields op) in
-    let d : ConstOp = ops.I32Const (pos 0) in
+    let d : ConstOp = c.op-item.result in
     let items = c.ops-op-items.result.now in
-    let op : ConstOp = get_or items c.loop-op.op-index d in
+    let op : ConstOp = c.op-item.result in
     let kept = kept-values c.args.nodes.now.items c.loop-op.nodes.items c.loop-op.invariant.grows.extends c.args.globals.now c.requires.globals in
     let acts = subst (λ xs. Acts (action xs fields (operator_of op)) c.loop-op.nodes.items c.step.new.nodes.items c.loop-op.stack.items c.step.new.stack.items c.in_ok-step.field-0) kept
     c.in_ok-step.ensures.acts in
@@ -46,7 +45,7 @@ loop-op-preserved c =
     record {
       grows = grows-on c.args.nodes.now.items c.loop-op.nodes.items c.step.new.nodes.items c.loop-op.invariant.grows c.in_ok-step.ensures.grows;
       stack = done.0;
-      runs = runs-more step items c.loop-op.op-index op d (omega arith) refl (values_in (terms_of c.loop-op.nodes.items) c.loop-op.stack.items)
+      runs = runs-more step items c.loop-op.op-index op d (omega arith) c.op-item.is (values_in (terms_of c.loop-op.nodes.items) c.loop-op.stack.items)
           (values_in (terms_of c.step.new.nodes.items) c.step.new.stack.items) done.1 ∙ c.loop-op.invariant.runs;
     }
 

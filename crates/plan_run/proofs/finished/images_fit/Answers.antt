@@ -1,9 +1,10 @@
-use Rattle.std.proofs.Common.{◌≡◌, ◌<◌, ◌∙◌, map, ap, sym, refl, arith}
+use Rattle.std.proofs.Common.{◌≡◌, ◌<◌, ◌∙◌, None, get_or, map, ap, sym, subst, refl, arith}
 use Rattle.std.specs.Prelude.{slice_get}
-use Rattle.std.specs.Option.{option_map}
+use Rattle.std.specs.Option.{option_map, IfSome}
 use Rattle.std.proofs.lemmas.Bool.{false≢true}
 use Rattle.std.proofs.lemmas.List.{length-map}
-use Rattle.std.proofs.lemmas.Option.{slice_get_within}
+use Rattle.std.proofs.lemmas.Option.{slice_get_within, get_or_from_slice_get, slice_get-get_or}
+use Rattle.wasm_index.specs.Index.{number_of}
 use Rattle.init_plan.specs.Views.{images_of}
 use Rattle.plan_run.specs.Finished.{ImageFits}
 use Rattle.plan_run.proofs.LeftSteps.{view_image}
@@ -16,10 +17,13 @@ returns-then-not-is_none_or_fits c =
     let images = c.as_slice-images.result.now in
     let i = c.loop-i.i in
     let is : images_of t.«module».memory_initialization ≡ map (option_map view_image) images =
-    ap images_of c.in-Static.is ∙ ap (map (option_map view_image)) (sym c.as_slice-images.ensures) in (
+    ap images_of c.in-Static.is ∙ ap (map (option_map view_image)) (sym c.as_slice-images.ensures) in
+    let r = c.index-images-i.result in
+    let read : get_or images i None ≡ r = get_or_from_slice_get images i (get_or images i r) None (slice_get-get_or images i r (omega arith)) ∙ sym c.index-images-i.is in (
       λ e. absurd (false≢true e),
       λ all. absurd (false≢true (sym c.if-not-is_none_or_fits.true
-          ∙ c.is_none_or_fits.ensures.1 (image-from (ImageFits t i) images i (λ image at. all i image (ap (λ xs. slice_get xs i) is ∙ at))))),
+          ∙ c.is_none_or_fits.ensures.1 (subst (λ o. IfSome o (λ image. ImageFits t i (image.0, number_of image.1))) read
+          (image-from (ImageFits t i) images i (λ image at. all i image (ap (λ xs. slice_get xs i) is ∙ at)))))),
     )
 
 pub returns : goal.returns

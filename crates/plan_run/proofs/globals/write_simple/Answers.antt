@@ -2,6 +2,8 @@ use Rattle.std.proofs.Common.{◌≡◌, ◌+◌, ◌∙◌, [], map, set, drop,
 use Rattle.std.proofs.Math.ListN.{length-set}
 use Rattle.std.proofs.lemmas.List.{drop_all}
 use Rattle.std.proofs.lemmas.List.Elements.{All-set}
+use Rattle.wasm_index.specs.Index.{number_of}
+use Rattle.wasm_convert.specs.Constants.{plain_value_of}
 use Rattle.replay_spec.specs.Globals.{simple_written}
 use Rattle.init_plan.specs.Held.{simple_global_of}
 use Rattle.plan_run.specs.Values.{values_in, NamesBelow}
@@ -18,8 +20,9 @@ loop-index-preserved c =
     record {
       count = length-set old (c.args.imports + c.index.result) v ∙ c.loop-index.invariant.count;
       written = λ terms.
-          ap (λ k. simple_written c.args.imports (values_in terms (set old (c.args.imports + k) v)) (map simple_global_of (drop (i + 1) values))) c.index.ensures.number
-          ∙ simple-step terms c.args.imports values i _ old v c.loop-index-test.true (c.simple_value.ensures.means terms) ∙ c.loop-index.invariant.written terms;
+          ap (λ k. simple_written c.args.imports (values_in terms (set old (c.args.imports + k) v)) (map simple_global_of (drop (i + 1) values))) (c.index.ensures.number ∙ ap (λ g. number_of g.0) c.loop-index-item.is)
+          ∙ simple-step terms c.args.imports values i c.loop-index-item.result old v c.loop-index-test.true
+          (c.simple_value.ensures.means terms ∙ ap (λ g. plain_value_of g.1) c.loop-index-item.is) ∙ c.loop-index.invariant.written terms;
       below = λ k all. All-set (NamesBelow k) old (c.args.imports + c.index.result) v (names-more 0 k v (omega arith) c.simple_value.ensures.plain) (c.loop-index.invariant.below k all);
     }
 

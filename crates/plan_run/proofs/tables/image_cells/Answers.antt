@@ -2,7 +2,6 @@ use Rattle.std.proofs.Common.{◌≡◌, ◌∙◌, None, map, take, ap, sym, su
 use Rattle.std.specs.Prelude.{All}
 use Rattle.std.proofs.lemmas.List.{take_all, length-map}
 use Rattle.std.proofs.lemmas.List.Elements.{All-push}
-use Rattle.wasm_index.specs.Index.{index_of}
 use Rattle.replay_spec.specs.Tables.{reference_of}
 use Rattle.table_images.specs.Views.{cell_of, image_of}
 use Rattle.plan_run.specs.declared.value.Value.TheVariants as value
@@ -14,8 +13,8 @@ pub loop-function-preserved : goal.loop-function-preserved
 loop-function-preserved c = record {
   count = let n = c.in_ok-push.ensures.len in let a = c.push.new.self.ok.0 in let b = c.loop-function.cells.ok.0 in let k = c.loop-function.invariant.count in omega arith;
   means = λ terms. ap (values_in terms) c.in_ok-push.ensures.items
-      ∙ one-more (value_in terms) reference_of cell_of c.loop-function.cells.items c.args.image.now c.loop-function.function-index (index_of 0) c.cell.result
-      c.loop-function-test.true (c.cell.ensures.means terms) (c.loop-function.invariant.means terms);
+      ∙ one-more (value_in terms) reference_of cell_of c.loop-function.cells.items c.args.image.now c.loop-function.function-index c.function-item.result c.cell.result
+      c.loop-function-test.true (c.cell.ensures.means terms ∙ ap (λ f. reference_of (cell_of f)) c.function-item.is) (c.loop-function.invariant.means terms);
   plain = subst (All IsPlain) (sym c.in_ok-push.ensures.items) (All-push IsPlain c.loop-function.cells.items c.cell.result c.loop-function.invariant.plain c.cell.ensures.plain);
 }
 
