@@ -5,7 +5,7 @@ use Rattle.wasm_spec.specs.declared.operators.What.{What}
 use Rattle.wasm_spec.specs.declared.operators.What.TheVariants as what
 use Rattle.wasm_spec.specs.Module.{Payload, Types, Imports, FunctionTypes, Tables, Memories, Tags, Globals, Exports, Start, Elements, DataCount, Segments, Custom}
 use Rattle.wasm_spec.specs.Parts as part
-use Rattle.wasm_spec.specs.Parts.{Part, Joined, StopsLater, FilledStops}
+use Rattle.wasm_spec.specs.Parts.{Part, Joined, StopsLater}
 use Rattle.wasm_spec.specs.EntryGrammar.{name}
 use Rattle.wasm_spec.specs.Grammar as grammar
 use Rattle.wasm_spec.specs.Grammar.{interface_names, order_of}
