@@ -1,9 +1,8 @@
 -- Types looked up by ids.
-use Rattle.std.proofs.Common.{◌≡◌, ◌∙◌, ℕ, zero, suc, ◌+◌, ◌-◌, ◌<◌, ◌≤◌, Bool, true, false, List, [], ◌∷◌, length, get_or, replicate, Some, refl, sym, ap, arith, length-append}
+use Rattle.std.proofs.Common.{◌≡◌, ◌∙◌, ℕ, zero, suc, ◌+◌, ◌-◌, ◌<◌, ◌≤◌, List, [], ◌∷◌, length, get_or, replicate, Some, refl, sym, ap, arith, inl, inr, length-append}
 use Rattle.std.specs.Prelude.{slice_get}
-use Rattle.std.proofs.lemmas.Bool.{ltb-true, ltb-false}
+use Rattle.std.proofs.lemmas.Bool.{cases_lt}
 use Rattle.std.proofs.lemmas.List.{length-replicate, get_or-replicate, get_or_append_left, get_or-append_right}
-use lib.Dec.{ltb}
 use Rattle.wasm_spec.specs.declared.types.UnpackedIndex.{UnpackedIndex}
 use Rattle.wasm_spec.specs.TypeData.{SubType}
 use Rattle.form_types.specs.Ids.{ids_from}
@@ -71,16 +70,13 @@ pub member-found : (n first : ℕ) (gs : List NamedGroup) (id : ℕ) → id < le
     → Found n first gs id k
 member-found n first [] id lt k is = absurd (omega arith)
 member-found n first (g ∷ gs) id lt k is =
-    by (λ lt' is'. member-found (n + 1) (first + length g) gs (id - length g) lt' k is') (ltb id (length g)) refl where
-      by : (id - length g < length (types_by_id gs) → k ≡ get_or (group_numbers (n + 1) gs) (id - length g) k
-          → Found (n + 1) (first + length g) gs (id - length g) k)
-          → (b : Bool) → ltb id (length g) ≡ b → Found n first (g ∷ gs) id k
-      by rest true e = found-here n first g gs id (ltb-true id (length g) e) k is
-      by rest false e =
-          let l = ltb-false id (length g) e in
-          found-later n first g gs id l k
-          (rest (omega (arith, length-append g (types_by_id gs)))
-          (is ∙ get_or-append_right (replicate (length g) n) (group_numbers (n + 1) gs) (length g) id k (length-replicate (length g) n) l))
+    elim (cases_lt id (length g)) [
+      | inl front ↦ found-here n first g gs id front k is
+      | inr ge ↦
+          found-later n first g gs id ge k
+          (member-found (n + 1) (first + length g) gs (id - length g) (omega (arith, lt, ge, length-append g (types_by_id gs))) k
+          (is ∙ get_or-append_right (replicate (length g) n) (group_numbers (n + 1) gs) (length g) id k (length-replicate (length g) n) ge))
+    ]
 
 -- a type, by what is kept of its group's number
 pub member-of : (gs : List NamedGroup) (numbers_kept : List ℕ) → numbers_kept ≡ group_numbers 0 gs → (id : ℕ) → id < length (types_by_id gs)

@@ -1,9 +1,8 @@
 -- Where the groups of a list stand in the joined list.
-use Rattle.std.proofs.Common.{◌≡◌, ◌∙◌, ℕ, ◌+◌, ◌-◌, ◌<◌, ◌≤◌, List, [], ◌∷◌, ◌++◌, length, get_or, Bool, true, false, refl, sym, ap, arith, length-append}
+use Rattle.std.proofs.Common.{◌≡◌, ◌∙◌, ℕ, ◌+◌, ◌-◌, ◌<◌, ◌≤◌, List, [], ◌∷◌, ◌++◌, length, get_or, refl, sym, ap, arith, inl, inr, length-append}
 use Rattle.std.specs.List.{flat_map}
-use Rattle.std.proofs.lemmas.Bool.{ltb-true, ltb-false, lt-ltb, le-ltb}
+use Rattle.std.proofs.lemmas.Bool.{cases_lt, lt-ltb, le-ltb}
 use Rattle.std.proofs.lemmas.List.{get_or_append_left, get_or-append_right}
-use lib.Dec.{ltb}
 use Rattle.wasm_spec.specs.TypeData.{SubType, Group}
 use Rattle.type_spec.specs.Equality.{Home, home_from, home}
 
@@ -39,16 +38,13 @@ pub record Within (g : Home) (start end i : ℕ) : Type 0 where
 
 from-within : (start : ℕ) (gs : List (Group ℕ ℕ)) (i : ℕ) → start ≤ i → i < start + size gs → Within (home_from start gs i) start (start + size gs) i
 from-within start [] i low lt = absurd (omega arith)
-from-within start (g ∷ gs) i low lt = by (from-within (start + length g) gs i) (ltb i (start + length g)) refl where
-  by : (start + length g ≤ i → i < start + length g + size gs → Within (home_from (start + length g) gs i) (start + length g) (start + length g + size gs) i)
-      → (b : Bool) → ltb i (start + length g) ≡ b → Within (home_from start (g ∷ gs) i) start (start + size (g ∷ gs)) i
-  by rest true e =
-      let l = ltb-true i (start + length g) e in
-      rw (in_front start g gs i l) (record { low = omega arith; from = low; to = l; high = omega (arith, size-cons g gs) })
-  by rest false e =
-      let l = ltb-false i (start + length g) e in
-      let w = rest l (omega (arith, size-cons g gs)) in
-      rw (behind start g gs i l) (record { low = omega (arith, w.low); from = w.from; to = w.to; high = omega (arith, size-cons g gs, w.high) })
+from-within start (g ∷ gs) i low lt =
+    elim (cases_lt i (start + length g)) [
+      | inl here ↦ rw (in_front start g gs i here) (record { low = omega arith; from = low; to = here; high = omega (arith, size-cons g gs) })
+      | inr later ↦
+          let w = from-within (start + length g) gs i later (omega (arith, lt, size-cons g gs)) in
+          rw (behind start g gs i later) (record { low = omega (arith, w.low); from = w.from; to = w.to; high = omega (arith, size-cons g gs, w.high) })
+    ]
 
 pub home-within : (gs : List (Group ℕ ℕ)) (i : ℕ) → i < size gs → Within (home gs i) 0 (size gs) i
 home-within gs i lt =
@@ -60,20 +56,19 @@ home-within gs i lt =
 from-again : (start : ℕ) (gs : List (Group ℕ ℕ)) (i j : ℕ) → start ≤ i → i < start + size gs → Holds (home_from start gs i) j
     → home_from start gs j ≡ home_from start gs i
 from-again start [] i j low lt h = refl
-from-again start (g ∷ gs) i j low lt h = by (from-again (start + length g) gs i j) (ltb i (start + length g)) refl where
-  by : (start + length g ≤ i → i < start + length g + size gs → Holds (home_from (start + length g) gs i) j
-      → home_from (start + length g) gs j ≡ home_from (start + length g) gs i)
-      → (b : Bool) → ltb i (start + length g) ≡ b → home_from start (g ∷ gs) j ≡ home_from start (g ∷ gs) i
-  by rest true e =
-      let here = in_front start g gs i (ltb-true i (start + length g) e) in
-      let held = rw here at h in
-      in_front start g gs j held.to ∙ sym here
-  by rest false e =
-      let l = ltb-false i (start + length g) e in
-      let held = rw (behind start g gs i l) at h in
-      let m : i < start + length g + size gs = omega (arith, size-cons g gs) in
-      let w = from-within (start + length g) gs i l m in
-      behind start g gs j (omega (arith, w.low, held.from)) ∙ rest l m held ∙ sym (behind start g gs i l)
+from-again start (g ∷ gs) i j low lt h =
+    elim (cases_lt i (start + length g)) [
+      | inl here ↦
+          let is = in_front start g gs i here in
+          let held = rw is at h in
+          in_front start g gs j held.to ∙ sym is
+      | inr later ↦
+          let is = behind start g gs i later in
+          let held = rw is at h in
+          let m : i < start + length g + size gs = omega (arith, lt, size-cons g gs) in
+          let w = from-within (start + length g) gs i later m in
+          behind start g gs j (omega (arith, w.low, held.from)) ∙ from-again (start + length g) gs i j later m held ∙ sym is
+    ]
 
 pub home-again : (gs : List (Group ℕ ℕ)) (i j : ℕ) → i < size gs → Holds (home gs i) j → home gs j ≡ home gs i
 home-again gs i j lt h = from-again 0 gs i j (omega arith) (omega arith) h
@@ -83,19 +78,14 @@ home-again gs i j lt h = from-again 0 gs i j (omega arith) (omega arith) h
 from-type : (start : ℕ) (gs : List (Group ℕ ℕ)) (i : ℕ) (d : SubType ℕ ℕ) → start ≤ i → i < start + size gs
     → get_or (home_from start gs i).members (i - (home_from start gs i).start) d ≡ get_or (joined gs) (i - start) d
 from-type start [] i d low lt = absurd (omega arith)
-from-type start (g ∷ gs) i d low lt = by (from-type (start + length g) gs i d) (ltb i (start + length g)) refl where
-  by : (start + length g ≤ i → i < start + length g + size gs
-      → get_or (home_from (start + length g) gs i).members (i - (home_from (start + length g) gs i).start) d ≡ get_or (joined gs) (i - (start + length g)) d)
-      → (b : Bool) → ltb i (start + length g) ≡ b
-      → get_or (home_from start (g ∷ gs) i).members (i - (home_from start (g ∷ gs) i).start) d ≡ get_or (joined (g ∷ gs)) (i - start) d
-  by rest true e =
-      let l = ltb-true i (start + length g) e in
-      rw (in_front start g gs i l) (sym (get_or_append_left g (joined gs) d (i - start) (omega arith)))
-  by rest false e =
-      let l = ltb-false i (start + length g) e in
-      let place : i - start - length g ≡ i - (start + length g) = omega arith in
-      rw (behind start g gs i l) (rest l (omega (arith, size-cons g gs))
-      ∙ ap (λ k. get_or (joined gs) k d) (sym place) ∙ sym (get_or-append_right g (joined gs) (length g) (i - start) d refl (omega arith)))
+from-type start (g ∷ gs) i d low lt =
+    elim (cases_lt i (start + length g)) [
+      | inl here ↦ rw (in_front start g gs i here) (sym (get_or_append_left g (joined gs) d (i - start) (omega (arith, low, here))))
+      | inr later ↦
+          let place : i - start - length g ≡ i - (start + length g) = omega arith in
+          rw (behind start g gs i later) (from-type (start + length g) gs i d later (omega (arith, lt, size-cons g gs))
+          ∙ ap (λ k. get_or (joined gs) k d) (sym place) ∙ sym (get_or-append_right g (joined gs) (length g) (i - start) d refl (omega (arith, later))))
+    ]
 
 pub home-type : (gs : List (Group ℕ ℕ)) (i : ℕ) (d : SubType ℕ ℕ) → i < size gs
     → get_or (home gs i).members (i - (home gs i).start) d ≡ get_or (joined gs) i d
@@ -108,15 +98,12 @@ home-type gs i d lt =
 from-before : (start : ℕ) (gs : List (Group ℕ ℕ)) (g : Group ℕ ℕ) (i : ℕ) → start ≤ i → i < start + size gs
     → home_from start (gs ++ g ∷ []) i ≡ home_from start gs i
 from-before start [] g i low lt = absurd (omega arith)
-from-before start (h ∷ gs) g i low lt = by (from-before (start + length h) gs g i) (ltb i (start + length h)) refl where
-  by : (start + length h ≤ i → i < start + length h + size gs → home_from (start + length h) (gs ++ g ∷ []) i ≡ home_from (start + length h) gs i)
-      → (b : Bool) → ltb i (start + length h) ≡ b → home_from start (h ∷ gs ++ g ∷ []) i ≡ home_from start (h ∷ gs) i
-  by rest true e =
-      let l = ltb-true i (start + length h) e in
-      in_front start h (gs ++ g ∷ []) i l ∙ sym (in_front start h gs i l)
-  by rest false e =
-      let l = ltb-false i (start + length h) e in
-      behind start h (gs ++ g ∷ []) i l ∙ rest l (omega (arith, size-cons h gs)) ∙ sym (behind start h gs i l)
+from-before start (h ∷ gs) g i low lt =
+    elim (cases_lt i (start + length h)) [
+      | inl here ↦ in_front start h (gs ++ g ∷ []) i here ∙ sym (in_front start h gs i here)
+      | inr later ↦ behind start h (gs ++ g ∷ []) i later ∙ from-before (start + length h) gs g i later (omega (arith, lt, size-cons h gs))
+          ∙ sym (behind start h gs i later)
+    ]
 
 pub home-before : (gs : List (Group ℕ ℕ)) (g : Group ℕ ℕ) (i : ℕ) → i < size gs → home (gs ++ g ∷ []) i ≡ home gs i
 home-before gs g i lt = from-before 0 gs g i (omega arith) (omega arith)
