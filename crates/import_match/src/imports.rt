@@ -4,11 +4,10 @@ ghost use Rattle.std.specs.Prelude.{◌≡◌, ◌<◌, All, length};
 ghost use Rattle.wasm_module.specs.Record.{record_of};
 ghost use Rattle.import_match.specs.Rules.{HasEngineTypes};
 ghost use Rattle.import_match.specs.Definitions.{Definition, names_of, found};
-ghost use Rattle.import_match.specs.Kept.{definitions_of};
 ghost use Rattle.import_match.specs.Linking.{wanted, CanImport, IsHeld};
 ghost use Rattle.import_match.specs.Resolving.{answer_at, resolved, IsAnswer, IsAnswerAt};
 
-use crate::definitions::{Definitions, find};
+use crate::definitions::Definitions;
 use crate::engine_types::with_engine_types;
 use crate::error::LinkError;
 use crate::names::Names;
@@ -25,11 +24,11 @@ fn answer(
     place: usize,
     want: &EntityType,
 ) -> Result<usize, LinkError>
-    requires definitions { All (λ (d : Definition). HasEngineTypes d.1) (definitions_of definitions.now) }
+    requires definitions { All (λ (d : Definition). HasEngineTypes d.1) definitions.now }
     requires want { HasEngineTypes want.now }
-    ensures { result ≡ answer_at place want.now (found (definitions_of definitions.now) (names_of names.now)) }
+    ensures { result ≡ answer_at place want.now (found definitions.now (names_of names.now)) }
 {
-    let Some((number, have)) = find(definitions, names) else {
+    let Some((number, have)) = definitions.find(names) else {
         return Err(LinkError::Missing(place));
     };
     match match_entity(&have, want) {
@@ -47,11 +46,11 @@ pub(crate) fn resolve_at(
     place: usize,
     names: &mut Names,
 ) -> Result<usize, LinkError>
-    requires definitions { All (λ (d : Definition). HasEngineTypes d.1) (definitions_of definitions.now) }
+    requires definitions { All (λ (d : Definition). HasEngineTypes d.1) definitions.now }
     requires held { IsHeld registry.now key }
     requires can { CanImport registry.now key «module».now }
     requires place { place < length (record_of «module».now).initializers }
-    ensures { IsAnswerAt result (definitions_of definitions.now) (wanted registry.now key «module».now) place }
+    ensures { IsAnswerAt result definitions.now (wanted registry.now key «module».now) place }
 {
     let Some((from, own, ty)) = module.import(place) else {
         unreachable!()
@@ -69,10 +68,10 @@ pub(crate) fn resolve_imports(
     key: ModuleKey,
     module: &Module,
 ) -> Result<Vec<usize>, LinkError>
-    requires definitions { All (λ (d : Definition). HasEngineTypes d.1) (definitions_of definitions.now) }
+    requires definitions { All (λ (d : Definition). HasEngineTypes d.1) definitions.now }
     requires held { IsHeld registry.now key }
     requires can { CanImport registry.now key «module».now }
-    ensures { IsAnswer result (resolved (definitions_of definitions.now) (wanted registry.now key «module».now)) }
+    ensures { IsAnswer result (resolved definitions.now (wanted registry.now key «module».now)) }
 {
     let count = module.initializers.len();
     let mut numbers = Vec::with_capacity(alloc, count)?;

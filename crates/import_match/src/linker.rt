@@ -10,13 +10,11 @@ ghost use Rattle.import_match.specs.Linking.{exported, wanted, CanExport, CanImp
 ghost use Rattle.import_match.specs.Resolving.{resolved, IsAnswer, IsAnswerAt, AreGiven, AreMatched, IsMissing, IsMismatched};
 ghost use Rattle.import_match.specs.Refusals.{ComesExactly, IsOutOfMemory};
 
-use crate::definitions::{Definitions, append, append_all, new_names};
+use crate::definitions::{Definitions, new_names};
 use crate::error::LinkError;
 use crate::exports::planned_exports;
-use crate::hashing::SeededSip;
 use crate::imports::{resolve_at, resolve_imports};
 use crate::names::Names;
-use indexmap::IndexMap;
 use std::alloc::Global;
 use std::marker::Model;
 use type_registry::{ModuleKey, TypeRegistry};
@@ -36,13 +34,12 @@ impl Model for Linker {
     ghost use Rattle.std.specs.Prelude.{List, All};
     ghost use Rattle.import_match.specs.Rules.{HasEngineTypes};
     ghost use Rattle.import_match.specs.Definitions.{Definition, AreOnce};
-    ghost use Rattle.import_match.specs.Kept.{definitions_of};
 
     ghost Value = { List Definition };
 
-    ghost view = { λ l. definitions_of l.definitions };
+    ghost view = { λ l. l.definitions };
 
-    ghost invariant = { λ l. All (λ (d : Definition). HasEngineTypes d.1) (definitions_of l.definitions) × AreOnce (definitions_of l.definitions) };
+    ghost invariant = { λ l. All (λ (d : Definition). HasEngineTypes d.1) l.definitions × AreOnce l.definitions };
 }
 
 impl Linker {
@@ -50,17 +47,9 @@ impl Linker {
     pub fn new(alloc: Global) -> Self
         ensures { result ≡ [] }
     {
-        Linker::with_seed(alloc, 0)
-    }
-
-    /// The same, whose names are hashed from a seed. Where strangers choose names, it is a number that they do not know, as one from the system's source of
-    /// random bytes.
-    pub fn with_seed(alloc: Global, seed: u64) -> Self
-        ensures { result ≡ [] }
-    {
         Linker {
             alloc,
-            definitions: IndexMap::with_hasher(alloc, SeededSip::new(seed)),
+            definitions: Definitions::new(alloc),
         }
     }
 
@@ -86,9 +75,7 @@ impl Linker {
         ensures others { IfErr result (λ e. (e ≡ refused.Duplicate) ⊎ (e ≡ refused.OutOfMemory)) }
     {
         let names = new_names(self.alloc, &self.definitions, module, name)?;
-        let number = self.definitions.len();
-        append(&mut self.definitions, names, ty)?;
-        Ok(number)
+        Ok(self.definitions.append(names, ty)?)
     }
 
     /// Defines each export of a held module under the name `as_module` and its own, in order.
@@ -122,8 +109,7 @@ impl Linker {
             as_module,
             module,
         )?;
-        self.definitions.reserve(planned.len())?;
-        append_all(&mut self.definitions, planned);
+        self.definitions.append_all(planned)?;
         Ok(())
     }
 

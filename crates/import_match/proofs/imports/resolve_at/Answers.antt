@@ -4,7 +4,6 @@ use Rattle.type_registry.specs.Keys.{key_number}
 use Rattle.type_registry.specs.Registry.{registry_of}
 use Rattle.import_match.specs.Rules.{types_in}
 use Rattle.import_match.specs.Definitions.{Definition, names_of}
-use Rattle.import_match.specs.Kept.{definitions_of}
 use Rattle.import_match.specs.Linking.{engine_definition, wants_of, wanted}
 use Rattle.import_match.specs.Held.{IsTypeOf}
 use Rattle.import_match.proofs.Answered.{answer-is, answers-at}
@@ -26,7 +25,7 @@ with_engine_types-want-requires c =
 
 pub returns : goal.returns
 returns c =
-    let ds = definitions_of c.args.definitions.now in
+    let ds = c.args.definitions.now in
     let ws = wanted c.args.registry.now c.args.key c.args.module.now in
     let w : Definition = engine_definition (registry_of c.args.registry.now) (key_number c.args.key) (lent_want (c.in-Some.from, c.in-Some.own, c.in-Some.ty)) in
     let at = wanted-at c.args.registry.now c.args.key c.args.module.now c.requires.can.resolved c.args.place c.import.result (c.in-Some.from, c.in-Some.own, c.in-Some.ty)

@@ -8,7 +8,6 @@ use Rattle.type_registry.specs.Keys.{key_number}
 use Rattle.type_registry.specs.Registry.{registry_of}
 use Rattle.import_match.specs.Rules.{types_in}
 use Rattle.import_match.specs.Definitions.{Definition, names_of}
-use Rattle.import_match.specs.Kept.{definitions_of}
 use Rattle.import_match.specs.Linking.{engine_definition, wants_of, wanted}
 use Rattle.import_match.specs.Held.{IsTypeOf}
 use Rattle.import_match.proofs.Answered.{before_all, run, stops, goes-on, ends}
@@ -23,7 +22,7 @@ same_error x y same = cc
 pub returns-in_err-number : goal.returns-in_err-number
 returns-in_err-number c =
     let p = err_from_is_err_and c.from_residual-in_err-number.result c.from_residual-in_err-number.ensures.1 in
-    let ds = definitions_of c.args.definitions.now in
+    let ds = c.args.definitions.now in
     let ws = wanted c.args.registry.now c.args.key c.args.module.now in
     rw (p.1, p.2) (
     elim c.in_err-number.ensures [
@@ -34,7 +33,7 @@ returns-in_err-number c =
 
 pub loop-place-preserved : goal.loop-place-preserved
 loop-place-preserved c =
-    let ds = definitions_of c.args.definitions.now in
+    let ds = c.args.definitions.now in
     let ws = wanted c.args.registry.now c.args.key c.args.module.now in
     let place = c.loop-place.place in
     elim c.in_ok-number.ensures [
@@ -50,5 +49,5 @@ returns c =
     let size : length ws ≡ length m.initializers =
     length-map (wants_of m) (engine_definition (registry_of c.args.registry.now) (key_number c.args.key)) ∙ wants-length m c.requires.can.resolved
     in
-    inr (sym (ends (definitions_of c.args.definitions.now) ws c.loop-place.place c.loop-place.numbers.items c.loop-place.invariant
+    inr (sym (ends c.args.definitions.now ws c.loop-place.place c.loop-place.numbers.items c.loop-place.invariant
     (omega (arith, size, c.loop-place-test.false, c.len-count.ensures))))
