@@ -1,5 +1,5 @@
 -- Texts in one buffer, and the chains of those whose hashes have one slot.
-use Rattle.std.specs.Prelude.{◌≡◌, ◌≢◌, ℕ, ◌+◌, ◌-◌, ◌*◌, ◌<◌, ◌≤◌, List, length, take, drop, slice_index, slice_index_or, bit_and}
+use Rattle.std.specs.Prelude.{◌≡◌, ◌≢◌, ℕ, ◌+◌, ◌-◌, ◌<◌, ◌≤◌, List, length, take, drop, slice_index, slice_index_or, bit_and}
 use Rattle.std.specs.Str.{IsCharBoundary}
 use Rattle.entity_map.specs.declared.chains.Chains.{Chains}
 use Rattle.entity_map.specs.declared.chains.Place.{Place}
@@ -26,8 +26,8 @@ text_at buffer places i = text_in buffer (slice_index_or places i no_place)
 unfoldable pub slot : ℕ → ℕ → ℕ
 slot slots hash = bit_and hash (slots - 1)
 
-abbrev pub room_of : Chains → ℕ
-room_of chains = length chains.before.items
+abbrev pub slots_of : Chains → ℕ
+slots_of chains = length chains.last.items
 
 -- a link leads to the last number below another whose hash has a slot, or there is none
 pub record IsLink (h : ℕ → ℕ) (slots s below link : ℕ) : Type 0 where
@@ -37,11 +37,11 @@ pub record IsLink (h : ℕ → ℕ) (slots s below link : ℕ) : Type 0 where
 
 -- the numbers below one are chained by their hashes: from each slot to its last, and from each to the one before it
 pub record AreChained (h : ℕ → ℕ) (last before : List ℕ) (below : ℕ) : Type 0 where
-  pub twice : length last ≡ 2 * length before
+  pub as_many : length before ≡ length last
   pub from_slot : (s : ℕ) → s < length last → IsLink h (length last) s below (slice_index last s)
   pub from_number : (i : ℕ) → i < below → IsLink h (length last) (slot (length last) (h i)) i (slice_index before i)
 
 -- all places are chained
 pub record IsTable (places : List Place) (chains : Chains) : Type 0 where
-  pub room : length places ≤ room_of chains
+  pub room : length places ≤ slots_of chains
   pub chained : AreChained (hash_at places) chains.last.items chains.before.items (length places)

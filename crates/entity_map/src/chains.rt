@@ -1,7 +1,7 @@
 //! Places that are found by the hashes of their texts.
 
-ghost use Rattle.std.specs.Prelude.{◌≡◌, ◌≢◌, ◌↔◌, ℕ, ◌+◌, ◌*◌, ◌<◌, ◌≤◌, [], length, All, IsTrue, IfOk, OnOk, IfSome, IfNone};
-ghost use Rattle.entity_map.specs.Chains.{hash_at, room_of, slot, text_at, text_in, AreChained, IsCut, IsTable};
+ghost use Rattle.std.specs.Prelude.{◌≡◌, ◌≢◌, ◌↔◌, ℕ, ◌+◌, ◌<◌, ◌≤◌, [], length, vec_len, All, IsTrue, IfOk, OnOk, IfSome, IfNone};
+ghost use Rattle.entity_map.specs.Chains.{hash_at, slot, slots_of, text_at, text_in, AreChained, IsCut, IsTable};
 
 use crate::memory::OutOfMemory;
 use std::alloc::Global;
@@ -15,7 +15,6 @@ pub struct Place {
 }
 
 /// Places by the slots of their hashes: the last of each slot, and the one before each. A link is a place's number and one, or 0 where there is none.
-/// There are twice as many slots as there is room for places, so that most chains are short.
 #[derive(Drop)]
 pub struct Chains {
     last: Vec<u32>,
@@ -33,35 +32,43 @@ impl Chains {
         }
     }
 
-    /// Makes room for one more place: for twice as many as there are, and a power of two.
+    /// Makes room for one more place: twice as many slots, where each has a place.
     pub(crate) fn make_room(&mut self, alloc: Global, places: &[Place]) -> Result<(), OutOfMemory>
         requires few { length places.now < u32.MAX }
         requires table { IsTable places.now self.old }
-        ensures room { OnOk result (length places.now < room_of self.new) }
+        ensures room { OnOk result (length places.now < slots_of self.new) }
         ensures table { IsTable places.now self.new }
     {
-        if places.len() < self.before.len() {
-            return Ok(());
+        if places.len() >= self.last.len() {
+            *self = Chains::of_places(alloc, places, (2 * places.len()).max(16))?;
         }
-        let room = (2 * places.len()).max(8);
+        Ok(())
+    }
+
+    /// Places among so many slots, a power of two.
+    fn of_places(alloc: Global, places: &[Place], slots: usize) -> Result<Self, OutOfMemory>
+        requires room { length places.now ≤ slots }
+        requires few { length places.now < u32.MAX }
+        ensures slots { IfOk result (λ c. slots_of c ≡ slots) }
+        ensures table { IfOk result (IsTable places.now) }
+    {
         let mut chains = Chains {
-            last: Vec::from_elem(alloc, 0, 2 * room)?,
-            before: Vec::from_elem(alloc, 0, room)?,
+            last: Vec::from_elem(alloc, 0, slots)?,
+            before: Vec::from_elem(alloc, 0, slots)?,
         };
         for number in 0..places.len() {
             chains.add(places[number].hash, number);
         }
-        *self = chains;
-        Ok(())
+        Ok(chains)
     }
 
     /// Adds the place of a number, after those below it.
     pub(crate) fn add(&mut self, hash: u32, number: usize)
-        requires room { number < room_of self.old }
+        requires room { number < slots_of self.old }
         requires few { number < u32.MAX }
-        requires twice { length self.old.last.items ≡ 2 * room_of self.old }
-        ensures room { room_of self.new ≡ room_of self.old }
-        ensures twice { length self.new.last.items ≡ 2 * room_of self.new }
+        requires as_many { vec_len self.old.before ≡ vec_len self.old.last }
+        ensures as_many { vec_len self.new.before ≡ vec_len self.new.last }
+        ensures slots { slots_of self.new ≡ slots_of self.old }
         ensures chained { (h : ℕ → ℕ) → h number ≡ hash → AreChained h self.old.last.items self.old.before.items number
             → AreChained h self.new.last.items self.new.before.items (number + 1) }
     {
