@@ -1,10 +1,10 @@
 -- Maps whose keys are numbers, and the names that they keep.
-use Rattle.std.proofs.Common.{◌≡◌, ℕ, zero, suc, ◌+◌, ◌<◌, ◌≤◌, List, [], ◌∷◌, ◌++◌, map, take, get_or, length, Bool, cond, eqb, Option, Some, nat_eq, refl, sym, ap, ◌∙◌, arith, inl, inr, append_assoc}
+use Rattle.std.proofs.Common.{◌≡◌, ℕ, zero, suc, ◌+◌, ◌<◌, ◌≤◌, List, [], ◌∷◌, ◌++◌, map, take, get_or, length, Bool, cond, eqb, Option, None, Some, nat_eq, refl, sym, ap, subst, ◌∙◌, arith, inl, inr, append_assoc}
 use Rattle.std.specs.Prelude.{nat_lt}
 use Rattle.std.specs.BTreeMap.{BTreeMap, get, is_at}
-use Rattle.std.specs.Map.{lookup}
+use Rattle.std.specs.Map.{lookup, update, update_all}
 use Rattle.std.specs.Option.{option_map}
-use Rattle.std.specs.Ordering.{nat_cmp, is_eq}
+use Rattle.std.specs.Ordering.{nat_cmp, is_eq, eq_by_cmp}
 use Rattle.std.specs.declared.cmp.Ordering.{Ordering}
 use Rattle.std.proofs.lemmas.Bool.{cases_eq, cases_order, eq-eqb, ne_eqb, le-leb, lt-leb, lt-ltb, le-ltb}
 use Rattle.std.proofs.lemmas.List.{append-nil, map_more, reverse-append}
@@ -59,6 +59,29 @@ last-more names old new k v writes has n =
 
 pub none-yet : {K : Type 0} (number : K → ℕ) (kept : BTreeMap K Text) → kept.entries ≡ [] → HasLast [] (at_number number kept)
 none-yet number kept empty n = ap (λ es. option_map (λ (text : Text). text.now) (lookup (λ key. nat_eq n (number key)) es)) empty
+
+-- names that are entered in turn
+module _ {K : Type 0} (number : K → ℕ) (of : ℕ → K) (there : (n : ℕ) → number (of n) ≡ n) (cmp : K → K → Ordering)
+    (by : (a b : K) → cmp a b ≡ nat_cmp (number a) (number b)) where
+  abbrev entered : (K → Option Text) → List (K × Text) → ℕ → Option Text
+  entered f xs n = update_all (eq_by_cmp cmp) f xs (of n)
+
+  last-entered : (xs : List (K × Text)) (f : K → Option Text) (before : List (ℕ × List ℕ)) → HasLast before (λ n. f (of n))
+      → HasLast (before ++ map (λ e. (number e.0, e.1.now)) xs) (entered f xs)
+  last-entered [] f before has = subst (λ (l : List (ℕ × List ℕ)). HasLast l (λ n. f (of n))) (sym (append-nil before)) has
+  last-entered (x ∷ xs) f before has =
+      let one = last-more before (λ n. f (of n)) (entered f (x ∷ [])) (number x.0) x.1
+      (λ n. (λ i. cond ((test-is number of there cmp by x.0 (of n) ∙ ap (eqb (number x.0)) (there n)) i) (Some x.1) (f (of n)))) has
+      in subst (λ (l : List (ℕ × List ℕ)). HasLast l (entered f (x ∷ xs))) (append_assoc before ((number x.0, x.1.now) ∷ []) (map (λ e. (number e.0, e.1.now)) xs))
+      (last-entered xs (λ q. entered-at f x q) (before ++ (number x.0, x.1.now) ∷ []) one)
+    where
+      entered-at : (K → Option Text) → K × Text → K → Option Text
+      entered-at g y q = update (eq_by_cmp cmp) g y.0 (Some y.1) q
+
+  pub last-made : (xs : List (K × Text)) (kept : BTreeMap K Text) (before : List (ℕ × List ℕ)) → HasLast before (λ _. None)
+      → ((q : K) → get cmp kept q ≡ update_all (eq_by_cmp cmp) (λ _. None) xs q) → HasLast (before ++ map (λ e. (number e.0, e.1.now)) xs) (at_number number kept)
+  last-made xs kept before has made n =
+      ap (option_map (λ (text : Text). text.now)) (sym (got number of there cmp by kept n) ∙ made (of n)) ∙ last-entered xs (λ _. None) before has n
 
 -- ---- over names, one after another
 

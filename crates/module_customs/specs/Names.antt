@@ -61,6 +61,10 @@ local_names entries function = flat_map (λ e. if e.0 == function then e.1 else 
 abbrev pub Text : Type 0
 Text = Bor (List ℕ)
 
+-- an entry of a map from functions, by the function's number
+abbrev pub named : Index FuncSpace × Text → ℕ × List ℕ
+named entry = (number_of entry.0, entry.1.now)
+
 -- what a map has at the key of a number
 abbrev pub at_number : {K X : Type 0} → (K → ℕ) → BTreeMap K X → ℕ → Option X
 at_number number kept n = lookup (λ key. nat_eq n (number key)) kept.entries

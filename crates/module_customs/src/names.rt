@@ -1,6 +1,7 @@
 //! The names that the name sections of a module give.
 
 ghost use Rattle.std.specs.Prelude.{◌≡◌, ◌+◌, ◌<◌, ◌++◌, ◌∷◌, ℕ, List, [], length, map, codes, Bool, IfOk, OnOk};
+ghost use Rattle.std.specs.BTreeMap.{IsFromIterResult};
 ghost use Rattle.std.specs.Option.{option_map, option_or};
 ghost use Rattle.wasm_spec.specs.Module.{imports_of_section, function_types_of_section, function_import};
 ghost use Rattle.wasm_spec.specs.Sizes.{HasFewEntries};
@@ -8,14 +9,14 @@ ghost use Rattle.form_data.specs.Views.{import_of, module_of, payload_of};
 ghost use Rattle.wasm_index.specs.Index.{number_of};
 ghost use Rattle.custom_sections.specs.NameReading.{NameLists, joined};
 ghost use Rattle.custom_sections.specs.Views.{text_of, locals_of, names_of};
-ghost use Rattle.module_customs.specs.Names.{functions_among, one_if, contents_of, names_in, names_below, below, module_names, at_number, HasLast, HasLocals, KeepsNames};
+ghost use Rattle.module_customs.specs.Names.{functions_among, one_if, contents_of, names_in, names_below, below, module_names, at_number, named, HasLast, HasLocals, KeepsNames};
 
 use custom_sections::{Names, read_names};
 use entity_map::{EntityRef, OutOfMemory};
 use form_data::{Form, Import, Payload};
 use form_lists::imports_of;
 use init_plan::NameSection;
-use std::alloc::Global;
+use std::alloc::{AllocError, Global};
 use std::collections::BTreeMap;
 use wasm_index::FuncIndex;
 use wasm_spec::TypeRef;
@@ -117,12 +118,58 @@ fn add_names<'d>(
     if let Some(name) = names.module_name {
         kept.module_name = Some(name);
     }
-    add_function_names(&mut kept.func_names, &names.functions, declared)?;
+    add_function_names(alloc, &mut kept.func_names, &names.functions, declared)?;
     add_locals(alloc, &mut kept.locals_names, &names.locals, declared)
 }
 
-/// Adds the names of functions that are declared; a later name replaces an earlier one.
+/// Adds the names of functions that are declared; a later name replaces an earlier one. The first names are made into a map at once.
 fn add_function_names<'d>(
+    alloc: Global,
+    kept: &mut BTreeMap<FuncIndex, &'d str>,
+    names: &[(u32, &'d str)],
+    declared: usize,
+) -> Result<(), OutOfMemory>
+    requires { declared < u32.MAX }
+    ensures { OnOk result ((before : List (ℕ × List ℕ)) → HasLast before (at_number number_of kept.old)
+        → HasLast (before ++ below declared (map text_of names.now)) (at_number number_of kept.new)) }
+{
+    if !kept.is_empty() {
+        return enter_names(kept, names, declared);
+    }
+    *kept = map_of(alloc, declared_names(alloc, names, declared)?)?;
+    Ok(())
+}
+
+/// The names of functions that are declared.
+fn declared_names<'d>(
+    alloc: Global,
+    names: &[(u32, &'d str)],
+    declared: usize,
+) -> Result<Vec<(FuncIndex, &'d str)>, OutOfMemory>
+    requires { declared < u32.MAX }
+    ensures { IfOk result (λ entries. map named entries.items ≡ below declared (map text_of names.now)) }
+{
+    let mut entries = Vec::with_capacity(alloc, names.len())?;
+    for (function, name) in names {
+        if (*function as usize) < declared {
+            entries.push((FuncIndex::from_u32(*function), *name))?;
+        }
+    }
+    Ok(entries)
+}
+
+/// A map of entries, of which the last one of a key counts.
+fn map_of<K: Ord + Drop, V: Drop>(
+    alloc: Global,
+    entries: Vec<(K, V)>,
+) -> Result<BTreeMap<K, V>, AllocError>
+    ensures { IfOk result (IsFromIterResult K.cmp entries.items) }
+{
+    entries.into_iter().collect(alloc)
+}
+
+/// Enters the names of functions that are declared; a later name replaces an earlier one.
+fn enter_names<'d>(
     kept: &mut BTreeMap<FuncIndex, &'d str>,
     names: &[(u32, &'d str)],
     declared: usize,
