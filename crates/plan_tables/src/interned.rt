@@ -17,13 +17,13 @@ use wasm_types::{
     WasmValType,
 };
 
-fn field_row(field: WasmFieldType) -> FieldRow
-    ensures { result ≡ field_row field }
+fn field_row(field: &WasmFieldType) -> FieldRow
+    ensures { result ≡ field_row field.now }
 {
-    let value = match field.element_type {
+    let value = match &field.element_type {
         WasmStorageType::I8 => plain_row(6),
         WasmStorageType::I16 => plain_row(7),
-        WasmStorageType::Val(ty) => value_row(ty),
+        WasmStorageType::Val(ty) => value_row(*ty),
     };
     FieldRow {
         value,
@@ -35,7 +35,7 @@ fn push_fields(rows: &mut Vec<FieldRow>, fields: &[WasmFieldType]) -> Result<(),
     ensures { OnOk result (rows.new.items ≡ rows.old.items ++ map field_row fields.now) }
 {
     for field in fields {
-        rows.push(field_row(*field))?;
+        rows.push(field_row(field))?;
     }
     Ok(())
 }
