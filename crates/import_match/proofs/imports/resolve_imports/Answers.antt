@@ -6,14 +6,9 @@ use Rattle.import_match.specs.declared.error.LinkError.{LinkError}
 use Rattle.import_match.specs.declared.error.LinkError.TheVariants as error
 use Rattle.type_registry.specs.Keys.{key_number}
 use Rattle.type_registry.specs.Registry.{registry_of}
-use Rattle.import_match.specs.Rules.{types_in}
-use Rattle.import_match.specs.Definitions.{Definition, names_of}
 use Rattle.import_match.specs.Linking.{engine_definition, wants_of, wanted}
-use Rattle.import_match.specs.Held.{IsTypeOf}
 use Rattle.import_match.proofs.Answered.{before_all, run, stops, goes-on, ends}
-use Rattle.import_match.proofs.Engine.{types-of}
-use Rattle.import_match.proofs.Linked.{lent_want, read-at, wanted-at, wants-length}
-use Rattle.import_match.proofs.Listing.{All-slice_get}
+use Rattle.import_match.proofs.Linked.{wants-length}
 use Rattle.import_match.proofs.imports.resolve_imports.Goals as goal
 
 same_error : (x y : LinkError) → ◌≡◌ {A = Result ℕ LinkError} (Err x) (Err y) → x ≡ y
