@@ -4,7 +4,7 @@ use Rattle.custom_sections.specs.Views.{text_of}
 use Rattle.module_customs.specs.Names.{at_number, below, HasLast}
 use Rattle.module_customs.proofs.ByNumber.{written, last-more, below-more, below-same}
 use Rattle.module_customs.proofs.names.enter_names.Goals as goal
-use Rattle.module_customs.proofs.names.enter_names.Goals.{then-function-declared+in_ok-insert, else-function-declared}
+use Rattle.module_customs.proofs.names.enter_names.Goals.{then-function-declared+in-Ok, else-function-declared}
 
 pub loop-function-preserved : goal.loop-function-preserved
 loop-function-preserved c = λ before had.
@@ -12,14 +12,14 @@ loop-function-preserved c = λ before had.
     let k = c.loop-function.function-index in
     let now = before ++ below c.args.declared (map text_of (take k names)) in
     elim c.if-function-declared.branch [
-      | then-function-declared+in_ok-insert w ↦
+      | then-function-declared+in-Ok w ↦
           let x = get_or names k _ in
           let whole = below-more text_of c.args.declared before names k _ c.loop-function-test.true w.if-function-declared.true
           ∙ ap (λ (n : ℕ). now ++ (n, x.1.now) ∷ []) (sym (ap number_of w.from_u32.ensures)) in
           rw w.kept-is (subst (λ (l : List (ℕ × List ℕ)). HasLast l (at_number number_of w.insert.new.self)) (sym whole)
           (last-more now (at_number number_of c.loop-function.kept) (at_number number_of w.insert.new.self) (number_of w.from_u32.result) x.1
           (written number_of index_of (λ n. refl) _ c.loop-function.kept w.insert.new.self w.from_u32.result (Some x.1)
-          w.in_ok-insert.ensures.updates.0 (λ a b. refl))
+          w.in-Ok.ensures.updates.0 (λ a b. refl))
           (c.loop-function.invariant before had)))
       | else-function-declared w ↦
           rw w.kept-is (subst (λ (l : List (ℕ × List ℕ)). HasLast l (at_number number_of c.loop-function.kept))
