@@ -13,10 +13,13 @@ use Rattle.import_match.specs.Definitions.{Definition, found}
 use Rattle.import_match.specs.Resolving as linker
 use Rattle.plan_link.specs.declared.answer.ImportAnswer.{ImportAnswer}
 use Rattle.plan_link.specs.declared.answer.ImportAnswer.TheVariants as answer
-use Rattle.plan_link.specs.Answers.{judged, answer_by, answer_to, import_answers}
+use Rattle.plan_link.specs.Answers.{judged, answer_by, answer_to, import_answers, told_by, CanCome}
+
+abbrev Answer : Type 0
+Answer = Result ℕ LinkError
 
 -- the same without the place of the import
-abbrev pub told : Result ℕ LinkError → ImportAnswer
+abbrev pub told : Answer → ImportAnswer
 told (Ok number) = answer.Given number
 told (Err (error.Missing i)) = answer.Missing
 told (Err (error.Mismatch i rule)) = answer.Mismatch rule
@@ -36,51 +39,53 @@ told-from k ds [] = refl
 told-from k ds (want ∷ wants) = λ i. told-at k want.1 (found ds want.0) i ∷ told-from (k + 1) ds wants i
 
 -- the answer of a linker at a place tells the one that is given there
-pub given-at : (ds wants : List Definition) (i : ℕ) (r : Result ℕ LinkError) → slice_get (linker.answers ds wants) i ≡ Some r
+given-at : (ds wants : List Definition) (i : ℕ) (r : Answer) → slice_get (linker.answers ds wants) i ≡ Some r
     → slice_get (import_answers ds wants) i ≡ Some (told r)
 given-at ds wants i r is =
-    ap (λ as. slice_get as i) (sym (told-from 0 ds wants)) ∙ slice_get-map told (linker.answers ds wants) i ∙ ap (option_map told) is
+    ap (λ (rs : List ImportAnswer). slice_get rs i) (sym (told-from 0 ds wants)) ∙ slice_get-map told (linker.answers ds wants) i ∙ ap (option_map told) is
 
--- ---- no other refusal than that of one import, or of memory
+-- ---- one import
 
-abbrev Answer : Type 0
-Answer = Result ℕ LinkError
+abbrev Comes : Answer → Type 0
+Comes (Ok number) = ⊤
+Comes (Err e) = CanCome e
 
-abbrev CanCome : Answer → Type 0
-CanCome (Ok number) = ⊤
-CanCome (Err (error.Missing i)) = ⊤
-CanCome (Err (error.Mismatch i rule)) = ⊤
-CanCome (Err error.Duplicate) = ⊥
-CanCome (Err error.NotHeld) = ⊥
-CanCome (Err error.OutOfMemory) = ⊥
-
-can-come : (i : ℕ) (want : EntityType) (o : Option (ℕ × EntityType)) → CanCome (linker.answer_at i want o)
+can-come : (i : ℕ) (want : EntityType) (o : Option (ℕ × EntityType)) → Comes (linker.answer_at i want o)
 can-come i want None = tt
 can-come i want (Some have) = by (mismatch have.1 want) where
-  by : (m : Option Mismatch) → CanCome (linker.judged i have.0 m)
+  by : (m : Option Mismatch) → Comes (linker.judged i have.0 m)
   by None = tt
   by (Some rule) = tt
 
-come-at : (ds wants : List Definition) (i : ℕ) (r : Answer) → slice_get (linker.answers ds wants) i ≡ Some r → CanCome r
+come-at : (ds wants : List Definition) (i : ℕ) (r : Answer) → slice_get (linker.answers ds wants) i ≡ Some r → Comes r
 come-at ds wants i r is = by (slice_get (enumerate_from 0 wants) i) (sym (slice_get-map (linker.answer_to ds) (enumerate_from 0 wants) i) ∙ is) where
-  by : (o : Option (ℕ × Definition)) → option_map (linker.answer_to ds) o ≡ Some r → CanCome r
+  by : (o : Option (ℕ × Definition)) → option_map (linker.answer_to ds) o ≡ Some r → Comes r
   by None e = absurd (none-some r e)
-  by (Some x) e = subst CanCome (same_Some (linker.answer_to ds x) r e) (can-come x.0 x.1.1 (found ds x.1.0))
+  by (Some x) e = subst Comes (same_Some (linker.answer_to ds x) r e) (can-come x.0 x.1.1 (found ds x.1.0))
 
-pub only-memory : (ds wants : List Definition) (i : ℕ) (e : LinkError) → linker.IsAnswerAt (Err e) ds wants i → ((j : ℕ) → e ≡ error.Missing j → ⊥)
-    → ((j : ℕ) (rule : Mismatch) → e ≡ error.Mismatch j rule → ⊥) → e ≡ error.OutOfMemory
-only-memory ds wants i e (inl memory) missing mismatched = cc
-only-memory ds wants i (error.Missing j) (inr at) missing mismatched = absurd (missing j refl)
-only-memory ds wants i (error.Mismatch j rule) (inr at) missing mismatched = absurd (mismatched j rule refl)
-only-memory ds wants i error.Duplicate (inr at) missing mismatched = absurd (come-at ds wants i (Err error.Duplicate) at)
-only-memory ds wants i error.NotHeld (inr at) missing mismatched = absurd (come-at ds wants i (Err error.NotHeld) at)
-only-memory ds wants i error.OutOfMemory (inr at) missing mismatched = refl
+pub comes : (ds wants : List Definition) (i : ℕ) (e : LinkError) → linker.IsAnswerAt (Err e) ds wants i → CanCome e
+comes ds wants i e (inl memory) = subst Comes (sym memory) tt
+comes ds wants i e (inr at) = come-at ds wants i (Err e) at
 
--- a number, or what is told of the import
-pub given-here : (ds wants : List Definition) (i : ℕ) (r : Answer) → linker.IsAnswerAt r ds wants i → (r ≡ Err error.OutOfMemory → ⊥)
-    → slice_get (import_answers ds wants) i ≡ Some (told r)
-given-here ds wants i r (inl memory) other = absurd (other memory)
-given-here ds wants i r (inr at) other = given-at ds wants i r at
+pub number-given : (ds wants : List Definition) (i number : ℕ) → linker.IsAnswerAt (Ok number) ds wants i
+    → slice_get (import_answers ds wants) i ≡ Some (answer.Given number)
+number-given ds wants i number (inl memory) = absurd cc
+number-given ds wants i number (inr at) = given-at ds wants i (Ok number) at
+
+told-is : (e : LinkError) (a : ImportAnswer) → told_by e ≡ Some a → told (Err e) ≡ a
+told-is (error.Missing i) a is = same_Some answer.Missing a is
+told-is (error.Mismatch i rule) a is = same_Some (answer.Mismatch rule) a is
+told-is error.Duplicate a is = absurd (none-some a is)
+told-is error.NotHeld a is = absurd (none-some a is)
+told-is error.OutOfMemory a is = absurd (none-some a is)
+
+pub refusal-told : (ds wants : List Definition) (i : ℕ) (e : LinkError) (a : ImportAnswer) → linker.IsAnswerAt (Err e) ds wants i
+    → told_by e ≡ Some a → slice_get (import_answers ds wants) i ≡ Some a
+refusal-told ds wants i e a (inl memory) is = absurd (none-some a (sym (ap by memory) ∙ is)) where
+  by : Answer → Option ImportAnswer
+  by (Ok number) = None
+  by (Err x) = told_by x
+refusal-told ds wants i e a (inr at) is = given-at ds wants i (Err e) at ∙ ap Some (told-is e a is)
 
 -- ---- where all imports are given
 

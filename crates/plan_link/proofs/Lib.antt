@@ -7,6 +7,7 @@ pub mod Found
 pub mod Given
 pub mod Held
 pub mod Linkable
+pub mod Outcomes
 pub mod Planned
 pub mod TypeBytes
 pub mod TypesBelow

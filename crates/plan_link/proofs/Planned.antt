@@ -26,6 +26,7 @@ use Rattle.translate.specs.Initialised.{IsInitialised}
 use Rattle.translate.specs.Options.{Options, startup_by, runs}
 use Rattle.translate.specs.Planned.{IsPlanned, nothing_met}
 use Rattle.type_registry.specs.Listed.{Listed, list_of}
+use Rattle.wasm_types.specs.declared.entity.EntityIndex.{EntityIndex}
 use Rattle.wasm_types.specs.declared.index.EngineOrModuleTypeIndex.{EngineOrModuleTypeIndex}
 use Rattle.import_match.specs.Linking.{IsTypeBelow}
 use Rattle.import_match.specs.ModuleTypes.{types_of}
@@ -113,11 +114,12 @@ module _ (o : Options) (bytes : List ℕ) (plan : Plan) (is : IsPlanned o bytes 
   planned-exports =
       let r = plan.translation.module in
       let es = (lists_of_module m).exports in
+      let exported : Export → List ℕ × EntityIndex = λ e. (e.name, entity_at e.kind e.index) in
       omega (
         arith,
         length-map r.exports.entries (resolved_export r.strings),
         ap length has.exports,
-        length-map es (λ (e : Export). (e.name, entity_at e.kind e.index)),
+        length-map es exported,
         (few_entries bytes m is.read.spelled is.read.short).exports,
       )
 

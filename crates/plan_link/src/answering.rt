@@ -4,7 +4,7 @@ ghost use Rattle.std.specs.Prelude.{◌≡◌, ◌<◌, Some, length, slice_get,
 ghost use Rattle.wasm_module.specs.Record.{record_of};
 ghost use Rattle.import_match.specs.declared.error.LinkError.TheVariants as refused;
 ghost use Rattle.import_match.specs.Linking.{exported, wanted, CanExport, CanImport, IsHeld};
-ghost use Rattle.plan_link.specs.Answers.{import_answers};
+ghost use Rattle.plan_link.specs.Answers.{import_answers, told_by, CanCome};
 
 use crate::answer::ImportAnswer;
 use entity_map::OutOfMemory;
@@ -67,13 +67,24 @@ fn answer_at(
 {
     match linker.resolve_import(registry, key, module, place) {
         Ok(number) => Ok(ImportAnswer::Given(number)),
-        Err(LinkError::Missing(_)) => Ok(ImportAnswer::Missing),
-        Err(LinkError::Mismatch(_, rule)) => Ok(ImportAnswer::Mismatch(rule)),
-        Err(refusal) => Err(memory(refusal)),
+        Err(refusal) => told_by(refusal),
     }
 }
 
-// The one refusal that can come where a module is held and nothing is defined twice.
+// What a refusal says of one import. The module is held, and nothing is defined.
+fn told_by(refusal: LinkError) -> Result<ImportAnswer, OutOfMemory>
+    requires { CanCome refusal }
+    ensures { IfOk result (λ answer. told_by refusal ≡ Some answer) }
+{
+    match refusal {
+        LinkError::Missing(_) => Ok(ImportAnswer::Missing),
+        LinkError::Mismatch(_, rule) => Ok(ImportAnswer::Mismatch(rule)),
+        LinkError::OutOfMemory => Err(OutOfMemory),
+        LinkError::Duplicate | LinkError::NotHeld => unreachable!(),
+    }
+}
+
+// The one refusal that can come where a module is held and nothing is defined yet.
 fn memory(_refusal: LinkError) -> OutOfMemory
     requires { _refusal ≡ refused.OutOfMemory }
 {
