@@ -2,15 +2,17 @@
 use Rattle.std.proofs.Common.{◌≡◌, ◌<◌, ◌≤◌, ◌+◌, ℕ, zero, suc, List, [], ◌∷◌, ◌++◌, length, map, drop, slice_get, Option, Some, None, Result, Ok, Err, Vec, Global, refl, sym, ap, subst, ◌∙◌, inl, inr, arith}
 use Rattle.std.specs.Prelude.{◌⊎◌, IsSomeAnd, IsOk, IfOk}
 use Rattle.std.specs.List.{enumerate_from, AllZip}
-use Rattle.std.proofs.lemmas.Option.{none-some, same_Some, slice_get_within, get_or_from_slice_get}
-use Rattle.std.proofs.lemmas.List.{append-nil, append_assoc, drop_more, drop_all}
+use Rattle.std.specs.Option.{option_map}
+use Rattle.std.proofs.lemmas.Option.{none-some, same_Some, slice_get-map, slice_get_within, get_or_from_slice_get}
+use Rattle.std.proofs.lemmas.List.{append-nil, append_assoc, drop_more, drop_all, length-map}
+use Rattle.std.proofs.lemmas.List.FromFn.{length-enumerate_from}
 use Rattle.wasm_types.specs.declared.entity.EntityType.{EntityType}
 use Rattle.import_match.specs.declared.error.LinkError.{LinkError}
 use Rattle.import_match.specs.declared.error.LinkError.TheVariants as error
 use Rattle.import_match.specs.declared.error.Mismatch.{Mismatch}
 use Rattle.import_match.specs.Rules.{mismatch}
 use Rattle.import_match.specs.Definitions.{Definition, TwoNames, found}
-use Rattle.import_match.specs.Resolving.{IsAnswer, numbers_of, judged, answer_at, answer_to, with_value, all_values, resolved, IsMatched, IsGiven, IsReached, IsMissing, IsMismatched, AreMatched, AreGiven}
+use Rattle.import_match.specs.Resolving.{IsAnswer, IsAnswerAt, numbers_of, judged, answer_at, answer_to, answers, with_value, all_values, resolved, IsMatched, IsGiven, IsReached, IsMissing, IsMismatched, AreMatched, AreGiven}
 use Rattle.import_match.specs.Refusals.{ComesExactly, IsOutOfMemory}
 
 abbrev pub Answer : Type 0
@@ -87,6 +89,14 @@ before_all ks (Err e) = Err e
 one-more : (ks : List ℕ) (k : ℕ) (r : Answers) → before_all (ks ++ k ∷ []) r ≡ before_all ks (with_value k r)
 one-more ks k (Ok others) = ap (λ m. Ok m) (append_assoc ks (k ∷ []) others)
 one-more ks k (Err e) = refl
+
+-- an item at a place, with its number
+slice_get-enumerate_from : {X : Type 0} (n : ℕ) (xs : List X) (i : ℕ) → slice_get (enumerate_from n xs) i ≡ option_map (λ (x : X). (n + i, x)) (slice_get xs i)
+slice_get-enumerate_from n [] i = refl
+slice_get-enumerate_from {X} n (x ∷ xs) zero = let plus : n ≡ n + 0 = omega arith in ap (λ (m : ℕ). Some (m, x)) plus
+slice_get-enumerate_from {X} n (x ∷ xs) (suc i) =
+    let plus : n + 1 + i ≡ n + suc i = omega arith in
+    slice_get-enumerate_from (n + 1) xs i ∙ ap (λ (m : ℕ). option_map (λ (y : X). (m, y)) (slice_get xs i)) plus
 
 -- what is left of imports, from one on
 left : (ws : List Definition) (i : ℕ) (w : Definition) → slice_get ws i ≡ Some w → drop i ws ≡ w ∷ drop (i + 1) ws
@@ -188,26 +198,65 @@ module _ (ds : List Definition) where
       let rest = all-matched (n + 1) ws (λ i want at. all (suc i) want at) in
       (ok.0 ∷ rest.0, run-cons n w ws ∙ ap (λ a. after a (run (n + 1) ws)) ok.1 ∙ ap (with_value ok.0) rest.1)
 
+  -- ---- the answer to the import at a place
+
+  pub answer-is : (i : ℕ) (names n : TwoNames) (want t : EntityType) → names ≡ n → want ≡ t
+      → answer_at i want (found ds names) ≡ answer_to ds (i, (n, t))
+  answer-is i names n want t same alike = λ j. answer_at i (alike j) (found ds (same j))
+
+  pub answers-at : (ws : List Definition) (i : ℕ) (w : Definition) → slice_get ws i ≡ Some w → slice_get (answers ds ws) i ≡ Some (answer_to ds (i, w))
+  answers-at ws i w at =
+      slice_get-map (answer_to ds) (enumerate_from 0 ws) i
+      ∙ ap (option_map (answer_to ds)) (slice_get-enumerate_from 0 ws i ∙ ap (option_map (λ (y : Definition). (0 + i, y))) at)
+      ∙ ap (λ m. Some (answer_to ds (m, w))) plus
+    where
+      plus : 0 + i ≡ i
+      plus = omega arith
+
+  pub answer-at : (ws : List Definition) (i : ℕ) (r : Answer) → slice_get (answers ds ws) i ≡ Some r
+      → (w : Definition) × (slice_get ws i ≡ Some w) × (answer_to ds (i, w) ≡ r)
+  answer-at ws i r is = by (slice_get ws i) refl
+    where
+      by : (o : Option Definition) → slice_get ws i ≡ o → (w : Definition) × (slice_get ws i ≡ Some w) × (answer_to ds (i, w) ≡ r)
+      by None none =
+          let past = slice_get-map (answer_to ds) (enumerate_from 0 ws) i
+          ∙ ap (option_map (answer_to ds)) (slice_get-enumerate_from 0 ws i ∙ ap (option_map (λ (y : Definition). (0 + i, y))) none)
+          in
+          absurd (none-some r (sym past ∙ is))
+      by (Some w) at = (w, at, same_Some (answer_to ds (i, w)) r (sym (answers-at ws i w at) ∙ is))
+
+  -- an error in it is of an import
+  pub answer-at-of_import : (ws : List Definition) (i : ℕ) (r : Answer) → IsAnswerAt r ds ws i → (e : LinkError) → (e ≡ error.OutOfMemory → ⊥) → r ≡ Err e
+      → IsOfImport e
+  answer-at-of_import ws i r (inl none) e other is = absurd (other (same_error (sym is ∙ none)))
+    where
+      same_error : ◌≡◌ {A = Answer} (Err e) (Err error.OutOfMemory) → e ≡ error.OutOfMemory
+      same_error h = cc
+  answer-at-of_import ws i r (inr told) e other is =
+      let a = answer-at ws i r told in
+      error-of_import i a.0.1 (found ds a.0.0) e (a.2 ∙ is)
+
+  pub answers-length : (ws : List Definition) → length (answers ds ws) ≡ length ws
+  answers-length ws = length-map (enumerate_from 0 ws) (answer_to ds) ∙ length-enumerate_from 0 ws
+
   -- ---- the import at a place, once those before it were answered
   module _ (ws : List Definition) (i : ℕ) (ks : List ℕ) (is : before_all ks (run i (drop i ws)) ≡ run 0 ws) where
     here : (w : Definition) → slice_get ws i ≡ Some w → before_all ks (after (answer_to ds (i, w)) (run (i + 1) (drop (i + 1) ws))) ≡ run 0 ws
     here w at = ap (before_all ks) (sym (run-cons i w (drop (i + 1) ws)) ∙ ap (run i) (sym (left ws i w at))) ∙ is
 
-    pub stops : (w : Definition) (e : LinkError) → slice_get ws i ≡ Some w → answer_to ds (i, w) ≡ Err e → run 0 ws ≡ Err e
-    stops w e at answer = sym (here w at) ∙ ap (λ a. before_all ks (after a (run (i + 1) (drop (i + 1) ws)))) answer
+    pub stops : (e : LinkError) → slice_get (answers ds ws) i ≡ Some (Err e) → run 0 ws ≡ Err e
+    stops e told =
+        let a = answer-at ws i (Err e) told in
+        sym (here a.0 a.1) ∙ ap (λ r. before_all ks (after r (run (i + 1) (drop (i + 1) ws)))) a.2
 
-    pub goes-on : (w : Definition) (k : ℕ) → slice_get ws i ≡ Some w → answer_to ds (i, w) ≡ Ok k
-        → before_all (ks ++ k ∷ []) (run (i + 1) (drop (i + 1) ws)) ≡ run 0 ws
-    goes-on w k at answer =
+    pub goes-on : (k : ℕ) → slice_get (answers ds ws) i ≡ Some (Ok k) → before_all (ks ++ k ∷ []) (run (i + 1) (drop (i + 1) ws)) ≡ run 0 ws
+    goes-on k told =
+        let a = answer-at ws i (Ok k) told in
         let rest = run (i + 1) (drop (i + 1) ws) in
-        one-more ks k rest ∙ ap (λ a. before_all ks (after a rest)) (sym answer) ∙ here w at
+        one-more ks k rest ∙ ap (λ r. before_all ks (after r rest)) (sym a.2) ∙ here a.0 a.1
 
     pub ends : length ws ≤ i → run 0 ws ≡ Ok ks
     ends past = sym is ∙ ap (λ l. before_all ks (run i l)) (drop_all i ws past) ∙ ap (λ m. Ok m) (append-nil ks)
-
-  pub answer-is : (i : ℕ) (names n : TwoNames) (want t : EntityType) → names ≡ n → want ≡ t
-      → answer_at i want (found ds names) ≡ answer_to ds (i, (n, t))
-  answer-is i names n want t same alike = λ j. answer_at i (alike j) (found ds (same j))
 
 -- ---- what a call answers that gives the numbers, or the first error, or has no memory
 

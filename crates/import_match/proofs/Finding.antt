@@ -1,65 +1,9 @@
--- The first definition under two names, and what a map finds by its keys.
-use Rattle.std.proofs.Common.{◌≡◌, ◌<◌, ◌+◌, ℕ, zero, suc, Bool, true, false, List, [], ◌∷◌, ◌++◌, map, position, slice_get, get_or, All, Some, None, refl, sym, ap, subst, ◌∙◌, arith, if◌then◌else◌}
-use Rattle.std.specs.Map.{keys_of, lookup}
-use Rattle.std.specs.Option.{option_map}
-use Rattle.std.proofs.lemmas.List.Quantifiers.{position-Some}
-use Rattle.std.proofs.lemmas.Option.{none-some, same_Some, slice_get-map, get_or_from_slice_get}
+-- The first definition under two names.
+use Rattle.std.proofs.Common.{◌≡◌, ◌+◌, ℕ, zero, suc, Bool, true, false, List, [], ◌∷◌, ◌++◌, length, slice_get, All, Some, None, refl, sym, ap, subst, ◌∙◌, arith, if◌then◌else◌}
+use Rattle.std.proofs.lemmas.Option.{none-some, same_Some}
 use Rattle.std.proofs.lemmas.List.Elements.{All-head, All-tail}
 use Rattle.wasm_types.specs.declared.entity.EntityType.{EntityType}
-use Rattle.import_match.specs.declared.names.Names.{Names}
-use Rattle.import_match.specs.Definitions.{Definition, TwoNames, names_of, names_eq, found_from}
-use Rattle.import_match.specs.Kept.{definition_of}
-
--- whether a key has the names
-abbrev pub has : TwoNames → Names → Bool
-has n key = names_eq n (names_of key)
-
--- what stands at the first key that has the names
-pub found-first : (k : ℕ) (es : List (Names × EntityType)) (n : TwoNames) (i : ℕ) (e : Names × EntityType) (d : Names) → slice_get es i ≡ Some e
-    → has n e.0 ≡ true → ((j : ℕ) → j < i → has n (get_or (keys_of es) j d) ≡ false)
-    → found_from k (map definition_of es) n ≡ Some (k + i, e.1)
-found-first k [] n i e d at here before = absurd (none-some e at)
-found-first k (x ∷ es) n zero e d at here before =
-    let is = same_Some x e at in
-    let test : has n x.0 ≡ true = ap (λ (y : Names × EntityType). has n y.0) is ∙ here in
-    let plus : k ≡ k + 0 = omega arith in
-    ap (λ b. if b then Some (k, x.1) else found_from (k + 1) (map definition_of es) n) test ∙ (λ t. Some (plus t, (is t).1))
-found-first k (x ∷ es) n (suc i) e d at here before =
-    let test : has n x.0 ≡ false = before 0 (omega arith) in
-    let rest = found-first (k + 1) es n i e d at here (λ j less. before (suc j) (omega (arith, less))) in
-    let plus : k + 1 + i ≡ k + suc i = omega arith in
-    ap (λ b. if b then Some (k, x.1) else found_from (k + 1) (map definition_of es) n) test ∙ rest ∙ (λ t. Some (plus t, e.1))
-
--- what a map finds by its keys
-pub found-full : (es : List (Names × EntityType)) (n : TwoNames) (i : ℕ) (k : Names) (v : EntityType) → position (has n) (keys_of es) ≡ Some i
-    → slice_get es i ≡ Some (k, v) → found_from 0 (map definition_of es) n ≡ Some (i, v)
-found-full es n i k v place at =
-    let there = position-Some (has n) (keys_of es) i k place in
-    let key : get_or (keys_of es) i k ≡ k =
-    get_or_from_slice_get (keys_of es) i k k
-    (slice_get-map (λ (e : Names × EntityType). e.0) es i ∙ ap (option_map (λ (e : Names × EntityType). e.0)) at)
-    in
-    let plus : 0 + i ≡ i = omega arith in
-    found-first 0 es n i (k, v) k at (ap (has n) (sym key) ∙ there.1) there.2 ∙ ap (λ m. Some (m, v)) plus
-
--- no key has the names
-pub found-none : (k : ℕ) (es : List (Names × EntityType)) (n : TwoNames) → lookup (has n) es ≡ None → found_from k (map definition_of es) n ≡ None
-found-none k [] n none = refl
-found-none k (x ∷ es) n none = by (has n x.0) none (found-none (k + 1) es n)
-  where
-    by : (b : Bool) → (if b then Some x.1 else lookup (has n) es) ≡ None → (lookup (has n) es ≡ None → found_from (k + 1) (map definition_of es) n ≡ None)
-        → (if b then Some (k, x.1) else found_from (k + 1) (map definition_of es) n) ≡ None
-    by true e rest = absurd (none-some x.1 (sym e))
-    by false e rest = rest e
-
-pub lookup-none : (k : ℕ) (es : List (Names × EntityType)) (n : TwoNames) → found_from k (map definition_of es) n ≡ None → lookup (has n) es ≡ None
-lookup-none k [] n none = refl
-lookup-none k (x ∷ es) n none = by (has n x.0) none (lookup-none (k + 1) es n)
-  where
-    by : (b : Bool) → (if b then Some (k, x.1) else found_from (k + 1) (map definition_of es) n) ≡ None
-        → (found_from (k + 1) (map definition_of es) n ≡ None → lookup (has n) es ≡ None) → (if b then Some x.1 else lookup (has n) es) ≡ None
-    by true e rest = absurd (none-some (k, x.1) (sym e))
-    by false e rest = rest e
+use Rattle.import_match.specs.Definitions.{Definition, TwoNames, names_eq, found_from}
 
 -- ---- definitions one behind another
 
@@ -91,6 +35,24 @@ none-append k (x ∷ ds) es n none others = by (names_eq n x.0) none (λ e. none
         → (if b then Some (k, x.1) else found_from (k + 1) (ds ++ es) n) ≡ None
     by true e rest = absurd (none-some (k, x.1) (sym e))
     by false e rest = rest e
+
+-- one more definition is found where none before it is
+pub found-last : (k : ℕ) (ds : List Definition) (d : Definition) (n : TwoNames) → found_from k ds n ≡ None → names_eq n d.0 ≡ true
+    → found_from k (ds ++ d ∷ []) n ≡ Some (k + length ds, d.1)
+found-last k [] d n none test = let plus : k ≡ k + 0 = omega arith in ap (λ b. if b then Some (k, d.1) else None) test ∙ ap (λ (m : ℕ). Some (m, d.1)) plus
+found-last k (x ∷ ds) d n none test = by (names_eq n x.0) none (λ e. found-last (k + 1) ds d n e test)
+  where
+    by : (b : Bool) → (if b then Some (k, x.1) else found_from (k + 1) ds n) ≡ None
+        → (found_from (k + 1) ds n ≡ None → found_from (k + 1) (ds ++ d ∷ []) n ≡ Some (k + 1 + length ds, d.1))
+        → (if b then Some (k, x.1) else found_from (k + 1) (ds ++ d ∷ []) n) ≡ Some (k + suc (length ds), d.1)
+    by true e rest = absurd (none-some (k, x.1) (sym e))
+    by false e rest = let plus : k + 1 + length ds ≡ k + suc (length ds) = omega arith in rest e ∙ ap (λ (m : ℕ). Some (m, d.1)) plus
+
+-- under other names it changes nothing
+pub found-others : (k : ℕ) (ds : List Definition) (d : Definition) (n : TwoNames) → names_eq n d.0 ≡ false
+    → found_from k (ds ++ d ∷ []) n ≡ found_from k ds n
+found-others k [] d n test = ap (λ b. if b then Some (k, d.1) else None) test
+found-others k (x ∷ ds) d n test = ap (λ o. if names_eq n x.0 then Some (k, x.1) else o) (found-others (k + 1) ds d n test)
 
 -- what holds of each type holds of the one that is found
 pub found-type : (P : EntityType → Type 0) (k : ℕ) (ds : List Definition) (n : TwoNames) (i : ℕ) (t : EntityType) → All (λ (d : Definition). P d.1) ds

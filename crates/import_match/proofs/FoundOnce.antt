@@ -3,7 +3,7 @@ use Rattle.std.proofs.Common.{◌≡◌, ◌↔◌, ◌<◌, ◌+◌, ◌∙◌,
 use Rattle.std.proofs.lemmas.Option.{none-some, same_Some}
 use Rattle.wasm_types.specs.declared.entity.EntityType.{EntityType}
 use Rattle.import_match.specs.Definitions.{Definition, TwoNames, names_eq, found_from, found, AreOnce}
-use Rattle.import_match.proofs.Linked.{equal-names, names-equal}
+use Rattle.import_match.proofs.Named.{equal-names, names-equal}
 
 -- what is found stands at its number
 found-stands : (k : ℕ) (ds : List Definition) (n : TwoNames) (p : ℕ) (t : EntityType) → found_from k ds n ≡ Some (p, t)

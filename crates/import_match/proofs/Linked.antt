@@ -1,16 +1,13 @@
 -- What a module exports and imports, item by item.
-use Rattle.std.proofs.Common.{◌≡◌, ◌<◌, ℕ, zero, suc, true, List, [], ◌∷◌, length, map, slice_get, All, Option, Some, None, refl, sym, ap, subst, ◌∙◌, arith, eq-eqb}
+use Rattle.std.proofs.Common.{◌≡◌, ◌<◌, ℕ, zero, suc, List, [], ◌∷◌, length, slice_get, All, Option, Some, None, refl, sym, ap, subst, ◌∙◌, arith, eq-eqb}
 use Rattle.std.specs.Prelude.{IsSome, is_some, option_and_then}
 use Rattle.std.specs.List.{IsDistinct}
 use Rattle.std.specs.Borrow.{Bor}
 use Rattle.std.specs.Map.{keys_of}
 use Rattle.std.specs.Option.{option_map}
-use Rattle.std.specs.Str.{bytes_eq}
-use Rattle.std.proofs.lemmas.Bool.{and_from, and_parts}
 use Rattle.std.proofs.lemmas.Option.{none-some, same_Some, slice_get-map}
 use Rattle.std.proofs.lemmas.List.{length-map}
 use Rattle.std.proofs.lemmas.List.Elements.{All-weaker}
-use Rattle.std.proofs.lemmas.Slice.Eq.{bytes_eq-Decides}
 use Rattle.entity_map.specs.Pool.{HasEachOnce, atom_number}
 use Rattle.entity_map.specs.declared.pool.Atom.{Atom}
 use Rattle.entity_map.specs.contracts.pool.AtomPartialEq.TheImpl as atoms
@@ -25,39 +22,9 @@ use Rattle.wasm_module.specs.Imports.{text_of, import_of, imports_of, lent_impor
 use Rattle.type_registry.specs.Keys.{key_number}
 use Rattle.type_registry.specs.Registry.{RegistryState, registry_of}
 use Rattle.type_registry.specs.declared.key.ModuleKey.{ModuleKey}
-use Rattle.import_match.specs.declared.names.Names.{Names}
-use Rattle.import_match.specs.contracts.names.NamesPartialEq.TheImpl as named
-use Rattle.import_match.specs.Definitions.{Definition, TwoNames, names_of, names_eq, AreOnce}
-use Rattle.import_match.specs.Kept.{definition_of}
+use Rattle.import_match.specs.Definitions.{Definition, TwoNames, AreOnce}
 use Rattle.import_match.specs.Linking.{engine_definition, export_of, exports_of, wants_of, exported, IsExportResolved, wanted}
 use Rattle.import_match.proofs.Listing.{value_of, slice_get-filter_map, length-filter_map, slice_get-from_map, one-place}
-
--- ---- names
-
-pub names-equal : (a b : TwoNames) → a ≡ b → names_eq a b ≡ true
-names-equal a b same =
-    and_from (bytes_eq a.0 b.0) (bytes_eq a.1 b.1) ((bytes_eq-Decides a.0 b.0).1 (ap (λ (n : TwoNames). n.0) same))
-    ((bytes_eq-Decides a.1 b.1).1 (ap (λ (n : TwoNames). n.1) same))
-
-pub equal-names : (a b : TwoNames) → names_eq a b ≡ true → a ≡ b
-equal-names a b e =
-    let both = and_parts (bytes_eq a.0 b.0) (bytes_eq a.1 b.1) e in
-    let from = (bytes_eq-Decides a.0 b.0).0 both.0 in
-    let own = (bytes_eq-Decides a.1 b.1).0 both.1 in
-    λ i. (from i, own i)
-
--- the keys of a map stand once
-pub kept-once : (es : List (Names × EntityType)) → IsDistinct named.ghosts.eq (keys_of es) → AreOnce (map definition_of es)
-kept-once es distinct i j d e at_i at_j same =
-    let x = slice_get-from_map definition_of es i d at_i in
-    let y = slice_get-from_map definition_of es j e at_j in
-    let names : names_of x.0.0 ≡ names_of y.0.0 =
-    ap (λ (c : Definition). c.0) x.2 ∙ same ∙ ap (λ (c : Definition). c.0) (sym y.2)
-    in
-    one-place named.ghosts.eq (keys_of es) distinct i j x.0.0 y.0.0
-    (slice_get-map (λ (c : Names × EntityType). c.0) es i ∙ ap (option_map (λ (c : Names × EntityType). c.0)) x.1)
-    (slice_get-map (λ (c : Names × EntityType). c.0) es j ∙ ap (option_map (λ (c : Names × EntityType). c.0)) y.1)
-    (names-equal (names_of x.0.0) (names_of y.0.0) names) (names-equal (names_of y.0.0) (names_of x.0.0) (sym names))
 
 -- ---- exports
 

@@ -1,5 +1,6 @@
 pub mod Rules
 pub mod Definitions
+pub mod Digest
 pub mod Kept
 pub mod Linking
 pub mod Resolving

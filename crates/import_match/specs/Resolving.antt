@@ -56,6 +56,10 @@ numbers_of (Err e) = Err e
 abbrev pub IsAnswer : Result (Vec ℕ Global) LinkError → Result (List ℕ) LinkError → Type 0
 IsAnswer r answer = IsOutOfMemory r ⊎ (numbers_of r ≡ answer)
 
+-- it is the answer to the import at a place, unless there is no memory
+abbrev pub IsAnswerAt : Result ℕ LinkError → List Definition → List Definition → ℕ → Type 0
+IsAnswerAt r ds wants i = IsOutOfMemory r ⊎ (slice_get (answers ds wants) i ≡ Some r)
+
 -- ---- why an import fails
 
 -- a definition stands under the names of the import, and matches it

@@ -1,28 +1,122 @@
 //! Definitions in order, found by their names.
 
-ghost use Rattle.std.specs.Prelude.{◌≡◌, ◌<◌, ◌≤◌, ◌+◌, ◌⊎◌, [], ◌∷◌, ◌++◌, length, map, All, None, IfOk, IfErr, OnOk, OnErr, IsOk};
-ghost use Rattle.indexmap.specs.IndexMap.{spare};
+ghost use Rattle.std.specs.Prelude.{◌≡◌, ℕ, ◌≤◌, ◌+◌, ◌⊎◌, [], ◌∷◌, ◌++◌, length, map, filter, All, None, IfOk, IfErr, OnOk, OnErr};
 ghost use Rattle.import_match.specs.declared.error.LinkError.TheVariants as refused;
 ghost use Rattle.import_match.specs.Definitions.{Definition, names_of, found, IsDefined, AreOnce};
-ghost use Rattle.import_match.specs.Kept.{definition_of, definitions_of};
+ghost use Rattle.import_match.specs.Kept.{definition_of, in_order, is_below, AreKept};
 
 use crate::error::LinkError;
-use crate::hashing::SeededSip;
 use crate::names::Names;
-use indexmap::IndexMap;
-use std::alloc::{AllocFailed, Global};
+use std::alloc::{AllocError, Global};
+use std::collections::BTreeMap;
+use std::marker::Model;
 use wasm_types::EntityType;
 
-/// The type of each definition by its names. Each pair is hashed whole by SipHash from a seed that is given: strangers who choose names know those that stand before,
-/// so a seed that is taken from names is no help.
-pub(crate) type Definitions = IndexMap<Names, EntityType, SeededSip>;
+/// The number and the type of each definition, by its names.
+type Numbered = BTreeMap<Names, (usize, EntityType)>;
 
-/// The definition under two names: its number and its type.
-pub(crate) fn find(definitions: &Definitions, names: &Names) -> Option<(usize, EntityType)>
-    ensures { result ≡ found (definitions_of definitions.now) (names_of names.now) }
+/// Definitions in order, no two under the same names. They are found in a map that is ordered by the names, so that whoever chooses names, a look-up
+/// compares them with no more than a few for each doubling of the count.
+#[derive(Drop)]
+pub(crate) struct Definitions {
+    numbered: Numbered,
+}
+
+impl Model for Definitions {
+    ghost use Rattle.std.specs.Prelude.{List};
+    ghost use Rattle.import_match.specs.Definitions.{Definition};
+    ghost use Rattle.import_match.specs.Kept.{in_order, AreKept};
+
+    ghost Value = { List Definition };
+
+    ghost view = { λ d. in_order d.numbered.entries };
+
+    ghost invariant = { λ d. AreKept d.numbered.entries };
+}
+
+impl Definitions {
+    /// None.
+    pub(crate) fn new(alloc: Global) -> Definitions
+        ensures { result ≡ [] }
+    {
+        Definitions {
+            numbered: BTreeMap::new(alloc),
+        }
+    }
+
+    pub(crate) fn len(&self) -> usize
+        ensures count { result ≡ length self.now }
+        ensures once { AreOnce self.now }
+    {
+        self.numbered.len()
+    }
+
+    /// The definition under two names: its number and its type.
+    pub(crate) fn find(&self, names: &Names) -> Option<(usize, EntityType)>
+        ensures { result ≡ found self.now (names_of names.now) }
+    {
+        let (number, ty) = self.numbered.get(names)?;
+        Some((*number, *ty))
+    }
+
+    /// Appends a definition under names that are new, and gives its number.
+    pub(crate) fn append(&mut self, names: Names, ty: EntityType) -> Result<usize, AllocError>
+        requires { found self.old (names_of names) ≡ None }
+        ensures number { IfOk result (λ number. number ≡ length self.old) }
+        ensures ok { OnOk result (self.new ≡ self.old ++ (names_of names, ty) ∷ []) }
+        ensures err { OnErr result (self.new ≡ self.old) }
+        ensures once { AreOnce self.new }
+    {
+        insert(&mut self.numbered, names, ty)
+    }
+
+    /// Appends definitions under names that are new, or none where memory ends.
+    pub(crate) fn append_all(&mut self, planned: Vec<(Names, EntityType)>) -> Result<(), AllocError>
+        requires new { All (λ (d : Definition). found self.old d.0 ≡ None) (map definition_of planned.items) }
+        requires once { AreOnce (map definition_of planned.items) }
+        ensures ok { OnOk result (self.new ≡ self.old ++ map definition_of planned.items) }
+        ensures err { OnErr result (self.new ≡ self.old) }
+        ensures once { AreOnce self.new }
+    {
+        let before = self.numbered.len();
+        let inserted = insert_all(&mut self.numbered, planned);
+        if inserted.is_err() {
+            self.numbered.retain(|_, numbered| numbered.0 < before);
+        }
+        inserted
+    }
+}
+
+/// Inserts a definition under names that are new; its number is the count of those before.
+fn insert(numbered: &mut Numbered, names: Names, ty: EntityType) -> Result<usize, AllocError>
+    requires kept { AreKept numbered.old.entries }
+    requires new { found (in_order numbered.old.entries) (names_of names) ≡ None }
+    ensures number { IfOk result (λ number. number ≡ length numbered.old.entries) }
+    ensures kept { OnOk result (AreKept numbered.new.entries) }
+    ensures ok { OnOk result (in_order numbered.new.entries ≡ in_order numbered.old.entries ++ (names_of names, ty) ∷ []) }
+    ensures err { OnErr result (numbered.new.entries ≡ numbered.old.entries) }
+    ensures count { OnOk result (length numbered.new.entries ≡ length numbered.old.entries + 1) }
+    ensures others { OnOk result ((n : ℕ) → n ≤ length numbered.old.entries
+        → filter (is_below n) numbered.new.entries ≡ filter (is_below n) numbered.old.entries) }
 {
-    let (number, _, ty) = definitions.get_full(names)?;
-    Some((number, *ty))
+    let number = numbered.len();
+    numbered.insert(names, (number, ty))?;
+    Ok(number)
+}
+
+/// Inserts definitions under names that are new, in order. Where memory ends, those that stood before are the entries whose numbers are below their count.
+fn insert_all(numbered: &mut Numbered, planned: Vec<(Names, EntityType)>) -> Result<(), AllocError>
+    requires kept { AreKept numbered.old.entries }
+    requires new { All (λ (d : Definition). found (in_order numbered.old.entries) d.0 ≡ None) (map definition_of planned.items) }
+    requires once { AreOnce (map definition_of planned.items) }
+    ensures kept { OnOk result (AreKept numbered.new.entries) }
+    ensures ok { OnOk result (in_order numbered.new.entries ≡ in_order numbered.old.entries ++ map definition_of planned.items) }
+    ensures err { OnErr result (filter (is_below (length numbered.old.entries)) numbered.new.entries ≡ numbered.old.entries) }
+{
+    for (names, ty) in planned {
+        insert(numbered, names, ty)?;
+    }
+    Ok(())
 }
 
 /// A copy of two names, under which nothing is defined yet.
@@ -33,44 +127,13 @@ pub(crate) fn new_names(
     own: &str,
 ) -> Result<Names, LinkError>
     ensures names { IfOk result (λ n. names_of n ≡ (from.now, own.now)) }
-    ensures new { OnOk result (found (definitions_of definitions.now) (from.now, own.now) ≡ None) }
+    ensures new { OnOk result (found definitions.now (from.now, own.now) ≡ None) }
     ensures err { IfErr result (λ e. (e ≡ refused.OutOfMemory)
-        ⊎ ((e ≡ refused.Duplicate) × IsDefined (definitions_of definitions.now) (from.now, own.now))) }
+        ⊎ ((e ≡ refused.Duplicate) × IsDefined definitions.now (from.now, own.now))) }
 {
     let names = Names::of(alloc, from, own)?;
-    if find(definitions, &names).is_some() {
+    if definitions.find(&names).is_some() {
         return Err(LinkError::Duplicate);
     }
     Ok(names)
-}
-
-/// Appends a definition under names that are new. It cannot fail where there is room.
-pub(crate) fn append(
-    definitions: &mut Definitions,
-    names: Names,
-    ty: EntityType,
-) -> Result<(), AllocFailed<(Names, EntityType)>>
-    requires { found (definitions_of definitions.old) (names_of names) ≡ None }
-    ensures ok { OnOk result (definitions_of definitions.new ≡ definitions_of definitions.old ++ (names_of names, ty) ∷ []) }
-    ensures err { OnErr result (definitions_of definitions.new ≡ definitions_of definitions.old) }
-    ensures once { AreOnce (definitions_of definitions.new) }
-    ensures succeeds { 0 < spare definitions.old → IsOk result }
-    ensures spare { spare definitions.old ≤ spare definitions.new + 1 }
-{
-    definitions.insert(names, ty)?;
-    Ok(())
-}
-
-/// Appends definitions under names that are new, for which there is room.
-pub(crate) fn append_all(definitions: &mut Definitions, planned: Vec<(Names, EntityType)>)
-    requires room { length planned.items ≤ spare definitions.old }
-    requires new { All (λ (d : Definition). found (definitions_of definitions.old) d.0 ≡ None) (map definition_of planned.items) }
-    requires once { AreOnce (map definition_of planned.items) }
-    requires kept { AreOnce (definitions_of definitions.old) }
-    ensures once { AreOnce (definitions_of definitions.new) }
-    ensures listed { definitions_of definitions.new ≡ definitions_of definitions.old ++ map definition_of planned.items }
-{
-    for (names, ty) in planned {
-        append(definitions, names, ty).unwrap();
-    }
 }

@@ -4,7 +4,7 @@ ghost use Rattle.std.specs.Prelude.{◌≡◌, ◌⊎◌, map, All, Any, None, I
 ghost use Rattle.import_match.specs.declared.error.LinkError.TheVariants as refused;
 ghost use Rattle.import_match.specs.Rules.{HasEngineTypes};
 ghost use Rattle.import_match.specs.Definitions.{Definition, found, IsDefined, AreOnce};
-ghost use Rattle.import_match.specs.Kept.{definition_of, definitions_of};
+ghost use Rattle.import_match.specs.Kept.{definition_of};
 ghost use Rattle.import_match.specs.Linking.{exported, CanExport, IsHeld};
 
 use crate::definitions::{Definitions, new_names};
@@ -29,10 +29,10 @@ pub(crate) fn planned_exports(
     requires can { CanExport registry.now key «module».now as_module.now }
     ensures planned { IfOk result (λ planned. map definition_of planned.items ≡ exported registry.now key «module».now as_module.now) }
     ensures engine { IfOk result (λ planned. All (λ (d : Definition). HasEngineTypes d.1) (map definition_of planned.items)) }
-    ensures new { IfOk result (λ planned. All (λ (d : Definition). found (definitions_of definitions.now) d.0 ≡ None) (map definition_of planned.items)) }
+    ensures new { IfOk result (λ planned. All (λ (d : Definition). found definitions.now d.0 ≡ None) (map definition_of planned.items)) }
     ensures once { IfOk result (λ planned. AreOnce (map definition_of planned.items)) }
     ensures err { IfErr result (λ e. (e ≡ refused.OutOfMemory) ⊎ ((e ≡ refused.Duplicate)
-        × Any (λ (d : Definition). IsDefined (definitions_of definitions.now) d.0) (exported registry.now key «module».now as_module.now))) }
+        × Any (λ (d : Definition). IsDefined definitions.now d.0) (exported registry.now key «module».now as_module.now))) }
 {
     // The pool says of its length that no text has two atoms, so no two exports have one name.
     let _texts = module.strings.len();

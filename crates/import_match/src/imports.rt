@@ -1,13 +1,13 @@
 //! The definitions that the imports of a module are given.
 
-ghost use Rattle.std.specs.Prelude.{◌≡◌, All};
+ghost use Rattle.std.specs.Prelude.{◌≡◌, ◌<◌, All, length};
+ghost use Rattle.wasm_module.specs.Record.{record_of};
 ghost use Rattle.import_match.specs.Rules.{HasEngineTypes};
 ghost use Rattle.import_match.specs.Definitions.{Definition, names_of, found};
-ghost use Rattle.import_match.specs.Kept.{definitions_of};
 ghost use Rattle.import_match.specs.Linking.{wanted, CanImport, IsHeld};
-ghost use Rattle.import_match.specs.Resolving.{answer_at, resolved, IsAnswer};
+ghost use Rattle.import_match.specs.Resolving.{answer_at, resolved, IsAnswer, IsAnswerAt};
 
-use crate::definitions::{Definitions, find};
+use crate::definitions::Definitions;
 use crate::engine_types::with_engine_types;
 use crate::error::LinkError;
 use crate::names::Names;
@@ -18,23 +18,44 @@ use wasm_module::Module;
 use wasm_types::EntityType;
 
 /// The number of the definition under the names of the import at a place, if it matches the type.
-fn resolve_import(
+fn answer(
     definitions: &Definitions,
     names: &Names,
     place: usize,
     want: &EntityType,
 ) -> Result<usize, LinkError>
-    requires definitions { All (λ (d : Definition). HasEngineTypes d.1) (definitions_of definitions.now) }
+    requires definitions { All (λ (d : Definition). HasEngineTypes d.1) definitions.now }
     requires want { HasEngineTypes want.now }
-    ensures { result ≡ answer_at place want.now (found (definitions_of definitions.now) (names_of names.now)) }
+    ensures { result ≡ answer_at place want.now (found definitions.now (names_of names.now)) }
 {
-    let Some((number, have)) = find(definitions, names) else {
+    let Some((number, have)) = definitions.find(names) else {
         return Err(LinkError::Missing(place));
     };
     match match_entity(&have, want) {
         None => Ok(number),
         Some(rule) => Err(LinkError::Mismatch(place, rule)),
     }
+}
+
+/// The number of the definition of the import at a place of a held module. The names give room for those of the import.
+pub(crate) fn resolve_at(
+    definitions: &Definitions,
+    registry: &TypeRegistry,
+    key: ModuleKey,
+    module: &Module,
+    place: usize,
+    names: &mut Names,
+) -> Result<usize, LinkError>
+    requires definitions { All (λ (d : Definition). HasEngineTypes d.1) definitions.now }
+    requires held { IsHeld registry.now key }
+    requires can { CanImport registry.now key «module».now }
+    requires place { place < length (record_of «module».now).initializers }
+    ensures { IsAnswerAt result definitions.now (wanted registry.now key «module».now) place }
+{
+    let (from, own, ty) = module.import(place).unwrap();
+    names.set(from, own)?;
+    let want = with_engine_types(registry, key, ty);
+    answer(definitions, names, place, &want)
 }
 
 /// The number of the definition of each import of a held module, in order.
@@ -45,19 +66,17 @@ pub(crate) fn resolve_imports(
     key: ModuleKey,
     module: &Module,
 ) -> Result<Vec<usize>, LinkError>
-    requires definitions { All (λ (d : Definition). HasEngineTypes d.1) (definitions_of definitions.now) }
+    requires definitions { All (λ (d : Definition). HasEngineTypes d.1) definitions.now }
     requires held { IsHeld registry.now key }
     requires can { CanImport registry.now key «module».now }
-    ensures { IsAnswer result (resolved (definitions_of definitions.now) (wanted registry.now key «module».now)) }
+    ensures { IsAnswer result (resolved definitions.now (wanted registry.now key «module».now)) }
 {
     let count = module.initializers.len();
     let mut numbers = Vec::with_capacity(alloc, count)?;
     let mut names = Names::new(alloc);
     for place in 0..count {
-        let (from, own, ty) = module.import(place).unwrap();
-        names.set(from, own)?;
-        let want = with_engine_types(registry, key, ty);
-        numbers.push(resolve_import(definitions, &names, place, &want)?)?;
+        let number = resolve_at(definitions, registry, key, module, place, &mut names)?;
+        numbers.push(number)?;
     }
     Ok(numbers)
 }

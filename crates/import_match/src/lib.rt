@@ -5,7 +5,6 @@ mod definitions;
 mod engine_types;
 mod error;
 mod exports;
-mod hashing;
 mod imports;
 mod laws;
 mod linker;

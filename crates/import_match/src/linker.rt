@@ -1,20 +1,20 @@
 //! The linker.
 
-ghost use Rattle.std.specs.Prelude.{◌≡◌, ◌↔◌, ◌⊎◌, ◌++◌, ◌∷◌, [], ℕ, length, All, Any, None, IsOk, IfOk, OnOk, OnErr, IfErr, IsErrOf};
+ghost use Rattle.std.specs.Prelude.{◌≡◌, ◌↔◌, ◌⊎◌, ◌++◌, ◌∷◌, [], ◌<◌, ℕ, length, All, Any, None, IsOk, IfOk, OnOk, OnErr, IfErr, IsErrOf};
 ghost use Rattle.import_match.specs.declared.error.LinkError.TheVariants as refused;
 ghost use Rattle.import_match.specs.declared.error.Mismatch.{Mismatch};
+ghost use Rattle.wasm_module.specs.Record.{record_of};
 ghost use Rattle.import_match.specs.Rules.{HasEngineTypes};
 ghost use Rattle.import_match.specs.Definitions.{Definition, IsDefined, AreOnce};
 ghost use Rattle.import_match.specs.Linking.{exported, wanted, CanExport, CanImport, IsHeld, IsNotHeld};
-ghost use Rattle.import_match.specs.Resolving.{resolved, IsAnswer, AreGiven, AreMatched, IsMissing, IsMismatched};
+ghost use Rattle.import_match.specs.Resolving.{resolved, IsAnswer, IsAnswerAt, AreGiven, AreMatched, IsMissing, IsMismatched};
 ghost use Rattle.import_match.specs.Refusals.{ComesExactly, IsOutOfMemory};
 
-use crate::definitions::{Definitions, append, append_all, new_names};
+use crate::definitions::{Definitions, new_names};
 use crate::error::LinkError;
 use crate::exports::planned_exports;
-use crate::hashing::SeededSip;
-use crate::imports::resolve_imports;
-use indexmap::IndexMap;
+use crate::imports::{resolve_at, resolve_imports};
+use crate::names::Names;
 use std::alloc::Global;
 use std::marker::Model;
 use type_registry::{ModuleKey, TypeRegistry};
@@ -34,13 +34,12 @@ impl Model for Linker {
     ghost use Rattle.std.specs.Prelude.{List, All};
     ghost use Rattle.import_match.specs.Rules.{HasEngineTypes};
     ghost use Rattle.import_match.specs.Definitions.{Definition, AreOnce};
-    ghost use Rattle.import_match.specs.Kept.{definitions_of};
 
     ghost Value = { List Definition };
 
-    ghost view = { λ l. definitions_of l.definitions };
+    ghost view = { λ l. l.definitions };
 
-    ghost invariant = { λ l. All (λ (d : Definition). HasEngineTypes d.1) (definitions_of l.definitions) × AreOnce (definitions_of l.definitions) };
+    ghost invariant = { λ l. All (λ (d : Definition). HasEngineTypes d.1) l.definitions × AreOnce l.definitions };
 }
 
 impl Linker {
@@ -48,17 +47,9 @@ impl Linker {
     pub fn new(alloc: Global) -> Self
         ensures { result ≡ [] }
     {
-        Linker::with_seed(alloc, 0)
-    }
-
-    /// The same, whose names are hashed from a seed. Where strangers choose names, it is a number that they do not know, as one from the system's source of
-    /// random bytes.
-    pub fn with_seed(alloc: Global, seed: u64) -> Self
-        ensures { result ≡ [] }
-    {
         Linker {
             alloc,
-            definitions: IndexMap::with_hasher(alloc, SeededSip::new(seed)),
+            definitions: Definitions::new(alloc),
         }
     }
 
@@ -84,9 +75,7 @@ impl Linker {
         ensures others { IfErr result (λ e. (e ≡ refused.Duplicate) ⊎ (e ≡ refused.OutOfMemory)) }
     {
         let names = new_names(self.alloc, &self.definitions, module, name)?;
-        let number = self.definitions.len();
-        append(&mut self.definitions, names, ty)?;
-        Ok(number)
+        Ok(self.definitions.append(names, ty)?)
     }
 
     /// Defines each export of a held module under the name `as_module` and its own, in order.
@@ -120,8 +109,7 @@ impl Linker {
             as_module,
             module,
         )?;
-        self.definitions.reserve(planned.len())?;
-        append_all(&mut self.definitions, planned);
+        self.definitions.append_all(planned)?;
         Ok(())
     }
 
@@ -157,5 +145,28 @@ impl Linker {
             return Err(LinkError::NotHeld);
         }
         resolve_imports(alloc, definitions, registry, key, module)
+    }
+
+    /// The number of the definition of one import of a held module, by its place: the one under its two names, which matches it.
+    ///
+    /// # Errors
+    /// `NotHeld`, `Missing` and `Mismatch` as by `resolve`, of this import alone; `OutOfMemory`.
+    pub fn resolve_import(
+        &self,
+        registry: &TypeRegistry,
+        key: ModuleKey,
+        module: &Module,
+        place: usize,
+    ) -> Result<usize, LinkError>
+        requires can { CanImport registry.now key «module».now }
+        requires place { place < length (record_of «module».now).initializers }
+        ensures answer { IsHeld registry.now key → IsAnswerAt result self.now (wanted registry.now key «module».now) place }
+        ensures not_held { IsErrOf result refused.NotHeld ↔ IsNotHeld registry.now key }
+    {
+        if registry.type_count(key).is_none() {
+            return Err(LinkError::NotHeld);
+        }
+        let mut names = Names::new(self.alloc);
+        resolve_at(&self.definitions, registry, key, module, place, &mut names)
     }
 }

@@ -10,7 +10,7 @@ use Rattle.type_registry.specs.Keys.{key_number}
 use Rattle.type_registry.specs.Registry.{registry_of}
 use Rattle.import_match.specs.Rules.{types_in, HasEngineTypes}
 use Rattle.import_match.specs.Definitions.{Definition, found, IsDefined, AreOnce}
-use Rattle.import_match.specs.Kept.{definition_of, definitions_of}
+use Rattle.import_match.specs.Kept.{definition_of}
 use Rattle.import_match.specs.Linking.{engine_type, exported, IsExportResolved}
 use Rattle.import_match.specs.Held.{IsTypeOf}
 use Rattle.import_match.proofs.Appending.{IsNew}
@@ -30,7 +30,7 @@ returns-in_err-names-clause-err c =
     (subst (All (IsExportResolved (record_of m))) c.in-Some.ensures.steps before.resolved)
     in
     let t = value_of (entity_type (record_of m) x.1) resolved.1 in
-    let Taken : Definition → Type 0 = λ d. IsDefined (definitions_of c.args.definitions.now) d.0 in
+    let Taken : Definition → Type 0 = λ d. IsDefined c.args.definitions.now d.0 in
     let listed = next c.args.registry.now c.args.key m c.args.as_module.now c.loop-name.name-iterator c.next.new.self x own t.0
     c.in-Some.ensures.steps c.get-own.ensures t.1 (map definition_of c.loop-name.planned.items) before.listed
     in
@@ -79,9 +79,9 @@ loop-name-preserved c =
           subst (All (λ (e : Definition). HasEngineTypes e.1)) (sym listed)
           (All-push (λ (e : Definition). HasEngineTypes e.1) (map definition_of ps) d before.engine c.with_engine_types-ty.ensures.engine);
       new =
-          subst (All (IsNew (definitions_of c.args.definitions.now))) (sym listed)
-          (All-push (IsNew (definitions_of c.args.definitions.now)) (map definition_of ps) d before.new
-          (ap (found (definitions_of c.args.definitions.now)) c.in_ok-names.ensures.names ∙ c.in_ok-names.ensures.new));
+          subst (All (IsNew c.args.definitions.now)) (sym listed)
+          (All-push (IsNew c.args.definitions.now) (map definition_of ps) d before.new
+          (ap (found c.args.definitions.now) c.in_ok-names.ensures.names ∙ c.in_ok-names.ensures.new));
     }
 
 pub returns-clause-once : goal.returns-clause-once

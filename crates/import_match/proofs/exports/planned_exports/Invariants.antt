@@ -5,7 +5,7 @@ use Rattle.type_registry.specs.Registry.{registry_of}
 use Rattle.wasm_module.specs.Record.{record_of}
 use Rattle.import_match.specs.Rules.{types_in, HasEngineTypes}
 use Rattle.import_match.specs.Definitions.{Definition, found}
-use Rattle.import_match.specs.Kept.{definition_of, definitions_of}
+use Rattle.import_match.specs.Kept.{definition_of}
 use Rattle.import_match.specs.Linking.{engine_definitions, export_of, exported, IsExportResolved}
 use Rattle.import_match.specs.Held.{IsTypeOf}
 use Rattle.import_match.proofs.exports.planned_exports.Given as goal
@@ -20,5 +20,5 @@ invariant-loop-name l = record {
   types : All (λ (d : Definition). All (IsTypeOf (registry_of l.registry) (key_number l.key)) (types_in d.1))
       (filter_map (export_of (record_of l.module) l.as_module) l.name-iterator);
   engine : All (λ (d : Definition). HasEngineTypes d.1) (map definition_of l.planned.items);
-  new : All (λ (d : Definition). found (definitions_of l.definitions) d.0 ≡ None) (map definition_of l.planned.items);
+  new : All (λ (d : Definition). found l.definitions d.0 ≡ None) (map definition_of l.planned.items);
 }

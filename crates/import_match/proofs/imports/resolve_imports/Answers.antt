@@ -1,57 +1,41 @@
-use Rattle.std.proofs.Common.{◌≡◌, ◌+◌, ◌∙◌, All, inr, length, drop, sym, ap, arith}
+use Rattle.std.proofs.Common.{◌≡◌, ◌+◌, ◌∙◌, ℕ, Result, Err, inl, inr, length, drop, sym, ap, arith}
 use Rattle.std.proofs.lemmas.List.{length-map}
 use Rattle.std.proofs.lemmas.Result.{err_from_is_err_and}
 use Rattle.wasm_module.specs.Record.{record_of}
+use Rattle.import_match.specs.declared.error.LinkError.{LinkError}
+use Rattle.import_match.specs.declared.error.LinkError.TheVariants as error
 use Rattle.type_registry.specs.Keys.{key_number}
 use Rattle.type_registry.specs.Registry.{registry_of}
-use Rattle.import_match.specs.Rules.{types_in}
-use Rattle.import_match.specs.Definitions.{Definition, names_of}
-use Rattle.import_match.specs.Kept.{definitions_of}
 use Rattle.import_match.specs.Linking.{engine_definition, wants_of, wanted}
-use Rattle.import_match.specs.Held.{IsTypeOf}
-use Rattle.import_match.proofs.Answered.{before_all, run, stops, goes-on, ends, answer-is}
-use Rattle.import_match.proofs.Engine.{types-of}
-use Rattle.import_match.proofs.Linked.{lent_want, read-at, wanted-at, wants-length}
-use Rattle.import_match.proofs.Listing.{All-slice_get}
+use Rattle.import_match.proofs.Answered.{before_all, run, stops, goes-on, ends}
+use Rattle.import_match.proofs.Linked.{wants-length}
 use Rattle.import_match.proofs.imports.resolve_imports.Goals as goal
 
-pub with_engine_types-want-requires : goal.with_engine_types-want-requires
-with_engine_types-want-requires c =
-    let wants = wants_of (record_of c.args.module.now) in
-    let r = registry_of c.args.registry.now in
-    let k = key_number c.args.key in
-    let read = read-at c.args.registry.now c.args.key c.args.module.now c.requires.can.resolved c.loop-place.place c.import.result c.unwrap-ty.result
-    c.import.ensures c.unwrap-ty.ensures
-    in
-    All-slice_get (λ (d : Definition). All (IsTypeOf r k) (types_in d.1)) wants c.loop-place.place (lent_want c.unwrap-ty.result)
-    (types-of r k wants c.requires.held c.requires.can.types) read
+same_error : (x y : LinkError) → ◌≡◌ {A = Result ℕ LinkError} (Err x) (Err y) → x ≡ y
+same_error x y same = cc
 
-pub returns-in_err-resolve_import : goal.returns-in_err-resolve_import
-returns-in_err-resolve_import c =
-    let p = err_from_is_err_and c.from_residual-in_err-resolve_import.result c.from_residual-in_err-resolve_import.ensures.1 in
-    let ds = definitions_of c.args.definitions.now in
-    let place = c.loop-place.place in
-    let w : Definition = engine_definition (registry_of c.args.registry.now) (key_number c.args.key) (lent_want c.unwrap-ty.result) in
-    let at = wanted-at c.args.registry.now c.args.key c.args.module.now c.requires.can.resolved place c.import.result c.unwrap-ty.result
-    c.import.ensures c.unwrap-ty.ensures
-    in
-    let answer = answer-is ds place (names_of c.set.new.self) w.0 c.with_engine_types-want.result w.1 c.in_ok-set.ensures c.with_engine_types-want.ensures.value in
-    rw (p.1, p.2) (inr (sym (stops ds (wanted c.args.registry.now c.args.key c.args.module.now) place c.loop-place.numbers.items c.loop-place.invariant w
-    c.in_err-resolve_import.field-0.0 at (sym answer ∙ sym c.in_err-resolve_import.ensures))))
+pub returns-in_err-number : goal.returns-in_err-number
+returns-in_err-number c =
+    let p = err_from_is_err_and c.from_residual-in_err-number.result c.from_residual-in_err-number.ensures.1 in
+    let ds = c.args.definitions.now in
+    let ws = wanted c.args.registry.now c.args.key c.args.module.now in
+    rw (p.1, p.2) (
+    elim c.in_err-number.ensures [
+      | inl none ↦ inl (ap (λ (y : LinkError). Err y) (same_error c.in_err-number.field-0.0 error.OutOfMemory none))
+      | inr is ↦ inr (sym (stops ds ws c.loop-place.place c.loop-place.numbers.items c.loop-place.invariant c.in_err-number.field-0.0 is))
+    ]
+    )
 
 pub loop-place-preserved : goal.loop-place-preserved
 loop-place-preserved c =
-    let ds = definitions_of c.args.definitions.now in
+    let ds = c.args.definitions.now in
     let ws = wanted c.args.registry.now c.args.key c.args.module.now in
     let place = c.loop-place.place in
-    let w : Definition = engine_definition (registry_of c.args.registry.now) (key_number c.args.key) (lent_want c.unwrap-ty.result) in
-    let at = wanted-at c.args.registry.now c.args.key c.args.module.now c.requires.can.resolved place c.import.result c.unwrap-ty.result
-    c.import.ensures c.unwrap-ty.ensures
-    in
-    let answer = answer-is ds place (names_of c.set.new.self) w.0 c.with_engine_types-want.result w.1 c.in_ok-set.ensures c.with_engine_types-want.ensures.value in
-    ap (λ l. before_all l (run ds (place + 1) (drop (place + 1) ws))) c.in_ok-push.ensures.items
-    ∙ goes-on ds ws place c.loop-place.numbers.items c.loop-place.invariant w c.in_ok-resolve_import.field-0 at
-    (sym answer ∙ sym c.in_ok-resolve_import.ensures)
+    elim c.in_ok-number.ensures [
+      | inl none ↦ absurd cc
+      | inr is ↦ ap (λ l. before_all l (run ds (place + 1) (drop (place + 1) ws))) c.in_ok-push.ensures.items
+          ∙ goes-on ds ws place c.loop-place.numbers.items c.loop-place.invariant c.in_ok-number.number is
+    ]
 
 pub returns : goal.returns
 returns c =
@@ -60,5 +44,5 @@ returns c =
     let size : length ws ≡ length m.initializers =
     length-map (wants_of m) (engine_definition (registry_of c.args.registry.now) (key_number c.args.key)) ∙ wants-length m c.requires.can.resolved
     in
-    inr (sym (ends (definitions_of c.args.definitions.now) ws c.loop-place.place c.loop-place.numbers.items c.loop-place.invariant
+    inr (sym (ends c.args.definitions.now ws c.loop-place.place c.loop-place.numbers.items c.loop-place.invariant
     (omega (arith, size, c.loop-place-test.false, c.len-count.ensures))))

@@ -1,5 +1,4 @@
 use Rattle.std.proofs.Common.{◌≡◌, drop}
-use Rattle.import_match.specs.Kept.{definitions_of}
 use Rattle.import_match.specs.Linking.{wanted}
 use Rattle.import_match.specs.Resolving.{resolved}
 use Rattle.import_match.proofs.Answered.{run, before_all}
@@ -9,5 +8,5 @@ use Rattle.import_match.proofs.imports.resolve_imports.Given as goal
 abbrev pub invariant-loop-place : goal.invariant-loop-place
 invariant-loop-place l =
     before_all l.numbers.items
-    (run (definitions_of l.definitions) l.place (drop l.place (wanted l.registry l.key l.module)))
-    ≡ resolved (definitions_of l.definitions) (wanted l.registry l.key l.module)
+    (run l.definitions l.place (drop l.place (wanted l.registry l.key l.module)))
+    ≡ resolved l.definitions (wanted l.registry l.key l.module)
