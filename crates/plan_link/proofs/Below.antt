@@ -1,5 +1,5 @@
 -- The numbers of exports that imports are given.
-use Rattle.std.proofs.Common.{◌≡◌, ◌∙◌, ◌<◌, ◌≤◌, ◌+◌, ℕ, Bool, true, false, List, [], ◌∷◌, length, map, get_or, All, Option, Some, None, refl, sym, subst, arith}
+use Rattle.std.proofs.Common.{◌≡◌, ◌∙◌, ◌<◌, ◌≤◌, ◌+◌, ℕ, Bool, true, false, List, [], ◌∷◌, length, get_or, All, Option, Some, None, refl, arith}
 use Rattle.std.specs.Prelude.{if◌then◌else◌, IsSome}
 use Rattle.std.proofs.lemmas.List.{length-map}
 use Rattle.std.proofs.lemmas.List.Elements.{All-map, All-weaker}
@@ -18,7 +18,6 @@ use Rattle.import_match.specs.Definitions.{Definition, TwoNames, names_eq, found
 use Rattle.import_match.specs.Linking.{engine_definition, export_of, exports_of, exported, CanExport, IsExportResolved}
 use Rattle.import_match.proofs.Linked.{export-some}
 use Rattle.import_match.proofs.Listing.{length-filter_map}
-use Rattle.plan_link.specs.declared.answer.ImportAnswer.{ImportAnswer}
 use Rattle.plan_link.specs.Answers.{judged, answer_by, answer_to, import_answers, IsBelow}
 
 -- a definition that is found has its number among all

@@ -8,13 +8,13 @@ use Rattle.wasm_spec.specs.TypeData.{Group, Composite, Func, Array, Struct, Cont
 use Rattle.wasm_spec.specs.Module.{Import, tag_import, imported_of, tags_of_section}
 use Rattle.wasm_spec.specs.Module as plain
 use Rattle.type_data.specs.Names.{Named}
-use Rattle.type_spec.specs.Interned.{Interned, Called, Built, Taken, mapped, same_mapped, plain as plain_type, alone, knows, with_trampoline, assign_at, assign_trampoline, assign_trampolines, opened, interned_group, startup_type, first_equal, take_group, take_groups, none_taken, taken}
+use Rattle.type_spec.specs.Interned.{Interned, Called, Built, Taken, mapped, same_mapped, plain as plain_type, alone, knows, with_trampoline, assign_at, assign_trampoline, assign_trampolines, opened, interned_group, startup_type, first_equal, take_group, take_groups, none_taken}
 use Rattle.type_spec.proofs.Homes.{size, size-cons}
 use Rattle.form_types.specs.Placed.{placed_groups}
 use Rattle.form_types.proofs.Ruled.{size-places}
-use Rattle.module_environ.specs.Firsts.{firsts, firsts_after}
+use Rattle.module_environ.specs.Firsts.{firsts_after}
 use Rattle.module_environ.specs.Readable.{IsReadable}
-use Rattle.module_environ.specs.Types.{interned_at, interned_list, exception_functions}
+use Rattle.module_environ.specs.Types.{interned_at, interned_list}
 use Rattle.plan_link.proofs.Excepted.{listed-long}
 use Rattle.plan_link.proofs.TypeBytes.{types-few}
 

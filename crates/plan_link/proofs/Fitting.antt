@@ -1,6 +1,5 @@
 -- How many types are live once a module is registered.
-use Rattle.std.proofs.Common.{◌≡◌, ◌≤◌, ◌<◌, ◌+◌, ℕ, Option, Some, None, List, [], ◌∷◌, ◌++◌, length, map, inl, inr, refl, arith}
-use Rattle.std.specs.Prelude.{◌⊎◌}
+use Rattle.std.proofs.Common.{◌≡◌, ◌≤◌, ◌+◌, ℕ, Option, Some, None, List, [], ◌∷◌, ◌++◌, length, map, inl, inr, refl, arith}
 use Rattle.std.proofs.lemmas.List.{length-map}
 use Rattle.type_spec.specs.Interned.{Span}
 use Rattle.module_types.specs.Orderly.{LieBetween}

@@ -1,4 +1,4 @@
-use Rattle.std.proofs.Common.{◌∙◌, sym, arith}
+use Rattle.std.proofs.Common.{◌∙◌, arith}
 use Rattle.import_match.specs.Linking.{wanted}
 use Rattle.plan_link.specs.Answers.{import_answers}
 use Rattle.plan_link.proofs.Collected.{one-more, all-of, answers-long}

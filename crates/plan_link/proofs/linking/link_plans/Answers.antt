@@ -1,4 +1,4 @@
-use Rattle.std.proofs.Common.{◌≡◌, ◌≤◌, ◌∙◌, ◌^◌, List, length, All, sym, ap, subst, arith}
+use Rattle.std.proofs.Common.{◌∙◌, ◌^◌, List, length, All, sym, ap, subst, arith}
 use Rattle.type_registry.specs.Keys.{key_number}
 use Rattle.type_registry.specs.Registry.{Registry, registry_of, live}
 use Rattle.import_match.specs.Definitions.{Definition}
