@@ -11,13 +11,11 @@ use Rattle.type_registry.specs.Keys.{key_number}
 use Rattle.type_registry.specs.Listed.{Listed}
 use Rattle.type_registry.specs.Registry.{Registry, RegistryState, Module, registry_of, count_of}
 use Rattle.type_registry.specs.Standing.{Stands, MayRegister}
-use Rattle.link_tests.specs.Linkable.{HasCount, MayGrow}
+use Rattle.plan_link.specs.Linkable.{HasCount}
+use Rattle.plan_link.proofs.Held.{stands-count}
+use Rattle.link_tests.specs.Growing.{MayGrow}
 
--- a count that is known is the one that a key has
-pub has-count : (registry : RegistryState) (key : ModuleKey) (count : ℕ) → count_of (registry_of registry) (key_number key) ≡ Some count
-    → HasCount registry key count
-has-count registry key count is = subst (λ o. IfSome o (λ held. held ≡ count)) (sym is) refl
-
+-- no module is held
 pub has-none : (registry : RegistryState) (key : ModuleKey) (count : ℕ) → count_of (registry_of registry) (key_number key) ≡ None
     → HasCount registry key count
 has-none registry key count is = subst (λ o. IfSome o (λ held. held ≡ count)) (sym is) tt
@@ -34,7 +32,7 @@ may-register r l listed few may fits = record {
 
 -- the module that is registered
 pub own-count : (r : Registry) (l : TypeList) → Stands (registered r l) r.registrations l → count_of (registered r l) r.registrations ≡ Some (length l.types)
-own-count r l st = ap (option_map (λ (m : Module). length m.indices)) st.held ∙ ap Some st.count
+own-count r l st = stands-count (registered r l) r.registrations l st
 
 is-held : (o : Option Module) (count : ℕ) → option_map (λ (m : Module). length m.indices) o ≡ Some count → IsSome o
 is-held None count is = absurd (none-some count is)

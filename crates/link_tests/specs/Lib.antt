@@ -1,1 +1,1 @@
-pub mod Linkable
+pub mod Growing

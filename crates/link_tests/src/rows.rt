@@ -1,7 +1,7 @@
 //! Modules whose imports are given definitions of the engine's own, and those of a linked program.
 
 ghost use Rattle.import_match.specs.Rules.{HasEngineTypes};
-ghost use Rattle.link_tests.specs.Linkable.{IsLinkable};
+ghost use Rattle.plan_link.specs.Linkable.{IsLinkable};
 
 use crate::translated::{new_registry, register, translated};
 use crate::two_modules::{Resolved, linked};

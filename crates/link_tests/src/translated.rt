@@ -5,21 +5,22 @@ ghost use Rattle.module_types.specs.Builder.{builder_view, new_builder};
 ghost use Rattle.type_registry.specs.Registry.{registry_of, count_of};
 ghost use Rattle.type_registry.specs.Keys.{key_number};
 ghost use Rattle.type_registry.specs.Listed.{Listed};
-ghost use Rattle.link_tests.specs.Linkable.{IsLinkable, MayGrow};
+ghost use Rattle.plan_link.specs.Linkable.{IsLinkable};
+ghost use Rattle.link_tests.specs.Growing.{MayGrow};
 
-use crate::laws::translated_can_link;
 use entity_map::EntityRef;
 use form_types::Validator;
 use init_plan::ModuleTranslation;
 use module_environ::{EnvironError, ModuleEnvironment};
 use module_types::{ModuleTypes, ModuleTypesBuilder};
+use plan_link::translated_can_link;
 use std::alloc::Global;
 use type_registry::{ModuleKey, RegistryError, TypeRegistry, registered_law, sound_law};
 use wasm_index::StaticModuleIndex;
 use wasm_types::Tunables;
 
-// No switch is on.
-const PLAIN: Tunables = Tunables {
+/// No switch is on.
+pub(crate) const PLAIN: Tunables = Tunables {
     debug_native: false,
     debug_guest: false,
     parse_wasm_debuginfo: false,

@@ -1,6 +1,6 @@
 //! A program of two modules: the second imports what the first exports.
 
-ghost use Rattle.link_tests.specs.Linkable.{IsLinkable};
+ghost use Rattle.plan_link.specs.Linkable.{IsLinkable};
 
 use crate::translated::{new_registry, register, translated};
 use import_match::{LinkError, Linker, Mismatch};
@@ -12,7 +12,7 @@ use wasm_module::Module;
 
 /// It has the types `(func (param i32) (result i32))` and `(func (param i32))`, and exports a function `f` of the first, a table `t` of one
 /// to two functions, a memory `m` of one to two pages, a global `g` that is an i32 and cannot be written, and a tag `e` of the second type.
-const FIRST: [u8; 81] = [
+pub(crate) const FIRST: [u8; 81] = [
     0x00, 0x61, 0x73, 0x6D, 0x01, 0x00, 0x00, 0x00, // the header
     0x01, 0x0A, 0x02, 0x60, 0x01, 0x7F, 0x01, 0x7F, 0x60, 0x01, 0x7F, 0x00, // types
     0x03, 0x02, 0x01, 0x00, // functions
@@ -26,7 +26,7 @@ const FIRST: [u8; 81] = [
 ];
 
 /// It has the same types in the other order, and imports all of these, the last first.
-const SECOND: [u8; 60] = [
+pub(crate) const SECOND: [u8; 60] = [
     0x00, 0x61, 0x73, 0x6D, 0x01, 0x00, 0x00, 0x00, // the header
     0x01, 0x0A, 0x02, 0x60, 0x01, 0x7F, 0x00, 0x60, 0x01, 0x7F, 0x01, 0x7F, // types
     0x02, 0x26, 0x05, // five imports
@@ -38,7 +38,7 @@ const SECOND: [u8; 60] = [
 ];
 
 // The places of bytes of the second module, by what they say.
-const TAG_NAME: usize = 26;
+pub(crate) const TAG_NAME: usize = 26;
 
 const TAG_TYPE: usize = 29;
 
@@ -50,7 +50,7 @@ const GLOBAL_MUTABILITY: usize = 36;
 
 const MEMORY_FLAGS: usize = 42;
 
-const MEMORY_MIN: usize = 43;
+pub(crate) const MEMORY_MIN: usize = 43;
 
 const MEMORY_MAX: usize = 44;
 

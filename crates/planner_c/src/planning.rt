@@ -132,7 +132,7 @@ pub extern "C" fn bobbinazure_make_plan_and_text<'d>(
 }
 
 /// The plan of the bytes.
-fn planned<'d>(
+pub(crate) fn planned<'d>(
     alloc: Global,
     command: &Command,
     bytes: &'d [u8],

@@ -27,16 +27,19 @@ void __wrap_free(void *block) {
     __real_free(block);
 }
 
-enum { PLAN, TEXT, BOTH, KINDS };
+enum { PLAN, TEXT, BOTH, LINK, KINDS };
 
 static uint32_t call(int kind, const uint8_t *bytes, size_t len, const bobbinazure_options *options) {
     bobbinazure_plan plan = bobbinazure_plan_init();
     bobbinazure_text text = bobbinazure_text_init();
+    bobbinazure_link_record links = bobbinazure_link_init();
     uint32_t status = kind == PLAN   ? bobbinazure_make_plan(bytes, len, options, &plan)
                       : kind == TEXT ? bobbinazure_make_text(bytes, len, options, &text)
-                                     : bobbinazure_make_plan_and_text(bytes, len, options, &plan, &text);
+                      : kind == BOTH ? bobbinazure_make_plan_and_text(bytes, len, options, &plan, &text)
+                                     : bobbinazure_link(bytes, len, bytes, len, (const uint8_t *)"m", 1, options, &links);   /* with itself */
     bobbinazure_plan_free(&plan);
     bobbinazure_text_free(&text);
+    bobbinazure_link_free(&links);
     return status;
 }
 

@@ -1,5 +1,6 @@
 //! Why there is no plan.
 
+use crate::list::List;
 use std::fmt;
 
 /// Why a module is refused.
@@ -20,6 +21,18 @@ pub enum Error {
     Refused { reason: Reason, line: &'static str },
     WrongOptions,
     OutOfMemory,
+}
+
+/// The refusal that a record tells.
+pub(crate) fn refusal(kind: u32, detail: u32, line: &List<u8>) -> Error {
+    let reason = match kind {
+        1 => Reason::Malformed,
+        2 => Reason::Invalid(detail),
+        3 => Reason::Unsupported(detail),
+        4 => Reason::TooLarge,
+        _ => Reason::OffsetOverflow,
+    };
+    Error::Refused { reason, line: line.as_text().trim_end() }
 }
 
 impl fmt::Display for Error {

@@ -1,6 +1,7 @@
 //! The sizes and the offsets of the records, where pointers have 8 bytes: the header has the same.
 #![cfg(target_pointer_width = "64")]
 
+use crate::links::{ImportAnswer, LinkRecord};
 use crate::list::List;
 use crate::record::{Record, Text};
 use crate::rows::*;
@@ -128,4 +129,6 @@ laid_out! {
         module_text 848,
     }
     Text: 24 { text 0, made 16 }
+    ImportAnswer: 24 { answer 0, detail 4, line 8 }
+    LinkRecord: 48 { refused 0, refusal 4, refusal_detail 8, refusal_line 16, answers 32 }
 }

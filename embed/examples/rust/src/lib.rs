@@ -12,15 +12,18 @@
 //! # }
 //! ```
 //!
-//! A `Plan` borrows the module's bytes, as in the planner itself, and gives its tables back when it is dropped.
+//! A `Plan` borrows the module's bytes, as in the planner itself, and gives its tables back when it is dropped. `link` says of two modules what each
+//! import of the second is given by the exports of the first.
 
 mod error;
 mod layout;
+mod links;
 mod list;
 mod record;
 mod rows;
 
 pub use error::{Error, Reason};
+pub use links::{Answer, LinkError, link};
 pub use record::{Plan, plan_and_text, text};
 pub use rows::{
     Context, Elements, Entities, Export, Field, FunctionName, Global, GlobalValue, Hints, Image, Import, Layout, LayoutField, Memory, Operator,

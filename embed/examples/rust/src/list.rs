@@ -36,3 +36,12 @@ impl<T> List<T> {
         *self = List::empty();
     }
 }
+
+impl List<u8> {
+    /// A text of the library's own, which is ASCII and never freed.
+    pub(crate) fn as_text(&self) -> &'static str {
+        // SAFETY: the text stands in the library itself.
+        let bytes: &'static [u8] = unsafe { &*std::ptr::from_ref(self.as_slice()) };
+        std::str::from_utf8(bytes).unwrap_or("")
+    }
+}

@@ -1,6 +1,6 @@
 //! The record of a plan, and the calls that fill it.
 
-use crate::error::{Error, Reason};
+use crate::error::{Error, refusal};
 use crate::list::List;
 use crate::rows::*;
 use std::marker::PhantomData;
@@ -170,24 +170,10 @@ pub struct Plan<'d> {
 unsafe impl Send for Plan<'_> {}
 unsafe impl Sync for Plan<'_> {}
 
-fn refusal(record: &Record) -> Error {
-    let detail = record.refusal_detail;
-    let reason = match record.refusal {
-        1 => Reason::Malformed,
-        2 => Reason::Invalid(detail),
-        3 => Reason::Unsupported(detail),
-        4 => Reason::TooLarge,
-        _ => Reason::OffsetOverflow,
-    };
-    // SAFETY: the line of a refusal stands in the library's own text, which is ASCII.
-    let line: &'static [u8] = unsafe { &*std::ptr::from_ref(record.refusal_line.as_slice()) };
-    Error::Refused { reason, line: std::str::from_utf8(line).unwrap_or("refused").trim_end() }
-}
-
 fn checked(status: u32, record: Box<Record>) -> Result<Box<Record>, Error> {
     match status {
         0 => Ok(record),
-        1 => Err(refusal(&record)),
+        1 => Err(refusal(record.refusal, record.refusal_detail, &record.refusal_line)),
         2 => Err(Error::WrongOptions),
         _ => Err(Error::OutOfMemory),
     }

@@ -1,6 +1,6 @@
 use Rattle.std.proofs.Common.{ap, sym, subst, ◌∙◌}
 use Rattle.type_registry.specs.Registry.{Registry, registry_of, count_of}
-use Rattle.link_tests.specs.Linkable.{MayGrow}
+use Rattle.link_tests.specs.Growing.{MayGrow}
 use Rattle.link_tests.proofs.Registered.{may-register, own-count, other-count}
 use Rattle.link_tests.proofs.translated.register.Goals as goal
 

@@ -48,7 +48,7 @@ use Rattle.init_plan.specs.Startup.{startup_with}
 use Rattle.translate.specs.Options.{runs}
 use Rattle.import_match.specs.Linking.{IsTypeBelow}
 use Rattle.import_match.specs.ModuleTypes.{types_of}
-use Rattle.link_tests.proofs.Excepted.{exception-below, taken-within}
+use Rattle.plan_link.proofs.Excepted.{exception-below, taken-within}
 
 -- what holds of each second part holds in a numbered list
 all-numbered : (P : ℕ → Type 0) (n : ℕ) (xs : List ℕ) → All P xs → All (λ (f : ℕ × ℕ). P f.1) (enumerate_from n xs)

@@ -36,7 +36,7 @@ use Rattle.wasm_module.specs.Record.{record_of}
 use Rattle.module_environ.specs.Entities.{NamedEntity, count_of, brought, imports_after, imported_entities, exported_entities, entity_at, resolved_import, resolved_export}
 use Rattle.module_environ.specs.Pooled.{HasText, HasTexts}
 use Rattle.import_match.specs.Linking.{IsExportResolved}
-use Rattle.link_tests.proofs.TypesBelow.{HasTypesOf}
+use Rattle.plan_link.proofs.TypesBelow.{HasTypesOf}
 
 -- ---- each import brings an entity of which there are as many imported ones
 

@@ -30,9 +30,9 @@ use Rattle.import_match.specs.ModuleTypes.{types_of}
 use Rattle.import_match.specs.Definitions.{Definition}
 use Rattle.import_match.specs.Rules.{types_in}
 use Rattle.import_match.proofs.ModuleTypes.{exported-types, wanted-types}
-use Rattle.link_tests.specs.Linkable.{IsLinkable}
-use Rattle.link_tests.proofs.TypesBelow.{startup-below, all-below}
-use Rattle.link_tests.proofs.Found.{HasEntitiesOf, imports-resolved, exports-resolved}
+use Rattle.plan_link.specs.Linkable.{IsLinkable}
+use Rattle.plan_link.proofs.TypesBelow.{startup-below, all-below}
+use Rattle.plan_link.proofs.Found.{HasEntitiesOf, imports-resolved, exports-resolved}
 
 -- what is held under a key names only types that are below its count
 have-types : (count : ℕ) (ds : List Definition) → All (λ (d : Definition). All (IsTypeBelow count) (types_in d.1)) ds → (held : Option ℕ)

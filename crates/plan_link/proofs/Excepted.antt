@@ -71,11 +71,13 @@ exceptions-long start ns = omega (arith, long-from ns start [] [] (λ n. refl))
 
 -- ---- of a module
 
+-- the list without a startup type: the types of groups, and one for each function type of tags
+pub listed-long : (m : plain.Module)
+    → length (interned_list m false).types ≡ length (taken (placed_groups m)).built.types + length (exception_functions m)
+listed-long m = exceptions-long (taken (placed_groups m)).built (map (interned_at m) (plain.tags m))
+
 pub taken-within : (m : plain.Module) → length (taken (placed_groups m)).built.types ≤ length (interned_list m false).types
-taken-within m =
-    let long : length (interned_list m false).types ≡ length (taken (placed_groups m)).built.types + length (exception_functions m) =
-    exceptions-long (taken (placed_groups m)).built (map (interned_at m) (plain.tags m)) in
-    omega (arith, long)
+taken-within m = omega (arith, listed-long m)
 
 first-stays : (ns known : List ℕ) → length known ≤ length (firsts_after known ns)
 first-stays [] known = omega arith
@@ -99,7 +101,7 @@ pub exception-below : (m : plain.Module) (i : ℕ) → 0 < length (plain.tags m)
 exception-below m i some =
     let functions = map (interned_at m) (plain.tags m) in
     let start = (taken (placed_groups m)).built in
-    let long : length (interned_list m false).types ≡ length start.types + length (exception_functions m) = exceptions-long start functions in
+    let long : length (interned_list m false).types ≡ length start.types + length (exception_functions m) = listed-long m in
     let asked : 0 < length functions = omega (arith, some, length-map (plain.tags m) (interned_at m)) in
     let among = place-among (λ k. k == interned_at m i) (exception_functions m) (some-first functions asked) in
     omega (arith, long, among)

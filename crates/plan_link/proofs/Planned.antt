@@ -1,12 +1,14 @@
 -- The translation and the types of a plan may be registered and linked.
-use Rattle.std.proofs.Common.{◌≡◌, ◌∙◌, ◌<◌, ℕ, Bool, List, length, All, sym, ap, subst}
+use Rattle.std.proofs.Common.{◌≡◌, ◌∙◌, ◌<◌, ◌^◌, ℕ, Bool, List, length, All, sym, ap, subst, arith}
 use Rattle.std.proofs.lemmas.List.{length-map}
 use Rattle.wasm_spec.specs.TypeData.{Group}
+use Rattle.wasm_spec.specs.Module.{Export}
 use Rattle.wasm_spec.specs.Module as plain
 use Rattle.rule_spec.specs.Lists.{lists_of_module}
 use Rattle.replay_spec.specs.Startup.{Startup}
 use Rattle.type_spec.specs.Interned.{Built, interned}
 use Rattle.type_spec.specs.Taken.{NameEarlier}
+use Rattle.form_reader.proofs.Entries.{few_entries}
 use Rattle.form_types.specs.Placed.{placed_groups}
 use Rattle.module_types.specs.Held.{built_of}
 use Rattle.module_types.specs.ListGroups.{IsWellNamed}
@@ -16,6 +18,7 @@ use Rattle.module_types.proofs.NamingEarlier.{keeps-earlier}
 use Rattle.init_plan.specs.declared.translation.ModuleTranslation.{ModuleTranslation}
 use Rattle.init_plan.specs.Tables.{plan_of_tables}
 use Rattle.init_plan.specs.Views.{memory_plan_of}
+use Rattle.module_environ.specs.Entities.{entity_at, resolved_export}
 use Rattle.module_environ.specs.Escapes.{escaping}
 use Rattle.module_environ.specs.Types.{interned_list}
 use Rattle.plan.specs.declared.plan.Plan.{Plan}
@@ -23,13 +26,15 @@ use Rattle.translate.specs.Initialised.{IsInitialised}
 use Rattle.translate.specs.Options.{Options, startup_by, runs}
 use Rattle.translate.specs.Planned.{IsPlanned, nothing_met}
 use Rattle.type_registry.specs.Listed.{Listed, list_of}
+use Rattle.wasm_types.specs.declared.entity.EntityIndex.{EntityIndex}
 use Rattle.wasm_types.specs.declared.index.EngineOrModuleTypeIndex.{EngineOrModuleTypeIndex}
 use Rattle.import_match.specs.Linking.{IsTypeBelow}
 use Rattle.import_match.specs.ModuleTypes.{types_of}
-use Rattle.link_tests.specs.Linkable.{IsLinkable}
-use Rattle.link_tests.proofs.TypesBelow.{raised-below, all-below}
-use Rattle.link_tests.proofs.Found.{HasEntitiesOf}
-use Rattle.link_tests.proofs.Linkable.{linkable-of}
+use Rattle.plan_link.specs.Linkable.{IsLinkable}
+use Rattle.plan_link.proofs.FewTypes.{few-types}
+use Rattle.plan_link.proofs.TypesBelow.{raised-below, all-below}
+use Rattle.plan_link.proofs.Found.{HasEntitiesOf}
+use Rattle.plan_link.proofs.Linkable.{linkable-of}
 use Rattle.wasm_module.specs.declared.startup.ModuleStartup.{ModuleStartup}
 use Rattle.wasm_module.specs.ModuleData.{startup_of}
 use Rattle.wasm_module.specs.ModuleShapes.{startup_edges}
@@ -41,8 +46,7 @@ MayBeListed = (l : TypeList) → IsWellNamed (list_of l) → length l.types < 42
 abbrev pub AreWellNamed : Type 0
 AreWellNamed = (ms : List (Group ℕ ℕ)) → NameEarlier 0 ms → (tags : List ℕ) (startup : Bool) → IsWellNamed (interned ms tags startup)
 
-module _ (may : MayBeListed) (well : AreWellNamed) (o : Options) (bytes : List ℕ) (plan : Plan) (is : IsPlanned o bytes plan)
-    (few : length plan.types.types < 4294967295) where
+module _ (o : Options) (bytes : List ℕ) (plan : Plan) (is : IsPlanned o bytes plan) where
   abbrev m : plain.Module
   m = is.meaning
 
@@ -61,9 +65,12 @@ module _ (may : MayBeListed) (well : AreWellNamed) (o : Options) (bytes : List �
   counted : length (interned_list m (runs kind)).types ≡ length plan.types.types
   counted = ap length (sym is.planned.types.types) ∙ length-map plan.types.types interned_of
 
+  pub planned-types : length plan.types.types < 2 ^ 31
+  planned-types = omega (arith, few-types bytes m is.read (runs kind), counted)
+
   -- beside where mapped types were met the list is the interned one
-  well-named : IsWellNamed held
-  well-named =
+  well-named : AreWellNamed → IsWellNamed held
+  well-named well =
       let w = well (placed_groups m) (keeps-earlier m is.keeps) (plain.tags m) (runs kind) in
       let without : Built = record list { known_trampolines = held.known_trampolines } in
       let named : IsWellNamed without = record { orderly = w.orderly; earlier = w.earlier; kinds = w.kinds } in
@@ -103,5 +110,20 @@ module _ (may : MayBeListed) (well : AreWellNamed) (o : Options) (bytes : List �
       (subst (λ (s : ModuleStartup). All P (startup_edges (startup_of s))) (sym init.startup)
       (raised-below m is.keeps (runs kind) (length plan.types.types) counted kind counted))
 
-  pub planned-linkable : IsLinkable plan.translation.module plan.types
-  planned-linkable = linkable-of m is.keeps plan.translation.module has plan.types below (may plan.types well-named few) few
+  pub planned-exports : length plan.translation.module.exports.entries < 2 ^ 30
+  planned-exports =
+      let r = plan.translation.module in
+      let es = (lists_of_module m).exports in
+      let exported : Export → List ℕ × EntityIndex = λ e. (e.name, entity_at e.kind e.index) in
+      omega (
+        arith,
+        length-map r.exports.entries (resolved_export r.strings),
+        ap length has.exports,
+        length-map es exported,
+        (few_entries bytes m is.read.spelled is.read.short).exports,
+      )
+
+  pub planned-linkable : MayBeListed → AreWellNamed → IsLinkable plan.translation.module plan.types
+  planned-linkable may well =
+      let few : length plan.types.types < 4294967295 = omega (arith, planned-types) in
+      linkable-of m is.keeps plan.translation.module has plan.types below (may plan.types (well-named well) few) few

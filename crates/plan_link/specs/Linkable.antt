@@ -3,9 +3,8 @@ use Rattle.std.specs.Prelude.{◌≡◌, ◌<◌, ℕ, List, length, IfSome}
 use Rattle.module_types.specs.TypeList.{TypeList}
 use Rattle.type_registry.specs.declared.key.ModuleKey.{ModuleKey}
 use Rattle.type_registry.specs.Keys.{key_number}
-use Rattle.type_registry.specs.Registry.{Registry, RegistryState, registry_of, count_of}
+use Rattle.type_registry.specs.Registry.{RegistryState, registry_of, count_of}
 use Rattle.type_registry.specs.Listed.{Listed}
-use Rattle.type_registry.specs.Standing.{IsSound}
 use Rattle.wasm_module.specs.declared.module.Module.{Module}
 use Rattle.import_match.specs.Linking.{CanExport, CanImport}
 
@@ -19,8 +18,3 @@ pub record IsLinkable (m : Module) (l : TypeList) : Type 0 where
   pub few : length l.types < 4294967295
   pub exports : (registry : RegistryState) (key : ModuleKey) (from : List ℕ) → HasCount registry key (length l.types) → CanExport registry key m from
   pub imports : (registry : RegistryState) (key : ModuleKey) → HasCount registry key (length l.types) → CanImport registry key m
-
--- a registry in which modules may be registered
-pub record MayGrow (r : Registry) : Type 0 where
-  pub sound : IsSound r.groups
-  pub most : r.max_types < 4294967295

@@ -1,0 +1,61 @@
+//! Two plans that are linked, import by import, and the lines of the rules.
+
+ghost use Rattle.std.specs.Prelude.{IfOk};
+ghost use Rattle.plan_link.specs.Linked.{IsSomePlan};
+
+use crate::translated::PLAIN;
+use crate::two_modules::{FIRST, MEMORY_MIN, SECOND, TAG_NAME};
+use import_match::Mismatch;
+use plan_link::{ImportAnswer, link_plans, mismatch_line};
+use std::alloc::Global;
+use std::test::Fail;
+use translate::{Collector, Plan, TranslateError, translate_module};
+
+fn plan_of<'d>(alloc: Global, bytes: &'d [u8]) -> Result<Plan<'d>, TranslateError>
+    ensures { IfOk result IsSomePlan }
+{
+    translate_module(alloc, &PLAIN, Collector::Drc, 8, 4096, 1048576, bytes)
+}
+
+#[test]
+fn each_import_of_a_plan_is_answered_by_itself(rt: HostRuntime) -> Result<(), Fail> {
+    let mut second = SECOND;
+    second[TAG_NAME] = 0x7A;
+    second[MEMORY_MIN] = 2;
+    let exporter = plan_of(rt.alloc(), &FIRST)?;
+    let importer = plan_of(rt.alloc(), &second)?;
+    let answers = link_plans(rt.alloc(), &exporter, "m", &importer)?;
+    let wanted = [
+        ImportAnswer::Missing,
+        ImportAnswer::Given(3),
+        ImportAnswer::Mismatch(Mismatch::MemoryMin),
+        ImportAnswer::Given(1),
+        ImportAnswer::Given(0),
+    ];
+    assert_eq!(rt; answers.as_slice(), wanted.as_slice());
+    Ok(())
+}
+
+#[test]
+fn lines_are_what_errors_display(rt: HostRuntime) -> Result<(), Fail> {
+    for rule in [
+        Mismatch::Kind,
+        Mismatch::FuncType,
+        Mismatch::TableElement,
+        Mismatch::TableIndexType,
+        Mismatch::TableMin,
+        Mismatch::TableMax,
+        Mismatch::MemoryIndexType,
+        Mismatch::MemoryShared,
+        Mismatch::MemoryPage,
+        Mismatch::MemoryMin,
+        Mismatch::MemoryMax,
+        Mismatch::GlobalMutability,
+        Mismatch::GlobalType,
+        Mismatch::TagType,
+    ] {
+        let displayed = format!(in rt.alloc(); "{rule}")?;
+        assert_eq!(rt; displayed.as_str(), mismatch_line(rule));
+    }
+    Ok(())
+}

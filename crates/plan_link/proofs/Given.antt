@@ -1,0 +1,137 @@
+-- What a linker answers to an import, and what the import is given.
+use Rattle.std.proofs.Common.{◌≡◌, ◌∙◌, ◌↔◌, ◌+◌, ℕ, List, [], ◌∷◌, map, slice_get, Option, Some, None, Result, Ok, Err, inl, inr, refl, sym, ap, subst}
+use Rattle.std.specs.Prelude.{⊤}
+use Rattle.std.specs.List.{enumerate_from}
+use Rattle.std.specs.Option.{option_map}
+use Rattle.std.proofs.lemmas.Option.{none-some, same_Some, slice_get-map}
+use Rattle.wasm_types.specs.declared.entity.EntityType.{EntityType}
+use Rattle.import_match.specs.declared.error.LinkError.{LinkError}
+use Rattle.import_match.specs.declared.error.LinkError.TheVariants as error
+use Rattle.import_match.specs.declared.error.Mismatch.{Mismatch}
+use Rattle.import_match.specs.Rules.{mismatch}
+use Rattle.import_match.specs.Definitions.{Definition, found}
+use Rattle.import_match.specs.Resolving as linker
+use Rattle.plan_link.specs.declared.answer.ImportAnswer.{ImportAnswer}
+use Rattle.plan_link.specs.declared.answer.ImportAnswer.TheVariants as answer
+use Rattle.plan_link.specs.Answers.{judged, answer_by, answer_to, import_answers, told_by, CanCome}
+
+abbrev Answer : Type 0
+Answer = Result ℕ LinkError
+
+-- the same without the place of the import
+abbrev pub told : Answer → ImportAnswer
+told (Ok number) = answer.Given number
+told (Err (error.Missing i)) = answer.Missing
+told (Err (error.Mismatch i rule)) = answer.Mismatch rule
+told (Err error.Duplicate) = answer.Missing
+told (Err error.NotHeld) = answer.Missing
+told (Err error.OutOfMemory) = answer.Missing
+
+told-at : (i : ℕ) (want : EntityType) (o : Option (ℕ × EntityType)) → told (linker.answer_at i want o) ≡ answer_by want o
+told-at i want None = refl
+told-at i want (Some have) = by (mismatch have.1 want) where
+  by : (m : Option Mismatch) → told (linker.judged i have.0 m) ≡ judged have.0 m
+  by None = refl
+  by (Some rule) = refl
+
+told-from : (k : ℕ) (ds wants : List Definition) → map told (map (linker.answer_to ds) (enumerate_from k wants)) ≡ import_answers ds wants
+told-from k ds [] = refl
+told-from k ds (want ∷ wants) = λ i. told-at k want.1 (found ds want.0) i ∷ told-from (k + 1) ds wants i
+
+-- the answer of a linker at a place tells the one that is given there
+given-at : (ds wants : List Definition) (i : ℕ) (r : Answer) → slice_get (linker.answers ds wants) i ≡ Some r
+    → slice_get (import_answers ds wants) i ≡ Some (told r)
+given-at ds wants i r is =
+    ap (λ (rs : List ImportAnswer). slice_get rs i) (sym (told-from 0 ds wants)) ∙ slice_get-map told (linker.answers ds wants) i ∙ ap (option_map told) is
+
+-- ---- one import
+
+abbrev Comes : Answer → Type 0
+Comes (Ok number) = ⊤
+Comes (Err e) = CanCome e
+
+can-come : (i : ℕ) (want : EntityType) (o : Option (ℕ × EntityType)) → Comes (linker.answer_at i want o)
+can-come i want None = tt
+can-come i want (Some have) = by (mismatch have.1 want) where
+  by : (m : Option Mismatch) → Comes (linker.judged i have.0 m)
+  by None = tt
+  by (Some rule) = tt
+
+come-at : (ds wants : List Definition) (i : ℕ) (r : Answer) → slice_get (linker.answers ds wants) i ≡ Some r → Comes r
+come-at ds wants i r is = by (slice_get (enumerate_from 0 wants) i) (sym (slice_get-map (linker.answer_to ds) (enumerate_from 0 wants) i) ∙ is) where
+  by : (o : Option (ℕ × Definition)) → option_map (linker.answer_to ds) o ≡ Some r → Comes r
+  by None e = absurd (none-some r e)
+  by (Some x) e = subst Comes (same_Some (linker.answer_to ds x) r e) (can-come x.0 x.1.1 (found ds x.1.0))
+
+pub comes : (ds wants : List Definition) (i : ℕ) (e : LinkError) → linker.IsAnswerAt (Err e) ds wants i → CanCome e
+comes ds wants i e (inl memory) = subst Comes (sym memory) tt
+comes ds wants i e (inr at) = come-at ds wants i (Err e) at
+
+pub number-given : (ds wants : List Definition) (i number : ℕ) → linker.IsAnswerAt (Ok number) ds wants i
+    → slice_get (import_answers ds wants) i ≡ Some (answer.Given number)
+number-given ds wants i number (inl memory) = absurd cc
+number-given ds wants i number (inr at) = given-at ds wants i (Ok number) at
+
+told-is : (e : LinkError) (a : ImportAnswer) → told_by e ≡ Some a → told (Err e) ≡ a
+told-is (error.Missing i) a is = same_Some answer.Missing a is
+told-is (error.Mismatch i rule) a is = same_Some (answer.Mismatch rule) a is
+told-is error.Duplicate a is = absurd (none-some a is)
+told-is error.NotHeld a is = absurd (none-some a is)
+told-is error.OutOfMemory a is = absurd (none-some a is)
+
+pub refusal-told : (ds wants : List Definition) (i : ℕ) (e : LinkError) (a : ImportAnswer) → linker.IsAnswerAt (Err e) ds wants i
+    → told_by e ≡ Some a → slice_get (import_answers ds wants) i ≡ Some a
+refusal-told ds wants i e a (inl memory) is = absurd (none-some a (sym (ap by memory) ∙ is)) where
+  by : Answer → Option ImportAnswer
+  by (Ok number) = None
+  by (Err x) = told_by x
+refusal-told ds wants i e a (inr at) is = given-at ds wants i (Err e) at ∙ ap Some (told-is e a is)
+
+-- ---- where all imports are given
+
+given-ok : (i : ℕ) (want : EntityType) (o : Option (ℕ × EntityType)) (n : ℕ) → answer_by want o ≡ answer.Given n → linker.answer_at i want o ≡ Ok n
+given-ok i want None n e = absurd cc
+given-ok i want (Some have) n e = by (mismatch have.1 want) e where
+  by : (m : Option Mismatch) → judged have.0 m ≡ answer.Given n → linker.judged i have.0 m ≡ Ok n
+  by None e' = ap Ok cc
+  by (Some rule) e' = absurd cc
+
+ok-given : (i : ℕ) (want : EntityType) (o : Option (ℕ × EntityType)) (n : ℕ) → linker.answer_at i want o ≡ Ok n → answer_by want o ≡ answer.Given n
+ok-given i want o n e = sym (told-at i want o) ∙ ap told e
+
+-- the first value and those after it
+record IsParted (r : Answer) (rs : List Answer) (ns : List ℕ) : Type 0 where
+  first : ℕ
+  rest : List ℕ
+  here : r ≡ Ok first
+  after : linker.all_values rs ≡ Ok rest
+  both : first ∷ rest ≡ ns
+
+parted : (r : Answer) (rs : List Answer) (ns : List ℕ) → linker.all_values (r ∷ rs) ≡ Ok ns → IsParted r rs ns
+parted (Err e) rs ns is = absurd cc
+parted (Ok n) rs ns is = by (linker.all_values rs) refl is where
+  by : (o : Result (List ℕ) LinkError) → linker.all_values rs ≡ o → linker.with_value n o ≡ Ok ns → IsParted (Ok n) rs ns
+  by (Err e) after is' = absurd cc
+  by (Ok ms) after is' = record { first = n; rest = ms; here = refl; after = after; both = cc }
+
+abbrev from : ℕ → List Definition → List Definition → Result (List ℕ) LinkError
+from k ds wants = linker.all_values (map (linker.answer_to ds) (enumerate_from k wants))
+
+all-ok : (k : ℕ) (ds wants : List Definition) (ns : List ℕ) → import_answers ds wants ≡ map answer.Given ns → from k ds wants ≡ Ok ns
+all-ok k ds [] [] e = refl
+all-ok k ds [] (n ∷ ns) e = absurd cc
+all-ok k ds (want ∷ wants) [] e = absurd cc
+all-ok k ds (want ∷ wants) (n ∷ ns) e =
+    let first : answer_to ds want ≡ answer.Given n = cc in
+    let rest : import_answers ds wants ≡ map answer.Given ns = cc in
+    ap (λ (r : Answer). linker.all_values (r ∷ map (linker.answer_to ds) (enumerate_from (k + 1) wants))) (given-ok k want.1 (found ds want.0) n first)
+    ∙ ap (linker.with_value n) (all-ok (k + 1) ds wants ns rest)
+
+all-given : (k : ℕ) (ds wants : List Definition) (ns : List ℕ) → from k ds wants ≡ Ok ns → import_answers ds wants ≡ map answer.Given ns
+all-given k ds [] ns e = let none : [] ≡ ns = cc in ap (map answer.Given) none
+all-given k ds (want ∷ wants) ns e =
+    let p = parted (linker.answer_at k want.1 (found ds want.0)) (map (linker.answer_to ds) (enumerate_from (k + 1) wants)) ns e in
+    (λ i. ok-given k want.1 (found ds want.0) p.first p.here i ∷ all-given (k + 1) ds wants p.rest p.after i) ∙ ap (map answer.Given) p.both
+
+pub given-resolved : (ds wants : List Definition) (ns : List ℕ) → (import_answers ds wants ≡ map answer.Given ns) ↔ (linker.resolved ds wants ≡ Ok ns)
+given-resolved ds wants ns = (all-ok 0 ds wants ns, all-given 0 ds wants ns)

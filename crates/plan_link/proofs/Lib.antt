@@ -1,0 +1,13 @@
+pub mod Below
+pub mod Collected
+pub mod Excepted
+pub mod FewTypes
+pub mod Fitting
+pub mod Found
+pub mod Given
+pub mod Held
+pub mod Linkable
+pub mod Outcomes
+pub mod Planned
+pub mod TypeBytes
+pub mod TypesBelow

@@ -1,0 +1,5 @@
+pub mod Answers
+pub mod Lines
+pub mod Linkable
+pub mod Linked
+pub mod Registering
