@@ -152,7 +152,10 @@ fn declared_names<'d>(
     let mut entries = Vec::with_capacity(alloc, names.len())?;
     for (function, name) in names {
         if (*function as usize) < declared {
-            entries.push((FuncIndex::from_u32(*function), *name))?;
+            match entries.push((FuncIndex::from_u32(*function), *name)) {
+                Ok(_) => {}
+                Err(_) => return Err(OutOfMemory),
+            }
         }
     }
     Ok(entries)
