@@ -279,38 +279,33 @@ fn engine_type(number: u32) -> EngineOrModuleTypeIndex
     EngineOrModuleTypeIndex::Engine(VMSharedTypeIndex::from_u32(number))
 }
 
+fn function(number: u32) -> EntityType
+    requires { number < u32.MAX }
+    ensures { HasEngineTypes result }
+{
+    EntityType::Function(engine_type(number))
+}
+
+fn tag(signature: u32, exception: u32) -> EntityType
+    requires signature { signature < u32.MAX }
+    requires exception { exception < u32.MAX }
+    ensures { HasEngineTypes result }
+{
+    EntityType::Tag(Tag {
+        signature: engine_type(signature),
+        exception: engine_type(exception),
+    })
+}
+
 #[test]
 fn functions_and_tags_have_one_index(rt: HostRuntime) {
-    let first = engine_type(6);
-    let second = engine_type(7);
-    let tag = EntityType::Tag(Tag {
-        signature: first,
-        exception: first,
-    });
+    let of_function = Some(Mismatch::FuncType);
+    expect(&rt, function(6), function(6), None);
+    expect(&rt, function(7), function(6), of_function);
+    expect(&rt, tag(6, 6), tag(6, 6), None);
     // The objects that carry an exception do not count.
-    let carried = EntityType::Tag(Tag {
-        signature: first,
-        exception: second,
-    });
-    let other = EntityType::Tag(Tag {
-        signature: second,
-        exception: first,
-    });
-    expect(
-        &rt,
-        EntityType::Function(first),
-        EntityType::Function(first),
-        None,
-    );
-    expect(
-        &rt,
-        EntityType::Function(second),
-        EntityType::Function(first),
-        Some(Mismatch::FuncType),
-    );
-    expect(&rt, tag, tag, None);
-    expect(&rt, carried, tag, None);
-    expect(&rt, other, tag, Some(Mismatch::TagType));
+    expect(&rt, tag(6, 7), tag(6, 6), None);
+    expect(&rt, tag(7, 6), tag(6, 6), Some(Mismatch::TagType));
 }
 
 fn reference(nullable: bool, number: u32) -> EntityType
@@ -342,17 +337,11 @@ fn entity_of_kind(kind: u32) -> EntityType
     ensures { HasEngineTypes result }
 {
     match kind {
-        0 => EntityType::Function(engine_type(6)),
+        0 => function(6),
         1 => EntityType::Table(TABLE),
         2 => EntityType::Memory(MEMORY),
         3 => EntityType::Global(GLOBAL),
-        _ => {
-            let signature = engine_type(6);
-            EntityType::Tag(Tag {
-                signature,
-                exception: signature,
-            })
-        }
+        _ => tag(6, 6),
     }
 }
 

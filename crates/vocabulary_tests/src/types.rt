@@ -87,8 +87,11 @@ fn copies_equal_their_sources(rt: HostRuntime) -> Result<(), Fail> {
 
 #[test]
 fn indices_are_written_in_place(rt: HostRuntime) -> Result<(), Fail> {
-    let named = array_reference(1);
-    let mut func = WasmFuncType::new(rt.alloc(), &[WasmValType::I32, named], &[named])?;
+    let mut func = WasmFuncType::new(
+        rt.alloc(),
+        &[WasmValType::I32, array_reference(1)],
+        &[array_reference(1)],
+    )?;
     assert!(rt; func.index_mut(0).is_none());
     if let Some(index) = func.index_mut(2) {
         *index = module_type(9);
