@@ -86,7 +86,7 @@ returns-clause-few c =
     let first = c.in_ok-first.first in
     let stands = c.in_ok-second.ensures.others (key_number first) plan.types c.in_ok-first.ensures.stands in
     let can = (c.planned_can_link.ensures.linkable p.options p.bytes plan p.planned).exports registry first c.args.as_module.now
-        (stands-has registry first plan.types stands) in
+    (stands-has registry first plan.types stands) in
     let long = exported-long registry first plan.translation.module c.args.as_module.now can in
     let few = c.planned_can_link.ensures.exports p.options p.bytes plan p.planned in
     let ds = exported registry first plan.translation.module c.args.as_module.now in
