@@ -98,15 +98,21 @@ fn import_a_function(rt: &impl Abort, module: &mut Module) -> Result<(), Fail>
     assert_eq!(rt; module.num_defined_funcs(), 1);
     assert_eq!(rt; module.num_defined_tags(), 1);
     let (name, field) = insert_texts(&mut module.strings, "env", "run")?;
-    let index = index.into();
-    module
-        .initializers
-        .push(Initializer::Import { name, field, index })?;
-    assert!(rt; module.is_valid(index));
-    let (from, own, ty) = module.import(0).ok_or("no import")?;
+    module.initializers.push(Initializer::Import {
+        name,
+        field,
+        index: index.into(),
+    })?;
+    assert!(rt; module.is_valid(index.into()));
+    let Some((from, own, ty)) = module.import(0) else {
+        return Err(Fail::from("no import"));
+    };
     assert_eq!(rt; from, "env");
     assert_eq!(rt; own, "run");
-    assert!(rt; matches!(ty, EntityType::Function(signature) if signature == module_type(4)));
+    let EntityType::Function(signature) = ty else {
+        return Err(Fail::from("not a function"));
+    };
+    assert_eq!(rt; signature, module_type(4));
     assert!(rt; module.import(1).is_none());
     Ok(())
 }
@@ -327,10 +333,10 @@ fn first_entities_are_imported(rt: &impl Abort, module: &Module) {
         assert_eq!(rt; module.import_index(place), Some(*entity));
         assert_eq!(rt; module.import_position(*entity), Some(place));
     }
-    for entity in last_of_each_kind() {
-        assert!(rt; !module.is_imported(entity));
-        assert!(rt; module.is_valid(entity));
-        assert_eq!(rt; module.import_position(entity), None);
+    for entity in last_of_each_kind().iter() {
+        assert!(rt; !module.is_imported(*entity));
+        assert!(rt; module.is_valid(*entity));
+        assert_eq!(rt; module.import_position(*entity), None);
     }
     assert!(rt; !module.is_valid(FuncIndex::new(3).into()));
     assert_eq!(rt; module.import_index(6), None);
