@@ -1,5 +1,6 @@
 pub mod Below
 pub mod Collected
+pub mod Counting
 pub mod Excepted
 pub mod FewTypes
 pub mod Fitting

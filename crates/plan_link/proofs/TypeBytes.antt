@@ -10,7 +10,7 @@ use Rattle.wasm_spec.specs.Module.{Payload, Types, Imports, FunctionTypes, Table
 use Rattle.wasm_spec.specs.TypeGrammar.{group, sub_type_after, memory_type, tag_type}
 use Rattle.wasm_spec.specs.EntryGrammar.{name, import_entry, export_entry, table_entry, global_entry, element_segment, data_segment}
 use Rattle.wasm_spec.specs.Grammar.{custom_contents, entries_as, number_as, code_at, section_contents, placed_section, order_of, section, next_order, SpellsSections, Spells, header}
-use Rattle.form_reader.proofs.Entries.{TakesBytes, CountsBytes, first_takes, number_takes, then_takes, total, vector_counts, vector_few, chosen}
+use Rattle.plan_link.proofs.Counting.{TakesBytes, CountsBytes, first_takes, number_takes, then_takes, total, vector_counts, vector_few, chosen}
 
 -- ---- groups
 
