@@ -130,6 +130,14 @@ fn function(number: u32) -> Option<Value>
     Some(Value::Func(FuncIndex::from_u32(number)))
 }
 
+fn null() -> Option<Value> {
+    Some(Value::Null)
+}
+
+fn number(number: u32) -> Option<Value> {
+    Some(Value::I32(number))
+}
+
 /// A table of four cells, and three segments: functions 5, 6 at 1; 7, 8 at 3, which do not fit; 4 at 0.
 const TABLE: Row = Row {
     sections: &[
@@ -176,15 +184,21 @@ const IMPORTED_TABLE: Row = Row {
 #[test]
 fn tables_hold_images_and_what_is_written(rt: HostRuntime) -> Result<(), Fail> {
     let alloc = rt.alloc();
-    let null = Some(Value::Null);
     let want = Picture {
-        cells: [null, function(5), function(6), null, None, None],
+        cells: [null(), function(5), function(6), null(), None, None],
         table_trap: Some(2),
         ..NOTHING
     };
     expect(&rt, alloc, TABLE, want)?;
     let want = Picture {
-        cells: [function(1), null, null, function(0), function(1), null],
+        cells: [
+            function(1),
+            null(),
+            null(),
+            function(0),
+            function(1),
+            null(),
+        ],
         table_trap: Some(1),
         ..NOTHING
     };
@@ -222,18 +236,16 @@ const OBJECTS: Row = Row {
 #[test]
 fn globals_have_numbers_and_objects(rt: HostRuntime) -> Result<(), Fail> {
     let alloc = rt.alloc();
-    let first = Some(Value::I32(41));
-    let second = Some(Value::I32(42));
     let want = Picture {
-        globals: [first, second, None, None, None],
+        globals: [number(41), number(42), None, None, None],
         ..NOTHING
     };
     expect(&rt, alloc, NEXT_GLOBAL, want)?;
     let object = |number| Some(Value::Term(number));
     let want = Picture {
-        globals: [first, second, object(0), object(1), object(2)],
+        globals: [number(41), number(42), object(0), object(1), object(2)],
         nodes: 3,
-        taken: [second, object(0)],
+        taken: [number(42), object(0)],
         ..NOTHING
     };
     expect(&rt, alloc, OBJECTS, want)
@@ -251,6 +263,6 @@ const LARGE: Row = Row {
 #[test]
 fn a_large_memory_is_refused(rt: HostRuntime) -> Result<(), Fail> {
     let seen = picture(rt.alloc(), &LARGE)?;
-    assert_eq!(rt; seen, None);
+    assert!(rt; seen.is_none());
     Ok(())
 }
