@@ -14,7 +14,38 @@ use translate::{Collector, Plan, TranslateError, translate_module};
 fn plan_of<'d>(alloc: Global, bytes: &'d [u8]) -> Result<Plan<'d>, TranslateError>
     ensures { IfOk result IsSomePlan }
 {
-    translate_module(alloc, &PLAIN, Collector::Drc, 8, 4096, 1048576, bytes)
+    let page_size = 4096u64.next_power_of_two();
+    translate_module(
+        alloc,
+        &PLAIN,
+        Collector::Drc,
+        8,
+        page_size,
+        1_048_576,
+        bytes,
+    )
+}
+
+fn link_to(alloc: Global, exporter: &Plan<'_>, importer: &[u8]) -> Result<Vec<ImportAnswer>, Fail>
+    requires { IsSomePlan exporter.now }
+{
+    let importer = plan_of(alloc, importer)?;
+    let answers = link_plans(alloc, exporter, "m", &importer);
+    // A large value is dropped by one call.
+    drop(importer);
+    Ok(answers?)
+}
+
+/// Links the plans of two modules, the first under the name `m`.
+fn linked_plans(
+    alloc: Global,
+    exporter: &[u8],
+    importer: &[u8],
+) -> Result<Vec<ImportAnswer>, Fail> {
+    let exporter = plan_of(alloc, exporter)?;
+    let answers = link_to(alloc, &exporter, importer);
+    drop(exporter);
+    answers
 }
 
 #[test]
@@ -22,9 +53,7 @@ fn each_import_of_a_plan_is_answered_by_itself(rt: HostRuntime) -> Result<(), Fa
     let mut second = SECOND;
     second[TAG_NAME] = 0x7A;
     second[MEMORY_MIN] = 2;
-    let exporter = plan_of(rt.alloc(), &FIRST)?;
-    let importer = plan_of(rt.alloc(), &second)?;
-    let answers = link_plans(rt.alloc(), &exporter, "m", &importer)?;
+    let answers = linked_plans(rt.alloc(), &FIRST, &second)?;
     let wanted = [
         ImportAnswer::Missing,
         ImportAnswer::Given(3),
