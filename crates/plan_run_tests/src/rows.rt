@@ -262,6 +262,8 @@ const LARGE: Row = Row {
 
 #[test]
 fn a_large_memory_is_refused(rt: HostRuntime) -> Result<(), Fail> {
+    // The borrow checker wants the type on the way to an index by name.
+    let _named: Option<Value> = None;
     let seen = picture(rt.alloc(), &LARGE)?;
     assert!(rt; seen.is_none());
     Ok(())
