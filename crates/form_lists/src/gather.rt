@@ -1,6 +1,6 @@
 //! Gathers the lists of a module, once, over the sections of its form.
 
-ghost use Rattle.std.specs.Prelude.{◌≡◌, ◌++◌, ◌∷◌, [], map, length, IfOk, OnOk};
+ghost use Rattle.std.specs.Prelude.{◌≡◌, ◌+◌, ◌++◌, ◌∷◌, [], map, length, IfOk, OnOk};
 ghost use Rattle.wasm_spec.specs.Module.{imports, groups};
 ghost use Rattle.rule_spec.specs.Lists.{declared_from, declared_groups, lists_of_module};
 ghost use Rattle.form_data.specs.Views.{import_of, table_of, global_of, group_of, payload_of, module_of};
@@ -8,7 +8,7 @@ ghost use Rattle.form_lists.specs.Views.{declared_of, lists_of};
 ghost use Rattle.form_lists.specs.Gathered.{AddsImports, AddsDefined};
 
 use crate::lists::{Declared, Lists, Spaces};
-use crate::sections::{groups_of, imports_of};
+use crate::sections::entries_of;
 use form_data::{Form, GlobalDef, Import, Payload, RecGroup, TableDef};
 use std::alloc::{AllocError, Global};
 use wasm_spec::{GlobalType, TableType, TypeRef};
@@ -44,27 +44,16 @@ fn declared_types<'f>(alloc: Global, form: &'f Form<'_>) -> Result<Vec<Declared<
     ensures { IfOk result (λ types. map declared_of types.items ≡ declared_groups 0 (groups (module_of form.now))) }
 {
     let mut types = Vec::new(alloc);
-    for payload in &form.payloads {
-        add_groups(&mut types, groups_of(payload))?;
+    for group in entries_of::<RecGroup>(form) {
+        add_group(&mut types, group)?;
     }
     Ok(types)
 }
 
-fn add_groups<'f>(types: &mut Vec<Declared<'f>>, groups: &'f [RecGroup]) -> Result<(), AllocError>
-    ensures { OnOk result
-        (map declared_of types.new.items ≡ map declared_of types.old.items
-        ++ declared_groups (length types.old.items) (map group_of groups.now)) }
-{
-    for group in groups {
-        add_group(types, group)?;
-    }
-    Ok(())
-}
-
 fn add_group<'f>(types: &mut Vec<Declared<'f>>, group: &'f RecGroup) -> Result<(), AllocError>
     ensures { OnOk result
-        (map declared_of types.new.items ≡ map declared_of types.old.items
-        ++ declared_groups (length types.old.items) (group_of group.now ∷ [])) }
+        (let members = group_of group.now in let index = length types.old.items in
+        map declared_of types.new.items ≡ map declared_of types.old.items ++ declared_from (index + length members) index members) }
 {
     let group_end = types.len() + group.types.len();
     for ty in &group.types {
@@ -81,16 +70,7 @@ fn add_group<'f>(types: &mut Vec<Declared<'f>>, group: &'f RecGroup) -> Result<(
 fn add_all_imports(spaces: &mut Spaces, form: &Form<'_>) -> Result<(), AllocError>
     ensures { OnOk result (AddsImports spaces.old spaces.new (imports (module_of form.now))) }
 {
-    for payload in &form.payloads {
-        add_imports(spaces, imports_of(payload))?;
-    }
-    Ok(())
-}
-
-fn add_imports(spaces: &mut Spaces, imports: &[Import<'_>]) -> Result<(), AllocError>
-    ensures { OnOk result (AddsImports spaces.old spaces.new (map import_of imports.now)) }
-{
-    for import in imports {
+    for import in entries_of::<Import<'_>>(form) {
         add_import(spaces, import)?;
     }
     Ok(())
