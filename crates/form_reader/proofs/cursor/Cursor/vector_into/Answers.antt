@@ -4,12 +4,12 @@ use Rattle.std.proofs.lemmas.List.{map-append}
 use Rattle.form_reader.specs.Reading.{elements_at}
 use Rattle.form_reader.specs.ReadingNumbers.{vector_at}
 use Rattle.form_reader.proofs.Loop.{all_so_far, one_more, one_fails_all, all_read}
-use Rattle.form_reader.proofs.cursor.Cursor.vector.Goals as goal
+use Rattle.form_reader.proofs.cursor.Cursor.vector_into.Goals as goal
 
 pub entries-init : goal.entries-init
 entries-init g c =
     let k : c.in_ok-count.count - 0 ≡ c.in_ok-count.count = omega arith in
-    rw (c.in_ok-all.ensures.items, k) (all_so_far (elements_at g.E.Entry.form c.in_ok-count.count c.u32.new.self.rest.now))
+    rw (c.reserve_exact.ensures.items, c.requires, k) (all_so_far (elements_at g.E.Entry.form c.in_ok-count.count c.u32.new.self.rest.now))
 
 pub entries-preserved : goal.entries-preserved
 entries-preserved g c =

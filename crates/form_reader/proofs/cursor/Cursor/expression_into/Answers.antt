@@ -3,12 +3,12 @@ use Rattle.std.proofs.lemmas.Result.{err_from_is_err_and}
 use Rattle.form_reader.specs.ExpressionLaws.{operators_at}
 use Rattle.form_reader.proofs.Loop.{all_so_far}
 use Rattle.form_reader.proofs.OperatorList.{op_more, op_end, op_fails, op_cut, op_none}
-use Rattle.form_reader.proofs.cursor.Cursor.expression.Goals as goal
+use Rattle.form_reader.proofs.cursor.Cursor.expression_into.Goals as goal
 
 pub operators-init : goal.operators-init
 operators-init c =
     let k : length c.args.self.now.rest.now - 0 ≡ length c.args.self.now.rest.now = omega arith in
-    rw (c.in_ok-ops.ensures.items, k) (all_so_far (operators_at (length c.args.self.now.rest.now) c.args.self.now.rest.now))
+    rw (c.reserve_exact.ensures.items, c.requires, k) (all_so_far (operators_at (length c.args.self.now.rest.now) c.args.self.now.rest.now))
 
 pub returns-in_err-first : goal.returns-in_err-first
 returns-in_err-first c =
