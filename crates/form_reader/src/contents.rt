@@ -12,9 +12,7 @@ use crate::entity_types::TagType;
 use crate::error::ReadError;
 use crate::input::InputSection::{self, Elements, Other};
 use crate::vectors::Index;
-use form_data::{
-    Custom, DataSegment, Export, GlobalDef, Import, Payload, RecGroup, TableDef,
-};
+use form_data::{Custom, DataSegment, Export, GlobalDef, Import, Payload, RecGroup, TableDef};
 use std::alloc::Global;
 use wasm_spec::{MemoryType, What};
 

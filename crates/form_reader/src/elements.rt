@@ -92,7 +92,11 @@ pub fn no_element(alloc: Global) -> Element {
 impl<'d> Cursor<'d> {
     /// An element segment, in the place of one that is no longer asked for, whose lists are used again.
     #[tactic(auto, unfolding(crate::specs::EntryRows::element_segment))]
-    pub(crate) fn element_into(&mut self, alloc: Global, element: &mut Element) -> Result<(), ReadError>
+    pub(crate) fn element_into(
+        &mut self,
+        alloc: Global,
+        element: &mut Element,
+    ) -> Result<(), ReadError>
         ensures { Reads element_segment.read (λ u. element_of element.new) self.old.rest.now self.new.rest.now result }
     {
         let room = Room::of(alloc, mem::replace(element, no_element(alloc)));
@@ -177,7 +181,12 @@ impl<'d> Cursor<'d> {
 
     /// An element segment, after its flag.
     #[tactic(auto, unfolding(crate::specs::EntryRows::flagged_element))]
-    fn flagged_element(&mut self, alloc: Global, flag: u32, room: Room) -> Result<Element, ReadError>
+    fn flagged_element(
+        &mut self,
+        alloc: Global,
+        flag: u32,
+        room: Room,
+    ) -> Result<Element, ReadError>
         requires { IsEmpty room }
         ensures { Reads (flagged_element flag).read element_of self.old.rest.now self.new.rest.now result }
     {

@@ -16,18 +16,24 @@ returns-in-Ok c =
 
 pub returns-in-Err-Malformed : goal.returns-in-Err-Malformed
 returns-in-Err-Malformed c =
-    rw c.end.ensures.ended
-    (none_read element_segment.read c.args.self.now.count c.args.self.now.bytes.now c.in-Err-Malformed.field-0 errors.Malformed c.if-self-eq0.false
-    c.in-Err-Malformed.field-0-is tt c.in-Err-Malformed.ensures, c.end.ensures.none)
+    rw c.end.ensures.ended (
+      none_read element_segment.read c.args.self.now.count c.args.self.now.bytes.now c.in-Err-Malformed.field-0 errors.Malformed c.if-self-eq0.false
+          c.in-Err-Malformed.field-0-is tt c.in-Err-Malformed.ensures,
+      c.end.ensures.none,
+    )
 
 pub returns-in-Err-Unsupported : goal.returns-in-Err-Unsupported
 returns-in-Err-Unsupported c =
-    rw c.end-in-Err-Unsupported.ensures.ended
-    (none_read element_segment.read c.args.self.now.count c.args.self.now.bytes.now c.in-Err-Unsupported.field-0 (errors.Unsupported c.in-Err-Unsupported.field-0-0) c.if-self-eq0.false
-    c.in-Err-Unsupported.field-0-is tt c.in-Err-Unsupported.ensures, c.end-in-Err-Unsupported.ensures.none)
+    rw c.end-in-Err-Unsupported.ensures.ended (
+      none_read element_segment.read c.args.self.now.count c.args.self.now.bytes.now c.in-Err-Unsupported.field-0 (errors.Unsupported c.in-Err-Unsupported.field-0-0) c.if-self-eq0.false
+          c.in-Err-Unsupported.field-0-is tt c.in-Err-Unsupported.ensures,
+      c.end-in-Err-Unsupported.ensures.none,
+    )
 
 pub returns-in-Err-TooLarge : goal.returns-in-Err-TooLarge
 returns-in-Err-TooLarge c =
-    rw c.end-in-Err-TooLarge.ensures.ended
-    (none_read element_segment.read c.args.self.now.count c.args.self.now.bytes.now c.in-Err-TooLarge.field-0 errors.TooLarge c.if-self-eq0.false
-    c.in-Err-TooLarge.field-0-is tt c.in-Err-TooLarge.ensures, c.end-in-Err-TooLarge.ensures.none)
+    rw c.end-in-Err-TooLarge.ensures.ended (
+      none_read element_segment.read c.args.self.now.count c.args.self.now.bytes.now c.in-Err-TooLarge.field-0 errors.TooLarge c.if-self-eq0.false
+          c.in-Err-TooLarge.field-0-is tt c.in-Err-TooLarge.ensures,
+      c.end-in-Err-TooLarge.ensures.none,
+    )
