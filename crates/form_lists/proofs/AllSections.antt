@@ -37,26 +37,12 @@ All-parts {Y = Y} P f (y ∷ ys) =
       λ all. joined.1 (All-head Q y ys all, rest.1 (All-tail Q y ys all)),
     )
 
-All-sections : {X : Type 0} (P : X → Type 0) (f : plain.Payload → List X) (ps : List Payload)
-    → All P (flat_map f (map payload_of ps)) ↔ All (λ p. All P (f (payload_of p))) ps
-All-sections P f ps =
-    let Q : plain.Payload → Type 0 = λ p. All P (f p) in
-    let parts = All-parts P f (map payload_of ps) in (
-      λ all. All-from_map Q payload_of ps (parts.0 all),
-      λ all. parts.1 (All-map Q payload_of ps all),
-    )
-
 -- ---- tests
 
 -- a test of the values that are seen by a view
 pub tells_of_map : {X Y : Type 0} (P : X → Type 0) (f : Y → X) (ys : List Y) (b : Bool) → IsTrue b ↔ All (λ y. P (f y)) ys
     → IsTrue b ↔ All P (map f ys)
 tells_of_map P f ys b tells = (λ answered. All-map P f ys (tells.0 answered), λ all. tells.1 (All-from_map P f ys all))
-
--- a test of section after section
-pub tells_of_sections : {X : Type 0} (P : X → Type 0) (f : plain.Payload → List X) (ps : List Payload) (b : Bool)
-    → IsTrue b ↔ All (λ p. All P (f (payload_of p))) ps → IsTrue b ↔ All P (flat_map f (map payload_of ps))
-tells_of_sections P f ps b tells = (λ answered. (All-sections P f ps).1 (tells.0 answered), λ all. tells.1 ((All-sections P f ps).0 all))
 
 -- ---- loops over sections
 
@@ -76,7 +62,12 @@ length_more_le f ps k p lt at =
       ap length whole ∙ length-append (flat_map f (map payload_of (take (k + 1) ps))) (flat_map f (map payload_of (drop (k + 1) ps))),
     )
 
--- ---- loops over the entries of all sections
+-- ---- loops over the sections, and over the entries of all sections
+
+-- at the beginning all sections are left
+pub left_parts : {X Y : Type 0} (P : X → Type 0) (f : Y → List X) (left ys : List Y) → left ≡ ys → All (λ y. All P (f y)) left ↔ All P (flat_map f ys)
+left_parts {X = X} {Y = Y} P f left ys at =
+    let both = All-parts P f ys in subst (λ (zs : List Y). All (λ y. All P (f y)) zs ↔ All P (flat_map f ys)) (sym at) (both.1, both.0)
 
 -- W is that all hold: while each has held so far, it is that those hold which are left
 module _ {X : Type 0} (P : X → Type 0) (W : Type 0) (left rest : List X) (x : X) (at : left ≡ x ∷ rest) (tells : All P left ↔ W) where

@@ -87,9 +87,8 @@ pub types_of_globals : (gs : List GlobalDef) → map (λ (g : plain.GlobalDef). 
 types_of_globals [] = refl
 types_of_globals (g ∷ gs) = ap (λ (us : List GlobalType). g.ty ∷ us) (types_of_globals gs)
 
--- one section more
-pub AddsDefined-more : (a b c : Spaces) (ps : List Payload) (k : ℕ) (p : Payload) → k < length ps → p ≡ get_or ps k p
-    → AddsDefined a b (map payload_of (take k ps)) → AddsDefined b c (payload_of p ∷ []) → AddsDefined a c (map payload_of (take (k + 1) ps))
-AddsDefined-more a b c ps k p lt at first second =
-    subst (AddsDefined a c) (sym (map_more payload_of ps k p lt ∙ ap (λ (x : Payload). map payload_of (take k ps) ++ payload_of x ∷ []) (sym at)))
-    (AddsDefined-then a b c (map payload_of (take k ps)) (payload_of p ∷ []) first second)
+-- one section more of those that are left
+pub AddsDefined-more : (a b c : Spaces) (p : plain.Payload) (left rest all : plain.Module) → left ≡ p ∷ rest → AddsDefined b c (p ∷ [])
+    → ((d : Spaces) → AddsDefined b d left → AddsDefined a d all) → (d : Spaces) → AddsDefined c d rest → AddsDefined a d all
+AddsDefined-more a b c p left rest all at added before d others =
+    before d (subst (AddsDefined b d) (sym at) (AddsDefined-then b c d (p ∷ []) rest added others))

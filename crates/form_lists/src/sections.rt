@@ -1,17 +1,18 @@
 //! The entries of the sections of a module, in order.
 
-ghost use Rattle.std.specs.Prelude.{◌≡◌, List, map};
+ghost use Rattle.std.specs.Prelude.{◌≡◌, List, [], map, refl};
 ghost use Rattle.std.specs.List.{flat_map};
 ghost use Rattle.std.specs.Iterator.{YieldsFirstBy, item_count};
 ghost use Rattle.wasm_spec.specs.declared.types.UnpackedIndex.{UnpackedIndex};
 ghost use Rattle.wasm_spec.specs.TypeData.{Group};
 ghost use Rattle.wasm_spec.specs.Module as plain;
-ghost use Rattle.form_data.specs.Views.{payload_of, module_of, import_of, table_of, global_of, export_of, element_of, body_of, segment_of, group_of};
-ghost use Rattle.form_lists.specs.Sections.{left};
+ghost use Rattle.form_data.specs.Views.{payload_of, import_of, table_of, global_of, export_of, body_of, segment_of, group_of};
+ghost use Rattle.form_lists.specs.Source.{source_module, section_of, sections_left};
+ghost use Rattle.form_lists.specs.Sections.{entries_left};
 
+use crate::source::{Section, Sections, Source, sections_of};
 use form_data::{
-    DataSegment, Element, Export, Form, FunctionBody, GlobalDef, Import, Payload, RecGroup,
-    TableDef,
+    DataSegment, Export, FunctionBody, GlobalDef, Import, Payload, RecGroup, TableDef,
 };
 
 /// What sections of one kind list.
@@ -25,47 +26,57 @@ pub trait Entry<'d>: Sized {
     /// The entries of a section; sections of other kinds have none.
     fn in_section<'f>(payload: &'f Payload<'d>) -> &'f [Self]
         ensures { map seen result.now ≡ of_section (payload_of payload.now) };
+
+    ghost no_elements: { (segments : List plain.Element) → of_section (plain.Elements segments) ≡ [] };
+}
+
+/// The entries of a section, of which element segments are none.
+#[inline]
+pub fn entries_in<'f, 'd, T: Entry<'d>>(section: Section<'f, 'd>) -> &'f [T]
+    ensures { map T.seen result.now ≡ T.of_section (section_of section.entry) }
+{
+    match section {
+        Section::Read(payload) => T::in_section(payload),
+        Section::Elements(_) => &[],
+    }
 }
 
 /// The entries of one kind, section after section.
 #[derive(Drop)]
 pub struct Entries<'f, 'd, T> {
     entries: &'f [T],
-    sections: &'f [Payload<'d>],
+    sections: Sections<'f, 'd>,
 }
 
 /// The entries of one kind, through all sections of a module.
 #[inline]
-#[tactic(auto, unfolding(crate::specs::Sections::left))]
-pub fn entries_of<'f, 'd, T: Entry<'d>>(form: &'f Form<'d>) -> Entries<'f, 'd, T>
-    ensures { left T.seen T.of_section result ≡ flat_map T.of_section (module_of form.now) }
+#[tactic(auto, unfolding(crate::specs::Sections::entries_left))]
+pub fn entries_of<'f, 'd, T: Entry<'d>>(source: Source<'f, 'd>) -> Entries<'f, 'd, T>
+    ensures { entries_left T.seen T.of_section result ≡ flat_map T.of_section (source_module source.entry) }
 {
     Entries {
         entries: &[],
-        sections: form.payloads.as_slice(),
+        sections: sections_of(source),
     }
 }
 
 impl<'f, 'd, T: Entry<'d>> Iterator for Entries<'f, 'd, T> {
     type Item = &'f T;
 
-    ghost next_gives = { YieldsFirstBy (λ x. T.seen x.now) (left T.seen T.of_section) };
+    ghost next_gives = { YieldsFirstBy (λ x. T.seen x.now) (entries_left T.seen T.of_section) };
 
-    ghost remaining = { item_count (left T.seen T.of_section) };
+    ghost remaining = { item_count (entries_left T.seen T.of_section) };
 
     #[inline]
-    #[tactic(auto, unfolding(crate::specs::Sections::left))]
+    #[tactic(auto, unfolding(crate::specs::Sections::entries_left))]
     fn next(&mut self) -> Option<&'f T> {
         loop {
             if let Some((first, others)) = self.entries.split_first() {
                 self.entries = others;
                 return Some(first);
             }
-            let (section, others) = self.sections.split_first()?;
-            *self = Entries {
-                entries: T::in_section(section),
-                sections: others,
-            };
+            let section = self.sections.next()?;
+            self.entries = entries_in::<T>(section);
         }
     }
 }
@@ -84,6 +95,8 @@ impl<'d> Entry<'d> for RecGroup {
             _ => &[],
         }
     }
+
+    ghost no_elements = { λ segments. refl };
 }
 
 impl<'d> Entry<'d> for Import<'d> {
@@ -100,6 +113,8 @@ impl<'d> Entry<'d> for Import<'d> {
             _ => &[],
         }
     }
+
+    ghost no_elements = { λ segments. refl };
 }
 
 impl<'d> Entry<'d> for TableDef {
@@ -116,6 +131,8 @@ impl<'d> Entry<'d> for TableDef {
             _ => &[],
         }
     }
+
+    ghost no_elements = { λ segments. refl };
 }
 
 impl<'d> Entry<'d> for GlobalDef {
@@ -132,6 +149,8 @@ impl<'d> Entry<'d> for GlobalDef {
             _ => &[],
         }
     }
+
+    ghost no_elements = { λ segments. refl };
 }
 
 impl<'d> Entry<'d> for Export<'d> {
@@ -148,22 +167,8 @@ impl<'d> Entry<'d> for Export<'d> {
             _ => &[],
         }
     }
-}
 
-impl<'d> Entry<'d> for Element {
-    ghost Seen = { plain.Element };
-
-    ghost seen = { element_of };
-
-    ghost of_section = { plain.elements_of_section };
-
-    #[inline]
-    fn in_section<'f>(payload: &'f Payload<'d>) -> &'f [Self] {
-        match payload {
-            Payload::Elements(elements) => elements.as_slice(),
-            _ => &[],
-        }
-    }
+    ghost no_elements = { λ segments. refl };
 }
 
 impl<'d> Entry<'d> for FunctionBody<'d> {
@@ -180,6 +185,8 @@ impl<'d> Entry<'d> for FunctionBody<'d> {
             _ => &[],
         }
     }
+
+    ghost no_elements = { λ segments. refl };
 }
 
 impl<'d> Entry<'d> for DataSegment<'d> {
@@ -196,4 +203,6 @@ impl<'d> Entry<'d> for DataSegment<'d> {
             _ => &[],
         }
     }
+
+    ghost no_elements = { λ segments. refl };
 }
