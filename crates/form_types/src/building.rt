@@ -4,6 +4,7 @@ ghost use Rattle.std.specs.Prelude.{◌≡◌, ◌+◌, ◌<◌, ◌^◌, length
 ghost use Rattle.wasm_spec.specs.Sizes.{HasFewEntries, HasShortTypes};
 ghost use Rattle.rule_spec.specs.Rules.{Keeps};
 ghost use Rattle.form_data.specs.Views.{group_of, module_of};
+ghost use Rattle.form_lists.specs.Source.{source_module};
 ghost use Rattle.form_types.specs.Keys.{key_of};
 ghost use Rattle.form_types.specs.Groups.{read_key};
 ghost use Rattle.form_types.specs.Distinct.{IsListed};
@@ -18,6 +19,7 @@ use crate::numbering::Types;
 use crate::validator::Validator;
 use entity_map::{OutOfMemory, Seeded};
 use form_data::Form;
+use form_lists::Source;
 use std::alloc::{AllocError, Global};
 use std::collections::HashMap;
 use wasm_spec::CoreTypeId;
@@ -84,7 +86,25 @@ impl Types {
         ensures made { IfOk result (λ t. t.validator ≡ validator.now) }
         ensures numbered { IfOk result (AreNumbered (module_of form.now)) }
     {
-        let groups = all_groups(alloc, form)?;
+        Types::build_from(alloc, validator, Source::Form(form))
+    }
+
+    /// The types of a module that keeps the rules, wherever its element segments are.
+    ///
+    /// # Errors
+    /// `OutOfMemory`.
+    pub fn build_from(
+        alloc: Global,
+        validator: &Validator,
+        source: Source<'_, '_>,
+    ) -> Result<Types, OutOfMemory>
+        requires keeps { Keeps (source_module source) }
+        requires few { HasFewEntries (source_module source) }
+        requires short { HasShortTypes (source_module source) }
+        ensures made { IfOk result (λ t. t.validator ≡ validator.now) }
+        ensures numbered { IfOk result (AreNumbered (source_module source.entry)) }
+    {
+        let groups = all_groups(alloc, source)?;
         let seed = seed_of(&groups);
         let mut numbering = Numbering::new(alloc, seed);
         for group in groups {

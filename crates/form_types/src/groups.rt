@@ -1,13 +1,14 @@
-//! The groups of a form with their keys, wherever the type sections stand.
+//! The groups of a module with their keys, wherever the type sections stand.
 
 ghost use Rattle.std.specs.Prelude.{◌≡◌, map, IfOk};
 ghost use Rattle.wasm_spec.specs.Module.{groups};
-ghost use Rattle.form_data.specs.Views.{group_of, module_of};
+ghost use Rattle.form_data.specs.Views.{group_of};
+ghost use Rattle.form_lists.specs.Source.{source_module};
 ghost use Rattle.form_types.specs.Groups.{group_and_key, with_key};
 
 use crate::canonical::CanonicalGroup;
-use form_data::{Form, RecGroup};
-use form_lists::entries_of;
+use form_data::RecGroup;
+use form_lists::{Source, entries_of};
 use std::alloc::{AllocError, Global};
 
 /// A group with its key, in which each reference is that which was read.
@@ -20,13 +21,13 @@ pub struct GroupWithKey<'f> {
 /// The groups in order, empty ones too.
 pub fn all_groups<'f>(
     alloc: Global,
-    form: &'f Form<'_>,
+    source: Source<'f, '_>,
 ) -> Result<Vec<GroupWithKey<'f>>, AllocError>
-    ensures { IfOk result (λ all. map group_and_key all.items ≡ map with_key (groups (module_of form.now))) }
+    ensures { IfOk result (λ all. map group_and_key all.items ≡ map with_key (groups (source_module source.entry))) }
 {
     let mut all = Vec::new(alloc);
     let mut room = CanonicalGroup::new(alloc);
-    for group in entries_of::<RecGroup>(form) {
+    for group in entries_of::<RecGroup>(source) {
         all.push(group_with_key(alloc, &mut room, group)?)?;
     }
     Ok(all)

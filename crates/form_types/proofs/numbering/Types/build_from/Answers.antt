@@ -7,12 +7,13 @@ use Rattle.wasm_spec.specs.declared.types.CoreTypeId.{CoreTypeId}
 use Rattle.wasm_spec.specs.Module.{groups}
 use Rattle.rule_spec.specs.declared.rules.Rule.TheVariants.{L1}
 use Rattle.form_data.specs.declared.types.RecGroup.{RecGroup}
-use Rattle.form_data.specs.Views.{group_of, sub_type_of, module_of}
+use Rattle.form_data.specs.Views.{group_of, sub_type_of}
+use Rattle.form_lists.specs.Source.{source_module}
 use Rattle.form_types.specs.Groups.{group_and_key, lent_groups}
 use Rattle.form_types.proofs.Built.{built-none, built-empty, built-more, few-ids}
 use Rattle.form_types.proofs.Ruled.{size-places, walked, key-next, room-next, near-item, walks-more}
 use Rattle.form_types.proofs.Final.{numbered, sound}
-use Rattle.form_types.proofs.numbering.Types.build.Goals as goal
+use Rattle.form_types.proofs.numbering.Types.build_from.Goals as goal
 
 has_some : (g : RecGroup) → (vec_len g.types == 0) ≡ false → 0 < length g.types.items
 has_some g test = grind (arith, common_steps, test, g.types.ok.0)
@@ -74,7 +75,7 @@ loop-group-preserved c =
 
 pub invariant_of-result : goal.invariant_of-result
 invariant_of-result c =
-    let m = module_of c.args.form.now in
+    let m = source_module c.args.source in
     let b = walked c.loop-group.invariant c.in-None.ensures.steps.0 in
     record {
       numbers = b.listed.numbers_are;
@@ -85,4 +86,4 @@ invariant_of-result c =
 
 pub returns-clause-numbered : goal.returns-clause-numbered
 returns-clause-numbered c =
-    numbered (module_of c.args.form.now) c.loop-group.numbering (walked c.loop-group.invariant c.in-None.ensures.steps.0) c.id.result.0
+    numbered (source_module c.args.source) c.loop-group.numbering (walked c.loop-group.invariant c.in-None.ensures.steps.0) c.id.result.0

@@ -1,7 +1,7 @@
 use Rattle.std.specs.Vec.Iter.{into_iter_items, into_iter_len}
-use Rattle.form_data.specs.Views.{module_of}
+use Rattle.form_lists.specs.Source.{source_module}
 use Rattle.form_types.proofs.Ruled.{Walks}
-use Rattle.form_types.proofs.numbering.Types.build.Given as goal
+use Rattle.form_types.proofs.numbering.Types.build_from.Given as goal
 
 abbrev pub invariant-loop-group : goal.invariant-loop-group
-invariant-loop-group l = Walks (module_of l.form) l.numbering l.yielded (into_iter_items l.group-iterator) (into_iter_len l.group-iterator)
+invariant-loop-group l = Walks (source_module l.source) l.numbering l.yielded (into_iter_items l.group-iterator) (into_iter_len l.group-iterator)
