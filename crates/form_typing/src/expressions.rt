@@ -3,10 +3,11 @@
 ghost use Rattle.std.specs.Prelude.{◌≡◌, ◌↔◌, ◌+◌, ◌≤◌, take, length, map, All, IsTrue, IfOk};
 ghost use Rattle.std.specs.List.{flat_map};
 ghost use Rattle.wasm_spec.specs.Module.{segments, tables_of_section, globals_of_section, elements_of_section};
-ghost use Rattle.form_data.specs.Views.{table_of, global_of, element_of, element_kind_of, items_of, expression_of, data_kind_of, module_of};
+ghost use Rattle.form_data.specs.Views.{table_of, global_of, element_of, element_kind_of, items_of, expression_of, data_kind_of};
 ghost use Rattle.rule_spec.specs.declared.classes.Class.TheVariants as class;
 ghost use Rattle.rule_spec.specs.Typing.{HasClass};
 ghost use Rattle.rule_spec.specs.Expressions.{address_class, HasTypedInitialiser, AreGlobalsTyped, HasTableOffset, HasTypedItems, IsElementTyped, HasMemoryOffset, AreExpressionsTyped};
+ghost use Rattle.form_lists.specs.Source.{source_module};
 ghost use Rattle.form_lists.specs.Views.{lists_of};
 ghost use Rattle.form_typing.specs.Defaults.{defaults as defaults_of_types};
 
@@ -15,14 +16,14 @@ use crate::typing::is_typed;
 use form_data::{
     ConstExpr, DataKind, DataSegment, Element, ElementItems, ElementKind, GlobalDef, TableDef,
 };
-use form_lists::{Lists, entries_of};
+use form_lists::{Lists, elements_of, entries_of};
 use rule_spec::Class;
 use std::alloc::{AllocError, Global};
 use wasm_spec::GlobalType;
 
 /// Whether each constant expression has the class of its place.
 pub fn expressions_hold(alloc: Global, lists: &Lists<'_, '_>) -> Result<bool, AllocError>
-    requires counted { lists.now.imported_globals + length (flat_map globals_of_section (module_of lists.now.form.now))
+    requires counted { lists.now.imported_globals + length (flat_map globals_of_section (source_module lists.now.source))
         ≤ length lists.now.spaces.global_types.items }
     ensures { IfOk result (λ hold. IsTrue hold ↔ AreExpressionsTyped (lists_of lists.now)) }
 {
@@ -34,7 +35,7 @@ pub fn expressions_hold(alloc: Global, lists: &Lists<'_, '_>) -> Result<bool, Al
     if !globals_hold(lists, &defaults, &mut stack)? {
         return Ok(false);
     }
-    if !elements_hold(lists, &defaults, &mut stack)? {
+    if !elements_hold(alloc, lists, &defaults, &mut stack)? {
         return Ok(false);
     }
     segments_hold(lists, &defaults, &mut stack)
@@ -70,9 +71,9 @@ fn tables_hold(
     requires noted { defaults.now ≡ defaults_of_types (lists_of lists.now) }
     requires imported { lists.now.imported_globals ≤ length lists.now.spaces.global_types.items }
     ensures { IfOk result (λ hold. IsTrue hold
-        ↔ All (HasTypedInitialiser (lists_of lists.now)) (flat_map tables_of_section (module_of lists.now.form.now))) }
+        ↔ All (HasTypedInitialiser (lists_of lists.now)) (flat_map tables_of_section (source_module lists.now.source))) }
 {
-    for table in entries_of::<TableDef>(lists.form) {
+    for table in entries_of::<TableDef>(lists.source) {
         if !table_holds(lists, defaults, table, stack)? {
             return Ok(false);
         }
@@ -103,16 +104,18 @@ fn table_holds(
 // ---- element segments
 
 fn elements_hold(
+    alloc: Global,
     lists: &Lists<'_, '_>,
     defaults: &[bool],
     stack: &mut Vec<Class>,
 ) -> Result<bool, AllocError>
     requires noted { defaults.now ≡ defaults_of_types (lists_of lists.now) }
     ensures { IfOk result (λ hold. IsTrue hold
-        ↔ All (IsElementTyped (lists_of lists.now)) (flat_map elements_of_section (module_of lists.now.form.now))) }
+        ↔ All (IsElementTyped (lists_of lists.now)) (flat_map elements_of_section (source_module lists.now.source))) }
 {
-    for element in entries_of::<Element>(lists.form) {
-        if !element_holds(lists, defaults, element, stack)? {
+    let mut elements = elements_of(alloc, lists.source);
+    while elements.advance()? {
+        if !element_holds(lists, defaults, elements.segment(), stack)? {
             return Ok(false);
         }
     }
@@ -218,9 +221,9 @@ fn segments_hold(
 ) -> Result<bool, AllocError>
     requires noted { defaults.now ≡ defaults_of_types (lists_of lists.now) }
     ensures { IfOk result (λ hold. IsTrue hold
-        ↔ All (λ s. HasMemoryOffset (lists_of lists.now) s.kind) (segments (module_of lists.now.form.now))) }
+        ↔ All (λ s. HasMemoryOffset (lists_of lists.now) s.kind) (segments (source_module lists.now.source))) }
 {
-    for segment in entries_of::<DataSegment<'_>>(lists.form) {
+    for segment in entries_of::<DataSegment<'_>>(lists.source) {
         if !memory_offset_holds(lists, defaults, &segment.kind, stack)? {
             return Ok(false);
         }
@@ -262,13 +265,13 @@ fn globals_hold(
     stack: &mut Vec<Class>,
 ) -> Result<bool, AllocError>
     requires noted { defaults.now ≡ defaults_of_types (lists_of lists.now) }
-    requires counted { lists.now.imported_globals + length (flat_map globals_of_section (module_of lists.now.form.now))
+    requires counted { lists.now.imported_globals + length (flat_map globals_of_section (source_module lists.now.source))
         ≤ length lists.now.spaces.global_types.items }
     ensures { IfOk result (λ hold. IsTrue hold
-        ↔ AreGlobalsTyped (lists_of lists.now) lists.now.imported_globals (flat_map globals_of_section (module_of lists.now.form.now))) }
+        ↔ AreGlobalsTyped (lists_of lists.now) lists.now.imported_globals (flat_map globals_of_section (source_module lists.now.source))) }
 {
     let mut index = lists.imported_globals;
-    for global in entries_of::<GlobalDef>(lists.form) {
+    for global in entries_of::<GlobalDef>(lists.source) {
         let class = class_of(&global.ty.content_type);
         let visible = globals_below(lists, index);
         if !is_typed(lists, defaults, visible, &global.init, class, stack)? {
