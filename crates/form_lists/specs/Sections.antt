@@ -6,5 +6,5 @@ use Rattle.form_data.specs.Views.{payload_of}
 use Rattle.form_lists.specs.declared.sections.Entries.{Entries}
 
 -- what a walk has left: the rest of the section in which it stands, and the sections after that
-unfoldable pub left : {T X : Type 0} → (T → X) → (plain.Payload → List X) → Entries T → List X
-left seen of_section walk = map seen walk.entries.now ++ flat_map of_section (map payload_of walk.sections.now)
+unfoldable pub entries_left : {T X : Type 0} → (T → X) → (plain.Payload → List X) → Entries T → List X
+entries_left seen of_section walk = map seen walk.entries.now ++ flat_map of_section (map payload_of walk.sections.now)

@@ -7,7 +7,7 @@ ghost use Rattle.wasm_spec.specs.declared.types.UnpackedIndex.{UnpackedIndex};
 ghost use Rattle.wasm_spec.specs.TypeData.{Group};
 ghost use Rattle.wasm_spec.specs.Module as plain;
 ghost use Rattle.form_data.specs.Views.{payload_of, module_of, import_of, table_of, global_of, export_of, element_of, body_of, segment_of, group_of};
-ghost use Rattle.form_lists.specs.Sections.{left};
+ghost use Rattle.form_lists.specs.Sections.{entries_left};
 
 use form_data::{
     DataSegment, Element, Export, Form, FunctionBody, GlobalDef, Import, Payload, RecGroup,
@@ -36,9 +36,9 @@ pub struct Entries<'f, 'd, T> {
 
 /// The entries of one kind, through all sections of a module.
 #[inline]
-#[tactic(auto, unfolding(crate::specs::Sections::left))]
+#[tactic(auto, unfolding(crate::specs::Sections::entries_left))]
 pub fn entries_of<'f, 'd, T: Entry<'d>>(form: &'f Form<'d>) -> Entries<'f, 'd, T>
-    ensures { left T.seen T.of_section result ≡ flat_map T.of_section (module_of form.now) }
+    ensures { entries_left T.seen T.of_section result ≡ flat_map T.of_section (module_of form.now) }
 {
     Entries {
         entries: &[],
@@ -49,12 +49,12 @@ pub fn entries_of<'f, 'd, T: Entry<'d>>(form: &'f Form<'d>) -> Entries<'f, 'd, T
 impl<'f, 'd, T: Entry<'d>> Iterator for Entries<'f, 'd, T> {
     type Item = &'f T;
 
-    ghost next_gives = { YieldsFirstBy (λ x. T.seen x.now) (left T.seen T.of_section) };
+    ghost next_gives = { YieldsFirstBy (λ x. T.seen x.now) (entries_left T.seen T.of_section) };
 
-    ghost remaining = { item_count (left T.seen T.of_section) };
+    ghost remaining = { item_count (entries_left T.seen T.of_section) };
 
     #[inline]
-    #[tactic(auto, unfolding(crate::specs::Sections::left))]
+    #[tactic(auto, unfolding(crate::specs::Sections::entries_left))]
     fn next(&mut self) -> Option<&'f T> {
         loop {
             if let Some((first, others)) = self.entries.split_first() {

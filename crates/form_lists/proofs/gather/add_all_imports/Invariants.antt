@@ -1,11 +1,11 @@
 use Rattle.wasm_spec.specs.Module.{imports, imports_of_section}
 use Rattle.form_data.specs.Views.{import_of, module_of}
-use Rattle.form_lists.specs.Sections.{left}
+use Rattle.form_lists.specs.Sections.{entries_left}
 use Rattle.form_lists.specs.Gathered.{AddsImports}
 use Rattle.form_lists.specs.declared.lists.Spaces.{Spaces}
 use Rattle.form_lists.proofs.gather.add_all_imports.Given as goal
 
 -- once the imports that are left are added, all are
 abbrev pub invariant-loop-import : goal.invariant-loop-import
-invariant-loop-import l = (later : Spaces) → AddsImports l.spaces later (left import_of imports_of_section l.import-iterator)
+invariant-loop-import l = (later : Spaces) → AddsImports l.spaces later (entries_left import_of imports_of_section l.import-iterator)
     → AddsImports l.initial.spaces later (imports (module_of l.form))

@@ -1,9 +1,9 @@
 use Rattle.std.proofs.Common.{◌≡◌, length}
-use Rattle.form_lists.specs.Sections.{left}
+use Rattle.form_lists.specs.Sections.{entries_left}
 use Rattle.form_lists.proofs.sections.EntriesIterator.next.Given as goal
 
 abbrev pub invariant-loop-first : goal.invariant-loop-first
-invariant-loop-first g l = left g.T.Entry.seen g.T.Entry.of_section l.self ≡ left g.T.Entry.seen g.T.Entry.of_section l.fn.self
+invariant-loop-first g l = entries_left g.T.Entry.seen g.T.Entry.of_section l.self ≡ entries_left g.T.Entry.seen g.T.Entry.of_section l.fn.self
 
 -- the sections that are left
 abbrev pub decreases-loop-first : goal.decreases-loop-first
