@@ -14,7 +14,7 @@ ghost use Rattle.module_customs.specs.Names.{functions_among, one_if, contents_o
 use custom_sections::{Names, read_names};
 use entity_map::{EntityRef, OutOfMemory};
 use form_data::{Form, Import, Payload};
-use form_lists::imports_of;
+use form_lists::Entry;
 use init_plan::NameSection;
 use std::alloc::{AllocError, Global};
 use std::collections::BTreeMap;
@@ -80,7 +80,7 @@ fn declared_functions(payload: &Payload<'_>) -> usize
 {
     match payload {
         Payload::Functions(types) => types.len(),
-        _ => imported_functions(imports_of(payload)),
+        _ => imported_functions(Import::in_section(payload)),
     }
 }
 

@@ -1,31 +1,27 @@
 -- The metadata of the functions of a module, by look-ups that agree on its declared types.
-use Rattle.std.proofs.Common.{◌≡◌, ◌∙◌, ℕ, ◌+◌, ◌<◌, ◌≤◌, ◌⊎◌, List, [], ◌∷◌, ◌++◌, Option, Some, None, length, map, take, get_or, refl, sym, ap, subst, arith, inl, inr, append_assoc, length-append}
+use Rattle.std.proofs.Common.{◌≡◌, ◌∙◌, ℕ, ◌+◌, ◌<◌, ◌≤◌, ◌⊎◌, List, [], ◌∷◌, ◌++◌, Option, Some, None, length, map, take, get_or, refl, sym, ap, subst, arith, inl, inr, length-append}
 use Rattle.std.specs.Prelude.{All, slice_get, unwrap_or}
 use Rattle.std.specs.List.{flat_map, enumerate_from}
 use Rattle.std.specs.Option.{option_map}
-use Rattle.std.proofs.lemmas.List.{length-map, length-take-le, map-append, map_push}
+use Rattle.std.proofs.lemmas.List.{length_push, map_push}
 use Rattle.std.proofs.lemmas.List.Elements.{All-nil, All-cons, All-append, All-weaker}
-use Rattle.std.proofs.lemmas.List.FromFn.{length-enumerate_from}
 use Rattle.std.proofs.lemmas.Option.{none-some, same_Some, slice_get_cases, slice_get-get_or, slice_get-map}
 use Rattle.std.proofs.lemmas.Simd.{map-map}
 use Rattle.wasm_spec.specs.declared.types.UnpackedIndex.{UnpackedIndex}
 use Rattle.wasm_spec.specs.declared.types.UnpackedIndex.TheVariants.{Module, RecGroup, Id}
 use Rattle.wasm_spec.specs.declared.types.ValType.{ValType}
 use Rattle.wasm_spec.specs.TypeData.{Value, Composite, Func, Group, SubType, value_edges, map_value, value_of}
-use Rattle.wasm_spec.specs.Module.{Body, bodies_of_section}
+use Rattle.wasm_spec.specs.Module.{Body}
 use Rattle.wasm_spec.specs.Module as plain
 use Rattle.rule_spec.specs.declared.rules.Rule.TheVariants.{L1, L3, L10}
 use Rattle.rule_spec.specs.Lists.{Declared, declared_from, declared_groups, lists_of_module, kind_at}
 use Rattle.rule_spec.specs.Lists as rule
 use Rattle.rule_spec.specs.References.{ValueRefersIn, BodyRefersIn}
 use Rattle.rule_spec.specs.TypeRules.{IsBelow, KindIsBelow, ValueIsBelow, IsDeclaredWell}
-use Rattle.form_data.specs.declared.form.FunctionBody.{FunctionBody}
-use Rattle.form_data.specs.declared.form.Payload.{Payload}
-use Rattle.form_data.specs.Views.{body_of, payload_of}
 use Rattle.form_lists.specs.declared.lists.Declared as types
 use Rattle.form_lists.specs.declared.lists.Lists.{Lists}
 use Rattle.form_lists.specs.Views.{declared_of, lists_of}
-use Rattle.form_lists.proofs.AllSections.{All-joined, All-parts, All-from_map, length_more_le}
+use Rattle.form_lists.proofs.AllSections.{All-joined, All-parts, All-from_map}
 use Rattle.form_lists.proofs.DeclaredLists.{length-declared_from}
 use Rattle.wasm_types.specs.ValueViews.{Name, value_of as view_value}
 use Rattle.wasm_convert.specs.Conversion.{LookUp}
@@ -35,9 +31,7 @@ use Rattle.module_environ.specs.Filling.{module_in, IsGathered, LooksUpTypes}
 use Rattle.module_environ.specs.Metadata.{FunctionData, params_of, params_at, params_of_types, function_data, view_function}
 use Rattle.module_environ.specs.Types.{look_up_in}
 use Rattle.module_environ.proofs.Agreeing.{known-edges, value-alike}
-use Rattle.module_environ.proofs.BySection.{section-all}
-use Rattle.module_environ.proofs.Filling.{entry_more, section_more}
-use Rattle.module_environ.proofs.GatheredGlobals.{enumerate_from-append}
+use Rattle.module_environ.proofs.Filling.{added_more}
 use Rattle.module_environ.proofs.LookedUp.{map_alike}
 
 -- ---- no group ends past the last type
@@ -165,15 +159,6 @@ module _ (lists : Lists) (gathered : IsGathered lists) where
       ∙ (gathered.keeps L3).bodies
       ∙ ap (λ (r : rule.Lists). r.imported_functions + length all.bodies) (sym gathered.lists)
 
-  -- the bodies of a section name declared types
-  pub section-refers : (ps : List Payload) → ps ≡ lists.form.now.payloads.items → (k : ℕ) (p : Payload) → k < length ps → p ≡ get_or ps k p
-      → (ys : List Body) → ys ≡ bodies_of_section (payload_of p) → All (BodyRefersIn count) ys
-  section-refers ps read k p lt at ys same =
-      let P : Body → Type 0 = BodyRefersIn count in
-      subst (All P) (sym same)
-      (section-all bodies_of_section payload_of ps k p lt at P
-      (subst (λ qs. All P (flat_map bodies_of_section (map payload_of qs))) (sym read) (gathered.keeps L10).bodies))
-
   module _ (known : UnpackedIndex → Type 0) (look : LookUp) (looks : LooksUpTypes m known look) where
     abbrev KnowsValue : Value UnpackedIndex → Type 0
     KnowsValue v = Known known (value_edges (λ i. i) v)
@@ -240,53 +225,11 @@ module _ (lists : Lists) (gathered : IsGathered lists) where
 
 -- ---- one body more
 
-module _ {Z : Type 0} (seen : Z → FunctionData) (made : ℕ × Body → FunctionData) where
-  -- the metadata of bodies, and of those that follow
-  metadata-append : (n : ℕ) (before more : List Body) → map made (enumerate_from n before) ++ map made (enumerate_from (n + length before) more)
-      ≡ map made (enumerate_from n (before ++ more))
-  metadata-append n before more =
-      sym (map-append made (enumerate_from n before) (enumerate_from (n + length before) more))
-      ∙ ap (map made) (sym (enumerate_from-append n before more))
-
-  pub metadata_more : (start now after : List Z) (z : Z) (bodies : List FunctionBody) (k : ℕ) (b : FunctionBody)
-      → k < length bodies → b ≡ get_or bodies k b → seen z ≡ made (length start + k, body_of b) → after ≡ now ++ z ∷ []
-      → map seen now ≡ map seen start ++ map made (enumerate_from (length start) (map body_of (take k bodies)))
-      → map seen after ≡ map seen start ++ map made (enumerate_from (length start) (map body_of (take (k + 1) bodies)))
-  metadata_more start now after z bodies k b lt at is pushed before =
-      let entries = map body_of (take k bodies) in
-      let long : length entries ≡ k = length-map (take k bodies) body_of ∙ length-take-le k bodies (omega (arith, lt)) in
-      let one : seen z ≡ made (length start + length entries, body_of b) = is ∙ ap (λ (j : ℕ). made (length start + j, body_of b)) (sym long) in
-      ap (map seen) pushed ∙ map_push seen now z
-      ∙ (λ i. before i ++ one i ∷ [])
-      ∙ append_assoc (map seen start) (map made (enumerate_from (length start) entries)) _
-      ∙ ap (λ (ws : List FunctionData). map seen start ++ ws)
-      (metadata-append (length start) entries (body_of b ∷ [])
-      ∙ ap (λ (bs : List Body). map made (enumerate_from (length start) bs)) (sym (entry_more body_of bodies k b lt at)))
-
-  -- ---- one section more
-
-  module _ (ps : List Payload) (k : ℕ) (p : Payload) (lt : k < length ps) (at : p ≡ get_or ps k p) (ys : List Body)
-      (same : ys ≡ bodies_of_section (payload_of p)) where
-    abbrev so_far : ℕ → List Body
-    so_far n = flat_map bodies_of_section (map payload_of (take n ps))
-
-    metadata-long : (now : List Z) → map seen now ≡ map made (enumerate_from 0 (so_far k)) → length now ≡ length (so_far k)
-    metadata-long now before =
-        sym (length-map now seen) ∙ ap length before
-        ∙ length-map (enumerate_from 0 (so_far k)) made
-        ∙ length-enumerate_from 0 (so_far k)
-
-    pub metadata_section : (now after : List Z) → map seen after ≡ map seen now ++ map made (enumerate_from (length now) ys)
-        → map seen now ≡ map made (enumerate_from 0 (so_far k)) → map seen after ≡ map made (enumerate_from 0 (so_far (k + 1)))
-    metadata_section now after more before =
-        let long : length now ≡ 0 + length (so_far k) = omega (arith, metadata-long now before) in
-        more
-        ∙ (λ i. before i ++ map made (enumerate_from (long i) ys))
-        ∙ metadata-append 0 (so_far k) ys
-        ∙ ap (λ (bs : List Body). map made (enumerate_from 0 bs)) (sym (section_more bodies_of_section ps k p lt at ys same))
-
-    -- and there is room for its bodies among all
-    pub metadata-within : (now : List Z) → map seen now ≡ map made (enumerate_from 0 (so_far k))
-        → length now + length ys ≤ length (flat_map bodies_of_section (map payload_of ps))
-    metadata-within now before =
-        omega (arith, metadata-long now before, ap length same, length_more_le bodies_of_section ps k p lt at)
+pub metadata_more : {Z : Type 0} (seen : Z → FunctionData) (made : ℕ × Body → FunctionData) (now after : List Z) (z : Z) (left rest : List Body) (b : Body)
+    (all : List FunctionData) → left ≡ b ∷ rest → seen z ≡ made (length now, b) → after ≡ now ++ z ∷ []
+    → map seen now ++ map made (enumerate_from (length now) left) ≡ all → map seen after ++ map made (enumerate_from (length after) rest) ≡ all
+metadata_more seen made now after z left rest b all at is pushed before =
+    let long : length now + 1 ≡ length after = sym (ap length pushed ∙ length_push now z) in
+    added_more (map seen now) (map seen after) (seen z ∷ []) _ (map made (enumerate_from (length after) rest)) all
+    (ap (map seen) pushed ∙ map_push seen now z)
+    (ap (λ (bs : List Body). map made (enumerate_from (length now) bs)) at ∙ (λ i. sym is i ∷ map made (enumerate_from (long i) rest))) before

@@ -5,12 +5,6 @@ use Rattle.std.specs.List.{flat_map}
 use Rattle.std.proofs.lemmas.List.{append-nil, length-append, length-map, map-append, map_more, map_push, take_more, take-append-drop, get_or-map, get_or_append_left, get_or-append-add}
 use Rattle.std.proofs.lemmas.List.Concat.{flat_map-append}
 
-All-left : {X : Type 0} (P : X → Type 0) (xs ys : List X) → All P (xs ++ ys) → All P xs
-All-left P xs ys h k d lt = let l = length-append xs ys in subst P (get_or_append_left xs ys d k lt) (h k d (omega (arith, l)))
-
-All-right : {X : Type 0} (P : X → Type 0) (xs ys : List X) → All P (xs ++ ys) → All P ys
-All-right P xs ys h k d lt = let l = length-append xs ys in subst P (get_or-append-add xs ys k d) (h (length xs + k) d (omega (arith, l)))
-
 -- a list is what stands before an item, the item and what stands after it
 split : {X : Type 0} (xs : List X) (i : ℕ) (x : X) → i < length xs → x ≡ get_or xs i x → xs ≡ take i xs ++ (x ∷ drop (suc i) xs)
 split {X} xs i x lt is = sym (take-append-drop i xs)
@@ -50,9 +44,3 @@ module _ {X Y A : Type 0} (f : Y → List A) (view : X → Y) (xs : List X) (i :
       let before = flat_map f (map view (take i xs)) in
       let after = flat_map f (map view (drop (suc i) xs)) in
       omega (arith, ap length parts, length-append before (f (view x) ++ after), length-append (f (view x)) after)
-
-  pub section-all : (P : A → Type 0) → All P (flat_map f (map view xs)) → All P (f (view x))
-  section-all P h =
-      let before = flat_map f (map view (take i xs)) in
-      let after = flat_map f (map view (drop (suc i) xs)) in
-      All-left P (f (view x)) after (All-right P before (f (view x) ++ after) (subst (All P) parts h))

@@ -1,7 +1,7 @@
 -- Data segments, added one after another.
 use Rattle.std.proofs.Common.{◌≡◌, ◌∙◌, ℕ, ◌+◌, List, [], ◌∷◌, ◌++◌, length, map, refl, sym, ap, arith, append_assoc}
 use Rattle.std.specs.List.{cons_option}
-use Rattle.std.proofs.lemmas.List.{map-append}
+use Rattle.std.proofs.lemmas.List.{append-nil, map-append}
 use Rattle.wasm_spec.specs.declared.operators.Operator.{Operator}
 use Rattle.wasm_spec.specs.declared.operators.Operator.TheVariants as op
 use Rattle.wasm_spec.specs.Module.{Expression, Segment}
@@ -41,19 +41,10 @@ active-added look old new x kind memory offset bytes is grows at place whole the
     ∙ ap (λ (s : ActiveSegment). map active_segment_of old ++ s ∷ []) seen
     ∙ ap (λ (k : DataKind). map active_segment_of old ++ cons_option (active_of_kind (data_kind_of k) bytes) []) (sym is)
 
-pub passive_data-append : (n : ℕ) (xs ys : List Segment)
-    → passive_data_from n (xs ++ ys) ≡ passive_data_from n xs ++ passive_data_from (n + length xs) ys
-passive_data-append n [] ys = ap (λ k. passive_data_from k ys) (let same : n ≡ n + 0 = omega arith in same)
-passive_data-append n (x ∷ xs) ys =
-    let next : n + 1 + length xs ≡ n + length (x ∷ xs) = omega arith in
-    ap (λ (ps : List (ℕ × List ℕ)). passive_data_in x.kind n x.bytes ++ ps)
-    (passive_data-append (n + 1) xs ys ∙ ap (λ (k : ℕ). passive_data_from (n + 1) xs ++ passive_data_from k ys) next)
-    ∙ sym (append_assoc (passive_data_in x.kind n x.bytes) (passive_data_from (n + 1) xs) (passive_data_from (n + length (x ∷ xs)) ys))
-
--- a list that grew twice
-pub grown : {A : Type 0} (a b c xs ys zs : List A) → b ≡ a ++ xs → c ≡ b ++ ys → zs ≡ xs ++ ys → c ≡ a ++ zs
-grown {A = A} a b c xs ys zs first second both =
-    second ∙ ap (λ (l : List A). l ++ ys) first ∙ append_assoc a xs ys ∙ ap (λ (l : List A). a ++ l) (sym both)
+-- the passive data of one segment, and of those after it
+pub passive_data-cons : (n : ℕ) (x : Segment) (xs : List Segment)
+    → passive_data_from n (x ∷ xs) ≡ passive_data_from n (x ∷ []) ++ passive_data_from (n + 1) xs
+passive_data-cons n x xs = ap (λ (ps : List (ℕ × List ℕ)). ps ++ passive_data_from (n + 1) xs) (sym (append-nil (passive_data_in x.kind n x.bytes)))
 
 pub same-both : (a b c : ModuleTranslation) → SameButPassive a b → SameButPassive b c → SameButPassive a c
 same-both a b c ab bc =

@@ -1,10 +1,9 @@
 -- Exports, entered one after another.
 use Rattle.std.proofs.Common.{◌≡◌, ◌≢◌, ◌<◌, ℕ, ◌+◌, Bool, true, false, cond, List, [], ◌∷◌, ◌++◌, length, map, take, drop, get_or, slice_get, unwrap_or, All, IfSome, Some, nat_eq, inl, inr, refl, sym, ap, subst, ◌∙◌, append_assoc, arith}
 use Rattle.std.specs.List.{flat_map}
-use Rattle.std.proofs.lemmas.List.{length-append, get_or_append_left, get_or_at, map_more, map_push, map-append, take-append-drop}
+use Rattle.std.proofs.lemmas.List.{length-append, get_or_append_left, get_or_at, map_push}
 use Rattle.std.proofs.lemmas.Bool.Decides.{eqb_tells}
 use Rattle.std.proofs.lemmas.Option.{slice_get_within}
-use Rattle.std.proofs.lemmas.List.Concat.{flat_map-append}
 use Rattle.std.proofs.lemmas.List.Elements.{All-head, All-tail, All-same, All-push, All-map, All-weaker, All-get_or, All-from_get_or, filter_map-append}
 use Rattle.indexmap.specs.IndexMap.{insert_entry}
 use Rattle.entity_map.specs.Entity.{reserved_number}
@@ -16,38 +15,15 @@ use Rattle.wasm_spec.specs.Sizes.{HasFewEntries}
 use Rattle.wasm_spec.specs.declared.entities.ExternalKind.{ExternalKind}
 use Rattle.wasm_spec.specs.declared.entities.ExternalKind.TheVariants as kind
 use Rattle.wasm_types.specs.declared.entity.EntityIndex.{EntityIndex}
-use Rattle.form_data.specs.declared.form.Export.{Export as Read}
-use Rattle.form_data.specs.declared.form.Payload.{Payload}
-use Rattle.form_data.specs.Views.{export_of, payload_of}
 use Rattle.rule_spec.specs.Indices.{IsInSpace, space_size}
 use Rattle.rule_spec.specs.Lists.{lists_of_module}
 use Rattle.rule_spec.specs.Rules.{AreDistinct}
-use Rattle.form_lists.proofs.Gathering.{entries_of_more}
-use Rattle.form_lists.proofs.AllSections.{All-from_map, All-parts}
-use Rattle.form_rules.proofs.ExportNames.{distinct_front}
+use Rattle.form_lists.proofs.AllSections.{All-from_map}
 use Rattle.module_environ.specs.Entities.{text_at, entity_at, resolved_export}
 use Rattle.module_environ.specs.Escapes.{exported_function}
-use Rattle.module_environ.specs.Exported.{exported_functions, CanExport, AreEntered}
-use Rattle.module_environ.specs.EscapeLog.{EscapeLog, after_escapes}
-use Rattle.module_environ.specs.Pooled.{with_texts, exported_names, HasText}
-use Rattle.module_environ.proofs.Filling.{after_escapes-then}
-use Rattle.module_environ.proofs.GrownPool.{GrowsBy, grows-text, texts-then, pooled-grown, exports-grown}
-
--- ---- functions that are noted
-
--- references after others
-pub noted-then : (old now new : EscapeLog) (es fs gs : List Export) → now ≡ after_escapes old (exported_functions es)
-    → new ≡ after_escapes now (exported_functions fs) → gs ≡ es ++ fs → new ≡ after_escapes old (exported_functions gs)
-noted-then old now new es fs gs first second both =
-    after_escapes-then old now new (exported_functions es) (exported_functions fs) (exported_functions gs) first second
-    (ap exported_functions both ∙ filter_map-append (λ (e : Export). exported_function e.kind e.index) es fs)
-
--- names after others
-pub exported-then : (old now new : List (List ℕ)) (es fs gs : List Export) → now ≡ with_texts old (exported_names es)
-    → new ≡ with_texts now (exported_names fs) → gs ≡ es ++ fs → new ≡ with_texts old (exported_names gs)
-exported-then old now new es fs gs first second both =
-    texts-then old now new (exported_names es) (exported_names fs) (exported_names gs)
-    (ap exported_names both ∙ map-append (λ (e : Export). e.name) es fs) first second
+use Rattle.module_environ.specs.Exported.{CanExport, AreEntered}
+use Rattle.module_environ.specs.Pooled.{HasText}
+use Rattle.module_environ.proofs.GrownPool.{GrowsBy, grows-text, pooled-grown, exports-grown}
 
 -- ---- one name more
 
@@ -104,58 +80,6 @@ entered-push eq same before e old new now after k v put stands is inserted h dis
       pooled = All-same (λ (x : Atom × EntityIndex). HasText new x.0) after (now ++ (k, v) ∷ []) last
           (All-push (λ (x : Atom × EntityIndex). HasText new x.0) now (k, v) moved.pooled (slice_get_within new (atom_number k) e.name stands));
     }
-
--- ---- over exports
-
-module _ (es : List Read) (k : ℕ) (e : Read) (lt : k < length es) (at : e ≡ get_or es k e) where
-  pub exports-more : map export_of (take (k + 1) es) ≡ map export_of (take k es) ++ export_of e ∷ []
-  exports-more = map_more export_of es k e lt ∙ ap (λ (x : Read). map export_of (take k es) ++ export_of x ∷ []) (sym at)
-
-  pub more-after : (before : List Export) → before ++ map export_of (take (k + 1) es) ≡ (before ++ map export_of (take k es)) ++ export_of e ∷ []
-  more-after before =
-      ap (λ (xs : List Export). before ++ xs) exports-more ∙ sym (append_assoc before (map export_of (take k es)) (export_of e ∷ []))
-
-  pub distinct-so_far : (before : List Export) → AreDistinct (before ++ map export_of es)
-      → AreDistinct ((before ++ map export_of (take k es)) ++ export_of e ∷ [])
-  distinct-so_far before distinct =
-      let rest = map export_of (drop (k + 1) es) in
-      let whole : before ++ map export_of es ≡ (before ++ map export_of (take (k + 1) es)) ++ rest =
-      ap (λ (xs : List Read). before ++ map export_of xs) (sym (take-append-drop (k + 1) es))
-      ∙ ap (λ (xs : List Export). before ++ xs) (map-append export_of (take (k + 1) es) (drop (k + 1) es))
-      ∙ sym (append_assoc before (map export_of (take (k + 1) es)) rest) in
-      subst AreDistinct (more-after before) (distinct_front (before ++ map export_of (take (k + 1) es)) rest (subst AreDistinct whole distinct))
-
-  pub can-export : (count : ℕ) → All (CanExport count) (map export_of es) → CanExport count (export_of e)
-  can-export count all =
-      let P : Read → Type 0 = λ x. CanExport count (export_of x) in
-      subst P (sym at) (All-get_or P es k e lt (All-from_map (CanExport count) export_of es all))
-
--- ---- over sections
-
-module _ (ps : List Payload) (k : ℕ) (p : Payload) (es : List Export) (lt : k < length ps) (at : p ≡ get_or ps k p)
-    (same : es ≡ exports_of_section (payload_of p)) where
-  pub section-more : flat_map exports_of_section (map payload_of (take (k + 1) ps)) ≡ flat_map exports_of_section (map payload_of (take k ps)) ++ es
-  section-more = entries_of_more exports_of_section ps k p lt at
-      ∙ ap (λ (xs : List Export). flat_map exports_of_section (map payload_of (take k ps)) ++ xs) (sym same)
-
-  pub distinct-sections : AreDistinct (flat_map exports_of_section (map payload_of ps))
-      → AreDistinct (flat_map exports_of_section (map payload_of (take k ps)) ++ es)
-  distinct-sections distinct =
-      let through = flat_map exports_of_section (map payload_of (take (k + 1) ps)) in
-      let rest = flat_map exports_of_section (map payload_of (drop (k + 1) ps)) in
-      let whole : flat_map exports_of_section (map payload_of ps) ≡ through ++ rest =
-      ap (λ (qs : List Payload). flat_map exports_of_section (map payload_of qs)) (sym (take-append-drop (k + 1) ps))
-      ∙ ap (flat_map exports_of_section) (map-append payload_of (take (k + 1) ps) (drop (k + 1) ps))
-      ∙ flat_map-append exports_of_section (map payload_of (take (k + 1) ps)) (map payload_of (drop (k + 1) ps)) in
-      subst AreDistinct section-more (distinct_front through rest (subst AreDistinct whole distinct))
-
-  pub section-can_export : (count : ℕ) → All (CanExport count) (flat_map exports_of_section (map payload_of ps)) → All (CanExport count) es
-  section-can_export count all =
-      let P : plain.Payload → Type 0 = λ q. All (CanExport count) (exports_of_section q) in
-      let Q : Payload → Type 0 = λ q. P (payload_of q) in
-      All-same (CanExport count) es (exports_of_section (payload_of p)) same
-      (subst Q (sym at) (All-get_or Q ps k p lt
-      (All-from_map P payload_of ps ((All-parts (CanExport count) exports_of_section (map payload_of ps)).0 all))))
 
 -- ---- in a module that keeps the rules
 

@@ -180,22 +180,9 @@ module _ (look : LookUp) (before : List Element) (e : Element) (old : ElementSeg
       ∙ ap (λ (b : Bool). number_in (earlier ++ (if b then Some next ∷ [] else None ∷ [])) i) (sym passes))
       count
 
--- ---- many
+-- ---- few
 
 module _ (look : LookUp) where
-  pub adds-none : (s : ElementSegments) → AddsElements look s s []
-  adds-none s before h = subst (λ es. HoldsElements look es s) (sym (append-nil before)) h
-
-  pub adds-both : (a b c : ElementSegments) (xs ys : List Element) → AddsElements look a b xs → AddsElements look b c ys
-      → AddsElements look a c (xs ++ ys)
-  adds-both a b c xs ys first second before h = subst (λ es. HoldsElements look es c) (append_assoc before xs ys)
-      (second (before ++ xs) (first before h))
-
-  -- room for what comes after
-  pub room-after : (a b : ElementSegments) (n k : ℕ) (es : List Element) → HasRoom look a n → AddsElements look a b es → length es + k ≤ n
-      → HasRoom look b k
-  room-after a b n k es room added le = (room.0 ++ es, added room.0 room.1, omega (arith, length-append room.0 es, room.2, le))
-
   -- so lists are short
   pub room-counts : (a : ElementSegments) → HasRoom look a 1
       → (a.count < 4294967295) × (length a.kinds < 4294967294) × (length a.passive < 4294967294)

@@ -96,29 +96,15 @@ imported-push is i old new before one c put pooled resolved h =
     }
 
 -- one import more, converted
-pub imported-step : (before : List Import) (is : List Read) (k : ℕ) (i : Read) → k < length is → i ≡ get_or is k i
-    → (old new : List (List ℕ)) (now after : List Initializer) (one : Initializer) (c d : ImportCounts) → d ≡ counted c i.ty
-    → new ≡ with_texts old (import_names (import_of i)) → HasTexts new one → resolved_import new one ≡ (i.«module».now, i.name.now, next_entity c i.ty)
-    → after ≡ now ++ one ∷ []
-    → AreImported (before ++ map import_of (take k is)) old now c → AreImported (before ++ map import_of (take (k + 1) is)) new after d
-imported-step before is k i lt at old new now after one c d counts put pooled resolved pushed h =
-    let so_far = before ++ map import_of (take k is) in
-    let one_more = imported-push so_far (import_of i) old new now one c put pooled resolved h in
-    let there : before ++ map import_of (take (k + 1) is) ≡ so_far ++ import_of i ∷ [] =
-    ap (λ (js : List Import). before ++ js)
-    (map_more import_of is k i lt ∙ ap (λ (x : Read). map import_of (take k is) ++ import_of x ∷ []) (sym at))
-    ∙ sym (append_assoc before (map import_of (take k is)) (import_of i ∷ [])) in
-    subst (λ (js : List Import). AreImported js new after d) (sym there)
-    (subst (λ (x : ImportCounts). AreImported (so_far ++ import_of i ∷ []) new after x) (sym counts)
-    (subst (λ (xs : List Initializer). AreImported (so_far ++ import_of i ∷ []) new xs (counted c i.ty)) (sym pushed) one_more))
+pub imported-step : (is : List Import) (i : Import) (old new : List (List ℕ)) (now after : List Initializer) (one : Initializer) (c d : ImportCounts)
+    → d ≡ counted c i.type → new ≡ with_texts old (import_names i) → HasTexts new one → resolved_import new one ≡ (i.space, i.name, next_entity c i.type)
+    → after ≡ now ++ one ∷ [] → AreImported is old now c → AreImported (is ++ i ∷ []) new after d
+imported-step is i old new now after one c d counts put pooled resolved pushed h =
+    subst (λ (x : ImportCounts). AreImported (is ++ i ∷ []) new after x) (sym counts)
+    (subst (λ (xs : List Initializer). AreImported (is ++ i ∷ []) new xs (counted c i.type)) (sym pushed)
+    (imported-push is i old new now one c put pooled resolved h))
 
 -- there is room for the names of few imports
 pub room-for-imports : (is : List Import) (texts : List (List ℕ)) (before : List Initializer) (c : ImportCounts) → AreImported is texts before c
     → length is < 2 ^ 30 → length texts < 4294967293
 room-for-imports is texts before c h few = omega (arith, few, imports-pooled is texts h.pool)
-
--- of few imports, those so far are few
-pub few-before : (before : List Import) (is : List Read) (k : ℕ) → k < length is → length before + length is < 2 ^ 30
-    → length (before ++ map import_of (take k is)) < 2 ^ 30
-few-before before is k lt few =
-    omega (arith, few, length-append before (map import_of (take k is)), length-map (take k is) import_of, length-take-le k is (omega arith))

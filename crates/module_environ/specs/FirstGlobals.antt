@@ -21,16 +21,6 @@ view_known g = map view_value g.known.items
 abbrev pub view_left : FirstGlobals → List (ℕ × List ConstOp)
 view_left g = map (view_initialiser (λ e. e)) g.left.items
 
--- the initialisers of globals that come next, by their numbers
-abbrev pub next_initialisers : FirstGlobals → List GlobalDef → List (ℕ × Expression)
-next_initialisers first globals = enumerate_from (seen_globals first) (map (λ g. g.init) globals)
-
--- globals are added in order
-pub record AddsGlobals (look : LookUp) (old new : FirstGlobals) (globals : List GlobalDef) : Type 0 where
-  pub known : view_known new ≡ view_known old ++ filter_map simple_of (next_initialisers old globals)
-  pub left : view_left new ≡ view_left old ++ map (λ g. (g.0, const_ops_of look g.1)) (filter_map kept_of (next_initialisers old globals))
-  pub counted : seen_globals new ≡ seen_globals old + length globals
-
 -- where the value of the initialiser of the next global is this one, if it is known
 abbrev pub known_next : ℕ → Option Value → List (ℕ × Value)
 known_next number value = option_to_list (option_map (λ v. (number, v)) value)

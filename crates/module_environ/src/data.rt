@@ -1,6 +1,6 @@
 //! Data segments.
 
-ghost use Rattle.std.specs.Prelude.{◌≡◌, ◌+◌, ◌++◌, ◌<◌, ◌^◌, ◌∷◌, [], length, map, IfOk, OnOk};
+ghost use Rattle.std.specs.Prelude.{◌≡◌, ◌++◌, ◌<◌, ◌^◌, ◌∷◌, [], length, map, IfOk, OnOk};
 ghost use Rattle.std.specs.List.{filter_map};
 ghost use Rattle.wasm_spec.specs.Module.{segments};
 ghost use Rattle.wasm_spec.specs.Sizes.{HasFewEntries};
@@ -13,7 +13,7 @@ ghost use Rattle.module_environ.specs.Segments.{AreDataConvertible, IsDataConver
 use crate::offsets::convert_offset;
 use entity_map::{EntityRef, OutOfMemory};
 use form_data::{DataKind, DataSegment, Form};
-use form_lists::segments_of;
+use form_lists::entries_of;
 use init_plan::{MemoryInit, MemoryInitializer, ModuleTranslation};
 use std::alloc::Global;
 use wasm_convert::TypeConvert;
@@ -51,26 +51,10 @@ fn convert_active<'d>(
     ensures { IfOk result (λ active. map active_segment_of active.items ≡ active_segments (module_of form.now)) }
 {
     let mut active = Vec::new(alloc);
-    for payload in &form.payloads {
-        add_all_active(alloc, env, &mut active, segments_of(payload))?;
+    for segment in entries_of::<DataSegment<'_>>(form) {
+        add_active(alloc, env, &mut active, segment)?;
     }
     Ok(active)
-}
-
-fn add_all_active<'d>(
-    alloc: Global,
-    env: &dyn TypeConvert,
-    active: &mut Vec<MemoryInitializer<'d>>,
-    segments: &[DataSegment<'d>],
-) -> Result<(), OutOfMemory>
-    requires { AreDataConvertible (knows env.now) (map segment_of segments.now) }
-    ensures { OnOk result (map active_segment_of active.new.items ≡ map active_segment_of active.old.items
-        ++ filter_map (λ s. active_of_kind s.kind s.bytes) (map segment_of segments.now)) }
-{
-    for segment in segments {
-        add_active(alloc, env, active, segment)?;
-    }
-    Ok(())
 }
 
 fn add_active<'d>(
@@ -107,27 +91,10 @@ fn add_passive<'d>(
         ≡ passive_data_of translation.old ++ passive_data_from 0 (segments (module_of form.now))) }
     ensures same { SameButPassive translation.old translation.new }
 {
-    let mut next = 0;
-    for payload in &form.payloads {
-        let segments = segments_of(payload);
-        add_all_passive(translation, next, segments)?;
-        next += segments.len();
-    }
-    Ok(())
-}
-
-fn add_all_passive<'d>(
-    translation: &mut ModuleTranslation<'d>,
-    first: usize,
-    segments: &[DataSegment<'d>],
-) -> Result<(), OutOfMemory>
-    requires { first + length segments.now < 2 ^ 30 }
-    ensures passive { OnOk result (passive_data_of translation.new
-        ≡ passive_data_of translation.old ++ passive_data_from first (map segment_of segments.now)) }
-    ensures same { SameButPassive translation.old translation.new }
-{
-    for (place, segment) in segments.iter().enumerate() {
-        note_passive(translation, first + place, segment)?;
+    let mut index = 0;
+    for segment in entries_of::<DataSegment<'_>>(form) {
+        note_passive(translation, index, segment)?;
+        index += 1;
     }
     Ok(())
 }

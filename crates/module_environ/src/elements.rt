@@ -1,6 +1,6 @@
 //! Element segments.
 
-ghost use Rattle.std.specs.Prelude.{◌≡◌, ◌<◌, ◌-◌, ◌++◌, ◌∷◌, [], Some, length, map, IfOk, OnOk};
+ghost use Rattle.std.specs.Prelude.{◌≡◌, ◌<◌, ◌-◌, ◌++◌, ◌∷◌, [], Some, length, IfOk, OnOk};
 ghost use Rattle.std.specs.List.{flat_map};
 ghost use Rattle.wasm_spec.specs.Module as plain;
 ghost use Rattle.wasm_spec.specs.Sizes.{HasFewEntries};
@@ -18,7 +18,7 @@ use crate::escapes::Escaping;
 use crate::offsets::convert_offset;
 use entity_map::{EntityRef, OutOfMemory, PrimaryMap, SecondaryMap};
 use form_data::{Element, ElementKind, Form};
-use form_lists::elements_of;
+use form_lists::entries_of;
 use std::alloc::Global;
 use wasm_convert::TypeConvert;
 use wasm_index::{ElemIndex, PassiveElemIndex, TableIndex};
@@ -55,8 +55,8 @@ pub(crate) fn convert_elements(
         (escaping.new ≡ after_escapes escaping.old (flat_map (λ e. item_functions e.items) (flat_map plain.elements_of_section (module_of form.now)))) }
 {
     let mut segments = ElementSegments::new(alloc);
-    for payload in &form.payloads {
-        segments.add_all(alloc, env, elements_of(payload), escaping)?;
+    for element in entries_of::<Element>(form) {
+        segments.add(alloc, env, element, escaping)?;
     }
     Ok(segments)
 }
@@ -72,25 +72,6 @@ impl ElementSegments {
             numbers: SecondaryMap::new(alloc, None),
             count: 0,
         }
-    }
-
-    fn add_all(
-        &mut self,
-        alloc: Global,
-        env: &dyn TypeConvert,
-        elements: &[Element],
-        escaping: &mut Escaping,
-    ) -> Result<(), OutOfMemory>
-        requires room { HasRoom (look_up env.now) self.old (length elements.now) }
-        requires convertible { AreElementsConvertible (knows env.now) escaping.old.count (map element_of elements.now) }
-        ensures holds { OnOk result (AddsElements (look_up env.now) self.old self.new (map element_of elements.now)) }
-        ensures noted { OnOk result
-            (escaping.new ≡ after_escapes escaping.old (flat_map (λ e. item_functions e.items) (map element_of elements.now))) }
-    {
-        for element in elements {
-            self.add(alloc, env, element, escaping)?;
-        }
-        Ok(())
     }
 
     fn add(

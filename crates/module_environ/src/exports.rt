@@ -1,6 +1,6 @@
 //! What a module exports.
 
-ghost use Rattle.std.specs.Prelude.{◌≡◌, ◌+◌, ◌-◌, ◌<◌, ◌^◌, ◌++◌, ◌∷◌, [], List, length, map, All, IfOk, OnOk};
+ghost use Rattle.std.specs.Prelude.{◌≡◌, ◌-◌, ◌<◌, ◌^◌, ◌++◌, ◌∷◌, [], List, length, map, All, IfOk, OnOk};
 ghost use Rattle.std.specs.List.{flat_map};
 ghost use Rattle.wasm_spec.specs.Module.{exports_of_section};
 ghost use Rattle.wasm_spec.specs.Module as plain;
@@ -16,7 +16,7 @@ ghost use Rattle.module_environ.specs.Pooled.{with_texts, exported_names, HasTex
 use crate::escapes::Escaping;
 use entity_map::{Atom, EntityRef, OutOfMemory, StringPool};
 use form_data::{Export, Form};
-use form_lists::exports_of;
+use form_lists::entries_of;
 use indexmap::IndexMap;
 use std::alloc::Global;
 use wasm_index::{FuncIndex, GlobalIndex, MemoryIndex, TableIndex, TagIndex};
@@ -43,31 +43,11 @@ pub(crate) fn convert_exports(
 {
     // An atom is a number of our own, which no name chooses: the map needs no seed.
     let mut exports = IndexMap::new(alloc);
-    for payload in &form.payloads {
-        add_exports(&mut exports, strings, escaping, exports_of(payload))?;
-    }
-    Ok(exports)
-}
-
-/// Adds exports to those before.
-fn add_exports(
-    entries: &mut IndexMap<Atom, EntityIndex>,
-    strings: &mut StringPool,
-    escaping: &mut Escaping,
-    exports: &[Export<'_>],
-) -> Result<(), OutOfMemory>
-    requires room { length strings.old + length exports.now < u32.MAX - 1 }
-    requires in_range { All (CanExport escaping.old.count) (map export_of exports.now) }
-    ensures pool { OnOk result (strings.new ≡ with_texts strings.old (exported_names (map export_of exports.now))) }
-    ensures noted { OnOk result (escaping.new ≡ after_escapes escaping.old (exported_functions (map export_of exports.now))) }
-    ensures entered { OnOk result ((before : List plain.Export) → AreEntered before strings.old entries.old.entries
-        → AreDistinct (before ++ map export_of exports.now) → AreEntered (before ++ map export_of exports.now) strings.new entries.new.entries) }
-{
-    for export in exports {
-        add_export(entries, strings, export)?;
+    for export in entries_of::<Export<'_>>(form) {
+        add_export(&mut exports, strings, export)?;
         note_function(escaping, export)?;
     }
-    Ok(())
+    Ok(exports)
 }
 
 /// Adds an export to those before.

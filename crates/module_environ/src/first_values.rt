@@ -1,6 +1,6 @@
 //! What the cells of the defined tables hold first.
 
-ghost use Rattle.std.specs.Prelude.{◌≡◌, ◌+◌, ◌<◌, ◌++◌, [], length, map, replicate, All, IfOk, IfSome, OnOk};
+ghost use Rattle.std.specs.Prelude.{◌≡◌, ◌<◌, [], length, map, replicate, All, IfOk, IfSome, OnOk};
 ghost use Rattle.std.specs.List.{flat_map};
 ghost use Rattle.std.specs.Option.{option_map};
 ghost use Rattle.wasm_spec.specs.Module.{tables_of_section};
@@ -15,7 +15,7 @@ use crate::escapes::Escaping;
 use crate::expressions::convert_expression;
 use entity_map::{OutOfMemory, PrimaryMap};
 use form_data::{Form, TableDef};
-use form_lists::tables_of;
+use form_lists::entries_of;
 use std::alloc::Global;
 use wasm_convert::TypeConvert;
 use wasm_index::{DefinedTableIndex, FuncIndex};
@@ -37,29 +37,10 @@ pub(crate) fn first_values(
         ≡ after_escapes escaping.old (flat_map (λ t. referred_if_any t.init) (flat_map tables_of_section (module_of form.now)))) }
 {
     let mut values = PrimaryMap::new(alloc);
-    for payload in &form.payloads {
-        add_first_values(alloc, env, tables_of(payload), &mut values, escaping)?;
-    }
-    Ok(values)
-}
-
-fn add_first_values(
-    alloc: Global,
-    env: &dyn TypeConvert,
-    tables: &[TableDef],
-    values: &mut PrimaryMap<DefinedTableIndex, TableInitialValue>,
-    escaping: &mut Escaping,
-) -> Result<(), OutOfMemory>
-    requires convertible { All (λ t. IfSome t.init (IsConvertible (knows env.now) escaping.old.count)) (map table_of tables.now) }
-    requires few { length values.old + length tables.now < u32.MAX }
-    ensures values { OnOk result (map initial.view_first_value values.new
-        ≡ map initial.view_first_value values.old ++ initial.first_values (look_up env.now) (map table_of tables.now)) }
-    ensures noted { OnOk result (escaping.new ≡ after_escapes escaping.old (flat_map (λ t. referred_if_any t.init) (map table_of tables.now))) }
-{
-    for table in tables {
+    for table in entries_of::<TableDef>(form) {
         values.push(first_value(alloc, env, table, escaping)?)?;
     }
-    Ok(())
+    Ok(values)
 }
 
 fn first_value(

@@ -1,20 +1,20 @@
 //! The first values of the defined globals.
 
-ghost use Rattle.std.specs.Prelude.{◌≡◌, ◌+◌, ◌<◌, ◌++◌, ◌∷◌, [], length, map, All, IfOk, OnOk};
+ghost use Rattle.std.specs.Prelude.{◌≡◌, ◌<◌, length, map, All, IfOk, OnOk};
 ghost use Rattle.std.specs.List.{flat_map};
 ghost use Rattle.wasm_spec.specs.Module.{globals_of_section};
-ghost use Rattle.form_data.specs.Views.{module_of, global_of};
+ghost use Rattle.form_data.specs.Views.{module_of};
 ghost use Rattle.module_environ.specs.Convertible.{IsConvertible};
 ghost use Rattle.module_environ.specs.Escapes.{referred};
 ghost use Rattle.module_environ.specs.EscapeLog.{after_escapes};
 ghost use Rattle.module_environ.specs.Initialisers.{known_values, left_initialisers, view_value, view_initialiser};
-ghost use Rattle.module_environ.specs.FirstGlobals.{seen_globals, AddsGlobals, AddsInitialiser};
+ghost use Rattle.module_environ.specs.FirstGlobals.{seen_globals, AddsInitialiser};
 
 use crate::escapes::Escaping;
 use crate::expressions::convert_expression;
 use entity_map::{EntityRef, OutOfMemory};
 use form_data::{Form, GlobalDef};
-use form_lists::globals_of;
+use form_lists::entries_of;
 use std::alloc::Global;
 use wasm_convert::{ConstExpr, GlobalConstValue, TypeConvert};
 use wasm_index::DefinedGlobalIndex;
@@ -47,29 +47,11 @@ pub(crate) fn first_globals(
         known: Vec::new(alloc),
         left: Vec::new(alloc),
     };
-    for payload in &form.payloads {
-        add_globals(alloc, env, globals_of(payload), &mut first, escaping)?;
-    }
-    Ok(first)
-}
-
-fn add_globals(
-    alloc: Global,
-    env: &dyn TypeConvert,
-    globals: &[GlobalDef],
-    first: &mut FirstGlobals,
-    escaping: &mut Escaping,
-) -> Result<(), OutOfMemory>
-    requires convertible { All (λ g. IsConvertible (knows env.now) escaping.old.count g.init) (map global_of globals.now) }
-    requires few { seen_globals first.old + length globals.now < u32.MAX }
-    ensures added { OnOk result (AddsGlobals (look_up env.now) first.old first.new (map global_of globals.now)) }
-    ensures noted { OnOk result (escaping.new ≡ after_escapes escaping.old (flat_map (λ g. referred g.init) (map global_of globals.now))) }
-{
-    for global in globals {
+    for global in entries_of::<GlobalDef>(form) {
         let initialiser = convert_expression(alloc, env, &global.init, escaping)?;
         first.add(initialiser)?;
     }
-    Ok(())
+    Ok(first)
 }
 
 impl FirstGlobals {

@@ -1,6 +1,6 @@
 //! What a module imports.
 
-ghost use Rattle.std.specs.Prelude.{◌≡◌, ◌+◌, ◌-◌, ◌<◌, ◌^◌, ◌++◌, [], List, length, map, All, IfOk, OnOk};
+ghost use Rattle.std.specs.Prelude.{◌≡◌, ◌+◌, ◌-◌, ◌<◌, [], length, map, All, IfOk, OnOk};
 ghost use Rattle.std.specs.Hash.DefaultHasher as sip;
 ghost use Rattle.std.specs.List.{flat_map, fold};
 ghost use Rattle.wasm_spec.specs.Module as plain;
@@ -8,13 +8,13 @@ ghost use Rattle.wasm_spec.specs.Sizes.{HasFewEntries};
 ghost use Rattle.form_data.specs.Views.{import_of, export_of, module_of};
 ghost use Rattle.wasm_index.specs.Index.{index_of};
 ghost use Rattle.module_environ.specs.Entities.{imported_entities, resolved_import};
-ghost use Rattle.module_environ.specs.Imported.{AreCounted, HaveIndices, AreImported, counted, next_entity};
+ghost use Rattle.module_environ.specs.Imported.{AreCounted, HaveIndices, counted, next_entity};
 ghost use Rattle.module_environ.specs.Pooled.{with_texts, import_names, imported_names, exported_names, HasTexts};
 ghost use Rattle.module_environ.specs.Seeds.{section_names};
 
 use entity_map::{EntityRef, OutOfMemory, StringPool};
 use form_data::{Export, Form, Import};
-use form_lists::{exports_of, imports_of};
+use form_lists::{Entry, entries_of};
 use std::alloc::Global;
 use std::hash::{DefaultHasher, Hasher};
 use wasm_index::Index;
@@ -79,8 +79,8 @@ pub(crate) fn name_seed(form: &Form<'_>) -> u64
 {
     let mut digest = DefaultHasher::new();
     for payload in &form.payloads {
-        add_import_names(&mut digest, imports_of(payload));
-        add_export_names(&mut digest, exports_of(payload));
+        add_import_names(&mut digest, Import::in_section(payload));
+        add_export_names(&mut digest, Export::in_section(payload));
     }
     digest.finish()
 }
@@ -119,31 +119,13 @@ pub(crate) fn convert_imports(
 {
     let mut initializers = Vec::new(alloc);
     let mut counts = ImportCounts::none();
-    for payload in &form.payloads {
-        add_imports(&mut initializers, &mut counts, strings, imports_of(payload))?;
-    }
-    Ok((initializers, counts))
-}
-
-/// Adds imports to those before.
-fn add_imports(
-    initializers: &mut Vec<Initializer>,
-    counts: &mut ImportCounts,
-    strings: &mut StringPool,
-    imports: &[Import<'_>],
-) -> Result<(), OutOfMemory>
-    requires { (before : List plain.Import) × AreImported before strings.old initializers.old.items counts.old
-        × (length before + length imports.now < 2 ^ 30) }
-    ensures { OnOk result ((before : List plain.Import) → AreImported before strings.old initializers.old.items counts.old
-        → AreImported (before ++ map import_of imports.now) strings.new initializers.new.items counts.new) }
-{
     // The borrow checker wants the types on the way to an index by name.
     let _named: Option<EntityIndex> = None;
-    for import in imports {
-        let initializer = convert_import(counts, strings, import)?;
+    for import in entries_of::<Import<'_>>(form) {
+        let initializer = convert_import(&mut counts, strings, import)?;
         initializers.push(initializer)?;
     }
-    Ok(())
+    Ok((initializers, counts))
 }
 
 /// An import by the atoms of its names and by its entity, which is counted.

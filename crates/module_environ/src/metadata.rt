@@ -1,21 +1,19 @@
 //! The metadata of the functions that a module defines.
 
-ghost use Rattle.std.specs.Prelude.{◌≡◌, ℕ, ◌+◌, ◌<◌, ◌≤◌, ◌++◌, length, map, All, IfOk, OnOk};
-ghost use Rattle.std.specs.List.{enumerate_from};
+ghost use Rattle.std.specs.Prelude.{◌≡◌, ℕ, ◌<◌, length, map, All, IfOk};
 ghost use Rattle.wasm_spec.specs.TypeData.{Value, value_edges, map_value, value_of};
 ghost use Rattle.rule_spec.specs.Lists.{lists_of_module};
-ghost use Rattle.rule_spec.specs.References.{BodyRefersIn};
-ghost use Rattle.form_data.specs.Views.{body_of, composite_of};
+ghost use Rattle.form_data.specs.Views.{composite_of};
 ghost use Rattle.form_lists.specs.Views.{lists_of};
 ghost use Rattle.wasm_types.specs.ValueViews.{Name, value_of as view_value};
 ghost use Rattle.wasm_convert.specs.Known.{Known};
 ghost use Rattle.module_environ.specs.Filling.{module_in, IsGathered, LooksUpTypes};
-ghost use Rattle.module_environ.specs.Metadata.{params_of, params_at, params_of_types, function_data, view_function, functions_asked};
+ghost use Rattle.module_environ.specs.Metadata.{params_of, params_at, params_of_types, view_function, functions_asked};
 ghost use Rattle.module_environ.specs.Types.{look_up_in};
 
 use entity_map::OutOfMemory;
 use form_data::{CompositeInnerType, FunctionBody};
-use form_lists::{Lists, bodies_of};
+use form_lists::{Lists, entries_of};
 use init_plan::FunctionMetadata;
 use std::alloc::Global;
 use std::rc::Rc;
@@ -40,8 +38,12 @@ pub(crate) fn function_metadata(
         return Ok(all);
     }
     let by_type = params_by_type(alloc, env, lists)?;
-    for payload in &lists.form.payloads {
-        add_functions(alloc, env, lists, &by_type, bodies_of(payload), &mut all)?;
+    for body in entries_of::<FunctionBody<'_>>(lists.form) {
+        let function = lists.imported_functions + all.len();
+        all.push(FunctionMetadata {
+            params: function_params(alloc, lists, &by_type, function)?,
+            locals: convert_locals(alloc, env, &body.locals)?,
+        })?;
     }
     Ok(all)
 }
@@ -73,35 +75,6 @@ fn shared(alloc: Global, params: Vec<WasmValType>) -> Result<Rc<Vec<WasmValType>
         Ok(list) => Ok(list),
         Err(_) => Err(OutOfMemory),
     }
-}
-
-/// Adds the metadata of the functions of these bodies, which follow on those before.
-fn add_functions(
-    alloc: Global,
-    env: &dyn TypeConvert,
-    lists: &Lists<'_, '_>,
-    by_type: &[Rc<Vec<WasmValType>>],
-    bodies: &[FunctionBody<'_>],
-    all: &mut Vec<FunctionMetadata>,
-) -> Result<(), OutOfMemory>
-    requires gathered { IsGathered lists.now }
-    requires looks { LooksUpTypes (module_in lists.now) (knows env.now) (look_up env.now) }
-    requires by_type { map (λ params. map view_value params.value.items) by_type.now
-        ≡ params_of_types (look_up_in (module_in lists.now)) (lists_of lists.now) }
-    requires refer { All (BodyRefersIn (length (lists_of_module (module_in lists.now)).types)) (map body_of bodies.now) }
-    requires counted { lists.now.imported_functions + length all.old.items + length bodies.now ≤ length lists.now.spaces.functions.items }
-    ensures { OnOk result (map view_function all.new.items ≡ map view_function all.old.items
-        ++ map (function_data (look_up_in (module_in lists.now)) (lists_of_module (module_in lists.now)))
-        (enumerate_from (length all.old.items) (map body_of bodies.now))) }
-{
-    for body in bodies {
-        let function = lists.imported_functions + all.len();
-        all.push(FunctionMetadata {
-            params: function_params(alloc, lists, by_type, function)?,
-            locals: convert_locals(alloc, env, &body.locals)?,
-        })?;
-    }
-    Ok(())
 }
 
 /// The parameters of a function of the index space, which are those of its type.

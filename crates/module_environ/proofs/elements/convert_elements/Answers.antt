@@ -1,63 +1,50 @@
-use Rattle.std.proofs.Common.{◌∙◌, ◌+◌, ◌++◌, List, length, map, take, ap, sym, refl, subst, arith}
+use Rattle.std.proofs.Common.{◌++◌, ◌∷◌, ◌∙◌, [], List, length, sym, ap, subst, arith, length-append}
 use Rattle.std.specs.List.{flat_map}
-use Rattle.std.proofs.lemmas.List.{length-map}
-use Rattle.std.proofs.lemmas.List.Concat.{flat_map-append}
+use Rattle.std.proofs.lemmas.List.Elements.{All-rest}
 use Rattle.wasm_spec.specs.Module.{Element, elements_of_section}
-use Rattle.form_data.specs.declared.form.Payload.{Payload}
-use Rattle.form_data.specs.Views.{element_of, payload_of}
+use Rattle.form_data.specs.Views.{element_of}
+use Rattle.form_lists.specs.Sections.{entries_left}
 use Rattle.module_environ.specs.Escapes.{item_functions}
-use Rattle.module_environ.specs.EscapeLog.{EscapeLog}
+use Rattle.module_environ.specs.EscapeLog.{after_escapes}
 use Rattle.module_environ.specs.Segments.{IsElementConvertible, AreElementsConvertible, HoldsElements}
-use Rattle.module_environ.proofs.BySection.{section-all, section-few, section-more}
-use Rattle.module_environ.proofs.ElementsNoted.{noted-both}
+use Rattle.module_environ.proofs.Filling.{here_still, came_more, came_all, noted_more}
 use Rattle.module_environ.proofs.elements.convert_elements.Goals as goal
 
-pub loop-payload-init : goal.loop-payload-init
-loop-payload-init g c = record { holds = c.new-segments.ensures ((goal.TypeConvert-dyn g c.args.env.now).look_up c.args.env.now.1); noted = refl }
-
-pub add_all-requires-clause-room : goal.add_all-requires-clause-room
-add_all-requires-clause-room g c =
-    let ps = c.deref-payload-items.result.now in
-    let i = c.loop-payload.payload-index in
-    let fits = section-few elements_of_section payload_of ps i c.payload-item.result c.loop-payload-test.true c.payload-item.is in
-    let whole = ap (λ (l : List Payload). length (flat_map elements_of_section (map payload_of l))) c.deref-payload-items.ensures.value in
-    let here = sym (length-map c.elements_of.result.now element_of) ∙ ap length c.elements_of.ensures in (
-      flat_map elements_of_section (map payload_of (take i ps)),
-      c.loop-payload.invariant.holds,
-      omega (arith, fits, whole, here, c.requires.few.elements),
-    )
-
-pub add_all-requires-clause-convertible : goal.add_all-requires-clause-convertible
-add_all-requires-clause-convertible g c =
-    let known = (goal.TypeConvert-dyn g c.args.env.now).knows c.args.env.now.1 in
-    let count = c.args.escaping.now.count in
-    subst (λ n. AreElementsConvertible known n (map element_of c.elements_of.result.now))
-    (sym (ap (λ (f : EscapeLog). f.count) c.loop-payload.invariant.noted))
-    (subst (AreElementsConvertible known count) (sym c.elements_of.ensures)
-    (section-all elements_of_section payload_of c.deref-payload-items.result.now c.loop-payload.payload-index c.payload-item.result
-    c.loop-payload-test.true c.payload-item.is (IsElementConvertible known count)
-    (subst (λ (ps : List Payload). AreElementsConvertible known count (flat_map elements_of_section (map payload_of ps)))
-    (sym c.deref-payload-items.ensures.value) c.requires.convertible)))
-
-pub loop-payload-preserved : goal.loop-payload-preserved
-loop-payload-preserved g c =
-    let look = (goal.TypeConvert-dyn g c.args.env.now).look_up c.args.env.now.1 in
-    let ps = c.deref-payload-items.result.now in
-    let i = c.loop-payload.payload-index in
-    let p = c.payload-item.result in
-    let before = flat_map elements_of_section (map payload_of (take i ps)) in
-    let after = flat_map elements_of_section (map payload_of (take (i + 1) ps)) in
-    let more = section-more elements_of_section payload_of ps i p c.loop-payload-test.true c.payload-item.is in
+pub loop-element-init : goal.loop-element-init
+loop-element-init g c =
+    let env = goal.TypeConvert-dyn g c.args.env.now in
+    let start = ap (entries_left element_of elements_of_section) c.into_iter-element-iterator.ensures.into_iter_gives ∙ c.entries_of-element-items.ensures in
     record {
-      holds = subst (λ (es : List Element). HoldsElements look es c.add_all.new.self) (sym more)
-          (subst (λ (es : List Element). HoldsElements look (before ++ es) c.add_all.new.self) c.elements_of.ensures
-          (c.in_ok-add_all.ensures.holds before c.loop-payload.invariant.holds));
-      noted = noted-both c.args.escaping.now c.loop-payload.escaping c.add_all.new.escaping
-          (flat_map (λ (e : Element). item_functions e.items) before)
-          (flat_map (λ (e : Element). item_functions e.items) (map element_of c.elements_of.result.now))
-          (flat_map (λ (e : Element). item_functions e.items) after) c.loop-payload.invariant.noted c.in_ok-add_all.ensures.noted
-          (ap (flat_map (λ (e : Element). item_functions e.items)) more
-          ∙ flat_map-append (λ (e : Element). item_functions e.items) before (elements_of_section (payload_of p))
-          ∙ ap (λ (es : List Element). flat_map (λ (e : Element). item_functions e.items) before
-          ++ flat_map (λ (e : Element). item_functions e.items) es) (sym c.elements_of.ensures));
+      convertible = subst (AreElementsConvertible (env.knows c.args.env.now.1) c.args.escaping.now.count) (sym start) c.requires.convertible;
+      holds = ([], c.new-segments.ensures (env.look_up c.args.env.now.1), start);
+      noted = ap (λ (es : List Element). after_escapes c.args.escaping.now (flat_map (λ (e : Element). item_functions e.items) es)) start;
     }
+
+pub add-requires-clause-room : goal.add-requires-clause-room
+add-requires-clause-room g c =
+    let held = c.loop-element.invariant.holds in
+    (held.0, held.1, omega (arith, c.requires.few.elements, ap length held.2, length-append held.0 (entries_left element_of elements_of_section c.loop-element.element-iterator), ap length c.in-Some.ensures.steps))
+
+pub add-requires-clause-convertible : goal.add-requires-clause-convertible
+add-requires-clause-convertible g c =
+    here_still _ _ (element_of c.in-Some.element.now) c.in-Some.ensures.steps (IsElementConvertible ((goal.TypeConvert-dyn g c.args.env.now).knows c.args.env.now.1))
+    c.args.escaping.now c.loop-element.escaping _ _ c.loop-element.invariant.noted c.loop-element.invariant.convertible
+
+pub loop-element-preserved : goal.loop-element-preserved
+loop-element-preserved g c =
+    let at = c.in-Some.ensures.steps in
+    let element = element_of c.in-Some.element.now in
+    let had = c.loop-element.invariant in
+    record {
+      convertible = All-rest (IsElementConvertible ((goal.TypeConvert-dyn g c.args.env.now).knows c.args.env.now.1) c.args.escaping.now.count) element _ _ at
+          had.convertible;
+      holds = (had.holds.0 ++ element ∷ [], c.in_ok-add.ensures.added had.holds.0 had.holds.1, came_more _ _ element at had.holds.0 _ had.holds.2);
+      noted = noted_more c.loop-element.escaping c.add.new.escaping _ (item_functions element.items) _ _ c.in_ok-add.ensures.noted
+          (ap (flat_map (λ (e : Element). item_functions e.items)) at) had.noted;
+    }
+
+pub returns-clause-holds : goal.returns-clause-holds
+returns-clause-holds g c =
+    let held = c.loop-element.invariant.holds in
+    subst (λ (es : List Element). HoldsElements ((goal.TypeConvert-dyn g c.args.env.now).look_up c.args.env.now.1) es c.loop-element.segments)
+    (came_all held.0 _ _ c.in-None.ensures.steps.0 held.2) held.1

@@ -1,64 +1,64 @@
-use Rattle.std.proofs.Common.{◌+◌, List, length, map, take, All, sym, ap, subst, arith}
-use Rattle.std.specs.List.{flat_map}
-use Rattle.std.proofs.lemmas.List.{length-map}
+use Rattle.std.proofs.Common.{◌∙◌, ◌++◌, ◌∷◌, [], List, ℕ, length, sym, ap, subst, arith}
+use Rattle.std.proofs.lemmas.List.Elements.{All-rest, filter_map-append}
 use Rattle.wasm_spec.specs.Module.{Export, exports_of_section}
-use Rattle.form_data.specs.declared.form.Payload.{Payload}
-use Rattle.form_data.specs.Views.{export_of, payload_of}
-use Rattle.form_lists.proofs.AllSections.{length_more_le}
+use Rattle.form_data.specs.Views.{export_of}
+use Rattle.form_lists.specs.Sections.{entries_left}
 use Rattle.rule_spec.specs.Rules.{AreDistinct}
-use Rattle.module_environ.specs.Exported.{CanExport, AreEntered}
-use Rattle.module_environ.specs.EscapeLog.{EscapeLog}
-use Rattle.module_environ.specs.Pooled.{exported_names}
-use Rattle.module_environ.proofs.GrownPool.{grows-within, length-grown}
-use Rattle.module_environ.proofs.ExportsInTurn.{noted-then, exported-then, section-more, distinct-sections, section-can_export}
+use Rattle.form_rules.proofs.ExportNames.{distinct_front}
+use Rattle.module_environ.specs.Escapes.{exported_function}
+use Rattle.module_environ.specs.Exported.{CanExport, AreEntered, exported_functions}
+use Rattle.module_environ.specs.Pooled.{with_texts, exported_names}
+use Rattle.module_environ.proofs.Filling.{here_still, came_more, came_all, noted_more}
+use Rattle.module_environ.proofs.GrownPool.{GrowsBy, grows-text, length-grown}
 use Rattle.module_environ.proofs.exports.convert_exports.Goals as goal
 
-pub add_exports-requires-clause-room : goal.add_exports-requires-clause-room
-add_exports-requires-clause-room c =
-    let before = flat_map exports_of_section (map payload_of (take c.loop-payload.payload-index c.deref-payload-items.result.now)) in
-    let names = exported_names before in
-    omega (
-      arith,
-      c.requires.few.exports,
-      c.requires.room,
-      ap (λ (ps : List Payload). length (flat_map exports_of_section (map payload_of ps))) c.deref-payload-items.ensures.value,
-      length_more_le exports_of_section c.deref-payload-items.result.now c.loop-payload.payload-index c.payload-item.result
-          c.loop-payload-test.true c.payload-item.is,
-      ap length c.exports_of.ensures,
-      length-map c.exports_of.result.now export_of,
-      length-grown (length names) c.args.strings.now c.loop-payload.strings
-          (grows-within (length names) names c.args.strings.now c.loop-payload.strings c.loop-payload.invariant.pool (omega arith)),
-      length-map before (λ (e : Export). e.name),
-    )
+pub add_export-requires-clause-room : goal.add_export-requires-clause-room
+add_export-requires-clause-room c = omega (arith, ap length c.in-Some.ensures.steps, c.loop-export.invariant.room)
 
-pub add_exports-requires-clause-in_range : goal.add_exports-requires-clause-in_range
-add_exports-requires-clause-in_range c =
-    let es = map export_of c.exports_of.result.now in
-    let count = c.args.escaping.now.count in
-    subst (λ (f : EscapeLog). All (CanExport f.count) es) (sym c.loop-payload.invariant.noted)
-    (section-can_export c.deref-payload-items.result.now c.loop-payload.payload-index c.payload-item.result es c.loop-payload-test.true
-    c.payload-item.is c.exports_of.ensures count
-    (subst (λ (ps : List Payload). All (CanExport count) (flat_map exports_of_section (map payload_of ps))) (sym c.deref-payload-items.ensures.value)
-    c.requires.in_range))
+pub add_export-requires-clause-in_range : goal.add_export-requires-clause-in_range
+add_export-requires-clause-in_range c =
+    (here_still _ _ (export_of c.in-Some.export.now) c.in-Some.ensures.steps CanExport c.args.escaping.now c.loop-export.escaping _ _
+    c.loop-export.invariant.noted c.loop-export.invariant.in_range).index
 
-pub loop-payload-preserved : goal.loop-payload-preserved
-loop-payload-preserved c =
-    let ps = c.deref-payload-items.result.now in
-    let k = c.loop-payload.payload-index in
-    let p = c.payload-item.result in
-    let es = map export_of c.exports_of.result.now in
-    let lt = c.loop-payload-test.true in
-    let before = flat_map exports_of_section (map payload_of (take k ps)) in
-    let through = flat_map exports_of_section (map payload_of (take (k + 1) ps)) in
-    let more = section-more ps k p es lt c.payload-item.is c.exports_of.ensures in
-    let had = c.loop-payload.invariant in
+pub note_function-requires : goal.note_function-requires
+note_function-requires c =
+    here_still _ _ (export_of c.in-Some.export.now) c.in-Some.ensures.steps CanExport c.args.escaping.now c.loop-export.escaping _ _
+    c.loop-export.invariant.noted c.loop-export.invariant.in_range
+
+pub loop-export-preserved : goal.loop-export-preserved
+loop-export-preserved c =
+    let at = c.in-Some.ensures.steps in
+    let e = export_of c.in-Some.export.now in
+    let rest = entries_left export_of exports_of_section c.next.new.self in
+    let had = c.loop-export.invariant in
+    let came = had.entered.0 in
+    let put = c.in_ok-add_export.ensures.pool in
+    let through = came_more _ _ e at came _ had.entered.2 in
     record {
-      pool = exported-then c.args.strings.now c.loop-payload.strings c.add_exports.new.strings before es through
-          had.pool c.in_ok-add_exports.ensures.pool more;
-      noted = noted-then c.args.escaping.now c.loop-payload.escaping c.add_exports.new.escaping before es through
-          had.noted c.in_ok-add_exports.ensures.noted more;
-      entered = subst (λ (xs : List Export). AreEntered xs c.add_exports.new.strings c.add_exports.new.entries.entries) (sym more)
-          (c.in_ok-add_exports.ensures.entered before had.entered (distinct-sections ps k p es lt c.payload-item.is c.exports_of.ensures
-          (subst (λ (qs : List Payload). AreDistinct (flat_map exports_of_section (map payload_of qs))) (sym c.deref-payload-items.ensures.value)
-          c.requires.distinct)));
+      room = omega (
+        arith,
+        had.room,
+        ap length at,
+        length-grown 1 c.loop-export.strings c.add_export.new.strings
+            (subst (GrowsBy 1 c.loop-export.strings) (sym put) (grows-text c.loop-export.strings e.name)),
+      );
+      in_range = All-rest (CanExport c.args.escaping.now.count) e _ _ at had.in_range;
+      pool = ap (λ (ts : List (List ℕ)). with_texts ts (exported_names rest)) put
+          ∙ ap (λ (es : List Export). with_texts c.loop-export.strings (exported_names es)) (sym at) ∙ had.pool;
+      noted = noted_more c.loop-export.escaping c.note_function.new.escaping _ (exported_functions (e ∷ [])) _ _ c.in_ok-note_function.ensures
+          (ap exported_functions at ∙ filter_map-append (λ (x : Export). exported_function x.kind x.index) (e ∷ []) rest) had.noted;
+      entered = (
+        came ++ e ∷ [],
+        c.in_ok-add_export.ensures.entered came had.entered.1 (distinct_front (came ++ e ∷ []) rest (subst AreDistinct (sym through) c.requires.distinct)),
+        through,
+      );
     }
+
+pub returns-clause-exports : goal.returns-clause-exports
+returns-clause-exports c =
+    let had = c.loop-export.invariant.entered in
+    (subst (λ (es : List Export). AreEntered es c.loop-export.strings c.loop-export.exports.entries)
+    (came_all had.0 _ _ c.in-None.ensures.steps.0 had.2) had.1).entities
+
+pub returns-clause-pooled : goal.returns-clause-pooled
+returns-clause-pooled c = c.loop-export.invariant.entered.1.pooled

@@ -1,37 +1,35 @@
-use Rattle.std.proofs.Common.{ℕ}
+use Rattle.std.proofs.Common.{ℕ, length, ap, ◌∙◌, arith}
 use Rattle.std.specs.Prelude.{IfSome}
+use Rattle.std.specs.List.{flat_map}
 use Rattle.std.specs.Option.{option_map}
-use Rattle.wasm_spec.specs.Module.{TableDef, tables_of_section}
+use Rattle.std.proofs.lemmas.List.{length_push}
+use Rattle.std.proofs.lemmas.List.Elements.{All-rest}
+use Rattle.wasm_spec.specs.Module.{TableDef}
+use Rattle.form_data.specs.Views.{table_of}
 use Rattle.wasm_convert.specs.Constants.{const_ops_of}
 use Rattle.module_environ.specs.Convertible.{IsConvertible}
 use Rattle.module_environ.specs.Escapes.{referred_if_any}
-use Rattle.module_environ.proofs.Filling.{section_still, made_section, noted_section}
-use Rattle.module_environ.proofs.GatheredTables.{few_more}
+use Rattle.module_environ.specs.Initialisers.{view_first_value}
+use Rattle.module_environ.proofs.Filling.{here_still, made_more, noted_more}
 use Rattle.module_environ.proofs.first_values.first_values.Goals as goal
 
-pub add_first_values-requires-clause-convertible : goal.add_first_values-requires-clause-convertible
-add_first_values-requires-clause-convertible g c =
+pub first_value-requires : goal.first_value-requires
+first_value-requires g c =
     let knows = (goal.TypeConvert-dyn g c.args.env.now).knows c.args.env.now.1 in
-    section_still (λ (n : ℕ) (t : TableDef). IfSome t.init (IsConvertible knows n)) c.args.escaping.now c.loop-payload.escaping _
-    c.loop-payload.invariant.noted tables_of_section c.args.form.now.payloads.items c.deref-payload-items.result.now
-    c.deref-payload-items.ensures.value c.loop-payload.payload-index c.payload-item.result _ c.loop-payload-test.true c.payload-item.is c.tables_of.ensures c.requires.convertible
+    here_still _ _ (table_of c.in-Some.table.now) c.in-Some.ensures.steps (λ (n : ℕ) (t : TableDef). IfSome t.init (IsConvertible knows n))
+    c.args.escaping.now c.loop-table.escaping _ _ c.loop-table.invariant.noted c.loop-table.invariant.convertible
 
-pub add_first_values-requires-clause-few : goal.add_first_values-requires-clause-few
-add_first_values-requires-clause-few g c =
-    few_more ((goal.TypeConvert-dyn g c.args.env.now).look_up c.args.env.now.1) c.loop-payload.values c.args.form.now.payloads.items
-    c.deref-payload-items.result.now c.deref-payload-items.ensures.value c.loop-payload.payload-index c.payload-item.result c.tables_of.result.now
-    c.loop-payload-test.true c.payload-item.is c.tables_of.ensures c.loop-payload.invariant.values c.requires.few
-
-pub loop-payload-preserved : goal.loop-payload-preserved
-loop-payload-preserved g c =
-    let look = (goal.TypeConvert-dyn g c.args.env.now).look_up c.args.env.now.1 in
-    let payloads = c.deref-payload-items.result.now in
-    let k = c.loop-payload.payload-index in
-    let test = c.loop-payload-test.true in
+pub loop-table-preserved : goal.loop-table-preserved
+loop-table-preserved g c =
+    let env = goal.TypeConvert-dyn g c.args.env.now in
+    let at = c.in-Some.ensures.steps in
+    let table = table_of c.in-Some.table.now in
+    let had = c.loop-table.invariant in
     record {
-      values = made_section tables_of_section payloads k c.payload-item.result test c.payload-item.is _ c.tables_of.ensures
-          (λ (t : TableDef). option_map (const_ops_of look) t.init) _ _ c.in_ok-add_first_values.ensures.values c.loop-payload.invariant.values;
-      noted = noted_section tables_of_section payloads k c.payload-item.result test c.payload-item.is _ c.tables_of.ensures
-          (λ (t : TableDef). referred_if_any t.init) c.args.escaping.now c.loop-payload.escaping c.add_first_values.new.escaping
-          c.loop-payload.invariant.noted c.in_ok-add_first_values.ensures.noted;
+      convertible = All-rest (λ (t : TableDef). IfSome t.init (IsConvertible (env.knows c.args.env.now.1) c.args.escaping.now.count)) table _ _ at had.convertible;
+      few = omega (arith, ap length at, had.few, ap length c.in_ok-push.ensures.ok ∙ length_push c.loop-table.values _);
+      values = made_more _ _ table at view_first_value (λ (t : TableDef). option_map (const_ops_of (env.look_up c.args.env.now.1)) t.init) c.loop-table.values
+          c.push.new.self c.in_ok-first_value.field-0 _ c.in_ok-first_value.ensures.value c.in_ok-push.ensures.ok had.values;
+      noted = noted_more c.loop-table.escaping c.first_value.new.escaping _ (referred_if_any table.init) _ _ c.in_ok-first_value.ensures.noted
+          (ap (flat_map (λ (t : TableDef). referred_if_any t.init)) at) had.noted;
     }

@@ -1,17 +1,26 @@
-use Rattle.std.proofs.Common.{◌≡◌, map, take}
+use Rattle.std.proofs.Common.{◌≡◌, ◌+◌, ◌<◌, ◌++◌, length, map, All}
+use Rattle.std.specs.Prelude.{IfSome}
 use Rattle.std.specs.List.{flat_map}
 use Rattle.wasm_spec.specs.Module.{tables_of_section}
-use Rattle.form_data.specs.Views.{payload_of}
+use Rattle.form_data.specs.Views.{table_of, module_of}
+use Rattle.form_lists.specs.Sections.{entries_left}
+use Rattle.module_environ.specs.Convertible.{IsConvertible}
 use Rattle.module_environ.specs.Escapes.{referred_if_any}
 use Rattle.module_environ.specs.EscapeLog.{after_escapes}
 use Rattle.module_environ.specs.Initialisers.{first_values, view_first_value}
 use Rattle.module_environ.proofs.first_values.first_values.Given as goal
 
--- those of the sections so far
-abbrev pub invariant-loop-payload : goal.invariant-loop-payload
-invariant-loop-payload g l =
-    let tables = flat_map tables_of_section (map payload_of (take l.payload-index l.payload-items)) in
+-- with what the tables that are left give, all are gathered
+abbrev pub invariant-loop-table : goal.invariant-loop-table
+invariant-loop-table g l =
+    let env = goal.TypeConvert-dyn g l.env.now in
+    let look = env.look_up l.env.now.1 in
+    let all = flat_map tables_of_section (module_of l.form) in
+    let tables = entries_left table_of tables_of_section l.table-iterator in
     record {
-      values : map view_first_value l.values ≡ first_values ((goal.TypeConvert-dyn g l.env.now).look_up l.env.now.1) tables;
-      noted : l.escaping ≡ after_escapes l.initial.escaping (flat_map (λ t. referred_if_any t.init) tables);
+      convertible : All (λ t. IfSome t.init (IsConvertible (env.knows l.env.now.1) l.initial.escaping.count)) tables;
+      few : length l.values + length tables < 4294967295;
+      values : map view_first_value l.values ++ first_values look tables ≡ first_values look all;
+      noted : after_escapes l.escaping (flat_map (λ t. referred_if_any t.init) tables)
+          ≡ after_escapes l.initial.escaping (flat_map (λ t. referred_if_any t.init) all);
     }

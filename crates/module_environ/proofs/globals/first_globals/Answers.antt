@@ -1,34 +1,38 @@
 use Rattle.std.proofs.Common.{ℕ, length, ap, arith}
-use Rattle.wasm_spec.specs.Module.{GlobalDef, globals_of_section}
+use Rattle.std.specs.List.{flat_map}
+use Rattle.std.proofs.lemmas.List.Elements.{All-rest}
+use Rattle.wasm_spec.specs.Module.{GlobalDef}
+use Rattle.form_data.specs.Views.{global_of}
 use Rattle.module_environ.specs.Convertible.{IsConvertible}
 use Rattle.module_environ.specs.Escapes.{referred}
-use Rattle.module_environ.proofs.Filling.{section_still, noted_section}
-use Rattle.module_environ.proofs.GatheredGlobals.{added_section, few_more}
+use Rattle.module_environ.proofs.Filling.{here_still, noted_more}
+use Rattle.module_environ.proofs.GatheredGlobals.{known_more, left_more}
 use Rattle.module_environ.proofs.globals.first_globals.Goals as goal
 
-pub add_globals-requires-clause-convertible : goal.add_globals-requires-clause-convertible
-add_globals-requires-clause-convertible g c =
+pub convert_expression-requires : goal.convert_expression-requires
+convert_expression-requires g c =
     let knows = (goal.TypeConvert-dyn g c.args.env.now).knows c.args.env.now.1 in
-    section_still (λ (n : ℕ) (x : GlobalDef). IsConvertible knows n x.init) c.args.escaping.now c.loop-payload.escaping _
-    c.loop-payload.invariant.noted globals_of_section c.args.form.now.payloads.items c.deref-payload-items.result.now
-    c.deref-payload-items.ensures.value c.loop-payload.payload-index c.payload-item.result _ c.loop-payload-test.true c.payload-item.is c.globals_of.ensures c.requires.convertible
+    here_still _ _ (global_of c.in-Some.global.now) c.in-Some.ensures.steps (λ (n : ℕ) (x : GlobalDef). IsConvertible knows n x.init)
+    c.args.escaping.now c.loop-global.escaping _ _ c.loop-global.invariant.noted c.loop-global.invariant.convertible
 
-pub add_globals-requires-clause-few : goal.add_globals-requires-clause-few
-add_globals-requires-clause-few g c =
-    few_more _ _ c.loop-payload.first c.args.form.now.payloads.items c.deref-payload-items.result.now c.deref-payload-items.ensures.value
-    c.loop-payload.payload-index c.payload-item.result c.globals_of.result.now c.loop-payload-test.true c.payload-item.is c.globals_of.ensures
-    c.loop-payload.invariant.added (omega (arith, ap length c.new.ensures.items, ap length c.new-2.ensures.items)) c.requires.few
+pub add-requires : goal.add-requires
+add-requires g c = omega (arith, ap length c.in-Some.ensures.steps, c.loop-global.invariant.few)
 
-pub loop-payload-preserved : goal.loop-payload-preserved
-loop-payload-preserved g c =
-    let look = (goal.TypeConvert-dyn g c.args.env.now).look_up c.args.env.now.1 in
-    let payloads = c.deref-payload-items.result.now in
-    let k = c.loop-payload.payload-index in
-    let test = c.loop-payload-test.true in
+pub loop-global-preserved : goal.loop-global-preserved
+loop-global-preserved g c =
+    let env = goal.TypeConvert-dyn g c.args.env.now in
+    let look = env.look_up c.args.env.now.1 in
+    let at = c.in-Some.ensures.steps in
+    let global = global_of c.in-Some.global.now in
+    let had = c.loop-global.invariant in
+    let ops = c.in_ok-initialiser.initialiser in
+    let is = c.in_ok-initialiser.ensures.converted in
+    let adds = c.in_ok-add.ensures in
     record {
-      added = added_section look _ c.loop-payload.first c.add_globals.new.first payloads k c.payload-item.result c.globals_of.result.now test
-          c.payload-item.is c.globals_of.ensures c.loop-payload.invariant.added c.in_ok-add_globals.ensures.added;
-      noted = noted_section globals_of_section payloads k c.payload-item.result test c.payload-item.is _ c.globals_of.ensures
-          (λ (x : GlobalDef). referred x.init) c.args.escaping.now c.loop-payload.escaping c.add_globals.new.escaping c.loop-payload.invariant.noted
-          c.in_ok-add_globals.ensures.noted;
+      convertible = All-rest (λ (x : GlobalDef). IsConvertible (env.knows c.args.env.now.1) c.args.escaping.now.count x.init) global _ _ at had.convertible;
+      few = omega (arith, ap length at, had.few, adds.counted);
+      known = known_more look c.loop-global.first c.add.new.self global _ _ ops at is adds _ had.known;
+      left = left_more look c.loop-global.first c.add.new.self global _ _ ops at is adds _ had.left;
+      noted = noted_more c.loop-global.escaping c.convert_expression.new.escaping _ (referred global.init) _ _ c.in_ok-initialiser.ensures.noted
+          (ap (flat_map (λ (x : GlobalDef). referred x.init)) at) had.noted;
     }

@@ -1,17 +1,30 @@
-use Rattle.std.proofs.Common.{◌≡◌, map, take}
-use Rattle.std.specs.List.{flat_map}
+use Rattle.std.proofs.Common.{◌≡◌, ◌+◌, ◌<◌, ◌++◌, length, map, All}
+use Rattle.std.specs.List.{flat_map, filter_map}
 use Rattle.wasm_spec.specs.Module.{globals_of_section}
-use Rattle.form_data.specs.Views.{payload_of}
+use Rattle.form_data.specs.Views.{global_of, module_of}
+use Rattle.form_lists.specs.Sections.{entries_left}
+use Rattle.replay_spec.specs.Globals.{simple_of, kept_of}
+use Rattle.module_environ.specs.Convertible.{IsConvertible}
 use Rattle.module_environ.specs.Escapes.{referred}
 use Rattle.module_environ.specs.EscapeLog.{after_escapes}
-use Rattle.module_environ.specs.FirstGlobals.{AddsGlobals}
+use Rattle.module_environ.specs.FirstGlobals.{seen_globals, view_known, view_left}
+use Rattle.module_environ.specs.Initialisers.{known_values, left_initialisers}
+use Rattle.module_environ.proofs.GatheredGlobals.{next_initialisers}
+use Rattle.module_environ.proofs.LookedUp.{converted}
 use Rattle.module_environ.proofs.globals.first_globals.Given as goal
 
--- those of the sections so far
-abbrev pub invariant-loop-payload : goal.invariant-loop-payload
-invariant-loop-payload g l =
-    let globals = flat_map globals_of_section (map payload_of (take l.payload-index l.payload-items)) in
+-- with what the globals that are left give, all are gathered
+abbrev pub invariant-loop-global : goal.invariant-loop-global
+invariant-loop-global g l =
+    let env = goal.TypeConvert-dyn g l.env.now in
+    let look = env.look_up l.env.now.1 in
+    let all = flat_map globals_of_section (module_of l.form) in
+    let globals = entries_left global_of globals_of_section l.global-iterator in
     record {
-      added : AddsGlobals ((goal.TypeConvert-dyn g l.env.now).look_up l.env.now.1) l.initial.first l.first globals;
-      noted : l.escaping ≡ after_escapes l.initial.escaping (flat_map (λ g. referred g.init) globals);
+      convertible : All (λ g. IsConvertible (env.knows l.env.now.1) l.initial.escaping.count g.init) globals;
+      few : seen_globals l.first + length globals < 4294967295;
+      known : view_known l.first ++ filter_map simple_of (next_initialisers l.first globals) ≡ known_values all;
+      left : view_left l.first ++ map (converted look) (filter_map kept_of (next_initialisers l.first globals)) ≡ left_initialisers look all;
+      noted : after_escapes l.escaping (flat_map (λ g. referred g.init) globals)
+          ≡ after_escapes l.initial.escaping (flat_map (λ g. referred g.init) all);
     }

@@ -1,23 +1,38 @@
-use Rattle.std.proofs.Common.{List, length, map, ap, arith}
-use Rattle.std.proofs.lemmas.List.{length-map}
-use Rattle.wasm_spec.specs.Module.{imports_of_section}
-use Rattle.wasm_spec.specs.Module as plain
-use Rattle.form_data.specs.declared.form.Payload.{Payload}
-use Rattle.form_data.specs.Views.{import_of, payload_of}
-use Rattle.form_lists.proofs.AllSections.{length_more_le}
+use Rattle.std.proofs.Common.{◌++◌, ◌∷◌, [], ◌<◌, ◌^◌, List, length, ap, subst, arith, length-append}
+use Rattle.wasm_spec.specs.Module.{Import, imports_of_section}
+use Rattle.form_data.specs.Views.{import_of}
+use Rattle.form_lists.specs.Sections.{entries_left}
+use Rattle.module_environ.specs.Imported.{AreImported}
+use Rattle.module_environ.proofs.Filling.{came_more, came_all}
+use Rattle.module_environ.proofs.ImportsInTurn.{counted-few, room-for-imports, imported-step}
 use Rattle.module_environ.proofs.imports.convert_imports.Goals as goal
 
-pub add_imports-requires : goal.add_imports-requires
-add_imports-requires c = (
-  _,
-  c.loop-payload.invariant,
-  omega (
-    arith,
-    c.requires.few.imports,
-    ap (λ (ps : List Payload). length (plain.imports (map payload_of ps))) c.deref-payload-items.ensures.value,
-    length_more_le imports_of_section c.deref-payload-items.result.now c.loop-payload.payload-index c.payload-item.result
-        c.loop-payload-test.true c.payload-item.is,
-    ap length c.imports_of.ensures,
-    length-map c.imports_of.result.now import_of,
-  ),
-)
+pub convert_import-requires-clause-few : goal.convert_import-requires-clause-few
+convert_import-requires-clause-few c =
+    let had = c.loop-import.invariant in
+    counted-few had.0 c.loop-import.counts had.1.counted (omega (arith, c.requires.few.imports, ap length had.2, length-append had.0 (entries_left import_of imports_of_section c.loop-import.import-iterator)))
+
+pub convert_import-requires-clause-room : goal.convert_import-requires-clause-room
+convert_import-requires-clause-room c =
+    let had = c.loop-import.invariant in
+    room-for-imports had.0 c.loop-import.strings c.loop-import.initializers.items c.loop-import.counts had.1
+    (omega (arith, c.requires.few.imports, ap length had.2, length-append had.0 (entries_left import_of imports_of_section c.loop-import.import-iterator)))
+
+pub loop-import-preserved : goal.loop-import-preserved
+loop-import-preserved c =
+    let had = c.loop-import.invariant in
+    let i = import_of c.in-Some.import.now in
+    let one = c.in_ok-initializer in (
+      had.0 ++ i ∷ [],
+      imported-step had.0 i c.loop-import.strings c.convert_import.new.strings c.loop-import.initializers.items c.push.new.self.items one.initializer
+          c.loop-import.counts c.convert_import.new.counts one.ensures.counts one.ensures.pool one.ensures.pooled one.ensures.import
+          c.in_ok-push.ensures.items had.1,
+      came_more _ _ i c.in-Some.ensures.steps had.0 _ had.2,
+    )
+
+pub returns : goal.returns
+returns c =
+    let had = c.loop-import.invariant in
+    let all = subst (λ (is : List Import). AreImported is c.loop-import.strings c.loop-import.initializers.items c.loop-import.counts)
+    (came_all had.0 _ _ c.in-None.ensures.steps.0 had.2) had.1 in
+    record { imports = all.entities; counts = all.counted; pool = all.pool; pooled = all.pooled }

@@ -1,9 +1,11 @@
-use Rattle.std.proofs.Common.{map, take}
+use Rattle.std.proofs.Common.{◌≡◌, ◌++◌, List}
 use Rattle.wasm_spec.specs.Module as plain
-use Rattle.form_data.specs.Views.{payload_of}
+use Rattle.form_data.specs.Views.{import_of, module_of}
+use Rattle.form_lists.specs.Sections.{entries_left}
 use Rattle.module_environ.specs.Imported.{AreImported}
 use Rattle.module_environ.proofs.imports.convert_imports.Given as goal
 
--- the imports of the sections so far are converted
-abbrev pub invariant-loop-payload : goal.invariant-loop-payload
-invariant-loop-payload l = AreImported (plain.imports (map payload_of (take l.payload-index l.payload-items))) l.strings l.initializers.items l.counts
+-- the imports that came are converted
+abbrev pub invariant-loop-import : goal.invariant-loop-import
+invariant-loop-import l = (came : List plain.Import) × AreImported came l.strings l.initializers.items l.counts
+    × (came ++ entries_left import_of plain.imports_of_section l.import-iterator ≡ plain.imports (module_of l.form))

@@ -1,33 +1,58 @@
-use Rattle.std.proofs.Common.{List, length, map, ap, arith}
-use Rattle.std.specs.List.{flat_map}
-use Rattle.std.proofs.lemmas.List.{length-map}
+use Rattle.std.proofs.Common.{◌∙◌, ◌+◌, ◌++◌, ◌∷◌, length, map, sym, ap, arith}
+use Rattle.std.specs.List.{enumerate_from}
+use Rattle.std.proofs.lemmas.List.{length_push}
+use Rattle.std.proofs.lemmas.List.Elements.{All-head, All-same, All-rest}
 use Rattle.wasm_spec.specs.Module.{bodies_of_section}
+use Rattle.rule_spec.specs.declared.rules.Rule.TheVariants.{L10}
 use Rattle.rule_spec.specs.Lists.{lists_of_module}
-use Rattle.form_data.specs.declared.form.Payload.{Payload}
-use Rattle.form_data.specs.Views.{body_of, payload_of}
+use Rattle.rule_spec.specs.References.{BodyRefersIn}
+use Rattle.form_data.specs.Views.{body_of}
+use Rattle.form_lists.specs.Sections.{entries_left}
+use Rattle.init_plan.specs.declared.debug_info.FunctionMetadata.{FunctionMetadata}
 use Rattle.module_environ.specs.Filling.{module_in}
 use Rattle.module_environ.specs.Metadata.{function_data, view_function}
 use Rattle.module_environ.specs.Types.{look_up_in}
-use Rattle.module_environ.proofs.AlikeFunctions.{bodies-counted, section-refers, metadata_section, metadata-within}
+use Rattle.module_environ.proofs.AlikeFunctions.{bodies-counted, locals-known, metadata, metadata_more}
 use Rattle.module_environ.proofs.metadata.function_metadata.Goals as goal
 
-pub add_functions-requires-clause-refer : goal.add_functions-requires-clause-refer
-add_functions-requires-clause-refer g c =
-    section-refers c.args.lists.now c.requires.gathered c.deref-payload-items.result.now c.deref-payload-items.ensures.value
-    c.loop-payload.payload-index c.payload-item.result c.loop-payload-test.true c.payload-item.is _ c.bodies_of.ensures
+pub loop-body-init : goal.loop-body-init
+loop-body-init g c =
+    let lists = c.args.lists.now in
+    let m = module_in lists in
+    let made = function_data (look_up_in m) (lists_of_module m) in
+    let none = c.new-all.ensures.items in
+    let start = ap (entries_left body_of bodies_of_section) c.into_iter-body-iterator.ensures.into_iter_gives ∙ c.entries_of-body-items.ensures in
+    record {
+      refer = All-same (BodyRefersIn (length (lists_of_module m).types)) _ _ start (c.requires.gathered.keeps L10).bodies;
+      counted = omega (arith, bodies-counted lists c.requires.gathered, ap length start, ap length none);
+      metadata = λ i. map view_function (none i) ++ map made (enumerate_from (length (none i)) (start i));
+    }
 
-pub add_functions-requires-clause-counted : goal.add_functions-requires-clause-counted
-add_functions-requires-clause-counted g c =
-    let m = module_in c.args.lists.now in
-    let fits = metadata-within view_function (function_data (look_up_in m) (lists_of_module m)) c.deref-payload-items.result.now
-    c.loop-payload.payload-index c.payload-item.result c.loop-payload-test.true c.payload-item.is _ c.bodies_of.ensures c.loop-payload.all.items
-    c.loop-payload.invariant in
-    let read = ap (λ (ps : List Payload). length (flat_map bodies_of_section (map payload_of ps))) c.deref-payload-items.ensures.value in
-    omega (arith, fits, read, length-map c.bodies_of.result.now body_of, bodies-counted c.args.lists.now c.requires.gathered)
+pub convert_locals-requires : goal.convert_locals-requires
+convert_locals-requires g c =
+    let look = goal.TypeConvert-dyn g c.args.env.now in
+    let refers = BodyRefersIn (length (lists_of_module (module_in c.args.lists.now)).types) in
+    let body = body_of c.in-Some.body.now in
+    locals-known c.args.lists.now c.requires.gathered (look.knows c.args.env.now.1) (look.look_up c.args.env.now.1) c.requires.looks body
+    (All-head refers body _ (All-same refers (body ∷ _) _ (sym c.in-Some.ensures.steps) c.loop-body.invariant.refer)) c.deref-in-loop-body.result.now c.deref-in-loop-body.ensures.value
 
-pub loop-payload-preserved : goal.loop-payload-preserved
-loop-payload-preserved g c =
-    let m = module_in c.args.lists.now in
-    metadata_section view_function (function_data (look_up_in m) (lists_of_module m)) c.deref-payload-items.result.now c.loop-payload.payload-index
-    c.payload-item.result c.loop-payload-test.true c.payload-item.is _ c.bodies_of.ensures c.loop-payload.all.items c.add_functions.new.all.items
-    c.in_ok-add_functions.ensures c.loop-payload.invariant
+pub loop-body-preserved : goal.loop-body-preserved
+loop-body-preserved g c =
+    let lists = c.args.lists.now in
+    let look = goal.TypeConvert-dyn g c.args.env.now in
+    let refers = BodyRefersIn (length (lists_of_module (module_in lists)).types) in
+    let at = c.in-Some.ensures.steps in
+    let body = body_of c.in-Some.body.now in
+    let had = c.loop-body.invariant in
+    let all = c.loop-body.all.items in
+    let z : FunctionMetadata = record { params = c.in_ok-function_params.field-0; locals = c.in_ok-convert_locals.field-0 } in
+    let one = metadata lists c.requires.gathered (look.knows c.args.env.now.1) (look.look_up c.args.env.now.1) c.requires.looks
+    (length all) (lists.imported_functions + c.len.result) body c.deref-in-loop-body.result.now z
+    (All-head refers body _ (All-same refers (body ∷ _) _ (sym at) had.refer))
+    (omega (arith, c.len.ensures)) c.deref-in-loop-body.ensures.value c.in_ok-function_params.ensures c.in_ok-convert_locals.ensures in
+    record {
+      refer = All-rest refers body _ _ at had.refer;
+      counted = omega (arith, had.counted, ap length at, ap length c.in_ok-push.ensures.items ∙ length_push all z);
+      metadata = metadata_more view_function (function_data (look_up_in (module_in lists)) (lists_of_module (module_in lists))) all c.push.new.self.items z
+          _ _ body _ at one c.in_ok-push.ensures.items had.metadata;
+    }
