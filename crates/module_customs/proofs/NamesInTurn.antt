@@ -1,15 +1,13 @@
 -- The names of sections, one after another.
-use Rattle.std.proofs.Common.{◌≡◌, ℕ, ◌+◌, ◌<◌, ◌≤◌, List, [], ◌∷◌, ◌++◌, length, map, take, drop, get_or, Bool, Option, Some, None, Result, Ok, Err, refl, sym, ap, subst, ◌∙◌, append_assoc, arith}
+use Rattle.std.proofs.Common.{◌≡◌, ℕ, ◌+◌, ◌<◌, ◌≤◌, List, [], ◌∷◌, ◌++◌, length, Bool, Option, Some, None, Result, Ok, Err, refl, sym, ap, subst, ◌∙◌, append_assoc, arith}
 use Rattle.std.specs.Prelude.{codes, OnOk}
 use Rattle.std.specs.Option.{option_map, option_or}
 use Rattle.std.specs.List.{flat_map, filter_map}
 use Rattle.std.proofs.lemmas.Grind.{flat_map-append}
-use Rattle.std.proofs.lemmas.List.{append-nil, length-append, map_more, map-append, take-append-drop}
+use Rattle.std.proofs.lemmas.List.{append-nil, length-append}
 use Rattle.std.proofs.lemmas.List.Elements.{filter_map-append}
 use Rattle.wasm_spec.specs.Module.{Import, imports_of_section, function_types_of_section, function_import}
 use Rattle.wasm_spec.specs.Module as plain
-use Rattle.form_data.specs.declared.form.Payload.{Payload}
-use Rattle.form_data.specs.Views.{payload_of}
 use Rattle.custom_sections.specs.NameReading.{NameLists, no_names, joined}
 use Rattle.init_plan.specs.declared.debug_info.NameSection.{NameSection}
 use Rattle.module_customs.specs.Names.{functions_among, one_if, Text, contents_of, names_in, names_below, names_after, names_behind, KeepsNames}
@@ -89,46 +87,27 @@ functions-push ps p =
       ap length (append-nil (function_types_of_section p)),
     )
 
--- ---- over payloads
+-- ---- one section more
 
-module _ (ps : List Payload) (k : ℕ) (p : Payload) (lt : k < length ps) (at : p ≡ get_or ps k p) where
-  pub payloads-more : map payload_of (take (k + 1) ps) ≡ map payload_of (take k ps) ++ payload_of p ∷ []
-  payloads-more = map_more payload_of ps k p lt ∙ ap (λ (x : Payload). map payload_of (take k ps) ++ payload_of x ∷ []) (sym at)
+pub declared-more : (before : List plain.Payload) (p : plain.Payload) (declared more : ℕ) → declared ≡ length (plain.functions before)
+    → more ≡ functions_among (imports_of_section p) + length (function_types_of_section p)
+    → declared + more ≡ length (plain.functions (before ++ p ∷ []))
+declared-more before p declared more so_far is = omega (arith, so_far, is, functions-push before p)
 
-  pub declared-more : (declared more : ℕ) → declared ≡ length (plain.functions (map payload_of (take k ps)))
-      → more ≡ functions_among (imports_of_section (payload_of p)) + length (function_types_of_section (payload_of p))
-      → declared + more ≡ length (plain.functions (map payload_of (take (k + 1) ps)))
-  declared-more declared more so_far is =
-      omega (
-        arith,
-        so_far,
-        is,
-        ap (λ (qs : List plain.Payload). length (plain.functions qs)) payloads-more,
-        functions-push (map payload_of (take k ps)) (payload_of p),
-      )
+pub next-names : (before : List plain.Payload) (p : plain.Payload) (locals : Bool) (declared : ℕ) → declared ≡ length (plain.functions before)
+    → (kept : NameSection)
+    → KeepsNames (joined (names_after locals [] before) (names_below declared (names_in locals (contents_of (codes "name") p)))) kept
+    → KeepsNames (names_after locals [] (before ++ p ∷ [])) kept
+next-names before p locals declared so_far kept keeps =
+    let now = names_after locals [] before in
+    let whole : names_after locals [] (before ++ p ∷ []) ≡ joined now (names_below declared (names_in locals (contents_of (codes "name") p))) =
+    after-push locals [] before p ∙ ap (λ n. joined now (names_below n (names_in locals (contents_of (codes "name") p)))) (sym so_far) in
+    subst (λ (n : NameLists). KeepsNames n kept) (sym whole) keeps
 
-  -- the names of one section more
-  pub next-names : (locals : Bool) (declared : ℕ) → declared ≡ length (plain.functions (map payload_of (take k ps))) → (kept : NameSection)
-      → KeepsNames (joined (names_after locals [] (map payload_of (take k ps)))
-      (names_below declared (names_in locals (contents_of (codes "name") (payload_of p))))) kept
-      → KeepsNames (names_after locals [] (map payload_of (take (k + 1) ps))) kept
-  next-names locals declared so_far kept keeps =
-      let now = names_after locals [] (map payload_of (take k ps)) in
-      let whole : names_after locals [] (map payload_of (take (k + 1) ps))
-      ≡ joined now (names_below declared (names_in locals (contents_of (codes "name") (payload_of p)))) =
-      ap (names_after locals []) payloads-more ∙ after-push locals [] (map payload_of (take k ps)) (payload_of p)
-      ∙ ap (λ n. joined now (names_below n (names_in locals (contents_of (codes "name") (payload_of p))))) (sym so_far) in
-      subst (λ (n : NameLists). KeepsNames n kept) (sym whole) keeps
-
-pub declared-few : (ps : List Payload) (k bound : ℕ) → length (plain.functions (map payload_of ps)) < bound
-    → length (plain.functions (map payload_of (take k ps))) < bound
-declared-few ps k bound few = omega (
-  arith,
-  few,
-  ap (λ (qs : List Payload). length (plain.functions (map payload_of qs))) (take-append-drop k ps),
-  ap (λ (qs : List plain.Payload). length (plain.functions qs)) (map-append payload_of (take k ps) (drop k ps)),
-  functions-append (map payload_of (take k ps)) (map payload_of (drop k ps)),
-)
+pub declared-few : (before left all : List plain.Payload) (bound : ℕ) → before ++ left ≡ all → length (plain.functions all) < bound
+    → length (plain.functions before) < bound
+declared-few before left all bound whole few =
+    omega (arith, few, ap (λ (ps : List plain.Payload). length (plain.functions ps)) whole, functions-append before left)
 
 -- ---- the names of a section
 

@@ -2,19 +2,20 @@
 
 ghost use Rattle.std.specs.Prelude.{◌≡◌};
 ghost use Rattle.std.specs.List.{list_any};
-ghost use Rattle.form_data.specs.Views.{module_of, payload_of};
+ghost use Rattle.form_lists.specs.Source.{source_module, section_of};
 ghost use Rattle.module_customs.specs.Debugged.{is_debug_section};
 
 use custom_sections::is_debug_name;
-use form_data::{Form, Payload};
+use form_data::Payload;
+use form_lists::{Section, Source, sections_of};
 
 /// Whether a custom section of a module holds debug information, by its name (core specification, appendix, custom sections; the names are
 /// those of the DWARF sections).
-pub fn has_debug_section(form: &Form<'_>) -> bool
-    ensures { result ≡ list_any is_debug_section (module_of form.now) }
+pub fn has_debug_section(source: Source<'_, '_>) -> bool
+    ensures { result ≡ list_any is_debug_section (source_module source.entry) }
 {
-    for payload in &form.payloads {
-        if is_debug_section(payload) {
+    for section in sections_of(source) {
+        if is_debug_section(section) {
             return true;
         }
     }
@@ -22,11 +23,11 @@ pub fn has_debug_section(form: &Form<'_>) -> bool
 }
 
 /// Whether a section holds debug information, by its name.
-fn is_debug_section(payload: &Payload<'_>) -> bool
-    ensures { result ≡ is_debug_section (payload_of payload.now) }
+fn is_debug_section(section: Section<'_, '_>) -> bool
+    ensures { result ≡ is_debug_section (section_of section.entry) }
 {
-    match payload {
-        Payload::Custom(custom) => is_debug_name(custom.name),
+    match section {
+        Section::Read(Payload::Custom(custom)) => is_debug_name(custom.name),
         _ => false,
     }
 }

@@ -2,7 +2,7 @@
 
 ghost use Rattle.std.specs.Prelude.{◌≡◌, ◌++◌, ◌∷◌, [], map, unwrap_or, IfOk, OnOk};
 ghost use Rattle.std.specs.Option.{option_map};
-ghost use Rattle.form_data.specs.Views.{module_of, payload_of};
+ghost use Rattle.form_lists.specs.Source.{source_module, section_of};
 ghost use Rattle.wasm_index.specs.Index.{number_of};
 ghost use Rattle.custom_sections.specs.Views.{hint_entry_of};
 ghost use Rattle.module_customs.specs.Hints.{HintLists, HasFirst, hint_lists, module_hints, branch_hint_of};
@@ -11,7 +11,7 @@ ghost use Rattle.module_customs.specs.Names.{at_number};
 use crate::names::contents_named;
 use custom_sections::{Hint, read_hints};
 use entity_map::{EntityRef, OutOfMemory};
-use form_data::{Form, Payload};
+use form_lists::{Section, Source, sections_of};
 use init_plan::BranchHint;
 use std::alloc::Global;
 use std::collections::BTreeMap;
@@ -21,21 +21,21 @@ use wasm_index::FuncIndex;
 /// function the first one counts.
 pub fn kept_hints(
     alloc: Global,
-    form: &Form<'_>,
+    source: Source<'_, '_>,
 ) -> Result<BTreeMap<FuncIndex, Vec<BranchHint>>, OutOfMemory>
-    ensures { IfOk result (λ kept. HasFirst (module_hints (module_of form.now)) (at_number number_of kept)) }
+    ensures { IfOk result (λ kept. HasFirst (module_hints (source_module source.entry)) (at_number number_of kept)) }
 {
-    by_function(alloc, &last_hints(alloc, form)?)
+    by_function(alloc, &last_hints(alloc, source)?)
 }
 
 /// The entries of the last section of hints that has no fault, and none without one.
-fn last_hints(alloc: Global, form: &Form<'_>) -> Result<Vec<(u32, Vec<Hint>)>, OutOfMemory>
-    ensures { IfOk result (λ last. map hint_entry_of last.items ≡ module_hints (module_of form.now)) }
+fn last_hints(alloc: Global, source: Source<'_, '_>) -> Result<Vec<(u32, Vec<Hint>)>, OutOfMemory>
+    ensures { IfOk result (λ last. map hint_entry_of last.items ≡ module_hints (source_module source.entry)) }
 {
     let mut last = Vec::new(alloc);
-    for payload in &form.payloads {
-        let section = hints_in(alloc, payload)?;
-        last = entries_after(last, section);
+    for section in sections_of(source) {
+        let entries = hints_in(alloc, section)?;
+        last = entries_after(last, entries);
     }
     Ok(last)
 }
@@ -56,11 +56,11 @@ fn entries_after(
 /// The entries of a section of hints that has no fault.
 fn hints_in(
     alloc: Global,
-    payload: &Payload<'_>,
+    section: Section<'_, '_>,
 ) -> Result<Option<Vec<(u32, Vec<Hint>)>>, OutOfMemory>
-    ensures { IfOk result (λ o. option_map (λ all. map hint_entry_of all.items) o ≡ hint_lists (payload_of payload.now)) }
+    ensures { IfOk result (λ o. option_map (λ all. map hint_entry_of all.items) o ≡ hint_lists (section_of section.entry)) }
 {
-    match contents_named(payload, "metadata.code.branch_hint") {
+    match contents_named(section, "metadata.code.branch_hint") {
         Some(contents) => Ok(read_hints(alloc, contents)?),
         None => Ok(None),
     }

@@ -5,7 +5,8 @@ ghost use Rattle.std.specs.BTreeMap.{IsFromIterResult};
 ghost use Rattle.std.specs.Option.{option_map, option_or};
 ghost use Rattle.wasm_spec.specs.Module.{imports_of_section, function_types_of_section, function_import};
 ghost use Rattle.wasm_spec.specs.Sizes.{HasFewEntries};
-ghost use Rattle.form_data.specs.Views.{import_of, module_of, payload_of};
+ghost use Rattle.form_data.specs.Views.{import_of};
+ghost use Rattle.form_lists.specs.Source.{source_module, section_of};
 ghost use Rattle.wasm_index.specs.Index.{number_of};
 ghost use Rattle.custom_sections.specs.NameReading.{NameLists, joined};
 ghost use Rattle.custom_sections.specs.Views.{text_of, locals_of, names_of};
@@ -13,8 +14,8 @@ ghost use Rattle.module_customs.specs.Names.{functions_among, one_if, contents_o
 
 use custom_sections::{Names, read_names};
 use entity_map::{EntityRef, OutOfMemory};
-use form_data::{Form, Import, Payload};
-use form_lists::Entry;
+use form_data::{Import, Payload};
+use form_lists::{Section, Source, entries_in, sections_of};
 use init_plan::NameSection;
 use std::alloc::{AllocError, Global};
 use std::collections::BTreeMap;
@@ -25,11 +26,11 @@ use wasm_spec::TypeRef;
 /// of locals are read where they are asked for, and the name of a function is kept where the function is declared before its section.
 pub fn kept_names<'d>(
     alloc: Global,
-    form: &Form<'d>,
+    source: Source<'_, 'd>,
     locals: bool,
 ) -> Result<NameSection<'d>, OutOfMemory>
-    requires { HasFewEntries (module_of form.now) }
-    ensures { IfOk result (KeepsNames (module_names locals (module_of form.now))) }
+    requires { HasFewEntries (source_module source.entry) }
+    ensures { IfOk result (KeepsNames (module_names locals (source_module source.entry))) }
 {
     let mut kept = NameSection {
         module_name: None,
@@ -37,9 +38,9 @@ pub fn kept_names<'d>(
         locals_names: BTreeMap::new(alloc),
     };
     let mut declared = 0;
-    for payload in &form.payloads {
-        add_section(alloc, &mut kept, payload, declared, locals)?;
-        declared += declared_functions(payload);
+    for section in sections_of(source) {
+        add_section(alloc, &mut kept, section, declared, locals)?;
+        declared += declared_functions(section);
     }
     Ok(kept)
 }
@@ -48,15 +49,15 @@ pub fn kept_names<'d>(
 fn add_section<'d>(
     alloc: Global,
     kept: &mut NameSection<'d>,
-    payload: &Payload<'d>,
+    section: Section<'_, 'd>,
     declared: usize,
     locals: bool,
 ) -> Result<(), OutOfMemory>
     requires { declared < u32.MAX }
     ensures { OnOk result ((before : NameLists) → KeepsNames before kept.old
-        → KeepsNames (joined before (names_below declared (names_in locals (contents_of (codes "name") (payload_of payload.now))))) kept.new) }
+        → KeepsNames (joined before (names_below declared (names_in locals (contents_of (codes "name") (section_of section.entry))))) kept.new) }
 {
-    if let Some(contents) = contents_named(payload, "name") {
+    if let Some(contents) = contents_named(section, "name") {
         let names = read_names(alloc, contents, locals)?;
         add_names(alloc, kept, &names, declared)?;
     }
@@ -64,23 +65,23 @@ fn add_section<'d>(
 }
 
 /// The contents of a custom section of this name.
-pub(crate) fn contents_named<'d>(payload: &Payload<'d>, title: &str) -> Option<&'d [u8]>
-    ensures { option_map (λ bytes. bytes.now) result ≡ contents_of title.now (payload_of payload.now) }
+pub(crate) fn contents_named<'d>(section: Section<'_, 'd>, title: &str) -> Option<&'d [u8]>
+    ensures { option_map (λ bytes. bytes.now) result ≡ contents_of title.now (section_of section.entry) }
 {
-    match payload {
-        Payload::Custom(custom) if custom.name == title => Some(custom.bytes),
+    match section {
+        Section::Read(Payload::Custom(custom)) if custom.name == title => Some(custom.bytes),
         _ => None,
     }
 }
 
 /// How many functions a section imports or declares.
-fn declared_functions(payload: &Payload<'_>) -> usize
-    ensures { let p = payload_of payload.now in
+fn declared_functions(section: Section<'_, '_>) -> usize
+    ensures { let p = section_of section.entry in
         result ≡ functions_among (imports_of_section p) + length (function_types_of_section p) }
 {
-    match payload {
-        Payload::Functions(types) => types.len(),
-        _ => imported_functions(Import::in_section(payload)),
+    match section {
+        Section::Read(Payload::Functions(types)) => types.len(),
+        _ => imported_functions(entries_in::<Import<'_>>(section)),
     }
 }
 

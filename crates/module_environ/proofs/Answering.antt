@@ -11,11 +11,12 @@ use Rattle.wasm_spec.specs.Interfaces.{HasNoInterfaceTypes}
 use Rattle.wasm_spec.specs.Sizes.{HasFewEntries}
 use Rattle.rule_spec.specs.Lists.{lists_of_module}
 use Rattle.rule_spec.specs.Rules.{Keeps}
-use Rattle.form_data.specs.declared.form.Form.{Form}
-use Rattle.form_data.specs.Views.{body_of, module_of}
+use Rattle.form_reader.specs.declared.input.InputForm.{InputForm}
+use Rattle.form_data.specs.Views.{body_of}
+use Rattle.form_reader.specs.Input.{input_module_of}
 use Rattle.form_reader.specs.declared.error.ReadError.{ReadError}
 use Rattle.form_reader.specs.declared.error.ReadError.TheVariants as read
-use Rattle.form_reader.specs.Outcomes.{ReadsAs}
+use Rattle.form_reader.specs.Outcomes.{ReadsInputAs}
 use Rattle.wasm_index.specs.declared.index.Index.{Index}
 use Rattle.wasm_index.specs.declared.spaces.StaticModuleSpace.{StaticModuleSpace}
 use Rattle.wasm_types.specs.declared.tunables.Tunables.{Tunables}
@@ -38,14 +39,14 @@ use Rattle.module_environ.proofs.TablesReady.{tables-ready}
 -- ---- why there is none
 
 -- what reading promises of its result
-pub record ReadingTells (bytes : List ℕ) (r : Result Form ReadError) : Type 0 where
-  pub complete : length bytes < 2 ^ 30 → (m : Module) → Spells bytes m → HasNoInterfaceTypes m → ReadsAs r m
+pub record ReadingTells (bytes : List ℕ) (r : Result InputForm ReadError) : Type 0 where
+  pub complete : length bytes < 2 ^ 30 → (m : Module) → Spells bytes m → HasNoInterfaceTypes m → ReadsInputAs r m
   pub too_large : (r ≡ Err read.TooLarge) ↔ (2 ^ 30 ≤ length bytes)
   pub unsupported : (what : What) → r ≡ Err (read.Unsupported what) → Stops bytes what
   pub malformed : r ≡ Err read.Malformed → (m : Module) → ¬ Spells bytes m
   pub stops_nowhere : r ≡ Err read.Malformed → (what : What) → ¬ Stops bytes what
 
-pub read_cause : (bytes : List ℕ) (poisoned : Bool) (r : Result Form ReadError) (e : ReadError) → ReadingTells bytes r → r ≡ Err e
+pub read_cause : (bytes : List ℕ) (poisoned : Bool) (r : Result InputForm ReadError) (e : ReadError) → ReadingTells bytes r → r ≡ Err e
     → HasTranslationCause bytes poisoned (error_of_read e)
 read_cause bytes poisoned r read.Malformed t is = (t.malformed is, t.stops_nowhere is)
 read_cause bytes poisoned r (read.Unsupported what) t is = t.unsupported what is
@@ -53,26 +54,26 @@ read_cause bytes poisoned r read.TooLarge t is = t.too_large.0 is
 read_cause bytes poisoned r read.OutOfMemory t is = tt
 
 -- input that can be read is refused only where memory runs out
-pub read_complete : (bytes : List ℕ) (r : Result Form ReadError) (e : ReadError) (m : Module) → ReadingTells bytes r → r ≡ Err e
+pub read_complete : (bytes : List ℕ) (r : Result InputForm ReadError) (e : ReadError) (m : Module) → ReadingTells bytes r → r ≡ Err e
     → IsReadable bytes m → error_of_read e ≡ refusal.OutOfMemory
 read_complete bytes r e m t is can = ap error_of_read
-    (subst (λ (q : Result Form ReadError). ReadsAs q m) is (t.complete can.short m can.spelled can.no_interface_types))
+    (subst (λ (q : Result InputForm ReadError). ReadsInputAs q m) is (t.complete can.short m can.spelled can.no_interface_types))
 
 -- what was read is not long
-not_long : (bytes : List ℕ) (form : Form) → ReadingTells bytes (Ok form) → 2 ^ 30 ≤ length bytes → ⊥
+not_long : (bytes : List ℕ) (form : InputForm) → ReadingTells bytes (Ok form) → 2 ^ 30 ≤ length bytes → ⊥
 not_long bytes form t long = no_error (t.too_large.1 long) where
-  no_error : (let r : Result Form ReadError = Ok form in r) ≡ Err read.TooLarge → ⊥
+  no_error : (let r : Result InputForm ReadError = Ok form in r) ≡ Err read.TooLarge → ⊥
   no_error e = absurd cc
 
 -- it can be read
-pub was_readable : (bytes : List ℕ) (form : Form) → ReadingTells bytes (Ok form) → Spells bytes (module_of form)
-    → HasNoInterfaceTypes (module_of form) → IsReadable bytes (module_of form)
+pub was_readable : (bytes : List ℕ) (form : InputForm) → ReadingTells bytes (Ok form) → Spells bytes (input_module_of form)
+    → HasNoInterfaceTypes (input_module_of form) → IsReadable bytes (input_module_of form)
 was_readable bytes form t spelled no_interface_types =
     let short = not_long bytes form t in
     record { short = omega arith; spelled = spelled; no_interface_types = no_interface_types }
 
 -- the module that it spells is the one that was read
-pub read_as : (bytes : List ℕ) (form : Form) (m : Module) → ReadingTells bytes (Ok form) → IsReadable bytes m → module_of form ≡ m
+pub read_as : (bytes : List ℕ) (form : InputForm) (m : Module) → ReadingTells bytes (Ok form) → IsReadable bytes m → input_module_of form ≡ m
 read_as bytes form m t can = t.complete can.short m can.spelled can.no_interface_types
 
 -- why the form becomes none is why the bytes have none

@@ -9,7 +9,7 @@ use Rattle.wasm_spec.specs.Sizes.{HasFewEntries}
 use Rattle.rule_spec.specs.Lists.{lists_of_module}
 use Rattle.rule_spec.specs.Lists as rule
 use Rattle.rule_spec.specs.Rules.{Keeps}
-use Rattle.form_data.specs.Views.{module_of}
+use Rattle.form_lists.specs.Source.{source_module}
 use Rattle.form_lists.specs.declared.lists.Lists.{Lists}
 use Rattle.form_lists.specs.Views.{lists_of}
 use Rattle.wasm_types.specs.Collected.{heap_is_collected}
@@ -32,7 +32,7 @@ use Rattle.module_environ.specs.Translation.{HasGlobals, HasElements}
 
 -- the module whose lists these are
 abbrev pub module_in : Lists → plain.Module
-module_in l = module_of l.form.now
+module_in l = source_module l.source
 
 -- the lists are those of a module that keeps the rules and has few entries
 pub record IsGathered (l : Lists) : Type 0 where

@@ -5,11 +5,13 @@ ghost use Rattle.std.specs.List.{flat_map};
 ghost use Rattle.wasm_spec.specs.Module.{bodies_of_section};
 ghost use Rattle.wasm_spec.specs.Sizes.{HasFewEntries};
 ghost use Rattle.std.specs.Option.{option_to_list};
-ghost use Rattle.form_data.specs.Views.{body_of, module_of, payload_of};
+ghost use Rattle.form_data.specs.Views.{body_of};
+ghost use Rattle.form_reader.specs.Input.{input_section_of, input_module_of};
 ghost use Rattle.module_environ.specs.Translation.{code_places, first_or_zero};
 
 use entity_map::{OutOfMemory, PrimaryMap};
-use form_data::{Form, FunctionBody, Payload};
+use form_data::{FunctionBody, Payload};
+use form_reader::{InputForm, InputSection};
 use init_plan::FunctionBodyData;
 use std::alloc::Global;
 use wasm_index::DefinedFuncIndex;
@@ -17,35 +19,35 @@ use wasm_index::DefinedFuncIndex;
 /// The bodies of the defined functions, and the place of the code section's contents, 0 without one.
 pub(crate) fn take_bodies<'d>(
     alloc: Global,
-    form: Form<'d>,
+    form: InputForm<'d>,
 ) -> Result<(PrimaryMap<DefinedFuncIndex, FunctionBodyData<'d>>, u64), OutOfMemory>
-    requires few { HasFewEntries (module_of form) }
-    ensures bodies { IfOk result (λ r. map (λ input. body_of input.body) r.0 ≡ flat_map bodies_of_section (module_of form.entry)) }
-    ensures place { IfOk result (λ r. r.1 ≡ first_or_zero (flat_map code_places (module_of form.entry))) }
+    requires few { HasFewEntries (input_module_of form.entry) }
+    ensures bodies { IfOk result (λ r. map (λ input. body_of input.body) r.0 ≡ flat_map bodies_of_section (input_module_of form.entry)) }
+    ensures place { IfOk result (λ r. r.1 ≡ first_or_zero (flat_map code_places (input_module_of form.entry))) }
 {
     let mut bodies = PrimaryMap::new(alloc);
     let mut place = None;
-    for payload in form.payloads {
-        place = place.or(code_place(&payload));
-        add_bodies(&mut bodies, bodies_in(alloc, payload))?;
+    for section in form.sections {
+        place = place.or(code_place(&section));
+        add_bodies(&mut bodies, bodies_in(alloc, section))?;
     }
     Ok((bodies, place.unwrap_or(0)))
 }
 
-fn code_place(payload: &Payload<'_>) -> Option<u64>
-    ensures { option_to_list result ≡ code_places (payload_of payload.now) }
+fn code_place(section: &InputSection<'_>) -> Option<u64>
+    ensures { option_to_list result ≡ code_places (input_section_of section.now) }
 {
-    match payload {
-        Payload::Code { offset, .. } => Some(*offset),
+    match section {
+        InputSection::Other(Payload::Code { offset, .. }) => Some(*offset),
         _ => None,
     }
 }
 
-fn bodies_in<'d>(alloc: Global, payload: Payload<'d>) -> Vec<FunctionBody<'d>>
-    ensures { map body_of result.items ≡ bodies_of_section (payload_of payload.entry) }
+fn bodies_in<'d>(alloc: Global, section: InputSection<'d>) -> Vec<FunctionBody<'d>>
+    ensures { map body_of result.items ≡ bodies_of_section (input_section_of section.entry) }
 {
-    match payload {
-        Payload::Code { bodies, .. } => bodies,
+    match section {
+        InputSection::Other(Payload::Code { bodies, .. }) => bodies,
         _ => Vec::new(alloc),
     }
 }

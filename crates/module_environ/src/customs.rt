@@ -4,7 +4,7 @@ ghost use Rattle.std.specs.Prelude.{◌≡◌, ◌+◌, ◌-◌, ◌<◌, ◌^�
 ghost use Rattle.std.specs.List.{cons_option};
 ghost use Rattle.std.specs.Option.{option_map};
 ghost use Rattle.wasm_spec.specs.Module.{Module};
-ghost use Rattle.form_data.specs.Views.{module_of};
+ghost use Rattle.form_lists.specs.Source.{source_module};
 ghost use Rattle.wasm_index.specs.Index.{number_of};
 ghost use Rattle.module_customs.specs.Hints.{HasFirst};
 ghost use Rattle.module_customs.specs.Names.{at_number, module_names, KeepsNames};
@@ -15,8 +15,7 @@ ghost use Rattle.module_environ.specs.Pooled.{with_texts, own_name, HasText};
 
 use crate::metadata::function_metadata;
 use entity_map::{Atom, OutOfMemory, StringPool};
-use form_data::Form;
-use form_lists::Lists;
+use form_lists::{Lists, Source};
 use init_plan::{BranchHint, ModuleTranslation, NameSection};
 use module_customs::{has_debug_section, kept_hints, kept_names};
 use std::alloc::Global;
@@ -44,7 +43,7 @@ pub(crate) fn fill_customs<'d>(
     ensures same { OnOk result (OnlyCustomsChange translation.old translation.new) }
 {
     let native = tunables.debug_native;
-    let names = kept_names(alloc, lists.form, native)?;
+    let names = kept_names(alloc, lists.source, native)?;
     translation.module.name = pool_name(&mut translation.module.strings, names.module_name)?;
     // The names and functions of before, of which there are none, are dropped as values of their own.
     let _no_names = mem::replace(
@@ -53,8 +52,8 @@ pub(crate) fn fill_customs<'d>(
     );
     let functions = function_metadata(alloc, env, lists, native)?;
     let _no_functions = mem::replace(&mut translation.debuginfo.wasm_file.funcs, functions);
-    translation.set_branch_hints(asked_hints(alloc, lists.form, tunables.branch_hinting)?);
-    translation.has_unparsed_debuginfo = has_debug_section(lists.form);
+    translation.set_branch_hints(asked_hints(alloc, lists.source, tunables.branch_hinting)?);
+    translation.has_unparsed_debuginfo = has_debug_section(lists.source);
     Ok(())
 }
 
@@ -88,13 +87,13 @@ fn asked_names(names: NameSection<'_>, native: bool) -> NameSection<'_>
 /// The hints of branches by their functions, where they are asked for.
 fn asked_hints(
     alloc: Global,
-    form: &Form<'_>,
+    source: Source<'_, '_>,
     asked: bool,
 ) -> Result<BTreeMap<FuncIndex, Vec<BranchHint>>, OutOfMemory>
-    ensures { IfOk result (λ kept. HasFirst (hints_asked asked (module_of form.now)) (at_number number_of kept)) }
+    ensures { IfOk result (λ kept. HasFirst (hints_asked asked (source_module source.entry)) (at_number number_of kept)) }
 {
     if asked {
-        kept_hints(alloc, form)
+        kept_hints(alloc, source)
     } else {
         Ok(BTreeMap::new(alloc))
     }

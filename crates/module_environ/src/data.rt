@@ -4,7 +4,8 @@ ghost use Rattle.std.specs.Prelude.{◌≡◌, ◌++◌, ◌<◌, ◌^◌, ◌�
 ghost use Rattle.std.specs.List.{filter_map};
 ghost use Rattle.wasm_spec.specs.Module.{segments};
 ghost use Rattle.wasm_spec.specs.Sizes.{HasFewEntries};
-ghost use Rattle.form_data.specs.Views.{module_of, segment_of};
+ghost use Rattle.form_data.specs.Views.{segment_of};
+ghost use Rattle.form_lists.specs.Source.{source_module};
 ghost use Rattle.replay_spec.specs.Data.{active_of_kind, active_segments};
 ghost use Rattle.init_plan.specs.Views.{active_segment_of, initializers_of, passive_data_of, IsUnprocessed, SameButPassive};
 ghost use Rattle.module_environ.specs.Initialisers.{passive_data_from};
@@ -12,8 +13,8 @@ ghost use Rattle.module_environ.specs.Segments.{AreDataConvertible, IsDataConver
 
 use crate::offsets::convert_offset;
 use entity_map::{EntityRef, OutOfMemory};
-use form_data::{DataKind, DataSegment, Form};
-use form_lists::entries_of;
+use form_data::{DataKind, DataSegment};
+use form_lists::{Source, entries_of};
 use init_plan::{MemoryInit, MemoryInitializer, ModuleTranslation};
 use std::alloc::Global;
 use wasm_convert::TypeConvert;
@@ -23,35 +24,35 @@ use wasm_index::{DataIndex, MemoryIndex};
 pub(crate) fn add_segments<'d>(
     alloc: Global,
     env: &dyn TypeConvert,
-    form: &Form<'d>,
+    source: Source<'_, 'd>,
     translation: &mut ModuleTranslation<'d>,
 ) -> Result<(), OutOfMemory>
-    requires few { HasFewEntries (module_of form.now) }
-    requires convertible { AreDataConvertible (knows env.now) (segments (module_of form.now)) }
+    requires few { HasFewEntries (source_module source.entry) }
+    requires convertible { AreDataConvertible (knows env.now) (segments (source_module source.entry)) }
     requires none { passive_data_of translation.old ≡ [] }
-    ensures active { OnOk result (initializers_of translation.new ≡ active_segments (module_of form.now)) }
-    ensures passive { OnOk result (passive_data_of translation.new ≡ passive_data_from 0 (segments (module_of form.now))) }
+    ensures active { OnOk result (initializers_of translation.new ≡ active_segments (source_module source.entry)) }
+    ensures passive { OnOk result (passive_data_of translation.new ≡ passive_data_from 0 (segments (source_module source.entry))) }
     ensures unprocessed { OnOk result (IsUnprocessed translation.new.memory_init) }
     ensures same { OnOk result (translation.new ≡ record translation.old {
       memory_init = translation.new.memory_init;
       private_parts = record translation.old.private_parts { passive_data = translation.new.private_parts.passive_data };
     }) }
 {
-    let active = convert_active(alloc, env, form)?;
+    let active = convert_active(alloc, env, source)?;
     translation.memory_init = MemoryInit::Unprocessed(active);
-    add_passive(form, translation)
+    add_passive(source, translation)
 }
 
 fn convert_active<'d>(
     alloc: Global,
     env: &dyn TypeConvert,
-    form: &Form<'d>,
+    source: Source<'_, 'd>,
 ) -> Result<Vec<MemoryInitializer<'d>>, OutOfMemory>
-    requires { AreDataConvertible (knows env.now) (segments (module_of form.now)) }
-    ensures { IfOk result (λ active. map active_segment_of active.items ≡ active_segments (module_of form.now)) }
+    requires { AreDataConvertible (knows env.now) (segments (source_module source.entry)) }
+    ensures { IfOk result (λ active. map active_segment_of active.items ≡ active_segments (source_module source.entry)) }
 {
     let mut active = Vec::new(alloc);
-    for segment in entries_of::<DataSegment<'_>>(form) {
+    for segment in entries_of::<DataSegment<'_>>(source) {
         add_active(alloc, env, &mut active, segment)?;
     }
     Ok(active)
@@ -83,16 +84,16 @@ fn add_active<'d>(
 
 /// Notes the passive segments by their indices.
 fn add_passive<'d>(
-    form: &Form<'d>,
+    source: Source<'_, 'd>,
     translation: &mut ModuleTranslation<'d>,
 ) -> Result<(), OutOfMemory>
-    requires few { length (segments (module_of form.now)) < 2 ^ 30 }
+    requires few { length (segments (source_module source.entry)) < 2 ^ 30 }
     ensures passive { OnOk result (passive_data_of translation.new
-        ≡ passive_data_of translation.old ++ passive_data_from 0 (segments (module_of form.now))) }
+        ≡ passive_data_of translation.old ++ passive_data_from 0 (segments (source_module source.entry))) }
     ensures same { SameButPassive translation.old translation.new }
 {
     let mut index = 0;
-    for segment in entries_of::<DataSegment<'_>>(form) {
+    for segment in entries_of::<DataSegment<'_>>(source) {
         note_passive(translation, index, segment)?;
         index += 1;
     }

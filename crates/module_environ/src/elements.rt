@@ -4,7 +4,8 @@ ghost use Rattle.std.specs.Prelude.{◌≡◌, ◌<◌, ◌-◌, ◌++◌, ◌�
 ghost use Rattle.std.specs.List.{flat_map};
 ghost use Rattle.wasm_spec.specs.Module as plain;
 ghost use Rattle.wasm_spec.specs.Sizes.{HasFewEntries};
-ghost use Rattle.form_data.specs.Views.{element_of, module_of};
+ghost use Rattle.form_data.specs.Views.{element_of};
+ghost use Rattle.form_lists.specs.Source.{source_module};
 ghost use Rattle.entity_map.specs.Secondary.{with_value};
 ghost use Rattle.wasm_index.specs.Index.{index_of, number_of};
 ghost use Rattle.wasm_convert.specs.Conversion.{LookUp};
@@ -17,8 +18,8 @@ use crate::element_items::convert_items;
 use crate::escapes::Escaping;
 use crate::offsets::convert_offset;
 use entity_map::{EntityRef, OutOfMemory, PrimaryMap, SecondaryMap};
-use form_data::{Element, ElementKind, Form};
-use form_lists::entries_of;
+use form_data::{Element, ElementKind};
+use form_lists::{Source, elements_of};
 use std::alloc::Global;
 use wasm_convert::TypeConvert;
 use wasm_index::{ElemIndex, PassiveElemIndex, TableIndex};
@@ -45,18 +46,19 @@ pub(crate) struct ElementSegments {
 pub(crate) fn convert_elements(
     alloc: Global,
     env: &dyn TypeConvert,
-    form: &Form<'_>,
+    source: Source<'_, '_>,
     escaping: &mut Escaping,
 ) -> Result<ElementSegments, OutOfMemory>
-    requires few { HasFewEntries (module_of form.now) }
-    requires convertible { AreElementsConvertible (knows env.now) escaping.old.count (flat_map plain.elements_of_section (module_of form.now)) }
-    ensures holds { IfOk result (HoldsElements (look_up env.now) (flat_map plain.elements_of_section (module_of form.now))) }
+    requires few { HasFewEntries (source_module source.entry) }
+    requires convertible { AreElementsConvertible (knows env.now) escaping.old.count (flat_map plain.elements_of_section (source_module source.entry)) }
+    ensures holds { IfOk result (HoldsElements (look_up env.now) (flat_map plain.elements_of_section (source_module source.entry))) }
     ensures noted { OnOk result
-        (escaping.new ≡ after_escapes escaping.old (flat_map (λ e. item_functions e.items) (flat_map plain.elements_of_section (module_of form.now)))) }
+        (escaping.new ≡ after_escapes escaping.old (flat_map (λ e. item_functions e.items) (flat_map plain.elements_of_section (source_module source.entry)))) }
 {
     let mut segments = ElementSegments::new(alloc);
-    for element in entries_of::<Element>(form) {
-        segments.add(alloc, env, element, escaping)?;
+    let mut elements = elements_of(alloc, source);
+    while elements.advance()? {
+        segments.add(alloc, env, elements.segment(), escaping)?;
     }
     Ok(segments)
 }

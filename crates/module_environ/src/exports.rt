@@ -5,7 +5,8 @@ ghost use Rattle.std.specs.List.{flat_map};
 ghost use Rattle.wasm_spec.specs.Module.{exports_of_section};
 ghost use Rattle.wasm_spec.specs.Module as plain;
 ghost use Rattle.wasm_spec.specs.Sizes.{HasFewEntries};
-ghost use Rattle.form_data.specs.Views.{export_of, module_of};
+ghost use Rattle.form_data.specs.Views.{export_of};
+ghost use Rattle.form_lists.specs.Source.{source_module};
 ghost use Rattle.rule_spec.specs.Rules.{AreDistinct};
 ghost use Rattle.module_environ.specs.Entities.{entity_at, exported_entities, resolved_export};
 ghost use Rattle.module_environ.specs.Exported.{CanExport, AreEntered, exported_functions};
@@ -15,8 +16,8 @@ ghost use Rattle.module_environ.specs.Pooled.{with_texts, exported_names, HasTex
 
 use crate::escapes::Escaping;
 use entity_map::{Atom, EntityRef, OutOfMemory, StringPool};
-use form_data::{Export, Form};
-use form_lists::entries_of;
+use form_data::Export;
+use form_lists::{Source, entries_of};
 use indexmap::IndexMap;
 use std::alloc::Global;
 use wasm_index::{FuncIndex, GlobalIndex, MemoryIndex, TableIndex, TagIndex};
@@ -26,24 +27,24 @@ use wasm_types::EntityIndex;
 /// What is exported, in order; the names go into the pool, and exported functions are noted.
 pub(crate) fn convert_exports(
     alloc: Global,
-    form: &Form<'_>,
+    source: Source<'_, '_>,
     strings: &mut StringPool,
     escaping: &mut Escaping,
 ) -> Result<IndexMap<Atom, EntityIndex>, OutOfMemory>
-    requires few { HasFewEntries (module_of form.now) }
+    requires few { HasFewEntries (source_module source.entry) }
     requires room { length strings.old < 2 ^ 31 }
-    requires distinct { AreDistinct (flat_map exports_of_section (module_of form.now)) }
-    requires in_range { All (CanExport escaping.old.count) (flat_map exports_of_section (module_of form.now)) }
+    requires distinct { AreDistinct (flat_map exports_of_section (source_module source.entry)) }
+    requires in_range { All (CanExport escaping.old.count) (flat_map exports_of_section (source_module source.entry)) }
     ensures exports { IfOk result (λ es. map (resolved_export strings.new) es.entries
-        ≡ exported_entities (flat_map exports_of_section (module_of form.now))) }
+        ≡ exported_entities (flat_map exports_of_section (source_module source.entry))) }
     ensures noted { OnOk result (escaping.new
-        ≡ after_escapes escaping.old (exported_functions (flat_map exports_of_section (module_of form.now)))) }
-    ensures pool { OnOk result (strings.new ≡ with_texts strings.old (exported_names (flat_map exports_of_section (module_of form.now)))) }
+        ≡ after_escapes escaping.old (exported_functions (flat_map exports_of_section (source_module source.entry)))) }
+    ensures pool { OnOk result (strings.new ≡ with_texts strings.old (exported_names (flat_map exports_of_section (source_module source.entry)))) }
     ensures pooled { IfOk result (λ es. All (λ e. HasText strings.new e.0) es.entries) }
 {
     // An atom is a number of our own, which no name chooses: the map needs no seed.
     let mut exports = IndexMap::new(alloc);
-    for export in entries_of::<Export<'_>>(form) {
+    for export in entries_of::<Export<'_>>(source) {
         add_export(&mut exports, strings, export)?;
         note_function(escaping, export)?;
     }

@@ -4,7 +4,8 @@ ghost use Rattle.std.specs.Prelude.{◌≡◌, ◌<◌, [], length, map, replica
 ghost use Rattle.std.specs.List.{flat_map};
 ghost use Rattle.std.specs.Option.{option_map};
 ghost use Rattle.wasm_spec.specs.Module.{tables_of_section};
-ghost use Rattle.form_data.specs.Views.{module_of, table_of};
+ghost use Rattle.form_data.specs.Views.{table_of};
+ghost use Rattle.form_lists.specs.Source.{source_module};
 ghost use Rattle.wasm_convert.specs.Constants.{const_ops_of};
 ghost use Rattle.module_environ.specs.Convertible.{IsConvertible};
 ghost use Rattle.module_environ.specs.Escapes.{referred_if_any};
@@ -14,8 +15,8 @@ ghost use Rattle.module_environ.specs.Initialisers as initial;
 use crate::escapes::Escaping;
 use crate::expressions::convert_expression;
 use entity_map::{OutOfMemory, PrimaryMap};
-use form_data::{Form, TableDef};
-use form_lists::entries_of;
+use form_data::TableDef;
+use form_lists::{Source, entries_of};
 use std::alloc::Global;
 use wasm_convert::TypeConvert;
 use wasm_index::{DefinedTableIndex, FuncIndex};
@@ -25,19 +26,19 @@ use wasm_module::TableInitialValue;
 pub(crate) fn first_values(
     alloc: Global,
     env: &dyn TypeConvert,
-    form: &Form<'_>,
+    source: Source<'_, '_>,
     escaping: &mut Escaping,
 ) -> Result<PrimaryMap<DefinedTableIndex, TableInitialValue>, OutOfMemory>
     requires convertible { All (λ t. IfSome t.init (IsConvertible (knows env.now) escaping.old.count))
-        (flat_map tables_of_section (module_of form.now)) }
-    requires few { length (flat_map tables_of_section (module_of form.now)) < u32.MAX }
+        (flat_map tables_of_section (source_module source.entry)) }
+    requires few { length (flat_map tables_of_section (source_module source.entry)) < u32.MAX }
     ensures values { IfOk result (λ vs. map initial.view_first_value vs
-        ≡ initial.first_values (look_up env.now) (flat_map tables_of_section (module_of form.now))) }
+        ≡ initial.first_values (look_up env.now) (flat_map tables_of_section (source_module source.entry))) }
     ensures noted { OnOk result (escaping.new
-        ≡ after_escapes escaping.old (flat_map (λ t. referred_if_any t.init) (flat_map tables_of_section (module_of form.now)))) }
+        ≡ after_escapes escaping.old (flat_map (λ t. referred_if_any t.init) (flat_map tables_of_section (source_module source.entry)))) }
 {
     let mut values = PrimaryMap::new(alloc);
-    for table in entries_of::<TableDef>(form) {
+    for table in entries_of::<TableDef>(source) {
         values.push(first_value(alloc, env, table, escaping)?)?;
     }
     Ok(values)

@@ -3,7 +3,7 @@
 ghost use Rattle.std.specs.Prelude.{◌≡◌, ◌<◌, length, map, All, IfOk, OnOk};
 ghost use Rattle.std.specs.List.{flat_map};
 ghost use Rattle.wasm_spec.specs.Module.{globals_of_section};
-ghost use Rattle.form_data.specs.Views.{module_of};
+ghost use Rattle.form_lists.specs.Source.{source_module};
 ghost use Rattle.module_environ.specs.Convertible.{IsConvertible};
 ghost use Rattle.module_environ.specs.Escapes.{referred};
 ghost use Rattle.module_environ.specs.EscapeLog.{after_escapes};
@@ -13,8 +13,8 @@ ghost use Rattle.module_environ.specs.FirstGlobals.{seen_globals, AddsInitialise
 use crate::escapes::Escaping;
 use crate::expressions::convert_expression;
 use entity_map::{EntityRef, OutOfMemory};
-use form_data::{Form, GlobalDef};
-use form_lists::entries_of;
+use form_data::GlobalDef;
+use form_lists::{Source, entries_of};
 use std::alloc::Global;
 use wasm_convert::{ConstExpr, GlobalConstValue, TypeConvert};
 use wasm_index::DefinedGlobalIndex;
@@ -32,22 +32,22 @@ pub(crate) struct FirstGlobals {
 pub(crate) fn first_globals(
     alloc: Global,
     env: &dyn TypeConvert,
-    form: &Form<'_>,
+    source: Source<'_, '_>,
     escaping: &mut Escaping,
 ) -> Result<FirstGlobals, OutOfMemory>
-    requires convertible { All (λ g. IsConvertible (knows env.now) escaping.old.count g.init) (flat_map globals_of_section (module_of form.now)) }
-    requires few { length (flat_map globals_of_section (module_of form.now)) < u32.MAX }
-    ensures known { IfOk result (λ g. map view_value g.known.items ≡ known_values (flat_map globals_of_section (module_of form.now))) }
+    requires convertible { All (λ g. IsConvertible (knows env.now) escaping.old.count g.init) (flat_map globals_of_section (source_module source.entry)) }
+    requires few { length (flat_map globals_of_section (source_module source.entry)) < u32.MAX }
+    ensures known { IfOk result (λ g. map view_value g.known.items ≡ known_values (flat_map globals_of_section (source_module source.entry))) }
     ensures left { IfOk result (λ g. map (view_initialiser (λ e. e)) g.left.items
-        ≡ left_initialisers (look_up env.now) (flat_map globals_of_section (module_of form.now))) }
+        ≡ left_initialisers (look_up env.now) (flat_map globals_of_section (source_module source.entry))) }
     ensures noted { OnOk result (escaping.new
-        ≡ after_escapes escaping.old (flat_map (λ g. referred g.init) (flat_map globals_of_section (module_of form.now)))) }
+        ≡ after_escapes escaping.old (flat_map (λ g. referred g.init) (flat_map globals_of_section (source_module source.entry)))) }
 {
     let mut first = FirstGlobals {
         known: Vec::new(alloc),
         left: Vec::new(alloc),
     };
-    for global in entries_of::<GlobalDef>(form) {
+    for global in entries_of::<GlobalDef>(source) {
         let initialiser = convert_expression(alloc, env, &global.init, escaping)?;
         first.add(initialiser)?;
     }

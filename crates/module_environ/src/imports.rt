@@ -5,7 +5,8 @@ ghost use Rattle.std.specs.Hash.DefaultHasher as sip;
 ghost use Rattle.std.specs.List.{flat_map, fold};
 ghost use Rattle.wasm_spec.specs.Module as plain;
 ghost use Rattle.wasm_spec.specs.Sizes.{HasFewEntries};
-ghost use Rattle.form_data.specs.Views.{import_of, export_of, module_of};
+ghost use Rattle.form_data.specs.Views.{import_of, export_of};
+ghost use Rattle.form_lists.specs.Source.{source_module};
 ghost use Rattle.wasm_index.specs.Index.{index_of};
 ghost use Rattle.module_environ.specs.Entities.{imported_entities, resolved_import};
 ghost use Rattle.module_environ.specs.Imported.{AreCounted, HaveIndices, counted, next_entity};
@@ -13,8 +14,8 @@ ghost use Rattle.module_environ.specs.Pooled.{with_texts, import_names, imported
 ghost use Rattle.module_environ.specs.Seeds.{section_names};
 
 use entity_map::{EntityRef, OutOfMemory, StringPool};
-use form_data::{Export, Form, Import};
-use form_lists::{Entry, entries_of};
+use form_data::{Export, Import};
+use form_lists::{Source, entries_in, entries_of, sections_of};
 use std::alloc::Global;
 use std::hash::{DefaultHasher, Hasher};
 use wasm_index::Index;
@@ -74,13 +75,13 @@ fn take_next<Space>(count: &mut u32) -> Index<Space>
 }
 
 /// The seed of the pool: a digest of all names of imports and exports. Names that are chosen to collide change it as well.
-pub(crate) fn name_seed(form: &Form<'_>) -> u64
-    ensures { result ≡ sip.finish (fold sip.write sip.initial (flat_map section_names (module_of form.now))) }
+pub(crate) fn name_seed(source: Source<'_, '_>) -> u64
+    ensures { result ≡ sip.finish (fold sip.write sip.initial (flat_map section_names (source_module source.entry))) }
 {
     let mut digest = DefaultHasher::new();
-    for payload in &form.payloads {
-        add_import_names(&mut digest, Import::in_section(payload));
-        add_export_names(&mut digest, Export::in_section(payload));
+    for section in sections_of(source) {
+        add_import_names(&mut digest, entries_in::<Import<'_>>(section));
+        add_export_names(&mut digest, entries_in::<Export<'_>>(section));
     }
     digest.finish()
 }
@@ -107,21 +108,21 @@ fn add_export_names(digest: &mut DefaultHasher, exports: &[Export<'_>])
 /// What is imported, in order; the names go into the pool.
 pub(crate) fn convert_imports(
     alloc: Global,
-    form: &Form<'_>,
+    source: Source<'_, '_>,
     strings: &mut StringPool,
 ) -> Result<(Vec<Initializer>, ImportCounts), OutOfMemory>
-    requires few { HasFewEntries (module_of form.now) }
+    requires few { HasFewEntries (source_module source.entry) }
     requires empty { strings.old ≡ [] }
-    ensures imports { IfOk result (λ r. map (resolved_import strings.new) r.0.items ≡ imported_entities (module_of form.now)) }
-    ensures counts { IfOk result (λ r. AreCounted (plain.imports (module_of form.now)) r.1) }
-    ensures pool { OnOk result (strings.new ≡ with_texts [] (imported_names (module_of form.now))) }
+    ensures imports { IfOk result (λ r. map (resolved_import strings.new) r.0.items ≡ imported_entities (source_module source.entry)) }
+    ensures counts { IfOk result (λ r. AreCounted (plain.imports (source_module source.entry)) r.1) }
+    ensures pool { OnOk result (strings.new ≡ with_texts [] (imported_names (source_module source.entry))) }
     ensures pooled { IfOk result (λ r. All (HasTexts strings.new) r.0.items) }
 {
     let mut initializers = Vec::new(alloc);
     let mut counts = ImportCounts::none();
     // The borrow checker wants the types on the way to an index by name.
     let _named: Option<EntityIndex> = None;
-    for import in entries_of::<Import<'_>>(form) {
+    for import in entries_of::<Import<'_>>(source) {
         let initializer = convert_import(&mut counts, strings, import)?;
         initializers.push(initializer)?;
     }

@@ -38,7 +38,7 @@ pub(crate) fn function_metadata(
         return Ok(all);
     }
     let by_type = params_by_type(alloc, env, lists)?;
-    for body in entries_of::<FunctionBody<'_>>(lists.form) {
+    for body in entries_of::<FunctionBody<'_>>(lists.source) {
         let function = lists.imported_functions + all.len();
         all.push(FunctionMetadata {
             params: function_params(alloc, lists, &by_type, function)?,

@@ -65,7 +65,7 @@ pub(crate) fn fill_sections<'d>(
     translation.module.functions = function_types(alloc, functions, indices, &escaping)?;
     translation.exported_signatures = exported_signatures(alloc, functions, indices, &escaping)?;
     translation.module.num_escaped_funcs = escaping.len();
-    translation.start_func = start_function(lists.form);
+    translation.start_func = start_function(lists.source);
     translation.debuginfo.wasm_file.imported_func_count = imported;
     Ok(())
 }
@@ -81,8 +81,8 @@ fn fill_entities(
     requires looks { LooksUpTypes (module_in lists.now) (knows env.now) (look_up env.now) }
     ensures { OnOk result (FillsEntities (module_in lists.now) entities.old entities.new) }
 {
-    entities.strings = StringPool::seeded(alloc, name_seed(lists.form));
-    let (initializers, counts) = convert_imports(alloc, lists.form, &mut entities.strings)?;
+    entities.strings = StringPool::seeded(alloc, name_seed(lists.source));
+    let (initializers, counts) = convert_imports(alloc, lists.source, &mut entities.strings)?;
     entities.initializers = initializers;
     entities.num_imported_funcs = counts.functions as usize;
     entities.num_imported_tables = counts.tables as usize;
@@ -116,27 +116,27 @@ fn fill_initialisers<'d>(
     requires no_data { passive_data_of translation.old ≡ [] }
     ensures { OnOk result (FillsInitialisers (module_in lists.now) escaping.old escaping.new translation.old translation.new) }
 {
-    let form = lists.form;
-    let values = first_values(alloc, env, form, escaping)?;
+    let source = lists.source;
+    let values = first_values(alloc, env, source, escaping)?;
     translation.module.table_initialization = no_images(alloc, values.len())?;
     translation.table_initialization.initial_values = values;
-    let FirstGlobals { known, left } = first_globals(alloc, env, form, escaping)?;
+    let FirstGlobals { known, left } = first_globals(alloc, env, source, escaping)?;
     translation.module.global_initializers = known;
     translation.global_initializers = left;
     let strings = &mut translation.module.strings;
-    translation.module.exports = convert_exports(alloc, form, strings, escaping)?;
+    translation.module.exports = convert_exports(alloc, source, strings, escaping)?;
     let ElementSegments {
         active,
         passive,
         kinds,
         numbers,
         count: _,
-    } = convert_elements(alloc, env, form, escaping)?;
+    } = convert_elements(alloc, env, source, escaping)?;
     translation.table_initialization.segments = active;
     translation.passive_elements = passive;
     translation.module.passive_elements = kinds;
     translation.passive_elem_map = numbers;
     // What says that an offset is held whole: it does nothing when it is run.
     erased_expression_laws();
-    add_segments(alloc, env, form, translation)
+    add_segments(alloc, env, source, translation)
 }

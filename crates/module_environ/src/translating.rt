@@ -4,7 +4,7 @@ ghost use Rattle.std.specs.Prelude.{◌≡◌, ◌≢◌, ◌⊎◌, ◌^◌, �
 ghost use Rattle.wasm_spec.specs.Module.{Module};
 ghost use Rattle.wasm_spec.specs.Sizes.{HasFewEntries, HasShortTypes};
 ghost use Rattle.rule_spec.specs.Rules.{Keeps};
-ghost use Rattle.form_data.specs.Views.{module_of};
+ghost use Rattle.form_lists.specs.Source.{source_module};
 ghost use Rattle.module_types.specs.Builder.{builder_view, new_builder};
 ghost use Rattle.init_plan.specs.Views.{IsNewTranslation};
 ghost use Rattle.module_environ.specs.Readable.{IsReadable, HasTranslationCause, SucceedsOrNoMemory, IsPoisonedOrNoMemory};
@@ -22,9 +22,8 @@ use crate::error::EnvironError;
 use crate::sections::fill_sections;
 use crate::tags::convert_tags;
 use crate::types::intern_types;
-use form_data::Form;
-use form_lists::Lists;
-use form_reader::read_module;
+use form_lists::{Lists, Source};
+use form_reader::read_input;
 use form_rules::checked_lists;
 use form_types::{Types, Validator};
 use init_plan::ModuleTranslation;
@@ -97,9 +96,16 @@ fn translation_of<'d>(
     ensures stays_poisoned { types.old.is_poisoned ≡ true → types.new ≡ types.old }
     ensures stops { OnErr result (StopsOnTheWay validator.now bytes.now types.old types.new) }
 {
-    let form = read_module(alloc, bytes)?;
+    let form = read_input(alloc, bytes)?;
     let mut translation = ModuleTranslation::new(alloc, module_index)?;
-    if let Err(error) = translate_form(alloc, tunables, validator, types, &form, &mut translation) {
+    if let Err(error) = translate_form(
+        alloc,
+        tunables,
+        validator,
+        types,
+        Source::Input(&form),
+        &mut translation,
+    ) {
         // Dropped by one call, not field by field at each exit.
         drop(translation);
         return Err(error);
@@ -125,24 +131,24 @@ fn translate_form<'d>(
     tunables: &Tunables,
     validator: &Validator,
     types: &mut ModuleTypesBuilder,
-    form: &Form<'d>,
+    source: Source<'_, 'd>,
     translation: &mut ModuleTranslation<'d>,
 ) -> Result<(), EnvironError>
-    requires few { HasFewEntries (module_of form.now) }
-    requires short { HasShortTypes (module_of form.now) }
+    requires few { HasFewEntries (source_module source.entry) }
+    requires short { HasShortTypes (source_module source.entry) }
     requires new { IsNewTranslation translation.old.module.module_index translation.old }
     requires types { types.old.is_poisoned ≡ false → builder_view types.old ≡ new_builder validator.now }
     ensures formed { OnOk result
-        (IsFormed tunables.now validator.now (module_of form.now) translation.old translation.new types.new) }
-    ensures cause { IfErr result (FormCause (module_of form.now) types.old.is_poisoned) }
-    ensures complete { Keeps (module_of form.now) → types.old.is_poisoned ≡ false → SucceedsOrNoMemory result }
-    ensures poisoned { Keeps (module_of form.now) → types.old.is_poisoned ≡ true → IsPoisonedOrNoMemory result }
+        (IsFormed tunables.now validator.now (source_module source.entry) translation.old translation.new types.new) }
+    ensures cause { IfErr result (FormCause (source_module source.entry) types.old.is_poisoned) }
+    ensures complete { Keeps (source_module source.entry) → types.old.is_poisoned ≡ false → SucceedsOrNoMemory result }
+    ensures poisoned { Keeps (source_module source.entry) → types.old.is_poisoned ≡ true → IsPoisonedOrNoMemory result }
     ensures refused { OnErr result (result ≢ Err EnvironError.OutOfMemory → types.new ≡ types.old) }
     ensures stays_poisoned { types.old.is_poisoned ≡ true → types.new ≡ types.old }
     ensures stops { types.new.is_poisoned ≡ false
-        → (types.new ≡ types.old) ⊎ (Keeps (module_of form.now) × IsOnTheWay (module_of form.now) validator.now (builder_view types.new)) }
+        → (types.new ≡ types.old) ⊎ (Keeps (source_module source.entry) × IsOnTheWay (source_module source.entry) validator.now (builder_view types.new)) }
 {
-    let lists = checked_lists(alloc, form)?;
+    let lists = checked_lists(alloc, source)?;
     translate_lists(alloc, tunables, validator, types, &lists, translation)
 }
 
@@ -170,7 +176,7 @@ fn translate_lists<'d>(
     if types.is_poisoned() {
         return Err(EnvironError::Poisoned);
     }
-    let ids = Types::build(alloc, validator, lists.form)?;
+    let ids = Types::build_from(alloc, validator, lists.source)?;
     let indices = intern_types(alloc, &ids, types)?;
     let env = declared_types(alloc, types, &indices)?;
     fill_sections(

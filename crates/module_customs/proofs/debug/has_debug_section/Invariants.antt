@@ -1,8 +1,9 @@
-use Rattle.std.proofs.Common.{◌≡◌, false, map, take}
+use Rattle.std.proofs.Common.{◌≡◌}
 use Rattle.std.specs.List.{list_any}
-use Rattle.form_data.specs.Views.{payload_of}
+use Rattle.form_lists.specs.Source.{source_module, sections_left}
 use Rattle.module_customs.specs.Debugged.{is_debug_section}
 use Rattle.module_customs.proofs.debug.has_debug_section.Given as goal
 
-abbrev pub invariant-loop-payload : goal.invariant-loop-payload
-invariant-loop-payload l = list_any is_debug_section (map payload_of (take l.payload-index l.payload-items)) ≡ false
+-- the sections so far hold none
+abbrev pub invariant-loop-section : goal.invariant-loop-section
+invariant-loop-section l = list_any is_debug_section (sections_left l.section-iterator) ≡ list_any is_debug_section (source_module l.source)

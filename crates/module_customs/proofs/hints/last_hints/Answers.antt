@@ -1,13 +1,20 @@
-use Rattle.std.proofs.Common.{ℕ, map, ap, ◌∙◌}
+use Rattle.std.proofs.Common.{ℕ, List, map, sym, ap, ◌∙◌}
 use Rattle.std.specs.Global.{Vec}
+use Rattle.std.specs.List.{filter_map, cons_option}
+use Rattle.wasm_spec.specs.Module.{Payload}
 use Rattle.custom_sections.specs.declared.hints.Hint.{Hint}
 use Rattle.custom_sections.specs.Views.{hint_entry_of}
+use Rattle.form_lists.specs.Source.{sections_left}
+use Rattle.module_customs.specs.Hints.{HintLists, hint_lists, last_or}
 use Rattle.module_customs.proofs.HintsInTurn.{hints-after}
 use Rattle.module_customs.proofs.hints.last_hints.Goals as goal
 
-pub loop-payload-preserved : goal.loop-payload-preserved
-loop-payload-preserved c =
-    let entries : Vec (ℕ × Vec Hint) → _ = λ all. map hint_entry_of all.items in
-    ap entries c.entries_after-last.ensures
-    ∙ hints-after c.deref-payload-items.result.now c.loop-payload.payload-index c.payload-item.result c.loop-payload-test.true c.payload-item.is
-    entries c.loop-payload.last c.in_ok-section.section c.in_ok-section.ensures c.loop-payload.invariant
+pub loop-section-preserved : goal.loop-section-preserved
+loop-section-preserved c =
+    let entries : Vec (ℕ × Vec Hint) → HintLists = λ all. map hint_entry_of all.items in
+    let rest = filter_map hint_lists (sections_left c.next.new.self) in
+    ap (λ (last : Vec (ℕ × Vec Hint)). last_or (entries last) rest) c.entries_after-last.ensures
+    ∙ sym (hints-after entries c.loop-section.last c.in_ok-entries.entries rest)
+    ∙ ap (λ o. last_or (entries c.loop-section.last) (cons_option o rest)) c.in_ok-entries.ensures
+    ∙ sym (ap (λ (ps : List Payload). last_or (entries c.loop-section.last) (filter_map hint_lists ps)) c.in-Some.ensures.steps)
+    ∙ c.loop-section.invariant

@@ -1,36 +1,41 @@
-use Rattle.std.proofs.Common.{◌+◌, ◌<◌, ◌^◌, [], List, length, map, take, subst, sym, arith}
+use Rattle.std.proofs.Common.{[], ◌∷◌, ◌++◌, ◌∙◌, ◌+◌, ◌<◌, ◌^◌, List, length, subst, sym, ap, append_assoc, arith}
+use Rattle.std.proofs.lemmas.List.{append-nil}
 use Rattle.wasm_spec.specs.Module as plain
-use Rattle.form_data.specs.declared.form.Payload.{Payload}
-use Rattle.form_data.specs.Views.{payload_of}
-use Rattle.module_customs.specs.Names.{names_after}
+use Rattle.form_lists.specs.Source.{source_module, section_of, sections_left}
+use Rattle.module_customs.specs.Names.{names_after, KeepsNames}
 use Rattle.module_customs.proofs.NamesInTurn.{next-names, declared-more, declared-few}
 use Rattle.module_customs.proofs.names.kept_names.Goals as goal
 
 pub add_section-requires : goal.add_section-requires
-add_section-requires c = omega (
-  arith,
-  c.loop-payload.invariant.declared,
-  declared-few c.deref-payload-items.result.now c.loop-payload.payload-index (2 ^ 30)
-      (subst (λ (ps : List Payload). length (plain.functions (map payload_of ps)) < 2 ^ 30) (sym c.deref-payload-items.ensures.value) c.requires.functions),
-)
+add_section-requires c =
+    let had = c.loop-section.invariant in
+    omega (arith, had.declared, declared-few had.came (sections_left c.loop-section.section-iterator) (source_module c.args.source) (2 ^ 30) had.whole c.requires.functions)
 
 pub overflow_add-declared : goal.overflow_add-declared
-overflow_add-declared c = omega (
-  arith,
-  declared-more c.deref-payload-items.result.now c.loop-payload.payload-index c.payload-item.result c.loop-payload-test.true c.payload-item.is
-      c.loop-payload.declared c.declared_functions-declared.result c.loop-payload.invariant.declared c.declared_functions-declared.ensures,
-  declared-few c.deref-payload-items.result.now (c.loop-payload.payload-index + 1) (2 ^ 30)
-      (subst (λ (ps : List Payload). length (plain.functions (map payload_of ps)) < 2 ^ 30) (sym c.deref-payload-items.ensures.value) c.requires.functions),
-)
+overflow_add-declared c =
+    let had = c.loop-section.invariant in
+    let p = section_of c.in-Some.section in
+    let whole = append_assoc had.came (p ∷ []) (sections_left c.next.new.self) ∙ sym (ap (λ (ps : List plain.Payload). had.came ++ ps) c.in-Some.ensures.steps) ∙ had.whole in
+    omega (
+      arith,
+      declared-more had.came p c.loop-section.declared c.declared_functions.result had.declared c.declared_functions.ensures,
+      declared-few (had.came ++ p ∷ []) (sections_left c.next.new.self) (source_module c.args.source) (2 ^ 30) whole c.requires.functions,
+    )
 
-pub loop-payload-preserved : goal.loop-payload-preserved
-loop-payload-preserved c =
-    let ps = c.deref-payload-items.result.now in
-    let k = c.loop-payload.payload-index in
+pub loop-section-preserved : goal.loop-section-preserved
+loop-section-preserved c =
+    let had = c.loop-section.invariant in
+    let p = section_of c.in-Some.section in
     record {
-      declared = declared-more ps k c.payload-item.result c.loop-payload-test.true c.payload-item.is
-          c.loop-payload.declared c.declared_functions-declared.result c.loop-payload.invariant.declared c.declared_functions-declared.ensures;
-      kept = next-names ps k c.payload-item.result c.loop-payload-test.true c.payload-item.is c.args.locals c.loop-payload.declared
-          c.loop-payload.invariant.declared c.add_section.new.kept
-          (c.in_ok-add_section.ensures (names_after c.args.locals [] (map payload_of (take k ps))) c.loop-payload.invariant.kept);
+      came = had.came ++ p ∷ [];
+      whole = append_assoc had.came (p ∷ []) (sections_left c.next.new.self) ∙ sym (ap (λ (ps : List plain.Payload). had.came ++ ps) c.in-Some.ensures.steps) ∙ had.whole;
+      declared = declared-more had.came p c.loop-section.declared c.declared_functions.result had.declared c.declared_functions.ensures;
+      kept = next-names had.came p c.args.locals c.loop-section.declared had.declared c.add_section.new.kept
+          (c.in_ok-add_section.ensures (names_after c.args.locals [] had.came) had.kept);
     }
+
+pub returns : goal.returns
+returns c =
+    let had = c.loop-section.invariant in
+    let whole = sym (append-nil had.came) ∙ sym (ap (λ (ps : List plain.Payload). had.came ++ ps) c.in-None.ensures.steps.0) ∙ had.whole in
+    subst (λ (ps : List plain.Payload). KeepsNames (names_after c.args.locals [] ps) c.loop-section.kept) whole had.kept

@@ -1,6 +1,7 @@
 use Rattle.std.proofs.Common.{◌≡◌, ◌+◌, ◌<◌, ◌++◌, length}
 use Rattle.wasm_spec.specs.Module.{segments, segments_of_section}
-use Rattle.form_data.specs.Views.{segment_of, module_of}
+use Rattle.form_data.specs.Views.{segment_of}
+use Rattle.form_lists.specs.Source.{source_module}
 use Rattle.form_lists.specs.Sections.{entries_left}
 use Rattle.init_plan.specs.Views.{passive_data_of, SameButPassive}
 use Rattle.module_environ.specs.Initialisers.{passive_data_from}
@@ -13,6 +14,6 @@ invariant-loop-segment l =
     record {
       few : l.index + length segments_left < 1073741824;
       noted : passive_data_of l.translation ++ passive_data_from l.index segments_left
-          ≡ passive_data_of l.initial.translation ++ passive_data_from 0 (segments (module_of l.form));
+          ≡ passive_data_of l.initial.translation ++ passive_data_from 0 (segments (source_module l.source));
       same : SameButPassive l.initial.translation l.translation;
     }

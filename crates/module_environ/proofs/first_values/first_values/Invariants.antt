@@ -2,7 +2,8 @@ use Rattle.std.proofs.Common.{◌≡◌, ◌+◌, ◌<◌, ◌++◌, length, map
 use Rattle.std.specs.Prelude.{IfSome}
 use Rattle.std.specs.List.{flat_map}
 use Rattle.wasm_spec.specs.Module.{tables_of_section}
-use Rattle.form_data.specs.Views.{table_of, module_of}
+use Rattle.form_data.specs.Views.{table_of}
+use Rattle.form_lists.specs.Source.{source_module}
 use Rattle.form_lists.specs.Sections.{entries_left}
 use Rattle.module_environ.specs.Convertible.{IsConvertible}
 use Rattle.module_environ.specs.Escapes.{referred_if_any}
@@ -15,7 +16,7 @@ abbrev pub invariant-loop-table : goal.invariant-loop-table
 invariant-loop-table g l =
     let env = goal.TypeConvert-dyn g l.env.now in
     let look = env.look_up l.env.now.1 in
-    let all = flat_map tables_of_section (module_of l.form) in
+    let all = flat_map tables_of_section (source_module l.source) in
     let tables = entries_left table_of tables_of_section l.table-iterator in
     record {
       convertible : All (λ t. IfSome t.init (IsConvertible (env.knows l.env.now.1) l.initial.escaping.count)) tables;

@@ -1,7 +1,8 @@
 use Rattle.std.proofs.Common.{◌≡◌, ◌+◌, ◌<◌, ◌++◌, length, map, All}
 use Rattle.std.specs.List.{flat_map, filter_map}
 use Rattle.wasm_spec.specs.Module.{globals_of_section}
-use Rattle.form_data.specs.Views.{global_of, module_of}
+use Rattle.form_data.specs.Views.{global_of}
+use Rattle.form_lists.specs.Source.{source_module}
 use Rattle.form_lists.specs.Sections.{entries_left}
 use Rattle.replay_spec.specs.Globals.{simple_of, kept_of}
 use Rattle.module_environ.specs.Convertible.{IsConvertible}
@@ -18,7 +19,7 @@ abbrev pub invariant-loop-global : goal.invariant-loop-global
 invariant-loop-global g l =
     let env = goal.TypeConvert-dyn g l.env.now in
     let look = env.look_up l.env.now.1 in
-    let all = flat_map globals_of_section (module_of l.form) in
+    let all = flat_map globals_of_section (source_module l.source) in
     let globals = entries_left global_of globals_of_section l.global-iterator in
     record {
       convertible : All (λ g. IsConvertible (env.knows l.env.now.1) l.initial.escaping.count g.init) globals;

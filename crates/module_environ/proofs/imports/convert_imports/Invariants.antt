@@ -1,6 +1,7 @@
 use Rattle.std.proofs.Common.{◌≡◌, ◌++◌, List}
 use Rattle.wasm_spec.specs.Module as plain
-use Rattle.form_data.specs.Views.{import_of, module_of}
+use Rattle.form_data.specs.Views.{import_of}
+use Rattle.form_lists.specs.Source.{source_module}
 use Rattle.form_lists.specs.Sections.{entries_left}
 use Rattle.module_environ.specs.Imported.{AreImported}
 use Rattle.module_environ.proofs.imports.convert_imports.Given as goal
@@ -8,4 +9,4 @@ use Rattle.module_environ.proofs.imports.convert_imports.Given as goal
 -- the imports that came are converted
 abbrev pub invariant-loop-import : goal.invariant-loop-import
 invariant-loop-import l = (came : List plain.Import) × AreImported came l.strings l.initializers.items l.counts
-    × (came ++ entries_left import_of plain.imports_of_section l.import-iterator ≡ plain.imports (module_of l.form))
+    × (came ++ entries_left import_of plain.imports_of_section l.import-iterator ≡ plain.imports (source_module l.source))

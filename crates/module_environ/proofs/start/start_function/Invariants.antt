@@ -1,10 +1,9 @@
-use Rattle.std.proofs.Common.{◌≡◌, map, drop}
+use Rattle.std.proofs.Common.{◌≡◌}
 use Rattle.std.specs.List.{flat_map}
 use Rattle.wasm_spec.specs.Module.{starts_of_section}
-use Rattle.form_data.specs.Views.{module_of, payload_of}
+use Rattle.form_lists.specs.Source.{source_module, sections_left}
 use Rattle.module_environ.proofs.start.start_function.Given as goal
 
 -- the sections so far have no start function
-abbrev pub invariant-loop-payload : goal.invariant-loop-payload
-invariant-loop-payload l =
-    flat_map starts_of_section (module_of l.form) ≡ flat_map starts_of_section (map payload_of (drop l.payload-index l.form.payloads.items))
+abbrev pub invariant-loop-section : goal.invariant-loop-section
+invariant-loop-section l = flat_map starts_of_section (sections_left l.section-iterator) ≡ flat_map starts_of_section (source_module l.source)

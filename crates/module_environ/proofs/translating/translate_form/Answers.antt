@@ -1,10 +1,9 @@
-use Rattle.std.proofs.Common.{inl, inr, ap, subst, Bor}
+use Rattle.std.proofs.Common.{inl, inr, ap, subst}
 use Rattle.std.specs.Prelude.{OnOk}
 use Rattle.std.proofs.lemmas.Result.{err_from_is_err_and}
 use Rattle.wasm_spec.specs.Module as plain
 use Rattle.rule_spec.specs.Rules.{Keeps}
-use Rattle.form_data.specs.declared.form.Form.{Form}
-use Rattle.form_data.specs.Views.{module_of}
+use Rattle.form_lists.specs.Source.{source_module}
 use Rattle.module_types.specs.Builder.{builder_view}
 use Rattle.module_environ.specs.Forming.{IsFormed}
 use Rattle.module_environ.specs.OnTheWay.{IsOnTheWay}
@@ -16,13 +15,13 @@ pub returns-in_err-lists-clause-cause : goal.returns-in_err-lists-clause-cause
 returns-in_err-lists-clause-cause c =
     let p = err_from_is_err_and c.from_residual.result c.from_residual.ensures.1 in
     let e = c.checked_lists.ensures in
-    rw (p.1, p.2) (check-cause (module_of c.args.form.now) c.args.types.now.is_poisoned c.checked_lists.result c.in_err-lists.field-0.0 c.in_err-lists.was e.broken e.first)
+    rw (p.1, p.2) (check-cause (source_module c.args.source) c.args.types.now.is_poisoned c.checked_lists.result c.in_err-lists.field-0.0 c.in_err-lists.was e.broken e.first)
 
 -- ---- the lists were checked
 
 pub returns-clause-formed : goal.returns-clause-formed
 returns-clause-formed c =
-    let same = ap (λ (f : Bor Form). module_of f.now) c.in_ok-lists.ensures.of_form in
+    let same = ap source_module c.in_ok-lists.ensures.of_source in
     subst (λ (m : plain.Module). OnOk c.translate_lists.result
     (IsFormed c.args.tunables.now c.args.validator.now m c.args.translation.now c.translate_lists.new.translation c.translate_lists.new.types)) same
     c.translate_lists.ensures.formed
@@ -30,7 +29,7 @@ returns-clause-formed c =
 pub returns-clause-cause : goal.returns-clause-cause
 returns-clause-cause c =
     none_else c.translate_lists.result c.args.types.now.is_poisoned (λ is. (c.translate_lists.ensures.poisoned is).0) c.translate_lists.ensures.complete
-    (module_of c.args.form.now)
+    (source_module c.args.source)
 
 pub returns-clause-poisoned : goal.returns-clause-poisoned
 returns-clause-poisoned c = λ keeps is. told_poisoned c.translate_lists.result (c.translate_lists.ensures.poisoned is).0
@@ -42,8 +41,8 @@ returns-clause-refused c =
 
 pub returns-clause-stops : goal.returns-clause-stops
 returns-clause-stops c =
-    let m = module_of c.args.form.now in
-    let same = ap (λ (f : Bor Form). module_of f.now) c.in_ok-lists.ensures.of_form in
+    let m = source_module c.args.source in
+    let same = ap source_module c.in_ok-lists.ensures.of_source in
     let P : Type 0 = Keeps m × IsOnTheWay m c.args.validator.now (builder_view c.translate_lists.new.types) in
     stops-anyhow c.args.types.now c.translate_lists.new.types P (λ is. (c.translate_lists.ensures.poisoned is).1) (λ was sound.
     elim (c.translate_lists.ensures.stops was sound) [

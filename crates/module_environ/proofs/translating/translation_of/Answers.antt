@@ -1,7 +1,8 @@
 use Rattle.std.proofs.Common.{◌≡◌, refl, sym, ap, ◌∙◌, subst, map, Ok}
 use Rattle.std.proofs.lemmas.Result.{err_from_is_err_and}
 use Rattle.rule_spec.specs.Rules.{Keeps}
-use Rattle.form_data.specs.Views.{body_of, module_of}
+use Rattle.form_data.specs.Views.{body_of}
+use Rattle.form_reader.specs.Input.{input_module_of}
 use Rattle.init_plan.specs.declared.translation.ModuleTranslation.{ModuleTranslation}
 use Rattle.module_environ.proofs.Answering.{ReadingTells, read_cause, read_complete, was_readable, read_as, form_cause, is_translated}
 use Rattle.module_environ.proofs.WayPlaces.{stops-read}
@@ -60,7 +61,7 @@ returns-in-Err-clause-cause c =
       malformed = e.malformed;
       stops_nowhere = e.stops_nowhere;
     } in
-    form_cause c.args.bytes.now (module_of c.in_ok-form.form) c.args.types.now.is_poisoned _
+    form_cause c.args.bytes.now (input_module_of c.in_ok-form.form) c.args.types.now.is_poisoned _
     (was_readable c.args.bytes.now c.in_ok-form.form tells e.read e.no_interface_types) c.in-Err.ensures.cause
 
 pub returns-in-Err-clause-complete : goal.returns-in-Err-clause-complete
@@ -73,7 +74,7 @@ returns-in-Err-clause-complete c = λ m can kept sound.
       malformed = e.malformed;
       stops_nowhere = e.stops_nowhere;
     } in
-    let same : module_of c.in_ok-form.form ≡ m = read_as c.args.bytes.now c.in_ok-form.form m tells can in
+    let same : input_module_of c.in_ok-form.form ≡ m = read_as c.args.bytes.now c.in_ok-form.form m tells can in
     c.in-Err.ensures.complete (subst Keeps (sym same) kept) sound
 
 pub returns-in-Err-clause-poisoned : goal.returns-in-Err-clause-poisoned
@@ -86,7 +87,7 @@ returns-in-Err-clause-poisoned c = λ m can kept was.
       malformed = e.malformed;
       stops_nowhere = e.stops_nowhere;
     } in
-    let same : module_of c.in_ok-form.form ≡ m = read_as c.args.bytes.now c.in_ok-form.form m tells can in
+    let same : input_module_of c.in_ok-form.form ≡ m = read_as c.args.bytes.now c.in_ok-form.form m tells can in
     c.in-Err.ensures.poisoned (subst Keeps (sym same) kept) was
 
 pub returns-in-Err-clause-stops : goal.returns-in-Err-clause-stops
@@ -99,7 +100,7 @@ returns-in-Err-clause-stops c =
       malformed = e.malformed;
       stops_nowhere = e.stops_nowhere;
     } in
-    stops-read c.args.validator.now c.args.bytes.now (module_of c.in_ok-form.form) c.args.types.now c.translate_form.new.types
+    stops-read c.args.validator.now c.args.bytes.now (input_module_of c.in_ok-form.form) c.args.types.now c.translate_form.new.types
     (was_readable c.args.bytes.now c.in_ok-form.form tells e.read e.no_interface_types) c.translate_form.ensures.stops
 
 -- ---- memory runs out for its code
@@ -114,7 +115,7 @@ returns-in-Err-take_bodies-clause-stops c =
       malformed = e.malformed;
       stops_nowhere = e.stops_nowhere;
     } in
-    stops-read c.args.validator.now c.args.bytes.now (module_of c.in_ok-form.form) c.args.types.now c.translate_form.new.types
+    stops-read c.args.validator.now c.args.bytes.now (input_module_of c.in_ok-form.form) c.args.types.now c.translate_form.new.types
     (was_readable c.args.bytes.now c.in_ok-form.form tells e.read e.no_interface_types) c.translate_form.ensures.stops
 
 pub returns-in-Err-take_bodies-clause-cause : goal.returns-in-Err-take_bodies-clause-cause
@@ -138,12 +139,12 @@ returns-in-Ok-clause-poisoned c = λ m can kept was.
       malformed = e.malformed;
       stops_nowhere = e.stops_nowhere;
     } in
-    let same : module_of c.in_ok-form.form ≡ m = read_as c.args.bytes.now c.in_ok-form.form m tells can in
+    let same : input_module_of c.in_ok-form.form ≡ m = read_as c.args.bytes.now c.in_ok-form.form m tells can in
     absurd (c.in_default.ensures.poisoned (subst Keeps (sym same) kept) was)
 
 pub returns-in-Ok-clause-translated : goal.returns-in-Ok-clause-translated
 returns-in-Ok-clause-translated c =
-    let m = module_of c.in_ok-form.form in
+    let m = input_module_of c.in_ok-form.form in
     let formed = c.translate_form.new.translation in
     let e = c.in_ok-form.ensures in
     let tells : ReadingTells c.args.bytes.now (Ok c.in_ok-form.form) = record {
