@@ -134,22 +134,10 @@ abbrev pub IsSegmented : MemoryInitialization → Type 0
 IsSegmented initialization.Segmented = Unit {0}
 IsSegmented (initialization.Static images) = ⊥
 
--- a passive segment is found with its bytes
-abbrev pub FindsRuntime : List (List ℕ) → Option ℕ → List ℕ → Type 0
-FindsRuntime runtime None bytes = ⊥
-FindsRuntime runtime (Some index) bytes = slice_get runtime index ≡ Some bytes
-
-abbrev pub FindsData : MemoryPlan → ℕ × List ℕ → Type 0
-FindsData plan p = FindsRuntime plan.runtime (plan.passive p.0) p.1
-
--- the first passive segment is found at a number, and each other one at the number after that of the one before
-abbrev pub FindsFrom : (ℕ → Option ℕ) → ℕ → List (ℕ × List ℕ) → Type 0
-FindsFrom found start [] = Unit {0}
-FindsFrom found start (p ∷ ps) = (found p.0 ≡ Some start) × FindsFrom found (start + 1) ps
-
--- passive segments are found at the last runtime data, in order: after those of active segments or of images
-abbrev pub FindsInOrder : MemoryPlan → List (ℕ × List ℕ) → Type 0
-FindsInOrder plan ps = FindsFrom plan.passive (length plan.runtime - length ps) ps
+-- passive segments are found with their bytes: the first at an index of the runtime data, and each other one at the index after that of the one before
+abbrev pub FindsInOrder : List (List ℕ) → (ℕ → Option ℕ) → ℕ → List (ℕ × List ℕ) → Type 0
+FindsInOrder runtime found index [] = Unit {0}
+FindsInOrder runtime found index (p ∷ ps) = (found p.0 ≡ Some index) × (slice_get runtime index ≡ Some p.1) × FindsInOrder runtime found (index + 1) ps
 
 -- ---- what stays
 

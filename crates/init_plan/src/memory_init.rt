@@ -1,12 +1,12 @@
 //! Data segments become runtime data.
 
-ghost use Rattle.std.specs.Prelude.{◌≡◌, ◌≢◌, ◌+◌, ◌^◌, ◌<◌, ◌≤◌, ℕ, [], length, map, sum_by, false, All, Contains, OnOk, OnErr, IfOk, IfSome, Err, None};
+ghost use Rattle.std.specs.Prelude.{◌-◌, ◌≡◌, ◌≢◌, ◌+◌, ◌^◌, ◌<◌, ◌≤◌, ℕ, [], length, map, sum_by, false, Contains, OnOk, OnErr, IfOk, IfSome, Err, None};
 ghost use Rattle.std.specs.Int.{IsPowerOfTwo};
 ghost use Rattle.replay_spec.specs.Plan.{MemoryPlan, AgreesOver, ranges_from};
 ghost use Rattle.replay_spec.specs.Images.{IsMemoryPlan};
 ghost use Rattle.memory_images.specs.Images.{images_of as view_images};
 ghost use Rattle.memory_images.specs.Views.{options_of};
-ghost use Rattle.init_plan.specs.Views.{memory_plan_of, initializers_of, passive_data_of, defined_sizes, ranges_of, passive_bytes, FindsData, FindsInOrder, OnlyMemoriesChange, IsUnprocessed, IsProcessed, active_segment_of, SameButSegments};
+ghost use Rattle.init_plan.specs.Views.{memory_plan_of, initializers_of, passive_data_of, defined_sizes, ranges_of, passive_bytes, FindsInOrder, OnlyMemoriesChange, IsUnprocessed, IsProcessed, active_segment_of, SameButSegments};
 ghost use Rattle.init_plan.specs.Images.{image_memories, AreSized, BeginsByRule, BeginsAsImages, KeepsSegments, Begins};
 ghost use Rattle.init_plan.specs.Ready.{MemoryHalfIsReady};
 
@@ -76,9 +76,9 @@ impl<'d> ModuleTranslation<'d> {
         // Runtime data stand end to end from 0.
         ensures ranges { OnOk result (ranges_of self.new.module ≡ ranges_from 0 (map length (memory_plan_of self.new).runtime)) }
 
-        // Each passive segment is found with its bytes, in order behind the other runtime data, and no other is found.
-        ensures found { OnOk result (All (FindsData (memory_plan_of self.new)) (passive_data_of self.old)) }
-        ensures in_order { OnOk result (FindsInOrder (memory_plan_of self.new) (passive_data_of self.old)) }
+        // Each passive segment is found with its bytes, in order after the other runtime data, and no other is found.
+        ensures found { let plan = memory_plan_of self.new in let ps = passive_data_of self.old in
+            OnOk result (FindsInOrder plan.runtime plan.passive (length plan.runtime - length ps) ps) }
         ensures others { OnOk result ((index : ℕ) → ¬ Contains (map (λ p. p.0) (passive_data_of self.old)) index →
             (memory_plan_of self.new).passive index ≡ None) }
 
