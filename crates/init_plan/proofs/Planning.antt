@@ -6,6 +6,7 @@ use Rattle.std.specs.Option.{option_map}
 use Rattle.std.proofs.lemmas.List.{length-map}
 use Rattle.memory_images.specs.declared.image.Image.{Image}
 use Rattle.memory_images.specs.Images.{image_of, images_of as view_images}
+use Rattle.memory_images.specs.Views.{image_memory}
 use Rattle.wasm_types.specs.declared.memory.Memory.{Memory}
 use Rattle.wasm_types.specs.Memories.{minimum_bytes}
 use Rattle.wasm_module.specs.declared.module.Module.{Module}
@@ -14,7 +15,7 @@ use Rattle.replay_spec.specs.Plan.{MemoryPlan, AgreesOver, planned_from}
 use Rattle.replay_spec.specs.Images.{ImageOptions, size_of, IsStatic, AreImages, IsMemoryPlan, image_map, entries_of, image_bytes}
 use Rattle.init_plan.specs.declared.translation.ModuleTranslation.{ModuleTranslation}
 use Rattle.init_plan.specs.Views.{initializers_of, passive_bytes, defined_sizes, images_of, processed_of, bytes_of, IsSegmented, SameButSegments}
-use Rattle.init_plan.specs.Images.{image_memory, image_memories, AreSized, Begins, BeginsAsImages, KeepsSegments}
+use Rattle.init_plan.specs.Images.{image_memories, AreSized, Begins, BeginsAsImages, KeepsSegments}
 use Rattle.init_plan.specs.Ready.{MemoryHalfIsReady}
 use Rattle.std.specs.Int.{IsPowerOfTwo}
 use Rattle.replay_spec.proofs.Joined.{agrees}
