@@ -1,6 +1,6 @@
 //! Whether all active segments become images.
 
-ghost use Rattle.std.specs.Prelude.{◌≡◌, ◌≢◌, ◌+◌, ◌^◌, ◌≤◌, ◌<◌, ◌↔◌, ℕ, List, [], All, IsTrue, IfOk, IfSome, IfNone, length, map};
+ghost use Rattle.std.specs.Prelude.{◌≡◌, ◌≢◌, ◌⊎◌, ◌+◌, ◌*◌, ◌^◌, ◌≤◌, ◌<◌, ◌↔◌, ℕ, List, [], All, IsTrue, IfOk, IfSome, IfNone, length, map};
 ghost use Rattle.replay_spec.specs.Data.{ActiveSegment};
 ghost use Rattle.replay_spec.specs.Images.{IsDense, MayBeImage, IsStatic};
 ghost use Rattle.memory_images.specs.Contents.{end_of, piece_of};
@@ -29,7 +29,14 @@ fn is_dense(laid: &[Laid<'_>], max_image: u64) -> bool
         high = high.max(x.start + x.bytes.len() as u64);
         count += x.bytes.len() as u128;
     }
-    let extent = high.saturating_sub(low);
+    is_close(high.saturating_sub(low), count, max_image)
+}
+
+// Whether an extent is below twice its bytes, or below `max_image`.
+fn is_close(extent: u64, count: u128, max_image: u64) -> bool
+    requires { count < 2 ^ 127 }
+    ensures { IsTrue result ↔ (extent < 2 * count) ⊎ (extent < max_image) }
+{
     u128::from(extent) < 2 * count || extent < max_image
 }
 
