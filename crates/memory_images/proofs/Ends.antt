@@ -1,19 +1,20 @@
 -- The first and the last byte that is not zero.
 use Rattle.std.proofs.Common.{◌≡◌, ℕ, ◌+◌, ◌-◌, ◌*◌, ◌/◌, ◌%◌, ◌^◌, ◌<◌, ◌≤◌, List, length, map, min, max, Option, Some, None, ◌⊎◌, inl, inr, refl, sym, ◌∙◌, ap, arith}
-use Rattle.std.specs.Prelude.{slice_get, ⊤}
+use Rattle.std.specs.Prelude.{slice_get, unwrap_or, IfSome, ⊤}
 use Rattle.std.proofs.Math.Logic.{⊎_elim}
 use Rattle.std.proofs.Math.Nat.{mul-le-mul_right, div-mul-le_self}
 use Rattle.std.proofs.lemmas.Bool.{cases_lt}
 use Rattle.std.proofs.lemmas.Nat.{le-div}
 use Rattle.std.proofs.lemmas.Option.{slice_get_within}
+use Rattle.replay_spec.specs.Phases.{item_at}
 use Rattle.memory_images.specs.declared.laid.Laid.{Laid}
 use Rattle.memory_images.specs.declared.written.Written.{Written}
 use Rattle.memory_images.specs.declared.span.Ends.{Ends}
 use Rattle.memory_images.specs.declared.span.Span.{Span}
-use Rattle.memory_images.specs.Contents.{contents_of, end_of, byte_in, pair_of, IsOwned}
-use Rattle.memory_images.specs.Image.{EndsOf, joined, ArePages}
+use Rattle.memory_images.specs.Contents.{contents_of, end_of, byte_in, pair_of, piece_of, IsOwned, IsCut, Within}
+use Rattle.memory_images.specs.Image.{Bounds, EndsOf, joined, ArePages}
 use Rattle.memory_images.specs.Ranges.{last_cover_from, AreWritten}
-use Rattle.memory_images.proofs.Covering.{Covering, covered, uncovered}
+use Rattle.memory_images.proofs.Covering.{Covering, covered, uncovered, covers, misses}
 use Rattle.memory_images.proofs.Lists.{two_some, all_at}
 use Rattle.memory_images.proofs.Ranges.{segment_at-range, range_at}
 
@@ -45,7 +46,45 @@ module _ (contents : ℕ → ℕ) (A B C : ℕ → Type 0) (split : (place : ℕ
         (λ (y : B place). let l = k.between place y nonzero in (omega (arith, l), omega (arith, l))) (split place c);
   }
 
+-- ---- all that is laid
+
+module _ (below above : ℕ → ℕ) (x : Laid) (over : (place : ℕ) → above place ≡ unwrap_or (item_at 0 place (piece_of x)) (below place)) where
+  by_place : (place : ℕ) → (above place ≡ below place) ⊎ (Within x place × (above place ≡ byte_in x place))
+  by_place place = ⊎_elim
+      (λ (lt : place < x.start). let e = misses x place (inl lt) in inl (over place ∙ rw e refl))
+      (λ (ge : x.start ≤ place). ⊎_elim
+      (λ (lt : place < end_of x). let e = covers x place ge lt in inr ((ge, lt), over place ∙ rw e refl))
+      (λ (past : end_of x ≤ place). let e = misses x place (inr past) in inl (over place ∙ rw e refl))
+      (cases_lt place (end_of x)))
+      (cases_lt place x.start)
+
+  pub bounds_joined : (a b : Option Ends) → Bounds below a → EndsOf (byte_in x) (Within x) b → Bounds above (joined a b)
+  bounds_joined None None h k = λ place. ⊎_elim (λ e. e ∙ h place) (λ w. w.1 ∙ k place w.0) (by_place place)
+  bounds_joined None (Some b) h k = λ place nonzero. ⊎_elim (λ e. absurd (nonzero (e ∙ h place))) (λ w. k.between place w.0 (λ z. nonzero (w.1 ∙ z))) (by_place place)
+  bounds_joined (Some a) None h k = λ place nonzero. ⊎_elim (λ e. h place (λ z. nonzero (e ∙ z))) (λ w. absurd (nonzero (w.1 ∙ k place w.0))) (by_place place)
+  bounds_joined (Some a) (Some b) h k = λ place nonzero. ⊎_elim
+      (λ e. let l = h place (λ z. nonzero (e ∙ z)) in (omega (arith, l), omega (arith, l)))
+      (λ w. let l = k.between place w.0 (λ z. nonzero (w.1 ∙ z)) in (omega (arith, l), omega (arith, l))) (by_place place)
+
 -- ---- all ranges
+
+-- the ends of what is cut along a range are those of the contents there
+pub ends_cut : (laid : List Laid) (range : Written) (x : Laid) (ends : Option Ends) → IsCut laid range x → EndsOf (byte_in x) (Within x) ends
+    → IfSome ends (λ ends. Within x ends.first × Within x ends.last) → EndsOf (contents_of laid) (IsIn range) ends
+ends_cut laid range x ends cut h within = over ends h within where
+  at : (place : ℕ) → Within x place → contents_of laid place ≡ byte_in x place
+  at place w = let s = cut.start in let e = cut.end in cut.bytes place (omega (arith, s, w)) (omega (arith, e, w))
+
+  back : (place : ℕ) → IsIn range place → Within x place
+  back place w = let s = cut.start in let e = cut.end in (omega (arith, s, w), omega (arith, e, w))
+
+  over : (ends : Option Ends) → EndsOf (byte_in x) (Within x) ends → IfSome ends (λ ends. Within x ends.first × Within x ends.last) → EndsOf (contents_of laid) (IsIn range) ends
+  over None h within = λ place w. at place (back place w) ∙ h place (back place w)
+  over (Some ends) h within = record {
+    first = λ z. h.first (sym (at ends.first within.0) ∙ z);
+    last = λ z. h.last (sym (at ends.last within.1) ∙ z);
+    between = λ place w nonzero. h.between place (back place w) (λ z. nonzero (at place (back place w) ∙ z));
+  }
 
 -- a place lies in one of so many ranges
 pub record LiesIn (ranges : List Written) (count place : ℕ) : Type 0 where

@@ -31,6 +31,9 @@ pair_of x = (x.start, length x.bytes.now)
 abbrev pub byte_in : Laid → ℕ → ℕ
 byte_in x place = slice_index x.bytes.now (place - x.start)
 
+abbrev pub Within : Laid → ℕ → Type 0
+Within x place = (x.start ≤ place) × (place < end_of x)
+
 -- a range lies in the laid bytes of its number, which stand there at last
 pub record IsOwned (laid : List Laid) (range : Written) : Type 0 where
   pub part : Laid

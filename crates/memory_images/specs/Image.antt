@@ -15,6 +15,11 @@ abbrev pub EndsOf : (ℕ → ℕ) → (ℕ → Type 0) → Option Ends → Type 
 EndsOf contents Within None = (place : ℕ) → Within place → contents place ≡ 0
 EndsOf contents Within (Some ends) = AreEnds contents Within ends
 
+-- places that lie round every byte that is not zero
+abbrev pub Bounds : (ℕ → ℕ) → Option Ends → Type 0
+Bounds contents None = (place : ℕ) → contents place ≡ 0
+Bounds contents (Some ends) = (place : ℕ) → contents place ≢ 0 → (ends.first ≤ place) × (place ≤ ends.last)
+
 -- the ends of the places of both
 abbrev pub joined : Option Ends → Option Ends → Option Ends
 joined None b = b

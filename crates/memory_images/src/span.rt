@@ -1,8 +1,9 @@
 //! Where the bytes that are not zero stand.
 
-ghost use Rattle.std.specs.Prelude.{◌≡◌, ◌≢◌, ℕ, ◌+◌, ◌^◌, ◌<◌, ◌≤◌, ⊤, length, map, slice_index, All, IfOk, IfSome, IfNone};
-ghost use Rattle.memory_images.specs.Contents.{contents_of, end_of, pair_of, IsCut, IsOwned};
-ghost use Rattle.memory_images.specs.Image.{ArePages, EndsOf, SpanOf, joined};
+ghost use Rattle.std.specs.Prelude.{◌≡◌, ◌≢◌, ℕ, ◌+◌, ◌^◌, ◌<◌, ◌≤◌, ⊤, length, map, slice_index, unwrap_or, All, IfOk, IfSome, IfNone, IsTrue};
+ghost use Rattle.replay_spec.specs.Phases.{item_at};
+ghost use Rattle.memory_images.specs.Contents.{byte_in, contents_of, end_of, pair_of, piece_of, IsCut, IsOwned, Within};
+ghost use Rattle.memory_images.specs.Image.{ArePages, Bounds, EndsOf, SpanOf, joined};
 ghost use Rattle.memory_images.specs.Ranges.{AreWritten};
 
 use crate::laid::Laid;
@@ -57,17 +58,16 @@ fn cut<'d>(laid: &[Laid<'d>], range: Written) -> Laid<'d>
     }
 }
 
-fn ends_in(laid: &[Laid<'_>], range: Written) -> Option<Ends>
-    requires some { range.start < range.end }
-    requires owned { IsOwned laid.now range }
-    ensures { EndsOf (contents_of laid.now) (λ place. (range.start ≤ place) × (place < range.end)) result }
+fn ends_in(x: &Laid<'_>) -> Option<Ends>
+    requires { end_of x.now < 2 ^ 64 }
+    ensures ends { EndsOf (byte_in x.now) (Within x.now) result }
+    ensures within { IfSome result (λ ends. Within x.now ends.first × Within x.now ends.last) }
 {
-    let part = cut(laid, range);
-    let first = first_in(part.bytes)?;
-    let last = last_in(part.bytes)?;
+    let first = first_in(x.bytes)?;
+    let last = last_in(x.bytes)?;
     Some(Ends {
-        first: range.start + first as u64,
-        last: range.start + last as u64,
+        first: x.start + first as u64,
+        last: x.start + last as u64,
     })
 }
 
@@ -84,14 +84,64 @@ fn join(a: Option<Ends>, b: Option<Ends>) -> Option<Ends>
     }
 }
 
-/// The ends of all places, by the ranges that laid bytes write.
-fn ends_of(laid: &[Laid<'_>], ranges: &[Written]) -> Option<Ends>
-    requires { AreWritten (map pair_of laid.now) ranges.now }
+/// The ends of all that is laid, whether it stands at last or not.
+fn outer_ends(laid: &[Laid<'_>]) -> Option<Ends>
+    requires { All (λ x. end_of x < 2 ^ 64) laid.now }
+    ensures { Bounds (contents_of laid.now) result }
+{
+    let mut ends = None;
+    'laid: for x in laid {
+        ends = join(ends, ends_in(x));
+    }
+    ends
+}
+
+fn byte_over(x: &Laid<'_>, place: u64, below: u8) -> u8
+    requires { end_of x.now < 2 ^ 64 }
+    ensures { result ≡ unwrap_or (item_at 0 place (piece_of x.now)) below }
+{
+    if place < x.start {
+        return below;
+    }
+    if x.start + x.bytes.len() as u64 <= place {
+        return below;
+    }
+    x.bytes[(place - x.start) as usize]
+}
+
+fn byte_at(laid: &[Laid<'_>], place: u64) -> u8
+    requires { All (λ x. end_of x < 2 ^ 64) laid.now }
+    ensures { result ≡ contents_of laid.now place }
+{
+    let mut byte = 0;
+    'laid: for x in laid {
+        byte = byte_over(x, place, byte);
+    }
+    byte
+}
+
+/// Whether the ends of all that is laid stand at last.
+fn stand(laid: &[Laid<'_>], ends: Option<Ends>) -> bool
+    requires fits { All (λ x. end_of x < 2 ^ 64) laid.now }
+    requires bounds { Bounds (contents_of laid.now) ends }
+    ensures { IsTrue result → EndsOf (contents_of laid.now) (λ _. ⊤) ends }
+{
+    match ends {
+        None => true,
+        Some(ends) => byte_at(laid, ends.first) != 0 && byte_at(laid, ends.last) != 0,
+    }
+}
+
+/// The ends of what stands at last, by the ranges that laid bytes write.
+fn inner_ends(laid: &[Laid<'_>], ranges: &[Written]) -> Option<Ends>
+    requires fits { All (λ x. end_of x < 2 ^ 64) laid.now }
+    requires written { AreWritten (map pair_of laid.now) ranges.now }
     ensures { EndsOf (contents_of laid.now) (λ _. ⊤) result }
 {
     let mut ends = None;
     'ranges: for range in ranges {
-        ends = join(ends, ends_in(laid, *range));
+        let part = cut(laid, *range);
+        ends = join(ends, ends_in(&part));
     }
     ends
 }
@@ -108,6 +158,20 @@ fn pairs_of(alloc: Global, laid: &[Laid<'_>]) -> Result<Vec<(u64, u64)>, OutOfMe
     Ok(pairs)
 }
 
+/// The first and the last place whose byte is not zero. Where the ends of all that is laid stand, no range is made.
+fn ends_of(alloc: Global, laid: &[Laid<'_>]) -> Result<Option<Ends>, OutOfMemory>
+    requires { All (λ x. end_of x < 2 ^ 64) laid.now }
+    ensures { IfOk result (EndsOf (contents_of laid.now) (λ _. ⊤)) }
+{
+    let outer = outer_ends(laid);
+    if stand(laid, outer) {
+        return Ok(outer);
+    }
+    let pairs = pairs_of(alloc, laid)?;
+    let ranges = written_ranges(alloc, pairs.as_slice())?;
+    Ok(inner_ends(laid, ranges.as_slice()))
+}
+
 /// From the page of the first byte that is not zero to the end of the page of the last.
 pub(crate) fn span_of(
     alloc: Global,
@@ -118,9 +182,7 @@ pub(crate) fn span_of(
     requires fits { All (λ x. end_of x < 2 ^ 64) laid.now }
     ensures { IfOk result (SpanOf page (contents_of laid.now)) }
 {
-    let pairs = pairs_of(alloc, laid)?;
-    let ranges = written_ranges(alloc, pairs.as_slice())?;
-    match ends_of(laid, ranges.as_slice()) {
+    match ends_of(alloc, laid)? {
         None => Ok(None),
         Some(ends) => Ok(Some(pages_of(ends, page))),
     }
