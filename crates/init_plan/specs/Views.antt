@@ -14,6 +14,7 @@ use Rattle.wasm_types.specs.Memories.{minimum_bytes}
 use Rattle.wasm_convert.specs.Constants.{expression_of}
 use Rattle.wasm_module.specs.Record.{record_of, empty_record}
 use Rattle.replay_spec.specs.Data.{ActiveSegment}
+use Rattle.memory_images.specs.Views.{active_segment_of as plain_segment_of}
 use Rattle.replay_spec.specs.Plan.{PlannedOffset, Expr, Static, PlannedSegment, MemoryPlan}
 use Rattle.wasm_module.specs.declared.module.Module.{Module}
 use Rattle.wasm_module.specs.declared.memory_initialization.MemoryInitialization.{MemoryInitialization}
@@ -33,7 +34,7 @@ use Rattle.init_plan.specs.declared.translation.MemorySegmentOffset.TheVariants 
 -- ---- before the plan
 
 abbrev pub active_segment_of : MemoryInitializer → ActiveSegment
-active_segment_of s = record { memory = number_of s.memory_index; offset = expression_of s.offset; bytes = s.bytes.now }
+active_segment_of s = plain_segment_of s
 
 abbrev pub unprocessed_of : MemoryInit → List ActiveSegment
 unprocessed_of (init.Unprocessed segments) = map active_segment_of segments.items

@@ -12,13 +12,12 @@ ghost use Rattle.init_plan.specs.Ready.{MemoryHalfIsReady};
 
 use crate::error::PlanError;
 use crate::image_data::keep_images;
-use crate::images::memory_images_of;
 use crate::runtime_data::{
     check_total, keep_active, keep_passive, passive_length, ranges_end_to_end,
 };
 use crate::translation::{MemoryInit, ModuleTranslation};
 use entity_map::OutOfMemory;
-use memory_images::{Image, ImageSettings};
+use memory_images::{Image, ImageSettings, plan_images};
 use std::alloc::Global;
 use std::mem;
 use wasm_module::{MemoryInitialization, MemoryInitializer};
@@ -43,7 +42,10 @@ impl<'d> ModuleTranslation<'d> {
         let segments = self.memory_init.unprocessed();
         let passive = &self.private_parts.passive_data;
         let beside = passive_length(passive)?;
-        match memory_images_of(alloc, settings, &self.module, segments, beside)? {
+        let imported = self.module.num_imported_memories;
+        let memories = self.module.memories.as_slice();
+        let beside = u64::from(beside);
+        match plan_images(alloc, settings, memories, imported, segments, beside)? {
             Some(images) => Ok(Some(images)),
             None => {
                 check_total(segments, passive)?;

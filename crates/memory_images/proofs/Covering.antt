@@ -45,10 +45,10 @@ not_within start end place h = ⊎_elim inl
     (λ (ge : start ≤ place). ⊎_elim (λ (lt : place < end). absurd (let f : true ≡ false = sym (within_yes start end place ge lt) ∙ h in cc)) inr (cases_lt place end)) (cases_lt place start)
 
 -- what a piece gives at a place
-covers : (x : Laid) (place : ℕ) → x.start ≤ place → place < end_of x → item_at 0 place (piece_of x) ≡ Some (get_or x.bytes.now (place - x.start) 0)
+pub covers : (x : Laid) (place : ℕ) → x.start ≤ place → place < end_of x → item_at 0 place (piece_of x) ≡ Some (get_or x.bytes.now (place - x.start) 0)
 covers x place h l = rw (le-leb x.start place h) (slice_get-get_or x.bytes.now (place - x.start) 0 (omega arith))
 
-misses : (x : Laid) (place : ℕ) → (place < x.start) ⊎ (end_of x ≤ place) → item_at 0 place (piece_of x) ≡ None
+pub misses : (x : Laid) (place : ℕ) → (place < x.start) ⊎ (end_of x ≤ place) → item_at 0 place (piece_of x) ≡ None
 misses x place o = ⊎_elim low high o where
   low : place < x.start → item_at 0 place (piece_of x) ≡ None
   low l = let t : nat_le x.start place ≡ false = grind (arith, nat_tests) in rw t refl
