@@ -11,7 +11,7 @@ use Rattle.type_spec.specs.Interned.{Interned, Built, assign_trampoline, assign_
 use Rattle.form_types.specs.Types.{NamedGroup, TypesData, types_by_id, group_numbers, IsIdBelow, NameEarlier, IsSound}
 use Rattle.module_types.specs.Builder.{Builder, new_builder, interns_by, interns}
 use Rattle.module_types.specs.Conversion.{id_number, first_id, group_of_id, members_of, interned_members, NamesInterned, HoldsGroups}
-use Rattle.module_types.proofs.GroupMembers.{grows}
+use Rattle.module_types.proofs.GroupMembers.{few-more}
 use Rattle.module_types.proofs.Convertible.{members-long}
 use Rattle.module_types.proofs.Holding.{holds-kept}
 use Rattle.module_types.proofs.Places.{group-ends}
@@ -65,9 +65,7 @@ at-or-below (suc x) (suc k) h = elim (at-or-below x k (omega (arith, h))) [ inl 
 all-few : (b : Built) (i : ℕ) (ts : List Interned) → length (assign_trampolines b i ts).types ≤ length b.types + length ts
 all-few b i [] = omega arith
 all-few b i (t ∷ ts) =
-    let g = grows b i t.composite.inner in
-    let rest = all-few (assign_trampoline b i t.composite.inner) (suc i) ts in
-    omega (arith, rest, ap length g.types, length-append b.types g.more, g.few)
+    omega (arith, all-few (assign_trampoline b i t.composite.inner) (suc i) ts, few-more b i t.composite.inner)
 
 group-few : (b : Built) (ts : List Interned) → length (with_group b ts).types ≤ length b.types + (length ts + length ts)
 group-few b ts = omega (arith, all-few (opened b ts) (length b.types) ts, length-append b.types ts)

@@ -5,7 +5,7 @@ use Rattle.std.proofs.lemmas.List.{length-map}
 use Rattle.std.proofs.lemmas.List.Elements.{All-head, All-tail, All-cons, All-nil, All-weaker}
 use Rattle.wasm_spec.specs.declared.types.UnpackedIndex.{UnpackedIndex}
 use Rattle.wasm_spec.specs.declared.types.UnpackedIndex.TheVariants as index
-use Rattle.wasm_spec.specs.TypeData.{SubType, Composite, Func, Array, Struct, Cont, Exn, map_sub_type, group_edges}
+use Rattle.wasm_spec.specs.TypeData.{SubType, Composite, Func, map_sub_type, group_edges}
 use Rattle.wasm_spec.specs.Sizes.{HasShortLists, CompositeHasShortLists}
 use Rattle.rule_spec.specs.TypeRules.{IsFunction}
 use Rattle.type_data.specs.TypeShapes.{group_shape}
@@ -24,18 +24,13 @@ use Rattle.wasm_convert.specs.Known.{CanLookUp, Known, CanConvert}
 use Rattle.module_types.specs.Views.{interned_number, interned_of}
 use Rattle.module_types.specs.Conversion.{id_number, first_id, kind_in, group_of_id, members_of, members_by_index, look_by_id, StandsInterned, KnowsId, HasIndex, HoldsGroups, interned_members}
 use Rattle.module_types.specs.Builder.{Builder}
-use Rattle.module_types.proofs.Parts.{all-first, all-second}
+use Rattle.form_lists.proofs.AllSections.{All-joined, All-from_map}
 use Rattle.module_types.proofs.Places.{group-ends}
 
 all-both : {A : Type 0} (P Q R : A → Type 0) → ((x : A) → P x → Q x → R x) → (xs : List A) → All P xs → All Q xs → All R xs
 all-both P Q R each [] p q = All-nil R
 all-both P Q R each (x ∷ xs) p q =
     All-cons R x xs (each x (All-head P x xs p) (All-head Q x xs q)) (all-both P Q R each xs (All-tail P x xs p) (All-tail Q x xs q))
-
-all-of-mapped : {A B : Type 0} (P : B → Type 0) (f : A → B) (xs : List A) → All P (map f xs) → All (λ x. P (f x)) xs
-all-of-mapped P f [] all = All-nil (λ x. P (f x))
-all-of-mapped P f (x ∷ xs) all =
-    All-cons (λ x. P (f x)) x xs (All-head P (f x) (map f xs) all) (all-of-mapped P f xs (All-tail P (f x) (map f xs) all))
 
 not-some : (o : Option ℕ) → IsSome o → o ≡ None → ⊥
 not-some None h e = cc
@@ -84,8 +79,8 @@ module _ (t : TypesData) (next : ℕ) (spans : List Span) (ids : ℕ → Option 
 
 all-in : (P : SubType UnpackedIndex UnpackedIndex → Type 0) (gs : List NamedGroup) (k : ℕ) → All P (types_by_id gs) → All P (get_or gs k [])
 all-in P [] k all = All-nil P
-all-in P (g ∷ gs) zero all = all-first P g (types_by_id gs) all
-all-in P (g ∷ gs) (suc k) all = all-in P gs k (all-second P g (types_by_id gs) all)
+all-in P (g ∷ gs) zero all = ((All-joined P g (types_by_id gs)).0 all).0
+all-in P (g ∷ gs) (suc k) all = all-in P gs k ((All-joined P g (types_by_id gs)).0 all).1
 
 kind-function : (o : Option (SubType UnpackedIndex UnpackedIndex)) → IsSomeAnd o (λ t. IsFunction t.composite.inner) → kind_in o ≡ FuncName
 kind-function None h = absurd h
@@ -93,10 +88,7 @@ kind-function (Some t) h = by t.composite.inner h where
   by : (c : Composite UnpackedIndex UnpackedIndex) → IsFunction c
       → kind_in (Some (record { is_final = t.is_final; supertype = t.supertype; composite = record { inner = c; shared = t.composite.shared } })) ≡ FuncName
   by (Func f) h = refl
-  by (Array f) h = absurd h
-  by (Struct f) h = absurd h
-  by (Cont f) h = absurd h
-  by (Exn f) h = absurd h
+  by c h = absurd h
 
 module _ (t : TypesData) (next : ℕ) (spans : List Span) (ids : ℕ → Option ℕ) where
   resumes : (i : UnpackedIndex) → NamesFunction (types_by_id t.groups) i → (look_by_id t next spans ids i).kind ≡ FuncName
@@ -115,8 +107,8 @@ module _ (t : TypesData) (next : ℕ) (spans : List Span) (ids : ℕ → Option 
   pub members-can : (k : ℕ) (members : List Read) → members_of t k ≡ map form.sub_type_of members → IsSound t
       → All (λ m. CanConvert (look_by_id t next spans ids) (form.composite_of m.composite)) members
   members-can k members is sound =
-      let resumed = all-of-mapped (ContinuesFunction (types_by_id t.groups)) form.sub_type_of members (coe 0 1 (j. All (ContinuesFunction (types_by_id t.groups)) (is j)) (all-in (ContinuesFunction (types_by_id t.groups)) t.groups k sound.continuations)) in
-      let short = all-of-mapped HasShortLists form.sub_type_of members (coe 0 1 (j. All HasShortLists (is j)) (all-in HasShortLists t.groups k sound.lists)) in
+      let resumed = All-from_map (ContinuesFunction (types_by_id t.groups)) form.sub_type_of members (coe 0 1 (j. All (ContinuesFunction (types_by_id t.groups)) (is j)) (all-in (ContinuesFunction (types_by_id t.groups)) t.groups k sound.continuations)) in
+      let short = All-from_map HasShortLists form.sub_type_of members (coe 0 1 (j. All HasShortLists (is j)) (all-in HasShortLists t.groups k sound.lists)) in
       all-both (λ m. ContinuesFunction (types_by_id t.groups) (form.sub_type_of m)) (λ m. HasShortLists (form.sub_type_of m)) (λ m. CanConvert (look_by_id t next spans ids) (form.composite_of m.composite)) (λ m. can-by m m.composite) members resumed short
 
   pub made-is : (k : ℕ) (members : List Read) → members_of t k ≡ map form.sub_type_of members → (made : List WasmSubType)

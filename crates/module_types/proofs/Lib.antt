@@ -14,6 +14,7 @@ pub mod Places
 pub mod Indexing
 pub mod Convertible
 pub mod Extends
+pub mod WholeLists
 pub mod BuiltGroups
 pub mod Runs
 pub mod Holding

@@ -1,9 +1,9 @@
 -- What a step of an interner does to what it holds.
-use Rattle.std.proofs.Common.{◌≡◌, ℕ, zero, suc, ◌+◌, List, [], ◌∷◌, ◌++◌, length, set, map, replicate, Bool, true, false, cond, Option, Some, None, refl, sym, ap, ◌∙◌}
+use Rattle.std.proofs.Common.{◌≡◌, ℕ, zero, suc, ◌+◌, List, [], ◌∷◌, ◌++◌, length, map, replicate, Bool, true, false, cond, Option, Some, None, refl, sym, ap, ◌∙◌}
 use Rattle.std.specs.Prelude.{if◌then◌else◌, slice_get}
 use Rattle.std.specs.Option.{option_map}
 use Rattle.std.specs.declared.ops.Range.{Range}
-use Rattle.std.proofs.lemmas.List.{length-map, length-append}
+use Rattle.std.proofs.lemmas.List.{length-map, length-append, map-append, map-set}
 use Rattle.wasm_spec.specs.TypeData.{Func}
 use Rattle.type_spec.specs.Interned.{Called, Built, mapped, same_mapped, plain, alone, now_known, knows, with_trampoline, assign_at, assign_trampoline, composite_at, opened}
 use Rattle.wasm_index.specs.Index.{number_of, index_of}
@@ -21,16 +21,7 @@ use Rattle.module_types.proofs.Keys.{function-back, mapped-is, called-mapped, ke
 
 -- ---- lists
 
-pub map-set : {A B : Type 0} (f : A → B) (xs : List A) (i : ℕ) (v : A) → map f (set xs i v) ≡ set (map f xs) i (f v)
-map-set f [] i v = refl
-map-set f (x ∷ xs) zero v = refl
-map-set f (x ∷ xs) (suc i) v = λ j. f x ∷ map-set f xs i v j
-
-pub map-both : {A B : Type 0} (f : A → B) (xs ys : List A) → map f (xs ++ ys) ≡ map f xs ++ map f ys
-map-both f [] ys = refl
-map-both f (x ∷ xs) ys = λ j. f x ∷ map-both f xs ys j
-
-pub map-replicate : {A B : Type 0} (f : A → B) (n : ℕ) (v : A) → map f (replicate n v) ≡ replicate n (f v)
+map-replicate : {A B : Type 0} (f : A → B) (n : ℕ) (v : A) → map f (replicate n v) ≡ replicate n (f v)
 map-replicate f zero v = refl
 map-replicate f (suc n) v = λ j. f v ∷ map-replicate f n v j
 
@@ -58,10 +49,10 @@ module _ (l : TypeList) (get : WasmFuncType → Option TypeIndex) where
   alone-is t k r start end =
       let long = sym (length-map l.types interned_of) in
       λ j. record {
-        types = map-both interned_of l.types (t ∷ []) j;
-        groups = (map-both span_of l.groups (r ∷ [])
+        types = map-append interned_of l.types (t ∷ []) j;
+        groups = (map-append span_of l.groups (r ∷ [])
             ∙ (λ i. map span_of l.groups ++ record { start = (ap number_of start ∙ long) i; end = (ap number_of end ∙ length-append l.types (t ∷ []) ∙ ap (λ n. n + 1) long) i } ∷ [])) j;
-        trampolines = map-both (option_map number_of) l.trampolines (k ∷ []) j;
+        trampolines = map-append (option_map number_of) l.trampolines (k ∷ []) j;
         known_trampolines = held.known_trampolines;
       }
 
@@ -72,10 +63,10 @@ module _ (l : TypeList) (get : WasmFuncType → Option TypeIndex) where
       let long = sym (length-map l.types interned_of) in
       let many = sym (length-map ts interned_of) in
       λ j. record {
-        types = map-both interned_of l.types ts j;
-        groups = (map-both span_of l.groups (r ∷ [])
+        types = map-append interned_of l.types ts j;
+        groups = (map-append span_of l.groups (r ∷ [])
             ∙ (λ i. map span_of l.groups ++ record { start = (ap number_of start ∙ long) i; end = (ap number_of end ∙ length-append l.types ts ∙ (λ m. long m + many m)) i } ∷ [])) j;
-        trampolines = (map-both (option_map number_of) l.trampolines (replicate (length ts) None)
+        trampolines = (map-append (option_map number_of) l.trampolines (replicate (length ts) None)
             ∙ ap (λ ks. map (option_map number_of) l.trampolines ++ ks) (map-replicate (option_map number_of) (length ts) None ∙ ap (λ n. replicate n None) many)) j;
         known_trampolines = held.known_trampolines;
       }
@@ -180,10 +171,7 @@ module _ (l : TypeList) (get : WasmFuncType → Option TypeIndex) where
 
 not-function : (b : Built) (i : ℕ) (c : WasmCompositeInnerType) → ((f : WasmFuncType) → c ≡ inner.Func f → ⊥) → assign_trampoline b i (inner_of c) ≡ b
 not-function b i (inner.Func f) other = absurd (other f refl)
-not-function b i (inner.Array f) other = refl
-not-function b i (inner.Struct f) other = refl
-not-function b i (inner.Cont f) other = refl
-not-function b i (inner.Exn f) other = refl
+not-function b i c other = refl
 
 -- only a function has a trampoline
 pub assign_trampoline-other : (l : TypeList) (get : WasmFuncType → Option TypeIndex) (i : ℕ) (x : WasmSubType)
