@@ -191,28 +191,25 @@ builder-member b id ts tied unheld i f is =
     coe 0 1 (j. HasTrampoline (interns_by b id ts (sym unheld j)).built (length b.built.types + i)) (called-member b.built tied.sized ts i f is)
 
 pub builder-group : (b : Builder) (id : ℕ) (ts : List Interned) (i : ℕ) → HasTrampoline b.built i → HasTrampoline (interns b id ts).built i
-builder-group b id ts i has = by (b.ids id) where
-  by : (o : Option ℕ) → HasTrampoline (interns_by b id ts o).built i
-  by (Some k) = has
-  by None = kept-group b.built ts i has
+builder-group b id ts i has =
+    elim (b.ids id) as (λ o. HasTrampoline (interns_by b id ts o).built i) [ Some k ↦ has | None ↦ kept-group b.built ts i has ]
 
 pub builder-exception : (b : Builder) (k i : ℕ) → HasTrampoline b.built i → HasTrampoline (excepts b k).built i
-builder-exception b k i has = by (b.exceptions k) where
-  by : (o : Option ℕ) → HasTrampoline (excepts_by b k o).built i
-  by (Some n) = has
-  by None = kept-alone b.built (plain (exception_for k (composite_at b.built.types k))) None i has
+builder-exception b k i has =
+    elim (b.exceptions k) as (λ o. HasTrampoline (excepts_by b k o).built i) [
+      | Some n ↦ has
+      | None ↦ kept-alone b.built (plain (exception_for k (composite_at b.built.types k))) None i has
+    ]
 
 pub builder-startup : (b : Builder) (i : ℕ) → HasTrampoline b.built i → HasTrampoline (starts b).built i
-builder-startup b i has = by b.startup where
-  by : (o : Option ℕ) → HasTrampoline (starts_by b o).built i
-  by (Some n) = has
-  by None = kept-alone b.built startup_type None i has
+builder-startup b i has =
+    elim b.startup as (λ o. HasTrampoline (starts_by b o).built i) [ Some n ↦ has | None ↦ kept-alone b.built startup_type None i has ]
 
 shown-at : (xs : List (Option TypeIndex)) (i : ℕ) → IsSome (get_or (map (option_map number_of) xs) i None) → IsSome (option_and_then (λ t. t) (slice_get xs i))
-shown-at [] i s = absurd cc
 shown-at (None ∷ xs) zero s = absurd cc
 shown-at (Some k ∷ xs) zero s = refl
 shown-at (x ∷ xs) (suc i) s = shown-at xs i s
+shown-at [] i s = absurd cc
 
 pub shown : (b : BuilderState) (i : ℕ) → HasTrampoline (builder_view b).built i → IsSome (trampoline_at b.list i)
 shown b i has = shown-at b.list.trampolines i has

@@ -22,7 +22,7 @@ use Rattle.wasm_types.specs.TypeViews.{sub_type_of}
 use Rattle.wasm_convert.specs.Conversion.{index_in}
 use Rattle.wasm_convert.specs.Known.{CanLookUp, Known, CanConvert}
 use Rattle.module_types.specs.Views.{interned_number, interned_of}
-use Rattle.module_types.specs.Conversion.{id_number, first_id, kind_in, group_of_id, members_of, members_by_index, look_by_id, StandsInterned, KnowsId, HasIndex, HoldsGroups, interned_members}
+use Rattle.module_types.specs.Conversion.{id_number, first_id, kind_in, group_of_id, members_of, members_by_index, look_by_id, StandsInterned, KnowsId, HasIndex, interned_members}
 use Rattle.module_types.specs.Builder.{Builder}
 use Rattle.form_lists.proofs.AllSections.{All-joined, All-from_map}
 use Rattle.module_types.proofs.Places.{group-ends}
@@ -40,40 +40,41 @@ not-some (Some x) h e = cc
 
 below-more : (a b : ℕ) → a ≤ b → (i : UnpackedIndex) → IsIdBelow a i → IsIdBelow b i
 below-more a b h (index.Id id) lt = omega (arith, h, lt)
-below-more a b h (index.Module n) lt = absurd lt
-below-more a b h (index.RecGroup n) lt = absurd lt
+below-more a b h i lt = absurd lt
 
-names-earlier : (first : ℕ) (gs : List NamedGroup) (k : ℕ) → k < length gs → NameEarlier first gs
+pub names-earlier : (first : ℕ) (gs : List NamedGroup) (k : ℕ) → NameEarlier first gs
     → All (IsIdBelow (first + (first_id gs k + length (get_or gs k [])))) (group_edges (λ r. r) (get_or gs k []))
-names-earlier first [] k h e = absurd (omega arith)
-names-earlier first (g ∷ gs) zero h e =
+names-earlier first [] k e = All-nil (IsIdBelow (first + 0))
+names-earlier first (g ∷ gs) zero e =
     let le : first + length g ≤ first + (0 + length g) = omega arith in
     All-weaker (IsIdBelow (first + length g)) (IsIdBelow (first + (0 + length g))) (below-more _ _ le) (group_edges (λ r. r) g) e.0
-names-earlier first (g ∷ gs) (suc k) h e =
-    let rest = names-earlier (first + length g) gs k (omega arith) e.1 in
+names-earlier first (g ∷ gs) (suc k) e =
+    let rest = names-earlier (first + length g) gs k e.1 in
     let le : (first + length g) + (first_id gs k + length (get_or gs k [])) ≤ first + ((length g + first_id gs k) + length (get_or gs k [])) = omega arith in
     All-weaker _ (IsIdBelow (first + ((length g + first_id gs k) + length (get_or gs k [])))) (below-more _ _ le) (group_edges (λ r. r) (get_or gs k [])) rest
 
 module _ (t : TypesData) (next : ℕ) (spans : List Span) (ids : ℕ → Option ℕ) (k : ℕ)
-    (holds : (m j : ℕ) → ids m ≡ Some j → StandsInterned t next spans ids m j) (room : next + length (members_of t k) < 4294967295) where
-  no-room : (n : ℕ) → (group_of_id t n ≡ k) ⊎ IsSome (ids (group_of_id t n)) → ids (group_of_id t n) ≡ None
-      → next + length (members_of t (group_of_id t n)) < 4294967295
-  no-room n (inl same) none = let back = sym same in coe 0 1 (j. next + length (members_of t (back j)) < 4294967295) room
-  no-room n (inr some) none = absurd (not-some (ids (group_of_id t n)) some none)
+    (holds : (m j : ℕ) → ids m ≡ Some j → StandsInterned t spans m j) (room : ids k ≡ None → next + length (members_of t k) < 4294967295) where
+  -- an id of a group that stands, or of the one that comes next
+  pub index-known : (n : ℕ) → n < length (types_by_id t.groups) → (group_of_id t n ≡ k) ⊎ IsSome (ids (group_of_id t n)) → HasIndex t next spans ids n
+  index-known n h held = record { within = h; stands = λ j e. holds (group_of_id t n) j e; room = λ none. by held none } where
+    by : (group_of_id t n ≡ k) ⊎ IsSome (ids (group_of_id t n)) → ids (group_of_id t n) ≡ None → next + length (members_of t (group_of_id t n)) < 4294967295
+    by (inl same) none =
+        let back = sym same in
+        coe 0 1 (j. next + length (members_of t (back j)) < 4294967295) (room (ap ids back ∙ none))
+    by (inr some) none = absurd (not-some (ids (group_of_id t n)) some none)
 
   knows : (bound : ℕ) → bound ≤ length (types_by_id t.groups) → (i : UnpackedIndex) → IsIdBelow bound i
       → (group_of_id t (id_number i) ≡ k) ⊎ IsSome (ids (group_of_id t (id_number i))) → CanLookUp (KnowsId t next spans ids) i
-  knows bound le (index.Id id) lt held =
-      record { within = omega (arith, lt, le); stands = λ j e. holds (group_of_id t id.0) j e; room = no-room id.0 held }
-  knows bound le (index.Module n) lt held = absurd lt
-  knows bound le (index.RecGroup n) lt held = absurd lt
+  knows bound le (index.Id id) lt held = index-known id.0 (omega (arith, lt, le)) held
+  knows bound le i lt held = absurd lt
 
-  pub group-known : k < length t.groups → IsSound t
+  pub group-known : IsSound t
       → All (λ i. (group_of_id t (id_number i) ≡ k) ⊎ IsSome (ids (group_of_id t (id_number i)))) (group_edges (λ r. r) (members_of t k))
       → Known (KnowsId t next spans ids) (group_edges (λ r. r) (members_of t k))
-  group-known h sound held =
+  group-known sound held =
       let bound : 0 + (first_id t.groups k + length (members_of t k)) ≤ length (types_by_id t.groups) = omega (arith, group-ends t.groups k) in
-      all-both _ _ (CanLookUp (KnowsId t next spans ids)) (knows _ bound) (group_edges (λ r. r) (members_of t k)) (names-earlier 0 t.groups k h sound.references) held
+      all-both _ _ (CanLookUp (KnowsId t next spans ids)) (knows _ bound) (group_edges (λ r. r) (members_of t k)) (names-earlier 0 t.groups k sound.references) held
 
 -- ---- its members
 
@@ -93,8 +94,7 @@ kind-function (Some t) h = by t.composite.inner h where
 module _ (t : TypesData) (next : ℕ) (spans : List Span) (ids : ℕ → Option ℕ) where
   resumes : (i : UnpackedIndex) → NamesFunction (types_by_id t.groups) i → (look_by_id t next spans ids i).kind ≡ FuncName
   resumes (index.Id id) h = kind-function (slice_get (types_by_id t.groups) id.0) h
-  resumes (index.Module n) h = absurd h
-  resumes (index.RecGroup n) h = absurd h
+  resumes i h = absurd h
 
   can-by : (m : Read) (c : CompositeInnerType)
       → ContinuesFunction (types_by_id t.groups) (record { is_final = m.is_final; supertype = m.supertype; composite = record { inner = form.composite_of c; shared = (form.sub_type_of m).composite.shared } })
@@ -121,17 +121,3 @@ module _ (t : TypesData) (next : ℕ) (spans : List Span) (ids : ℕ → Option 
 
 pub members-long : (t : TypesData) (b : Builder) (k : ℕ) → length (interned_members t b k) ≡ length (members_of t k)
 members-long t b k = length-map (members_of t k) _
-
--- an id of a group that stands, or of the one that comes next
-pub index-known : (t : TypesData) (b : Builder) (next k : ℕ) → HoldsGroups t b → (b.ids k ≡ None → next + length (members_of t k) < 4294967295)
-    → (n : ℕ) → n < length (types_by_id t.groups) → (group_of_id t n ≡ k) ⊎ IsSome (b.ids (group_of_id t n)) → HasIndex t next b.built.groups b.ids n
-index-known t b next k holds room n h held = record {
-  within = h;
-  stands = λ j e. let s = holds (group_of_id t n) j e in record { within = s.within; whole = s.whole };
-  room = λ none. by held none;
-} where
-  by : (group_of_id t n ≡ k) ⊎ IsSome (b.ids (group_of_id t n)) → b.ids (group_of_id t n) ≡ None → next + length (members_of t (group_of_id t n)) < 4294967295
-  by (inl same) none =
-      let back = sym same in
-      coe 0 1 (j. next + length (members_of t (back j)) < 4294967295) (room (ap b.ids back ∙ none))
-  by (inr some) none = absurd (not-some (b.ids (group_of_id t n)) some none)

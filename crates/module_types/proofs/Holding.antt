@@ -24,7 +24,7 @@ module _ (t : TypesData) (b : Builder) (k : ℕ) (ts : List Interned) (holds : H
   later = interns_by b k ts None
 
   abbrev StandsLater : ℕ → ℕ → Type 0
-  StandsLater m j = StandsInterned t (length later.built.types) later.built.groups later.ids m j
+  StandsLater m j = StandsInterned t later.built.groups m j
 
   x : Extends (opened b.built ts) (with_group b.built ts)
   x = extends-group b.built ts

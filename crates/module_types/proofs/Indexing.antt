@@ -29,8 +29,8 @@ module _ (t : TypesData) (n k : ℕ) (e : slice_get (group_numbers 0 t.groups) n
           (λ j. start_by t next spans ids (ids (group-is t n k e j)) + (n - first_id t.groups (group-is t n k e j)))
           ∙ (λ j. start_by t next spans ids (held j) + (n - sym first-is j))
 
-      pub stands : (j : ℕ) → ids k ≡ Some j → StandsInterned t next spans ids k j
-      stands j held = coe 0 1 (i. StandsInterned t next spans ids (group-is t n k e i) j) (has.stands j (ap ids (group-is t n k e) ∙ held))
+      pub stands : (j : ℕ) → ids k ≡ Some j → StandsInterned t spans k j
+      stands j held = coe 0 1 (i. StandsInterned t spans (group-is t n k e i) j) (has.stands j (ap ids (group-is t n k e) ∙ held))
 
       module _ (j : ℕ) (held : ids k ≡ Some j) (s : Span) (at : slice_get spans j ≡ Some s) where
         span-is : get_or spans j no_span ≡ s

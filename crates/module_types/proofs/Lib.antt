@@ -24,6 +24,7 @@ pub mod Tying
 pub mod Called
 pub mod Interned
 pub mod Taking
+pub mod Telling
 pub mod TakingBoth
 pub mod EqualLists
 pub mod WellNamed

@@ -3,7 +3,7 @@ use Rattle.std.proofs.Common.{◌≡◌, ◌∙◌, ◌<◌, ◌≤◌, ℕ, zer
 use Rattle.std.specs.List.{All, flat_map}
 use Rattle.std.specs.Option.{option_to_list}
 use Rattle.std.proofs.lemmas.List.Elements.{All-nil, All-cons, All-append, All-weaker}
-use Rattle.wasm_spec.specs.TypeData.{Value, I32, Composite, Func, Struct, Exn, map_value, map_field, map_composite, map_sub_type, map_group, value_edges, field_edges, composite_edges, sub_type_edges, group_edges}
+use Rattle.wasm_spec.specs.TypeData.{Value, I32, Composite, Func, Struct, Exn, map_value, map_field, map_function, map_composite, map_sub_type, map_group, value_edges, field_edges, composite_edges, sub_type_edges, group_edges}
 use Rattle.type_data.specs.Names.{NameKind, Named, index_of}
 use Rattle.type_spec.specs.Interned.{Interned, Called, Built, passed, mapped, plain, opened, with_group, field_for, exception_for, composite_at, with_exception, startup_type, with_startup}
 use Rattle.type_spec.proofs.ByNames.{name_by, by_names}
@@ -60,26 +60,21 @@ well-group b ts some w below kinds =
 -- ---- exception types
 
 module _ (index : ℕ → Named ℕ) where
+  composite-named : (ts : List Interned) (i : ℕ) → composite_at (map_group index (λ r. r) (unkinded ts)) i
+      ≡ map_composite index (λ r. r) (map_composite (index_of {R = ℕ}) (λ r. r) (composite_at ts i))
+  composite-named [] i = refl
+  composite-named (t ∷ ts) zero = refl
+  composite-named (t ∷ ts) (suc i) = composite-named ts i
+
   -- the parameters of the function type at an index
   params-at : (ts : List Interned) (i : ℕ) (f : Called) → map_group index (λ r. r) (unkinded ts) ≡ ts → composite_at ts i ≡ Func f
       → map (map_value index) (map (map_value (index_of {R = ℕ})) f.params) ≡ f.params
-  params-at [] i f same at = let no : Struct [] ≡ Func f = at in cc
-  params-at (t ∷ ts) zero f same at =
-      let whole : map_sub_type index (λ r. r) (map_sub_type (index_of {R = ℕ}) (λ r. r) t) ∷ map_group index (λ r. r) (unkinded ts) ≡ t ∷ ts = same in
-      let first : map_sub_type index (λ r. r) (map_sub_type (index_of {R = ℕ}) (λ r. r) t) ≡ t = cc in
-      let inner : map_composite index (λ r. r) (map_composite (index_of {R = ℕ}) (λ r. r) (Func f)) ≡ Func f =
-      ap (λ c. map_composite index (λ r. r) (map_composite (index_of {R = ℕ}) (λ r. r) c)) (sym at)
-      ∙ ap (λ (u : Interned). u.composite.inner) first ∙ at in
-      let function : record {
-        params = map (map_value index) (map (map_value (index_of {R = ℕ})) f.params);
-        results = map (map_value index) (map
-            (map_value (index_of {R = ℕ})) f.results);
-      } ≡ f = cc in
+  params-at ts i f same at =
+      let whole : Func (map_function index (map_function (index_of {R = ℕ}) f)) ≡ Func f =
+      ap (λ c. map_composite index (λ r. r) (map_composite (index_of {R = ℕ}) (λ r. r) c)) (sym at) ∙ sym (composite-named ts i)
+      ∙ ap (λ us. composite_at us i) same ∙ at in
+      let function : map_function index (map_function (index_of {R = ℕ}) f) ≡ f = cc in
       ap (λ (g : Called). g.params) function
-  params-at (t ∷ ts) (suc i) f same at =
-      let whole : map_sub_type index (λ r. r) (map_sub_type (index_of {R = ℕ}) (λ r. r) t) ∷ map_group index (λ r. r) (unkinded ts) ≡ t ∷ ts = same in
-      let rest : map_group index (λ r. r) (unkinded ts) ≡ ts = cc in
-      params-at ts i f rest at
 
   fields-named : (vs : List (Value (Named ℕ))) → map (map_field index) (map (map_field (index_of {R = ℕ})) (map field_for vs))
       ≡ map field_for (map (map_value index) (map (map_value (index_of {R = ℕ})) vs))

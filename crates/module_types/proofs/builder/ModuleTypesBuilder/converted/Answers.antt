@@ -26,7 +26,7 @@ convert_members-requires-clause-known c =
     let next : length b.built.types ≡ length c.looking_up-converter.result.list.now.types = length-map c.args.self.now.list.types interned_of ∙ ap (λ (l : TypeList). length l.types) list in
     let members : members_of t k ≡ map form.sub_type_of c.members.result.now = get_or_from_slice_get t.groups k _ [] c.members.ensures.members in
     let known : Known (KnowsId t (length b.built.types) b.built.groups b.ids) (group_edges (λ r. r) (members_of t k)) =
-    group-known t (length b.built.types) b.built.groups b.ids k c.requires.holds (omega (arith, c.requires.room, length-map c.args.self.now.list.types interned_of)) c.requires.known c.members.ensures.sound c.requires.named in
+    group-known t (length b.built.types) b.built.groups b.ids k c.requires.holds (λ none. omega (arith, c.requires.room, length-map c.args.self.now.list.types interned_of)) c.members.ensures.sound c.requires.named in
     coe 0 1 (j. Known (KnowsId (types j) (next j) (map span_of (list j).groups) (noted_at (ids j))) (group_edges (λ r. r) (members j))) known
 
 pub convert_members-requires-clause-can : goal.convert_members-requires-clause-can

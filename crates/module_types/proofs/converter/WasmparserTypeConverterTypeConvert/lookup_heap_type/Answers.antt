@@ -29,8 +29,8 @@ lookup_heap_type-requires g c =
     coe 0 1 (j. CanLookUp (KnowsIndex (λ i. g.F.TypeLookUp.callable s.lookup_type_idx i) s.types.now s.count (option_map (λ p. (p.0.now, p.1.0)) s.rec_group)) (c.in-Id.is j)) c.requires in
     let ids = coe 0 1 (j. knows_ids s.types.now (option_map (λ p. (p.0.now, p.1.0)) (c.in-Some.is j)) (index.Id c.in-Id.field-0)) known in
     let have = coe 0 1 (j. HaveIndices s.types.now (option_map (λ p. (p.0.now, p.1.0)) (c.in-Some.is j))) s.have_indices in
-    let here = index-known c.in-Some.types.now (builder_view s.types.now) (length s.types.now.list.types) c.in-Some.field-0-1.0 have.0 have.1
-    c.in-Id.field-0.0 ids.0 ids.1 in
+    let here = index-known c.in-Some.types.now (length s.types.now.list.types) (builder_view s.types.now).built.groups (builder_view s.types.now).ids
+    c.in-Some.field-0-1.0 have.0 have.1 c.in-Id.field-0.0 ids.0 ids.1 in
     let list = sym c.looking_up.ensures.list in
     let held = sym c.looking_up.ensures.ids in
     let types = sym c.looking_up.ensures.types in

@@ -1,9 +1,7 @@
-use Rattle.std.proofs.Common.{◌∙◌, map, ap, arith}
-use Rattle.std.proofs.lemmas.List.{length-map}
+use Rattle.std.proofs.Common.{◌∙◌, map, ap}
 use Rattle.wasm_index.specs.Index.{number_of}
-use Rattle.module_types.specs.Views.{field_at, interned_of, span_of}
+use Rattle.module_types.specs.Views.{field_at}
 use Rattle.module_types.specs.Interner.{built}
-use Rattle.module_types.proofs.Ordering.{few-groups}
 use Rattle.module_types.proofs.Steps.{composite-read}
 use Rattle.module_types.proofs.Exceptions.{no-function, exception-made}
 use Rattle.module_types.proofs.Shows.{ok-to}
@@ -12,10 +10,6 @@ use Rattle.module_types.proofs.interner.Interner.push_exception.Goals as goal
 pub unreachable-requires : goal.unreachable-requires
 unreachable-requires c =
     no-function c.args.self.now.list.types (number_of c.args.function) c.index.result.now c.index.ensures c.in_default.not-Func c.requires.function
-
-pub push_alone-requires-clause-groups : goal.push_alone-requires-clause-groups
-push_alone-requires-clause-groups c =
-    omega (arith, few-groups (built c.args.self.now) c.requires.orderly, c.requires.room, length-map c.args.self.now.list.types interned_of, length-map c.args.self.now.list.groups span_of)
 
 pub returns-clause-built : goal.returns-clause-built
 returns-clause-built c =
