@@ -21,9 +21,15 @@ use Rattle.wasm_types.specs.declared.sub.WasmSubType.{WasmSubType}
 use Rattle.wasm_types.specs.TypeViews.{sub_type_of}
 use Rattle.wasm_convert.specs.Conversion.{index_in}
 use Rattle.wasm_convert.specs.Known.{CanLookUp, Known, CanConvert}
-use Rattle.module_types.specs.Views.{interned_number, interned_of}
+use Rattle.module_types.specs.Views.{interned_number, interned_of, span_of}
 use Rattle.module_types.specs.Conversion.{id_number, first_id, kind_in, group_of_id, members_of, members_by_index, look_by_id, StandsInterned, KnowsId, HasIndex, interned_members}
-use Rattle.module_types.specs.Builder.{Builder}
+use Rattle.module_types.specs.TypeList.{TypeList}
+use Rattle.module_types.specs.Noted.{noted_at}
+use Rattle.module_types.specs.Builder.{Builder, BuilderState, builder_view}
+use Rattle.module_types.specs.Converter.{TypesAndGroup, KnowsIndex, HaveIndices}
+use Rattle.wasm_index.specs.declared.index.Index.{Index}
+use Rattle.wasm_index.specs.declared.spaces.TypeSpace.{TypeSpace}
+use Rattle.wasm_spec.specs.declared.types.CoreTypeId.{CoreTypeId}
 use Rattle.form_lists.proofs.AllSections.{All-joined, All-from_map}
 use Rattle.module_types.proofs.Places.{group-ends}
 
@@ -121,3 +127,14 @@ module _ (t : TypesData) (next : ℕ) (spans : List Span) (ids : ℕ → Option 
 
 pub members-long : (t : TypesData) (b : Builder) (k : ℕ) → length (interned_members t b k) ≡ length (members_of t k)
 members-long t b k = length-map (members_of t k) _
+
+-- what looks up the ids of a converter knows each that the converter knows
+pub known-by : (Callable : Index TypeSpace → Type 0) (b : BuilderState) (bound : ℕ) (ids : Option TypesAndGroup) (i : UnpackedIndex) (id : CoreTypeId)
+    → i ≡ index.Id id → CanLookUp (KnowsIndex Callable b bound ids) i → (p : TypesAndGroup) → ids ≡ Some p → HaveIndices b ids
+    → (t : TypesData) (list : TypeList) (held : List (Option ℕ)) → t ≡ p.0 → list ≡ b.list → held ≡ b.ids
+    → CanLookUp (KnowsId t (length list.types) (map span_of list.groups) (noted_at held)) i
+known-by Callable b bound ids i id is known p one have t list held types lists helds =
+    let here = coe 0 1 (j. CanLookUp (KnowsIndex Callable b bound (one j)) (is j)) known in
+    let whole = coe 0 1 (j. HaveIndices b (one j)) have in
+    let found = index-known p.0 (length b.list.types) (builder_view b).built.groups (builder_view b).ids p.1 whole.0 whole.1 id.0 here.0 here.1 in
+    coe 0 1 (j. CanLookUp (KnowsId (sym types j) (length (sym lists j).types) (map span_of (sym lists j).groups) (noted_at (sym helds j))) (sym is j)) found

@@ -16,14 +16,6 @@ pub where-ok : {A E : Type 0} {P : Type 0} (r : Result A E) → is_err r ≡ fal
 where-ok (Ok x) e p = p
 where-ok (Err x) e p = absurd cc
 
--- what an `Ok` leaves, by another name
-pub ok-to : {A E X : Type 0} (x y z : X) (r : Result A E) → y ≡ z → OnOk r (x ≡ y) → OnOk r (x ≡ z)
-ok-to x y z r e p = coe 0 1 (j. OnOk r (x ≡ e j)) p
-
-pub if-ok : {A E : Type 0} {P Q : A → Type 0} (r : Result A E) → ((x : A) → P x → Q x) → IfOk r P → IfOk r Q
-if-ok (Ok x) each p = each x p
-if-ok (Err x) each p = tt
-
 -- one more number is noted
 abbrev Notes : List (Option ℕ) → List (Option ℕ) → ℕ → ℕ → Type 0
 Notes before after id n = noted_at after ≡ noted (noted_at before) id n

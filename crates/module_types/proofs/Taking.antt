@@ -4,6 +4,7 @@ use Rattle.std.specs.Prelude.{nat_lt, if◌then◌else◌}
 use Rattle.std.specs.List.{All, range_with_len}
 use Rattle.std.proofs.lemmas.Bool.{ltb-true, ltb-false, cases_lt, cases_eq}
 use Rattle.std.proofs.lemmas.List.{append_assoc, append-nil, get_or_append_left, get_or-append-add, get_or-take, get_or-drop, length-take-le, length-drop, length-map}
+use Rattle.std.proofs.lemmas.List.Prefix.{front_reads}
 use Rattle.std.proofs.lemmas.List.FromFn.{get_or-range_with_len, length-range_with_len}
 use lib.Dec.{ltb}
 use Rattle.wasm_spec.specs.TypeData.{Group, map_sub_type, group_edges}
@@ -41,19 +42,18 @@ module _ (all : List (Group ℕ ℕ)) where
 
   -- ---- what was declared stays
 
-  pub record Grown (old new : List ℕ) : Type 0 where
-    pub more : List ℕ
-    pub is : new ≡ old ++ more
+  abbrev Grown : List ℕ → List ℕ → Type 0
+  Grown old new = (more : List ℕ) × (new ≡ old ++ more)
 
   grown-both : (a b c : List ℕ) → Grown a b → Grown b c → Grown a c
-  grown-both a b c x y = record { more = x.more ++ y.more; is = y.is ∙ ap (λ l. l ++ y.more) x.is ∙ append_assoc a x.more y.more }
+  grown-both a b c x y = (x.0 ++ y.0, y.1 ∙ ap (λ l. l ++ y.0) x.1 ∙ append_assoc a x.0 y.0)
 
   grown-one : (b : Taken) (start : ℕ) (g : Group ℕ ℕ) (o : Option ℕ) → Grown b.declared (take_group all b start g o).declared
-  grown-one b start g (Some j) = record { more = take (length g) (drop j b.declared); is = refl }
-  grown-one b start g None = record { more = range_with_len (length b.built.types) (length g); is = refl }
+  grown-one b start g (Some j) = (take (length g) (drop j b.declared), refl)
+  grown-one b start g None = (range_with_len (length b.built.types) (length g), refl)
 
   grown-all : (gs : List (Group ℕ ℕ)) (b : Taken) (start : ℕ) → Grown b.declared (take_groups all b start gs).declared
-  grown-all [] b start = record { more = []; is = sym (append-nil b.declared) }
+  grown-all [] b start = ([], sym (append-nil b.declared))
   grown-all ([] ∷ gs) b start = grown-all gs b start
   grown-all ((t ∷ ts) ∷ gs) b start =
       let o = first_equal all start 0 start in
@@ -61,7 +61,7 @@ module _ (all : List (Group ℕ ℕ)) where
       (grown-one b start (t ∷ ts) o) (grown-all gs (take_group all b start (t ∷ ts) o) (start + length (t ∷ ts)))
 
   read-grown : (old new : List ℕ) → Grown old new → (i : ℕ) → i < length old → get_or new i 0 ≡ get_or old i 0
-  read-grown old new x i lt = ap (λ l. get_or l i 0) x.is ∙ get_or_append_left old x.more 0 i lt
+  read-grown old new x i lt = front_reads 0 new old x.0 x.1 i lt
 
   -- ---- copies of groups that were taken
 
@@ -181,7 +181,7 @@ module _ (all : List (Group ℕ ℕ)) where
         read-before i lt =
             let x = grown-one b start g o in
             let long : i < length b.declared = omega (arith, lt, h.counted) in
-            read-now i (omega (arith, long, ap length x.is, length-append b.declared x.more)) ∙ read-grown _ _ x i long
+            read-now i (omega (arith, long, ap length x.1, length-append b.declared x.0)) ∙ read-grown _ _ x i long
 
       -- an earlier group is equal
       module _ (j : ℕ) (found : Told start 0 start (Some j))

@@ -1,6 +1,7 @@
 use Rattle.std.proofs.Common.{◌≡◌, ◌∙◌, [], All, length, map, sym, ap, arith}
 use Rattle.std.proofs.lemmas.List.{length-map}
 use Rattle.std.proofs.lemmas.Option.{get_or_from_slice_get}
+use Rattle.std.proofs.lemmas.Result.{IfOk-weaker}
 use Rattle.wasm_spec.specs.TypeData.{group_edges}
 use Rattle.form_data.specs.declared.types.SubType.{SubType}
 use Rattle.form_data.specs.Views as form
@@ -12,7 +13,6 @@ use Rattle.module_types.specs.Builder.{builder_view}
 use Rattle.module_types.specs.Noted.{noted_at}
 use Rattle.module_types.specs.Conversion.{KnowsId, look_by_id, members_of, members_by_index}
 use Rattle.module_types.proofs.Convertible.{group-known, members-can, made-is}
-use Rattle.module_types.proofs.Shows.{if-ok}
 use Rattle.module_types.proofs.builder.ModuleTypesBuilder.converted.Goals as goal
 
 pub convert_members-requires-clause-known : goal.convert_members-requires-clause-known
@@ -55,7 +55,7 @@ returns c =
     let converter = c.looking_up-converter.result in
     let members : members_of converter.types.now k ≡ map form.sub_type_of c.members.result.now =
     ap (λ (d : TypesData). members_of d k) types ∙ get_or_from_slice_get t.groups k _ [] c.members.ensures.members in
-    if-ok c.convert_members.result
+    IfOk-weaker c.convert_members.result _ _
     (λ made is. made-is converter.types.now (length converter.list.now.types) (map span_of converter.list.now.groups)
     (noted_at converter.ids.now) k c.members.result.now members made.items is
     ∙ (λ j. members_by_index (types j) (next j) (map span_of (list j).groups) (noted_at (ids j)) k))
