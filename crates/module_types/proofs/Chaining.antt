@@ -2,6 +2,8 @@
 use Rattle.std.proofs.Common.{◌≡◌, ◌<◌, ◌≤◌, ℕ, zero, suc, ◌+◌, ◌-◌, Bool, true, false, cond, List, [], ◌∷◌, ◌++◌, length, take, map, Some, None, refl, sym, ap, ◌∙◌, inl, inr, arith}
 use Rattle.std.specs.Prelude.{◌⊎◌, ◌↔◌, slice_get, nat_eq, if◌then◌else◌}
 use Rattle.std.specs.Map.{lookup}
+use Rattle.std.specs.Option.{option_map}
+use Rattle.std.proofs.lemmas.Option.{slice_get-map, slice_get_within}
 use Rattle.std.proofs.lemmas.Bool.{eqb-true, eqb-false}
 use Rattle.std.proofs.lemmas.List.{length-append, reverse-append, take_all, take-append-le}
 use Rattle.wasm_types.specs.declared.func.WasmFuncType.{WasmFuncType}
@@ -31,14 +33,7 @@ turned f g =
 -- ---- lists
 
 pub at-map : {X Y : Type 0} (f : X → Y) (xs : List X) (i : ℕ) (x : X) → slice_get xs i ≡ Some x → slice_get (map f xs) i ≡ Some (f x)
-at-map f [] i x e = absurd cc
-at-map f (y ∷ ys) zero x e = let same : y ≡ x = cc in ap (λ z. Some (f z)) same
-at-map f (y ∷ ys) (suc i) x e = at-map f ys i x e
-
-pub below : {X : Type 0} (xs : List X) (i : ℕ) (x : X) → slice_get xs i ≡ Some x → i < length xs
-below [] i x e = absurd cc
-below (y ∷ ys) zero x e = omega arith
-below (y ∷ ys) (suc i) x e = let rest = below ys i x e in omega (arith, rest)
+at-map f xs i x e = slice_get-map f xs i ∙ ap (option_map f) e
 
 taken-more : {X : Type 0} (xs : List X) (i : ℕ) (x : X) → slice_get xs i ≡ Some x → take (suc i) xs ≡ take i xs ++ x ∷ []
 taken-more [] i x e = absurd cc
@@ -135,7 +130,7 @@ module _ (digest : WasmFuncType → ℕ) (newest : ℕ → ℕ) (rs : List Met) 
       omega (arith, long),
       ap (λ n. known_in (take n all) f) (let e : length all ≡ suc (length rs) = omega (arith, long) in e),
       λ s at. elim (last-or rs r (length rs) s at) [
-        | inl there ↦ let less = below rs (length rs) s there in absurd (omega (arith, less))
+        | inl there ↦ let less = slice_get_within rs (length rs) s there in absurd (omega (arith, less))
         | inr end ↦ sym (ap (λ (t : Met). digest t.key) end.1) ∙ same
       ],
     )
@@ -159,7 +154,7 @@ module _ (digest : WasmFuncType → ℕ) (newest : ℕ → ℕ) (rs : List Met) 
 
     pub next-more : (i : ℕ) (s : Met) → slice_get all i ≡ Some s → (f : WasmFuncType) → digest f ≡ digest s.key → Leads digest all f s.before i
     next-more i s at f same = elim (last-or rs r i s at) [
-      | inl there ↦ (let less = below rs i s there in leads-within digest rs r f s.before i (omega (arith, less)) (chained.next i s there f same))
+      | inl there ↦ (let less = slice_get_within rs i s there in leads-within digest rs r f s.before i (omega (arith, less)) (chained.next i s there f same))
       | inr end ↦ (
           let of_it : digest r.key ≡ digest f = ap (λ (t : Met). digest t.key) end.1 ∙ sym same in
           let count : newest (digest f) ≡ s.before = ap newest (sym of_it) ∙ sym behind ∙ ap (λ (t : Met). t.before) end.1 in

@@ -1,5 +1,5 @@
 -- Two lists of groups have equal interned lists exactly where they take equal groups in turn.
-use Rattle.std.proofs.Common.{◌≡◌, ◌∙◌, ◌↔◌, ◌<◌, ℕ, List, [], ◌∷◌, length, map, refl, sym, ap, arith}
+use Rattle.std.proofs.Common.{◌≡◌, ◌∙◌, ◌↔◌, ◌<◌, ℕ, List, [], ◌∷◌, length, map, sym, ap, arith}
 use Rattle.std.proofs.lemmas.List.{length-map}
 use Rattle.std.proofs.lemmas.List.Elements.{All-nil, All-cons}
 use Rattle.wasm_spec.specs.TypeData.{Group, map_sub_type}
@@ -8,15 +8,11 @@ use Rattle.type_spec.specs.Interned.{Interned, Built, empty, with_group, kind_at
 use Rattle.type_spec.specs.Taken.{NameEarlier, taken_groups, TakeEqual, SameLists}
 use Rattle.type_spec.proofs.ByNames.{name_by}
 use Rattle.module_types.specs.Runs.{with_groups, AllFilled}
-use Rattle.module_types.proofs.Taking.{form, Stand, with_forms, number_in, whole}
+use Rattle.module_types.proofs.Taking.{form, Stand, number_in, whole}
 use Rattle.module_types.proofs.TakingBoth.{all-told}
 use Rattle.module_types.proofs.BuiltGroups.{groups_determined}
 
 module _ (all : List (Group ℕ ℕ)) (number : ℕ → ℕ) where
-  in-turn : (hs : List Home) (b : Built) → with_forms all number b hs ≡ with_groups b (map (form all number) hs)
-  in-turn [] b = refl
-  in-turn (h ∷ hs) b = in-turn hs (with_group b (form all number h))
-
   filled : (hs : List Home) (b : Built) → Stand all number b hs → AllFilled (map (form all number) hs)
   filled [] b x = All-nil (λ (ts : List Interned). 0 < length ts)
   filled (h ∷ hs) b x =
@@ -32,8 +28,8 @@ equal-lists ms ns near near' =
     let ks = taken_groups ns in
     let groups = map (form ms (number_in ms)) hs in
     let groups' = map (form ns (number_in ns)) ks in
-    let is : (taken ms).built ≡ with_groups empty groups = w.built ∙ in-turn ms (number_in ms) hs empty in
-    let is' : (taken ns).built ≡ with_groups empty groups' = w'.built ∙ in-turn ns (number_in ns) ks empty in
+    let is : (taken ms).built ≡ with_groups empty groups = w.built in
+    let is' : (taken ns).built ≡ with_groups empty groups' = w'.built in
     let both = all-told ms ns (number_in ms) (number_in ns) w.exact w'.exact hs ks empty [] w.stand w.covers w'.stand (λ i lt none. absurd none) in (
       (λ same. both.0 (groups_determined empty groups groups' (filled ms (number_in ms) hs empty w.stand) (filled ns (number_in ns) ks empty w'.stand)
           (sym (ap (λ (b : Built). b.types) is) ∙ same.types ∙ ap (λ (b : Built). b.types) is')

@@ -18,10 +18,7 @@ use Rattle.module_types.proofs.Steps.{composite-read}
 
 none-function : (c : WasmCompositeInnerType) → ((f : WasmFuncType) → c ≡ inner.Func f → ⊥) → IsTrue (is_function (inner_of c)) → ⊥
 none-function (inner.Func f) other is = other f refl
-none-function (inner.Array f) other is = absurd cc
-none-function (inner.Struct f) other is = absurd cc
-none-function (inner.Cont f) other is = absurd cc
-none-function (inner.Exn f) other is = absurd cc
+none-function c other is = absurd cc
 
 pub no-function : (ts : List WasmSubType) (i : ℕ) (x : WasmSubType) → slice_get ts i ≡ Some x
     → ((f : WasmFuncType) → x.composite_type.inner ≡ inner.Func f → ⊥) → IsTrue (is_function (composite_at (map interned_of ts) i)) → ⊥

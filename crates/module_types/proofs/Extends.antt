@@ -1,69 +1,47 @@
--- Steps leave the types and the groups that there are.
-use Rattle.std.proofs.Common.{◌≡◌, ◌<◌, ℕ, suc, List, [], ◌∷◌, ◌++◌, length, Bool, true, false, Option, Some, None, refl, ap, ◌∙◌, arith}
-use Rattle.std.specs.Prelude.{if◌then◌else◌}
-use Rattle.std.proofs.lemmas.List.{length-append}
-use Rattle.wasm_spec.specs.TypeData.{Composite, Func, Array, Struct, Cont, Exn}
-use Rattle.type_data.specs.Names.{Named}
-use Rattle.type_spec.specs.Interned.{Interned, Called, Built, mapped, same_mapped, plain, alone, knows, with_trampoline, assign_at, assign_trampoline, assign_trampolines, opened, with_group, Span, next_span}
+-- Groups after the others, and where they stand.
+use Rattle.std.proofs.Common.{◌≡◌, ◌<◌, ℕ, List, [], ◌∷◌, ◌++◌, length, get_or, take, ◌-◌, refl, ap, ◌∙◌, arith}
+use Rattle.std.proofs.lemmas.List.{append_assoc, length-append, get_or_at, get_or_append_left, drop_at, take_at}
+use Rattle.type_spec.specs.Interned.{Interned, Built, opened, with_group, next_span}
+use Rattle.module_types.specs.Conversion.{no_span}
+use Rattle.module_types.specs.ListGroups.{types_in}
 use Rattle.module_types.specs.Runs.{with_groups}
-use Rattle.module_types.proofs.GroupMembers.{no-more, append-again}
+use Rattle.module_types.proofs.GroupMembers.{Extends, extends-none, extends-both, extends-steps}
 
--- more types and groups after the others
-pub record Extends (b c : Built) : Type 0 where
-  pub types_more : List Interned
-  pub types : c.types ≡ b.types ++ types_more
-  pub groups_more : List Span
-  pub groups : c.groups ≡ b.groups ++ groups_more
+-- what a list has where a group was opened
+module _ (b : Built) (ts : List Interned) (c : Built) (x : Extends (opened b ts) c) where
+  pub types-apart : c.types ≡ b.types ++ (ts ++ x.types_more)
+  types-apart = x.types ∙ append_assoc b.types ts x.types_more
 
-pub extends-none : (b c : Built) → c.types ≡ b.types → c.groups ≡ b.groups → Extends b c
-extends-none b c types groups = record {
-  types_more = [];
-  types = types ∙ no-more b.types;
-  groups_more = [];
-  groups = groups ∙ no-more b.groups;
-}
+  pub groups-apart : c.groups ≡ b.groups ++ next_span b (length ts) ∷ x.groups_more
+  groups-apart = x.groups ∙ append_assoc b.groups (next_span b (length ts) ∷ []) x.groups_more
 
-pub extends-both : (b c d : Built) → Extends b c → Extends c d → Extends b d
-extends-both b c d x y = record {
-  types_more = x.types_more ++ y.types_more;
-  types = y.types ∙ ap (λ ts. ts ++ y.types_more) x.types ∙ append-again b.types x.types_more y.types_more;
-  groups_more = x.groups_more ++ y.groups_more;
-  groups = y.groups ∙ ap (λ ts. ts ++ y.groups_more) x.groups ∙ append-again b.groups x.groups_more y.groups_more;
-}
+  pub group-within : length b.groups < length c.groups
+  group-within = omega (arith, ap length groups-apart, length-append b.groups (next_span b (length ts) ∷ x.groups_more))
 
-extends-at : (b : Built) (i : ℕ) (f : Called) (o : Option ℕ) → Extends b (assign_at b i f o)
-extends-at b i f (Some k) = extends-none b (with_trampoline b i k) refl refl
-extends-at b i f None = by (same_mapped (mapped f) f) where
-  by : (own : Bool) → Extends b (if own then with_trampoline (knows b (mapped f) i) i i
-      else alone (with_trampoline (knows b (mapped f) (length b.types)) i (length b.types)) (plain (Func (mapped f))) (Some (length b.types)))
-  by true = extends-none b (with_trampoline (knows b (mapped f) i) i i) refl refl
-  by false = record { types_more = plain (Func (mapped f)) ∷ []; types = refl; groups_more = next_span b 1 ∷ []; groups = refl }
+  pub span-new : get_or c.groups (length b.groups) no_span ≡ next_span b (length ts)
+  span-new = ap (λ ss. get_or ss (length b.groups) no_span) groups-apart ∙ get_or_at b.groups (next_span b (length ts)) x.groups_more no_span (length b.groups) refl
 
-extends-assign_trampoline : (b : Built) (i : ℕ) (c : Composite (Named ℕ) ℕ) → Extends b (assign_trampoline b i c)
-extends-assign_trampoline b i (Func f) = extends-at b i f (b.known_trampolines (mapped f))
-extends-assign_trampoline b i (Array f) = extends-none b b refl refl
-extends-assign_trampoline b i (Struct fs) = extends-none b b refl refl
-extends-assign_trampoline b i (Cont f) = extends-none b b refl refl
-extends-assign_trampoline b i (Exn t) = extends-none b b refl refl
+  pub span-old : (n : ℕ) → n < length b.groups → get_or c.groups n no_span ≡ get_or b.groups n no_span
+  span-old n lt =
+      ap (λ ss. get_or ss n no_span) groups-apart ∙ get_or_append_left b.groups (next_span b (length ts) ∷ x.groups_more) no_span n lt
 
-extends-all : (b : Built) (i : ℕ) (ts : List Interned) → Extends b (assign_trampolines b i ts)
-extends-all b i [] = extends-none b b refl refl
-extends-all b i (t ∷ ts) =
-    extends-both b (assign_trampoline b i t.composite.inner) (assign_trampolines b i (t ∷ ts)) (extends-assign_trampoline b i t.composite.inner)
-    (extends-all (assign_trampoline b i t.composite.inner) (suc i) ts)
+  pub types-new : types_in c.types (next_span b (length ts)) ≡ ts
+  types-new =
+      let s = next_span b (length ts) in
+      ap (λ us. types_in us s) types-apart ∙ ap (take (s.end - s.start)) (drop_at b.types (ts ++ x.types_more) (length b.types) refl)
+      ∙ take_at ts x.types_more (s.end - s.start) (omega arith)
 
 pub extends-group : (b : Built) (ts : List Interned) → Extends (opened b ts) (with_group b ts)
-extends-group b ts = extends-all (opened b ts) (length b.types) ts
+extends-group b ts = extends-steps (opened b ts) (length b.types) ts
 
-pub extends-opened : (b : Built) (ts : List Interned) → Extends b (opened b ts)
-extends-opened b ts = record { types_more = ts; types = refl; groups_more = next_span b (length ts) ∷ []; groups = refl }
+pub extends-more : (b : Built) (ts : List Interned) → Extends b (with_group b ts)
+extends-more b ts =
+    extends-both b (opened b ts) (with_group b ts) (record { types_more = ts; types = refl; groups_more = next_span b (length ts) ∷ []; groups = refl })
+    (extends-group b ts)
 
 pub extends-groups : (b : Built) (tss : List (List Interned)) → Extends b (with_groups b tss)
-extends-groups b [] = extends-none b b refl refl
-extends-groups b (ts ∷ tss) =
-    extends-both b (with_group b ts) (with_groups b (ts ∷ tss))
-    (extends-both b (opened b ts) (with_group b ts) (extends-opened b ts) (extends-group b ts))
-    (extends-groups (with_group b ts) tss)
+extends-groups b [] = extends-none b
+extends-groups b (ts ∷ tss) = extends-both b (with_group b ts) (with_groups b (ts ∷ tss)) (extends-more b ts) (extends-groups (with_group b ts) tss)
 
 -- the first group, and what comes after it
 pub first-group : (b : Built) (ts : List Interned) (tss : List (List Interned)) → Extends (opened b ts) (with_groups b (ts ∷ tss))
@@ -74,4 +52,4 @@ first-group b ts tss =
 pub longer : (b : Built) (ts : List Interned) (tss : List (List Interned)) → 0 < length ts → b.types ≡ (with_groups b (ts ∷ tss)).types → ⊥
 longer b ts tss filled same =
     let x = first-group b ts tss in
-    omega (arith, filled, ap length (same ∙ x.types), length-append (b.types ++ ts) x.types_more, length-append b.types ts)
+    omega (arith, filled, ap length (same ∙ types-apart b ts (with_groups b (ts ∷ tss)) x), length-append b.types (ts ++ x.types_more), length-append ts x.types_more)

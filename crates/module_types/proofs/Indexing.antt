@@ -1,11 +1,12 @@
 -- The index of the type of an id.
 use Rattle.std.proofs.Common.{◌≡◌, ◌≤◌, ◌<◌, ℕ, ◌+◌, ◌-◌, List, [], ◌∷◌, length, get_or, Option, Some, None, sym, ap, ◌∙◌, arith}
 use Rattle.std.specs.Prelude.{slice_get}
+use Rattle.std.proofs.lemmas.Option.{get_or_from_slice_get}
 use Rattle.wasm_spec.specs.declared.types.CoreTypeId.{CoreTypeId}
 use Rattle.type_spec.specs.Interned.{Span}
 use Rattle.form_types.specs.Types.{TypesData, group_numbers, member_ids}
 use Rattle.module_types.specs.Conversion.{first_id, members_of, start_by, index_by_id, StandsInterned, HasIndex, no_span}
-use Rattle.module_types.proofs.Places.{get-or, group-is, filled, starts, within, ids-are, head-of, some-ids}
+use Rattle.module_types.proofs.Places.{group-is, filled, starts, within, ids-are, head-of, some-ids}
 
 module _ (t : TypesData) (n k : ℕ) (e : slice_get (group_numbers 0 t.groups) n ≡ Some k) (known : k < length t.groups)
     (all : List CoreTypeId) (are : slice_get (member_ids 0 t.groups) k ≡ Some all) where
@@ -28,12 +29,12 @@ module _ (t : TypesData) (n k : ℕ) (e : slice_get (group_numbers 0 t.groups) n
           (λ j. start_by t next spans ids (ids (group-is t n k e j)) + (n - first_id t.groups (group-is t n k e j)))
           ∙ (λ j. start_by t next spans ids (held j) + (n - sym first-is j))
 
-      pub stands : (j : ℕ) → ids k ≡ Some j → StandsInterned t next spans ids k j
-      stands j held = coe 0 1 (i. StandsInterned t next spans ids (group-is t n k e i) j) (has.stands j (ap ids (group-is t n k e) ∙ held))
+      pub stands : (j : ℕ) → ids k ≡ Some j → StandsInterned t spans k j
+      stands j held = coe 0 1 (i. StandsInterned t spans (group-is t n k e i) j) (has.stands j (ap ids (group-is t n k e) ∙ held))
 
       module _ (j : ℕ) (held : ids k ≡ Some j) (s : Span) (at : slice_get spans j ≡ Some s) where
         span-is : get_or spans j no_span ≡ s
-        span-is = get-or spans j s no_span at
+        span-is = get_or_from_slice_get spans j s no_span at
 
         pub held-within : s.start + (n - first.0) < s.end
         held-within =

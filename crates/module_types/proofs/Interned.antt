@@ -14,11 +14,8 @@ use Rattle.module_types.specs.Converter.{interned_name}
 use Rattle.module_types.proofs.Steps.{composite-read}
 
 kind-kept : (c : WasmCompositeInnerType) → kind_of_type (composite_of c) ≡ kind_of_type (inner_of c)
-kind-kept (inner.Array t) = refl
 kind-kept (inner.Func t) = refl
-kind-kept (inner.Struct t) = refl
-kind-kept (inner.Cont t) = refl
-kind-kept (inner.Exn t) = refl
+kind-kept c = refl
 
 abbrev named_as : WasmSubType → ℕ → Name
 named_as t n = record { kind = kind_of_type (composite_of t.composite_type.inner); index = index_at n }

@@ -7,7 +7,7 @@ use Rattle.wasm_spec.specs.declared.types.AbstractHeapType.TheVariants as abstra
 use Rattle.wasm_spec.specs.TypeData as types
 use Rattle.wasm_spec.specs.TypeData.{map_heap, map_value}
 use Rattle.type_data.specs.Shapes.{erased}
-use Rattle.type_data.specs.Names.{NameKind, FuncName, ArrayName, StructName, ContName, ExnName, Named, named}
+use Rattle.type_data.specs.Names.{NameKind, FuncName, Named, named}
 use Rattle.type_spec.specs.Same.{same_heap, same_value}
 use Rattle.type_spec.specs.Interned.{Called, top, passed, mapped, same_mapped}
 use Rattle.wasm_types.specs.declared.heap.WasmHeapType.{WasmHeapType}
@@ -27,10 +27,7 @@ use Rattle.module_types.specs.Views.{plain_heap, plain_value, interned_number, c
 
 concrete-back : (k : NameKind) (n : ℕ) → plain_heap (heap_at (types.Concrete (record { kind = k; index = n }))) ≡ types.Concrete (record { kind = k; index = n })
 concrete-back FuncName n = refl
-concrete-back ArrayName n = refl
-concrete-back StructName n = refl
-concrete-back ContName n = refl
-concrete-back ExnName n = refl
+concrete-back k n = refl
 
 abstract-back : (a : AbstractHeapType) → plain_heap (heap_at (types.Abstract a)) ≡ types.Abstract a
 abstract-back abstract.Func = refl
@@ -76,30 +73,14 @@ called-mapped f = ap called_of (mapped-is f) ∙ function-back (mapped (called_o
 heap-is : (a : AbstractHeapType) (b : WasmHeapType)
     → heaps.ghosts.eq (heap_at (types.Abstract a)) b ≡ same_heap (types.Abstract a) (map_heap erased (plain_heap b))
 heap-is abstract.Func heap.Func = refl
-heap-is abstract.Extern heap.Func = refl
-heap-is abstract.Any heap.Func = refl
-heap-is abstract.None heap.Func = refl
-heap-is abstract.NoExtern heap.Func = refl
-heap-is abstract.NoFunc heap.Func = refl
-heap-is abstract.Eq heap.Func = refl
-heap-is abstract.Struct heap.Func = refl
-heap-is abstract.Array heap.Func = refl
-heap-is abstract.I31 heap.Func = refl
-heap-is abstract.Exn heap.Func = refl
-heap-is abstract.NoExn heap.Func = refl
-heap-is abstract.Cont heap.Func = refl
-heap-is abstract.NoCont heap.Func = refl
-heap-is _ _ = refl
+heap-is a heap.Func = refl
+heap-is a b = refl
 
 value-is : (v : types.Value (Named ℕ)) (b : WasmValType)
     → values.ghosts.eq (value_at (passed v)) b ≡ same_value (map_value erased (passed v)) (map_value erased (plain_value b))
 value-is (types.Ref r) (val.Ref s) = ap (λ t. beq true s.nullable && t) (heap-is (top r.heap) s.heap_type)
-value-is types.I32 val.I32 = refl
-value-is types.I64 val.I32 = refl
-value-is types.F32 val.I32 = refl
-value-is types.F64 val.I32 = refl
-value-is types.V128 val.I32 = refl
-value-is _ _ = refl
+value-is v val.I32 = refl
+value-is v w = refl
 
 values-are : (vs : List (types.Value (Named ℕ))) (ws : List WasmValType)
     → pointwise values.ghosts.eq (map value_at (map passed vs)) ws

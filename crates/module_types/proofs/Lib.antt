@@ -14,6 +14,7 @@ pub mod Places
 pub mod Indexing
 pub mod Convertible
 pub mod Extends
+pub mod WholeLists
 pub mod BuiltGroups
 pub mod Runs
 pub mod Holding
@@ -23,6 +24,7 @@ pub mod Tying
 pub mod Called
 pub mod Interned
 pub mod Taking
+pub mod Telling
 pub mod TakingBoth
 pub mod EqualLists
 pub mod WellNamed

@@ -2,7 +2,7 @@
 use Rattle.std.proofs.Common.{◌≡◌, ℕ, true, List, [], ◌∷◌, map, refl, sym, ap, ◌∙◌}
 use Rattle.wasm_spec.specs.declared.types.AbstractHeapType.TheVariants as heap
 use Rattle.wasm_spec.specs.TypeData as types
-use Rattle.type_data.specs.Names.{NameKind, FuncName, ArrayName, StructName, ContName, ExnName, Named}
+use Rattle.type_data.specs.Names.{NameKind, FuncName, Named}
 use Rattle.type_spec.specs.Interned.{Called, top_of_kind, top_of_heap, top, passed, mapped, same_mapped}
 use Rattle.wasm_types.specs.declared.func.WasmFuncType.{WasmFuncType}
 use Rattle.wasm_types.specs.contracts.equal.WasmFuncTypePartialEq.TheImpl as func
@@ -12,10 +12,7 @@ use Rattle.module_types.proofs.Keys.{function-back, mapped-is, called-mapped, ke
 
 kind-twice : (k : NameKind) → top_of_heap (top_of_kind k) ≡ top_of_kind k
 kind-twice FuncName = refl
-kind-twice ArrayName = refl
-kind-twice StructName = refl
-kind-twice ContName = refl
-kind-twice ExnName = refl
+kind-twice k = refl
 
 top-twice : (h : types.Heap (Named ℕ)) → top_of_heap (top h) ≡ top h
 top-twice (types.Concrete n) = kind-twice n.kind

@@ -1,29 +1,27 @@
 -- The interned list of a module is well named.
-use Rattle.std.proofs.Common.{◌≡◌, ◌∙◌, ◌<◌, ◌≤◌, inl, inr, ℕ, zero, suc, ◌+◌, ◌-◌, Bool, true, false, None, List, [], ◌∷◌, ◌++◌, length, get_or, map, refl, sym, ap, subst, arith, length-append}
+use Rattle.std.proofs.Common.{◌≡◌, ◌∙◌, ◌<◌, ◌≤◌, inl, inr, ℕ, zero, suc, ◌+◌, ◌-◌, Bool, true, false, None, List, [], ◌∷◌, ◌++◌, length, get_or, refl, sym, ap, subst, arith, length-append}
 use Rattle.std.specs.List.{All}
-use Rattle.std.proofs.lemmas.Bool.{ltb-true, ltb-false}
-use Rattle.std.proofs.lemmas.List.{length-map, get_or_past}
-use Rattle.std.proofs.lemmas.List.Elements.{All-nil, All-map, All-weaker, All-cons}
-use lib.Dec.{ltb}
+use Rattle.std.specs.Prelude.{◌⊎◌}
+use Rattle.std.proofs.lemmas.Bool.{cases_lt}
+use Rattle.std.proofs.lemmas.List.{length-map, length_push, get_or_past}
+use Rattle.std.proofs.lemmas.List.Elements.{All-nil, All-map, All-weaker}
 use Rattle.wasm_spec.specs.TypeData.{Struct, SubType, Group, map_sub_type, map_group, group_edges}
 use Rattle.type_data.specs.Shapes.{erased}
 use Rattle.type_data.specs.TypeShapes.{group_shape}
 use Rattle.type_data.specs.Names.{NameKind, plainly}
 use Rattle.type_spec.specs.Equality.{Home}
-use Rattle.type_spec.specs.Interned.{Interned, Built, empty, with_group, kind_of_type, kind_at, taken, interned, with_exceptions}
+use Rattle.type_spec.specs.Interned.{Interned, Built, empty, with_group, plain, exception_for, composite_at, startup_type, kind_of_type, kind_at, taken, interned}
 use Rattle.type_spec.specs.Taken.{NameEarlier, taken_groups}
 use Rattle.type_spec.proofs.Homes.{size}
 use Rattle.type_spec.proofs.ByNames.{name_by, by_names, names-same, names-plain, zip-known-itself, home-kind, same-kind}
 use Rattle.module_types.specs.ListGroups.{unkinded, kind_in, IsWellNamed}
 use Rattle.module_types.proofs.Taking.{IsCopy, Covers, form, Next, Stand, IsExactBelow, with_forms, number_in, whole}
 use Rattle.module_types.proofs.TakingBoth.{next-home, next-place, next-number}
+use Rattle.module_types.proofs.GroupMembers.{composite-behind}
 use Rattle.module_types.proofs.WellNamed.{kind-mapped, AllBelow, Well, kind-before}
-use Rattle.module_types.proofs.NamedSteps.{group-steps, steps-exceptions, steps-startup}
-
--- the kinds of types that are appended
-kind-behind : (ts us : List Interned) (p : ℕ) → kind_in (ts ++ us) (length ts + p) ≡ kind_in us p
-kind-behind [] us p = let at : 0 + p ≡ p = omega arith in ap (kind_in us) at
-kind-behind (t ∷ ts) us p = let at : length (t ∷ ts) + p ≡ suc (length ts + p) = omega arith in ap (kind_in (t ∷ (ts ++ us))) at ∙ kind-behind ts us p
+use Rattle.module_types.proofs.Extends.{extends-group}
+use Rattle.module_types.proofs.WholeLists.{through-interned}
+use Rattle.module_types.proofs.NamedSteps.{well-group, well-exception, well-startup}
 
 abbrev some_member : SubType (Unit {0}) (Unit {0})
 some_member = record { is_final = true; supertype = None; composite = record { inner = Struct []; shared = false } }
@@ -56,25 +54,25 @@ module _ (all : List (Group ℕ ℕ)) (number : ℕ → ℕ) (exact : IsExactBel
         let inside : p < length h.members = omega (arith, low, high) in
         let at = next-home all number b h x r low high in
         let place = next-place all number b h x r low high in
-        ap (kind_in (b.types ++ next)) (next-number all number b h x r low high) ∙ kind-behind b.types next p
+        ap (kind_in (b.types ++ next)) (next-number all number b h x r low high) ∙ ap kind_of_type (composite-behind b.types next p)
         ∙ member-named (kind_at all) number h.members p inside
         ∙ (λ t. kind_of_type (get_or (map_group (erased {R = ℕ}) (erased {R = ℕ}) (sym at t).members) (sym place t) some_member).composite.inner)
         ∙ sym (home-kind all r (omega (arith, high, x.inside)))
 
     module _ (there : (i : ℕ) → i < size all → i < h.start → IsThere b i) where
       reference-below : (r : ℕ) → r < h.start + length h.members → number r < length b.types + length next
-      reference-below r lt = by (ltb r h.start) refl where
-        by : (c : Bool) → ltb r h.start ≡ c → number r < length b.types + length next
-        by true e = let before = x.below r (ltb-true r h.start e) in omega (arith, before)
-        by false e = let low = ltb-false r h.start e in omega (arith, next-number all number b h x r low lt, low, lt, long)
+      reference-below r lt =
+          elim (cases_lt r h.start) [
+            | inl old ↦ let before = x.below r old in omega (arith, before)
+            | inr low ↦ omega (arith, next-number all number b h x r low lt, low, lt, long)
+          ]
 
       reference-kind : (r : ℕ) → r < h.start + length h.members → kind_in (b.types ++ next) (number r) ≡ kind_at all r
-      reference-kind r lt = by (ltb r h.start) refl where
-        by : (c : Bool) → ltb r h.start ≡ c → kind_in (b.types ++ next) (number r) ≡ kind_at all r
-        by true e =
-            let is = there r (omega (arith, lt, x.inside)) (ltb-true r h.start e) in
-            kind-before b.types next (number r) is.lt ∙ is.kind
-        by false e = member-kind r (ltb-false r h.start e) lt
+      reference-kind r lt =
+          elim (cases_lt r h.start) [
+            | inl old ↦ let is = there r (omega (arith, lt, x.inside)) old in kind-before b.types next (number r) is.lt ∙ is.kind
+            | inr low ↦ member-kind r low lt
+          ]
 
       next-below : AllBelow (length b.types + length next) (unkinded next)
       next-below =
@@ -97,8 +95,8 @@ module _ (all : List (Group ℕ ℕ)) (number : ℕ → ℕ) (exact : IsExactBel
       module _ (done : List Home) (found : (i : ℕ) → i < size all → IsCopy all done i → IsThere b i) where
         there-more : (i : ℕ) → i < size all → IsCopy all (h ∷ done) i → IsThere (with_group b next) i
         there-more i lt copy =
-            let s = group-steps b next (omega (arith, x.some, long)) in
-            let whole = ap length s.types ∙ length-append (b.types ++ next) s.more in
+            let s = extends-group b next in
+            let whole = ap length s.types ∙ length-append (b.types ++ next) s.types_more in
             elim copy [
               | inl c ↦
                   let r = h.start + c.member in
@@ -108,7 +106,7 @@ module _ (all : List (Group ℕ ℕ)) (number : ℕ → ℕ) (exact : IsExactBel
                   (arith, same, x.numbers c.member c.lt, c.lt, long, length-append b.types next) in
                   record {
                     lt = omega (arith, at, whole);
-                    kind = ap (λ ts. kind_in ts (number i)) s.types ∙ kind-before (b.types ++ next) s.more (number i) at
+                    kind = ap (λ ts. kind_in ts (number i)) s.types ∙ kind-before (b.types ++ next) s.types_more (number i) at
                         ∙ ap (kind_in (b.types ++ next)) same ∙ member-kind r (omega arith) (omega (arith, c.lt))
                         ∙ sym (same-kind all all i r lt inside c.same);
                   }
@@ -117,7 +115,7 @@ module _ (all : List (Group ℕ ℕ)) (number : ℕ → ℕ) (exact : IsExactBel
                   let at : number i < length (b.types ++ next) = omega (arith, is.lt, length-append b.types next) in
                   record {
                     lt = omega (arith, at, whole);
-                    kind = ap (λ ts. kind_in ts (number i)) s.types ∙ kind-before (b.types ++ next) s.more (number i) at
+                    kind = ap (λ ts. kind_in ts (number i)) s.types ∙ kind-before (b.types ++ next) s.types_more (number i) at
                         ∙ kind-before b.types next (number i) is.lt ∙ is.kind;
                   }
             ]
@@ -128,9 +126,8 @@ module _ (all : List (Group ℕ ℕ)) (number : ℕ → ℕ) (exact : IsExactBel
   well-forms [] b done x covers found w = w
   well-forms (h ∷ hs) b done x covers found w =
       let there : (i : ℕ) → i < size all → i < h.start → IsThere b i = λ i lt before. found i lt (covers.0 i before) in
-      let s = group-steps b (form all number h) (omega (arith, x.0.some, long b h x.0)) in
       well-forms hs (with_group b (form all number h)) (h ∷ done) x.1 covers.1 (there-more b h x.0 there done found)
-      (s.well w (next-below b h x.0 there) (next-kinds b h x.0 there))
+      (well-group b (form all number h) (omega (arith, x.0.some, long b h x.0)) w (next-below b h x.0 there) (next-kinds b h x.0 there))
 
 well-empty : Well [] []
 well-empty = record { orderly = refl; earlier = tt; below = All-nil (λ r. r < 0); kinds = refl }
@@ -140,18 +137,13 @@ well-named ms near tags startup =
     let w = whole ms near in
     let first = well-forms ms (number_in ms) w.exact (taken_groups ms) empty [] w.stand w.covers (λ i lt none. absurd none) well-empty in
     let built : Well (taken ms).built.types (taken ms).built.groups = coe 0 1 (t. Well (sym w.built t).types (sym w.built t).groups) first in
-    let low : (i : ℕ) → number_in ms i ≤ length (taken ms).built.types = λ i. by i (ltb i (size ms)) refl in
-    let all = with_exceptions (taken ms).built [] (map (number_in ms) tags) in
-    let s = steps-exceptions (map (number_in ms) tags) (taken ms).built [] (All-map (λ i. i ≤ length (taken ms).built.types) (number_in ms) tags
-    (each low tags)) in
-    let end = (steps-startup all startup).well (s.well built) in
-    record { orderly = end.orderly; earlier = end.earlier; kinds = end.kinds } where
-      by : (i : ℕ) (c : Bool) → ltb i (size ms) ≡ c → number_in ms i ≤ length (taken ms).built.types
-      by i true e = let lt = (whole ms near).below i (ltb-true i (size ms) e) in omega (arith, lt)
-      by i false e =
-          let past : number_in ms i ≡ 0 = get_or_past (taken ms).declared i 0 (omega (arith, ltb-false i (size ms) e, (whole ms near).counted)) in
-          omega (arith, past)
-
-      each : ((i : ℕ) → number_in ms i ≤ length (taken ms).built.types) → (is : List ℕ) → All (λ i. number_in ms i ≤ length (taken ms).built.types) is
-      each low [] = All-nil (λ i. number_in ms i ≤ length (taken ms).built.types)
-      each low (i ∷ is) = All-cons (λ i. number_in ms i ≤ length (taken ms).built.types) i is (low i) (each low is)
+    let n = length (taken ms).built.types in
+    let end = through-interned (λ b. Well b.types b.groups × (n ≤ length b.types)) (λ i. i ≤ n)
+    (λ b i le p. (well-exception b i (omega (arith, le, p.1)) p.0, omega (arith, p.1, length_push b.types (plain (exception_for i (composite_at b.types i))))))
+    (λ b p. (well-startup b p.0, omega (arith, p.1, length_push b.types startup_type))) ms tags startup (λ i. low i (cases_lt i (size ms))) (built, omega arith) in
+    record { orderly = end.0.orderly; earlier = end.0.earlier; kinds = end.0.kinds } where
+      low : (i : ℕ) → (i < size ms) ⊎ (size ms ≤ i) → number_in ms i ≤ length (taken ms).built.types
+      low i (inl lt) = let below = (whole ms near).below i lt in omega (arith, below)
+      low i (inr past) =
+          let nowhere : number_in ms i ≡ 0 = get_or_past (taken ms).declared i 0 (omega (arith, past, (whole ms near).counted)) in
+          omega (arith, nowhere)

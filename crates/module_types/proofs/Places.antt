@@ -2,15 +2,11 @@
 use Rattle.std.proofs.Common.{◌≡◌, ◌≤◌, ◌<◌, ℕ, zero, suc, ◌+◌, ◌-◌, List, [], ◌∷◌, ◌++◌, length, get_or, replicate, Some, sym, ap, ◌∙◌, inl, inr, arith}
 use Rattle.std.specs.Prelude.{slice_get, ◌⊎◌}
 use Rattle.std.proofs.lemmas.List.{length-append}
+use Rattle.std.proofs.lemmas.Option.{get_or_from_slice_get}
 use Rattle.wasm_spec.specs.declared.types.CoreTypeId.{CoreTypeId}
 use Rattle.form_types.specs.Ids.{ids_from}
 use Rattle.form_types.specs.Types.{NamedGroup, TypesData, types_by_id, group_numbers, member_ids}
 use Rattle.module_types.specs.Conversion.{first_id, group_of_id}
-
-pub get-or : {A : Type 0} (xs : List A) (i : ℕ) (x d : A) → slice_get xs i ≡ Some x → get_or xs i d ≡ x
-get-or [] i x d e = absurd cc
-get-or (y ∷ ys) zero x d e = cc
-get-or (y ∷ ys) (suc i) x d e = get-or ys i x d e
 
 in-parts : (m v : ℕ) (rest : List ℕ) (n k : ℕ) → slice_get (replicate m v ++ rest) n ≡ Some k
     → ((n < m) × (v ≡ k)) ⊎ ((m ≤ n) × (slice_get rest (n - m) ≡ Some k))
@@ -43,7 +39,7 @@ is-in base (g ∷ gs) n k e =
 
 module _ (t : TypesData) (n k : ℕ) (e : slice_get (group_numbers 0 t.groups) n ≡ Some k) where
   pub group-is : group_of_id t n ≡ k
-  group-is = get-or (group_numbers 0 t.groups) n k 0 e
+  group-is = get_or_from_slice_get (group_numbers 0 t.groups) n k 0 e
 
   abbrev found : IsIn 0 t.groups n k
   found = is-in 0 t.groups n k e

@@ -1,13 +1,13 @@
 -- The groups that are taken of two lists become equal groups exactly where they are equal in turn.
-use Rattle.std.proofs.Common.{◌≡◌, ◌∙◌, ◌↔◌, inl, inr, ℕ, ◌+◌, ◌-◌, ◌<◌, ◌≤◌, Bool, true, false, nat_le, List, [], ◌∷◌, length, map, refl, sym, ap, subst, arith}
+use Rattle.std.proofs.Common.{◌≡◌, ◌∙◌, ◌↔◌, inl, inr, ℕ, ◌+◌, ◌-◌, ◌<◌, ◌≤◌, List, [], ◌∷◌, length, map, refl, sym, ap, subst, arith}
 use Rattle.std.specs.List.{AllZip}
-use Rattle.std.proofs.lemmas.Bool.{leb-true, leb-false}
-use Rattle.wasm_spec.specs.TypeData.{Group, group_edges}
-use Rattle.type_spec.specs.Equality.{Home, target, target_by, home, SameTarget, SameGroup, SameType}
+use Rattle.wasm_spec.specs.TypeData.{Group}
+use Rattle.type_spec.specs.Equality.{Home, home, SameGroup, SameType}
 use Rattle.type_spec.specs.Interned.{Built, with_group, kind_at}
-use Rattle.type_spec.proofs.Equivalence.{type-turned, type-chained, groups-type, groups-long}
+use Rattle.type_spec.proofs.Equivalence.{type-turned, type-chained, groups-long}
 use Rattle.type_spec.proofs.Homes.{size, home-again}
-use Rattle.type_spec.proofs.ByNames.{name_by, names-same, same-names, zip-known, same-kind}
+use Rattle.type_spec.proofs.ByNames.{same-kind}
+use Rattle.module_types.proofs.Telling.{Tells, same-at, told}
 use Rattle.module_types.proofs.Taking.{IsCopy, Covers, form, Next, Stand, IsExactBelow}
 
 -- a type of the group that comes next, by its place in the list
@@ -50,72 +50,25 @@ module _ (ms ns : List (Group ℕ ℕ)) (number number' : ℕ
 
   module _ (b : Built) (h k : Home) (x : Next ms number b h) (y : Next ns number' b k) (bridges : (i : ℕ) → i < size ms → i < h.start
       → Bridge i) where
-    abbrev InH : ℕ → Type 0
-    InH r = r < h.start + length h.members
-
-    abbrev InK : ℕ → Type 0
-    InK r = r < k.start + length k.members
-
-    to : (r s : ℕ) → InH r → InK s → number r ≡ number' s → (c d : Bool) → nat_le h.start r ≡ c → nat_le k.start s ≡ d
-        → SameTarget Same (target_by c (r - h.start) r) (target_by d (s - k.start) s)
-    to r s p q same true true e f =
-        omega (arith, same, next-number ms number b h x r (leb-true h.start r e) p, next-number ns number' b k y s (leb-true k.start s f) q)
-    to r s p q same true false e f =
-        absurd (omega (arith, same, next-number ms number b h x r (leb-true h.start r e) p, y.below s (leb-false k.start s f)))
-    to r s p q same false true e f =
-        absurd (omega (arith, same, next-number ns number' b k y s (leb-true k.start s f) q, x.below r (leb-false h.start r e)))
-    to r s p q same false false e f =
-        (across r s (bridges r (omega (arith, p, x.inside)) (leb-false h.start r e)) (omega (arith, q, y.inside))).0 same
-
-    module _ (groups : SameGroup Same h k) where
-      same-at : (r s : ℕ) → InH r → InK s → h.start ≤ r → k.start ≤ s → r - h.start ≡ s - k.start → SameType ms ns r s
-      same-at r s p q low low' at =
-          groups-type ms ns r s (next-place ms number b h x r low p ∙ at ∙ sym (next-place ns number' b k y s low' q))
-          (coe 0 1 (t. SameGroup Same (sym (next-home ms number b h x r low p) t) (sym (next-home ns number' b k y s low' q) t)) groups)
-
-      -- equal references name equal types, which have one number
-      pub record Tied (r s : ℕ) : Type 0 where
-        pub number_is : number r ≡ number' s
-        pub same : SameType ms ns r s
-
-      from : (r s : ℕ) → InH r → InK s → (c d : Bool) → nat_le h.start r ≡ c → nat_le k.start s ≡ d
-          → SameTarget Same (target_by c (r - h.start) r) (target_by d (s - k.start) s) → Tied r s
-      from r s p q true true e f same =
-          let low = leb-true h.start r e in
-          let low' = leb-true k.start s f in
-          record {
-            number_is = next-number ms number b h x r low p ∙ ap (λ n. length b.types + n) same ∙ sym (next-number ns number' b k y s low' q);
-            same = same-at r s p q low low' same;
-          }
-      from r s p q true false e f same = absurd same
-      from r s p q false true e f same = absurd same
-      from r s p q false false e f same = record {
-        number_is = (across r s (bridges r (omega (arith, p, x.inside)) (leb-false h.start r e)) (omega (arith, q, y.inside))).1 same;
-        same = same;
-      }
-
-      names : (r s : ℕ) → InH r → InK s → SameTarget Same (target (λ i. i) h.start r) (target (λ i. i) k.start s)
-          → name_by (kind_at ms) number r ≡ name_by (kind_at ns) number' s
-      names r s p q same =
-          let t = from r s p q (nat_le h.start r) (nat_le k.start s) refl refl same in
-          let kind = same-kind ms ns r s (omega (arith, p, x.inside)) (omega (arith, q, y.inside)) t.same in
-          λ i. record { kind = kind i; index = t.number_is i }
+    tells : Tells ms ns h k (h.start + length h.members) (k.start + length k.members) (kind_at ms) (kind_at ns) number number'
+    tells = record {
+      near = x.near;
+      near' = y.near;
+      home_is = next-home ms number b h x;
+      home_is' = next-home ns number' b k y;
+      inside = λ r s low p low' q.
+          let one = next-number ms number b h x r low p in
+          let two = next-number ns number' b k y s low' q in
+          ((λ e. omega (arith, e, one, two)), (λ e. one ∙ ap (λ n. length b.types + n) e ∙ sym two));
+      outside = λ r s low p low' q. across r s (bridges r (omega (arith, p, x.inside)) low) (omega (arith, q, y.inside));
+      apart = λ r s low p low' e. omega (arith, e, next-number ms number b h x r low p, y.below s low');
+      apart' = λ r s low low' q e. omega (arith, e, next-number ns number' b k y s low' q, x.below r low);
+      kinds = λ r s p q same. same-kind ms ns r s (omega (arith, p, x.inside)) (omega (arith, q, y.inside)) same;
+    }
 
     -- two groups that come next become equal groups exactly where they are equal
     pub forms-told : (form ms number h ≡ form ns number' k) ↔ SameGroup Same h k
-    forms-told = (
-      (λ same.
-          let alike = same-names (kind_at ms) (kind_at ns) number number' h.members k.members same in
-          record {
-            frames = alike.frames;
-            edges = zip-known InH InK _ _ (λ r s p q e. to r s p q e (nat_le h.start r) (nat_le k.start s) refl refl)
-                (group_edges (λ r. r) h.members) (group_edges (λ r. r) k.members) x.near y.near alike.edges;
-          }),
-      (λ groups. names-same (kind_at ms) (kind_at ns) number number' h.members k.members (record {
-        frames = groups.frames;
-        edges = zip-known InH InK _ _ (names groups) (group_edges (λ r. r) h.members) (group_edges (λ r. r) k.members) x.near y.near groups.edges;
-      })),
-    )
+    forms-told = told ms ns h k (h.start + length h.members) (k.start + length k.members) (kind_at ms) (kind_at ns) number number' tells
 
     module _ (groups : SameGroup Same h k) (done : List Home) (bridged : (i : ℕ) → i < size ms → IsCopy ms done i → Bridge i) where
       bridge-more : (i : ℕ) → i < size ms → IsCopy ms (h ∷ done) i → Bridge i
@@ -129,7 +82,8 @@ module _ (ms ns : List (Group ℕ ℕ)) (number number' : ℕ
                   other = k.start + p;
                   lt = omega (arith, c.lt, long, y.inside);
                   same = type-chained ms ms ns i (h.start + p) (k.start + p) c.same
-                      (same-at groups (h.start + p) (k.start + p) (omega (arith, c.lt)) (omega (arith, c.lt, long)) (omega arith) (omega arith) at);
+                      (same-at ms ns h k (h.start + length h.members) (k.start + length k.members) (kind_at ms) (kind_at ns) number number' tells groups
+                      (h.start + p) (k.start + p) (omega arith) (omega (arith, c.lt)) (omega arith) (omega (arith, c.lt, long)) at);
                   number_is = (exact i (h.start + p) lt (omega (arith, c.lt, x.inside))).1 c.same ∙ x.numbers p c.lt
                       ∙ sym (y.numbers p (omega (arith, c.lt, long)));
                 }
