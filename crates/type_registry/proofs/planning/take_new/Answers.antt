@@ -1,10 +1,9 @@
 use Rattle.std.proofs.Common.{arith, ◌≡◌, ◌∙◌, ◌++◌, ◌-◌, ℕ, length, map, take, sym, ap}
-use Rattle.std.proofs.lemmas.List.{length-map, length-append}
+use Rattle.std.proofs.lemmas.List.{length-map, length-append, take-append-le, take_all}
 use Rattle.type_spec.specs.Interned.{Span}
 use Rattle.wasm_index.specs.Index.{number_of}
 use Rattle.type_registry.specs.Registry.{Group, Module, indices_of}
 use Rattle.type_registry.specs.Changes.{canonical_data, free_indices}
-use Rattle.type_registry.proofs.Copies.{take-front}
 use Rattle.type_registry.proofs.FreeIndices.{free-length}
 use Rattle.type_registry.proofs.planning.take_new.Goals as goal
 
@@ -64,7 +63,7 @@ fresh_group-requires-clause-canonical c =
     let whole : map number_of c.deref-2.result.now ≡ old ++ new =
     ap (map number_of) c.deref-2.ensures.value ∙ ap (λ (m : Module). m.indices) (c.listed.view_is ∙ c.in_ok-take.ensures) in
     c.requires.canonical
-    ∙ ap (λ is. canonical_data c.args.source.types.now is s) (sym (ap (take c.args.start) whole ∙ take-front old new c.args.start c.requires.long))
+    ∙ ap (λ is. canonical_data c.args.source.types.now is s) (sym (ap (take c.args.start) whole ∙ take-append-le c.args.start old new (omega (arith, c.requires.long)) ∙ take_all c.args.start old (omega (arith, c.requires.long))))
 
 pub push-requires-clause-few : goal.push-requires-clause-few
 push-requires-clause-few c =

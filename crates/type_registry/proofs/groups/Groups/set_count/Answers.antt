@@ -1,10 +1,11 @@
 use Rattle.std.proofs.Common.{rules, arith, ◌≡◌, ◌∙◌, List, length, set, nat_eq, Option, Some, None, sym, ap, subst, length-set}
+use Rattle.std.proofs.lemmas.List.{set-set}
 use Rattle.std.specs.Map.{lookup}
 use Rattle.type_registry.specs.contracts.kept.Kept as kept
 use Rattle.type_registry.specs.Registry.{Group, Groups}
 use Rattle.type_registry.specs.Changes.{with_count}
 use Rattle.type_registry.specs.Keeping.{kept_from, group_in, AreKept, shared_content, first_of}
-use Rattle.type_registry.proofs.FirstIndices.{set-nothing, set-twice, count-none, count-at, group-within}
+use Rattle.type_registry.proofs.FirstIndices.{set-nothing, count-none, count-at, group-within}
 use Rattle.type_registry.proofs.Dropping.{kept-counted}
 use Rattle.type_registry.proofs.groups.Groups.set_count.Goals as goal
 
@@ -43,7 +44,7 @@ invariant_of-self-2 c =
     let h : Group = record g { count = c.args.count } in
     let at : group_in gs f ≡ Some g = sym c.take_at.ensures.taken ∙ c.in-Some.is ∙ ap Some (sym c.group.view_is) in
     let now : set c.take_at.new.kept.items f (Some h) ≡ set gs f (Some h) =
-    ap (λ (l : List (Option Group)). set l f (Some h)) c.take_at.ensures.left ∙ set-twice gs f None (Some h) in
+    ap (λ (l : List (Option Group)). set l f (Some h)) c.take_at.ensures.left ∙ set-set gs f None (Some h) in
     subst (λ (l : List (Option Group)). AreKept shared_content c.self.inside.live (first_of c.self.inside.known) l c.self.inside.owners.items c.self.inside.free)
     (sym now)
     (kept-counted shared_content c.self.inside.live (first_of c.self.inside.known) gs c.self.inside.owners.items c.self.inside.free c.self.invariant f c.args.count g at)
@@ -56,6 +57,6 @@ returns c =
     let h : Group = record g { count = c.args.count } in
     let at : group_in gs f ≡ Some g = sym c.take_at.ensures.taken ∙ c.in-Some.is ∙ ap Some (sym c.group.view_is) in
     let now : set c.take_at.new.kept.items f (Some h) ≡ set gs f (Some h) =
-    ap (λ (l : List (Option Group)). set l f (Some h)) c.take_at.ensures.left ∙ set-twice gs f None (Some h) in
+    ap (λ (l : List (Option Group)). set l f (Some h)) c.take_at.ensures.left ∙ set-set gs f None (Some h) in
     ap (kept_from 0) now ∙ count-at gs f c.args.count g at
     ∙ ap (λ (es : Groups). with_count es f c.args.count (lookup (nat_eq f) es)) (ap (λ s. s.groups) c.self.view_is)
