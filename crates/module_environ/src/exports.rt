@@ -63,6 +63,7 @@ fn add_exports(
     ensures entered { OnOk result ((before : List plain.Export) → AreEntered before strings.old entries.old.entries
         → AreDistinct (before ++ map export_of exports.now) → AreEntered (before ++ map export_of exports.now) strings.new entries.new.entries) }
 {
+    entries.reserve(exports.len())?;
     for export in exports {
         add_export(entries, strings, export)?;
         note_function(escaping, export)?;

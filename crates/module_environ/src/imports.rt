@@ -12,11 +12,11 @@ ghost use Rattle.module_environ.specs.Imported.{AreCounted, HaveIndices, AreImpo
 ghost use Rattle.module_environ.specs.Pooled.{with_texts, import_names, imported_names, exported_names, HasTexts};
 ghost use Rattle.module_environ.specs.Seeds.{section_names};
 
+use crate::name_digest::NameDigest;
 use entity_map::{EntityRef, OutOfMemory, StringPool};
 use form_data::{Export, Form, Import};
 use form_lists::{exports_of, imports_of};
 use std::alloc::Global;
-use std::hash::{DefaultHasher, Hasher};
 use wasm_index::Index;
 use wasm_module::Initializer;
 use wasm_spec::TypeRef;
@@ -77,7 +77,7 @@ fn take_next<Space>(count: &mut u32) -> Index<Space>
 pub(crate) fn name_seed(form: &Form<'_>) -> u64
     ensures { result ≡ sip.finish (fold sip.write sip.initial (flat_map section_names (module_of form.now))) }
 {
-    let mut digest = DefaultHasher::new();
+    let mut digest = NameDigest::new();
     for payload in &form.payloads {
         add_import_names(&mut digest, imports_of(payload));
         add_export_names(&mut digest, exports_of(payload));
@@ -86,7 +86,7 @@ pub(crate) fn name_seed(form: &Form<'_>) -> u64
 }
 
 /// Adds the names of imports to a digest.
-fn add_import_names(digest: &mut DefaultHasher, imports: &[Import<'_>])
+fn add_import_names(digest: &mut NameDigest, imports: &[Import<'_>])
     ensures { digest.new ≡ fold sip.write digest.old (flat_map import_names (map import_of imports.now)) }
 {
     for import in imports {
@@ -96,7 +96,7 @@ fn add_import_names(digest: &mut DefaultHasher, imports: &[Import<'_>])
 }
 
 /// Adds the names of exports to a digest.
-fn add_export_names(digest: &mut DefaultHasher, exports: &[Export<'_>])
+fn add_export_names(digest: &mut NameDigest, exports: &[Export<'_>])
     ensures { digest.new ≡ fold sip.write digest.old (exported_names (map export_of exports.now)) }
 {
     for export in exports {

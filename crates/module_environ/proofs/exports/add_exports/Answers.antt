@@ -1,7 +1,8 @@
 use Rattle.std.proofs.Common.{◌+◌, ◌++◌, ◌∷◌, [], List, length, map, take, get_or, sym, subst, arith}
-use Rattle.std.proofs.lemmas.List.{get_or_default, length-map, length-take-le}
+use Rattle.std.proofs.lemmas.List.{get_or_default, length-map, length-take-le, take_all}
 use Rattle.wasm_spec.specs.Module.{Export}
 use Rattle.form_data.specs.Views.{export_of}
+use Rattle.form_data.specs.declared.form.Export.{Export as Read}
 use Rattle.form_rules.proofs.ExportNames.{no_export}
 use Rattle.module_environ.specs.Exported.{CanExport, AreEntered}
 use Rattle.module_environ.specs.EscapeLog.{EscapeLog}
@@ -59,3 +60,11 @@ loop-export-preserved c =
           (c.in_ok-add_export.ensures.entered (first ++ before) (had.entered first entered distinct)
           (distinct-so_far es k _ lt (get_or_default es k _ _ lt) first distinct));
     }
+
+-- room that was made for the exports leaves those before as they were
+pub returns-clause-entered : goal.returns-clause-entered
+returns-clause-entered c = λ before entered distinct.
+    subst (λ (es : List Read). AreEntered (before ++ map export_of es) c.loop-export.strings c.loop-export.entries.entries)
+    (take_all c.loop-export.export-index c.args.exports.now (omega (arith, c.loop-export-test.false)))
+    (c.loop-export.invariant.entered before
+    (subst (AreEntered before c.args.strings.now) (sym c.in_ok-reserve.ensures.entries) entered) distinct)
