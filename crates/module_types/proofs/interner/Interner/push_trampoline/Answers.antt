@@ -49,11 +49,11 @@ module _ (i now : Interner) (met : MetTypes) (ty : ℕ) (k : TypeIndex) (mapped 
 
   pub after-note : (built (record { list = now.list; met = met }) ≡ with_next_trampoline (built i) ty (called_of mapped)) × FindsMet (record { list = now.list; met = met })
   after-note = (
-      noted-is now.list (known now) mapped own (met_at now.list.types met) k is-noted.puts
-      ∙ ap (λ b. knows b (called_of mapped) (number_of k))
-      (pushed ∙ (λ j. alone (built_of (set j) (met_at (set j).types i.met)) (plain_is j) (Some (number_of k))))
-      ∙ next-is i.list (known i) ty k (called_of mapped) (ap number_of count ∙ sym (length-map i.list.types interned_of)),
-      is-noted.linked,
+    noted-is now.list (known now) mapped own (met_at now.list.types met) k is-noted.puts
+        ∙ ap (λ b. knows b (called_of mapped) (number_of k))
+        (pushed ∙ (λ j. alone (built_of (set j) (met_at (set j).types i.met)) (plain_is j) (Some (number_of k))))
+        ∙ next-is i.list (known i) ty k (called_of mapped) (ap number_of count ∙ sym (length-map i.list.types interned_of)),
+    is-noted.linked,
   )
 
 pub returns : goal.returns
