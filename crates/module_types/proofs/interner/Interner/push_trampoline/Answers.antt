@@ -1,5 +1,4 @@
 use Rattle.std.proofs.Common.{◌≡◌, ◌∙◌, ℕ, List, [], ◌∷◌, ◌++◌, length, map, Some, OnOk, sym, ap}
-use Rattle.std.specs.Prelude.{Result, Ok, Err}
 use Rattle.std.proofs.lemmas.List.{length-map}
 use Rattle.std.proofs.lemmas.Result.{on_ok_weaker}
 use Rattle.wasm_spec.specs.TypeData.{Func}
@@ -18,7 +17,7 @@ use Rattle.module_types.specs.TypeParts.{part_at}
 use Rattle.module_types.specs.Held.{built_of}
 use Rattle.module_types.specs.Interner.{known, built, with_next_trampoline, FindsMet}
 use Rattle.module_types.specs.Met.{met_at, digest_of, IsLinked, IsNoted}
-use Rattle.module_types.proofs.Linking.{part-at-end}
+use Rattle.module_types.proofs.Chaining.{part-at-end}
 use Rattle.module_types.proofs.Steps.{next-is, noted-is}
 use Rattle.module_types.proofs.interner.Interner.push_trampoline.Goals as goal
 
@@ -49,11 +48,11 @@ module _ (i now : Interner) (met : MetTypes) (ty : ℕ) (k : TypeIndex) (mapped 
 
   pub after-note : (built (record { list = now.list; met = met }) ≡ with_next_trampoline (built i) ty (called_of mapped)) × FindsMet (record { list = now.list; met = met })
   after-note = (
-      noted-is now.list (known now) mapped own (met_at now.list.types met) k is-noted.puts
-      ∙ ap (λ b. knows b (called_of mapped) (number_of k))
-      (pushed ∙ (λ j. alone (built_of (set j) (met_at (set j).types i.met)) (plain_is j) (Some (number_of k))))
-      ∙ next-is i.list (known i) ty k (called_of mapped) (ap number_of count ∙ sym (length-map i.list.types interned_of)),
-      is-noted.linked,
+    noted-is now.list (known now) mapped own (met_at now.list.types met) k is-noted.puts
+        ∙ ap (λ b. knows b (called_of mapped) (number_of k))
+        (pushed ∙ (λ j. alone (built_of (set j) (met_at (set j).types i.met)) (plain_is j) (Some (number_of k))))
+        ∙ next-is i.list (known i) ty k (called_of mapped) (ap number_of count ∙ sym (length-map i.list.types interned_of)),
+    is-noted.linked,
   )
 
 pub returns : goal.returns
