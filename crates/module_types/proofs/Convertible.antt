@@ -1,7 +1,7 @@
 -- A group of a list of types can be converted, and what it becomes.
-use Rattle.std.proofs.Common.{◌≡◌, ◌≤◌, ◌<◌, ℕ, zero, suc, ◌+◌, List, [], ◌∷◌, All, length, get_or, map, Option, Some, None, refl, sym, ap, ◌∙◌, inl, inr, arith}
+use Rattle.std.proofs.Common.{◌≡◌, ◌≤◌, ◌<◌, ℕ, zero, suc, ◌+◌, List, [], ◌∷◌, All, length, get_or, map, Option, Some, None, refl, sym, ap, ◌∙◌, inl, inr, arith, take}
 use Rattle.std.specs.Prelude.{slice_get, IsSome, IsSomeAnd, ◌⊎◌}
-use Rattle.std.proofs.lemmas.List.{length-map}
+use Rattle.std.proofs.lemmas.List.{length-map, take_all}
 use Rattle.std.proofs.lemmas.List.Elements.{All-head, All-tail, All-cons, All-nil, All-weaker}
 use Rattle.wasm_spec.specs.declared.types.UnpackedIndex.{UnpackedIndex}
 use Rattle.wasm_spec.specs.declared.types.UnpackedIndex.TheVariants as index
@@ -30,8 +30,9 @@ use Rattle.module_types.specs.Converter.{TypesAndGroup, KnowsIndex, HaveIndices}
 use Rattle.wasm_index.specs.declared.index.Index.{Index}
 use Rattle.wasm_index.specs.declared.spaces.TypeSpace.{TypeSpace}
 use Rattle.wasm_spec.specs.declared.types.CoreTypeId.{CoreTypeId}
-use Rattle.form_lists.proofs.AllSections.{All-joined, All-from_map}
+use Rattle.form_lists.proofs.AllSections.{All-joined, All-from_map, All-parts}
 use Rattle.module_types.proofs.Places.{group-ends}
+use Rattle.std.specs.List.{flat_map}
 
 all-both : {A : Type 0} (P Q R : A → Type 0) → ((x : A) → P x → Q x → R x) → (xs : List A) → All P xs → All Q xs → All R xs
 all-both P Q R each [] p q = All-nil R
@@ -138,3 +139,15 @@ known-by Callable b bound ids i id is known p one have t list held types lists h
     let whole = coe 0 1 (j. HaveIndices b (one j)) have in
     let found = index-known p.0 (length b.list.types) (builder_view b).built.groups (builder_view b).ids p.1 whole.0 whole.1 id.0 here.0 here.1 in
     coe 0 1 (j. CanLookUp (KnowsId (sym types j) (length (sym lists j).types) (map span_of (sym lists j).groups) (noted_at (sym helds j))) (sym is j)) found
+
+-- ---- what is known of each part, and what each becomes
+
+pub all-parts : {A B E : Type 0} (P : E → Type 0) (edges : B → List E) (view : A → B) (xs : List A) → All P (flat_map edges (map view xs))
+    → All (λ x. All P (edges (view x))) xs
+all-parts P edges view xs all = All-from_map (λ y. All P (edges y)) view xs ((All-parts P edges (map view xs)).0 all)
+
+-- what a list of converted parts is, past the last
+pub converted : {A B C D : Type 0} (made : D → C) (f : B → C) (view : A → B) (xs : List A) (n : ℕ) (ys : List D) → length xs ≤ n
+    → map made ys ≡ map (λ x. f (view x)) (take n xs) → map made ys ≡ map f (map view xs)
+converted made f view xs n ys past each =
+    each ∙ ap (map (λ x. f (view x))) (take_all n xs past) ∙ sym (map-twice view f (λ x. f (view x)) (λ x. refl) xs)

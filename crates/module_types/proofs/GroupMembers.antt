@@ -1,12 +1,34 @@
--- The steps that follow a group: what each keeps, all keep.
-use Rattle.std.proofs.Common.{◌≡◌, ◌≤◌, ◌<◌, ℕ, zero, suc, ◌+◌, List, [], ◌∷◌, ◌++◌, length, set, drop, Bool, true, false, Option, Some, None, refl, sym, ap, ◌∙◌, arith}
+-- The steps that follow a group: what each keeps, all keep; groups that lie one after another, and where they stand.
+use Rattle.std.proofs.Common.{◌≡◌, ◌≤◌, ◌<◌, ℕ, zero, suc, ◌+◌, List, [], ◌∷◌, ◌++◌, length, set, drop, Bool, true, false, Option, Some, None, refl, sym, ap, ◌∙◌, arith, get_or, take, ◌-◌}
 use Rattle.std.specs.Prelude.{if◌then◌else◌}
-use Rattle.std.proofs.lemmas.List.{append_assoc, append-nil, length-append, drop_all}
+use Rattle.std.proofs.lemmas.List.{append_assoc, append-nil, length-append, drop_all, get_or_at, get_or_append_left, drop_at, take_at}
 use Rattle.wasm_spec.specs.TypeData.{Composite, Func}
 use Rattle.type_data.specs.Names.{Named}
 use Rattle.type_spec.specs.Interned.{Interned, Called, Built, Span, mapped, same_mapped, plain, alone, now_known, knows, with_trampoline, assign_at, assign_trampoline, assign_trampolines, composite_at, opened, with_group, next_span, exception_for, startup_type, with_exception, with_startup}
-use Rattle.module_types.specs.Orderly.{IsOrderly}
-use Rattle.module_types.proofs.Ordering.{one-more, lie-to}
+use Rattle.module_types.specs.Orderly.{IsOrderly, LieBetween}
+use Rattle.module_types.specs.Conversion.{no_span}
+use Rattle.module_types.specs.ListGroups.{types_in}
+use Rattle.module_types.specs.Runs.{with_groups}
+
+-- ---- groups one after another
+
+pub one-more : (first end later : ℕ) (ss : List Span) → LieBetween first ss end → end < later
+    → LieBetween first (ss ++ record { start = end; end = later } ∷ []) later
+one-more first end later [] lie more = (sym lie, more, refl)
+one-more first end later (s ∷ ss) lie more = (lie.0, lie.1, one-more s.end end later ss lie.2 more)
+
+few-from : (first end : ℕ) (ss : List Span) → LieBetween first ss end → length ss + first ≤ end
+few-from first end [] lie = omega (arith, lie)
+few-from first end (s ∷ ss) lie =
+    let rest = few-from s.end end ss lie.2 in
+    omega (arith, rest, lie.0, lie.1)
+
+-- there are no more groups than types
+pub few-groups : (b : Built) → IsOrderly b → length b.groups ≤ length b.types
+few-groups b orderly = omega (arith, few-from 0 (length b.types) b.groups orderly)
+
+pub lie-to : (first end later : ℕ) (ss : List Span) → end ≡ later → LieBetween first ss end → LieBetween first ss later
+lie-to first end later ss same lie = coe 0 1 (j. LieBetween first ss (same j)) lie
 
 -- ---- one step
 
@@ -176,3 +198,52 @@ module _ (old now : Built) (first i : ℕ) (a : Along old now first i) (h : i < 
 
 pub along-all : (old now : Built) (first i : ℕ) → Along old now first i → i ≡ length old.types → now ≡ assign_trampolines old first (drop first old.types)
 along-all old now first i a e = ap (assign_trampolines now i) (sym (drop_all i old.types (omega (arith, e)))) ∙ a.rest
+
+-- ---- groups after the others, and where they stand
+
+-- what a list has where a group was opened
+module _ (b : Built) (ts : List Interned) (c : Built) (x : Extends (opened b ts) c) where
+  pub types-apart : c.types ≡ b.types ++ (ts ++ x.types_more)
+  types-apart = x.types ∙ append_assoc b.types ts x.types_more
+
+  pub groups-apart : c.groups ≡ b.groups ++ next_span b (length ts) ∷ x.groups_more
+  groups-apart = x.groups ∙ append_assoc b.groups (next_span b (length ts) ∷ []) x.groups_more
+
+  pub group-within : length b.groups < length c.groups
+  group-within = omega (arith, ap length groups-apart, length-append b.groups (next_span b (length ts) ∷ x.groups_more))
+
+  pub span-new : get_or c.groups (length b.groups) no_span ≡ next_span b (length ts)
+  span-new = ap (λ ss. get_or ss (length b.groups) no_span) groups-apart ∙ get_or_at b.groups (next_span b (length ts)) x.groups_more no_span (length b.groups) refl
+
+  pub span-old : (n : ℕ) → n < length b.groups → get_or c.groups n no_span ≡ get_or b.groups n no_span
+  span-old n lt =
+      ap (λ ss. get_or ss n no_span) groups-apart ∙ get_or_append_left b.groups (next_span b (length ts) ∷ x.groups_more) no_span n lt
+
+  pub types-new : types_in c.types (next_span b (length ts)) ≡ ts
+  types-new =
+      let s = next_span b (length ts) in
+      ap (λ us. types_in us s) types-apart ∙ ap (take (s.end - s.start)) (drop_at b.types (ts ++ x.types_more) (length b.types) refl)
+      ∙ take_at ts x.types_more (s.end - s.start) (omega arith)
+
+pub extends-group : (b : Built) (ts : List Interned) → Extends (opened b ts) (with_group b ts)
+extends-group b ts = extends-steps (opened b ts) (length b.types) ts
+
+pub extends-more : (b : Built) (ts : List Interned) → Extends b (with_group b ts)
+extends-more b ts =
+    extends-both b (opened b ts) (with_group b ts) (record { types_more = ts; types = refl; groups_more = next_span b (length ts) ∷ []; groups = refl })
+    (extends-group b ts)
+
+pub extends-groups : (b : Built) (tss : List (List Interned)) → Extends b (with_groups b tss)
+extends-groups b [] = extends-none b
+extends-groups b (ts ∷ tss) = extends-both b (with_group b ts) (with_groups b (ts ∷ tss)) (extends-more b ts) (extends-groups (with_group b ts) tss)
+
+-- the first group, and what comes after it
+pub first-group : (b : Built) (ts : List Interned) (tss : List (List Interned)) → Extends (opened b ts) (with_groups b (ts ∷ tss))
+first-group b ts tss =
+    extends-both (opened b ts) (with_group b ts) (with_groups b (ts ∷ tss)) (extends-group b ts) (extends-groups (with_group b ts) tss)
+
+-- a group that is not empty leaves more types
+pub longer : (b : Built) (ts : List Interned) (tss : List (List Interned)) → 0 < length ts → b.types ≡ (with_groups b (ts ∷ tss)).types → ⊥
+longer b ts tss filled same =
+    let x = first-group b ts tss in
+    omega (arith, filled, ap length (same ∙ types-apart b ts (with_groups b (ts ∷ tss)) x), length-append b.types (ts ++ x.types_more), length-append ts x.types_more)

@@ -7,8 +7,7 @@ use Rattle.type_spec.specs.Interned.{Interned, Span, with_group, opened}
 use Rattle.form_types.specs.Types.{TypesData, types_by_id}
 use Rattle.module_types.specs.Builder.{Builder, noted, interns_by, interns}
 use Rattle.module_types.specs.Conversion.{group_of_id, members_of, StandsInterned, HasIndex, HoldsGroups}
-use Rattle.module_types.proofs.GroupMembers.{Extends}
-use Rattle.module_types.proofs.Extends.{extends-group, group-within, span-new, span-old}
+use Rattle.module_types.proofs.GroupMembers.{Extends, extends-group, group-within, span-new, span-old}
 
 pub noted-here : (at : ℕ → Option ℕ) (n k : ℕ) → noted at n k n ≡ Some k
 noted-here at n k = ap (λ c. if c then Some k else at n) (eq-eqb n n refl)

@@ -1,5 +1,5 @@
 -- What a builder shows after a growing call.
-use Rattle.std.proofs.Common.{◌≡◌, ℕ, List, [], length, true, false, Option, Some, None, IfOk, OnOk, refl, sym, ap, ◌∙◌}
+use Rattle.std.proofs.Common.{◌≡◌, ℕ, List, [], length, true, false, Option, Some, None, OnOk, refl, sym, ap, ◌∙◌}
 use Rattle.std.specs.Prelude.{Result, Ok, Err}
 use Rattle.std.specs.Result.{is_err}
 use Rattle.std.specs.Option.{option_map}

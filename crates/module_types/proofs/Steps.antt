@@ -1,11 +1,11 @@
--- What a step of an interner does to what it holds.
-use Rattle.std.proofs.Common.{◌≡◌, ℕ, zero, suc, ◌+◌, List, [], ◌∷◌, ◌++◌, length, map, replicate, Bool, true, false, cond, Option, Some, None, refl, sym, ap, ◌∙◌}
+-- What a step of an interner does to what it holds, and what its types are named by.
+use Rattle.std.proofs.Common.{◌≡◌, ℕ, zero, suc, ◌+◌, List, [], ◌∷◌, ◌++◌, length, map, replicate, Bool, true, false, cond, Option, Some, None, refl, sym, ap, ◌∙◌, IsTrue}
 use Rattle.std.specs.Prelude.{if◌then◌else◌, slice_get}
 use Rattle.std.specs.Option.{option_map}
 use Rattle.std.specs.declared.ops.Range.{Range}
 use Rattle.std.proofs.lemmas.List.{length-map, length-append, map-append, map-set}
-use Rattle.wasm_spec.specs.TypeData.{Func}
-use Rattle.type_spec.specs.Interned.{Called, Built, mapped, same_mapped, plain, alone, now_known, knows, with_trampoline, assign_at, assign_trampoline, composite_at, next_span, opened}
+use Rattle.wasm_spec.specs.TypeData.{Func, map_field, map_value}
+use Rattle.type_spec.specs.Interned.{Called, Built, mapped, same_mapped, plain, alone, now_known, knows, with_trampoline, assign_at, assign_trampoline, composite_at, next_span, opened, kind_of_type, exception_for, field_for, with_exception}
 use Rattle.wasm_index.specs.Index.{number_of, index_of}
 use Rattle.wasm_types.specs.declared.func.WasmFuncType.{WasmFuncType}
 use Rattle.wasm_types.specs.declared.composite.WasmCompositeInnerType.{WasmCompositeInnerType}
@@ -13,11 +13,19 @@ use Rattle.wasm_types.specs.declared.composite.WasmCompositeInnerType.TheVariant
 use Rattle.wasm_types.specs.declared.sub.WasmSubType.{WasmSubType}
 use Rattle.wasm_types.specs.contracts.equal.WasmFuncTypePartialEq.TheImpl as func
 use Rattle.wasm_types.specs.Trampolines.{trampoline_of}
-use Rattle.module_types.specs.Views.{TypeIndex, inner_of, interned_of, called_of, function_at, span_of}
+use Rattle.module_types.specs.Views.{TypeIndex, inner_of, interned_of, called_of, function_at, span_of, index_at, interned_number, field_at}
 use Rattle.module_types.specs.TypeList.{TypeList, with_type, with_types, with_range, called_by}
 use Rattle.module_types.specs.Held.{built_of}
 use Rattle.module_types.specs.Interner.{with_next_trampoline}
 use Rattle.module_types.proofs.Keys.{function-back, mapped-is, called-mapped, key-is}
+use Rattle.wasm_types.specs.ValueViews.{Name, value_of, field_of}
+use Rattle.wasm_types.specs.TypeViews.{composite_of}
+use Rattle.module_types.specs.Builder.{BuilderState, is_function}
+use Rattle.module_types.specs.Converter.{interned_name}
+use Rattle.wasm_spec.specs.TypeData as types
+use Rattle.type_data.specs.Names.{named}
+use Rattle.wasm_types.specs.declared.value.WasmValType.{WasmValType}
+use Rattle.wasm_types.specs.declared.field.WasmFieldType.{WasmFieldType}
 
 -- ---- lists
 
@@ -180,3 +188,44 @@ pub assign_trampoline-other : (l : TypeList) (get : WasmFuncType → Option Type
     → built_of l get ≡ assign_trampoline (built_of l get) i (composite_at (map interned_of l.types) i)
 assign_trampoline-other l get i x read other =
     sym (ap (assign_trampoline (built_of l get) i) (composite-read l.types i x read x.composite_type.inner refl) ∙ not-function (built_of l get) i x.composite_type.inner other)
+
+-- ---- what an interned type is named by
+
+kind-kept : (c : WasmCompositeInnerType) → kind_of_type (composite_of c) ≡ kind_of_type (inner_of c)
+kind-kept (inner.Func t) = refl
+kind-kept c = refl
+
+abbrev named_as : WasmSubType → ℕ → Name
+named_as t n = record { kind = kind_of_type (composite_of t.composite_type.inner); index = index_at n }
+
+pub name-is : (b : BuilderState) (i : TypeIndex) (t : WasmSubType) → slice_get b.list.types (number_of i) ≡ Some t → (n : ℕ) → number_of i ≡ n
+    → named_as t (number_of i) ≡ interned_name b n
+name-is b i t read n is =
+    (λ j. record {
+      kind = (kind-kept t.composite_type.inner ∙ ap kind_of_type (sym (composite-read b.list.types (number_of i) t read t.composite_type.inner refl))) j;
+      index = index_at (number_of i);
+    }) ∙ ap (interned_name b) is
+
+-- ---- the exception type of a function type
+
+none-function : (c : WasmCompositeInnerType) → ((f : WasmFuncType) → c ≡ inner.Func f → ⊥) → IsTrue (is_function (inner_of c)) → ⊥
+none-function (inner.Func f) other is = other f refl
+none-function c other is = absurd cc
+
+pub no-function : (ts : List WasmSubType) (i : ℕ) (x : WasmSubType) → slice_get ts i ≡ Some x
+    → ((f : WasmFuncType) → x.composite_type.inner ≡ inner.Func f → ⊥) → IsTrue (is_function (composite_at (map interned_of ts) i)) → ⊥
+no-function ts i x read other is =
+    let e = composite-read ts i x read x.composite_type.inner refl in
+    none-function x.composite_type.inner other (coe 0 1 (j. IsTrue (is_function (e j))) is)
+
+fields-made : (vs : List WasmValType)
+    → map (map_field (named interned_number)) (map field_of (map field_at vs)) ≡ map field_for (map (map_value (named interned_number)) (map value_of vs))
+fields-made [] = refl
+fields-made (v ∷ vs) = λ i. field_for (map_value (named interned_number) (value_of v)) ∷ fields-made vs i
+
+pub exception-made : (b : Built) (i : ℕ) (f : WasmFuncType) → composite_at b.types i ≡ types.Func (called_of f)
+    → (fields : List WasmFieldType) → fields ≡ map field_at f.params
+    → alone b (plain (types.Exn (record { function = i; fields = map (map_field (named interned_number)) (map field_of fields) }))) None ≡ with_exception b i
+exception-made b i f kind fields is =
+    ap (λ fs. alone b (plain (types.Exn (record { function = i; fields = fs }))) None) (ap (λ fs. map (map_field (named interned_number)) (map field_of fs)) is ∙ fields-made f.params)
+    ∙ sym (ap (λ c. alone b (plain (exception_for i c)) None) kind)

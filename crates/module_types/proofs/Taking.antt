@@ -3,7 +3,7 @@ use Rattle.std.proofs.Common.{◌≡◌, ◌∙◌, ◌↔◌, ◌⊎◌, inl, i
 use Rattle.std.specs.Prelude.{nat_lt, if◌then◌else◌}
 use Rattle.std.specs.List.{All, range_with_len}
 use Rattle.std.proofs.lemmas.Bool.{ltb-true, ltb-false, cases_lt, cases_eq}
-use Rattle.std.proofs.lemmas.List.{append_assoc, append-nil, get_or_append_left, get_or-append-add, get_or-take, get_or-drop, length-take-le, length-drop, length-map}
+use Rattle.std.proofs.lemmas.List.{append_assoc, append-nil, get_or-append-add, get_or-take, get_or-drop, length-take-le, length-drop, length-map}
 use Rattle.std.proofs.lemmas.List.Prefix.{front_reads}
 use Rattle.std.proofs.lemmas.List.FromFn.{get_or-range_with_len, length-range_with_len}
 use lib.Dec.{ltb}

@@ -13,8 +13,7 @@ use Rattle.type_spec.proofs.Homes.{size, size-cons}
 use Rattle.type_spec.proofs.ByNames.{name_by, by_names, names-same, zip-known-itself}
 use Rattle.module_types.specs.Orderly.{LieBetween}
 use Rattle.module_types.specs.ListGroups.{unkinded, types_in, kind_in}
-use Rattle.module_types.proofs.GroupMembers.{composite-before}
-use Rattle.module_types.proofs.Ordering.{one-more, lie-to}
+use Rattle.module_types.proofs.GroupMembers.{composite-before, one-more, lie-to}
 
 abbrev pub AllBelow : ℕ → Group ℕ ℕ → Type 0
 AllBelow end g = All (λ r. r < end) (group_edges (λ r. r) g)

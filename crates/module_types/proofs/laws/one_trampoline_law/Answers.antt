@@ -1,7 +1,7 @@
 use Rattle.std.proofs.Common.{List, refl}
 use Rattle.type_spec.specs.Interned.{Built, Interned, empty, plain, with_group, exception_for, composite_at, startup_type}
 use Rattle.module_types.specs.Tied.{IsTied}
-use Rattle.module_types.proofs.Tying.{tied-alone, tied-group, one-index}
+use Rattle.module_types.proofs.Called.{tied-alone, tied-group, one-index}
 use Rattle.module_types.proofs.WholeLists.{through-taken, through-alone}
 use Rattle.module_types.proofs.laws.one_trampoline_law.Goals as goal
 

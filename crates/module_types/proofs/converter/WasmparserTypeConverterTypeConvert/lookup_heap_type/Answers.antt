@@ -4,7 +4,7 @@ use Rattle.wasm_spec.specs.TypeData.{Concrete}
 use Rattle.wasm_convert.specs.Known.{CanLookUp}
 use Rattle.module_types.specs.Converter.{KnowsIndex, look_index}
 use Rattle.module_types.proofs.Convertible.{known-by}
-use Rattle.module_types.proofs.Interned.{name-is}
+use Rattle.module_types.proofs.Steps.{name-is}
 use Rattle.module_types.proofs.converter.WasmparserTypeConverterTypeConvert.lookup_heap_type.Goals as goal
 
 pub interned-index-requires-clause-below : goal.interned-index-requires-clause-below

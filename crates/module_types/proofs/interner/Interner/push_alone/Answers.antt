@@ -7,8 +7,8 @@ use Rattle.module_types.specs.TypeList.{TypeList, with_type, with_range}
 use Rattle.module_types.specs.Held.{built_of}
 use Rattle.module_types.specs.Interner.{known, built}
 use Rattle.module_types.specs.Met.{met_at, IsLinked}
-use Rattle.module_types.proofs.Ordering.{few-groups}
-use Rattle.module_types.proofs.Linking.{known-on, linked-on}
+use Rattle.module_types.proofs.GroupMembers.{few-groups}
+use Rattle.module_types.proofs.Chaining.{known-on, linked-on}
 use Rattle.module_types.proofs.Steps.{alone-is}
 use Rattle.module_types.proofs.interner.Interner.push_alone.Goals as goal
 

@@ -3,8 +3,7 @@ use Rattle.std.proofs.lemmas.Result.{on_ok_weaker}
 use Rattle.wasm_index.specs.Index.{number_of}
 use Rattle.module_types.specs.Views.{field_at}
 use Rattle.module_types.specs.Interner.{built}
-use Rattle.module_types.proofs.Steps.{composite-read}
-use Rattle.module_types.proofs.Exceptions.{no-function, exception-made}
+use Rattle.module_types.proofs.Steps.{composite-read, no-function, exception-made}
 use Rattle.module_types.proofs.interner.Interner.push_exception.Goals as goal
 
 pub unreachable-requires : goal.unreachable-requires

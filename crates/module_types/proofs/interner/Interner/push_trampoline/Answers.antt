@@ -1,5 +1,4 @@
 use Rattle.std.proofs.Common.{◌≡◌, ◌∙◌, ℕ, List, [], ◌∷◌, ◌++◌, length, map, Some, OnOk, sym, ap}
-use Rattle.std.specs.Prelude.{Result, Ok, Err}
 use Rattle.std.proofs.lemmas.List.{length-map}
 use Rattle.std.proofs.lemmas.Result.{on_ok_weaker}
 use Rattle.wasm_spec.specs.TypeData.{Func}
@@ -18,7 +17,7 @@ use Rattle.module_types.specs.TypeParts.{part_at}
 use Rattle.module_types.specs.Held.{built_of}
 use Rattle.module_types.specs.Interner.{known, built, with_next_trampoline, FindsMet}
 use Rattle.module_types.specs.Met.{met_at, digest_of, IsLinked, IsNoted}
-use Rattle.module_types.proofs.Linking.{part-at-end}
+use Rattle.module_types.proofs.Chaining.{part-at-end}
 use Rattle.module_types.proofs.Steps.{next-is, noted-is}
 use Rattle.module_types.proofs.interner.Interner.push_trampoline.Goals as goal
 
