@@ -3,7 +3,7 @@ use Rattle.std.proofs.Common.{if◌then◌else◌, ◌≡◌, ◌∙◌, ◌<◌
 use Rattle.std.specs.Prelude.{IsSome}
 use Rattle.std.specs.Cmp.{nat_eq_equiv}
 use Rattle.std.specs.List.{list_any}
-use Rattle.std.proofs.lemmas.Bool.{eqb-true, ne_eqb, cases_Bool}
+use Rattle.std.proofs.lemmas.Bool.{eqb-true, ne_eqb, cases_Bool, false_from_ne_true, eqb-false}
 use Rattle.std.proofs.lemmas.Map.Views.{Contains-from_any, list_any-from_Contains}
 use Rattle.std.proofs.lemmas.Option.{none-some, same_Some}
 use Rattle.std.proofs.lemmas.Bool.Decides.{nat_tests}
@@ -145,10 +145,10 @@ module _ (r : Registry) (b : IsBalanced r) (key : ℕ) (m : Module) (is : r.held
   now = released_by r key (Some m)
 
   still-held : (k : ℕ) (o : Module) → now.held k ≡ Some o → (k ≡ key → ⊥) × (r.held k ≡ Some o)
-  still-held k o here = by (nat_eq key k) refl here where
-    by : (c : Bool) → nat_eq key k ≡ c → (if c then None else r.held k) ≡ Some o → (k ≡ key → ⊥) × (r.held k ≡ Some o)
-    by true e here = absurd (none-some o here)
-    by false e here = ((λ same. true-false (nat_eq key k) (eq-eqb key k (sym same)) e), here)
+  still-held k o here =
+      let differ : nat_eq key k ≡ false =
+      false_from_ne_true (nat_eq key k) (λ e. none-some o (sym (ap (λ (c : Bool). if c then None else r.held k) e) ∙ here)) in
+      ((λ same. eqb-false key k differ (sym same)), sym (ap (λ (c : Bool). if c then None else r.held k) differ) ∙ here)
 
   counted-now : (first : ℕ) → count_in (kept_at now first) ≡ times_below now.held first r.registrations
   counted-now first =

@@ -1,9 +1,9 @@
 -- Parts of lists, an element at a time; and what references of a listed group become.
 use Rattle.std.proofs.Common.{◌≡◌, ◌∙◌, ℕ, zero, suc, ◌+◌, ◌-◌, ◌<◌, ◌≤◌, List, [], ◌∷◌, ◌++◌, length, take, drop, map, get_or, slice_get, Some, refl, sym, ap, subst, arith}
 use Rattle.std.specs.List.{All}
-use Rattle.std.proofs.lemmas.List.{take-map, drop-map}
+use Rattle.std.proofs.lemmas.List.{take-map, drop-map, take_more}
 use Rattle.std.proofs.lemmas.List.Elements.{All-map}
-use Rattle.std.proofs.lemmas.Option.{none-some, same_Some}
+use Rattle.std.proofs.lemmas.Option.{slice_get_within, get_or_from_slice_get}
 use Rattle.form_lists.proofs.AllSections.{All-from_map}
 use Rattle.wasm_spec.specs.TypeData.{map_group, map_sub_type, group_edges}
 use Rattle.type_data.specs.Names.{named, by_name, index_of as index_in}
@@ -20,9 +20,9 @@ use Rattle.type_registry.specs.Listed.{Listed, list_of}
 use Rattle.type_registry.specs.Changes.{members_of, edges_of, IsGiven}
 
 pub take-next : {A : Type 0} (xs : List A) (k : ℕ) (x : A) → slice_get xs k ≡ Some x → take (suc k) xs ≡ take k xs ++ x ∷ []
-take-next [] k x at = absurd (none-some x at)
-take-next (y ∷ xs) zero x at = ap (λ z. z ∷ []) (same_Some y x at)
-take-next (y ∷ xs) (suc k) x at = ap (λ l. y ∷ l) (take-next xs k x at)
+take-next xs k x at =
+    let next : suc k ≡ k + 1 = omega arith in
+    ap (λ n. take n xs) next ∙ take_more xs k x (slice_get_within xs k x at) ∙ ap (λ y. take k xs ++ y ∷ []) (get_or_from_slice_get xs k x x at)
 
 pub get-dropped : {A : Type 0} (xs : List A) (s p : ℕ) → slice_get (drop s xs) p ≡ slice_get xs (s + p)
 get-dropped xs zero p = let at : p ≡ 0 + p = omega arith in ap (slice_get xs) at

@@ -60,15 +60,12 @@ module _ {Key : Type 0} (content : Key → List WasmSubType) (live live' : ℕ) 
         record { group = w.group; kept = set-other gs f o.first None apart ∙ w.kept; at = w.at }
 
   known-still : (n : ℕ) (h : Group) → group_in gs' n ≡ Some h → (key : Key) → content key ≡ h.canonical → known' key ≡ Some n
-  known-still n h here key is = by (Eq g.canonical (content key)) refl where
-    s : (n ≡ f → ⊥) × (group_in gs n ≡ Some h)
-    s = stays n h here
-
-    by : (c : Bool) → Eq g.canonical (content key) ≡ c → known' key ≡ Some n
-    by true e =
-        let same : g.canonical ≡ content key = (equal g.canonical (content key)).0 e in
-        absurd (s.0 (same_Some n f (sym (k.found n h s.1 key is) ∙ k.found f g at key (sym same))))
-    by false e = forgets key ∙ ap (λ c. cond c None (known key)) e ∙ k.found n h s.1 key is
+  known-still n h here key is =
+      let s = stays n h here in
+      let old = k.found n h s.1 key is in
+      let differ : Eq g.canonical (content key) ≡ false = false_from_ne_true (Eq g.canonical (content key)) (λ e.
+          s.0 (same_Some n f (sym old ∙ k.found f g at key (sym ((equal g.canonical (content key)).0 e))))) in
+      forgets key ∙ ap (λ c. cond c None (known key)) differ ∙ old
 
   knows-still : (key : Key) (n : ℕ) → known' key ≡ Some n → HasCanonical gs' n (content key)
   knows-still key n is = by (Eq g.canonical (content key)) refl (sym (forgets key) ∙ is) where

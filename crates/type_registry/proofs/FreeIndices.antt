@@ -6,8 +6,8 @@ use Rattle.std.proofs.lemmas.Bool.{ne_eqb, cases_Bool, cases_eq, false_from_ne_t
 use Rattle.std.proofs.lemmas.Option.{slice_get-get_or, slice_get_within, none-some, same_Some}
 use Rattle.std.proofs.lemmas.Bool.Decides.{nat_tests}
 use Rattle.std.proofs.lemmas.List.{append-nil}
-use Rattle.free_numbers.proofs.Pairs.{before-more, all-before, some-within}
 use Rattle.free_numbers.specs.Counts.{total, before}
+use Rattle.free_numbers.proofs.Pairs.{before-more, all-before, some-within}
 use Rattle.type_registry.specs.FreeIndices.{free_below}
 use Rattle.type_registry.proofs.OwnerLists.{place-any}
 use Rattle.type_registry.proofs.KeepingAll.{true-false, IsOnce}
@@ -180,14 +180,9 @@ free-split taken (suc m) n =
     let fs = free_indices (j ∷ taken) m in
     let moved = free-same ((j ∷ taken) ++ fs) (taken ++ j ∷ fs) n (λ x. move taken fs j x) in
     ap (free_indices taken) more ∙ ap (λ l. j ∷ l) (rest ∙ ap (λ l. fs ++ l) moved) where
-      swap : (a b c : Bool) → (a || (b || c)) ≡ (b || (a || c))
-      swap true true c = refl
-      swap true false c = refl
-      swap false b c = refl
-
       move : (xs ys : List ℕ) (j x : ℕ) → has ((j ∷ xs) ++ ys) x ≡ has (xs ++ j ∷ ys) x
       move [] ys j x = refl
-      move (y ∷ xs) ys j x = swap (nat_eq x j) (nat_eq x y) (has (xs ++ ys) x) ∙ ap (λ c. nat_eq x y || c) (move xs ys j x)
+      move (y ∷ xs) ys j x = let rest = move xs ys j x in let any = cases_Bool (has (xs ++ ys) x) in grind (arith, nat_tests)
 
 get-behind : (xs ys : List ℕ) (k : ℕ) → slice_get (xs ++ ys) (length xs + k) ≡ slice_get ys k
 get-behind [] ys k = let none : 0 + k ≡ k = omega arith in ap (slice_get ys) none

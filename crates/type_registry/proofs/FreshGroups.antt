@@ -4,7 +4,7 @@ use Rattle.std.proofs.Common.{if◌then◌else◌, ◌≡◌, ◌∙◌, ◌↔�
 use Rattle.std.proofs.lemmas.List.{length-append}
 use Rattle.std.specs.Option.{option_map}
 use Rattle.std.proofs.lemmas.Option.{none-some, same_Some}
-use Rattle.std.proofs.lemmas.Bool.{cases_Bool}
+use Rattle.std.proofs.lemmas.Bool.{cases_Bool, false_from_ne_true}
 use Rattle.wasm_types.specs.declared.sub.WasmSubType.{WasmSubType}
 use Rattle.type_registry.specs.Registry.{Group, Groups, indices_of}
 use Rattle.type_registry.specs.Changes.{find_group}
@@ -110,12 +110,11 @@ module _ {Key : Type 0} (content : Key → List WasmSubType) (places : Key → O
         by (Last n is) =
             let yes = (equal e.1.canonical (content key)).1 (sym (has ∙ ap (λ (x : Entry). x.1.canonical) is)) in
             learns key ∙ ap (λ c. cond c (Some (length es)) (places key)) yes ∙ ap Some (sym n)
-        by (Earlier lt was) = other (Eq e.1.canonical (content key)) refl where
-          other : (c : Bool) → Eq e.1.canonical (content key) ≡ c → places' key ≡ Some p
-          other true is =
-              let same : f.1.canonical ≡ e.1.canonical = sym has ∙ sym ((equal e.1.canonical (content key)).0 is) in
-              absurd (none-there es e.1.canonical p f unknown was ((equal f.1.canonical e.1.canonical).1 same))
-          other false is = learns key ∙ ap (λ c. cond c (Some (length es)) (places key)) is ∙ k.found p f was key has
+        by (Earlier lt was) =
+            let differ : Eq e.1.canonical (content key) ≡ false = false_from_ne_true (Eq e.1.canonical (content key)) (λ is.
+                let same : f.1.canonical ≡ e.1.canonical = sym has ∙ sym ((equal e.1.canonical (content key)).0 is) in
+                none-there es e.1.canonical p f unknown was ((equal f.1.canonical e.1.canonical).1 same)) in
+            learns key ∙ ap (λ c. cond c (Some (length es)) (places key)) differ ∙ k.found p f was key has
 
       knows' : (key : Key) (p : ℕ) → places' key ≡ Some p → HasMembers es' p (content key)
       knows' key p is = by (Eq e.1.canonical (content key)) refl (sym (learns key) ∙ is) where

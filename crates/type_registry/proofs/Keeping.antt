@@ -3,7 +3,7 @@ use Rattle.std.proofs.Common.{if◌then◌else◌, ◌≡◌, ◌∙◌, ◌<◌
 use Rattle.std.specs.Prelude.{cond, Result, Ok, Err, is_ok, OnOk}
 use Rattle.std.specs.List.{list_any}
 use Rattle.std.proofs.lemmas.List.{length-append}
-use Rattle.std.proofs.lemmas.Bool.{eqb-true, eqb-false, le-leb, lt-leb}
+use Rattle.std.proofs.lemmas.Bool.{eqb-true, eqb-false, le-leb, lt-leb, false_from_ne_true}
 use Rattle.std.proofs.lemmas.Option.{none-some, same_Some}
 use Rattle.wasm_types.specs.declared.sub.WasmSubType.{WasmSubType}
 use Rattle.wasm_types.specs.contracts.equal_groups.WasmRecGroupPartialEq.TheImpl as groups_equal
@@ -174,13 +174,11 @@ module _ {Key : Type 0} (content : Key → List WasmSubType) (live live' : ℕ) 
     by (Here same one) =
         let yes : Eq g.canonical (content key) ≡ true = (equal g.canonical (content key)).1 (ap (λ (x : Group). x.canonical) (sym one) ∙ sym has) in
         learns key ∙ ap (λ c. cond c (Some f) (known key)) yes ∙ ap Some (sym same)
-    by (There apart was) = other (Eq g.canonical (content key)) refl where
-      old : known key ≡ Some n
-      old = k.found n h was key has
-
-      other : (c : Bool) → Eq g.canonical (content key) ≡ c → known' key ≡ Some n
-      other true e = absurd (none-some n (sym (unknown key (sym ((equal g.canonical (content key)).0 e))) ∙ old))
-      other false e = learns key ∙ ap (λ c. cond c (Some f) (known key)) e ∙ old
+    by (There apart was) =
+        let old = k.found n h was key has in
+        let differ : Eq g.canonical (content key) ≡ false = false_from_ne_true (Eq g.canonical (content key)) (λ e.
+            none-some n (sym (unknown key (sym ((equal g.canonical (content key)).0 e))) ∙ old)) in
+        learns key ∙ ap (λ c. cond c (Some f) (known key)) differ ∙ old
 
   knows' : (key : Key) (n : ℕ) → known' key ≡ Some n → HasCanonical gs' n (content key)
   knows' key n is = by (Eq g.canonical (content key)) refl (sym (learns key) ∙ is) where

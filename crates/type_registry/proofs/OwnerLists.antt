@@ -1,12 +1,13 @@
 -- Lists of owners.
-use Rattle.std.specs.Prelude.{◌||◌}
-use Rattle.std.proofs.Common.{if◌then◌else◌, ◌≡◌, ◌∙◌, ℕ, zero, suc, Bool, true, false, nat_eq, List, [], ◌∷◌, ◌++◌, length, map, set, slice_get, Option, Some, None, refl, sym, ap, arith, length-set, eq-eqb}
+use Rattle.std.proofs.Common.{if◌then◌else◌, ◌≡◌, ◌∙◌, ℕ, zero, suc, true, nat_eq, List, [], ◌∷◌, ◌++◌, length, map, set, slice_get, Option, Some, None, refl, sym, ap, arith, length-set, eq-eqb}
 use Rattle.std.specs.List.{list_any}
 use Rattle.std.proofs.Math.Dec.{eqb-suc-zero, eqb-zero-suc, eqb-suc-suc}
 use Rattle.std.proofs.lemmas.Bool.{eqb-true, cases_Bool}
 use Rattle.std.proofs.lemmas.Bool.Decides.{nat_tests}
 use Rattle.std.proofs.lemmas.Map.Keys.{any_passes_from_place}
 use Rattle.std.proofs.lemmas.List.{map-set}
+use Rattle.std.proofs.lemmas.Option.{slice_get-get_or}
+use Rattle.std.proofs.lemmas.Map.Views.{Contains-from_any}
 use Rattle.type_registry.specs.declared.owners.Owner.{Owner}
 use Rattle.type_registry.specs.Owners.{owner_at, free_count, emptied}
 
@@ -47,11 +48,9 @@ pub record Place (ns : List ℕ) (i : ℕ) : Type 0 where
   pub at : slice_get ns place ≡ Some i
 
 pub place-any : (ns : List ℕ) (i : ℕ) → list_any (nat_eq i) ns ≡ true → Place ns i
-place-any [] i e = let no : false ≡ true = e in cc
-place-any (n ∷ ns) i e = by (nat_eq i n) refl e (place-any ns i) where
-  by : (c : Bool) → nat_eq i n ≡ c → (c || list_any (nat_eq i) ns) ≡ true → (list_any (nat_eq i) ns ≡ true → Place ns i) → Place (n ∷ ns) i
-  by true same e rest = record { place = 0; at = ap Some (sym (eqb-true i n same)) }
-  by false same e rest = let p = rest e in record { place = suc p.place; at = p.at }
+place-any ns i e =
+    let w = Contains-from_any eqb-true i ns e in
+    record { place = w.0; at = slice_get-get_or ns w.0 i w.1 ∙ ap Some w.2 }
 
 -- ---- which numbers are free
 

@@ -1,14 +1,14 @@
 -- Where the groups of a planned module are kept.
-use Rattle.std.proofs.Common.{if◌then◌else◌, ◌≡◌, ◌∙◌, ◌↔◌, ◌<◌, ◌≤◌, ℕ, zero, suc, ◌+◌, ◌-◌, Bool, true, false, List, [], ◌∷◌, ◌++◌, length, slice_get, take, drop, Some, None, refl, sym, ap, subst, arith}
-use Rattle.std.specs.Prelude.{nat_lt, ⊤}
+use Rattle.std.proofs.Common.{if◌then◌else◌, ◌≡◌, ◌∙◌, ◌↔◌, ◌<◌, ◌≤◌, ℕ, zero, suc, ◌+◌, ◌-◌, Bool, true, false, List, [], ◌∷◌, ◌++◌, length, slice_get, take, drop, Some, None, refl, sym, ap, subst, arith, get_or}
+use Rattle.std.specs.Prelude.{⊤}
 use Rattle.std.proofs.lemmas.List.{length-append, get_or_append_left, take-append-le, drop-append-le, length-drop, take_all, append-nil, append_assoc}
-use Rattle.std.proofs.lemmas.Bool.{ltb-true}
 use Rattle.std.proofs.lemmas.Option.{none-some, same_Some, slice_get-get_or}
 use Rattle.std.proofs.Math.ListN.{drop_of_length-le}
+use Rattle.std.proofs.lemmas.Bool.Decides.{nat_tests}
 use Rattle.wasm_spec.specs.TypeData.{map_group}
 use Rattle.type_data.specs.Names.{named}
 use Rattle.type_spec.specs.Interned.{Span}
-use Rattle.wasm_index.specs.Index.{number_of, index_of}
+use Rattle.wasm_index.specs.Index.{number_of}
 use Rattle.wasm_types.specs.declared.index.EngineOrModuleTypeIndex.{EngineOrModuleTypeIndex}
 use Rattle.wasm_types.specs.declared.index.EngineOrModuleTypeIndex.TheVariants as index
 use Rattle.wasm_types.specs.declared.sub.WasmSubType.{WasmSubType}
@@ -21,7 +21,7 @@ use Rattle.type_registry.specs.Changes.{Plan, at_first, canonical_data, canonica
 use Rattle.type_registry.specs.Planning.{MayBePlanned, MayBePlannedFrom, plan}
 use Rattle.type_registry.proofs.FreeIndices.{free-length}
 use Rattle.type_registry.proofs.Keeping.{Eq}
-use Rattle.type_registry.proofs.PlanGroups.{canonical-long, found-equal, find-some, find-none, either-planned}
+use Rattle.type_registry.proofs.PlanGroups.{mapped-long, found-equal, find-some, find-none, either-planned}
 use Rattle.type_registry.proofs.Seen.{had-back}
 use Rattle.type_registry.proofs.Sound.{AllFirst}
 
@@ -31,12 +31,10 @@ edge-more : (xs ys : List ℕ) (start : ℕ) → start ≤ length xs → (e : En
     → consed_edge (given xs) start e ≡ consed_edge (given (xs ++ ys)) start e
 edge-more xs ys start at (index.Engine i) = refl
 edge-more xs ys start at (index.RecGroup i) = refl
-edge-more xs ys start at (index.Module i) = by (nat_lt (number_of i) start) refl where
-  by : (c : Bool) → nat_lt (number_of i) start ≡ c
-      → (if c then index.Engine (given xs i) else index.RecGroup (index_of (number_of i - start)))
-      ≡ (if c then index.Engine (given (xs ++ ys) i) else index.RecGroup (index_of (number_of i - start)))
-  by true e = ap (λ n. index.Engine (index_of n)) (sym (get_or_append_left xs ys 0 (number_of i) (omega (arith, ltb-true (number_of i) start e, at))))
-  by false e = refl
+edge-more xs ys start at (index.Module i) =
+    let same : number_of i < start → get_or (xs ++ ys) (number_of i) 0 ≡ get_or xs (number_of i) 0 =
+    (λ lt. get_or_append_left xs ys 0 (number_of i) (omega (arith, lt, at))) in
+    grind (arith, nat_tests)
 
 -- indices of later types do not matter
 data-more : (l : TypeList) (s : Span) (xs ys : List ℕ) → s.start ≤ length xs → canonical_data l xs s ≡ canonical_data l (xs ++ ys) s
@@ -112,7 +110,7 @@ module _ (equal : (x y : List WasmSubType) → (Eq x y ≡ true) ↔ (x ≡ y)) 
     form = had-back (canonical_data l p.listed.indices s)
 
     pub size : length c ≡ size_of s
-    size = canonical-long l s p.listed.indices c may.within form
+    size = mapped-long l s (consed_edge (given p.listed.indices) s.start) c may.within form
 
     known-long : (g : Group) → find_group c (gs ++ p.fresh) ≡ Some g → length g.indices ≡ size_of s
     known-long g is =

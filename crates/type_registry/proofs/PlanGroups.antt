@@ -3,20 +3,19 @@ use Rattle.std.proofs.Common.{if◌then◌else◌, ◌≡◌, ◌∙◌, ◌<◌
 use Rattle.std.specs.List.{list_any}
 use Rattle.std.proofs.lemmas.List.{length-append, length-map, length-take-le, length-drop, append-nil}
 use Rattle.std.proofs.lemmas.Grind.{flat_map-append}
-use Rattle.wasm_spec.specs.TypeData.{map_sub_type}
+use Rattle.wasm_spec.specs.TypeData.{map_group, map_sub_type}
 use Rattle.type_data.specs.Names.{named}
 use Rattle.type_spec.specs.Interned.{Span}
 use Rattle.std.specs.declared.ops.Range.{Range}
 use Rattle.std.proofs.lemmas.Option.{none-some}
 use Rattle.std.proofs.lemmas.Bool.{cases_Bool}
-use Rattle.type_registry.proofs.NewGroups.{none-of}
 use Rattle.entity_map.specs.Keyed.{keyed, keyed_from}
 use Rattle.wasm_index.specs.declared.index.Index.{Index}
 use Rattle.wasm_index.specs.declared.spaces.ModuleInternedRecGroupSpace.{ModuleInternedRecGroupSpace}
 use Rattle.wasm_index.specs.Index.{index_of}
 use Rattle.wasm_types.specs.declared.sub.WasmSubType.{WasmSubType}
 use Rattle.wasm_types.specs.TypeViews.{sub_type_of, group_of}
-use Rattle.wasm_trace.specs.Canonical.{consed_edge}
+use Rattle.wasm_types.specs.declared.index.EngineOrModuleTypeIndex.{EngineOrModuleTypeIndex}
 use Rattle.module_types.specs.Views.{TypeIndex, span_of, interned_of}
 use Rattle.module_types.specs.TypeList.{TypeList}
 use Rattle.module_types.specs.Orderly.{LieBetween}
@@ -24,7 +23,7 @@ use Rattle.module_types.specs.Conversion.{no_span}
 use Rattle.module_types.specs.ListGroups.{span_at}
 use Rattle.module_types.proofs.Standing.{stands-at}
 use Rattle.type_registry.specs.Registry.{Group, Groups, GroupsState, indices_of}
-use Rattle.type_registry.specs.Changes.{Plan, begun, find_group, first_index, keep_group, keep_groups, given, members_of, at_first, free_indices, next_group, canonical_data, canonical_of, take_group, plan_group, plan_groups, size_of, with_group}
+use Rattle.type_registry.specs.Changes.{Plan, begun, find_group, first_index, keep_group, keep_groups, members_of, at_first, free_indices, next_group, canonical_of, take_group, plan_group, plan_groups, size_of, with_group}
 use Rattle.type_registry.specs.Listed.{Listed, list_of}
 use Rattle.type_registry.specs.Planning.{MayBePlanned, MayBePlannedFrom, HaveFirstFree, plan}
 use Rattle.type_registry.specs.Counted.{counted}
@@ -33,6 +32,7 @@ use Rattle.type_registry.proofs.Copies.{may-cons, may-use}
 use Rattle.type_registry.proofs.Keeping.{Eq}
 use Rattle.type_registry.proofs.FreeIndices.{free-split, free-length, free-low, free-once, not-taken}
 use Rattle.type_registry.proofs.KeepingAll.{keep-length, IsOnce, AllUnknown, AllUnlike, AllApart, MayKeep}
+use Rattle.type_registry.proofs.NewGroups.{none-of}
 
 -- ---- the groups of a list may be planned
 
@@ -204,14 +204,14 @@ groups-grow gs l p (s ∷ ss) = omega (arith, group-grows gs l p s, groups-grow 
 
 -- ---- one group
 
-pub canonical-long : (l : TypeList) (s : Span) (before : List ℕ) (c : List WasmSubType) → s.end ≤ length l.types → group_of c ≡ canonical_data l before s
-    → length c ≡ s.end - s.start
-canonical-long l s before c within is =
+pub mapped-long : (l : TypeList) (s : Span) (f : EngineOrModuleTypeIndex → EngineOrModuleTypeIndex) (c : List WasmSubType) → s.end ≤ length l.types
+    → group_of c ≡ map_group (named f) f (group_of (members_of l s)) → length c ≡ s.end - s.start
+mapped-long l s f c within is =
     omega (
       arith,
       length-map c sub_type_of,
       ap length is,
-      length-map (group_of (members_of l s)) (map_sub_type (named (consed_edge (given before) s.start)) (consed_edge (given before) s.start)),
+      length-map (group_of (members_of l s)) (map_sub_type (named f) f),
       length-map (members_of l s) sub_type_of,
       length-take-le (s.end - s.start) (drop s.start l.types) (omega (arith, length-drop s.start l.types, within)),
     )

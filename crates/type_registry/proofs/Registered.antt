@@ -3,7 +3,6 @@ use Rattle.std.proofs.Common.{if◌then◌else◌, ◌≡◌, ◌∙◌, ◌↔�
 use Rattle.std.proofs.lemmas.Option.{slice_get-get_or, none-some, same_Some}
 use Rattle.std.proofs.lemmas.List.{length-map, append-nil}
 use Rattle.std.proofs.lemmas.Bool.{ne_eqb}
-use Rattle.type_registry.proofs.Copies.{get-dropped}
 use Rattle.type_spec.specs.Interned.{Span}
 use Rattle.wasm_types.specs.declared.sub.WasmSubType.{WasmSubType}
 use Rattle.wasm_types.specs.TypeViews.{group_of}
@@ -20,6 +19,7 @@ use Rattle.type_registry.proofs.PlanGroups.{planned-new, new-may-keep, may-plan,
 use Rattle.type_registry.proofs.Sound.{found, AllFirst, keeps-sound, keeps-found, keeps-new, counted-sound, counted-is}
 use Rattle.type_registry.proofs.Placed.{ArePlanned, are-planned, planned-at, find-at, first-at}
 use Rattle.type_registry.proofs.Telling.{take-get}
+use Rattle.type_registry.proofs.Copies.{get-dropped}
 
 -- ---- groups in order
 

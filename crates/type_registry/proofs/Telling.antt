@@ -2,7 +2,6 @@
 use Rattle.std.proofs.Common.{◌≡◌, ◌∙◌, ℕ, zero, suc, ◌+◌, ◌-◌, ◌<◌, ◌≤◌, List, [], ◌∷◌, length, take, drop, get_or, slice_get, Option, Some, None, option_and_then, refl, sym, ap, arith}
 use Rattle.std.proofs.lemmas.List.{length-map}
 use Rattle.std.proofs.lemmas.Option.{slice_get-get_or, same_Some}
-use Rattle.type_registry.proofs.Copies.{get-dropped, members-are}
 use Rattle.type_spec.specs.Interned.{Span}
 use Rattle.wasm_index.specs.Index.{number_of, index_of}
 use Rattle.wasm_types.specs.declared.sub.WasmRecGroup.{WasmRecGroup}
@@ -18,6 +17,7 @@ use Rattle.type_registry.specs.Registry.{Registry, Group}
 use Rattle.type_registry.specs.Listed.{Listed, list_of}
 use Rattle.type_registry.specs.Changes.{given, members_of}
 use Rattle.type_registry.specs.Standing.{kept_at, GroupStands, Stands, TellsTypes}
+use Rattle.type_registry.proofs.Copies.{get-dropped, members-are}
 
 -- ---- parts of lists
 

@@ -3,12 +3,13 @@ use Rattle.std.proofs.lemmas.List.{length-append}
 use Rattle.std.specs.Option.{option_copied}
 use Rattle.type_spec.specs.Interned.{Span}
 use Rattle.wasm_index.specs.Index.{number_of}
+use Rattle.wasm_trace.specs.Canonical.{consed_edge}
 use Rattle.wasm_types.specs.TypeViews.{group_of}
 use Rattle.type_registry.specs.Registry.{Groups, Module, indices_of}
-use Rattle.type_registry.specs.Changes.{Plan, canonical_data, canonical_of, find_group, free_indices, next_group, with_group}
 use Rattle.type_registry.specs.Planning.{plan}
+use Rattle.type_registry.specs.Changes.{Plan, canonical_data, canonical_of, find_group, free_indices, given as given_by, next_group, with_group}
 use Rattle.type_registry.proofs.FreeIndices.{free-length}
-use Rattle.type_registry.proofs.PlanGroups.{canonical-long, found-equal, known-group, unknown-group, next-length, none-second}
+use Rattle.type_registry.proofs.PlanGroups.{mapped-long, found-equal, known-group, unknown-group, next-length, none-second}
 use Rattle.type_registry.proofs.planning.take_group.Goals.{In_ok-canonical, In-Some, In_default}
 use Rattle.type_registry.proofs.planning.take_group.Goals as goal
 
@@ -25,7 +26,7 @@ is : (c : In_ok-canonical) → c.in_ok-canonical.canonical.value ≡ canonical_o
 is c = c.in_ok-canonical.ensures.canonical ∙ ap (λ is. canonical_of c.args.source.types.now is (span c)) (given c)
 
 long : (c : In_ok-canonical) → length c.in_ok-canonical.canonical.value ≡ c.args.end - c.args.start
-long c = canonical-long c.args.source.types.now (span c) c.args.listed.now.indices c.in_ok-canonical.canonical.value c.requires.may.within (form c)
+long c = mapped-long c.args.source.types.now (span c) (consed_edge (given_by c.args.listed.now.indices) c.args.start) c.in_ok-canonical.canonical.value c.requires.may.within (form c)
 
 found : (c : In-Some) → find_group c.in_ok-canonical.canonical.value (c.args.source.groups.now.groups ++ c.args.fresh.now) ≡ Some c.in-Some.group.now
 found c = sym c.find_equal.ensures ∙ ap option_copied c.in-Some.is

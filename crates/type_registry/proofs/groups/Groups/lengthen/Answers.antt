@@ -1,10 +1,10 @@
 use Rattle.std.proofs.Common.{arith, ◌≡◌, ◌∙◌, ◌≤◌, ◌-◌, ◌++◌, ℕ, List, length, map, Option, None, sym, ap, subst}
 use Rattle.std.specs.Prelude.{replicate, vec_len}
+use Rattle.std.proofs.lemmas.List.{take_all}
 use Rattle.type_registry.specs.declared.owners.Owner.{Owner}
 use Rattle.type_registry.specs.Registry.{Group}
 use Rattle.type_registry.specs.Owners.{free_count}
 use Rattle.type_registry.specs.Keeping.{kept_from, AreKept, shared_content, first_of}
-use Rattle.std.proofs.lemmas.List.{take_all}
 use Rattle.type_registry.proofs.Roomier.{kept-more, kept-roomier}
 use Rattle.type_registry.proofs.groups.Groups.lengthen.Goals as goal
 

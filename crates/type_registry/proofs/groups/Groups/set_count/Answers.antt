@@ -1,6 +1,6 @@
 use Rattle.std.proofs.Common.{rules, arith, ◌≡◌, ◌∙◌, List, length, set, nat_eq, Option, Some, None, sym, ap, subst, length-set}
-use Rattle.std.proofs.lemmas.List.{set-set}
 use Rattle.std.specs.Map.{lookup}
+use Rattle.std.proofs.lemmas.List.{set-set}
 use Rattle.type_registry.specs.contracts.kept.Kept as kept
 use Rattle.type_registry.specs.Registry.{Group, Groups}
 use Rattle.type_registry.specs.Changes.{with_count}
