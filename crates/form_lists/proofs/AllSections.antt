@@ -1,9 +1,9 @@
 -- What holds of each entry, where the entries stand in sections.
-use Rattle.std.proofs.Common.{◌≡◌, ◌↔◌, ℕ, ◌+◌, ◌<◌, ◌≤◌, Bool, List, [], ◌∷◌, ◌++◌, length, map, take, drop, get_or, All, IsTrue, sym, ap, subst, ◌∙◌, arith}
+use Rattle.std.proofs.Common.{◌≡◌, ◌↔◌, ℕ, ◌+◌, ◌<◌, ◌≤◌, Bool, false, List, [], ◌∷◌, ◌++◌, length, map, take, drop, get_or, All, IsTrue, sym, ap, subst, ◌∙◌, arith}
 use Rattle.std.proofs.lemmas.List.{map-append, map_more, take-append-drop, length-append}
 use Rattle.std.proofs.lemmas.List.Concat.{flat_map-append}
 use Rattle.std.specs.List.{flat_map}
-use Rattle.std.proofs.lemmas.List.Elements.{All-nil, All-cons, All-head, All-tail, All-append, All-map, All-same, All-get_or, All-push}
+use Rattle.std.proofs.lemmas.List.Elements.{All-nil, All-cons, All-head, All-tail, All-append, All-map, All-same, All-rest, All-get_or, All-push}
 use Rattle.wasm_spec.specs.Module as plain
 use Rattle.form_data.specs.declared.form.Payload.{Payload}
 use Rattle.form_data.specs.Views.{payload_of}
@@ -37,15 +37,6 @@ All-parts {Y = Y} P f (y ∷ ys) =
       λ all. joined.1 (All-head Q y ys all, rest.1 (All-tail Q y ys all)),
     )
 
-All-sections : {X : Type 0} (P : X → Type 0) (f : plain.Payload → List X) (ps : List Payload)
-    → All P (flat_map f (map payload_of ps)) ↔ All (λ p. All P (f (payload_of p))) ps
-All-sections P f ps =
-    let Q : plain.Payload → Type 0 = λ p. All P (f p) in
-    let parts = All-parts P f (map payload_of ps) in (
-      λ all. All-from_map Q payload_of ps (parts.0 all),
-      λ all. parts.1 (All-map Q payload_of ps all),
-    )
-
 -- ---- tests
 
 -- a test of the values that are seen by a view
@@ -53,27 +44,7 @@ pub tells_of_map : {X Y : Type 0} (P : X → Type 0) (f : Y → X) (ys : List Y)
     → IsTrue b ↔ All P (map f ys)
 tells_of_map P f ys b tells = (λ answered. All-map P f ys (tells.0 answered), λ all. tells.1 (All-from_map P f ys all))
 
--- a test of section after section
-pub tells_of_sections : {X : Type 0} (P : X → Type 0) (f : plain.Payload → List X) (ps : List Payload) (b : Bool)
-    → IsTrue b ↔ All (λ p. All P (f (payload_of p))) ps → IsTrue b ↔ All P (flat_map f (map payload_of ps))
-tells_of_sections P f ps b tells = (λ answered. (All-sections P f ps).1 (tells.0 answered), λ all. tells.1 ((All-sections P f ps).0 all))
-
 -- ---- loops over sections
-
--- the entries of one section more
-pub all_more : {X : Type 0} (P : X → Type 0) (f : plain.Payload → List X) (ps : List Payload) (k : ℕ) (p : Payload) (xs : List X) → k < length ps
-    → p ≡ get_or ps k p → xs ≡ f (payload_of p) → All P xs → All P (flat_map f (map payload_of (take k ps)))
-    → All P (flat_map f (map payload_of (take (k + 1) ps)))
-all_more P f ps k p xs lt at same here before =
-    All-same P _ _ (entries_of_more f ps k p lt at ∙ ap (λ ys. flat_map f (map payload_of (take k ps)) ++ ys) (sym same))
-    (All-append P (flat_map f (map payload_of (take k ps))) xs before here)
-
--- an entry of one section fails
-pub all_fails : {X : Type 0} (P : X → Type 0) (f : plain.Payload → List X) (ps : List Payload) (k : ℕ) (p : Payload) (xs : List X) → k < length ps
-    → p ≡ get_or ps k p → xs ≡ f (payload_of p) → (All P xs → ⊥) → All P (flat_map f (map payload_of ps)) → ⊥
-all_fails P f ps k p xs lt at same fails all =
-    fails (All-same P _ _ (same ∙ ap (λ (q : Payload). f (payload_of q)) at)
-    (All-get_or (λ (q : Payload). All P (f (payload_of q))) ps k p lt ((All-sections P f ps).0 all)))
 
 -- the entries so far and those of one section more are no more than all
 pub length_more_le : {X : Type 0} (f : plain.Payload → List X) (ps : List Payload) (k : ℕ) (p : Payload) → k < length ps → p ≡ get_or ps k p
@@ -90,6 +61,25 @@ length_more_le f ps k p lt at =
       ap length through ∙ length-append before (f (payload_of p)),
       ap length whole ∙ length-append (flat_map f (map payload_of (take (k + 1) ps))) (flat_map f (map payload_of (drop (k + 1) ps))),
     )
+
+-- ---- loops over the sections, and over the entries of all sections
+
+-- at the beginning all sections are left
+pub left_parts : {X Y : Type 0} (P : X → Type 0) (f : Y → List X) (left ys : List Y) → left ≡ ys → All (λ y. All P (f y)) left ↔ All P (flat_map f ys)
+left_parts {X = X} {Y = Y} P f left ys at =
+    let both = All-parts P f ys in subst (λ (zs : List Y). All (λ y. All P (f y)) zs ↔ All P (flat_map f ys)) (sym at) (both.1, both.0)
+
+-- W is that all hold: while each has held so far, it is that those hold which are left
+module _ {X : Type 0} (P : X → Type 0) (W : Type 0) (left rest : List X) (x : X) (at : left ≡ x ∷ rest) (tells : All P left ↔ W) where
+  -- one more holds
+  pub left_more : P x → All P rest ↔ W
+  left_more here = (λ others. tells.0 (All-same P left (x ∷ rest) at (All-cons P x rest here others)), λ all. All-rest P x rest left at (tells.1 all))
+
+  -- one fails
+  pub left_fails : (b : Bool) → b ≡ false → IsTrue b ↔ P x → IsTrue false ↔ W
+  left_fails b is one = (λ answered. absurd (cc), λ all. absurd (fails (one.1 (All-head P x rest (All-same P (x ∷ rest) left (sym at) (tells.1 all)))))) where
+    fails : IsTrue b → ⊥
+    fails holds = absurd (cc)
 
 -- ---- loops over the entries of one section
 

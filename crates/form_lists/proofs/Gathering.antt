@@ -8,11 +8,10 @@ use Rattle.wasm_spec.specs.Module as plain
 use Rattle.wasm_spec.specs.Module.{function_import, table_import, memory_import, global_import, tag_import, function_types_of_section, tables_of_section, memories_of_section, globals_of_section, tags_of_section}
 use Rattle.wasm_spec.specs.declared.entities.TableType.{TableType}
 use Rattle.wasm_spec.specs.declared.entities.GlobalType.{GlobalType}
-use Rattle.form_data.specs.declared.form.Import.{Import}
 use Rattle.form_data.specs.declared.form.TableDef.{TableDef}
 use Rattle.form_data.specs.declared.form.GlobalDef.{GlobalDef}
 use Rattle.form_data.specs.declared.form.Payload.{Payload}
-use Rattle.form_data.specs.Views.{import_of, table_of, global_of, payload_of}
+use Rattle.form_data.specs.Views.{table_of, global_of, payload_of}
 use Rattle.form_lists.specs.declared.lists.Spaces.{Spaces}
 use Rattle.form_lists.specs.Gathered.{AddsImports, AddsDefined}
 
@@ -51,20 +50,11 @@ AddsImports-then a b c is js first second = record {
   tags = grown _ _ _ _ _ _ first.tags second.tags (filter_map-append (λ (i : plain.Import). tag_import i.type) is js);
 }
 
-pub AddsImports-more : (a b c : Spaces) (is : List Import) (k : ℕ) (i : Import) → k < length is → i ≡ get_or is k i
-    → AddsImports a b (map import_of (take k is)) → AddsImports b c (import_of i ∷ []) → AddsImports a c (map import_of (take (k + 1) is))
-AddsImports-more a b c is k i lt at first second =
-    subst (AddsImports a c) (sym (map_more import_of is k i lt ∙ ap (λ (x : Import). map import_of (take k is) ++ import_of x ∷ []) (sym at)))
-    (AddsImports-then a b c (map import_of (take k is)) (import_of i ∷ []) first second)
-
--- the imports of one section more
-pub AddsImports-section : (a b c : Spaces) (ps : List Payload) (k : ℕ) (p : Payload) (is : List plain.Import) → k < length ps → p ≡ get_or ps k p
-    → is ≡ plain.imports_of_section (payload_of p)
-    → AddsImports a b (plain.imports (map payload_of (take k ps))) → AddsImports b c is
-    → AddsImports a c (plain.imports (map payload_of (take (k + 1) ps)))
-AddsImports-section a b c ps k p is lt at same first second =
-    subst (AddsImports a c) (sym (entries_of_more plain.imports_of_section ps k p lt at ∙ ap (λ (js : List plain.Import). plain.imports (map payload_of (take k ps)) ++ js) (sym same)))
-    (AddsImports-then a b c (plain.imports (map payload_of (take k ps))) is first second)
+-- one import more of those that are left
+pub AddsImports-more : (a b c : Spaces) (i : plain.Import) (left rest all : List plain.Import) → left ≡ i ∷ rest → AddsImports b c (i ∷ [])
+    → ((d : Spaces) → AddsImports b d left → AddsImports a d all) → (d : Spaces) → AddsImports c d rest → AddsImports a d all
+AddsImports-more a b c i left rest all at added before d others =
+    before d (subst (AddsImports b d) (sym at) (AddsImports-then b c d (i ∷ []) rest added others))
 
 -- ---- what is defined
 
@@ -97,9 +87,8 @@ pub types_of_globals : (gs : List GlobalDef) → map (λ (g : plain.GlobalDef). 
 types_of_globals [] = refl
 types_of_globals (g ∷ gs) = ap (λ (us : List GlobalType). g.ty ∷ us) (types_of_globals gs)
 
--- one section more
-pub AddsDefined-more : (a b c : Spaces) (ps : List Payload) (k : ℕ) (p : Payload) → k < length ps → p ≡ get_or ps k p
-    → AddsDefined a b (map payload_of (take k ps)) → AddsDefined b c (payload_of p ∷ []) → AddsDefined a c (map payload_of (take (k + 1) ps))
-AddsDefined-more a b c ps k p lt at first second =
-    subst (AddsDefined a c) (sym (map_more payload_of ps k p lt ∙ ap (λ (x : Payload). map payload_of (take k ps) ++ payload_of x ∷ []) (sym at)))
-    (AddsDefined-then a b c (map payload_of (take k ps)) (payload_of p ∷ []) first second)
+-- one section more of those that are left
+pub AddsDefined-more : (a b c : Spaces) (p : plain.Payload) (left rest all : plain.Module) → left ≡ p ∷ rest → AddsDefined b c (p ∷ [])
+    → ((d : Spaces) → AddsDefined b d left → AddsDefined a d all) → (d : Spaces) → AddsDefined c d rest → AddsDefined a d all
+AddsDefined-more a b c p left rest all at added before d others =
+    before d (subst (AddsDefined b d) (sym at) (AddsDefined-then b c d (p ∷ []) rest added others))

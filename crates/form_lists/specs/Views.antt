@@ -2,8 +2,9 @@
 use Rattle.std.specs.Prelude.{map}
 use Rattle.std.specs.List.{flat_map}
 use Rattle.wasm_spec.specs.Module as plain
-use Rattle.form_data.specs.Views.{sub_type_of, module_of}
+use Rattle.form_data.specs.Views.{sub_type_of}
 use Rattle.rule_spec.specs.Lists as rule
+use Rattle.form_lists.specs.Source.{source_module}
 use Rattle.form_lists.specs.declared.lists.Declared.{Declared}
 use Rattle.form_lists.specs.declared.lists.Lists.{Lists}
 
@@ -20,13 +21,13 @@ lists_of l = record {
   tags = l.spaces.tags.items;
   imported_functions = l.imported_functions;
   imported_globals = l.imported_globals;
-  imports = plain.imports (module_of l.form.now);
-  tables = flat_map plain.tables_of_section (module_of l.form.now);
-  globals = flat_map plain.globals_of_section (module_of l.form.now);
-  exports = flat_map plain.exports_of_section (module_of l.form.now);
-  starts = flat_map plain.starts_of_section (module_of l.form.now);
-  elements = flat_map plain.elements_of_section (module_of l.form.now);
-  data_counts = flat_map plain.data_counts_of_section (module_of l.form.now);
-  bodies = flat_map plain.bodies_of_section (module_of l.form.now);
-  segments = plain.segments (module_of l.form.now);
+  imports = plain.imports (source_module l.source);
+  tables = flat_map plain.tables_of_section (source_module l.source);
+  globals = flat_map plain.globals_of_section (source_module l.source);
+  exports = flat_map plain.exports_of_section (source_module l.source);
+  starts = flat_map plain.starts_of_section (source_module l.source);
+  elements = flat_map plain.elements_of_section (source_module l.source);
+  data_counts = flat_map plain.data_counts_of_section (source_module l.source);
+  bodies = flat_map plain.bodies_of_section (source_module l.source);
+  segments = plain.segments (source_module l.source);
 }

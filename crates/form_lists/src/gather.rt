@@ -1,24 +1,29 @@
-//! Gathers the lists of a module, once, over the sections of its form.
+//! Gathers the lists of a module, once, over its sections.
 
-ghost use Rattle.std.specs.Prelude.{◌≡◌, ◌++◌, ◌∷◌, [], map, length, IfOk, OnOk};
+ghost use Rattle.std.specs.Prelude.{◌≡◌, ◌+◌, ◌++◌, ◌∷◌, [], map, length, IfOk, OnOk};
 ghost use Rattle.wasm_spec.specs.Module.{imports, groups};
 ghost use Rattle.rule_spec.specs.Lists.{declared_from, declared_groups, lists_of_module};
-ghost use Rattle.form_data.specs.Views.{import_of, table_of, global_of, group_of, payload_of, module_of};
+ghost use Rattle.form_data.specs.Views.{import_of, table_of, global_of, group_of, payload_of};
+ghost use Rattle.form_lists.specs.Source.{source_module, section_of};
 ghost use Rattle.form_lists.specs.Views.{declared_of, lists_of};
 ghost use Rattle.form_lists.specs.Gathered.{AddsImports, AddsDefined};
 
 use crate::lists::{Declared, Lists, Spaces};
-use crate::sections::{groups_of, imports_of};
-use form_data::{Form, GlobalDef, Import, Payload, RecGroup, TableDef};
+use crate::sections::entries_of;
+use crate::source::{Section, Source, sections_of};
+use form_data::{GlobalDef, Import, Payload, RecGroup, TableDef};
 use std::alloc::{AllocError, Global};
 use wasm_spec::{GlobalType, TableType, TypeRef};
 
 /// The lists of a module.
-pub fn gather_lists<'f, 'd>(alloc: Global, form: &'f Form<'d>) -> Result<Lists<'f, 'd>, AllocError>
-    ensures lists { IfOk result (λ l. lists_of l ≡ lists_of_module (module_of form.now)) }
-    ensures of_form { IfOk result (λ l. l.form ≡ form.entry) }
+pub fn gather_lists<'f, 'd>(
+    alloc: Global,
+    source: Source<'f, 'd>,
+) -> Result<Lists<'f, 'd>, AllocError>
+    ensures lists { IfOk result (λ l. lists_of l ≡ lists_of_module (source_module source.entry)) }
+    ensures of_source { IfOk result (λ l. l.source ≡ source.entry) }
 {
-    let types = declared_types(alloc, form)?;
+    let types = declared_types(alloc, source)?;
     let mut spaces = Spaces {
         functions: Vec::new(alloc),
         table_types: Vec::new(alloc),
@@ -26,12 +31,12 @@ pub fn gather_lists<'f, 'd>(alloc: Global, form: &'f Form<'d>) -> Result<Lists<'
         global_types: Vec::new(alloc),
         tags: Vec::new(alloc),
     };
-    add_all_imports(&mut spaces, form)?;
+    add_all_imports(&mut spaces, source)?;
     let imported_functions = spaces.functions.len();
     let imported_globals = spaces.global_types.len();
-    add_all_defined(&mut spaces, form)?;
+    add_all_defined(&mut spaces, source)?;
     Ok(Lists {
-        form,
+        source,
         types,
         spaces,
         imported_functions,
@@ -40,31 +45,23 @@ pub fn gather_lists<'f, 'd>(alloc: Global, form: &'f Form<'d>) -> Result<Lists<'
 }
 
 /// The declared types, in the order of their indices.
-fn declared_types<'f>(alloc: Global, form: &'f Form<'_>) -> Result<Vec<Declared<'f>>, AllocError>
-    ensures { IfOk result (λ types. map declared_of types.items ≡ declared_groups 0 (groups (module_of form.now))) }
+fn declared_types<'f>(
+    alloc: Global,
+    source: Source<'f, '_>,
+) -> Result<Vec<Declared<'f>>, AllocError>
+    ensures { IfOk result (λ types. map declared_of types.items ≡ declared_groups 0 (groups (source_module source.entry))) }
 {
     let mut types = Vec::new(alloc);
-    for payload in &form.payloads {
-        add_groups(&mut types, groups_of(payload))?;
+    for group in entries_of::<RecGroup>(source) {
+        add_group(&mut types, group)?;
     }
     Ok(types)
 }
 
-fn add_groups<'f>(types: &mut Vec<Declared<'f>>, groups: &'f [RecGroup]) -> Result<(), AllocError>
-    ensures { OnOk result
-        (map declared_of types.new.items ≡ map declared_of types.old.items
-        ++ declared_groups (length types.old.items) (map group_of groups.now)) }
-{
-    for group in groups {
-        add_group(types, group)?;
-    }
-    Ok(())
-}
-
 fn add_group<'f>(types: &mut Vec<Declared<'f>>, group: &'f RecGroup) -> Result<(), AllocError>
     ensures { OnOk result
-        (map declared_of types.new.items ≡ map declared_of types.old.items
-        ++ declared_groups (length types.old.items) (group_of group.now ∷ [])) }
+        (let members = group_of group.now in let index = length types.old.items in
+        map declared_of types.new.items ≡ map declared_of types.old.items ++ declared_from (index + length members) index members) }
 {
     let group_end = types.len() + group.types.len();
     for ty in &group.types {
@@ -78,19 +75,10 @@ fn add_group<'f>(types: &mut Vec<Declared<'f>>, group: &'f RecGroup) -> Result<(
     Ok(())
 }
 
-fn add_all_imports(spaces: &mut Spaces, form: &Form<'_>) -> Result<(), AllocError>
-    ensures { OnOk result (AddsImports spaces.old spaces.new (imports (module_of form.now))) }
+fn add_all_imports(spaces: &mut Spaces, source: Source<'_, '_>) -> Result<(), AllocError>
+    ensures { OnOk result (AddsImports spaces.old spaces.new (imports (source_module source.entry))) }
 {
-    for payload in &form.payloads {
-        add_imports(spaces, imports_of(payload))?;
-    }
-    Ok(())
-}
-
-fn add_imports(spaces: &mut Spaces, imports: &[Import<'_>]) -> Result<(), AllocError>
-    ensures { OnOk result (AddsImports spaces.old spaces.new (map import_of imports.now)) }
-{
-    for import in imports {
+    for import in entries_of::<Import<'_>>(source) {
         add_import(spaces, import)?;
     }
     Ok(())
@@ -109,13 +97,22 @@ fn add_import(spaces: &mut Spaces, import: &Import<'_>) -> Result<(), AllocError
     Ok(())
 }
 
-fn add_all_defined(spaces: &mut Spaces, form: &Form<'_>) -> Result<(), AllocError>
-    ensures { OnOk result (AddsDefined spaces.old spaces.new (module_of form.now)) }
+fn add_all_defined(spaces: &mut Spaces, source: Source<'_, '_>) -> Result<(), AllocError>
+    ensures { OnOk result (AddsDefined spaces.old spaces.new (source_module source.entry)) }
 {
-    for payload in &form.payloads {
-        add_defined(spaces, payload)?;
+    for section in sections_of(source) {
+        add_section(spaces, section)?;
     }
     Ok(())
+}
+
+fn add_section(spaces: &mut Spaces, section: Section<'_, '_>) -> Result<(), AllocError>
+    ensures { OnOk result (AddsDefined spaces.old spaces.new (section_of section.entry ∷ [])) }
+{
+    match section {
+        Section::Read(payload) => add_defined(spaces, payload),
+        Section::Elements(_) => Ok(()),
+    }
 }
 
 fn add_defined(spaces: &mut Spaces, payload: &Payload<'_>) -> Result<(), AllocError>

@@ -6,7 +6,8 @@ ghost use Rattle.form_data.specs.Views.{composite_of};
 ghost use Rattle.rule_spec.specs.Lists.{kind_at};
 ghost use Rattle.form_lists.specs.Views.{lists_of};
 
-use form_data::{CompositeInnerType, Form, SubType};
+use crate::source::Source;
+use form_data::{CompositeInnerType, SubType};
 use wasm_spec::{GlobalType, MemoryType, TableType};
 
 /// A declared type, its index, and the index after the last member of its group.
@@ -33,7 +34,7 @@ pub struct Spaces {
 #[derive(Drop)]
 pub struct Lists<'f, 'd> {
     /// The entries of the sections stay where they are.
-    pub form: &'f Form<'d>,
+    pub source: Source<'f, 'd>,
     pub types: Vec<Declared<'f>>,
     pub spaces: Spaces,
     pub imported_functions: usize,

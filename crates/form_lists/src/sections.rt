@@ -1,89 +1,208 @@
-//! The entries of a section.
+//! The entries of the sections of a module, in order.
 
-ghost use Rattle.std.specs.Prelude.{◌≡◌, map};
-ghost use Rattle.wasm_spec.specs.Module.{imports_of_section, tables_of_section, globals_of_section, exports_of_section, elements_of_section, bodies_of_section, segments_of_section, groups_of_section};
-ghost use Rattle.form_data.specs.Views.{payload_of, import_of, table_of, global_of, export_of, element_of, body_of, segment_of, group_of};
+ghost use Rattle.std.specs.Prelude.{◌≡◌, List, [], map, refl};
+ghost use Rattle.std.specs.List.{flat_map};
+ghost use Rattle.std.specs.Iterator.{YieldsFirstBy, item_count};
+ghost use Rattle.wasm_spec.specs.declared.types.UnpackedIndex.{UnpackedIndex};
+ghost use Rattle.wasm_spec.specs.TypeData.{Group};
+ghost use Rattle.wasm_spec.specs.Module as plain;
+ghost use Rattle.form_data.specs.Views.{payload_of, import_of, table_of, global_of, export_of, body_of, segment_of, group_of};
+ghost use Rattle.form_lists.specs.Source.{source_module, section_of, sections_left};
+ghost use Rattle.form_lists.specs.Sections.{entries_left};
 
+use crate::source::{Section, Sections, Source, sections_of};
 use form_data::{
-    DataSegment, Element, Export, FunctionBody, GlobalDef, Import, Payload, RecGroup, TableDef,
+    DataSegment, Export, FunctionBody, GlobalDef, Import, Payload, RecGroup, TableDef,
 };
 
-/// The groups of a type section; other sections have none.
-pub fn groups_of<'a>(payload: &'a Payload<'_>) -> &'a [RecGroup]
-    ensures { map group_of result.now ≡ groups_of_section (payload_of payload.now) }
+/// What sections of one kind list.
+pub trait Entry<'d>: Sized {
+    ghost Seen: { Type 0 };
+
+    ghost seen: { Self → Seen };
+
+    ghost of_section: { plain.Payload → List Seen };
+
+    /// The entries of a section; sections of other kinds have none.
+    fn in_section<'f>(payload: &'f Payload<'d>) -> &'f [Self]
+        ensures { map seen result.now ≡ of_section (payload_of payload.now) };
+
+    ghost no_elements: { (segments : List plain.Element) → of_section (plain.Elements segments) ≡ [] };
+}
+
+/// The entries of a section, of which element segments are none.
+#[inline]
+pub fn entries_in<'f, 'd, T: Entry<'d>>(section: Section<'f, 'd>) -> &'f [T]
+    ensures { map T.seen result.now ≡ T.of_section (section_of section.entry) }
 {
-    match payload {
-        Payload::Types(groups) => groups.as_slice(),
-        _ => &[],
+    match section {
+        Section::Read(payload) => T::in_section(payload),
+        Section::Elements(_) => &[],
     }
 }
 
-/// The imports of an import section; other sections have none.
-pub fn imports_of<'a, 'd>(payload: &'a Payload<'d>) -> &'a [Import<'d>]
-    ensures { map import_of result.now ≡ imports_of_section (payload_of payload.now) }
+/// The entries of one kind, section after section.
+#[derive(Drop)]
+pub struct Entries<'f, 'd, T> {
+    entries: &'f [T],
+    sections: Sections<'f, 'd>,
+}
+
+/// The entries of one kind, through all sections of a module.
+#[inline]
+#[tactic(auto, unfolding(crate::specs::Sections::entries_left))]
+pub fn entries_of<'f, 'd, T: Entry<'d>>(source: Source<'f, 'd>) -> Entries<'f, 'd, T>
+    ensures { entries_left T.seen T.of_section result ≡ flat_map T.of_section (source_module source.entry) }
 {
-    match payload {
-        Payload::Imports(imports) => imports.as_slice(),
-        _ => &[],
+    Entries {
+        entries: &[],
+        sections: sections_of(source),
     }
 }
 
-/// The tables of a table section; other sections have none.
-pub fn tables_of<'a>(payload: &'a Payload<'_>) -> &'a [TableDef]
-    ensures { map table_of result.now ≡ tables_of_section (payload_of payload.now) }
-{
-    match payload {
-        Payload::Tables(tables) => tables.as_slice(),
-        _ => &[],
+impl<'f, 'd, T: Entry<'d>> Iterator for Entries<'f, 'd, T> {
+    type Item = &'f T;
+
+    ghost next_gives = { YieldsFirstBy (λ x. T.seen x.now) (entries_left T.seen T.of_section) };
+
+    ghost remaining = { item_count (entries_left T.seen T.of_section) };
+
+    #[inline]
+    #[tactic(auto, unfolding(crate::specs::Sections::entries_left))]
+    fn next(&mut self) -> Option<&'f T> {
+        loop {
+            if let Some((first, others)) = self.entries.split_first() {
+                self.entries = others;
+                return Some(first);
+            }
+            let section = self.sections.next()?;
+            self.entries = entries_in::<T>(section);
+        }
     }
 }
 
-/// The globals of a global section; other sections have none.
-pub fn globals_of<'a>(payload: &'a Payload<'_>) -> &'a [GlobalDef]
-    ensures { map global_of result.now ≡ globals_of_section (payload_of payload.now) }
-{
-    match payload {
-        Payload::Globals(globals) => globals.as_slice(),
-        _ => &[],
+impl<'d> Entry<'d> for RecGroup {
+    ghost Seen = { Group UnpackedIndex UnpackedIndex };
+
+    ghost seen = { group_of };
+
+    ghost of_section = { plain.groups_of_section };
+
+    #[inline]
+    fn in_section<'f>(payload: &'f Payload<'d>) -> &'f [Self] {
+        match payload {
+            Payload::Types(groups) => groups.as_slice(),
+            _ => &[],
+        }
     }
+
+    ghost no_elements = { λ segments. refl };
 }
 
-/// The exports of an export section; other sections have none.
-pub fn exports_of<'a, 'd>(payload: &'a Payload<'d>) -> &'a [Export<'d>]
-    ensures { map export_of result.now ≡ exports_of_section (payload_of payload.now) }
-{
-    match payload {
-        Payload::Exports(exports) => exports.as_slice(),
-        _ => &[],
+impl<'d> Entry<'d> for Import<'d> {
+    ghost Seen = { plain.Import };
+
+    ghost seen = { import_of };
+
+    ghost of_section = { plain.imports_of_section };
+
+    #[inline]
+    fn in_section<'f>(payload: &'f Payload<'d>) -> &'f [Self] {
+        match payload {
+            Payload::Imports(imports) => imports.as_slice(),
+            _ => &[],
+        }
     }
+
+    ghost no_elements = { λ segments. refl };
 }
 
-/// The segments of an element section; other sections have none.
-pub fn elements_of<'a>(payload: &'a Payload<'_>) -> &'a [Element]
-    ensures { map element_of result.now ≡ elements_of_section (payload_of payload.now) }
-{
-    match payload {
-        Payload::Elements(elements) => elements.as_slice(),
-        _ => &[],
+impl<'d> Entry<'d> for TableDef {
+    ghost Seen = { plain.TableDef };
+
+    ghost seen = { table_of };
+
+    ghost of_section = { plain.tables_of_section };
+
+    #[inline]
+    fn in_section<'f>(payload: &'f Payload<'d>) -> &'f [Self] {
+        match payload {
+            Payload::Tables(tables) => tables.as_slice(),
+            _ => &[],
+        }
     }
+
+    ghost no_elements = { λ segments. refl };
 }
 
-/// The bodies of a code section; other sections have none.
-pub fn bodies_of<'a, 'd>(payload: &'a Payload<'d>) -> &'a [FunctionBody<'d>]
-    ensures { map body_of result.now ≡ bodies_of_section (payload_of payload.now) }
-{
-    match payload {
-        Payload::Code { bodies, .. } => bodies.as_slice(),
-        _ => &[],
+impl<'d> Entry<'d> for GlobalDef {
+    ghost Seen = { plain.GlobalDef };
+
+    ghost seen = { global_of };
+
+    ghost of_section = { plain.globals_of_section };
+
+    #[inline]
+    fn in_section<'f>(payload: &'f Payload<'d>) -> &'f [Self] {
+        match payload {
+            Payload::Globals(globals) => globals.as_slice(),
+            _ => &[],
+        }
     }
+
+    ghost no_elements = { λ segments. refl };
 }
 
-/// The segments of a data section; other sections have none.
-pub fn segments_of<'a, 'd>(payload: &'a Payload<'d>) -> &'a [DataSegment<'d>]
-    ensures { map segment_of result.now ≡ segments_of_section (payload_of payload.now) }
-{
-    match payload {
-        Payload::Segments(segments) => segments.as_slice(),
-        _ => &[],
+impl<'d> Entry<'d> for Export<'d> {
+    ghost Seen = { plain.Export };
+
+    ghost seen = { export_of };
+
+    ghost of_section = { plain.exports_of_section };
+
+    #[inline]
+    fn in_section<'f>(payload: &'f Payload<'d>) -> &'f [Self] {
+        match payload {
+            Payload::Exports(exports) => exports.as_slice(),
+            _ => &[],
+        }
     }
+
+    ghost no_elements = { λ segments. refl };
+}
+
+impl<'d> Entry<'d> for FunctionBody<'d> {
+    ghost Seen = { plain.Body };
+
+    ghost seen = { body_of };
+
+    ghost of_section = { plain.bodies_of_section };
+
+    #[inline]
+    fn in_section<'f>(payload: &'f Payload<'d>) -> &'f [Self] {
+        match payload {
+            Payload::Code { bodies, .. } => bodies.as_slice(),
+            _ => &[],
+        }
+    }
+
+    ghost no_elements = { λ segments. refl };
+}
+
+impl<'d> Entry<'d> for DataSegment<'d> {
+    ghost Seen = { plain.Segment };
+
+    ghost seen = { segment_of };
+
+    ghost of_section = { plain.segments_of_section };
+
+    #[inline]
+    fn in_section<'f>(payload: &'f Payload<'d>) -> &'f [Self] {
+        match payload {
+            Payload::Segments(segments) => segments.as_slice(),
+            _ => &[],
+        }
+    }
+
+    ghost no_elements = { λ segments. refl };
 }

@@ -1,6 +1,7 @@
 pub mod ContentLaws
 pub mod Digits
 pub mod Entries
+pub mod Listed
 pub mod Loop
 pub mod NameLaws
 pub mod OperatorList

@@ -4,7 +4,6 @@ use Rattle.wasm_spec.specs.declared.operators.What.{What}
 use Rattle.wasm_spec.specs.Module.{Module}
 use Rattle.wasm_spec.specs.Grammar.{Spells, Stops as IsStopped}
 use Rattle.wasm_spec.specs.Interfaces.{HasNoInterfaceTypes}
-use Rattle.form_data.specs.declared.form.Form.{Form}
 use Rattle.form_reader.specs.declared.error.ReadError.{ReadError}
 use Rattle.form_reader.specs.declared.error.ReadError.TheVariants as errors
 use Rattle.form_reader.specs.Reading.{Bad, Stops, Fails}
@@ -12,7 +11,7 @@ use Rattle.form_reader.specs.ReadingSections.{module_at}
 use Rattle.form_reader.specs.Agrees.{ok_not_err, bad_not_stops}
 use Rattle.form_reader.proofs.SectionLaws.{module_found, module_again, module_stopped, module_stops_again, module_once}
 
-pub error_is : (result : Result Form ReadError) (d e f : ReadError) → result ≡ Err d → d ≡ e → result ≡ Err f → e ≡ f
+pub error_is : {A : Type 0} (result : Result A ReadError) (d e f : ReadError) → result ≡ Err d → d ≡ e → result ≡ Err f → e ≡ f
 error_is result d e f is same other = cc
 
 module _ (bytes : List ℕ) where

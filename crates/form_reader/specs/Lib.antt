@@ -2,12 +2,14 @@ pub mod Agrees
 pub mod EntryRows
 pub mod ExpressionLaws
 pub mod ExpressionRows
+pub mod Input
 pub mod MadeLaws
 pub mod NumberLaws
 pub mod Outcomes
 pub mod Reading
 pub mod ReadingNumbers
 pub mod ReadingSections
+pub mod Rooms
 pub mod Rows
 pub mod SectionRows
 pub mod TypeRows

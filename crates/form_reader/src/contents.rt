@@ -2,6 +2,7 @@
 
 ghost use Rattle.std.specs.Prelude.{◌≡◌, ◌+◌, ◌<◌, ◌^◌, length};
 ghost use Rattle.form_data.specs.Views.{payload_of};
+ghost use Rattle.form_reader.specs.Input.{input_section_of};
 ghost use Rattle.form_reader.specs.Reading.{Reads, whole, fill_after};
 ghost use Rattle.form_reader.specs.ReadingNumbers.{unsigned_at, name_at, sized_at};
 ghost use Rattle.form_reader.specs.SectionRows.{is_interface_name as spec_is_interface_name, custom_after_at, section_contents};
@@ -9,10 +10,9 @@ ghost use Rattle.form_reader.specs.SectionRows.{is_interface_name as spec_is_int
 use crate::cursor::Cursor;
 use crate::entity_types::TagType;
 use crate::error::ReadError;
+use crate::input::InputSection::{self, Elements, Other};
 use crate::vectors::Index;
-use form_data::{
-    Custom, DataSegment, Element, Export, GlobalDef, Import, Payload, RecGroup, TableDef,
-};
+use form_data::{Custom, DataSegment, Export, GlobalDef, Import, Payload, RecGroup, TableDef};
 use std::alloc::Global;
 use wasm_spec::{MemoryType, What};
 
@@ -58,24 +58,24 @@ impl<'d> Cursor<'d> {
         alloc: Global,
         place: usize,
         id: u8,
-    ) -> Result<Payload<'d>, ReadError>
+    ) -> Result<InputSection<'d>, ReadError>
         requires { place + length self.now.rest.now < 2 ^ 30 }
-        ensures { Reads (section_contents place id).read payload_of self.old.rest.now self.new.rest.now result }
+        ensures { Reads (section_contents place id).read input_section_of self.old.rest.now self.new.rest.now result }
     {
         match id {
-            1 => Ok(Payload::Types(self.section_of::<RecGroup>(alloc)?)),
-            2 => Ok(Payload::Imports(self.section_of::<Import<'d>>(alloc)?)),
-            3 => Ok(Payload::Functions(self.section_of::<Index>(alloc)?)),
-            4 => Ok(Payload::Tables(self.section_of::<TableDef>(alloc)?)),
-            5 => Ok(Payload::Memories(self.section_of::<MemoryType>(alloc)?)),
-            13 => Ok(Payload::Tags(self.section_of::<TagType>(alloc)?)),
-            6 => Ok(Payload::Globals(self.section_of::<GlobalDef>(alloc)?)),
-            7 => Ok(Payload::Exports(self.section_of::<Export<'d>>(alloc)?)),
-            8 => Ok(Payload::Start(self.number()?)),
-            9 => Ok(Payload::Elements(self.section_of::<Element>(alloc)?)),
-            12 => Ok(Payload::DataCount(self.number()?)),
-            10 => self.code(alloc, place),
-            11 => Ok(Payload::Segments(self.section_of::<DataSegment<'d>>(alloc)?)),
+            1 => Ok(Other(Payload::Types(self.section_of::<RecGroup>(alloc)?))),
+            2 => Ok(Other(Payload::Imports(self.section_of::<Import<'d>>(alloc)?))),
+            3 => Ok(Other(Payload::Functions(self.section_of::<Index>(alloc)?))),
+            4 => Ok(Other(Payload::Tables(self.section_of::<TableDef>(alloc)?))),
+            5 => Ok(Other(Payload::Memories(self.section_of::<MemoryType>(alloc)?))),
+            13 => Ok(Other(Payload::Tags(self.section_of::<TagType>(alloc)?))),
+            6 => Ok(Other(Payload::Globals(self.section_of::<GlobalDef>(alloc)?))),
+            7 => Ok(Other(Payload::Exports(self.section_of::<Export<'d>>(alloc)?))),
+            8 => Ok(Other(Payload::Start(self.number()?))),
+            9 => Ok(Elements(self.input_elements(alloc)?)),
+            12 => Ok(Other(Payload::DataCount(self.number()?))),
+            10 => Ok(Other(self.code(alloc, place)?)),
+            11 => Ok(Other(Payload::Segments(self.section_of::<DataSegment<'d>>(alloc)?))),
             _ => Err(ReadError::Malformed),
         }
     }

@@ -1,5 +1,6 @@
 //! Constant expressions (core specification, 5.4, expressions).
 
+ghost use Rattle.std.specs.Prelude.{◌≡◌, []};
 ghost use Rattle.wasm_spec.specs.Module as plain;
 ghost use Rattle.form_data.specs.Views.{expression_of};
 ghost use Rattle.form_reader.specs.Reading.{Reads};
@@ -11,6 +12,7 @@ use crate::operators::END;
 use crate::vectors::Entry;
 use form_data::ConstExpr;
 use std::alloc::Global;
+use wasm_spec::Operator;
 
 impl<'d> Entry<'d> for ConstExpr {
     type Value = ConstExpr;
@@ -31,8 +33,16 @@ impl<'d> Cursor<'d> {
     pub fn expression(&mut self, alloc: Global) -> Result<ConstExpr, ReadError>
         ensures { Reads expression_at expression_of self.old.rest.now self.new.rest.now result }
     {
+        self.expression_into(Vec::new(alloc))
+    }
+
+    /// The operators up to the end mark, in a list that is empty and may have room.
+    pub fn expression_into(&mut self, mut ops: Vec<Operator>) -> Result<ConstExpr, ReadError>
+        requires { ops.items ≡ [] }
+        ensures { Reads expression_at expression_of self.old.rest.now self.new.rest.now result }
+    {
         // Most expressions are one operator.
-        let mut ops = Vec::with_capacity(alloc, 1)?;
+        ops.reserve_exact(1)?;
         // Each operator takes a byte at least.
         let most = self.rest.len();
         'operators: for _ in 0..most {

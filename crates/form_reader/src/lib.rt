@@ -12,6 +12,7 @@ mod expressions;
 mod fields;
 mod globals;
 mod imports;
+mod input;
 mod laws;
 mod limits;
 mod module;
@@ -24,6 +25,8 @@ mod type_groups;
 mod value_types;
 mod vectors;
 
+pub use elements::no_element;
 pub use error::ReadError;
+pub use input::{InputElements, InputForm, InputSection};
 pub use laws::spelling_is_unique;
-pub use module::{MAX_MODULE_SIZE, read_module};
+pub use module::{MAX_MODULE_SIZE, read_input, read_module};

@@ -7,14 +7,16 @@ ghost use Rattle.wasm_spec.specs.Grammar.{Spells, Stops};
 ghost use Rattle.wasm_spec.specs.Sizes.{HasFewEntries, HasShortTypes};
 ghost use Rattle.wasm_spec.specs.Interfaces.{HasNoInterfaceTypes};
 ghost use Rattle.form_data.specs.Views.{module_of, payload_of};
-ghost use Rattle.form_reader.specs.Outcomes.{ReadsAs};
+ghost use Rattle.form_reader.specs.Input.{input_section_of, input_module_of};
+ghost use Rattle.form_reader.specs.Outcomes.{ReadsAs, ReadsInputAs};
 ghost use Rattle.form_reader.specs.Reading.{Gives};
 ghost use Rattle.form_reader.specs.ReadingSections.{is_component as spec_is_component, module_at};
 
 use crate::error::ReadError;
+use crate::input::{InputForm, InputSection};
 use crate::sections::sections;
 use form_data::{Form, Payload};
-use std::alloc::Global;
+use std::alloc::{AllocError, Global};
 use wasm_spec::What;
 
 /// Input of this many bytes, 2^30, and of more is too large.
@@ -38,9 +40,9 @@ fn is_component(bytes: &[u8]) -> bool
 
 /// The sections after the header.
 #[tactic(auto, unfolding(crate::specs::ReadingSections::module_at))]
-fn payloads<'d>(alloc: Global, bytes: &'d [u8]) -> Result<Vec<Payload<'d>>, ReadError>
+fn sections_of<'d>(alloc: Global, bytes: &'d [u8]) -> Result<Vec<InputSection<'d>>, ReadError>
     requires { length bytes.now < 2 ^ 30 }
-    ensures { Gives (λ x. map payload_of x.items) result (module_at bytes.now) }
+    ensures { Gives (λ x. map input_section_of x.items) result (module_at bytes.now) }
 {
     if bytes.starts_with(&HEADER) {
         return sections(alloc, HEADER.len(), &bytes[HEADER.len()..]);
@@ -49,6 +51,50 @@ fn payloads<'d>(alloc: Global, bytes: &'d [u8]) -> Result<Vec<Payload<'d>>, Read
         return Err(ReadError::Unsupported(What::Component));
     }
     Err(ReadError::Malformed)
+}
+
+/// The sections with all of their entries.
+fn collected<'d>(
+    alloc: Global,
+    sections: Vec<InputSection<'d>>,
+) -> Result<Vec<Payload<'d>>, AllocError>
+    ensures { IfOk result (λ payloads. map payload_of payloads.items ≡ map input_section_of sections.entry.items) }
+{
+    let mut payloads = Vec::with_capacity(alloc, sections.len())?;
+    for section in sections {
+        payloads.push(section.collected(alloc)?)?;
+    }
+    Ok(payloads)
+}
+
+/// The module that the bytes spell; its element segments stay in the input.
+///
+/// # Errors
+/// Those of `read_module`.
+pub fn read_input<'d>(alloc: Global, bytes: &'d [u8]) -> Result<InputForm<'d>, ReadError>
+    // What is read is spelled so.
+    ensures read { IfOk result (λ form. Spells bytes.now (input_module_of form)) }
+    // Custom sections of interface types are refused.
+    ensures no_interface_types { IfOk result (λ form. HasNoInterfaceTypes (input_module_of form)) }
+    ensures whole { IfOk result (λ form. form.wasm.now ≡ bytes.now) }
+    ensures few { IfOk result (λ form. HasFewEntries (input_module_of form)) }
+    ensures short { IfOk result (λ form. HasShortTypes (input_module_of form)) }
+    // What is spelled is read, unless memory runs out.
+    ensures complete { length bytes.now < 2 ^ 30 → (m : Module) → Spells bytes.now m → HasNoInterfaceTypes m → ReadsInputAs result m }
+
+    ensures too_large { (result ≡ Err ReadError.TooLarge) ↔ (2 ^ 30 ≤ length bytes.now) }
+    ensures unsupported { (what : What) → result ≡ Err (ReadError.Unsupported what) → Stops bytes.now what }
+    ensures malformed { result ≡ Err ReadError.Malformed → (m : Module) → ¬ Spells bytes.now m }
+    ensures stops_nowhere { result ≡ Err ReadError.Malformed → (what : What) → ¬ Stops bytes.now what }
+{
+    if bytes.len() >= MAX_MODULE_SIZE {
+        return Err(ReadError::TooLarge);
+    }
+    let sections = sections_of(alloc, bytes)?;
+    Ok(InputForm {
+        wasm: bytes,
+        sections,
+    })
 }
 
 /// The module that the bytes spell.
@@ -72,10 +118,8 @@ pub fn read_module<'d>(alloc: Global, bytes: &'d [u8]) -> Result<Form<'d>, ReadE
     ensures malformed { result ≡ Err ReadError.Malformed → (m : Module) → ¬ Spells bytes.now m }
     ensures stops_nowhere { result ≡ Err ReadError.Malformed → (what : What) → ¬ Stops bytes.now what }
 {
-    if bytes.len() >= MAX_MODULE_SIZE {
-        return Err(ReadError::TooLarge);
-    }
-    let payloads = payloads(alloc, bytes)?;
+    let input = read_input(alloc, bytes)?;
+    let payloads = collected(alloc, input.sections)?;
     Ok(Form {
         wasm: bytes,
         payloads,

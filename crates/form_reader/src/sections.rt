@@ -3,12 +3,14 @@
 ghost use Rattle.std.specs.Prelude.{◌≡◌, ◌+◌, ◌<◌, ◌^◌, length, map};
 ghost use Rattle.wasm_spec.specs.Grammar.{order_of as spec_order_of, section_id as spec_section_id, next_order as spec_next_order};
 ghost use Rattle.form_data.specs.Views.{payload_of};
+ghost use Rattle.form_reader.specs.Input.{input_section_of};
 ghost use Rattle.form_reader.specs.Reading.{Gives, Reads};
 ghost use Rattle.form_reader.specs.ReadingSections.{all_sections_at};
 ghost use Rattle.form_reader.specs.SectionRows.{section};
 
 use crate::cursor::Cursor;
 use crate::error::ReadError;
+use crate::input::InputSection;
 use form_data::Payload;
 use std::alloc::Global;
 
@@ -25,8 +27,18 @@ fn order_of(id: u8) -> Option<usize>
     ORDER.iter().position(|other| *other == id)
 }
 
+/// The id of a section.
+fn section_id(section: &InputSection<'_>) -> u8
+    ensures { result ≡ spec_section_id (input_section_of section.now) }
+{
+    match section {
+        InputSection::Elements(_) => 9,
+        InputSection::Other(payload) => payload_id(payload),
+    }
+}
+
 /// The id of the section that a payload is read from.
-fn section_id(payload: &Payload<'_>) -> u8
+fn payload_id(payload: &Payload<'_>) -> u8
     ensures { result ≡ spec_section_id (payload_of payload.now) }
 {
     match payload {
@@ -48,10 +60,10 @@ fn section_id(payload: &Payload<'_>) -> u8
 }
 
 /// The least order of a section after this one.
-fn next_order(next: usize, payload: &Payload<'_>) -> usize
-    ensures { result ≡ spec_next_order next (payload_of payload.now) }
+fn next_order(next: usize, section: &InputSection<'_>) -> usize
+    ensures { result ≡ spec_next_order next (input_section_of section.now) }
 {
-    match order_of(section_id(payload)) {
+    match order_of(section_id(section)) {
         Some(order) => order + 1,
         None => next,
     }
@@ -65,13 +77,13 @@ impl<'d> Cursor<'d> {
         alloc: Global,
         place: usize,
         next: usize,
-    ) -> Result<Payload<'d>, ReadError>
+    ) -> Result<InputSection<'d>, ReadError>
         requires { place + length self.now.rest.now < 2 ^ 30 }
-        ensures { Reads (section place next).read payload_of self.old.rest.now self.new.rest.now result }
+        ensures { Reads (section place next).read input_section_of self.old.rest.now self.new.rest.now result }
     {
         let id = self.byte()?;
         if id == CUSTOM {
-            return self.custom();
+            return Ok(InputSection::Other(self.custom()?));
         }
         match order_of(id) {
             Some(order) if next <= order => self.section_contents(alloc, place + 1, id),
@@ -85,20 +97,20 @@ pub fn sections<'d>(
     alloc: Global,
     start: usize,
     bytes: &'d [u8],
-) -> Result<Vec<Payload<'d>>, ReadError>
+) -> Result<Vec<InputSection<'d>>, ReadError>
     requires { start + length bytes.now < 2 ^ 30 }
-    ensures { Gives (λ x. map payload_of x.items) result (all_sections_at start 0 bytes.now) }
+    ensures { Gives (λ x. map input_section_of x.items) result (all_sections_at start 0 bytes.now) }
 {
-    let mut payloads = Vec::new(alloc);
+    let mut all = Vec::new(alloc);
     let mut cursor = Cursor { rest: bytes };
     let mut place = start;
     let mut next = 0;
     'sections: while !cursor.rest.is_empty() {
         let before = cursor.rest.len();
-        let payload = cursor.section(alloc, place, next)?;
+        let one = cursor.section(alloc, place, next)?;
         place += before - cursor.rest.len();
-        next = next_order(next, &payload);
-        payloads.push(payload)?;
+        next = next_order(next, &one);
+        all.push(one)?;
     }
-    Ok(payloads)
+    Ok(all)
 }

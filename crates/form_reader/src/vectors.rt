@@ -1,6 +1,6 @@
 //! Lists of entries (core specification, 5.1, grammar).
 
-ghost use Rattle.std.specs.Prelude.{ℕ, map};
+ghost use Rattle.std.specs.Prelude.{◌≡◌, ℕ, [], map};
 ghost use Rattle.form_reader.specs.Reading.{Reader, Reads, whole};
 ghost use Rattle.form_reader.specs.ReadingNumbers.{unsigned_at, vector_at, sized_at};
 
@@ -47,13 +47,25 @@ impl<'d> Cursor<'d> {
     /// A count, and that many entries.
     ///
     /// The list begins with room for no more entries than there are bytes, since the count may be any number.
-    #[tactic(auto, unfolding(crate::specs::ReadingNumbers::vector_at))]
     pub fn vector<E: Entry<'d>>(&mut self, alloc: Global) -> Result<Vec<E::Value>, ReadError>
+        ensures { Reads (vector_at E.form) (λ v. map E.view v.items) self.old.rest.now self.new.rest.now result }
+    {
+        self.vector_into::<E>(alloc, Vec::new(alloc))
+    }
+
+    /// As `vector`, in a list that is empty and may have room.
+    #[tactic(auto, unfolding(crate::specs::ReadingNumbers::vector_at))]
+    pub fn vector_into<E: Entry<'d>>(
+        &mut self,
+        alloc: Global,
+        mut all: Vec<E::Value>,
+    ) -> Result<Vec<E::Value>, ReadError>
+        requires { all.items ≡ [] }
         ensures { Reads (vector_at E.form) (λ v. map E.view v.items) self.old.rest.now self.new.rest.now result }
     {
         let count = self.u32()?;
         let room = (count as usize).min(self.rest.len()).min(MOST_ROOM);
-        let mut all = Vec::with_capacity(alloc, room)?;
+        all.reserve_exact(room)?;
         'entries: for _ in 0..count {
             let one = E::read(alloc, self)?;
             all.push(one)?;

@@ -1,22 +1,26 @@
 -- Export names in a set.
-use Rattle.std.proofs.Common.{◌≡◌, ◌≢◌, ℕ, ◌+◌, ◌<◌, zero, suc, Bool, true, false, ◌||◌, cond, List, [], ◌∷◌, ◌++◌, length, map, take, drop, get_or, refl, sym, ap, subst, ◌∙◌, arith, append_assoc}
-use Rattle.std.specs.List.{list_any, flat_map}
+use Rattle.std.proofs.Common.{◌≡◌, ◌≢◌, ℕ, ◌<◌, zero, suc, Bool, true, false, ◌||◌, cond, List, [], ◌∷◌, ◌++◌, length, get_or, refl, sym, ap, subst, ◌∙◌, arith, append_assoc}
+use Rattle.std.specs.List.{list_any}
 use Rattle.std.specs.Str.{bytes_eq}
-use Rattle.std.specs.Bool.{MatchBool}
-use Rattle.std.specs.HashSet.{contains, Updates}
-use Rattle.std.proofs.lemmas.List.{length-append, get_or_append_left, get_or_at, map_more, take-append-drop, map-append}
-use Rattle.std.proofs.lemmas.List.Concat.{flat_map-append}
+use Rattle.std.specs.HashSet.{HashSet, contains, contains_by, Updates}
+use Rattle.std.proofs.lemmas.List.{append-nil, length-append, get_or_append_left, get_or_at}
 use Rattle.std.proofs.lemmas.List.Quantifiers.{all_pairs_push}
 use Rattle.std.proofs.lemmas.Slice.Eq.{bytes_eq-Decides}
 use denote.Ref.{Bor}
-use Rattle.wasm_spec.specs.declared.entities.ExternalKind.TheVariants.{Func}
-use Rattle.wasm_spec.specs.Module.{Export, exports_of_section}
-use Rattle.form_data.specs.declared.form.Payload.{Payload}
-use Rattle.form_data.specs.declared.form.Export.{Export as Read}
-use Rattle.form_data.specs.Views.{export_of, payload_of}
+use Rattle.wasm_spec.specs.Module.{Export}
 use Rattle.rule_spec.specs.Rules.{AreDistinct}
-use Rattle.form_rules.specs.Names.{Names, HasNames}
-use Rattle.form_lists.proofs.Gathering.{entries_of_more}
+use Rattle.entity_map.specs.declared.seed.Seeded.{Seeded}
+
+-- ---- the names that are gathered
+
+-- a set of texts
+abbrev pub Names : Type 0
+Names = HashSet (Bor (List ℕ)) Seeded
+
+-- the set has the names of the exports and no others, and no two exports have one name
+pub record HasNames (names : Names) (es : List Export) : Type 0 where
+  pub same : (name : List ℕ) → contains_by (λ k. bytes_eq name k.now) names ≡ list_any (λ e. bytes_eq name e.name) es
+  pub distinct : AreDistinct es
 
 -- ---- any element of a list
 
@@ -103,41 +107,27 @@ name_refused old k es e is present has distinct =
 
 -- ---- over exports
 
-pub exports_more : (names : Names) (before : List Export) (es : List Read) (k : ℕ) (d : Read) → k < length es
-    → HasNames names ((before ++ map export_of (take k es)) ++ export_of (get_or es k d) ∷ []) → HasNames names (before ++ map export_of (take (k + 1) es))
-exports_more names before es k d lt has = subst (HasNames names) (append_assoc before (map export_of (take k es)) (export_of (get_or es k d) ∷ [])
-    ∙ ap (λ (xs : List Export). before ++ xs) (sym (map_more export_of es k d lt))) has
+-- the set has the names of some exports, and the others are left
+pub record Gathers (names : Names) (left all : List Export) : Type 0 where
+  pub done : List Export
+  pub has : HasNames names done
+  pub whole : done ++ left ≡ all
 
-pub exports_refused : (before : List Export) (es : List Read) (k : ℕ) (d : Read) → k < length es
-    → (AreDistinct ((before ++ map export_of (take k es)) ++ export_of (get_or es k d) ∷ []) → ⊥) → AreDistinct (before ++ map export_of es) → ⊥
-exports_refused before es k d lt refused distinct =
-    let whole : before ++ map export_of es ≡ (before ++ map export_of (take (k + 1) es)) ++ map export_of (drop (k + 1) es) =
-    ap (λ (xs : List Read). before ++ map export_of xs) (sym (take-append-drop (k + 1) es))
-    ∙ ap (λ (xs : List Export). before ++ xs) (map-append export_of (take (k + 1) es) (drop (k + 1) es))
-    ∙ sym (append_assoc before (map export_of (take (k + 1) es)) (map export_of (drop (k + 1) es))) in
-    let front = distinct_front (before ++ map export_of (take (k + 1) es)) (map export_of (drop (k + 1) es)) (subst AreDistinct whole distinct) in
-    refused (subst AreDistinct (ap (λ (xs : List Export). before ++ xs) (map_more export_of es k d lt)
-    ∙ sym (append_assoc before (map export_of (take k es)) (export_of (get_or es k d) ∷ []))) front)
+pub gathers-none : (names : Names) (left all : List Export) → HasNames names [] → left ≡ all → Gathers names left all
+gathers-none names left all has at = record { done = []; has = has; whole = at }
 
--- what an index past the exports reads
-abbrev pub no_export : Read
-no_export = record { name = record { ref_ptr = (0, 0); now = [] }; kind = Func; index = 0 }
+pub gathers-all : (names : Names) (left all : List Export) → Gathers names left all → left ≡ [] → AreDistinct all
+gathers-all names left all gathers at =
+    subst AreDistinct (sym (append-nil gathers.done) ∙ ap (λ (es : List Export). gathers.done ++ es) (sym at) ∙ gathers.whole) gathers.has.distinct
 
-pub add_fails : (names : Names) (ps : List Payload) (k : ℕ) (p : Payload) (es : List Export) → k < length ps → p ≡ get_or ps k p
-    → es ≡ exports_of_section (payload_of p) → HasNames names (flat_map exports_of_section (map payload_of (take k ps)))
-    → ((before : List Export) → HasNames names before → AreDistinct (before ++ es) → ⊥)
-    → AreDistinct (flat_map exports_of_section (map payload_of ps)) → ⊥
-add_fails names ps k p es lt at same has fails distinct =
-    let before = flat_map exports_of_section (map payload_of (take k ps)) in
-    let through = flat_map exports_of_section (map payload_of (take (k + 1) ps)) in
-    let after = flat_map exports_of_section (map payload_of (drop (k + 1) ps)) in
-    let whole : flat_map exports_of_section (map payload_of ps) ≡ through ++ after =
-    ap (λ (qs : List Payload). flat_map exports_of_section (map payload_of qs)) (sym (take-append-drop (k + 1) ps))
-    ∙ ap (flat_map exports_of_section) (map-append payload_of (take (k + 1) ps) (drop (k + 1) ps))
-    ∙ flat_map-append exports_of_section (map payload_of (take (k + 1) ps)) (map payload_of (drop (k + 1) ps)) in
-    let front = distinct_front through after (subst AreDistinct whole distinct) in
-    fails before has (subst AreDistinct (entries_of_more exports_of_section ps k p lt at ∙ ap (λ (xs : List Export). before ++ xs) (sym same)) front)
+module _ (names : Names) (k : Bor (List ℕ)) (left rest all : List Export) (e : Export) (gathers : Gathers names left all) (at : left ≡ e ∷ rest) (is : e.name ≡ k.now) where
+  through : (gathers.done ++ e ∷ []) ++ rest ≡ all
+  through = append_assoc gathers.done (e ∷ []) rest ∙ ap (λ (es : List Export). gathers.done ++ es) (sym at) ∙ gathers.whole
 
-pub at_false : (b : Bool) (P Q : Type 0) → b ≡ false → MatchBool b P Q → Q
-at_false true P Q is holds = absurd (cc)
-at_false false P Q is holds = holds
+  pub gathers-more : (more : Names) → contains same_bytes names k ≡ false → Updates same_bytes names more k true → Gathers more rest all
+  gathers-more more absent updates =
+      record { done = gathers.done ++ e ∷ []; has = name_added names more k gathers.done e is absent updates gathers.has; whole = through }
+
+  pub gathers-fails : contains same_bytes names k ≡ true → AreDistinct all → ⊥
+  gathers-fails present distinct =
+      name_refused names k gathers.done e is present gathers.has (distinct_front (gathers.done ++ e ∷ []) rest (subst AreDistinct (sym through) distinct))

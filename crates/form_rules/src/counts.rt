@@ -1,14 +1,14 @@
 //! Counts of bodies, locals and data segments (core specification, 5.5, code section and modules).
 
-ghost use Rattle.std.specs.Prelude.{◌≡◌, ◌↔◌, ◌+◌, ◌≤◌, length, map, sum_by, All, IsTrue};
+ghost use Rattle.std.specs.Prelude.{◌≡◌, ◌↔◌, ◌+◌, ◌≤◌, length, sum_by, All, IsTrue};
 ghost use Rattle.std.specs.List.{flat_map};
-ghost use Rattle.wasm_spec.specs.Module.{bodies_of_section, data_counts_of_section, segments, segments_of_section};
+ghost use Rattle.wasm_spec.specs.Module.{bodies_of_section, data_counts_of_section, segments};
 ghost use Rattle.form_data.specs.Views.{body_of, payload_of, module_of};
 ghost use Rattle.rule_spec.specs.Rules.{CountsAgree, locals};
 ghost use Rattle.form_lists.specs.Views.{lists_of};
 
-use form_data::{FunctionBody, Payload};
-use form_lists::{Lists, bodies_of, segments_of};
+use form_data::{DataSegment, Form, FunctionBody, Payload};
+use form_lists::{Entry, Lists, entries_of};
 use wasm_spec::ValType;
 
 /// Whether bodies, data segments and locals are as many as is stated or allowed.
@@ -25,15 +25,17 @@ fn bodies_hold(lists: &Lists<'_, '_>) -> bool
         ≡ lists.now.imported_functions + length (flat_map bodies_of_section (module_of lists.now.form.now))) }
 {
     let functions = lists.spaces.functions.len();
-    lists.imported_functions <= functions && has_bodies(lists, functions - lists.imported_functions)
+    lists.imported_functions <= functions
+        && has_entries::<FunctionBody<'_>>(lists.form, functions - lists.imported_functions)
 }
 
-fn has_bodies(lists: &Lists<'_, '_>, count: usize) -> bool
-    ensures { IsTrue result ↔ (count ≡ length (flat_map bodies_of_section (module_of lists.now.form.now))) }
+/// Whether a module has this many entries of one kind.
+fn has_entries<'d, T: Entry<'d>>(form: &Form<'d>, count: usize) -> bool
+    ensures { IsTrue result ↔ (count ≡ length (flat_map T.of_section (module_of form.now))) }
 {
     let mut left = count;
-    for payload in &lists.form.payloads {
-        let here = bodies_of(payload).len();
+    for payload in &form.payloads {
+        let here = T::in_section(payload).len();
         if left < here {
             return false;
         }
@@ -61,40 +63,16 @@ fn data_count_holds(lists: &Lists<'_, '_>, payload: &Payload<'_>) -> bool
         (data_counts_of_section (payload_of payload.now)) }
 {
     match payload {
-        Payload::DataCount(count) => has_segments(lists, *count as usize),
+        Payload::DataCount(count) => has_entries::<DataSegment<'_>>(lists.form, *count as usize),
         _ => true,
     }
-}
-
-fn has_segments(lists: &Lists<'_, '_>, count: usize) -> bool
-    ensures { IsTrue result ↔ (count ≡ length (segments (module_of lists.now.form.now))) }
-{
-    let mut left = count;
-    for payload in &lists.form.payloads {
-        let here = segments_of(payload).len();
-        if left < here {
-            return false;
-        }
-        left -= here;
-    }
-    left == 0
 }
 
 fn locals_hold(lists: &Lists<'_, '_>) -> bool
     ensures { IsTrue result
         ↔ All (λ b. locals b ≤ 4294967295) (flat_map bodies_of_section (module_of lists.now.form.now)) }
 {
-    lists
-        .form
-        .payloads
-        .iter()
-        .all(|payload| all_locals_fit(bodies_of(payload)))
-}
-
-fn all_locals_fit(bodies: &[FunctionBody<'_>]) -> bool
-    ensures { IsTrue result ↔ All (λ b. locals b ≤ 4294967295) (map body_of bodies.now) }
-{
-    bodies.iter().all(|body| body_fits(body))
+    entries_of::<FunctionBody<'_>>(lists.form).all(body_fits)
 }
 
 fn body_fits(body: &FunctionBody<'_>) -> bool

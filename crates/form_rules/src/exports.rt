@@ -1,20 +1,18 @@
 //! Exports (core specification, 3.5, exports and modules).
 
-ghost use Rattle.std.specs.Prelude.{◌≡◌, ◌↔◌, ◌++◌, List, map, All, IsTrue, IfOk};
-ghost use Rattle.std.specs.Bool.{MatchBool};
+ghost use Rattle.std.specs.Prelude.{◌≡◌, ◌↔◌, All, IsTrue, IfOk};
 ghost use Rattle.std.specs.Hash.DefaultHasher as sip;
 ghost use Rattle.std.specs.List.{flat_map, fold};
 ghost use Rattle.wasm_spec.specs.Module.{exports_of_section};
-ghost use Rattle.wasm_spec.specs.Module as plain;
 ghost use Rattle.form_data.specs.Views.{export_of, module_of};
 ghost use Rattle.rule_spec.specs.Indices.{IsInSpace, space_size};
 ghost use Rattle.rule_spec.specs.Rules.{AreExported, AreDistinct};
 ghost use Rattle.form_lists.specs.Views.{lists_of};
-ghost use Rattle.form_rules.specs.Names.{names_of, HasNames};
+ghost use Rattle.form_rules.specs.Names.{names_of};
 
 use entity_map::Seeded;
 use form_data::Export;
-use form_lists::{Lists, exports_of};
+use form_lists::{Lists, entries_of};
 use std::alloc::{AllocError, Global};
 use std::collections::HashSet;
 use std::hash::{DefaultHasher, Hasher};
@@ -36,8 +34,8 @@ fn names_are_distinct(alloc: Global, lists: &Lists<'_, '_>) -> Result<bool, Allo
         ↔ AreDistinct (flat_map exports_of_section (module_of lists.now.form.now))) }
 {
     let mut names = HashSet::with_hasher(alloc, Seeded::new(seed_of_names(lists)));
-    for payload in &lists.form.payloads {
-        if !add_names(&mut names, exports_of(payload))? {
+    for export in entries_of::<Export<'_>>(lists.form) {
+        if !names.insert(export.name)? {
             return Ok(false);
         }
     }
@@ -49,53 +47,17 @@ fn seed_of_names(lists: &Lists<'_, '_>) -> u64
     ensures { result ≡ sip.finish (fold sip.write sip.initial (names_of (flat_map exports_of_section (module_of lists.now.form.now)))) }
 {
     let mut digest = DefaultHasher::new();
-    for payload in &lists.form.payloads {
-        add_to_seed(&mut digest, exports_of(payload));
-    }
-    digest.finish()
-}
-
-/// Adds the names of exports to a digest.
-fn add_to_seed(digest: &mut DefaultHasher, exports: &[Export<'_>])
-    ensures { digest.new ≡ fold sip.write digest.old (names_of (map export_of exports.now)) }
-{
-    for export in exports {
+    for export in entries_of::<Export<'_>>(lists.form) {
         digest.write(export.name.as_bytes());
     }
-}
-
-/// Adds the names of exports, and says whether each is new.
-fn add_names<'d>(
-    names: &mut HashSet<&'d str, Seeded>,
-    exports: &[Export<'d>],
-) -> Result<bool, AllocError>
-    ensures { IfOk result (λ new. (before : List plain.Export) → HasNames names.old before
-        → MatchBool new (HasNames names.new (before ++ map export_of exports.now))
-        (¬ AreDistinct (before ++ map export_of exports.now))) }
-{
-    for export in exports {
-        if !names.insert(export.name)? {
-            return Ok(false);
-        }
-    }
-    Ok(true)
+    digest.finish()
 }
 
 /// Whether each export names an entry of its index space.
 fn in_space_hold(lists: &Lists<'_, '_>) -> bool
     ensures { IsTrue result ↔ All (IsInSpace (lists_of lists.now)) (flat_map exports_of_section (module_of lists.now.form.now)) }
 {
-    lists
-        .form
-        .payloads
-        .iter()
-        .all(|payload| all_in_space(lists, exports_of(payload)))
-}
-
-fn all_in_space(lists: &Lists<'_, '_>, exports: &[Export<'_>]) -> bool
-    ensures { IsTrue result ↔ All (IsInSpace (lists_of lists.now)) (map export_of exports.now) }
-{
-    exports.iter().all(|export| is_in_space(lists, export))
+    entries_of::<Export<'_>>(lists.form).all(|export| is_in_space(lists, export))
 }
 
 fn is_in_space(lists: &Lists<'_, '_>, export: &Export<'_>) -> bool

@@ -1,15 +1,15 @@
 //! Indices of segments (core specification, 3.5, element and data segments).
 
-ghost use Rattle.std.specs.Prelude.{◌≡◌, ◌↔◌, ◌<◌, length, map, All, IsTrue};
+ghost use Rattle.std.specs.Prelude.{◌≡◌, ◌↔◌, ◌<◌, length, All, IsTrue};
 ghost use Rattle.std.specs.List.{flat_map};
 ghost use Rattle.wasm_spec.specs.Module.{segments, elements_of_section};
-ghost use Rattle.form_data.specs.Views.{element_of, element_kind_of, items_of, data_kind_of, segment_of, module_of};
+ghost use Rattle.form_data.specs.Views.{element_of, element_kind_of, items_of, data_kind_of, module_of};
 ghost use Rattle.rule_spec.specs.Indices.{NamesMemory, NamesTable, NamesFunctions, IsElementInRange};
 ghost use Rattle.rule_spec.specs.Rules.{AreInRange};
 ghost use Rattle.form_lists.specs.Views.{lists_of};
 
 use form_data::{DataKind, DataSegment, Element, ElementItems, ElementKind};
-use form_lists::{Lists, elements_of, segments_of};
+use form_lists::{Lists, entries_of};
 
 /// Whether what segments name is in range.
 pub fn indices_hold(lists: &Lists<'_, '_>) -> bool
@@ -22,13 +22,7 @@ fn elements_hold(lists: &Lists<'_, '_>) -> bool
     ensures { IsTrue result
         ↔ All (IsElementInRange (lists_of lists.now)) (flat_map elements_of_section (module_of lists.now.form.now)) }
 {
-    lists.form.payloads.iter().all(|payload| all_elements_in_range(lists, elements_of(payload)))
-}
-
-fn all_elements_in_range(lists: &Lists<'_, '_>, elements: &[Element]) -> bool
-    ensures { IsTrue result ↔ All (IsElementInRange (lists_of lists.now)) (map element_of elements.now) }
-{
-    elements.iter().all(|element| is_in_range(lists, element))
+    entries_of::<Element>(lists.form).all(|element| is_in_range(lists, element))
 }
 
 fn is_in_range(lists: &Lists<'_, '_>, element: &Element) -> bool
@@ -67,20 +61,7 @@ fn segments_hold(lists: &Lists<'_, '_>) -> bool
     ensures { IsTrue result
         ↔ All (λ s. NamesMemory (lists_of lists.now) s.kind) (segments (module_of lists.now.form.now)) }
 {
-    lists
-        .form
-        .payloads
-        .iter()
-        .all(|payload| all_name_memories(lists, segments_of(payload)))
-}
-
-fn all_name_memories(lists: &Lists<'_, '_>, segments: &[DataSegment<'_>]) -> bool
-    ensures { IsTrue result
-        ↔ All (λ s. NamesMemory (lists_of lists.now) s.kind) (map segment_of segments.now) }
-{
-    segments
-        .iter()
-        .all(|segment| names_memory(lists, &segment.kind))
+    entries_of::<DataSegment<'_>>(lists.form).all(|segment| names_memory(lists, &segment.kind))
 }
 
 fn names_memory(lists: &Lists<'_, '_>, kind: &DataKind) -> bool

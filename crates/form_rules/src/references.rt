@@ -4,7 +4,7 @@ ghost use Rattle.std.specs.Prelude.{◌↔◌, map, length, All, IsTrue};
 ghost use Rattle.std.specs.List.{flat_map};
 ghost use Rattle.wasm_spec.specs.TypeData.{heap_of};
 ghost use Rattle.wasm_spec.specs.Module.{imports, segments, tables_of_section, globals_of_section, elements_of_section, bodies_of_section};
-ghost use Rattle.form_data.specs.Views.{import_of, table_of, global_of, element_of, element_kind_of, items_of, body_of, segment_of, data_kind_of, expression_of, module_of};
+ghost use Rattle.form_data.specs.Views.{table_of, global_of, element_of, element_kind_of, items_of, body_of, data_kind_of, expression_of, module_of};
 ghost use Rattle.rule_spec.specs.References.{RefersIn, ValueRefersIn, ImportRefersIn, OperatorRefersIn, ExpressionRefersIn, TableRefersIn, GlobalRefersIn, ElementKindRefersIn, ItemsReferIn, ElementRefersIn, BodyRefersIn, DataKindRefersIn, AllReferIn};
 ghost use Rattle.form_lists.specs.Views.{lists_of};
 
@@ -13,7 +13,7 @@ use form_data::{
     ConstExpr, DataKind, DataSegment, Element, ElementItems, ElementKind, FunctionBody, GlobalDef,
     Import, TableDef,
 };
-use form_lists::{Lists, bodies_of, elements_of, globals_of, imports_of, segments_of, tables_of};
+use form_lists::{Lists, entries_of};
 use wasm_spec::{Operator, TypeRef};
 
 /// Whether each concrete reference outside the type section names one of the declared types.
@@ -59,19 +59,7 @@ fn all_expressions_refer(types: usize, expressions: &[ConstExpr]) -> bool
 fn imports_refer(types: usize, lists: &Lists<'_, '_>) -> bool
     ensures { IsTrue result ↔ All (λ i. ImportRefersIn types i.type) (imports (module_of lists.now.form.now)) }
 {
-    lists
-        .form
-        .payloads
-        .iter()
-        .all(|payload| all_imports_refer(types, imports_of(payload)))
-}
-
-fn all_imports_refer(types: usize, imports: &[Import<'_>]) -> bool
-    ensures { IsTrue result ↔ All (λ i. ImportRefersIn types i.type) (map import_of imports.now) }
-{
-    imports
-        .iter()
-        .all(|import| import_refers(types, &import.ty))
+    entries_of::<Import<'_>>(lists.form).all(|import| import_refers(types, &import.ty))
 }
 
 fn import_refers(types: usize, ty: &TypeRef) -> bool
@@ -90,18 +78,7 @@ fn tables_refer(types: usize, lists: &Lists<'_, '_>) -> bool
     ensures { IsTrue result
         ↔ All (TableRefersIn types) (flat_map tables_of_section (module_of lists.now.form.now)) }
 {
-    for payload in &lists.form.payloads {
-        if !all_tables_refer(types, tables_of(payload)) {
-            return false;
-        }
-    }
-    true
-}
-
-fn all_tables_refer(types: usize, tables: &[TableDef]) -> bool
-    ensures { IsTrue result ↔ All (TableRefersIn types) (map table_of tables.now) }
-{
-    tables.iter().all(|table| table_refers(types, table))
+    entries_of::<TableDef>(lists.form).all(|table| table_refers(types, table))
 }
 
 fn table_refers(types: usize, table: &TableDef) -> bool
@@ -120,17 +97,7 @@ fn globals_refer(types: usize, lists: &Lists<'_, '_>) -> bool
     ensures { IsTrue result
         ↔ All (GlobalRefersIn types) (flat_map globals_of_section (module_of lists.now.form.now)) }
 {
-    lists
-        .form
-        .payloads
-        .iter()
-        .all(|payload| all_globals_refer(types, globals_of(payload)))
-}
-
-fn all_globals_refer(types: usize, globals: &[GlobalDef]) -> bool
-    ensures { IsTrue result ↔ All (GlobalRefersIn types) (map global_of globals.now) }
-{
-    globals.iter().all(|global| global_refers(types, global))
+    entries_of::<GlobalDef>(lists.form).all(|global| global_refers(types, global))
 }
 
 fn global_refers(types: usize, global: &GlobalDef) -> bool
@@ -145,19 +112,7 @@ fn elements_refer(types: usize, lists: &Lists<'_, '_>) -> bool
     ensures { IsTrue result
         ↔ All (ElementRefersIn types) (flat_map elements_of_section (module_of lists.now.form.now)) }
 {
-    lists
-        .form
-        .payloads
-        .iter()
-        .all(|payload| all_elements_refer(types, elements_of(payload)))
-}
-
-fn all_elements_refer(types: usize, elements: &[Element]) -> bool
-    ensures { IsTrue result ↔ All (ElementRefersIn types) (map element_of elements.now) }
-{
-    elements
-        .iter()
-        .all(|element| element_refers(types, element))
+    entries_of::<Element>(lists.form).all(|element| element_refers(types, element))
 }
 
 fn element_refers(types: usize, element: &Element) -> bool
@@ -192,17 +147,7 @@ fn bodies_refer(types: usize, lists: &Lists<'_, '_>) -> bool
     ensures { IsTrue result
         ↔ All (BodyRefersIn types) (flat_map bodies_of_section (module_of lists.now.form.now)) }
 {
-    lists
-        .form
-        .payloads
-        .iter()
-        .all(|payload| all_bodies_refer(types, bodies_of(payload)))
-}
-
-fn all_bodies_refer(types: usize, bodies: &[FunctionBody<'_>]) -> bool
-    ensures { IsTrue result ↔ All (BodyRefersIn types) (map body_of bodies.now) }
-{
-    bodies.iter().all(|body| body_refers(types, body))
+    entries_of::<FunctionBody<'_>>(lists.form).all(|body| body_refers(types, body))
 }
 
 fn body_refers(types: usize, body: &FunctionBody<'_>) -> bool
@@ -215,19 +160,7 @@ fn segments_refer(types: usize, lists: &Lists<'_, '_>) -> bool
     ensures { IsTrue result
         ↔ All (λ s. DataKindRefersIn types s.kind) (segments (module_of lists.now.form.now)) }
 {
-    lists
-        .form
-        .payloads
-        .iter()
-        .all(|payload| all_segments_refer(types, segments_of(payload)))
-}
-
-fn all_segments_refer(types: usize, segments: &[DataSegment<'_>]) -> bool
-    ensures { IsTrue result ↔ All (λ s. DataKindRefersIn types s.kind) (map segment_of segments.now) }
-{
-    segments
-        .iter()
-        .all(|segment| data_kind_refers(types, &segment.kind))
+    entries_of::<DataSegment<'_>>(lists.form).all(|segment| data_kind_refers(types, &segment.kind))
 }
 
 fn data_kind_refers(types: usize, kind: &DataKind) -> bool

@@ -1,29 +1,19 @@
 //! Initialisers of tables (core specification, 3.5, tables).
 
-ghost use Rattle.std.specs.Prelude.{◌↔◌, map, All, IsTrue};
+ghost use Rattle.std.specs.Prelude.{◌↔◌, All, IsTrue};
 ghost use Rattle.std.specs.List.{flat_map};
 ghost use Rattle.wasm_spec.specs.Module.{tables_of_section};
 ghost use Rattle.form_data.specs.Views.{table_of, module_of};
 ghost use Rattle.rule_spec.specs.Rules.{IsInitialised};
 
 use form_data::TableDef;
-use form_lists::{Lists, tables_of};
+use form_lists::{Lists, entries_of};
 
 /// Whether each defined table whose cells cannot be null says what they hold at first.
 pub fn initialisers_hold(lists: &Lists<'_, '_>) -> bool
     ensures { IsTrue result ↔ All IsInitialised (flat_map tables_of_section (module_of lists.now.form.now)) }
 {
-    lists
-        .form
-        .payloads
-        .iter()
-        .all(|payload| all_initialised(tables_of(payload)))
-}
-
-fn all_initialised(tables: &[TableDef]) -> bool
-    ensures { IsTrue result ↔ All IsInitialised (map table_of tables.now) }
-{
-    tables.iter().all(is_initialised)
+    entries_of::<TableDef>(lists.form).all(is_initialised)
 }
 
 fn is_initialised(table: &TableDef) -> bool

@@ -1,13 +1,13 @@
 //! The groups of a form with their keys, wherever the type sections stand.
 
-ghost use Rattle.std.specs.Prelude.{◌≡◌, ◌++◌, map, IfOk, OnOk};
+ghost use Rattle.std.specs.Prelude.{◌≡◌, map, IfOk};
 ghost use Rattle.wasm_spec.specs.Module.{groups};
 ghost use Rattle.form_data.specs.Views.{group_of, module_of};
 ghost use Rattle.form_types.specs.Groups.{group_and_key, with_key};
 
 use crate::canonical::CanonicalGroup;
 use form_data::{Form, RecGroup};
-use form_lists::groups_of;
+use form_lists::entries_of;
 use std::alloc::{AllocError, Global};
 
 /// A group with its key, in which each reference is that which was read.
@@ -26,24 +26,10 @@ pub fn all_groups<'f>(
 {
     let mut all = Vec::new(alloc);
     let mut room = CanonicalGroup::new(alloc);
-    for payload in &form.payloads {
-        add_groups(alloc, &mut all, &mut room, groups_of(payload))?;
+    for group in entries_of::<RecGroup>(form) {
+        all.push(group_with_key(alloc, &mut room, group)?)?;
     }
     Ok(all)
-}
-
-fn add_groups<'f>(
-    alloc: Global,
-    all: &mut Vec<GroupWithKey<'f>>,
-    room: &mut CanonicalGroup,
-    groups: &'f [RecGroup],
-) -> Result<(), AllocError>
-    ensures { OnOk result (map group_and_key all.new.items ≡ map group_and_key all.old.items ++ map with_key (map group_of groups.now)) }
-{
-    for group in groups {
-        all.push(group_with_key(alloc, room, group)?)?;
-    }
-    Ok(())
 }
 
 // A group with its key, which is made in `room`: one buffer serves all groups.

@@ -3,7 +3,7 @@
 ghost use Rattle.std.specs.Prelude.{◌≡◌, ◌↔◌, ◌+◌, ◌≤◌, take, length, map, All, IsTrue, IfOk};
 ghost use Rattle.std.specs.List.{flat_map};
 ghost use Rattle.wasm_spec.specs.Module.{segments, tables_of_section, globals_of_section, elements_of_section};
-ghost use Rattle.form_data.specs.Views.{table_of, global_of, element_of, element_kind_of, items_of, expression_of, segment_of, data_kind_of, module_of};
+ghost use Rattle.form_data.specs.Views.{table_of, global_of, element_of, element_kind_of, items_of, expression_of, data_kind_of, module_of};
 ghost use Rattle.rule_spec.specs.declared.classes.Class.TheVariants as class;
 ghost use Rattle.rule_spec.specs.Typing.{HasClass};
 ghost use Rattle.rule_spec.specs.Expressions.{address_class, HasTypedInitialiser, AreGlobalsTyped, HasTableOffset, HasTypedItems, IsElementTyped, HasMemoryOffset, AreExpressionsTyped};
@@ -15,7 +15,7 @@ use crate::typing::is_typed;
 use form_data::{
     ConstExpr, DataKind, DataSegment, Element, ElementItems, ElementKind, GlobalDef, TableDef,
 };
-use form_lists::{Lists, elements_of, globals_of, segments_of, tables_of};
+use form_lists::{Lists, entries_of};
 use rule_spec::Class;
 use std::alloc::{AllocError, Global};
 use wasm_spec::GlobalType;
@@ -72,25 +72,7 @@ fn tables_hold(
     ensures { IfOk result (λ hold. IsTrue hold
         ↔ All (HasTypedInitialiser (lists_of lists.now)) (flat_map tables_of_section (module_of lists.now.form.now))) }
 {
-    for payload in &lists.form.payloads {
-        if !all_tables_hold(lists, defaults, tables_of(payload), stack)? {
-            return Ok(false);
-        }
-    }
-    Ok(true)
-}
-
-fn all_tables_hold(
-    lists: &Lists<'_, '_>,
-    defaults: &[bool],
-    tables: &[TableDef],
-    stack: &mut Vec<Class>,
-) -> Result<bool, AllocError>
-    requires noted { defaults.now ≡ defaults_of_types (lists_of lists.now) }
-    requires imported { lists.now.imported_globals ≤ length lists.now.spaces.global_types.items }
-    ensures { IfOk result (λ hold. IsTrue hold ↔ All (HasTypedInitialiser (lists_of lists.now)) (map table_of tables.now)) }
-{
-    for table in tables {
+    for table in entries_of::<TableDef>(lists.form) {
         if !table_holds(lists, defaults, table, stack)? {
             return Ok(false);
         }
@@ -129,24 +111,7 @@ fn elements_hold(
     ensures { IfOk result (λ hold. IsTrue hold
         ↔ All (IsElementTyped (lists_of lists.now)) (flat_map elements_of_section (module_of lists.now.form.now))) }
 {
-    for payload in &lists.form.payloads {
-        if !all_elements_hold(lists, defaults, elements_of(payload), stack)? {
-            return Ok(false);
-        }
-    }
-    Ok(true)
-}
-
-fn all_elements_hold(
-    lists: &Lists<'_, '_>,
-    defaults: &[bool],
-    elements: &[Element],
-    stack: &mut Vec<Class>,
-) -> Result<bool, AllocError>
-    requires noted { defaults.now ≡ defaults_of_types (lists_of lists.now) }
-    ensures { IfOk result (λ hold. IsTrue hold ↔ All (IsElementTyped (lists_of lists.now)) (map element_of elements.now)) }
-{
-    for element in elements {
+    for element in entries_of::<Element>(lists.form) {
         if !element_holds(lists, defaults, element, stack)? {
             return Ok(false);
         }
@@ -255,25 +220,7 @@ fn segments_hold(
     ensures { IfOk result (λ hold. IsTrue hold
         ↔ All (λ s. HasMemoryOffset (lists_of lists.now) s.kind) (segments (module_of lists.now.form.now))) }
 {
-    for payload in &lists.form.payloads {
-        if !all_segments_hold(lists, defaults, segments_of(payload), stack)? {
-            return Ok(false);
-        }
-    }
-    Ok(true)
-}
-
-fn all_segments_hold(
-    lists: &Lists<'_, '_>,
-    defaults: &[bool],
-    segments: &[DataSegment<'_>],
-    stack: &mut Vec<Class>,
-) -> Result<bool, AllocError>
-    requires noted { defaults.now ≡ defaults_of_types (lists_of lists.now) }
-    ensures { IfOk result (λ hold. IsTrue hold
-        ↔ All (λ s. HasMemoryOffset (lists_of lists.now) s.kind) (map segment_of segments.now)) }
-{
-    for segment in segments {
+    for segment in entries_of::<DataSegment<'_>>(lists.form) {
         if !memory_offset_holds(lists, defaults, &segment.kind, stack)? {
             return Ok(false);
         }
@@ -308,6 +255,7 @@ fn memory_offset_holds(
 
 // ---- globals
 
+/// The initialiser of a global sees the globals of lower index.
 fn globals_hold(
     lists: &Lists<'_, '_>,
     defaults: &[bool],
@@ -320,30 +268,7 @@ fn globals_hold(
         ↔ AreGlobalsTyped (lists_of lists.now) lists.now.imported_globals (flat_map globals_of_section (module_of lists.now.form.now))) }
 {
     let mut index = lists.imported_globals;
-    for payload in &lists.form.payloads {
-        let globals = globals_of(payload);
-        if !all_globals_hold(lists, defaults, index, globals, stack)? {
-            return Ok(false);
-        }
-        index += globals.len();
-    }
-    Ok(true)
-}
-
-/// The initialiser of a global sees the globals of lower index; the first of these has that index.
-fn all_globals_hold(
-    lists: &Lists<'_, '_>,
-    defaults: &[bool],
-    first: usize,
-    globals: &[GlobalDef],
-    stack: &mut Vec<Class>,
-) -> Result<bool, AllocError>
-    requires noted { defaults.now ≡ defaults_of_types (lists_of lists.now) }
-    requires counted { first + length globals.now ≤ length lists.now.spaces.global_types.items }
-    ensures { IfOk result (λ hold. IsTrue hold ↔ AreGlobalsTyped (lists_of lists.now) first (map global_of globals.now)) }
-{
-    let mut index = first;
-    for global in globals {
+    for global in entries_of::<GlobalDef>(lists.form) {
         let class = class_of(&global.ty.content_type);
         let visible = globals_below(lists, index);
         if !is_typed(lists, defaults, visible, &global.init, class, stack)? {

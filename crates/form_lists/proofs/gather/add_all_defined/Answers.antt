@@ -1,8 +1,15 @@
-use Rattle.form_lists.proofs.Gathering.{AddsDefined-more}
+use Rattle.std.proofs.Common.{sym, subst}
+use Rattle.form_lists.specs.Source.{section_of}
+use Rattle.form_lists.specs.Gathered.{AddsDefined}
+use Rattle.form_lists.proofs.Gathering.{AddsDefined-none, AddsDefined-more}
 use Rattle.form_lists.proofs.gather.add_all_defined.Goals as goal
 
-pub loop-payload-preserved : goal.loop-payload-preserved
-loop-payload-preserved c =
-    AddsDefined-more c.args.spaces.now c.loop-payload.spaces c.add_defined.new.spaces c.deref-payload-items.result.now
-    c.loop-payload.payload-index c.payload-item.result c.loop-payload-test.true c.payload-item.is
-    c.loop-payload.invariant c.in_ok-add_defined.ensures
+pub loop-section-preserved : goal.loop-section-preserved
+loop-section-preserved c =
+    AddsDefined-more c.args.spaces.now c.loop-section.spaces c.add_section.new.spaces (section_of c.in-Some.section) _ _ _
+    c.in-Some.ensures.steps c.in_ok-add_section.ensures c.loop-section.invariant
+
+pub returns : goal.returns
+returns c =
+    let added = c.loop-section.spaces in
+    c.loop-section.invariant added (subst (AddsDefined added added) (sym c.in-None.ensures.steps.0) (AddsDefined-none added))

@@ -1,8 +1,9 @@
-use Rattle.std.proofs.Common.{map, take}
-use Rattle.form_data.specs.Views.{payload_of}
+use Rattle.form_lists.specs.declared.lists.Spaces.{Spaces}
+use Rattle.form_lists.specs.Source.{source_module, sections_left}
 use Rattle.form_lists.specs.Gathered.{AddsDefined}
 use Rattle.form_lists.proofs.gather.add_all_defined.Given as goal
 
--- what the sections so far define is added
-abbrev pub invariant-loop-payload : goal.invariant-loop-payload
-invariant-loop-payload l = AddsDefined l.initial.spaces l.spaces (map payload_of (take l.payload-index l.payload-items))
+-- once what the sections that are left define is added, all is
+abbrev pub invariant-loop-section : goal.invariant-loop-section
+invariant-loop-section l = (later : Spaces) → AddsDefined l.spaces later (sections_left l.section-iterator)
+    → AddsDefined l.initial.spaces later (source_module l.source)

@@ -1,8 +1,15 @@
-use Rattle.form_lists.proofs.Gathering.{AddsImports-section}
+use Rattle.std.proofs.Common.{sym, subst}
+use Rattle.form_data.specs.Views.{import_of}
+use Rattle.form_lists.specs.Gathered.{AddsImports}
+use Rattle.form_lists.proofs.Gathering.{AddsImports-none, AddsImports-more}
 use Rattle.form_lists.proofs.gather.add_all_imports.Goals as goal
 
-pub loop-payload-preserved : goal.loop-payload-preserved
-loop-payload-preserved c =
-    AddsImports-section c.args.spaces.now c.loop-payload.spaces c.add_imports.new.spaces c.deref-payload-items.result.now
-    c.loop-payload.payload-index c.payload-item.result _ c.loop-payload-test.true c.payload-item.is c.imports_of.ensures
-    c.loop-payload.invariant c.in_ok-add_imports.ensures
+pub loop-import-preserved : goal.loop-import-preserved
+loop-import-preserved c =
+    AddsImports-more c.args.spaces.now c.loop-import.spaces c.add_import.new.spaces (import_of c.in-Some.import.now) _ _ _
+    c.in-Some.ensures.steps c.in_ok-add_import.ensures c.loop-import.invariant
+
+pub returns : goal.returns
+returns c =
+    let added = c.loop-import.spaces in
+    c.loop-import.invariant added (subst (AddsImports added added) (sym c.in-None.ensures.steps.0) (AddsImports-none added))

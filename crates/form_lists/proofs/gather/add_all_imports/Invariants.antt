@@ -1,9 +1,12 @@
-use Rattle.std.proofs.Common.{map, take}
-use Rattle.wasm_spec.specs.Module.{imports}
-use Rattle.form_data.specs.Views.{payload_of}
+use Rattle.wasm_spec.specs.Module.{imports, imports_of_section}
+use Rattle.form_data.specs.Views.{import_of}
+use Rattle.form_lists.specs.Source.{source_module}
+use Rattle.form_lists.specs.Sections.{entries_left}
 use Rattle.form_lists.specs.Gathered.{AddsImports}
+use Rattle.form_lists.specs.declared.lists.Spaces.{Spaces}
 use Rattle.form_lists.proofs.gather.add_all_imports.Given as goal
 
--- the imports of the sections so far are added
-abbrev pub invariant-loop-payload : goal.invariant-loop-payload
-invariant-loop-payload l = AddsImports l.initial.spaces l.spaces (imports (map payload_of (take l.payload-index l.payload-items)))
+-- once the imports that are left are added, all are
+abbrev pub invariant-loop-import : goal.invariant-loop-import
+invariant-loop-import l = (later : Spaces) → AddsImports l.spaces later (entries_left import_of imports_of_section l.import-iterator)
+    → AddsImports l.initial.spaces later (imports (source_module l.source))

@@ -1,7 +1,8 @@
-use Rattle.form_lists.proofs.DeclaredLists.{section_added}
+use Rattle.form_data.specs.Views.{group_of}
+use Rattle.form_lists.proofs.DeclaredLists.{group_added}
 use Rattle.form_lists.proofs.gather.declared_types.Goals as goal
 
-pub loop-payload-preserved : goal.loop-payload-preserved
-loop-payload-preserved c =
-    section_added c.loop-payload.types.items c.add_groups.new.types.items c.deref-payload-items.result.now c.loop-payload.payload-index
-    c.payload-item.result _ c.loop-payload-test.true c.payload-item.is c.groups_of.ensures c.loop-payload.invariant c.in_ok-add_groups.ensures
+pub loop-group-preserved : goal.loop-group-preserved
+loop-group-preserved c =
+    group_added c.loop-group.types.items c.add_group.new.types.items (group_of c.in-Some.group.now) _ _ _ c.in-Some.ensures.steps
+    c.in_ok-add_group.ensures c.loop-group.invariant

@@ -1,41 +1,18 @@
-use Rattle.std.proofs.Common.{arith}
+use Rattle.std.proofs.Common.{Err, ap, ◌∙◌}
 use Rattle.std.proofs.lemmas.Result.{err_from_is_err_and}
 use Rattle.form_reader.specs.declared.error.ReadError.TheVariants as errors
-use Rattle.form_reader.proofs.Entries.{few_entries, short_types}
-use Rattle.form_reader.proofs.Outcomes.{error_is, read_spells, read_none, read_only, fails_spelled, fails_unsupported, fails_malformed, fails_nowhere}
+use Rattle.form_reader.proofs.Outcomes.{error_is}
 use Rattle.form_reader.proofs.module.read_module.Goals as goal
 
-pub returns-in_err-payloads-clause-complete : goal.returns-in_err-payloads-clause-complete
-returns-in_err-payloads-clause-complete c = λ short m s none.
+pub returns-in_err-input-clause-malformed : goal.returns-in_err-input-clause-malformed
+returns-in_err-input-clause-malformed c = λ is.
     let p = err_from_is_err_and c.from_residual.result c.from_residual.ensures.1 in
-    rw (p.1, p.2) (fails_spelled c.args.bytes.now c.in_err-payloads.field-0.0 m c.in_err-payloads.ensures s none)
+    c.in_err-input.ensures.malformed (ap Err (error_is _ _ _ errors.Malformed p.1 p.2 is))
 
-pub returns-in_err-payloads-clause-unsupported : goal.returns-in_err-payloads-clause-unsupported
-returns-in_err-payloads-clause-unsupported c = λ w is.
+pub returns-in_err-input-clause-stops_nowhere : goal.returns-in_err-input-clause-stops_nowhere
+returns-in_err-input-clause-stops_nowhere c = λ is.
     let p = err_from_is_err_and c.from_residual.result c.from_residual.ensures.1 in
-    fails_unsupported c.args.bytes.now c.in_err-payloads.field-0.0 w c.in_err-payloads.ensures (error_is _ _ _ (errors.Unsupported w) p.1 p.2 is)
-
-pub returns-in_err-payloads-clause-malformed : goal.returns-in_err-payloads-clause-malformed
-returns-in_err-payloads-clause-malformed c = λ is m s.
-    let p = err_from_is_err_and c.from_residual.result c.from_residual.ensures.1 in
-    fails_malformed c.args.bytes.now c.in_err-payloads.field-0.0 m c.in_err-payloads.ensures (error_is _ _ _ errors.Malformed p.1 p.2 is) s
-
-pub returns-in_err-payloads-clause-stops_nowhere : goal.returns-in_err-payloads-clause-stops_nowhere
-returns-in_err-payloads-clause-stops_nowhere c = λ is w s.
-    let p = err_from_is_err_and c.from_residual.result c.from_residual.ensures.1 in
-    fails_nowhere c.args.bytes.now c.in_err-payloads.field-0.0 w c.in_err-payloads.ensures (error_is _ _ _ errors.Malformed p.1 p.2 is) s
-
-pub returns-clause-read : goal.returns-clause-read
-returns-clause-read c = read_spells c.args.bytes.now _ c.in_ok-payloads.ensures
-
-pub returns-clause-no_interface_types : goal.returns-clause-no_interface_types
-returns-clause-no_interface_types c = read_none c.args.bytes.now _ c.in_ok-payloads.ensures
+    c.in_err-input.ensures.stops_nowhere (ap Err (error_is _ _ _ errors.Malformed p.1 p.2 is))
 
 pub returns-clause-complete : goal.returns-clause-complete
-returns-clause-complete c = λ short m s none. read_only c.args.bytes.now _ m c.in_ok-payloads.ensures s
-
-pub returns-clause-few : goal.returns-clause-few
-returns-clause-few c = few_entries c.args.bytes.now _ (read_spells c.args.bytes.now _ c.in_ok-payloads.ensures) (omega arith)
-
-pub returns-clause-short : goal.returns-clause-short
-returns-clause-short c = short_types c.args.bytes.now _ (read_spells c.args.bytes.now _ c.in_ok-payloads.ensures) (omega arith)
+returns-clause-complete c = λ short m s none. c.in_ok-payloads.ensures ∙ c.in_ok-input.ensures.complete short m s none

@@ -1,18 +1,23 @@
-use Rattle.std.proofs.Common.{List, map, sym, subst}
-use Rattle.std.specs.List.{flat_map}
-use Rattle.wasm_spec.specs.Module.{exports_of_section}
-use Rattle.form_data.specs.declared.form.Payload.{Payload}
-use Rattle.form_data.specs.Views.{payload_of}
-use Rattle.rule_spec.specs.Rules.{AreDistinct}
-use Rattle.form_rules.proofs.ExportNames.{add_fails, at_false}
+use Rattle.std.proofs.Common.{◌≡◌, ◌∙◌, true, false, refl, sym}
+use Rattle.std.specs.HashSet.{contains}
+use Rattle.std.proofs.lemmas.Bool.{not-true, not-false}
+use Rattle.form_data.specs.Views.{export_of}
+use Rattle.form_rules.proofs.ExportNames.{same_bytes, gathers-all, gathers-more, gathers-fails}
 use Rattle.form_rules.proofs.exports.names_are_distinct.Goals as goal
+
+pub loop-export-preserved : goal.loop-export-preserved
+loop-export-preserved c =
+    let e = c.in-Some.export.now in
+    let absent : contains same_bytes c.loop-export.names e.name ≡ false = not-true _ (sym c.in_ok-insert.ensures.added ∙ c.if-not-branch.false) in
+    gathers-more c.loop-export.names e.name _ _ _ (export_of e) c.loop-export.invariant c.in-Some.ensures.steps refl c.insert.new.self absent c.in_ok-insert.ensures.updates
 
 pub returns-then-not-branch : goal.returns-then-not-branch
 returns-then-not-branch c =
-    let P : List Payload → Type 0 = λ ps. AreDistinct (flat_map exports_of_section (map payload_of ps)) in (
+    let e = c.in-Some.export.now in
+    let present : contains same_bytes c.loop-export.names e.name ≡ true = not-false _ (sym c.in_ok-insert.ensures.added ∙ c.if-not-branch.true) in (
       λ answered. absurd (cc),
-      λ distinct. absurd (add_fails c.loop-payload.names c.deref-payload-items.result.now
-          c.loop-payload.payload-index c.payload-item.result _ c.loop-payload-test.true c.payload-item.is c.exports_of.ensures c.loop-payload.invariant
-          (λ before has. at_false _ _ _ c.if-not-branch.true (c.in_ok-add_names.ensures before has))
-          (subst P (sym c.deref-payload-items.ensures.value) distinct)),
+      λ distinct. absurd (gathers-fails c.loop-export.names e.name _ _ _ (export_of e) c.loop-export.invariant c.in-Some.ensures.steps refl present distinct),
     )
+
+pub returns : goal.returns
+returns c = (λ answered. gathers-all c.loop-export.names _ _ c.loop-export.invariant c.in-None.ensures.steps.0, λ distinct. refl)

@@ -1,0 +1,37 @@
+-- What stays in the input, as the plain values of the definitions.
+use Rattle.std.specs.Prelude.{◌≡◌, ℕ, zero, suc, Bool, true, false, List, [], ◌∷◌, map, Result, Ok, Err}
+use Rattle.wasm_spec.specs.Module as plain
+use Rattle.form_data.specs.Views.{payload_of}
+use Rattle.form_reader.specs.Reading.{Fault, Reader}
+use Rattle.form_reader.specs.EntryRows.{element_segment}
+use Rattle.form_reader.specs.declared.input.InputElements.{InputElements}
+use Rattle.form_reader.specs.declared.input.InputSection.{InputSection}
+use Rattle.form_reader.specs.declared.input.InputSection.TheVariants as sections
+use Rattle.form_reader.specs.declared.input.InputForm.{InputForm}
+
+-- one more entry, if one is read
+abbrev pub listed_after : {A : Type 0} → Result (A × List ℕ) Fault → (List ℕ → List A) → List A
+listed_after (Ok x) others = x.0 ∷ others x.1
+listed_after (Err fault) others = []
+
+-- the entries that are read one after another from some bytes, at most n
+unfoldable pub listed : {A : Type 0} → Reader A → ℕ → List ℕ → List A
+listed read zero bytes = []
+listed read (suc n) bytes = listed_after (read bytes) (listed read n)
+
+-- the segments of a section
+abbrev pub elements_in : InputElements → List plain.Element
+elements_in list = listed element_segment.read list.count list.bytes.now
+
+abbrev pub input_section_of : InputSection → plain.Payload
+input_section_of (sections.Elements list) = plain.Elements (elements_in list)
+input_section_of (sections.Other payload) = payload_of payload
+
+-- the module that a form holds
+abbrev pub input_module_of : InputForm → plain.Module
+input_module_of form = map input_section_of form.sections.items
+
+-- the first of some entries is taken and the others are left, or there is none
+abbrev pub Takes : {A : Type 0} → List A → A → List A → Bool → Type 0
+Takes before first after true = before ≡ first ∷ after
+Takes before first after false = (before ≡ []) × (after ≡ [])

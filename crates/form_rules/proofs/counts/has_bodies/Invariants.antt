@@ -1,9 +1,0 @@
-use Rattle.std.proofs.Common.{◌≡◌, ◌+◌, length, map, take}
-use Rattle.std.specs.List.{flat_map}
-use Rattle.wasm_spec.specs.Module.{bodies_of_section}
-use Rattle.form_data.specs.Views.{payload_of}
-use Rattle.form_rules.proofs.counts.has_bodies.Given as goal
-
--- the entries of the sections so far are taken off
-abbrev pub invariant-loop-payload : goal.invariant-loop-payload
-invariant-loop-payload l = l.left + length (flat_map bodies_of_section (map payload_of (take l.payload-index l.payload-items))) ≡ l.fn.count
