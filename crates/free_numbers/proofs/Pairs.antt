@@ -1,6 +1,7 @@
 -- Sums of neighbours.
 use Rattle.std.proofs.Common.{◌≡◌, ◌∙◌, ◌≤◌, ◌<◌, ℕ, zero, suc, ◌+◌, ◌-◌, ◌*◌, ◌/◌, List, [], ◌∷◌, ◌++◌, length, get_or, set, take, drop, length-set, refl, sym, ap, subst, arith}
 use Rattle.std.specs.Global.{Vec}
+use Rattle.std.proofs.lemmas.List.{get_or_default, get_or_past}
 use Rattle.free_numbers.specs.Counts.{total, before, pair_sums, change_at, IsCounts}
 use Rattle.free_numbers.specs.Levels.{lists_of, counts_of, IsTree, IsChain, half, changed, CanChange, CanChangeFirst}
 
@@ -47,21 +48,14 @@ pairs-at (x ∷ []) (suc p) = none-at p
 pairs-at (x ∷ y ∷ xs) zero = refl
 pairs-at (x ∷ y ∷ xs) (suc p) = pairs-at xs p
 
-before-more : (xs : List ℕ) (p : ℕ) → before (suc p) xs ≡ before p xs + get_or xs p 0
+pub before-more : (xs : List ℕ) (p : ℕ) → before (suc p) xs ≡ before p xs + get_or xs p 0
 before-more [] zero = refl
 before-more [] (suc p) = refl
 before-more (x ∷ xs) zero = omega arith
 before-more (x ∷ xs) (suc p) = omega (arith, before-more xs p)
 
-pub any-at : (xs : List ℕ) (p d d' : ℕ) → p < length xs → get_or xs p d ≡ get_or xs p d'
-any-at [] p d d' h = absurd (omega (arith, h))
-any-at (x ∷ xs) zero d d' h = refl
-any-at (x ∷ xs) (suc p) d d' h = any-at xs p d d' (omega (arith, h))
-
 pub some-within : (xs : List ℕ) (p : ℕ) → 0 < get_or xs p 0 → p < length xs
-some-within [] p h = absurd (omega (arith, none-at p, h))
-some-within (x ∷ xs) zero h = omega arith
-some-within (x ∷ xs) (suc p) h = omega (arith, some-within xs p h)
+some-within xs p h = grind (arith, get_or_past xs p 0)
 
 -- the place of a pair, and the two places of its members
 pub first-before : (xs ys : List ℕ) (p : ℕ) → ys ≡ pair_sums xs → before p ys ≡ before (2 * p) xs
@@ -125,36 +119,35 @@ module _ (vs ws : List (Vec ℕ)) (v : Vec ℕ) (e : vs ≡ v ∷ ws) (some : 0 
     (let less : length sums ≤ length counts = subst (λ (l : List ℕ). length l ≤ length counts) (sym are-sums) (length-pairs counts) in omega (arith, less, few)),
   )
 
-  module _ (place rest : ℕ) (free : rest < get_or sums place 0) where
-    pub low : 2 * place < length v.items
-    low =
-        let in-sums : place < length sums = some-within sums place (omega (arith, free)) in
-        let in-counts : 2 * place < length counts = pair-within counts sums place are-sums in-sums in
-        subst (λ (l : List ℕ). 2 * place < length l) (counts-first vs ws v e) in-counts
+  module _ (place rest rank : ℕ) (free : rest < get_or sums place 0) (is : before place sums + rest ≡ rank) where
+    in-sums : place < length sums
+    in-sums = some-within sums place (omega (arith, free))
 
-    pub low-before : (rank : ℕ) → before place sums + rest ≡ rank → before (2 * place) counts + rest ≡ rank
-    low-before rank is = ap (λ n. n + rest) (sym (first-before counts sums place are-sums)) ∙ is
+    low : 2 * place < length v.items
+    low = subst (λ (l : List ℕ). 2 * place < length l) (counts-first vs ws v e) (pair-within counts sums place are-sums in-sums)
 
-    pub low-small : length counts < 4294967296 → 2 * place < 4294967296
-    low-small few =
-        let in-sums : place < length sums = some-within sums place (omega (arith, free)) in
-        omega (arith, pair-within counts sums place are-sums in-sums, few)
+    left-is : (left : ℕ) → left ≡ get_or v.items (2 * place) left → left ≡ get_or counts (2 * place) 0
+    left-is left is =
+        is ∙ get_or_default v.items (2 * place) left 0 low ∙ ap (λ (l : List ℕ). get_or l (2 * place) 0) (sym (counts-first vs ws v e))
 
-    at-counts : get_or v.items (2 * place) 0 ≡ get_or counts (2 * place) 0
-    at-counts = ap (λ (l : List ℕ). get_or l (2 * place) 0) (sym (counts-first vs ws v e))
+    -- what is known once the place above is found: of the first of its two places, and of the second
+    pub record IsFound : Type 0 where
+      pub within : 2 * place < length v.items
+      pub small : length counts < 4294967296 → 2 * place < 4294967296
+      pub first : before (2 * place) counts + rest ≡ rank
+      pub first_free : (left : ℕ) → left ≡ get_or v.items (2 * place) left → rest < left → rest < get_or counts (2 * place) 0
+      pub second : (left : ℕ) → left ≡ get_or v.items (2 * place) left → left ≤ rest → before (2 * place + 1) counts + (rest - left) ≡ rank
+      pub second_free : (left : ℕ) → left ≡ get_or v.items (2 * place) left → left ≤ rest → rest - left < get_or counts (2 * place + 1) 0
 
-    at-left : (left : ℕ) → left ≡ get_or v.items (2 * place) left → left ≡ get_or counts (2 * place) 0
-    at-left left is = is ∙ any-at v.items (2 * place) left 0 low ∙ at-counts
-
-    pub low-free : (left : ℕ) → left ≡ get_or v.items (2 * place) left → rest < left → rest < get_or counts (2 * place) 0
-    low-free left is less = omega (arith, at-left left is, less)
-
-    pub high-before : (left rank : ℕ) → left ≡ get_or v.items (2 * place) left → left ≤ rest → before place sums + rest ≡ rank
-        → before (2 * place + 1) counts + (rest - left) ≡ rank
-    high-before left rank is more was = omega (arith, at-left left is, more, was, second-before counts sums place are-sums)
-
-    pub high-free : (left : ℕ) → left ≡ get_or v.items (2 * place) left → left ≤ rest → rest - left < get_or counts (2 * place + 1) 0
-    high-free left is more = omega (arith, at-left left is, more, free, both-at counts sums place are-sums)
+    pub found : IsFound
+    found = record {
+      within = low;
+      small = λ few. omega (arith, pair-within counts sums place are-sums in-sums, few);
+      first = ap (λ n. n + rest) (sym (first-before counts sums place are-sums)) ∙ is;
+      first_free = λ left at less. omega (arith, left-is left at, less);
+      second = λ left at more. omega (arith, left-is left at, more, is, second-before counts sums place are-sums);
+      second_free = λ left at more. omega (arith, left-is left at, more, free, both-at counts sums place are-sums);
+    }
 
 -- ---- a level more
 
@@ -176,10 +169,6 @@ pub chain-tree : (ls : List (List ℕ)) (xs : List ℕ) → IsChain (ls ++ xs �
 chain-tree [] xs chain h = h
 chain-tree (l ∷ []) xs chain h = (chain.0, h)
 chain-tree (l ∷ m ∷ ls) xs chain h = (chain.0, chain-tree (m ∷ ls) xs chain.1 h)
-
-pub lists-more : (vs : List (Vec ℕ)) (v : Vec ℕ) → lists_of (vs ++ v ∷ []) ≡ lists_of vs ++ v.items ∷ []
-lists-more [] v = refl
-lists-more (w ∷ vs) v = ap (λ (l : List (List ℕ)). w.items ∷ l) (lists-more vs v)
 
 -- ---- a count that changes
 
@@ -259,16 +248,6 @@ can-next less more (xs ∷ []) zero place ys h tree can = (tt, tt)
 can-next less more (xs ∷ zs ∷ ls) zero place ys h tree can = (tree.1, can-up less more place xs zs tree.0 can)
 can-next less more (xs ∷ ls) (suc i) place ys h tree can = can-next less more ls i place ys (omega (arith, h)) tree can
 
-pub lists-set : (vs : List (Vec ℕ)) (i : ℕ) (v : Vec ℕ) → lists_of (set vs i v) ≡ set (lists_of vs) i v.items
-lists-set [] i v = refl
-lists-set (w ∷ vs) zero v = refl
-lists-set (w ∷ vs) (suc i) v = ap (λ (l : List (List ℕ)). w.items ∷ l) (lists-set vs i v)
-
-pub lists-get : (vs : List (Vec ℕ)) (i : ℕ) (d : Vec ℕ) → i < length vs → get_or (lists_of vs) i no_counts ≡ (get_or vs i d).items
-lists-get [] i d h = absurd (omega (arith, h))
-lists-get (w ∷ vs) zero d h = refl
-lists-get (w ∷ vs) (suc i) d h = lists-get vs i d (omega (arith, h))
-
 -- ---- counts of 0 and 1
 
 pub few-in-all : (xs : List ℕ) → IsCounts xs → total xs ≤ length xs
@@ -284,11 +263,6 @@ pub count-few : (xs : List ℕ) (n : ℕ) → IsCounts xs → get_or xs n 0 ≤ 
 count-few [] n is = omega (arith, none-at n)
 count-few (x ∷ xs) zero is = is.0
 count-few (x ∷ xs) (suc n) is = count-few xs n is.1
-
-pub set-same : (xs : List ℕ) (n y : ℕ) → y ≡ get_or xs n 0 → xs ≡ set xs n y
-set-same [] n y e = refl
-set-same (x ∷ xs) zero y e = ap (λ z. z ∷ xs) (sym e)
-set-same (x ∷ xs) (suc n) y e = ap (λ l. x ∷ l) (set-same xs n y e)
 
 pub total-set : (xs : List ℕ) (n y : ℕ) → n < length xs → total (set xs n y) + get_or xs n 0 ≡ total xs + y
 total-set [] n y h = absurd (omega (arith, h))
@@ -310,18 +284,19 @@ before-few (x ∷ xs) (suc p) = omega (arith, before-few xs p)
 
 -- ---- the levels of some counts
 
-pub first-counts : (ls : List (List ℕ)) (xs : List ℕ) (n : ℕ) (y : ℕ) → IsCounts (counts_of ls) → y ≤ 1 → IsCounts (set (counts_of ls) n y)
-first-counts ls xs n y is h = set-counts (counts_of ls) n y h is
-
 pub first-can : (less more n : ℕ) (ls : List (List ℕ)) → CanChange less more n (counts_of ls) → CanChangeFirst less more n ls
 first-can less more n [] can = tt
 first-can less more n (xs ∷ ls) can = can
 
-pub value : (vs : List (Vec ℕ)) (v : Vec ℕ) (n x : ℕ) → v ≡ get_or vs 0 v → x ≡ get_or v.items n x → n < length (counts_of (lists_of vs))
-    → x ≡ get_or (counts_of (lists_of vs)) n 0
-value [] v n x e f h = absurd (omega (arith, h))
-value (w ∷ vs) v n x e f h =
-    let same : x ≡ get_or w.items n x = f ∙ ap (λ (u : Vec ℕ). get_or u.items n x) e in same ∙ any-at w.items n x 0 h
+pub value : (vs : List (Vec ℕ)) (v : Vec ℕ) (n x : ℕ) (now : List ℕ) → counts_of (lists_of vs) ≡ now → n < length now → v ≡ get_or vs 0 v → x ≡ get_or v.items n x
+    → (n < length (counts_of (lists_of vs))) × (x ≡ get_or (counts_of (lists_of vs)) n 0)
+value vs v n x now seen h e f = (within, by vs e within) where
+  within : n < length (counts_of (lists_of vs))
+  within = subst (λ (l : List ℕ). n < length l) (sym seen) h
+
+  by : (vs : List (Vec ℕ)) → v ≡ get_or vs 0 v → n < length (counts_of (lists_of vs)) → x ≡ get_or (counts_of (lists_of vs)) n 0
+  by [] e h = absurd (omega (arith, h))
+  by (w ∷ vs) e h = f ∙ ap (λ (u : Vec ℕ). get_or u.items n x) e ∙ get_or_default w.items n x 0 h
 
 pub can-take : (xs : List ℕ) (n : ℕ) → IsCounts xs → length xs < 4294967296 → n < length xs → 0 < get_or xs n 0 → CanChange 1 0 n xs
 can-take xs n is few h some = (h, omega (arith, some), omega (arith, few-in-all xs is, few))

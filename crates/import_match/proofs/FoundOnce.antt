@@ -1,6 +1,7 @@
 -- The one definition under two names.
 use Rattle.std.proofs.Common.{◌≡◌, ◌↔◌, ◌<◌, ◌+◌, ◌∙◌, ℕ, zero, suc, Bool, true, false, List, [], ◌∷◌, slice_get, Some, refl, sym, ap, subst, arith, if◌then◌else◌}
 use Rattle.std.proofs.lemmas.Option.{none-some, same_Some}
+use Rattle.std.proofs.lemmas.Bool.{cases_Bool}
 use Rattle.wasm_types.specs.declared.entity.EntityType.{EntityType}
 use Rattle.import_match.specs.Definitions.{Definition, TwoNames, names_eq, found_from, found, AreOnce}
 use Rattle.import_match.proofs.Named.{equal-names, names-equal}
@@ -32,12 +33,11 @@ stands-found k (x ∷ ds) n zero t at before =
     let plus : k ≡ k + 0 = omega arith in
     ap (λ b. if b then Some (k, x.1) else found_from (k + 1) ds n) test ∙ (λ j. Some (plus j, (pair j).1))
 stands-found k (x ∷ ds) n (suc i) t at before =
-    by (names_eq n x.0) refl (stands-found (k + 1) ds n i t at (λ j d less here. before (suc j) d (omega (arith, less)) here))
-  where
-    by : (b : Bool) → names_eq n x.0 ≡ b → found_from (k + 1) ds n ≡ Some (k + 1 + i, t)
-        → (if b then Some (k, x.1) else found_from (k + 1) ds n) ≡ Some (k + suc i, t)
-    by true test rest = absurd (before 0 x (omega arith) refl (sym (equal-names n x.0 test)))
-    by false test rest = let plus : k + 1 + i ≡ k + suc i = omega arith in rest ∙ ap (λ m. Some (m, t)) plus
+    let rest = stands-found (k + 1) ds n i t at (λ j d less here. before (suc j) d (omega (arith, less)) here) in
+    let plus : k + 1 + i ≡ k + suc i = omega arith in
+    let equal = cases_Bool (names_eq n x.0) in
+    let first : names_eq n x.0 ≡ true → ⊥ = (λ test. before 0 x (omega arith) refl (sym (equal-names n x.0 test))) in
+    grind arith
 
 pub found-once : (ds : List Definition) → AreOnce ds → (n : TwoNames) (i : ℕ) (t : EntityType) → (found ds n ≡ Some (i, t)) ↔ (slice_get ds i ≡ Some (n, t))
 found-once ds once n i t = (

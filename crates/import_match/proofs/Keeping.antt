@@ -6,7 +6,7 @@ use Rattle.std.specs.Map.{lookup}
 use Rattle.std.specs.Ordering.{is_eq}
 use Rattle.std.proofs.lemmas.List.{map_push, length-map}
 use Rattle.std.proofs.lemmas.List.Elements.{All-head, All-tail, All-weaker}
-use Rattle.std.proofs.lemmas.Bool.{lt-ltb}
+use Rattle.std.proofs.lemmas.Bool.{lt-ltb, false_from_ne_true, both_ways}
 use Rattle.import_match.specs.declared.names.Names.{Names}
 use Rattle.import_match.specs.contracts.names.NamesOrd.TheImpl as ordered
 use Rattle.wasm_types.specs.declared.entity.EntityType.{EntityType}
@@ -50,11 +50,8 @@ module _ (es : List Entry) (kept : AreKept es) (k : Names) (t : EntityType) (new
       by false test =
           ap (λ b. cond b (Some (length es, t)) (lookup (is_at (ordered.ghosts.cmp q)) es)) (order-eq k q ∙ test)
           ∙ kept.finds q
-          ∙ sym (found-others 0 (in_order es) d (names_of q) (other (names_eq (names_of q) (names_of k)) refl))
-        where
-          other : (b : Bool) → names_eq (names_of q) (names_of k) ≡ b → b ≡ false
-          other false e = refl
-          other true e = sym (names-equal (names_of k) (names_of q) (sym (equal-names (names_of q) (names_of k) e))) ∙ test
+          ∙ sym (found-others 0 (in_order es) d (names_of q) (false_from_ne_true (names_eq (names_of q) (names_of k)) (λ e.
+          both_ways (names_eq (names_of k) (names_of q)) test (names-equal (names_of k) (names_of q) (sym (equal-names (names_of q) (names_of k) e))))))
 
   -- the map with one more, as the call tells of it
   pub kept-grown : (after : List Entry) → after ≡ grown → length after ≡ length es + 1

@@ -43,14 +43,15 @@ All-slice_get P xs i x all at = subst P (get_or_from_slice_get xs i x x at) (all
 pub All-from_slice_get : {X : Type 0} (P : X → Type 0) (xs : List X) → ((i : ℕ) (x : X) → slice_get xs i ≡ Some x → P x) → All P xs
 All-from_slice_get P xs each = λ k d less. each k (get_or xs k d) (slice_get-get_or xs k d less)
 
+-- an option that is mapped to a value
+pub mapped : {X Y : Type 0} (f : X → Y) (o : Option X) (y : Y) → option_map f o ≡ Some y → (x : X) × (o ≡ Some x) × (f x ≡ y)
+mapped f None y is = absurd (none-some y is)
+mapped f (Some x) y is = (x, refl, same_Some (f x) y is)
+
 -- the item at a place of a mapped list comes from the item there
 pub slice_get-from_map : {X Y : Type 0} (f : X → Y) (xs : List X) (i : ℕ) (y : Y) → slice_get (map f xs) i ≡ Some y
     → (x : X) × (slice_get xs i ≡ Some x) × (f x ≡ y)
-slice_get-from_map {X = X} {Y = Y} f xs i y at = by (slice_get xs i) refl (sym (slice_get-map f xs i) ∙ at)
-  where
-    by : (o : Option X) → slice_get xs i ≡ o → option_map f o ≡ Some y → (x : X) × (slice_get xs i ≡ Some x) × (f x ≡ y)
-    by None is h = absurd (none-some y h)
-    by (Some x) is h = (x, is, same_Some (f x) y h)
+slice_get-from_map f xs i y at = mapped f (slice_get xs i) y (sym (slice_get-map f xs i) ∙ at)
 
 -- equal keys stand at one place
 pub one-place : {K : Type 0} (eq : K → K → Bool) (ks : List K) → IsDistinct eq ks → (i j : ℕ) (a b : K) → slice_get ks i ≡ Some a

@@ -5,6 +5,7 @@ use Rattle.std.specs.List.{filter_map, flat_map, cons_option}
 use Rattle.std.specs.Option.{option_map}
 use Rattle.std.proofs.lemmas.Option.{none-some, same_Some, slice_get-map}
 use Rattle.std.proofs.lemmas.List.Elements.{All-nil, All-cons, All-head, All-tail, All-map}
+use Rattle.import_match.proofs.Listing.{mapped}
 use Rattle.type_data.specs.Names.{index_of as index_in}
 use Rattle.wasm_index.specs.Index.{number_of}
 use Rattle.entity_map.specs.declared.pool.Atom.{Atom}
@@ -56,11 +57,6 @@ all-given {Y = Y} P f each (x ∷ xs) = by (f x) refl (all-given P f each xs)
     by : (o : Option Y) → f x ≡ o → All P (filter_map f xs) → All P (cons_option o (filter_map f xs))
     by None is rest = rest
     by (Some y) is rest = All-cons P y (filter_map f xs) (each x y is) rest
-
--- an option that is mapped to a value
-mapped : {X Y : Type 0} (f : X → Y) (o : Option X) (y : Y) → option_map f o ≡ Some y → (x : X) × (o ≡ Some x) × (f x ≡ y)
-mapped f None y is = absurd (none-some y is)
-mapped f (Some x) y is = (x, refl, same_Some (f x) y is)
 
 abbrev Types : Type 0
 Types = List EngineOrModuleTypeIndex

@@ -1,14 +1,15 @@
 -- Entries of a map in the order of their numbers.
-use Rattle.std.proofs.Common.{◌≡◌, ◌∙◌, ◌<◌, ℕ, suc, Bool, true, false, List, [], ◌∷◌, ◌++◌, length, All, Some, None, refl, sym, ap, arith, if◌then◌else◌}
+use Rattle.std.proofs.Common.{◌≡◌, ◌∙◌, ◌<◌, ℕ, suc, Bool, false, List, [], ◌∷◌, ◌++◌, length, All, Some, None, refl, sym, ap, arith, if◌then◌else◌}
 use Rattle.std.specs.Prelude.{nat_le, filter, cond}
 use Rattle.std.specs.BTreeMap.{is_at, insert_entry}
 use Rattle.std.specs.Map.{lookup}
 use Rattle.std.specs.Ordering.{is_eq, match_ordering}
 use Rattle.std.specs.declared.cmp.Ordering.{Ordering}
 use Rattle.std.specs.declared.cmp.Ordering.TheVariants.{Less, Equal, Greater}
-use Rattle.std.proofs.lemmas.Bool.{le-leb, lt-leb}
+use Rattle.std.proofs.lemmas.Bool.{le-leb, lt-leb, cond_both}
 use Rattle.std.proofs.lemmas.Option.{none-some}
 use Rattle.std.proofs.lemmas.List.Elements.{All-cons, All-head, All-tail}
+use Rattle.std.proofs.lemmas.Bool.Decides.{nat_tests}
 use Rattle.import_match.specs.declared.names.Names.{Names}
 use Rattle.wasm_types.specs.declared.entity.EntityType.{EntityType}
 use Rattle.import_match.specs.Kept.{Entry, put, by_number}
@@ -23,21 +24,14 @@ put-last e (x ∷ xs) all =
 -- before a last one with a greater number
 put-push : (e n : Entry) (xs : List Entry) → e.1.0 < n.1.0 → put e (xs ++ n ∷ []) ≡ put e xs ++ n ∷ []
 put-push e n [] less = ap (λ b. if b then e ∷ n ∷ [] else n ∷ e ∷ []) (le-leb e.1.0 n.1.0 (omega (arith, less)))
-put-push e n (x ∷ xs) less = by (nat_le e.1.0 x.1.0) (put-push e n xs less)
-  where
-    by : (b : Bool) → put e (xs ++ n ∷ []) ≡ put e xs ++ n ∷ []
-        → (if b then e ∷ x ∷ xs ++ n ∷ [] else x ∷ put e (xs ++ n ∷ [])) ≡ (if b then e ∷ x ∷ xs else x ∷ put e xs) ++ n ∷ []
-    by true rest = refl
-    by false rest = ap (λ ys. x ∷ ys) rest
+put-push e n (x ∷ xs) less = let rest = put-push e n xs less in grind (arith, nat_tests)
 
 module _ (P : Entry → Type 0) where
   All-put : (e : Entry) (xs : List Entry) → P e → All P xs → All P (put e xs)
   All-put e [] holds all = All-cons P e [] holds all
-  All-put e (x ∷ xs) holds all = by (nat_le e.1.0 x.1.0) (All-put e xs holds (All-tail P x xs all))
-    where
-      by : (b : Bool) → All P (put e xs) → All P (if b then e ∷ x ∷ xs else x ∷ put e xs)
-      by true rest = All-cons P e (x ∷ xs) holds all
-      by false rest = All-cons P x (put e xs) (All-head P x xs all) rest
+  All-put e (x ∷ xs) holds all =
+      cond_both (nat_le e.1.0 x.1.0) (e ∷ x ∷ xs) (x ∷ put e xs) (All P) (λ _. All-cons P e (x ∷ xs) holds all)
+      (λ _. All-cons P x (put e xs) (All-head P x xs all) (All-put e xs holds (All-tail P x xs all)))
 
   pub All-by_number : (es : List Entry) → All P es → All P (by_number es)
   All-by_number [] all = all
@@ -45,11 +39,7 @@ module _ (P : Entry → Type 0) where
 
 length-put : (e : Entry) (xs : List Entry) → length (put e xs) ≡ suc (length xs)
 length-put e [] = refl
-length-put e (x ∷ xs) = by (nat_le e.1.0 x.1.0) (length-put e xs)
-  where
-    by : (b : Bool) → length (put e xs) ≡ suc (length xs) → length (if b then e ∷ x ∷ xs else x ∷ put e xs) ≡ suc (suc (length xs))
-    by true rest = refl
-    by false rest = ap suc rest
+length-put e (x ∷ xs) = let rest = length-put e xs in grind (arith, nat_tests)
 
 pub length-by_number : (es : List Entry) → length (by_number es) ≡ length es
 length-by_number [] = refl

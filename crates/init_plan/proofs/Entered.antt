@@ -11,7 +11,7 @@ use Rattle.entity_map.specs.Secondary.{Defaulted, value_at, written, with_value}
 use Rattle.wasm_index.specs.declared.index.Index.{Index}
 use Rattle.wasm_index.specs.declared.spaces.RuntimeDataSpace.{RuntimeDataSpace}
 use Rattle.wasm_index.specs.Index.{number_of, index_of}
-use Rattle.init_plan.specs.Views.{FindsRuntime, FindsFrom}
+use Rattle.init_plan.specs.Views.{FindsInOrder}
 
 -- what holds of a list's values holds of the value of each element
 pub All-read_map : {X Y : Type 0} (f : X → Y) (P : Y → Type 0) (xs : List X) (i : ℕ) (d : X) → i < length xs → All P (map f xs)
@@ -75,43 +75,20 @@ entered-others n m ks q absent = entered-apart n m ks q (IsApart-from_absent ks 
 
 -- ---- segments whose bytes follow those of earlier data
 
-abbrev IsFoundIn : List (List ℕ) → RuntimeDataMap → ℕ × List ℕ → Type 0
-IsFoundIn runtime m p = FindsRuntime runtime (option_map number_of (value_at m p.0)) p.1
-
 get-middle : {X : Type 0} (before after : List X) (x : X) → slice_get (before ++ x ∷ after) (length before) ≡ Some x
 get-middle [] after x = refl
 get-middle (b ∷ before) after x = get-middle before after x
 
-each-found : (before : List (List ℕ)) (n : ℕ) (m : RuntimeDataMap) (ps : List (ℕ × List ℕ)) → n ≡ length before
-    → IsDistinct nat_eq (map (λ p. p.0) ps)
-    → AllByRecursion (IsFoundIn (before ++ map (λ p. p.1) ps) (entered n m (map (λ p. p.0) ps))) ps
-each-found before n m [] at distinct = tt
-each-found before n m (p ∷ ps) at distinct =
-    let ks : List ℕ = map (λ p. p.0) ps in
-    let m' : RuntimeDataMap = with_value m p.0 (Some (index_of n)) in
-    let apart : IsApart p.0 ks = IsDistinct-head nat_eq p.0 ks distinct in
-    let entry : value_at (entered (n + 1) m' ks) p.0 ≡ Some (index_of n) = entered-apart (n + 1) m' ks p.0 apart
-    ∙ value_at-with_value m p.0 (Some (index_of n)) in
-    let here : IsFoundIn (before ++ p.1 ∷ map (λ p. p.1) ps) (entered (n + 1) m' ks) p = rw (entry, at) (get-middle before (map (λ p. p.1) ps) p.1) in
-    let rest = each-found (before ++ p.1 ∷ []) (n + 1) m' ps (omega (arith, length_push before p.1)) (IsDistinct-tail nat_eq p.0 ks distinct) in
-    (here, rw append_assoc at rest)
-
--- each segment is found with its bytes
+-- each segment is found with its bytes, in order from the end of the earlier data on
 pub entered-found : (before : List (List ℕ)) (n : ℕ) (m : RuntimeDataMap) (ps : List (ℕ × List ℕ)) → n ≡ length before
     → IsDistinct nat_eq (map (λ p. p.0) ps)
-    → All (IsFoundIn (before ++ map (λ p. p.1) ps) (entered n m (map (λ p. p.0) ps))) ps
-entered-found before n m ps at distinct = All-from_recursion (IsFoundIn (before ++ map (λ p. p.1) ps) (entered n m (map (λ p. p.0) ps))) ps
-    (each-found before n m ps at distinct)
-
--- ---- segments at the numbers from n on
-
--- the segments are found at these numbers, in order
-pub entered-in_order : (n : ℕ) (m : RuntimeDataMap) (ps : List (ℕ × List ℕ)) → IsDistinct nat_eq (map (λ p. p.0) ps)
-    → FindsFrom (λ k. option_map number_of (value_at (entered n m (map (λ p. p.0) ps)) k)) n ps
-entered-in_order n m [] distinct = tt
-entered-in_order n m (p ∷ ps) distinct =
+    → FindsInOrder (before ++ map (λ p. p.1) ps) (λ k. option_map number_of (value_at (entered n m (map (λ p. p.0) ps)) k)) n ps
+entered-found before n m [] at distinct = tt
+entered-found before n m (p ∷ ps) at distinct =
     let ks : List ℕ = map (λ p. p.0) ps in
     let m' : RuntimeDataMap = with_value m p.0 (Some (index_of n)) in
     let entry : value_at (entered (n + 1) m' ks) p.0 ≡ Some (index_of n) = entered-apart (n + 1) m' ks p.0 (IsDistinct-head nat_eq p.0 ks distinct)
     ∙ value_at-with_value m p.0 (Some (index_of n)) in
-    (ap (option_map number_of) entry, entered-in_order (n + 1) m' ps (IsDistinct-tail nat_eq p.0 ks distinct))
+    let here : slice_get (before ++ p.1 ∷ map (λ p. p.1) ps) n ≡ Some p.1 = rw at (get-middle before (map (λ p. p.1) ps) p.1) in
+    let rest = entered-found (before ++ p.1 ∷ []) (n + 1) m' ps (omega (arith, at, length_push before p.1)) (IsDistinct-tail nat_eq p.0 ks distinct) in
+    (ap (option_map number_of) entry, here, rw append_assoc at rest)

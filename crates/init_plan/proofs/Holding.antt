@@ -28,7 +28,8 @@ use Rattle.replay_spec.proofs.GlobalsKnown.{globals-agree}
 use Rattle.replay_spec.proofs.GlobalsTyped.{reads-earlier}
 use Rattle.init_plan.specs.declared.translation.ModuleTranslation.{ModuleTranslation}
 use Rattle.init_plan.specs.Views.{initializers_of, defined_sizes}
-use Rattle.init_plan.specs.Images.{image_memory, image_memories, is_wide}
+use Rattle.memory_images.specs.Views.{image_memory, is_wide}
+use Rattle.init_plan.specs.Images.{image_memories}
 use Rattle.init_plan.specs.Tables.{tables_of, elements_of}
 use Rattle.init_plan.specs.Held.{erase_null_type, erased_elements, erased_table, initialisers, plan_of_globals, HoldsMemories, HoldsTables, HoldsGlobals}
 use Rattle.init_plan.specs.Agreement.{AgreesOnElements}

@@ -2,8 +2,6 @@ pub mod Entered
 pub mod Totals
 pub mod Unplanned
 pub mod TablesKept
-pub mod Plain
-pub mod ViewedImages
 pub mod Planning
 pub mod ImagesOff
 pub mod Sized

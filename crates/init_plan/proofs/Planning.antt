@@ -1,20 +1,21 @@
 -- The plan of a translation is that of the definitions.
 use Rattle.std.proofs.Common.{◌≡◌, ℕ, ◌+◌, ◌^◌, ◌<◌, ◌≤◌, List, [], ◌∷◌, ◌++◌, length, map, drop, Option, None, Some, inl, inr, refl, sym, ◌∙◌, ap, subst, arith, length-drop}
-use Rattle.std.specs.Prelude.{IfNone, IfSome}
+use Rattle.std.specs.Prelude.{IfSome}
 use Rattle.std.specs.Global.{Vec}
 use Rattle.std.specs.Option.{option_map}
 use Rattle.std.proofs.lemmas.List.{length-map}
 use Rattle.memory_images.specs.declared.image.Image.{Image}
 use Rattle.memory_images.specs.Images.{image_of, images_of as view_images}
+use Rattle.memory_images.specs.Views.{image_memory}
 use Rattle.wasm_types.specs.declared.memory.Memory.{Memory}
 use Rattle.wasm_types.specs.Memories.{minimum_bytes}
 use Rattle.wasm_module.specs.declared.module.Module.{Module}
 use Rattle.replay_spec.specs.Data.{ActiveSegment}
 use Rattle.replay_spec.specs.Plan.{MemoryPlan, AgreesOver, planned_from}
-use Rattle.replay_spec.specs.Images.{ImageOptions, size_of, IsStatic, AreImages, IsMemoryPlan, image_map, entries_of, image_bytes}
+use Rattle.replay_spec.specs.Images.{ImageOptions, MemoryImage, size_of, IsStatic, AreImages, IsMemoryPlan, image_map, entries_of, image_bytes}
 use Rattle.init_plan.specs.declared.translation.ModuleTranslation.{ModuleTranslation}
-use Rattle.init_plan.specs.Views.{initializers_of, passive_bytes, defined_sizes, images_of, processed_of, bytes_of, IsSegmented, SameButSegments}
-use Rattle.init_plan.specs.Images.{image_memory, image_memories, AreSized, Begins, BeginsAsImages, KeepsSegments}
+use Rattle.init_plan.specs.Views.{initializers_of, passive_bytes, defined_sizes, images_of, processed_of, bytes_of, SameButSegments}
+use Rattle.init_plan.specs.Images.{image_memories, AreSized, Begins, BeginsAsImages, KeepsSegments}
 use Rattle.init_plan.specs.Ready.{MemoryHalfIsReady}
 use Rattle.std.specs.Int.{IsPowerOfTwo}
 use Rattle.replay_spec.proofs.Joined.{agrees}
@@ -39,74 +40,59 @@ plan_of mid runtime found = record {
   passive = found;
 }
 
-module _ (options : ImageOptions) (passive runtime : List (List ℕ)) (found : ℕ → Option ℕ) (active : List ActiveSegment) (taken mid : ModuleTranslation)
-    (empty : taken.runtime_data ≡ []) (segmented : IsSegmented taken.module.memory_initialization)
-    (low : taken.module.num_imported_memories ≤ length taken.module.memories) (is_runtime : runtime ≡ map bytes_of mid.runtime_data ++ passive) where
-  as_images : (images : Vec (Option Image)) → IsStatic options taken.module.num_imported_memories (image_memories taken.module) active
-      → AreImages options.page (length taken.module.memories) active (view_images images.items) → BeginsAsImages options.page (view_images images.items) taken mid
-      → IsMemoryPlan options taken.module.num_imported_memories (image_memories taken.module) active passive (plan_of mid runtime found)
+module _ (options : ImageOptions) (old taken mid : ModuleTranslation) (ready : MemoryHalfIsReady old) (rest : SameButSegments old taken)
+    (runtime : List (List ℕ)) (found : ℕ → Option ℕ) (is_runtime : runtime ≡ map bytes_of mid.runtime_data ++ passive_bytes old) where
+  abbrev IsPlan : Type 0
+  IsPlan = IsMemoryPlan options old.module.num_imported_memories (image_memories old.module) (initializers_of old) (passive_bytes old) (plan_of mid runtime found)
+
+  none : length taken.runtime_data ≡ 0
+  none = ap (λ (t : ModuleTranslation). length t.runtime_data) rest ∙ ap length ready.no_runtime
+
+  sizes : defined_sizes mid.module ≡ defined_sizes taken.module → defined_sizes mid.module ≡ map size_of (image_memories old.module)
+  sizes same = same ∙ ap (λ (t : ModuleTranslation). defined_sizes t.module) rest ∙ view_sizes (drop old.module.num_imported_memories old.module.memories)
+
+  -- the runtime data are those of the memories and of the passive segments
+  first : (bytes : List (List ℕ)) → map bytes_of mid.runtime_data ≡ map bytes_of taken.runtime_data ++ bytes → runtime ≡ bytes ++ passive_bytes old
+  first bytes own = is_runtime ∙ ap (λ bs. bs ++ passive_bytes old)
+      (own ∙ ap (λ bs. bs ++ bytes) (ap (λ (t : ModuleTranslation). map bytes_of t.runtime_data) rest ∙ ap (map bytes_of) ready.no_runtime))
+
+  as_images : (images : List (Option MemoryImage)) → IsStatic options old.module.num_imported_memories (image_memories old.module) (initializers_of old)
+      → AreImages options.page (length old.module.memories) (initializers_of old) images → BeginsAsImages options.page images taken mid → IsPlan
   as_images images static are h =
-      let none : length taken.runtime_data ≡ 0 = ap length empty in
-      let none_before : map bytes_of taken.runtime_data ≡ [] = ap (map bytes_of) empty in
-      let in_map : images_of mid.module.memory_initialization ≡ image_map 0 (view_images images.items) = h.in_map ∙ ap (λ (n : ℕ). image_map n (view_images images.items)) none in
+      let in_map : images_of mid.module.memory_initialization ≡ image_map 0 images = h.in_map ∙ ap (λ (n : ℕ). image_map n images) none in
       record {
-        sizes = ap (λ (t : ModuleTranslation). defined_sizes t.module) h.same ∙ view_sizes (drop taken.module.num_imported_memories taken.module.memories);
+        sizes = sizes (ap (λ (t : ModuleTranslation). defined_sizes t.module) h.same);
         segments = inl (record {
           static = static;
-          images = view_images images.items;
-          are_images = subst (λ (n : ℕ). AreImages options.page n active (view_images images.items)) (sym (view_count taken.module low)) are;
+          images = images;
+          are_images = subst (λ (n : ℕ). AreImages options.page n (initializers_of old) images) (sym (view_count old.module ready.imports)) are;
           in_map = in_map;
-          in_list = h.in_list ∙ ap (λ (n : ℕ). entries_of 0 (image_map n (view_images images.items))) none ∙ ap (entries_of 0) (sym in_map);
-          runtime = is_runtime ∙ ap (λ bs. bs ++ passive) (h.runtime ∙ ap (λ bs. bs ++ image_bytes (view_images images.items)) none_before);
+          in_list = h.in_list ∙ ap (λ (n : ℕ). entries_of 0 (image_map n images)) none ∙ ap (entries_of 0) (sym in_map);
+          runtime = first (image_bytes images) h.runtime;
         });
       }
 
-  as_segments : (IsStatic options taken.module.num_imported_memories (image_memories taken.module) active → ⊥) → KeepsSegments active taken mid
-      → IsMemoryPlan options taken.module.num_imported_memories (image_memories taken.module) active passive (plan_of mid runtime found)
-  as_segments refused h =
-      let none : length taken.runtime_data ≡ 0 = ap length empty in
-      let none_before : map bytes_of taken.runtime_data ≡ [] = ap (map bytes_of) empty in
-      record {
-        sizes = ap (λ (t : ModuleTranslation). defined_sizes t.module) h.same ∙ view_sizes (drop taken.module.num_imported_memories taken.module.memories);
-        segments = inr (record {
-          not_static = refused;
-          in_map = ap (λ (t : ModuleTranslation). images_of t.module.memory_initialization) h.same ∙ images_of-segmented taken.module.memory_initialization segmented;
-          in_list = h.in_list ∙ ap (λ (n : ℕ). planned_from n active) none;
-          runtime = is_runtime ∙ ap (λ bs. bs ++ passive) (h.runtime ∙ ap (λ bs. bs ++ map (λ s. s.bytes) active) none_before);
-        });
-      }
+  as_segments : (IsStatic options old.module.num_imported_memories (image_memories old.module) (initializers_of old) → ⊥) → KeepsSegments (initializers_of old) taken mid → IsPlan
+  as_segments refused h = record {
+    sizes = sizes (ap (λ (t : ModuleTranslation). defined_sizes t.module) h.same);
+    segments = inr (record {
+      not_static = refused;
+      in_map = ap (λ (t : ModuleTranslation). images_of t.module.memory_initialization) h.same
+          ∙ ap (λ (t : ModuleTranslation). images_of t.module.memory_initialization) rest ∙ images_of-segmented old.module.memory_initialization ready.segmented;
+      in_list = h.in_list ∙ ap (λ (n : ℕ). planned_from n (initializers_of old)) none;
+      runtime = first (map (λ s. s.bytes) (initializers_of old)) h.runtime;
+    });
+  }
 
-  planned : (images : Option (Vec (Option Image)))
-      → IfNone images (IsStatic options taken.module.num_imported_memories (image_memories taken.module) active → ⊥)
-      → IfSome images (λ _. IsStatic options taken.module.num_imported_memories (image_memories taken.module) active)
-      → IfSome images (λ v. AreImages options.page (length taken.module.memories) active (view_images v.items))
-      → Begins options.page images active taken mid
-      → IsMemoryPlan options taken.module.num_imported_memories (image_memories taken.module) active passive (plan_of mid runtime found)
-  planned None none holds are h = as_segments none h
-  planned (Some images) none holds are h = as_images images holds are h
+  planned : (images : Option (Vec (Option Image))) → AreSized options old images → Begins options.page images (initializers_of old) taken mid → IsPlan
+  planned None sized h = as_segments sized.0 h
+  planned (Some v) sized h = as_images (view_images v.items) sized.0 sized.1 h
 
 -- the passive segments stand
 same_passive : (page_size : ℕ) (images : Option (Vec (Option Image))) (active : List ActiveSegment) (taken mid : ModuleTranslation)
     → Begins page_size images active taken mid → mid.private_parts.passive_data ≡ taken.private_parts.passive_data
 same_passive page_size None active taken mid h = ap (λ (t : ModuleTranslation). t.private_parts.passive_data) h.same
 same_passive page_size (Some images) active taken mid h = ap (λ (t : ModuleTranslation). t.private_parts.passive_data) h.same
-
--- ---- from a translation that is ready
-
-split_none : (options : ImageOptions) (t : ModuleTranslation) (images : Option (Vec (Option Image))) → AreSized options t images
-    → IfNone images (IsStatic options t.module.num_imported_memories (image_memories t.module) (initializers_of t) → ⊥)
-split_none options t None sized = sized.0
-split_none options t (Some v) sized = tt
-
-split_static : (options : ImageOptions) (t : ModuleTranslation) (images : Option (Vec (Option Image))) → AreSized options t images
-    → IfSome images (λ _. IsStatic options t.module.num_imported_memories (image_memories t.module) (initializers_of t))
-split_static options t None sized = tt
-split_static options t (Some v) sized = sized.0
-
-split_images : (options : ImageOptions) (t : ModuleTranslation) (images : Option (Vec (Option Image))) → AreSized options t images
-    → IfSome images (λ v. AreImages options.page (length t.module.memories) (initializers_of t) (view_images v.items))
-split_images options t None sized = tt
-split_images options t (Some v) sized = sized.1
 
 -- there are as many images as memories
 pub few_images : (options : ImageOptions) (t : ModuleTranslation) (images : Option (Vec (Option Image))) → length t.module.memories < 2 ^ 30 → AreSized options t images
@@ -117,24 +103,13 @@ few_images options t (Some v) few sized = let count = sized.1.count in let same 
 module _ (options : ImageOptions) (old taken mid : ModuleTranslation) (images : Option (Vec (Option Image))) (active : List ActiveSegment)
     (ready : MemoryHalfIsReady old) (sized : AreSized options old images) (rest : SameButSegments old taken) (is : active ≡ initializers_of old)
     (begins : Begins options.page images active taken mid) where
-  module_same : taken.module ≡ old.module
-  module_same = ap (λ (t : ModuleTranslation). t.module) rest
-
   pub stands : mid.private_parts.passive_data ≡ old.private_parts.passive_data
   stands = same_passive options.page images active taken mid begins ∙ ap (λ (t : ModuleTranslation). t.private_parts.passive_data) rest
 
   pub planned_sized : (runtime : List (List ℕ)) (found : ℕ → Option ℕ) → runtime ≡ map bytes_of mid.runtime_data ++ passive_bytes old
       → IsMemoryPlan options old.module.num_imported_memories (image_memories old.module) (initializers_of old) (passive_bytes old) (plan_of mid runtime found)
   planned_sized runtime found is_runtime =
-      let base = planned options (passive_bytes old) runtime found (initializers_of old) taken mid
-      (ap (λ (t : ModuleTranslation). t.runtime_data) rest ∙ ready.no_runtime)
-      (subst (λ (m : Module). IsSegmented m.memory_initialization) (sym module_same) ready.segmented)
-      (subst (λ (m : Module). m.num_imported_memories ≤ length m.memories) (sym module_same) ready.imports) is_runtime images
-      (subst (λ (m : Module). IfNone images (IsStatic options m.num_imported_memories (image_memories m) (initializers_of old) → ⊥)) (sym module_same) (split_none options old images sized))
-      (subst (λ (m : Module). IfSome images (λ _. IsStatic options m.num_imported_memories (image_memories m) (initializers_of old))) (sym module_same) (split_static options old images sized))
-      (subst (λ (m : Module). IfSome images (λ v. AreImages options.page (length m.memories) (initializers_of old) (view_images v.items))) (sym module_same) (split_images options old images sized))
-      (subst (λ xs. Begins options.page images xs taken mid) is begins) in
-      subst (λ (m : Module). IsMemoryPlan options m.num_imported_memories (image_memories m) (initializers_of old) (passive_bytes old) (plan_of mid runtime found)) module_same base
+      planned options old taken mid ready rest runtime found is_runtime images sized (subst (λ xs. Begins options.page images xs taken mid) is begins)
 
 -- the plan leaves what the segments leave
 pub agrees_sized : (options : ImageOptions) (m : Module) (active : List ActiveSegment) (passive : List (List ℕ)) (plan : MemoryPlan) → IsPowerOfTwo options.page

@@ -1,11 +1,9 @@
 -- The memories of a translated module, as the image rule asks of them.
-use Rattle.std.specs.Prelude.{◌≡◌, ◌++◌, ◌+◌, ◌%◌, ◌^◌, ◌<◌, IsSomeAnd, Bool, false, true, ℕ, List, length, map, drop, sum_by, slice_get, Option, None, Some}
+use Rattle.std.specs.Prelude.{◌≡◌, ◌++◌, ◌+◌, ◌%◌, ◌^◌, ◌<◌, IsSomeAnd, ℕ, List, length, map, drop, sum_by, slice_get, Option, None, Some}
 use Rattle.std.specs.Global.{Vec}
 use Rattle.memory_images.specs.declared.image.Image.{Image}
 use Rattle.memory_images.specs.Images.{images_of as view_images}
-use Rattle.wasm_types.specs.declared.limits.IndexType.{IndexType}
-use Rattle.wasm_types.specs.declared.limits.IndexType.TheVariants as index
-use Rattle.wasm_types.specs.declared.memory.Memory.{Memory}
+use Rattle.memory_images.specs.Views.{image_memory}
 use Rattle.wasm_types.specs.declared.tunables.Tunables.{Tunables}
 use Rattle.wasm_module.specs.declared.module.Module.{Module}
 use Rattle.replay_spec.specs.Data.{ActiveSegment}
@@ -13,13 +11,6 @@ use Rattle.replay_spec.specs.Plan.{MemoryPlan, planned_from}
 use Rattle.replay_spec.specs.Images.{ImageOptions, ImageMemory, IsStatic, MemoryImage, AreImages, written_on, bytes_on, image_map, entries_of, image_bytes, PlansImages, IsMemoryPlan, IsTight}
 use Rattle.init_plan.specs.declared.translation.ModuleTranslation.{ModuleTranslation}
 use Rattle.init_plan.specs.Views.{initializers_of, passive_bytes, data_total, images_of, processed_of, bytes_of, IsSegmented, IsProcessed}
-
-abbrev pub is_wide : IndexType → Bool
-is_wide index.I32 = false
-is_wide index.I64 = true
-
-abbrev pub image_memory : Memory → ImageMemory
-image_memory m = record { wide = is_wide m.idx_type; pages = m.limits.min; page_log2 = m.page_size_log2 }
 
 -- the defined memories
 abbrev pub image_memories : Module → List ImageMemory

@@ -14,6 +14,7 @@ use Rattle.wasm_types.specs.Memories.{minimum_bytes}
 use Rattle.wasm_convert.specs.Constants.{expression_of}
 use Rattle.wasm_module.specs.Record.{record_of, empty_record}
 use Rattle.replay_spec.specs.Data.{ActiveSegment}
+use Rattle.memory_images.specs.Views.{active_segment_of as plain_segment_of}
 use Rattle.replay_spec.specs.Plan.{PlannedOffset, Expr, Static, PlannedSegment, MemoryPlan}
 use Rattle.wasm_module.specs.declared.module.Module.{Module}
 use Rattle.wasm_module.specs.declared.memory_initialization.MemoryInitialization.{MemoryInitialization}
@@ -33,7 +34,7 @@ use Rattle.init_plan.specs.declared.translation.MemorySegmentOffset.TheVariants 
 -- ---- before the plan
 
 abbrev pub active_segment_of : MemoryInitializer → ActiveSegment
-active_segment_of s = record { memory = number_of s.memory_index; offset = expression_of s.offset; bytes = s.bytes.now }
+active_segment_of s = plain_segment_of s
 
 abbrev pub unprocessed_of : MemoryInit → List ActiveSegment
 unprocessed_of (init.Unprocessed segments) = map active_segment_of segments.items
@@ -134,22 +135,10 @@ abbrev pub IsSegmented : MemoryInitialization → Type 0
 IsSegmented initialization.Segmented = Unit {0}
 IsSegmented (initialization.Static images) = ⊥
 
--- a passive segment is found with its bytes
-abbrev pub FindsRuntime : List (List ℕ) → Option ℕ → List ℕ → Type 0
-FindsRuntime runtime None bytes = ⊥
-FindsRuntime runtime (Some index) bytes = slice_get runtime index ≡ Some bytes
-
-abbrev pub FindsData : MemoryPlan → ℕ × List ℕ → Type 0
-FindsData plan p = FindsRuntime plan.runtime (plan.passive p.0) p.1
-
--- the first passive segment is found at a number, and each other one at the number after that of the one before
-abbrev pub FindsFrom : (ℕ → Option ℕ) → ℕ → List (ℕ × List ℕ) → Type 0
-FindsFrom found start [] = Unit {0}
-FindsFrom found start (p ∷ ps) = (found p.0 ≡ Some start) × FindsFrom found (start + 1) ps
-
--- passive segments are found at the last runtime data, in order: after those of active segments or of images
-abbrev pub FindsInOrder : MemoryPlan → List (ℕ × List ℕ) → Type 0
-FindsInOrder plan ps = FindsFrom plan.passive (length plan.runtime - length ps) ps
+-- passive segments are found with their bytes: the first at an index of the runtime data, and each other one at the index after that of the one before
+abbrev pub FindsInOrder : List (List ℕ) → (ℕ → Option ℕ) → ℕ → List (ℕ × List ℕ) → Type 0
+FindsInOrder runtime found index [] = Unit {0}
+FindsInOrder runtime found index (p ∷ ps) = (found p.0 ≡ Some index) × (slice_get runtime index ≡ Some p.1) × FindsInOrder runtime found (index + 1) ps
 
 -- ---- what stays
 

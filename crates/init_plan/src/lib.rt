@@ -4,7 +4,6 @@
 mod debug_info;
 mod error;
 mod image_data;
-mod images;
 mod laws;
 mod memory_init;
 mod memory_startup;

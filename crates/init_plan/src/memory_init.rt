@@ -1,24 +1,23 @@
 //! Data segments become runtime data.
 
-ghost use Rattle.std.specs.Prelude.{◌≡◌, ◌≢◌, ◌+◌, ◌^◌, ◌<◌, ◌≤◌, ℕ, [], length, map, sum_by, false, All, Contains, OnOk, OnErr, IfOk, IfSome, Err, None};
+ghost use Rattle.std.specs.Prelude.{◌-◌, ◌≡◌, ◌≢◌, ◌+◌, ◌^◌, ◌<◌, ◌≤◌, ℕ, [], length, map, sum_by, false, Contains, OnOk, OnErr, IfOk, IfSome, Err, None};
 ghost use Rattle.std.specs.Int.{IsPowerOfTwo};
 ghost use Rattle.replay_spec.specs.Plan.{MemoryPlan, AgreesOver, ranges_from};
 ghost use Rattle.replay_spec.specs.Images.{IsMemoryPlan};
 ghost use Rattle.memory_images.specs.Images.{images_of as view_images};
 ghost use Rattle.memory_images.specs.Views.{options_of};
-ghost use Rattle.init_plan.specs.Views.{memory_plan_of, initializers_of, passive_data_of, defined_sizes, ranges_of, passive_bytes, FindsData, FindsInOrder, OnlyMemoriesChange, IsUnprocessed, IsProcessed, active_segment_of, SameButSegments};
+ghost use Rattle.init_plan.specs.Views.{memory_plan_of, initializers_of, passive_data_of, defined_sizes, ranges_of, passive_bytes, FindsInOrder, OnlyMemoriesChange, IsUnprocessed, IsProcessed, active_segment_of, SameButSegments};
 ghost use Rattle.init_plan.specs.Images.{image_memories, AreSized, BeginsByRule, BeginsAsImages, KeepsSegments, Begins};
 ghost use Rattle.init_plan.specs.Ready.{MemoryHalfIsReady};
 
 use crate::error::PlanError;
 use crate::image_data::keep_images;
-use crate::images::memory_images_of;
 use crate::runtime_data::{
     check_total, keep_active, keep_passive, passive_length, ranges_end_to_end,
 };
 use crate::translation::{MemoryInit, ModuleTranslation};
 use entity_map::OutOfMemory;
-use memory_images::{Image, ImageSettings};
+use memory_images::{Image, ImageSettings, plan_images};
 use std::alloc::Global;
 use std::mem;
 use wasm_module::{MemoryInitialization, MemoryInitializer};
@@ -43,7 +42,10 @@ impl<'d> ModuleTranslation<'d> {
         let segments = self.memory_init.unprocessed();
         let passive = &self.private_parts.passive_data;
         let beside = passive_length(passive)?;
-        match memory_images_of(alloc, settings, &self.module, segments, beside)? {
+        let imported = self.module.num_imported_memories;
+        let memories = self.module.memories.as_slice();
+        let beside = u64::from(beside);
+        match plan_images(alloc, settings, memories, imported, segments, beside)? {
             Some(images) => Ok(Some(images)),
             None => {
                 check_total(segments, passive)?;
@@ -76,9 +78,9 @@ impl<'d> ModuleTranslation<'d> {
         // Runtime data stand end to end from 0.
         ensures ranges { OnOk result (ranges_of self.new.module ≡ ranges_from 0 (map length (memory_plan_of self.new).runtime)) }
 
-        // Each passive segment is found with its bytes, in order behind the other runtime data, and no other is found.
-        ensures found { OnOk result (All (FindsData (memory_plan_of self.new)) (passive_data_of self.old)) }
-        ensures in_order { OnOk result (FindsInOrder (memory_plan_of self.new) (passive_data_of self.old)) }
+        // Each passive segment is found with its bytes, in order after the other runtime data, and no other is found.
+        ensures found { let plan = memory_plan_of self.new in let ps = passive_data_of self.old in
+            OnOk result (FindsInOrder plan.runtime plan.passive (length plan.runtime - length ps) ps) }
         ensures others { OnOk result ((index : ℕ) → ¬ Contains (map (λ p. p.0) (passive_data_of self.old)) index →
             (memory_plan_of self.new).passive index ≡ None) }
 

@@ -1,6 +1,6 @@
 //! Startup, where the memories are planned.
 
-ghost use Rattle.std.specs.Prelude.{◌≡◌, ◌≢◌, ◌⊎◌, ◌↔◌, ◌<◌, ◌≤◌, ◌^◌, ℕ, length, map, sum_by, false, true, is_none, IsTrue, All, Contains, Err, None, OnOk, OnErr};
+ghost use Rattle.std.specs.Prelude.{◌-◌, ◌≡◌, ◌≢◌, ◌⊎◌, ◌↔◌, ◌<◌, ◌≤◌, ◌^◌, ℕ, length, map, sum_by, false, true, is_none, IsTrue, All, Contains, Err, None, OnOk, OnErr};
 ghost use Rattle.std.specs.List.{list_all, filter_map};
 ghost use Rattle.module_types.specs.Builder.{builder_view, starts};
 ghost use Rattle.replay_spec.specs.Startup.{is_empty, raised_by_memories};
@@ -11,7 +11,7 @@ ghost use Rattle.replay_spec.specs.Images.{IsMemoryPlan};
 ghost use Rattle.init_plan.specs.Images.{image_options, image_memories, BeginsByRule, HasTightImages, HasWholeRanges, WillHaveRuntimeSize};
 ghost use Rattle.init_plan.specs.Tables.{TableHalfIsReady};
 ghost use Rattle.init_plan.specs.Ready.{MemoryHalfIsReady};
-ghost use Rattle.init_plan.specs.Views.{memory_plan_of, images_of, processed_of, IsPlace, initializers_of, passive_data_of, passive_bytes, data_total, defined_sizes, ranges_of, FindsData, FindsInOrder, IsProcessed, OnlyMemoryInitChanges};
+ghost use Rattle.init_plan.specs.Views.{memory_plan_of, images_of, processed_of, IsPlace, initializers_of, passive_data_of, passive_bytes, data_total, defined_sizes, ranges_of, FindsInOrder, IsProcessed, OnlyMemoryInitChanges};
 
 use crate::error::PlanError;
 use crate::translation::{MemoryInit, MemorySegmentOffset, ModuleTranslation};
@@ -62,8 +62,8 @@ impl ModuleTranslation<'_> {
         ensures whole_ranges { OnOk result (HasWholeRanges page_size (memory_plan_of self.new).images (ranges_of self.new.module)) }
 
         // Each passive segment is found with its bytes, in order after the other runtime data, and no other is found.
-        ensures found { OnOk result (All (FindsData (memory_plan_of self.new)) (passive_data_of self.old)) }
-        ensures in_order { OnOk result (FindsInOrder (memory_plan_of self.new) (passive_data_of self.old)) }
+        ensures found { let plan = memory_plan_of self.new in let ps = passive_data_of self.old in
+            OnOk result (FindsInOrder plan.runtime plan.passive (length plan.runtime - length ps) ps) }
         ensures others { OnOk result ((index : ℕ) → ¬ Contains (map (λ p. p.0) (passive_data_of self.old)) index →
             (memory_plan_of self.new).passive index ≡ None) }
 

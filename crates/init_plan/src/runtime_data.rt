@@ -6,7 +6,7 @@ ghost use Rattle.std.specs.Option.{option_map};
 ghost use Rattle.entity_map.specs.Secondary.{value_at};
 ghost use Rattle.wasm_index.specs.Index.{number_of};
 ghost use Rattle.replay_spec.specs.Plan.{planned_from, ranges_from};
-ghost use Rattle.init_plan.specs.Views.{active_segment_of, passive_segment_of, planned_segment_of, total_bytes, bytes_of, FindsRuntime, FindsFrom};
+ghost use Rattle.init_plan.specs.Views.{active_segment_of, passive_segment_of, planned_segment_of, total_bytes, bytes_of, FindsInOrder};
 
 use crate::error::PlanError;
 use crate::translation::{MemorySegmentOffset, RuntimeBytes};
@@ -109,9 +109,7 @@ pub(crate) fn keep_passive<'d>(
     requires distinct { IsDistinct nat_eq (map (λ p. p.0) (map passive_segment_of segments.now)) }
     ensures runtime { OnOk result (map bytes_of runtime_data.new
         ≡ map bytes_of runtime_data.old ++ map (λ p. p.1) (map passive_segment_of segments.now)) }
-    ensures found { OnOk result (All (λ p. FindsRuntime (map bytes_of runtime_data.new) (option_map number_of (value_at found.new p.0)) p.1)
-        (map passive_segment_of segments.now)) }
-    ensures in_order { OnOk result (FindsFrom (λ n. option_map number_of (value_at found.new n)) (length runtime_data.old)
+    ensures found { OnOk result (FindsInOrder (map bytes_of runtime_data.new) (λ n. option_map number_of (value_at found.new n)) (length runtime_data.old)
         (map passive_segment_of segments.now)) }
     ensures others { OnOk result ((n : ℕ) → ¬ Contains (map (λ p. p.0) (map passive_segment_of segments.now)) n →
         value_at found.new n ≡ value_at found.old n) }

@@ -1,87 +1,67 @@
 -- One more segment among the bytes of its memory.
-use Rattle.std.proofs.Common.{◌≡◌, ◌≢◌, ℕ, ◌+◌, ◌-◌, ◌<◌, ◌≤◌, true, false, List, [], ◌∷◌, ◌++◌, length, get_or, map, take, All, Some, refl, sym, ◌∙◌, ap, subst, arith}
+use Rattle.std.proofs.Common.{◌≡◌, ◌≢◌, ℕ, ◌+◌, ◌-◌, ◌<◌, ◌≤◌, true, false, List, [], ◌∷◌, ◌++◌, length, map, refl, sym, ◌∙◌, ap, arith}
 use Rattle.std.specs.Prelude.{slice_get, nat_lt, ◌==◌, ◌&&◌}
 use Rattle.std.specs.Global.{Vec}
-use Rattle.std.specs.List.{AllZip}
 use Rattle.std.proofs.Math.Logic.{⊎_elim}
 use Rattle.std.proofs.lemmas.Bool.{cases_eq, cases_lt, eq-eqb, ne_eqb, lt-ltb, le-ltb, and_from, and_left, and_right}
-use Rattle.std.proofs.lemmas.List.{append-nil, take_more, length-map, get_or-map, map-append}
+use Rattle.std.proofs.lemmas.List.{append-nil, length-map, map-append}
 use Rattle.std.proofs.lemmas.List.Elements.{All-push, filter-append}
-use Rattle.std.proofs.lemmas.Slice.Zip.{all_zipped_more}
-use Rattle.std.proofs.lemmas.Option.{slice_get-get_or, slice_get_within}
+use Rattle.std.proofs.lemmas.Option.{slice_get_within}
 use Rattle.replay_spec.specs.Data.{ActiveSegment}
-use Rattle.replay_spec.specs.Images.{ImageMemory, IsPlaced, bytes_on}
-use Rattle.memory_images.specs.declared.segment.Active.{Active}
-use Rattle.memory_images.specs.declared.segment.Memory.{Memory}
-use Rattle.memory_images.specs.Views.{memory_of, memories_of, active_of}
+use Rattle.replay_spec.specs.Images.{ImageMemory, IsPlaced, bytes_on, start_of}
+use Rattle.wasm_types.specs.declared.memory.Memory.{Memory}
 use Rattle.memory_images.specs.declared.laid.Laid.{Laid}
-use Rattle.memory_images.specs.Layout.{IsLaidFrom, AreLaid, Adds, unless_empty}
+use Rattle.memory_images.specs.Contents.{piece_of, pieces_in}
+use Rattle.memory_images.specs.Layout.{AreLaid, Adds, laid_piece, unless_empty}
+use Rattle.memory_images.specs.Views.{image_memory}
+use Rattle.memory_images.proofs.Lists.{some_at}
 
--- a segment beside others on memory number m, and what is laid there
-module _ (m : ℕ) (x : Laid) (s : ActiveSegment) (from : IsLaidFrom x s) (laid : List Laid) (ss : List ActiveSegment) (z : AllZip IsLaidFrom laid (bytes_on m ss)) where
-  behind : bytes_on m (ss ++ s ∷ []) ≡ bytes_on m ss ++ bytes_on m (s ∷ [])
-  behind = filter-append (λ s. s.memory == m && nat_lt 0 (length s.bytes)) ss (s ∷ [])
-
-  none : (s.memory == m && nat_lt 0 (length s.bytes)) ≡ false → AllZip IsLaidFrom laid (bytes_on m (ss ++ s ∷ []))
-  none test =
-      let empty : bytes_on m (s ∷ []) ≡ [] = rw test refl in
-      subst (λ xs. AllZip IsLaidFrom laid xs) (sym (behind ∙ ap (λ xs. bytes_on m ss ++ xs) empty ∙ append-nil (bytes_on m ss))) z
-
-  pub beside_here : s.memory ≡ m → AllZip IsLaidFrom (laid ++ unless_empty x) (bytes_on m (ss ++ s ∷ []))
-  beside_here on =
-      let n : length x.bytes.now ≡ length s.bytes = ap length from.bytes in
+module _ (x : Laid) (s : ActiveSegment) (start : start_of s ≡ x.start) (bytes : x.bytes.now ≡ s.bytes) where
+  -- a segment lays its bytes into its own memory
+  here : map piece_of (unless_empty x) ≡ map laid_piece (bytes_on s.memory (s ∷ []))
+  here =
+      let n : length x.bytes.now ≡ length s.bytes = ap length bytes in
       ⊎_elim
       (λ (some : 0 < length s.bytes).
-      let test = and_from (s.memory == m) (nat_lt 0 (length s.bytes)) (eq-eqb s.memory m on) (lt-ltb 0 (length s.bytes) some) in
-      let one : bytes_on m (s ∷ []) ≡ s ∷ [] = rw test refl in
+      let test = and_from (s.memory == s.memory) (nat_lt 0 (length s.bytes)) (eq-eqb s.memory s.memory refl) (lt-ltb 0 (length s.bytes) some) in
       let full : nat_lt 0 (length x.bytes.now) ≡ true = lt-ltb 0 (length x.bytes.now) (omega arith) in
-      let kept : unless_empty x ≡ x ∷ [] = rw full refl in
-      rw kept (subst (λ xs. AllZip IsLaidFrom (laid ++ x ∷ []) xs) (sym (behind ∙ ap (λ xs. bytes_on m ss ++ xs) one))
-      (all_zipped_more IsLaidFrom laid (bytes_on m ss) x s z from)))
+      rw (test, full, start, bytes) refl)
       (λ (zero : length s.bytes ≤ 0).
-      let test = and_right (s.memory == m) (nat_lt 0 (length s.bytes)) (le-ltb 0 (length s.bytes) zero) in
+      let test = and_right (s.memory == s.memory) (nat_lt 0 (length s.bytes)) (le-ltb 0 (length s.bytes) zero) in
       let full : nat_lt 0 (length x.bytes.now) ≡ false = le-ltb 0 (length x.bytes.now) (omega arith) in
-      let kept : laid ++ unless_empty x ≡ laid = rw full (append-nil laid) in
-      rw kept (none test))
+      rw (test, full) refl)
       (cases_lt 0 (length s.bytes))
 
-  pub beside_elsewhere : s.memory ≢ m → AllZip IsLaidFrom laid (bytes_on m (ss ++ s ∷ []))
-  beside_elsewhere off = none (and_left (s.memory == m) (nat_lt 0 (length s.bytes)) (ne_eqb s.memory m off))
+  -- and none into another
+  elsewhere : (m : ℕ) → s.memory ≢ m → bytes_on m (s ∷ []) ≡ []
+  elsewhere m off = let test = and_left (s.memory == m) (nat_lt 0 (length s.bytes)) (ne_eqb s.memory m off) in rw test refl
 
-pub more : (imports : ℕ) (memories : List ImageMemory) (ss : List ActiveSegment) (s : ActiveSegment) (x : Laid) (all all' : List (Vec Laid))
-    → IsPlaced imports memories s → IsLaidFrom x s → Adds all all' s.memory x → AreLaid imports memories ss all → AreLaid imports memories (ss ++ s ∷ []) all'
-more imports memories ss s x all all' p from adds laid = record {
-  placed = All-push (IsPlaced imports memories) ss s laid.placed p;
-  count = adds.count ∙ laid.count;
-  each = λ m w g. ⊎_elim
+  added : (all all' : List (Vec Laid)) (m : ℕ) → s.memory < length all → Adds all all' s.memory x → pieces_in (slice_get all' m) ≡ pieces_in (slice_get all m) ++ map laid_piece (bytes_on m (s ∷ []))
+  added all all' m within adds = ⊎_elim
       (λ (on : s.memory ≡ m).
-      let n = slice_get_within all' m w g in
-      let c = adds.count in
-      let at : slice_get all m ≡ Some (get_or all m w) = slice_get-get_or all m w (omega arith) in
-      let items : w.items ≡ (get_or all m w).items ++ unless_empty x = adds.here (get_or all m w) w (ap (slice_get all) on ∙ at) (ap (slice_get all') on ∙ g) in
-      subst (λ xs. AllZip IsLaidFrom xs (bytes_on m (ss ++ s ∷ []))) (sym items)
-      (beside_here m x s from (get_or all m w).items ss (laid.each m (get_or all m w) at) on))
+      let n = adds.count in
+      let v = some_at all s.memory within in
+      let w = some_at all' s.memory (omega arith) in
+      rw (← on) (ap pieces_in w.1 ∙ ap (map piece_of) (adds.here v.0 w.0 v.1 w.1) ∙ map-append piece_of v.0.items (unless_empty x)
+      ∙ ap (λ ps. ps ++ map piece_of (unless_empty x)) (sym (ap pieces_in v.1)) ∙ ap (λ ps. pieces_in (slice_get all s.memory) ++ ps) here))
       (λ (off : s.memory ≢ m).
-      beside_elsewhere m x s from w.items ss (laid.each m w (sym (adds.there m (λ e. off (sym e))) ∙ g)) off)
-      (cases_eq s.memory m);
-}
+      ap pieces_in (adds.there m (λ e. off (sym e))) ∙ sym (append-nil (pieces_in (slice_get all m)))
+      ∙ ap (λ xs. pieces_in (slice_get all m) ++ map laid_piece xs) (sym (elsewhere m off)))
+      (cases_eq s.memory m)
 
--- ---- segments of the code
-
-pub all-mapped : {A B : Type 0} (f : A → B) (P : B → Type 0) (xs : List A) (i : ℕ) (d : A) → All P (map f xs) → i < length xs → P (f (get_or xs i d))
-all-mapped f P xs i d all l =
-    let n = length-map xs f in
-    subst P (get_or-map f xs i d (f d) l) (all i (f d) (omega arith))
-
--- one more segment of the code
-pub one_more : (segments : List Active) (i : ℕ) (d : Active) → i < length segments
-    → map active_of (take (i + 1) segments) ≡ map active_of (take i segments) ++ active_of (get_or segments i d) ∷ []
-one_more segments i d l = ap (map active_of) (take_more segments i d l) ∙ map-append active_of (take i segments) (get_or segments i d ∷ [])
+  pub more : (imports : ℕ) (memories : List ImageMemory) (ss : List ActiveSegment) (all all' : List (Vec Laid)) → IsPlaced imports memories s → s.memory < length all
+      → Adds all all' s.memory x → AreLaid imports memories ss all → AreLaid imports memories (ss ++ s ∷ []) all'
+  more imports memories ss all all' p within adds laid = record {
+    placed = All-push (IsPlaced imports memories) ss s laid.placed p;
+    count = adds.count ∙ laid.count;
+    each = λ m. added all all' m within adds ∙ ap (λ ps. ps ++ map laid_piece (bytes_on m (s ∷ []))) (laid.each m)
+        ∙ sym (ap (map laid_piece) (filter-append (λ s. s.memory == m && nat_lt 0 (length s.bytes)) ss (s ∷ [])) ∙ map-append laid_piece (bytes_on m ss) (bytes_on m (s ∷ [])));
+  }
 
 -- a placed segment is on one of the memories
-pub in_range : (imports : ℕ) (memories : List Memory) (s : ActiveSegment) → IsPlaced imports (memories_of memories) s → s.memory < imports + length memories
+pub in_range : (imports : ℕ) (memories : List Memory) (s : ActiveSegment) → IsPlaced imports (map image_memory memories) s → s.memory < imports + length memories
 in_range imports memories s p =
-    let l = slice_get_within (memories_of memories) (s.memory - imports) p.memory p.is_memory in
-    let n = length-map memories memory_of in
+    let l = slice_get_within (map image_memory memories) (s.memory - imports) p.memory p.is_memory in
+    let n = length-map memories image_memory in
     let d = p.defined in
     omega (arith, l, n, d)

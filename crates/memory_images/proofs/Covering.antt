@@ -8,7 +8,7 @@ use Rattle.std.proofs.lemmas.Option.{slice_get-get_or, slice_get_past}
 use Rattle.memory_images.specs.Ranges.{is_within, later_or, last_cover_from}
 use Rattle.memory_images.specs.declared.laid.Laid.{Laid}
 use Rattle.replay_spec.specs.Phases.{item_at, last_item}
-use Rattle.memory_images.specs.Contents.{piece_of, contents_of, end_of, byte_in, pair_of}
+use Rattle.memory_images.specs.Contents.{piece_of, contents_of, end_of, pair_of}
 
 -- number s of laid bytes covers a place, whose byte is b
 pub record Covering (laid : List Laid) (s place b : ℕ) : Type 0 where
@@ -45,10 +45,10 @@ not_within start end place h = ⊎_elim inl
     (λ (ge : start ≤ place). ⊎_elim (λ (lt : place < end). absurd (let f : true ≡ false = sym (within_yes start end place ge lt) ∙ h in cc)) inr (cases_lt place end)) (cases_lt place start)
 
 -- what a piece gives at a place
-covers : (x : Laid) (place : ℕ) → x.start ≤ place → place < end_of x → item_at 0 place (piece_of x) ≡ Some (get_or x.bytes.now (place - x.start) 0)
+pub covers : (x : Laid) (place : ℕ) → x.start ≤ place → place < end_of x → item_at 0 place (piece_of x) ≡ Some (get_or x.bytes.now (place - x.start) 0)
 covers x place h l = rw (le-leb x.start place h) (slice_get-get_or x.bytes.now (place - x.start) 0 (omega arith))
 
-misses : (x : Laid) (place : ℕ) → (place < x.start) ⊎ (end_of x ≤ place) → item_at 0 place (piece_of x) ≡ None
+pub misses : (x : Laid) (place : ℕ) → (place < x.start) ⊎ (end_of x ≤ place) → item_at 0 place (piece_of x) ≡ None
 misses x place o = ⊎_elim low high o where
   low : place < x.start → item_at 0 place (piece_of x) ≡ None
   low l = let t : nat_le x.start place ≡ false = grind (arith, nat_tests) in rw t refl
@@ -56,37 +56,25 @@ misses x place o = ⊎_elim low high o where
   high : end_of x ≤ place → item_at 0 place (piece_of x) ≡ None
   high l = rw (le-leb x.start place (omega arith)) (slice_get_past x.bytes.now (place - x.start) (omega arith))
 
--- what stands at a place after one piece
-next_item : (d e place : ℕ) (x : Laid) (xs : List Laid) → unwrap_or (item_at 0 place (piece_of x)) d ≡ e → last_item 0 place d (map piece_of (x ∷ xs)) ≡ last_item 0 place e (map piece_of xs)
-next_item d e place x xs is = ap (λ (v : ℕ). last_item 0 place v (map piece_of xs)) is
-
-behind : (n d e place : ℕ) (x : Laid) (xs : List Laid) (s : ℕ) → unwrap_or (item_at 0 place (piece_of x)) d ≡ e → Numbered (suc n) e place xs s → Numbered n d place (x ∷ xs) s
-behind n d e place x xs s is t = let c = t.covering in record {
-  number = suc t.number;
-  is = let k = t.is in omega arith;
-  covering = record { part = c.part; is_part = c.is_part; from = c.from; upto = c.upto; byte = next_item d e place x xs is ∙ c.byte };
-}
-
 told : (n d place : ℕ) (laid : List Laid) → Told n d place laid (last_cover_from n place (map pair_of laid))
 told n d place [] = refl
-told n d place (x ∷ xs) = by_test (is_within x.start (end_of x) place) refl (λ e. told (suc n) e place xs) where
-  yes_here : (o : Option ℕ) → is_within x.start (end_of x) place ≡ true → Told (suc n) (byte_in x place) place xs o → Told n d place (x ∷ xs) (later_or o true n)
-  yes_here (Some s) is t = let w = within_is x.start (end_of x) place is in behind n d (byte_in x place) place x xs s (ap (λ (o : Option ℕ). unwrap_or o d) (covers x place w.0 w.1)) t
-  yes_here None is t =
+told n d place (x ∷ xs) = over (last_cover_from (suc n) place (map pair_of xs)) (is_within x.start (end_of x) place) refl (told (suc n) (unwrap_or (item_at 0 place (piece_of x)) d) place xs) where
+  over : (o : Option ℕ) (b : Bool) → is_within x.start (end_of x) place ≡ b → Told (suc n) (unwrap_or (item_at 0 place (piece_of x)) d) place xs o → Told n d place (x ∷ xs) (later_or o b n)
+  over (Some s) b is t =
+      let c = t.covering in
+      record {
+        number = suc t.number;
+        is = let k = t.is in omega arith;
+        covering = record { part = c.part; is_part = c.is_part; from = c.from; upto = c.upto; byte = c.byte };
+      }
+  over None true is t =
       let w = within_is x.start (end_of x) place is in
       record {
         number = 0;
         is = omega arith;
-        covering = record { part = x; is_part = refl; from = w.0; upto = w.1; byte = next_item d (byte_in x place) place x xs (ap (λ (o : Option ℕ). unwrap_or o d) (covers x place w.0 w.1)) ∙ t };
+        covering = record { part = x; is_part = refl; from = w.0; upto = w.1; byte = t ∙ ap (λ (o : Option ℕ). unwrap_or o d) (covers x place w.0 w.1) };
       }
-
-  not_here : (o : Option ℕ) → is_within x.start (end_of x) place ≡ false → Told (suc n) d place xs o → Told n d place (x ∷ xs) (later_or o false n)
-  not_here (Some s) is t = behind n d d place x xs s (ap (λ (o : Option ℕ). unwrap_or o d) (misses x place (not_within x.start (end_of x) place is))) t
-  not_here None is t = next_item d d place x xs (ap (λ (o : Option ℕ). unwrap_or o d) (misses x place (not_within x.start (end_of x) place is))) ∙ t
-
-  by_test : (b : Bool) → is_within x.start (end_of x) place ≡ b → ((e : ℕ) → Told (suc n) e place xs (last_cover_from (suc n) place (map pair_of xs))) → Told n d place (x ∷ xs) (last_cover_from n place (map pair_of (x ∷ xs)))
-  by_test true is t = rw is (yes_here (last_cover_from (suc n) place (map pair_of xs)) is (t (byte_in x place)))
-  by_test false is t = rw is (not_here (last_cover_from (suc n) place (map pair_of xs)) is (t d))
+  over None false is t = t ∙ ap (λ (o : Option ℕ). unwrap_or o d) (misses x place (not_within x.start (end_of x) place is))
 
 -- the byte at a place is that of its last cover
 pub covered : (laid : List Laid) (place s : ℕ) → last_cover_from 0 place (map pair_of laid) ≡ Some s → Covering laid s place (contents_of laid place)

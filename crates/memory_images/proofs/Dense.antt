@@ -1,13 +1,13 @@
 -- The extent and the number of laid bytes are those of their segments.
-use Rattle.std.proofs.Common.{◌≡◌, ℕ, ◌-◌, ◌*◌, ◌^◌, ◌<◌, ◌≤◌, List, [], ◌∷◌, length, sum_by, fold, min, max, All, ◌⊎◌, inl, inr, refl, ap, arith}
-use Rattle.std.specs.List.{AllZip}
-use Rattle.std.proofs.Math.Logic.{⊎_elim}
-use Rattle.std.proofs.lemmas.List.Sums.{sum_by-cons}
+use Rattle.std.proofs.Common.{◌≡◌, ℕ, ◌+◌, ◌-◌, ◌^◌, ◌<◌, ◌≤◌, List, [], ◌∷◌, length, map, sum_by, fold, min, max, All, refl, sym, ◌∙◌, ap, subst, arith}
+use Rattle.std.proofs.lemmas.List.Folds.{fold-map}
+use Rattle.replay_spec.specs.Phases.{Piece}
 use Rattle.replay_spec.specs.Data.{ActiveSegment}
-use Rattle.replay_spec.specs.Images.{start_of, least_start, greatest_end, extent, data_size, IsDense}
+use Rattle.replay_spec.specs.Images.{start_of, end_of, least_start, greatest_end, extent, data_size}
 use Rattle.memory_images.specs.declared.laid.Laid.{Laid}
-use Rattle.memory_images.specs.Contents.{end_of as laid_end}
-use Rattle.memory_images.specs.Layout.{IsLaidFrom}
+use Rattle.memory_images.specs.Contents.{piece_of, end_of as laid_end}
+use Rattle.memory_images.specs.Layout.{laid_piece}
+use Rattle.std.proofs.lemmas.List.Elements.{All-map}
 
 -- the least start, at most the greatest number of 64 bits
 abbrev pub low_of : List Laid → ℕ
@@ -19,62 +19,42 @@ high_of laid = fold (λ n x. max n (laid_end x)) 0 laid
 abbrev pub data_of : List Laid → ℕ
 data_of laid = sum_by (λ x. length x.bytes.now) laid
 
-low-fold : (acc : ℕ) (laid : List Laid) (x : Laid) (ss : List ActiveSegment) (a : ActiveSegment) → IsLaidFrom x a → AllZip IsLaidFrom laid ss
-    → fold (λ (n : ℕ) (x : Laid). min n x.start) acc (x ∷ laid) ≡ min acc (least_start (a ∷ ss))
-low-fold acc [] x [] a h z = let e = h.start in omega arith
-low-fold acc [] x (b ∷ bs) a h z = absurd z
-low-fold acc (y ∷ ys) x [] a h z = absurd z
-low-fold acc (y ∷ ys) x (b ∷ bs) a h z =
-    let e = h.start in
-    let more = low-fold (min acc x.start) ys y bs b z.0 z.1 in
-    omega (arith, more)
+abbrev lower : ℕ → Piece ℕ → ℕ
+lower n p = min n p.offset
 
-high-fold : (acc : ℕ) (laid : List Laid) (ss : List ActiveSegment) → AllZip IsLaidFrom laid ss
-    → fold (λ (n : ℕ) (x : Laid). max n (laid_end x)) acc laid ≡ max acc (greatest_end ss)
-high-fold acc [] [] z = omega arith
-high-fold acc [] (b ∷ bs) z = absurd z
-high-fold acc (y ∷ ys) [] z = absurd z
-high-fold acc (y ∷ ys) (b ∷ bs) z =
-    let e = z.0.start in
-    let n = ap length z.0.bytes in
-    let more = high-fold (max acc (laid_end y)) ys bs z.1 in
-    omega (arith, more)
+abbrev higher : ℕ → Piece ℕ → ℕ
+higher n p = max n (p.offset + length p.items)
 
-data-same : (laid : List Laid) (ss : List ActiveSegment) → AllZip IsLaidFrom laid ss → data_of laid ≡ data_size ss
-data-same [] [] z = refl
-data-same [] (b ∷ bs) z = absurd z
-data-same (y ∷ ys) [] z = absurd z
-data-same (y ∷ ys) (b ∷ bs) z =
-    let one = sum_by-cons (λ (x : Laid). length x.bytes.now) y ys in
-    let two = sum_by-cons (λ (s : ActiveSegment). length s.bytes) b bs in
-    let n = ap length z.0.bytes in
-    let more = data-same ys bs z.1 in
-    omega (arith, one, two, more)
+abbrev counted : ℕ → Piece ℕ → ℕ
+counted n p = n + length p.items
 
-extent-same : (laid : List Laid) (ss : List ActiveSegment) → AllZip IsLaidFrom laid ss → All (λ x. laid_end x < 2 ^ 64) laid
-    → high_of laid - low_of laid ≡ extent ss
-extent-same [] [] z fits = omega arith
-extent-same [] (b ∷ bs) z fits = absurd z
-extent-same (y ∷ ys) [] z fits = absurd z
-extent-same (y ∷ ys) (b ∷ bs) z fits =
-    let low = low-fold (2 ^ 64 - 1) ys y bs b z.0 z.1 in
-    let high = high-fold 0 (y ∷ ys) (b ∷ bs) z in
-    let small : least_start (b ∷ bs) ≤ 2 ^ 64 - 1 = least-small bs in
-    omega (arith, low, high) where
-      first : start_of b ≤ 2 ^ 64 - 1
-      first = let e = z.0.start in let f : laid_end y < 2 ^ 64 = fits 0 y (omega arith) in omega arith
+low-fold : (acc : ℕ) (s : ActiveSegment) (ss : List ActiveSegment) → fold lower acc (map laid_piece (s ∷ ss)) ≡ min acc (least_start (s ∷ ss))
+low-fold acc s [] = refl
+low-fold acc s (t ∷ ss) = let more = low-fold (min acc (start_of s)) t ss in omega (arith, more)
 
-      least-small : (bs : List ActiveSegment) → least_start (b ∷ bs) ≤ 2 ^ 64 - 1
-      least-small [] = first
-      least-small (c ∷ cs) = let f = first in omega arith
+high-fold : (acc : ℕ) (ss : List ActiveSegment) → fold higher acc (map laid_piece ss) ≡ max acc (greatest_end ss)
+high-fold acc [] = omega arith
+high-fold acc (s ∷ ss) = let more = high-fold (max acc (end_of s)) ss in omega (arith, more)
 
--- a test of an extent and a number of bytes decides whether the segments lie close together
-pub dense : (max_image found count : ℕ) (laid : List Laid) (ss : List ActiveSegment) → AllZip IsLaidFrom laid ss → All (λ x. laid_end x < 2 ^ 64) laid
-    → found ≡ high_of laid - low_of laid → count ≡ data_of laid
-    → ((found < 2 * count) ⊎ (found < max_image) → IsDense max_image ss) × (IsDense max_image ss → (found < 2 * count) ⊎ (found < max_image))
-dense max_image found count laid ss z fits is_extent is_data =
-    let e = extent-same laid ss z fits in
-    let n = data-same laid ss z in (
-      ⊎_elim (λ (h : found < 2 * count). inl (omega arith)) (λ (h : found < max_image). inr (omega arith)),
-      ⊎_elim (λ (h : extent ss < 2 * data_size ss). inl (omega arith)) (λ (h : extent ss < max_image). inr (omega arith)),
-    )
+module _ (laid : List Laid) (ss : List ActiveSegment) (same : map piece_of laid ≡ map laid_piece ss) (fits : All (λ x. laid_end x < 2 ^ 64) laid) where
+  small : (ss : List ActiveSegment) → All (λ p. p.offset + length p.items < 2 ^ 64) (map laid_piece ss) → least_start ss ≤ 2 ^ 64 - 1
+  small [] all = omega arith
+  small (s ∷ []) all = let f = all 0 (laid_piece s) (omega arith) in omega (arith, f)
+  small (s ∷ t ∷ ss) all = let f = all 0 (laid_piece s) (omega arith) in omega (arith, f)
+
+  pub extent_same : high_of laid - low_of laid ≡ extent ss
+  extent_same =
+      let low : low_of laid ≡ fold lower (2 ^ 64 - 1) (map laid_piece ss) = sym (fold-map lower piece_of (2 ^ 64 - 1) laid) ∙ ap (fold lower (2 ^ 64 - 1)) same in
+      let high : high_of laid ≡ fold higher 0 (map laid_piece ss) = sym (fold-map higher piece_of 0 laid) ∙ ap (fold higher 0) same in
+      over ss (subst (All (λ p. p.offset + length p.items < 2 ^ 64)) same (All-map (λ p. p.offset + length p.items < 2 ^ 64) piece_of laid fits)) low high where
+        over : (ss : List ActiveSegment) → All (λ p. p.offset + length p.items < 2 ^ 64) (map laid_piece ss) → low_of laid ≡ fold lower (2 ^ 64 - 1) (map laid_piece ss)
+            → high_of laid ≡ fold higher 0 (map laid_piece ss) → high_of laid - low_of laid ≡ extent ss
+        over [] all low high = omega (arith, low, high)
+        over (s ∷ ss) all low high =
+            let least = low-fold (2 ^ 64 - 1) s ss in
+            let greatest = high-fold 0 (s ∷ ss) in
+            let bound = small (s ∷ ss) all in
+            omega (arith, low, high, least, greatest, bound)
+
+  pub data_same : data_of laid ≡ data_size ss
+  data_same = sym (fold-map counted piece_of 0 laid) ∙ ap (fold counted 0) same ∙ fold-map counted laid_piece 0 ss

@@ -1,17 +1,13 @@
+mod Lists
 mod Sweeping
 mod Covering
-mod InOrder
 mod Ranges
 mod OneList
-mod CutParts
-mod Nonzero
-mod Laying
-mod Measuring
-mod Zips
-mod Memories
-mod Inside
-mod Dense
+mod Ends
+mod Filling
+mod Sizes
 mod Adding
+mod Dense
+mod ImageRule
 mod Replayed
 mod Placing
-pub mod Alike

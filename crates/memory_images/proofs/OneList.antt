@@ -5,7 +5,7 @@ use Rattle.std.proofs.lemmas.Bool.{cases_lt}
 use Rattle.std.proofs.lemmas.List.Elements.{All-head, All-tail}
 use Rattle.memory_images.specs.declared.written.Written.{Written}
 use Rattle.memory_images.specs.Ranges.{segment_at, IsBefore, AreWritten}
-use Rattle.memory_images.proofs.InOrder.{none_some, two_some, pair_at}
+use Rattle.memory_images.proofs.Lists.{none_some, two_some, pair_at}
 use Rattle.memory_images.proofs.Covering.{within_yes, within_low, within_high}
 use Rattle.memory_images.proofs.Ranges.{pairs_behind, range_at}
 

@@ -4,7 +4,7 @@ use Rattle.std.specs.Prelude.{slice_get}
 use Rattle.memory_images.specs.declared.written.Written.{Written}
 use Rattle.memory_images.specs.Ranges.{is_within, segment_at, IsBefore}
 use Rattle.memory_images.proofs.Covering.{within_yes, within_high, within_is}
-use Rattle.memory_images.proofs.InOrder.{two_some, pair_at}
+use Rattle.memory_images.proofs.Lists.{two_some, pair_at}
 
 pub pairs_behind : {X : Type 0} (R : X → X → Type 0) (x : X) (xs : List X) → AllPairs R (x ∷ xs) → AllPairs R xs
 pairs_behind R x xs all = λ i j d lt k. all (suc i) (suc j) d (omega arith) (omega arith)

@@ -14,7 +14,7 @@ use Rattle.memory_images.specs.declared.written.Written.{Written}
 use Rattle.memory_images.specs.Ranges.{is_within, later_or, last_cover, last_cover_from, segment_at, IsBefore, AreWritten}
 use Rattle.memory_images.specs.Sweep.{start_of, end_of, AreWrittenBelow, AreBegun, AreActive, Keeps, AreStarts}
 use Rattle.std.proofs.lemmas.Option.{slice_get-get_or}
-use Rattle.memory_images.proofs.InOrder.{two_some, pair_at}
+use Rattle.memory_images.proofs.Lists.{two_some, pair_at}
 use Rattle.memory_images.proofs.Covering.{within_yes, within_low, within_high}
 
 -- what is read at a place of a list is what stands there

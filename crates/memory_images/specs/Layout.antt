@@ -1,21 +1,21 @@
 -- The bytes that segments lay into each memory.
-use Rattle.std.specs.Prelude.{◌≡◌, ◌≢◌, ◌+◌, ◌++◌, ℕ, List, [], ◌∷◌, length, nat_lt, if◌then◌else◌, slice_get, Some, All}
-use Rattle.std.specs.List.{AllZip}
+use Rattle.std.specs.Prelude.{◌≡◌, ◌≢◌, ◌+◌, ◌++◌, ℕ, List, [], ◌∷◌, map, length, nat_lt, if◌then◌else◌, slice_get, Some, All}
 use Rattle.std.specs.Global.{Vec}
+use Rattle.replay_spec.specs.Phases.{Piece}
 use Rattle.replay_spec.specs.Data.{ActiveSegment}
 use Rattle.replay_spec.specs.Images.{ImageOptions, ImageMemory, IsPlaced, bytes_on, start_of, MayBeImage}
 use Rattle.memory_images.specs.declared.laid.Laid.{Laid}
+use Rattle.memory_images.specs.Contents.{pieces_in}
 
--- laid bytes are a segment's, at the place that its offset names
-pub record IsLaidFrom (x : Laid) (s : ActiveSegment) : Type 0 where
-  pub start : x.start ≡ start_of s
-  pub bytes : x.bytes.now ≡ s.bytes
+-- what a segment lays into its memory
+abbrev pub laid_piece : ActiveSegment → Piece ℕ
+laid_piece s = record { object = 0; offset = start_of s; items = s.bytes }
 
 -- each memory, imported ones first, has the segments on it that are not empty, in order
 pub record AreLaid (imports : ℕ) (memories : List ImageMemory) (active : List ActiveSegment) (all : List (Vec Laid)) : Type 0 where
   pub placed : All (IsPlaced imports memories) active
   pub count : length all ≡ imports + length memories
-  pub each : (m : ℕ) (laid : Vec Laid) → slice_get all m ≡ Some laid → AllZip IsLaidFrom laid.items (bytes_on m active)
+  pub each : (m : ℕ) → pieces_in (slice_get all m) ≡ map laid_piece (bytes_on m active)
 
 -- bytes, unless there are none
 abbrev pub unless_empty : Laid → List Laid

@@ -1,8 +1,9 @@
 //! The bytes of a span.
 
-ghost use Rattle.std.specs.Prelude.{◌≡◌, ℕ, ◌+◌, ◌-◌, ◌<◌, ◌≤◌, ◌^◌, All, IfOk, OnOk, vec_len, max};
-ghost use Rattle.memory_images.specs.Contents.{contents_of, end_of, AreInOrder};
-ghost use Rattle.memory_images.specs.Image.{Filled, Lays};
+ghost use Rattle.std.specs.Prelude.{◌≡◌, ℕ, ◌+◌, ◌<◌, ◌^◌, All, IfOk, length, slice_index, unwrap_or};
+ghost use Rattle.replay_spec.specs.Phases.{item_at};
+ghost use Rattle.memory_images.specs.Contents.{contents_of, end_of, piece_of};
+ghost use Rattle.memory_images.specs.Image.{Filled};
 
 use crate::laid::Laid;
 use crate::span::Span;
@@ -10,35 +11,30 @@ use entity_map::OutOfMemory;
 use std::alloc::Global;
 
 /// The contents of a span, in a list of exactly its length.
-pub fn filled(alloc: Global, parts: &[Laid<'_>], span: Span) -> Result<Vec<u8>, OutOfMemory>
-    requires fits { All (λ x. end_of x < 2 ^ 64) parts.now }
-    requires in_order { AreInOrder parts.now }
-    requires span { span.start ≤ span.end }
-    ensures len { IfOk result (λ v. vec_len v ≡ span.end - span.start) }
-    ensures bytes { IfOk result (λ v. Filled (contents_of parts.now) span.start v.items) }
+pub(crate) fn filled(alloc: Global, laid: &[Laid<'_>], span: Span) -> Result<Vec<u8>, OutOfMemory>
+    requires { All (λ x. end_of x < 2 ^ 64) laid.now }
+    ensures len { IfOk result (λ v. length v.items ≡ span.size) }
+    ensures bytes { IfOk result (λ v. Filled (contents_of laid.now) span.start v.items) }
 {
-    let mut bytes = Vec::with_capacity(alloc, (span.end - span.start) as usize)?;
-    for part in parts {
-        lay(&mut bytes, part, span)?;
+    let mut bytes = vec![in alloc; 0; span.size as usize]?;
+    'laid: for x in laid {
+        lay(&mut bytes, x, span.start);
     }
-    bytes.resize((span.end - span.start) as usize, 0)?;
     Ok(bytes)
 }
 
-/// Appends zeros up to a part, and then what of it lies in the span.
-fn lay(bytes: &mut Vec<u8>, part: &Laid<'_>, span: Span) -> Result<(), OutOfMemory>
-    requires fits { end_of part.now < 2 ^ 64 }
-    requires low { span.start + vec_len bytes.old ≤ max span.start part.now.start }
-    requires span { span.start ≤ span.end }
-    ensures { OnOk result (Lays span.start span.end part.now bytes.old.items bytes.new.items) }
+/// Writes what of laid bytes lies within those from a place on.
+fn lay(bytes: &mut Vec<u8>, x: &Laid<'_>, start: u64)
+    requires { end_of x.now < 2 ^ 64 }
+    ensures len { length bytes.new.items ≡ length bytes.old.items }
+    ensures bytes { (i : ℕ) → i < length bytes.old.items
+        → slice_index bytes.new.items i ≡ unwrap_or (item_at 0 (start + i) (piece_of x.now)) (slice_index bytes.old.items i) }
 {
-    let from = part.start.max(span.start);
-    let to = (part.start + part.bytes.len() as u64).min(span.end);
-    if to <= from {
-        return Ok(());
+    let from = x.start.max(start);
+    let end = start.saturating_add(bytes.len() as u64);
+    let to = (x.start + x.bytes.len() as u64).min(end);
+    if from < to {
+        let piece = &x.bytes[(from - x.start) as usize..(to - x.start) as usize];
+        bytes[(from - start) as usize..(to - start) as usize].copy_from_slice(piece);
     }
-    let piece = &part.bytes[(from - part.start) as usize..(to - part.start) as usize];
-    bytes.resize((from - span.start) as usize, 0)?;
-    bytes.extend_from_slice(piece)?;
-    Ok(())
 }

@@ -1,16 +1,15 @@
 //! The images of all memories, which are measured before one is made.
 
-ghost use Rattle.std.specs.Prelude.{◌≡◌, ℕ, ◌+◌, ◌*◌, ◌<◌, ◌≤◌, ◌^◌, All, IfOk, length, sum_by, min, ◌-◌, Err};
-ghost use Rattle.std.specs.List.{AllZip};
-ghost use Rattle.memory_images.specs.Contents.{contents_of, HasRoom};
+ghost use Rattle.std.specs.Prelude.{◌≡◌, ℕ, List, Option, ◌+◌, ◌-◌, ◌<◌, ◌≤◌, ◌^◌, All, IfOk, length, sum_by, min, Err};
 ghost use Rattle.std.specs.Option.{option_map};
-ghost use Rattle.replay_spec.specs.Images.{ImageOf, image_bytes};
-ghost use Rattle.memory_images.specs.Images.{IsMeasured, image_of, images_of as view_images, span_size, IsReady, IsMade, TooMuch};
+ghost use Rattle.replay_spec.specs.Images.{ImageOf, MemoryImage, image_bytes};
+ghost use Rattle.memory_images.specs.Contents.{contents_of, contents_at, end_of};
+ghost use Rattle.memory_images.specs.Image.{SpanOf};
+ghost use Rattle.memory_images.specs.Images.{AreListed, image_of, images_of as view_images, span_size};
 
 use crate::error::ImageError;
 use crate::fill::filled;
 use crate::laid::Laid;
-use crate::parts::parts_of;
 use crate::span::{Span, span_of};
 use entity_map::OutOfMemory;
 use std::alloc::Global;
@@ -22,41 +21,29 @@ pub struct Image {
     pub bytes: Vec<u8>,
 }
 
-/// The parts of a memory, and the span of its image.
-#[derive(Drop)]
-pub struct Measured<'d> {
-    pub parts: Vec<Laid<'d>>,
-    pub span: Option<Span>,
-}
-
-fn measure<'d>(alloc: Global, laid: &[Laid<'d>], page: u64) -> Result<Measured<'d>, OutOfMemory>
-    requires page { 0 < page }
-    requires room { HasRoom page laid.now }
-    ensures { IfOk result (IsMeasured page laid.now) }
+fn size(span: Option<Span>) -> u64
+    ensures { result ≡ span_size span }
 {
-    let parts = parts_of(alloc, laid)?;
-    let span = span_of(parts.as_slice(), page);
-    Ok(Measured { parts, span })
-}
-
-fn size(measured: &Measured<'_>) -> u64
-    requires { IsReady measured.now }
-    ensures { result ≡ span_size measured.now.span }
-{
-    match measured.span {
+    match span {
         None => 0,
-        Some(span) => span.end - span.start,
+        Some(span) => span.size,
     }
 }
 
-fn make_image(alloc: Global, measured: &Measured<'_>) -> Result<Option<Image>, OutOfMemory>
-    requires { IsReady measured.now }
-    ensures { IfOk result (IsMade measured.now) }
+fn make_image(
+    alloc: Global,
+    laid: &[Laid<'_>],
+    span: Option<Span>,
+) -> Result<Option<Image>, OutOfMemory>
+    requires fits { All (λ x. end_of x < 2 ^ 64) laid.now }
+    requires small { span_size span < 2 ^ 64 - 1 }
+    ensures { IfOk result (λ image. (page : ℕ) → SpanOf page (contents_of laid.now) span
+        → ImageOf page (contents_of laid.now) (option_map image_of image)) }
 {
-    match measured.span {
+    match span {
         None => Ok(None),
         Some(span) => {
-            let bytes = filled(alloc, measured.parts.as_slice(), span)?;
+            let bytes = filled(alloc, laid, span)?;
             Ok(Some(Image {
                 start: span.start,
                 bytes,
@@ -65,62 +52,70 @@ fn make_image(alloc: Global, measured: &Measured<'_>) -> Result<Option<Image>, O
     }
 }
 
-fn measure_all<'d>(
+fn spans_of(
     alloc: Global,
-    memories: &[Vec<Laid<'d>>],
+    memories: &[Vec<Laid<'_>>],
     page: u64,
-) -> Result<Vec<Measured<'d>>, OutOfMemory>
+) -> Result<Vec<Option<Span>>, OutOfMemory>
     requires page { 0 < page }
-    requires room { All (λ laid. HasRoom page laid.items) memories.now }
-    ensures { IfOk result (λ v. AllZip (λ laid m. IsMeasured page laid.items m) memories.now v.items) }
+    requires fits { All (λ laid. All (λ x. end_of x < 2 ^ 64) laid.items) memories.now }
+    ensures { IfOk result (λ v. AreListed (λ m. SpanOf page (contents_at memories.now m)) (length memories.now) v.items) }
 {
-    let mut all = Vec::new(alloc);
+    let mut spans = Vec::with_capacity(alloc, memories.len())?;
     'memories: for laid in memories {
-        all.push(measure(alloc, laid.as_slice(), page)?)?;
+        spans.push(span_of(alloc, laid.as_slice(), page)?)?;
     }
-    Ok(all)
+    Ok(spans)
 }
 
 /// All sizes and some bytes beside them, added up.
-fn total(beside: u64, measured: &[Measured<'_>]) -> u64
-    requires { All IsReady measured.now }
-    ensures { result ≡ min (beside + sum_by (λ m. span_size m.span) measured.now) (2 ^ 64 - 1) }
+fn total(beside: u64, spans: &[Option<Span>]) -> u64
+    ensures { result ≡ min (beside + sum_by span_size spans.now) (2 ^ 64 - 1) }
 {
     let mut total = beside;
-    'sizes: for one in measured {
-        total = total.saturating_add(size(one));
+    'sizes: for span in spans {
+        total = total.saturating_add(size(*span));
     }
     total
 }
 
-fn make_all(alloc: Global, measured: &[Measured<'_>]) -> Result<Vec<Option<Image>>, OutOfMemory>
-    requires { All IsReady measured.now }
-    ensures { IfOk result (λ v. AllZip IsMade measured.now v.items) }
+fn make_all(
+    alloc: Global,
+    memories: &[Vec<Laid<'_>>],
+    spans: &[Option<Span>],
+) -> Result<Vec<Option<Image>>, OutOfMemory>
+    requires fits { All (λ laid. All (λ x. end_of x < 2 ^ 64) laid.items) memories.now }
+    requires count { length spans.now ≡ length memories.now }
+    requires small { All (λ span. span_size span < 2 ^ 64 - 1) spans.now }
+    ensures { IfOk result (λ v. (page : ℕ) → AreListed (λ m. SpanOf page (contents_at memories.now m)) (length memories.now) spans.now
+        → AreListed (λ m. ImageOf page (contents_at memories.now m)) (length memories.now) (view_images v.items)) }
 {
-    let mut images = Vec::new(alloc);
-    'making: for one in measured {
-        images.push(make_image(alloc, one)?)?;
+    let mut images = Vec::with_capacity(alloc, memories.len())?;
+    'making: for m in 0..memories.len() {
+        images.push(make_image(alloc, memories[m].as_slice(), spans[m])?)?;
     }
     Ok(images)
 }
 
 /// The image of each memory, unless the images and `beside` bytes pass 4294967295 bytes together.
-pub fn images_of(
+pub(crate) fn images_of(
     alloc: Global,
     memories: &[Vec<Laid<'_>>],
     beside: u64,
     page: u64,
 ) -> Result<Vec<Option<Image>>, ImageError>
     requires page { 0 < page }
-    requires room { All (λ laid. HasRoom page laid.items) memories.now }
-    ensures images { IfOk result (λ v. AllZip (λ laid image. ImageOf page (contents_of laid.items) (option_map image_of image)) memories.now v.items) }
+    requires fits { All (λ laid. All (λ x. end_of x < 2 ^ 64) laid.items) memories.now }
+    ensures images { IfOk result (λ v. AreListed (λ m. ImageOf page (contents_at memories.now m)) (length memories.now) (view_images v.items)) }
     ensures fits { IfOk result (λ v. beside + sum_by length (image_bytes (view_images v.items)) < 2 ^ 32) }
-    ensures too_large { result ≡ Err ImageError.TooLarge → TooMuch page beside memories.now }
+    ensures too_large { result ≡ Err ImageError.TooLarge → (images : List (Option MemoryImage))
+        → AreListed (λ m. ImageOf page (contents_at memories.now m)) (length memories.now) images
+        → 2 ^ 32 ≤ beside + sum_by length (image_bytes images) }
 {
-    let measured = measure_all(alloc, memories, page)?;
-    if total(beside, measured.as_slice()) > u64::from(u32::MAX) {
+    let spans = spans_of(alloc, memories, page)?;
+    if total(beside, spans.as_slice()) > u64::from(u32::MAX) {
         return Err(ImageError::TooLarge);
     }
-    let images = make_all(alloc, measured.as_slice())?;
+    let images = make_all(alloc, memories, spans.as_slice())?;
     Ok(images)
 }

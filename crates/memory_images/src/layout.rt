@@ -4,14 +4,15 @@ ghost use Rattle.std.specs.Prelude.{◌≡◌, ◌+◌, ◌^◌, ◌≤◌, ◌<
 ghost use Rattle.std.specs.Global.{Vec};
 ghost use Rattle.replay_spec.specs.Images.{IsPlaced};
 ghost use Rattle.memory_images.specs.declared.laid.Laid.{Laid};
-ghost use Rattle.memory_images.specs.Views.{memories_of, active_of};
+ghost use Rattle.memory_images.specs.Views.{image_memory, active_segment_of};
 ghost use Rattle.memory_images.specs.Layout.{AreLaid, Adds};
 
 use crate::laid::Laid;
 use crate::place::place_of;
-use crate::segment::{Active, Memory};
-use entity_map::OutOfMemory;
+use entity_map::{EntityRef, OutOfMemory};
 use std::alloc::Global;
+use wasm_module::MemoryInitializer;
+use wasm_types::Memory;
 
 fn add<'d>(all: &mut Vec<Vec<Laid<'d>>>, memory: usize, laid: Laid<'d>) -> Result<(), OutOfMemory>
     requires { memory < vec_len all.old }
@@ -41,12 +42,12 @@ pub(crate) fn lay_out<'d>(
     alloc: Global,
     imported: usize,
     defined: &[Memory],
-    segments: &[Active<'d>],
+    segments: &[MemoryInitializer<'d>],
 ) -> Result<Option<Vec<Vec<Laid<'d>>>>, OutOfMemory>
     requires sizes { All (λ m. m.page_size_log2 ≤ 16) defined.now }
     requires few { imported + length defined.now < 2 ^ 32 }
-    ensures none { IfOk result (λ o. IfNone o (All (IsPlaced imported (memories_of defined.now)) (map active_of segments.now) → ⊥)) }
-    ensures some { IfOk result (λ o. IfSome o (λ v. AreLaid imported (memories_of defined.now) (map active_of segments.now) v.items)) }
+    ensures none { IfOk result (λ o. IfNone o (All (IsPlaced imported (map image_memory defined.now)) (map active_segment_of segments.now) → ⊥)) }
+    ensures some { IfOk result (λ o. IfSome o (λ v. AreLaid imported (map image_memory defined.now) (map active_segment_of segments.now) v.items)) }
 {
     let mut all = empty_lists(alloc, imported + defined.len())?;
     'segments: for segment in segments {
@@ -54,7 +55,11 @@ pub(crate) fn lay_out<'d>(
             None => return Ok(None),
             Some(start) => {
                 let bytes = segment.bytes;
-                add(&mut all, segment.memory, Laid { start, bytes })?;
+                add(
+                    &mut all,
+                    segment.memory_index.index(),
+                    Laid { start, bytes },
+                )?;
             }
         }
     }

@@ -1,5 +1,5 @@
-//! Images of memories: which ranges of a memory segments write, whether they become images, and the images' bytes. Plain data in,
-//! plain data out, by the definitions of `replay_spec`.
+//! The images of a module's memories, by the definitions of `replay_spec`: which ranges of a memory segments write, whether they become
+//! images, and the images' bytes.
 #![tactic(auto)]
 
 mod error;
@@ -8,11 +8,10 @@ mod image;
 mod laid;
 mod laws;
 mod layout;
-mod parts;
 mod place;
 mod plan;
 mod rule;
-mod segment;
+mod settings;
 mod span;
 mod sweep;
 mod written;
@@ -21,5 +20,5 @@ pub use error::ImageError;
 pub use image::Image;
 pub use laws::written_ranges_law;
 pub use plan::plan_images;
-pub use segment::{Active, Constant, ImageSettings, Memory};
+pub use settings::ImageSettings;
 pub use written::{Written, written_ranges};

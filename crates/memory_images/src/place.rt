@@ -1,18 +1,22 @@
 //! Where an active segment is placed.
 
-ghost use Rattle.std.specs.Prelude.{◌≡◌, ◌≤◌, ◌^◌, ℕ, All, IfSome, IfNone};
+ghost use Rattle.std.specs.Prelude.{◌≡◌, ◌≤◌, ◌^◌, map, All, IfSome, IfNone};
+ghost use Rattle.wasm_convert.specs.Constants.{plain_value_of};
 ghost use Rattle.replay_spec.specs.Images.{size_of, index_of, IsPlaced, start_of};
-ghost use Rattle.memory_images.specs.Views.{value_of_constant, memory_of, memories_of, active_of};
+ghost use Rattle.memory_images.specs.Views.{is_wide, image_memory, active_segment_of};
 
-use crate::segment::{Active, Constant, Memory};
+use entity_map::EntityRef;
+use wasm_convert::GlobalConstValue;
+use wasm_module::MemoryInitializer;
+use wasm_types::{IndexType, Memory};
 
-// A constant of a memory's index type, read unsigned.
-fn index(memory64: bool, constant: Constant) -> Option<u64>
-    ensures { result ≡ index_of memory64 (value_of_constant constant) }
+// A constant of an index type, read unsigned.
+fn index(idx_type: IndexType, constant: GlobalConstValue) -> Option<u64>
+    ensures { result ≡ index_of (is_wide idx_type) (plain_value_of constant) }
 {
-    match constant {
-        Constant::I32(value) if !memory64 => Some(u64::from(value.cast_unsigned())),
-        Constant::I64(value) if memory64 => Some(value.cast_unsigned()),
+    match (idx_type, constant) {
+        (IndexType::I32, GlobalConstValue::I32(value)) => Some(u64::from(value.cast_unsigned())),
+        (IndexType::I64, GlobalConstValue::I64(value)) => Some(value.cast_unsigned()),
         _ => None,
     }
 }
@@ -28,24 +32,26 @@ pub(crate) fn page_size(memory: Memory) -> u64
 // The bytes of a memory's minimum size, where 64 bits hold their number.
 fn minimum_bytes(memory: Memory) -> Option<u64>
     requires { memory.page_size_log2 ≤ 16 }
-    ensures some { IfSome result (λ n. n ≡ size_of (memory_of memory)) }
-    ensures none { IfNone result (2 ^ 64 ≤ size_of (memory_of memory)) }
+    ensures some { IfSome result (λ n. n ≡ size_of (image_memory memory)) }
+    ensures none { IfNone result (2 ^ 64 ≤ size_of (image_memory memory)) }
 {
-    memory.minimum.checked_mul(page_size(memory))
+    memory.limits.min.checked_mul(page_size(memory))
 }
 
 /// The place of a segment that is on a defined memory, has a constant offset of its index type, and ends within its minimum size.
-pub(crate) fn place_of(imported: usize, defined: &[Memory], segment: &Active<'_>) -> Option<u64>
+pub(crate) fn place_of(
+    imported: usize,
+    defined: &[Memory],
+    segment: &MemoryInitializer<'_>,
+) -> Option<u64>
     requires { All (λ m. m.page_size_log2 ≤ 16) defined.now }
-    ensures some { IfSome result (λ place. IsPlaced imported (memories_of defined.now) (active_of segment.now)) }
-    ensures start { IfSome result (λ place. start_of (active_of segment.now) ≡ place) }
-    ensures none { IfNone result (IsPlaced imported (memories_of defined.now) (active_of segment.now) → ⊥) }
+    ensures some { IfSome result (λ place. IsPlaced imported (map image_memory defined.now) (active_segment_of segment.now)
+        × (start_of (active_segment_of segment.now) ≡ place)) }
+    ensures none { IfNone result (IsPlaced imported (map image_memory defined.now) (active_segment_of segment.now) → ⊥) }
 {
-    if segment.memory < imported {
-        return None;
-    }
-    let memory = *defined.get(segment.memory - imported)?;
-    let place = index(memory.memory64, segment.offset?)?;
+    let number = segment.memory_index.index().checked_sub(imported)?;
+    let memory = *defined.get(number)?;
+    let place = index(memory.idx_type, segment.offset.const_eval()?)?;
     let size = minimum_bytes(memory)?;
     let end = place.checked_add(segment.bytes.len() as u64)?;
     if end <= size { Some(place) } else { None }

@@ -1,46 +1,53 @@
 //! Whether active segments become images, and which.
 
-ghost use Rattle.std.specs.Prelude.{◌≡◌, ◌+◌, ◌^◌, ◌≤◌, ◌<◌, ℕ, List, Option, All, IfOk, IfSome, IfNone, Err, length, map, sum_by};
+ghost use Rattle.std.specs.Prelude.{◌≡◌, ◌⊎◌, ◌+◌, ◌^◌, ◌≤◌, ◌<◌, ℕ, List, Option, All, IfOk, IfSome, IfNone, Ok, Err, None, false, length, map, drop, sum_by};
 ghost use Rattle.std.specs.Int.{IsPowerOfTwo};
 ghost use Rattle.replay_spec.specs.Images.{IsStatic, AreImages, MemoryImage, image_bytes};
 ghost use Rattle.memory_images.specs.Images.{images_of as view_images};
-ghost use Rattle.memory_images.specs.Views.{memories_of, active_of, options_of};
+ghost use Rattle.memory_images.specs.Views.{image_memory, active_segment_of, options_of};
 
 use crate::error::ImageError;
 use crate::image::{Image, images_of};
 use crate::rule::static_layout;
-use crate::segment::{Active, ImageSettings, Memory};
+use crate::settings::ImageSettings;
 use std::alloc::Global;
+use wasm_module::MemoryInitializer;
+use wasm_types::Memory;
 
 /// The images of all memories, imported ones first, where all active segments become images, and `None` where they do not. `beside` is the
-/// number of bytes that stand beside them.
+/// number of bytes that stand beside them. Where images are off nothing is allocated.
 ///
 /// # Errors
 /// `TooLarge` where the images and the bytes beside them pass 4294967295 bytes together, before an image is made.
 pub fn plan_images(
     alloc: Global,
     settings: ImageSettings,
+    memories: &[Memory],
     imported: usize,
-    defined: &[Memory],
-    segments: &[Active<'_>],
+    segments: &[MemoryInitializer<'_>],
     beside: u64,
 ) -> Result<Option<Vec<Option<Image>>>, ImageError>
-    requires sizes { All (λ m. m.page_size_log2 ≤ 16) defined.now }
+    requires page_sizes { All (λ m. (m.page_size_log2 ≡ 0) ⊎ (m.page_size_log2 ≡ 16)) memories.now }
     requires page_size { IsPowerOfTwo settings.page_size }
-    requires few { imported + length defined.now < 2 ^ 32 }
-    ensures none { IfOk result (λ o. IfNone o (IsStatic (options_of settings) imported (memories_of defined.now) (map active_of segments.now) → ⊥)) }
-    ensures holds { IfOk result (λ o. IfSome o (λ _. IsStatic (options_of settings) imported (memories_of defined.now) (map active_of segments.now))) }
+    requires imports { imported ≤ length memories.now }
+    requires few { length memories.now < 2 ^ 32 }
+    ensures off { settings.enabled ≡ false → result ≡ Ok None }
+    ensures none { IfOk result (λ o. IfNone o (IsStatic (options_of settings) imported (map image_memory (drop imported memories.now)) (map active_segment_of segments.now) → ⊥)) }
+    ensures holds { IfOk result (λ o. IfSome o (λ _. IsStatic (options_of settings) imported (map image_memory (drop imported memories.now)) (map active_segment_of segments.now))) }
     ensures images { IfOk result (λ o. IfSome o (λ images.
-        AreImages settings.page_size (imported + length defined.now) (map active_of segments.now) (view_images images.items))) }
+        AreImages settings.page_size (length memories.now) (map active_segment_of segments.now) (view_images images.items))) }
     // Too large exactly where the images and the bytes beside them pass 4294967295 bytes.
     ensures fits { IfOk result (λ o. IfSome o (λ images. beside + sum_by length (image_bytes (view_images images.items)) < 2 ^ 32)) }
     ensures too_large { result ≡ Err ImageError.TooLarge → (images : List (Option MemoryImage))
-        → AreImages settings.page_size (imported + length defined.now) (map active_of segments.now) images
+        → AreImages settings.page_size (length memories.now) (map active_segment_of segments.now) images
         → 2 ^ 32 ≤ beside + sum_by length (image_bytes images) }
     ensures too_large_holds { result ≡ Err ImageError.TooLarge
-        → IsStatic (options_of settings) imported (memories_of defined.now) (map active_of segments.now) }
+        → IsStatic (options_of settings) imported (map image_memory (drop imported memories.now)) (map active_segment_of segments.now) }
 {
-    match static_layout(alloc, settings, imported, defined, segments)? {
+    if !settings.enabled {
+        return Ok(None);
+    }
+    match static_layout(alloc, settings, imported, &memories[imported..], segments)? {
         None => Ok(None),
         Some(all) => {
             let images = images_of(alloc, all.as_slice(), beside, settings.page_size)?;

@@ -1,17 +1,28 @@
 //! Where the bytes that are not zero stand.
 
-ghost use Rattle.std.specs.Prelude.{◌≡◌, ◌≢◌, ℕ, ◌+◌, ◌*◌, ◌^◌, ◌<◌, ◌≤◌, length, slice_index, All, IfSome, IfNone};
-ghost use Rattle.memory_images.specs.Contents.{contents_of, end_of, AreInOrder, HasRoom};
-ghost use Rattle.replay_spec.specs.Images.{IsFirst, IsLast};
-ghost use Rattle.memory_images.specs.Image.{SpanOf};
+ghost use Rattle.std.specs.Prelude.{◌≡◌, ◌≢◌, ℕ, ◌+◌, ◌^◌, ◌<◌, ◌≤◌, ⊤, length, map, slice_index, unwrap_or, All, IfOk, IfSome, IfNone, IsTrue};
+ghost use Rattle.replay_spec.specs.Phases.{item_at};
+ghost use Rattle.memory_images.specs.Contents.{byte_in, contents_of, end_of, pair_of, piece_of, IsCut, IsOwned, Within};
+ghost use Rattle.memory_images.specs.Image.{ArePages, Bounds, EndsOf, SpanOf, joined};
+ghost use Rattle.memory_images.specs.Ranges.{AreWritten};
 
 use crate::laid::Laid;
+use crate::written::{Written, written_ranges};
+use entity_map::OutOfMemory;
+use std::alloc::Global;
 
-/// Places from `start` up to `end`, in whole pages.
+/// Whole pages from `start` on, of `size` bytes, or of at least as many where that is the greatest number.
 #[derive(Clone, Copy, Debug, PartialEq, Eq)]
 pub struct Span {
     pub start: u64,
-    pub end: u64,
+    pub size: u64,
+}
+
+/// The first and the last place whose byte is not zero.
+#[derive(Clone, Copy, Debug, PartialEq, Eq)]
+pub struct Ends {
+    pub first: u64,
+    pub last: u64,
 }
 
 fn first_in(bytes: &[u8]) -> Option<usize>
@@ -32,48 +43,160 @@ fn last_in(bytes: &[u8]) -> Option<usize>
     bytes.iter().rposition(|byte| *byte != 0)
 }
 
-/// The first place whose byte is not zero.
-fn first_of(parts: &[Laid<'_>]) -> Option<u64>
-    requires fits { All (λ x. end_of x < 2 ^ 64) parts.now }
-    requires in_order { AreInOrder parts.now }
-    ensures none { IfNone result ((place : ℕ) → contents_of parts.now place ≡ 0) }
-    ensures some { IfSome result (IsFirst (contents_of parts.now)) }
+/// What of laid bytes stands in a range.
+fn cut<'d>(laid: &[Laid<'d>], range: Written) -> Laid<'d>
+    requires some { range.start < range.end }
+    requires owned { IsOwned laid.now range }
+    ensures { IsCut laid.now range result }
 {
-    for part in parts {
-        if let Some(i) = first_in(part.bytes) {
-            return Some(part.start + i as u64);
-        }
+    let whole = laid[range.segment];
+    let from = (range.start - whole.start) as usize;
+    let to = (range.end - whole.start) as usize;
+    Laid {
+        start: range.start,
+        bytes: &whole.bytes[from..to],
     }
-    None
 }
 
-/// The last place whose byte is not zero.
-fn last_of(parts: &[Laid<'_>]) -> Option<u64>
-    requires fits { All (λ x. end_of x < 2 ^ 64) parts.now }
-    requires in_order { AreInOrder parts.now }
-    ensures none { IfNone result ((place : ℕ) → contents_of parts.now place ≡ 0) }
-    ensures some { IfSome result (IsLast (contents_of parts.now)) }
+fn ends_in(x: &Laid<'_>) -> Option<Ends>
+    requires { end_of x.now < 2 ^ 64 }
+    ensures ends { EndsOf (byte_in x.now) (Within x.now) result }
+    ensures within { IfSome result (λ ends. Within x.now ends.first × Within x.now ends.last) }
 {
-    'parts: for k in (0..parts.len()).rev() {
-        let part = parts[k];
-        if let Some(i) = last_in(part.bytes) {
-            return Some(part.start + i as u64);
-        }
+    let first = first_in(x.bytes)?;
+    let last = last_in(x.bytes)?;
+    Some(Ends {
+        first: x.start + first as u64,
+        last: x.start + last as u64,
+    })
+}
+
+fn join(a: Option<Ends>, b: Option<Ends>) -> Option<Ends>
+    ensures { result ≡ joined a b }
+{
+    match (a, b) {
+        (None, _) => b,
+        (Some(_), None) => a,
+        (Some(a), Some(b)) => Some(Ends {
+            first: a.first.min(b.first),
+            last: a.last.max(b.last),
+        }),
     }
-    None
+}
+
+/// The ends of all that is laid, whether it stands at last or not.
+fn outer_ends(laid: &[Laid<'_>]) -> Option<Ends>
+    requires { All (λ x. end_of x < 2 ^ 64) laid.now }
+    ensures { Bounds (contents_of laid.now) result }
+{
+    let mut ends = None;
+    'laid: for x in laid {
+        ends = join(ends, ends_in(x));
+    }
+    ends
+}
+
+fn byte_over(x: &Laid<'_>, place: u64, below: u8) -> u8
+    requires { end_of x.now < 2 ^ 64 }
+    ensures { result ≡ unwrap_or (item_at 0 place (piece_of x.now)) below }
+{
+    if place < x.start {
+        return below;
+    }
+    if x.start + x.bytes.len() as u64 <= place {
+        return below;
+    }
+    x.bytes[(place - x.start) as usize]
+}
+
+fn byte_at(laid: &[Laid<'_>], place: u64) -> u8
+    requires { All (λ x. end_of x < 2 ^ 64) laid.now }
+    ensures { result ≡ contents_of laid.now place }
+{
+    let mut byte = 0;
+    'laid: for x in laid {
+        byte = byte_over(x, place, byte);
+    }
+    byte
+}
+
+/// Whether the ends of all that is laid stand at last.
+fn stand(laid: &[Laid<'_>], ends: Option<Ends>) -> bool
+    requires fits { All (λ x. end_of x < 2 ^ 64) laid.now }
+    requires bounds { Bounds (contents_of laid.now) ends }
+    ensures { IsTrue result → EndsOf (contents_of laid.now) (λ _. ⊤) ends }
+{
+    match ends {
+        None => true,
+        Some(ends) => byte_at(laid, ends.first) != 0 && byte_at(laid, ends.last) != 0,
+    }
+}
+
+/// The ends of what stands at last, by the ranges that laid bytes write.
+fn inner_ends(laid: &[Laid<'_>], ranges: &[Written]) -> Option<Ends>
+    requires fits { All (λ x. end_of x < 2 ^ 64) laid.now }
+    requires written { AreWritten (map pair_of laid.now) ranges.now }
+    ensures { EndsOf (contents_of laid.now) (λ _. ⊤) result }
+{
+    let mut ends = None;
+    'ranges: for range in ranges {
+        let part = cut(laid, *range);
+        ends = join(ends, ends_in(&part));
+    }
+    ends
+}
+
+fn pairs_of(alloc: Global, laid: &[Laid<'_>]) -> Result<Vec<(u64, u64)>, OutOfMemory>
+    requires { All (λ x. end_of x < 2 ^ 64) laid.now }
+    ensures items { IfOk result (λ v. v.items ≡ map pair_of laid.now) }
+    ensures fits { IfOk result (λ v. All (λ pair. pair.0 + pair.1 < 2 ^ 64) v.items) }
+{
+    let pairs = laid
+        .iter()
+        .map(|x| (x.start, x.bytes.len() as u64))
+        .collect(alloc)?;
+    Ok(pairs)
+}
+
+/// The first and the last place whose byte is not zero. Where the ends of all that is laid stand, no range is made.
+fn ends_of(alloc: Global, laid: &[Laid<'_>]) -> Result<Option<Ends>, OutOfMemory>
+    requires { All (λ x. end_of x < 2 ^ 64) laid.now }
+    ensures { IfOk result (EndsOf (contents_of laid.now) (λ _. ⊤)) }
+{
+    let outer = outer_ends(laid);
+    if stand(laid, outer) {
+        return Ok(outer);
+    }
+    let pairs = pairs_of(alloc, laid)?;
+    let ranges = written_ranges(alloc, pairs.as_slice())?;
+    Ok(inner_ends(laid, ranges.as_slice()))
 }
 
 /// From the page of the first byte that is not zero to the end of the page of the last.
-pub fn span_of(parts: &[Laid<'_>], page: u64) -> Option<Span>
+pub(crate) fn span_of(
+    alloc: Global,
+    laid: &[Laid<'_>],
+    page: u64,
+) -> Result<Option<Span>, OutOfMemory>
     requires page { 0 < page }
-    requires room { HasRoom page parts.now }
-    requires in_order { AreInOrder parts.now }
-    ensures span { SpanOf page (contents_of parts.now) result }
+    requires fits { All (λ x. end_of x < 2 ^ 64) laid.now }
+    ensures { IfOk result (SpanOf page (contents_of laid.now)) }
 {
-    let first = first_of(parts)?;
-    let last = last_of(parts)?;
-    Some(Span {
-        start: first - first % page,
-        end: last - last % page + page,
-    })
+    match ends_of(alloc, laid)? {
+        None => Ok(None),
+        Some(ends) => Ok(Some(pages_of(ends, page))),
+    }
+}
+
+fn pages_of(ends: Ends, page: u64) -> Span
+    requires page { 0 < page }
+    requires order { ends.first ≤ ends.last }
+    ensures { ArePages page ends result }
+{
+    let start = ends.first - ends.first % page;
+    let last = ends.last - ends.last % page;
+    Span {
+        start,
+        size: (last - start).saturating_add(page),
+    }
 }

@@ -38,6 +38,7 @@ pub mod HeldElements
 pub mod DataSteps
 pub mod ElementsNoted
 pub mod MemoriesReady
+pub mod NamesGathered
 pub mod TablesReady
 pub mod Bodies
 pub mod DeclaredKinds

@@ -13,11 +13,11 @@ ghost use Rattle.module_environ.specs.Imported.{AreCounted, HaveIndices, counted
 ghost use Rattle.module_environ.specs.Pooled.{with_texts, import_names, imported_names, exported_names, HasTexts};
 ghost use Rattle.module_environ.specs.Seeds.{section_names};
 
+use crate::name_digest::NameDigest;
 use entity_map::{EntityRef, OutOfMemory, StringPool};
 use form_data::{Export, Import};
 use form_lists::{Source, entries_in, entries_of, sections_of};
 use std::alloc::Global;
-use std::hash::{DefaultHasher, Hasher};
 use wasm_index::Index;
 use wasm_module::Initializer;
 use wasm_spec::TypeRef;
@@ -78,7 +78,7 @@ fn take_next<Space>(count: &mut u32) -> Index<Space>
 pub(crate) fn name_seed(source: Source<'_, '_>) -> u64
     ensures { result ≡ sip.finish (fold sip.write sip.initial (flat_map section_names (source_module source.entry))) }
 {
-    let mut digest = DefaultHasher::new();
+    let mut digest = NameDigest::new();
     for section in sections_of(source) {
         add_import_names(&mut digest, entries_in::<Import<'_>>(section));
         add_export_names(&mut digest, entries_in::<Export<'_>>(section));
@@ -87,7 +87,7 @@ pub(crate) fn name_seed(source: Source<'_, '_>) -> u64
 }
 
 /// Adds the names of imports to a digest.
-fn add_import_names(digest: &mut DefaultHasher, imports: &[Import<'_>])
+fn add_import_names(digest: &mut NameDigest, imports: &[Import<'_>])
     ensures { digest.new ≡ fold sip.write digest.old (flat_map import_names (map import_of imports.now)) }
 {
     for import in imports {
@@ -97,7 +97,7 @@ fn add_import_names(digest: &mut DefaultHasher, imports: &[Import<'_>])
 }
 
 /// Adds the names of exports to a digest.
-fn add_export_names(digest: &mut DefaultHasher, exports: &[Export<'_>])
+fn add_export_names(digest: &mut NameDigest, exports: &[Export<'_>])
     ensures { digest.new ≡ fold sip.write digest.old (exported_names (map export_of exports.now)) }
 {
     for export in exports {

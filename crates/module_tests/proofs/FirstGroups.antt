@@ -3,16 +3,16 @@ use Rattle.std.proofs.Common.{◌≡◌, ◌≤◌, ◌<◌, ℕ, zero, suc, ◌
 use Rattle.std.specs.Prelude.{◌⊎◌, IsSome, if◌then◌else◌, Result, Ok, Err}
 use Rattle.std.proofs.lemmas.Bool.{eq-eqb}
 use Rattle.std.proofs.lemmas.List.{length-append}
-use Rattle.std.proofs.lemmas.List.Elements.{All-nil, All-weaker}
+use Rattle.std.proofs.lemmas.List.Elements.{All-weaker}
 use Rattle.wasm_spec.specs.declared.types.UnpackedIndex.{UnpackedIndex}
 use Rattle.wasm_spec.specs.declared.types.UnpackedIndex.TheVariants as index
 use Rattle.wasm_spec.specs.TypeData.{group_edges}
 use Rattle.type_spec.specs.Interned.{Interned, Built, assign_trampoline, assign_trampolines, opened, with_group}
-use Rattle.form_types.specs.Types.{NamedGroup, TypesData, types_by_id, group_numbers, IsIdBelow, NameEarlier, IsSound}
+use Rattle.form_types.specs.Types.{NamedGroup, TypesData, types_by_id, group_numbers, IsIdBelow, IsSound}
 use Rattle.module_types.specs.Builder.{Builder, new_builder, interns_by, interns}
 use Rattle.module_types.specs.Conversion.{id_number, first_id, group_of_id, members_of, interned_members, NamesInterned, HoldsGroups}
-use Rattle.module_types.proofs.GroupMembers.{grows}
-use Rattle.module_types.proofs.Convertible.{members-long}
+use Rattle.module_types.proofs.GroupMembers.{few-more}
+use Rattle.module_types.proofs.Convertible.{names-earlier, members-long}
 use Rattle.module_types.proofs.Holding.{holds-kept}
 use Rattle.module_types.proofs.Places.{group-ends}
 use Rattle.module_tests.specs.FirstGroups.{HoldsFirst, IsNextOrLast}
@@ -38,22 +38,6 @@ low-group base (g ∷ gs) (suc k) n h =
     split (length g) base (group_numbers (base + 1) gs) n (base + suc k) (omega arith)
     (λ m e. let low = low-group (base + 1) gs k m (omega (arith, h, e)) in omega (arith, low))
 
-below-more : (a b : ℕ) → a ≤ b → (i : UnpackedIndex) → IsIdBelow a i → IsIdBelow b i
-below-more a b h (index.Id id) lt = omega (arith, h, lt)
-below-more a b h (index.Module n) lt = absurd lt
-below-more a b h (index.RecGroup n) lt = absurd lt
-
-names-earlier : (first : ℕ) (gs : List NamedGroup) (k : ℕ) → NameEarlier first gs
-    → All (IsIdBelow (first + (first_id gs k + length (get_or gs k [])))) (group_edges (λ r. r) (get_or gs k []))
-names-earlier first [] k e = All-nil (IsIdBelow (first + 0))
-names-earlier first (g ∷ gs) zero e =
-    let le : first + length g ≤ first + (0 + length g) = omega arith in
-    All-weaker (IsIdBelow (first + length g)) (IsIdBelow (first + (0 + length g))) (below-more _ _ le) (group_edges (λ r. r) g) e.0
-names-earlier first (g ∷ gs) (suc k) e =
-    let le : (first + length g) + (first_id gs k + length (get_or gs k [])) ≤ first + ((length g + first_id gs k) + length (get_or gs k [])) = omega arith in
-    All-weaker (IsIdBelow ((first + length g) + (first_id gs k + length (get_or gs k [])))) (IsIdBelow (first + ((length g + first_id gs k) + length (get_or gs k []))))
-    (below-more _ _ le) (group_edges (λ r. r) (get_or gs k [])) (names-earlier (first + length g) gs k e.1)
-
 at-or-below : (x k : ℕ) → x ≤ k → (x ≡ k) ⊎ (x < k)
 at-or-below zero zero h = inl refl
 at-or-below zero (suc k) h = inr (omega arith)
@@ -65,9 +49,7 @@ at-or-below (suc x) (suc k) h = elim (at-or-below x k (omega (arith, h))) [ inl 
 all-few : (b : Built) (i : ℕ) (ts : List Interned) → length (assign_trampolines b i ts).types ≤ length b.types + length ts
 all-few b i [] = omega arith
 all-few b i (t ∷ ts) =
-    let g = grows b i t.composite.inner in
-    let rest = all-few (assign_trampoline b i t.composite.inner) (suc i) ts in
-    omega (arith, rest, ap length g.types, length-append b.types g.more, g.few)
+    omega (arith, all-few (assign_trampoline b i t.composite.inner) (suc i) ts, few-more b i t.composite.inner)
 
 group-few : (b : Built) (ts : List Interned) → length (with_group b ts).types ≤ length b.types + (length ts + length ts)
 group-few b ts = omega (arith, all-few (opened b ts) (length b.types) ts, length-append b.types ts)

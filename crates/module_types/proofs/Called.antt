@@ -1,25 +1,175 @@
--- Which functions have trampolines: each member of a group, and in a module's list all but the startup type.
-use Rattle.std.proofs.Common.{◌≡◌, ◌<◌, ◌≤◌, ℕ, zero, suc, ◌+◌, Bool, true, false, List, [], ◌∷◌, ◌++◌, length, get_or, set, replicate, map, Option, Some, None, refl, sym, ap, ◌∙◌, inl, inr, arith}
-use Rattle.std.specs.Prelude.{if◌then◌else◌, ◌⊎◌, IsSome, slice_get, option_and_then}
+-- Trampolines: steps keep them where mapped types were met; each member of a group has one, and in a module's list all functions but the startup type.
+use Rattle.std.proofs.Common.{◌≡◌, ◌<◌, ◌≤◌, ℕ, zero, suc, ◌+◌, ◌-◌, Bool, true, false, List, [], ◌∷◌, ◌++◌, length, get_or, set, replicate, map, Option, Some, None, refl, sym, ap, subst, ◌∙◌, inl, inr, arith}
+use Rattle.std.specs.Prelude.{if◌then◌else◌, IsSome, slice_get, option_and_then}
 use Rattle.std.specs.Option.{option_map}
-use Rattle.std.proofs.lemmas.List.{length-append, length-replicate}
-use Rattle.std.proofs.Math.ListN.{length-set}
-use Rattle.wasm_spec.specs.TypeData.{Group, Composite, Func, Array, Struct, Cont, Exn}
+use Rattle.std.proofs.lemmas.Bool.{cases_lt, cases_eq}
+use Rattle.std.proofs.lemmas.List.{length-append, length-replicate, length-set, length_push, get_or-set_same, get_or_push, append_assoc, append-nil, get_or_append_left, get_or-append_right, get_or-set_other, set-append_left, set_at}
+use Rattle.wasm_spec.specs.TypeData.{Group, Composite, Func}
 use Rattle.type_data.specs.Names.{Named}
-use Rattle.type_spec.specs.Interned.{Interned, Called, Built, Taken, empty, mapped, same_mapped, plain, alone, knows, with_trampoline, assign_at, assign_trampoline, assign_trampolines, composite_at, opened, with_group, exception_for, is_among, with_exception, with_exceptions, startup_type, with_startup, first_equal, interned_group, take_group, take_groups, none_taken, taken, interned}
+use Rattle.type_spec.specs.Interned.{Interned, Called, Built, mapped, same_mapped, plain, alone, knows, with_trampoline, assign_at, assign_trampoline, assign_trampolines, composite_at, opened, with_group, exception_for, startup_type, taken, interned, Span, now_known, next_span}
 use Rattle.wasm_index.specs.Index.{number_of}
 use Rattle.module_types.specs.Views.{TypeIndex}
 use Rattle.module_types.specs.TypeList.{trampoline_at}
 use Rattle.module_types.specs.Builder.{BuilderState, Builder, builder_view, interns_by, interns, excepts_by, excepts, starts_by, starts}
-use Rattle.module_types.specs.Tied.{HasTrampoline, HaveTrampolines, IsTied}
-use Rattle.module_types.proofs.GroupMembers.{grows, composite-before, append-again, no-more}
-use Rattle.module_types.proofs.Extends.{extends-group}
-use Rattle.module_types.proofs.Tying.{within, at-front}
+use Rattle.module_types.specs.Tied.{HasTrampoline, HaveTrampolines, IsTied, trampoline_in}
+use Rattle.module_types.proofs.GroupMembers.{trampoline_set, trampoline_next, each-step, all-steps, Extends, extends-none, extends-both, extends-alone, composite-before, composite-behind, extends-group, extends-step}
+use Rattle.module_types.proofs.WholeLists.{through-taken, through-alone}
+use Rattle.wasm_types.specs.declared.func.WasmFuncType.{WasmFuncType}
+use Rattle.wasm_types.specs.contracts.equal.WasmFuncTypePartialEq.TheImpl as func
+use Rattle.module_types.proofs.Keys.{same-mapped, mapped-same, mapped-twice}
 
-composite-behind : (ts us : List Interned) (i n : ℕ) → n ≡ length ts + i → composite_at (ts ++ us) n ≡ composite_at us i
-composite-behind [] us i n e = let same : n ≡ i = omega (arith, e) in ap (composite_at us) same
-composite-behind (t ∷ ts) us i zero e = absurd (omega (arith, e))
-composite-behind (t ∷ ts) us i (suc n) e = composite-behind ts us i n (omega (arith, e))
+none-there : (n i : ℕ) → get_or (replicate n (let o : Option ℕ = None in o)) i None ≡ None
+none-there zero i = refl
+none-there (suc n) zero = refl
+none-there (suc n) (suc i) = none-there n i
+
+pub at-front : (front : List Interned) (t : Interned) (ts : List Interned) → composite_at (front ++ t ∷ ts) (length front) ≡ t.composite.inner
+at-front [] t ts = refl
+at-front (u ∷ front) t ts = at-front front t ts
+
+pub within : (ts : List Interned) (i : ℕ) (f : Called) → composite_at ts i ≡ Func f → i < length ts
+within [] i f e = absurd cc
+within (t ∷ ts) zero f e = omega arith
+within (t ∷ ts) (suc i) f e = let h = within ts i f e in omega (arith, h)
+
+func-same : (f g : Called) (c : Composite (Named ℕ) ℕ) → c ≡ Func f → c ≡ Func g → f ≡ g
+func-same f g c x y = let e : Func f ≡ Func g = sym x ∙ y in cc
+
+-- ---- steps
+
+module _ (b : Built) (tied : IsTied b) where
+  -- types after the others, which have no trampolines
+  tied-more : (ts : List Interned) (groups : List Span)
+      → IsTied (record b { types = b.types ++ ts; groups = groups; trampolines = b.trampolines ++ replicate (length ts) None })
+  tied-more ts groups = record {
+    sized = length-append b.trampolines (replicate (length ts) None)
+        ∙ omega (arith, tied.sized, length-replicate (length ts) (let o : Option ℕ = None in o), length-append b.types ts);
+    known = λ f k e.
+        let old = tied.known f k e in
+        (omega (arith, old.0, length-append b.types ts), composite-before b.types ts k old.0 ∙ old.1);
+    called = λ i k f e is.
+        elim (cases_lt i (length b.trampolines)) [
+          | inl lt ↦ tied.called i k f (sym (get_or_append_left b.trampolines (replicate (length ts) None) None i lt) ∙ e)
+              (sym (composite-before b.types ts i (omega (arith, lt, tied.sized))) ∙ is)
+          | inr past ↦
+              let there = get_or-append_right b.trampolines (replicate (length ts) None) (length b.trampolines) i None refl past in
+              let no : None ≡ Some k = sym (there ∙ none-there (length ts) (i - length b.trampolines)) ∙ e in absurd cc
+        ];
+  }
+
+  pub tied-alone : (t : Interned) → IsTied (alone b t None)
+  tied-alone t = tied-more (t ∷ []) (b.groups ++ next_span b 1 ∷ [])
+
+  -- a function is called by what its mapped type was met at
+  pub tied-set : (i k : ℕ) (f : Called) → composite_at b.types i ≡ Func f → b.known_trampolines (mapped f) ≡ Some k → IsTied (with_trampoline b i k)
+  tied-set i k f at is = record {
+    sized = length-set b.trampolines i (Some k) ∙ tied.sized;
+    known = tied.known;
+    called = λ j l g e at'.
+        elim (cases_eq j i) [
+          | inl one ↦
+              let lt = within b.types i f at in
+              let same : Some k ≡ Some l = sym (get_or-set_same b.trampolines i (Some k) None (omega (arith, lt, tied.sized)))
+              ∙ ap (λ n. get_or (set b.trampolines i (Some k)) n None) (sym one) ∙ e in
+              let both : f ≡ g = func-same f g (composite_at b.types j) (ap (composite_at b.types) one ∙ at) at' in
+              ap (λ h. b.known_trampolines (mapped h)) (sym both) ∙ is ∙ same
+          | inr other ↦ tied.called j l g (sym (get_or-set_other b.trampolines i j (Some k) None other) ∙ e) at'
+        ];
+  }
+
+  module _ (tells : (x y : WasmFuncType) → (func.ghosts.eq x y ≡ true → x ≡ y) × (x ≡ y → func.ghosts.eq x y ≡ true)) (f : Called) (k : ℕ)
+      (none : b.known_trampolines (mapped f) ≡ None) (stands : composite_at b.types k ≡ Func (mapped f)) where
+    met-by : (g : Called) (l : ℕ) (test : Bool) → same_mapped (mapped f) (mapped g) ≡ test → (if test then Some k else b.known_trampolines (mapped g)) ≡ Some l
+        → (l < length b.types) × (composite_at b.types l ≡ Func (mapped g))
+    met-by g l true same e =
+        let one : mapped f ≡ mapped g = same-mapped tells f (mapped g) same in
+        let place : k ≡ l = cc in
+        let at : composite_at b.types l ≡ Func (mapped g) = ap (composite_at b.types) (sym place) ∙ stands ∙ ap Func one in
+        (within b.types l (mapped g) at, at)
+    met-by g l false other e = tied.known g l e
+
+    called-by : (g : Called) (l : ℕ) → b.known_trampolines (mapped g) ≡ Some l → (test : Bool) → same_mapped (mapped f) (mapped g) ≡ test
+        → (if test then Some k else b.known_trampolines (mapped g)) ≡ Some l
+    called-by g l is true same =
+        let no : None ≡ Some l = sym none ∙ ap b.known_trampolines (same-mapped tells f (mapped g) same) ∙ is in absurd cc
+    called-by g l is false other = is
+
+    -- a mapped type that was not met is met where it stands
+    pub tied-knows : IsTied (knows b (mapped f) k)
+    tied-knows = record {
+      sized = tied.sized;
+      known = λ g l e. met-by g l (same_mapped (mapped f) (mapped g)) refl e;
+      called = λ i l g e at. called-by g l (tied.called i l g e at) (same_mapped (mapped f) (mapped g)) refl;
+    }
+
+-- where `==` of function types tells them
+module _ (tells : (x y : WasmFuncType) → (func.ghosts.eq x y ≡ true → x ≡ y) × (x ≡ y → func.ghosts.eq x y ≡ true)) where
+  -- the test finds a mapped type that was just met
+  met-now : (f : Called) (met : Called → Option ℕ) (k : ℕ) → same_mapped (mapped f) (mapped f) ≡ true → now_known met (mapped f) k (mapped f) ≡ Some k
+  met-now f met k e = ap (λ t. if t then Some k else met (mapped f)) e
+
+  tied-new : (b : Built) → IsTied b → (i : ℕ) (f : Called) → composite_at b.types i ≡ Func f → b.known_trampolines (mapped f) ≡ None
+      → same_mapped (mapped f) (mapped f) ≡ true
+      → IsTied (alone (with_trampoline (knows b (mapped f) (length b.types)) i (length b.types)) (plain (Func (mapped f))) (Some (length b.types)))
+  tied-new b tied i f at none itself =
+      let k = length b.types in
+      let t = plain (Func (mapped f)) in
+      let one = tied-alone b tied t in
+      let two = tied-knows (alone b t None) one tells f k none (at-front b.types t []) in
+      let there : composite_at (b.types ++ t ∷ []) i ≡ Func f = composite-before b.types (t ∷ []) i (within b.types i f at) ∙ at in
+      let met = met-now f b.known_trampolines k itself in
+      let three = tied-set (knows (alone b t None) (mapped f) k) two i k f there met in
+      let four : IsTied (with_trampoline (with_trampoline (knows (alone b t None) (mapped f) k) i k) k k) =
+      tied-set (with_trampoline (knows (alone b t None) (mapped f) k) i k) three k k (mapped f) (at-front b.types t []) (ap (now_known b.known_trampolines (mapped f) k) (mapped-twice f) ∙ met) in
+      let read : set (set (b.trampolines ++ None ∷ []) i (Some k)) k (Some k) ≡ set b.trampolines i (Some k) ++ Some k ∷ [] =
+      ap (λ ks. set ks k (Some k)) (set-append_left b.trampolines (None ∷ []) i (Some k) (omega (arith, within b.types i f at, tied.sized)))
+      ∙ set_at (set b.trampolines i (Some k)) None [] (Some k) k (length-set b.trampolines i (Some k) ∙ tied.sized) in
+      coe 0 1 (j. IsTied (record {
+        types = b.types ++ t ∷ [];
+        groups = (alone b t None).groups;
+        trampolines = read j;
+        known_trampolines = now_known b.known_trampolines (mapped f) k;
+      })) four
+
+  tied-at : (b : Built) → IsTied b → (i : ℕ) (f : Called) → composite_at b.types i ≡ Func f → same_mapped (mapped f) (mapped f) ≡ true
+      → (o : Option ℕ) → b.known_trampolines (mapped f) ≡ o → IsTied (assign_at b i f o)
+  tied-at b tied i f at itself (Some k) is = tied-set b tied i k f at is
+  tied-at b tied i f at itself None none = by (same_mapped (mapped f) f) refl where
+    by : (own : Bool) → same_mapped (mapped f) f ≡ own → IsTied (if own then with_trampoline (knows b (mapped f) i) i i
+        else alone (with_trampoline (knows b (mapped f) (length b.types)) i (length b.types)) (plain (Func (mapped f))) (Some (length b.types)))
+    by true own =
+        let stands : composite_at b.types i ≡ Func (mapped f) = at ∙ ap Func (sym (same-mapped tells f f own)) in
+        tied-set (knows b (mapped f) i) (tied-knows b tied tells f i none stands) i i f at (met-now f b.known_trampolines i itself)
+    by false other = tied-new b tied i f at none itself
+
+  tied-assign_trampoline : (b : Built) → IsTied b → (i : ℕ) (c : Composite (Named ℕ) ℕ) → composite_at b.types i ≡ c → IsTied (assign_trampoline b i c)
+  tied-assign_trampoline b tied i (Func f) at = tied-at b tied i f at (mapped-same tells f (mapped f) refl) (b.known_trampolines (mapped f)) refl
+  tied-assign_trampoline b tied i c at = tied
+
+  tied-all : (b : Built) → IsTied b → (i : ℕ) (front ts more : List Interned) → length front ≡ i → b.types ≡ front ++ (ts ++ more) → IsTied (assign_trampolines b i ts)
+  tied-all b tied i front [] more long types = tied
+  tied-all b tied i front (t ∷ ts) more long types =
+      let c = t.composite.inner in
+      let at : composite_at b.types i ≡ c = (λ j. composite_at (types j) (sym long j)) ∙ at-front front t (ts ++ more) in
+      let x = extends-step b i c in
+      tied-all (assign_trampoline b i c) (tied-assign_trampoline b tied i c at) (suc i) (front ++ t ∷ []) ts (more ++ x.types_more) (length-append front (t ∷ []) ∙ omega (arith, long))
+      (x.types ∙ ap (λ us. us ++ x.types_more) types ∙ append_assoc front (t ∷ (ts ++ more)) x.types_more
+      ∙ ap (λ us. front ++ t ∷ us) (append_assoc ts more x.types_more) ∙ sym (append_assoc front (t ∷ []) (ts ++ (more ++ x.types_more))))
+
+  pub tied-group : (b : Built) → IsTied b → (ts : List Interned) → IsTied (with_group b ts)
+  tied-group b tied ts =
+      tied-all (opened b ts) (tied-more b tied ts (b.groups ++ next_span b (length ts) ∷ [])) (length b.types) b.types ts [] refl
+      (ap (λ us. b.types ++ us) (sym (append-nil ts)))
+
+-- one index exactly for equal mapped types
+pub one-index : (b : Built) → IsTied b → (i j k l : ℕ) (f g : Called) → composite_at b.types i ≡ Func f → composite_at b.types j ≡ Func g
+    → trampoline_in b i ≡ Some k → trampoline_in b j ≡ Some l → (k ≡ l → mapped f ≡ mapped g) × (mapped f ≡ mapped g → k ≡ l)
+one-index b tied i j k l f g at at' is is' =
+    let x = tied.called i k f is at in
+    let y = tied.called j l g is' at' in (
+      λ same. func-same (mapped f) (mapped g) (composite_at b.types l) (ap (composite_at b.types) (sym same) ∙ (tied.known f k x).1) (tied.known g l y).1,
+      λ same. let both : Some k ≡ Some l = sym x ∙ ap b.known_trampolines same ∙ y in cc,
+    )
 
 -- ---- lists
 
@@ -34,247 +184,147 @@ at-more (x ∷ xs) ys (suc i) s = at-more xs ys i s
 at-set : (xs : List (Option ℕ)) (i k j : ℕ) → IsAt xs j → IsAt (set xs i (Some k)) j
 at-set [] i k j s = s
 at-set (x ∷ xs) zero k zero s = refl
-at-set (x ∷ xs) zero k (suc j) s = s
-at-set (x ∷ xs) (suc i) k zero s = s
 at-set (x ∷ xs) (suc i) k (suc j) s = at-set xs i k j s
+at-set (x ∷ xs) i k j s = s
 
 at-itself : (xs : List (Option ℕ)) (i k : ℕ) → i < length xs → IsAt (set xs i (Some k)) i
-at-itself [] i k h = absurd (omega arith)
-at-itself (x ∷ xs) zero k h = refl
-at-itself (x ∷ xs) (suc i) k h = at-itself xs i k (omega arith)
+at-itself xs i k lt = subst IsSome (sym (get_or-set_same xs i (Some k) None lt)) refl
 
-at-end : (xs : List (Option ℕ)) (k i : ℕ) → i ≡ length xs → IsAt (xs ++ Some k ∷ []) i
-at-end [] k zero e = refl
-at-end [] k (suc i) e = absurd (omega (arith, e))
-at-end (x ∷ xs) k zero e = absurd (omega (arith, e))
-at-end (x ∷ xs) k (suc i) e = at-end xs k i (omega (arith, e))
+-- ---- steps
 
--- ---- what has a trampoline keeps it
+abbrev IsSized : Built → Type 0
+IsSized b = length b.trampolines ≡ length b.types
 
-kept-at : (b : Built) (i : ℕ) (f : Called) (o : Option ℕ) (j : ℕ) → HasTrampoline b j → HasTrampoline (assign_at b i f o) j
-kept-at b i f (Some k) j s = at-set b.trampolines i k j s
-kept-at b i f None j s = by (same_mapped (mapped f) f) where
-  by : (own : Bool) → HasTrampoline (if own then with_trampoline (knows b (mapped f) i) i i
-      else alone (with_trampoline (knows b (mapped f) (length b.types)) i (length b.types)) (plain (Func (mapped f))) (Some (length b.types))) j
-  by true = at-set b.trampolines i i j s
-  by false = at-more (set b.trampolines i (Some (length b.types))) (Some (length b.types) ∷ []) j (at-set b.trampolines i (length b.types) j s)
+-- each type from an index on has a trampoline
+abbrev HaveFrom : ℕ → Built → Type 0
+HaveFrom n b = (j : ℕ) → n ≤ j → j < length b.types → HasTrampoline b j
 
-kept-assign : (b : Built) (i : ℕ) (c : Composite (Named ℕ) ℕ) (j : ℕ) → HasTrampoline b j → HasTrampoline (assign_trampoline b i c) j
-kept-assign b i (Func f) j s = kept-at b i f (b.known_trampolines (mapped f)) j s
-kept-assign b i (Array f) j s = s
-kept-assign b i (Struct f) j s = s
-kept-assign b i (Cont f) j s = s
-kept-assign b i (Exn f) j s = s
+-- what has a trampoline keeps it, and each new type has one
+record Keeps (b c : Built) : Type 0 where
+  long : length b.trampolines ≤ length c.trampolines
+  kept : (j : ℕ) → HasTrampoline b j → HasTrampoline c j
+  sized : IsSized b → IsSized c
+  from : (n : ℕ) → IsSized b → HaveFrom n b → HaveFrom n c
 
-kept-all : (b : Built) (i : ℕ) (ts : List Interned) (j : ℕ) → HasTrampoline b j → HasTrampoline (assign_trampolines b i ts) j
-kept-all b i [] j s = s
-kept-all b i (t ∷ ts) j s = kept-all (assign_trampoline b i t.composite.inner) (suc i) ts j (kept-assign b i t.composite.inner j s)
+keeps-none : (b : Built) → Keeps b b
+keeps-none b = record { long = omega arith; kept = λ j s. s; sized = λ e. e; from = λ n e h. h }
+
+keeps-both : (b c d : Built) → Keeps b c → Keeps c d → Keeps b d
+keeps-both b c d x y = record {
+  long = omega (arith, x.long, y.long);
+  kept = λ j s. y.kept j (x.kept j s);
+  sized = λ e. y.sized (x.sized e);
+  from = λ n e h. y.from n (x.sized e) (x.from n e h);
+}
+
+keeps-set : (b : Built) (known : Called → Option ℕ) (i k : ℕ) → Keeps b (trampoline_set b known i k)
+keeps-set b known i k =
+    let same = length-set b.trampolines i (Some k) in
+    record {
+      long = omega (arith, same);
+      kept = λ j s. at-set b.trampolines i k j s;
+      sized = λ e. same ∙ e;
+      from = λ n e h j low lt. at-set b.trampolines i k j (h j low lt);
+    }
+
+-- a type that has its trampoline
+keeps-alone : (b : Built) (t : Interned) (k : ℕ) → Keeps b (alone b t (Some k))
+keeps-alone b t k =
+    let long = length_push b.trampolines (Some k) in
+    let types = length_push b.types t in
+    record {
+      long = omega (arith, long);
+      kept = λ j s. at-more b.trampolines (Some k ∷ []) j s;
+      sized = λ e. omega (arith, long, types, e);
+      from = λ n e h j low lt.
+          elim (cases_lt j (length b.types)) [
+            | inl old ↦ at-more b.trampolines (Some k ∷ []) j (h j low old)
+            | inr new ↦ subst IsSome (sym (get_or_push b.trampolines (Some k) None j (omega (arith, new, lt, types, e)))) refl
+          ];
+    }
+
+keeps-next : (b : Built) (known : Called → Option ℕ) (i : ℕ) (f : Called) → Keeps b (trampoline_next b known i f)
+keeps-next b known i f =
+    let c = trampoline_set b known i (length b.types) in
+    keeps-both b c (trampoline_next b known i f) (keeps-set b known i (length b.types)) (keeps-alone c (plain (Func (mapped f))) (length b.types))
+
+keeps-step : (b : Built) (i : ℕ) (c : Composite (Named ℕ) ℕ) → Keeps b (assign_trampoline b i c)
+keeps-step = each-step Keeps keeps-none keeps-set keeps-next
+
+keeps-steps : (b : Built) (i : ℕ) (ts : List Interned) → Keeps b (assign_trampolines b i ts)
+keeps-steps = all-steps Keeps keeps-none keeps-set keeps-next keeps-both
 
 pub kept-group : (b : Built) (ts : List Interned) (j : ℕ) → HasTrampoline b j → HasTrampoline (with_group b ts) j
-kept-group b ts j s = kept-all (opened b ts) (length b.types) ts j (at-more b.trampolines (replicate (length ts) None) j s)
+kept-group b ts j s = (keeps-steps (opened b ts) (length b.types) ts).kept j (at-more b.trampolines (replicate (length ts) None) j s)
 
 pub kept-alone : (b : Built) (t : Interned) (k : Option ℕ) (j : ℕ) → HasTrampoline b j → HasTrampoline (alone b t k) j
 kept-alone b t k j s = at-more b.trampolines (k ∷ []) j s
 
--- ---- the functions outside some places have trampolines
+-- ---- the members of a group
 
--- of those from `first` on: those before `i`, and those from `n` on
-record Outside (b : Built) (first i n : ℕ) : Type 0 where
-  sized : length b.trampolines ≡ length b.types
-  called : (j : ℕ) (f : Called) → first ≤ j → (j < i) ⊎ (n ≤ j) → composite_at b.types j ≡ Func f → HasTrampoline b j
+called-now : (b : Built) (i : ℕ) (f : Called) → i < length b.trampolines → (o : Option ℕ) → HasTrampoline (assign_at b i f o) i
+called-now b i f lt (Some k) = at-itself b.trampolines i k lt
+called-now b i f lt None = by (same_mapped (mapped f) f) where
+  by : (own : Bool) → HasTrampoline (if own then with_trampoline (knows b (mapped f) i) i i
+      else alone (with_trampoline (knows b (mapped f) (length b.types)) i (length b.types)) (plain (Func (mapped f))) (Some (length b.types))) i
+  by true = at-itself b.trampolines i i lt
+  by false = at-more (set b.trampolines i (Some (length b.types))) (Some (length b.types) ∷ []) i (at-itself b.trampolines i (length b.types) lt)
 
--- those of a list that has one more type
-last-type : (ts : List Interned) (t : Interned) (j : ℕ) (f : Called) → composite_at (ts ++ t ∷ []) j ≡ Func f
-    → (composite_at ts j ≡ Func f) ⊎ (j ≡ length ts)
-last-type [] t zero f e = inr refl
-last-type [] t (suc j) f e = inl e
-last-type (u ∷ ts) t zero f e = inl e
-last-type (u ∷ ts) t (suc j) f e = elim (last-type ts t j f e) [ inl x ↦ inl x | inr x ↦ inr (ap (λ n. suc n) x) ]
+called-all : (b : Built) (i : ℕ) (ts : List Interned) (p : ℕ) (f : Called) → i + length ts ≤ length b.trampolines → composite_at ts p ≡ Func f
+    → HasTrampoline (assign_trampolines b i ts) (i + p)
+called-all b i [] p f le is = absurd cc
+called-all b i (t ∷ ts) zero f le is =
+    let at : i ≡ i + 0 = omega arith in
+    let here = subst (λ c. HasTrampoline (assign_trampoline b i c) i) (sym is) (called-now b i f (omega (arith, le)) (b.known_trampolines (mapped f))) in
+    subst (HasTrampoline (assign_trampolines b i (t ∷ ts))) at ((keeps-steps (assign_trampoline b i t.composite.inner) (suc i) ts).kept i here)
+called-all b i (t ∷ ts) (suc p) f le is =
+    let at : suc i + p ≡ i + suc p = omega arith in
+    let c = assign_trampoline b i t.composite.inner in
+    subst (HasTrampoline (assign_trampolines c (suc i) ts)) at
+    (called-all c (suc i) ts p f (omega (arith, le, (keeps-step b i t.composite.inner).long)) is)
 
-before-or-at : (i j : ℕ) → j < suc i → (j < i) ⊎ (j ≡ i)
-before-or-at zero zero h = inr refl
-before-or-at zero (suc j) h = absurd (omega arith)
-before-or-at (suc i) zero h = inl (omega arith)
-before-or-at (suc i) (suc j) h = elim (before-or-at i j (omega arith)) [ inl x ↦ inl (omega (arith, x)) | inr x ↦ inr (ap (λ n. suc n) x) ]
-
-before-or-from : (n j : ℕ) → (j < n) ⊎ (n ≤ j)
-before-or-from zero j = inr (omega arith)
-before-or-from (suc n) zero = inl (omega arith)
-before-or-from (suc n) (suc j) = elim (before-or-from n j) [ inl x ↦ inl (omega (arith, x)) | inr x ↦ inr (omega (arith, x)) ]
-
--- where the one at `i` has its trampoline now, or is no function
-module _ (b : Built) (first i n : ℕ) (o : Outside b first i n) where
-  next-set : (k : ℕ) → i < length b.types → Outside (with_trampoline b i k) first (suc i) n
-  next-set k lt = record {
-    sized = length-set b.trampolines i (Some k) ∙ o.sized;
-    called = λ j f from out is. by j from out f is;
-  } where
-    itself : (j : ℕ) → j ≡ i → HasTrampoline (with_trampoline b i k) j
-    itself j e = coe 0 1 (t. IsAt (set b.trampolines i (Some k)) (sym e t)) (at-itself b.trampolines i k (omega (arith, lt, o.sized)))
-
-    by : (j : ℕ) → first ≤ j → (j < suc i) ⊎ (n ≤ j) → (f : Called) → composite_at b.types j ≡ Func f → HasTrampoline (with_trampoline b i k) j
-    by j from (inr past) f is = at-set b.trampolines i k j (o.called j f from (inr past) is)
-    by j from (inl below) f is = elim (before-or-at i j below) [
-      | inl x ↦ at-set b.trampolines i k j (o.called j f from (inl x) is)
-      | inr x ↦ itself j x
-    ]
-
-  next-other : ((f : Called) → composite_at b.types i ≡ Func f → ⊥) → Outside b first (suc i) n
-  next-other unlike = record { sized = o.sized; called = λ j f from out is. by j from out f is } where
-    by : (j : ℕ) → first ≤ j → (j < suc i) ⊎ (n ≤ j) → (f : Called) → composite_at b.types j ≡ Func f → HasTrampoline b j
-    by j from (inr past) f is = o.called j f from (inr past) is
-    by j from (inl below) f is = elim (before-or-at i j below) [
-      | inl x ↦ o.called j f from (inl x) is
-      | inr x ↦ absurd (unlike f (ap (composite_at b.types) (sym x) ∙ is))
-    ]
-
-  -- one more type with its trampoline
-  outside-alone : (t : Interned) (k : ℕ) → Outside (alone b t (Some k)) first i n
-  outside-alone t k = record {
-    sized = length-append b.trampolines (Some k ∷ []) ∙ ap (λ m. m + 1) o.sized ∙ sym (length-append b.types (t ∷ []));
-    called = λ j f from out is.
-        elim (last-type b.types t j f is) [
-          | inl x ↦ at-more b.trampolines (Some k ∷ []) j (o.called j f from out x)
-          | inr x ↦ at-end b.trampolines k j (x ∙ sym o.sized)
-        ];
-  }
-
-module _ (b : Built) (first i n : ℕ) (o : Outside b first i n) (lt : i < length b.types) where
-  knowing : (f : Called) (k : ℕ) → Outside (knows b (mapped f) k) first i n
-  knowing f k = record { sized = o.sized; called = o.called }
-
-  outside-at : (f : Called) (k : Option ℕ) → Outside (assign_at b i f k) first (suc i) n
-  outside-at f (Some k) = next-set b first i n o k lt
-  outside-at f None = by (same_mapped (mapped f) f) where
-    by : (own : Bool) → Outside (if own then with_trampoline (knows b (mapped f) i) i i
-        else alone (with_trampoline (knows b (mapped f) (length b.types)) i (length b.types)) (plain (Func (mapped f))) (Some (length b.types))) first (suc i) n
-    by true = next-set (knows b (mapped f) i) first i n (knowing f i) i lt
-    by false =
-        let k = length b.types in
-        outside-alone (with_trampoline (knows b (mapped f) k) i k) first (suc i) n (next-set (knows b (mapped f) k) first i n (knowing f k) k lt)
-        (plain (Func (mapped f))) k
-
-  outside-assign : (c : Composite (Named ℕ) ℕ) → composite_at b.types i ≡ c → Outside (assign_trampoline b i c) first (suc i) n
-  outside-assign (Func f) at = outside-at f (b.known_trampolines (mapped f))
-  outside-assign (Array g) at = next-other b first i n o (λ f is. let no : Array g ≡ Func f = sym at ∙ is in cc)
-  outside-assign (Struct g) at = next-other b first i n o (λ f is. let no : Struct g ≡ Func f = sym at ∙ is in cc)
-  outside-assign (Cont g) at = next-other b first i n o (λ f is. let no : Cont g ≡ Func f = sym at ∙ is in cc)
-  outside-assign (Exn g) at = next-other b first i n o (λ f is. let no : Exn g ≡ Func f = sym at ∙ is in cc)
-
-outside-all : (b : Built) (first i n : ℕ) → Outside b first i n → (front ts more : List Interned) → length front ≡ i → b.types ≡ front ++ (ts ++ more)
-    → i + length ts ≡ n → Outside (assign_trampolines b i ts) first n n
-outside-all b first i n o front [] more long types end =
-    let same : i ≡ n = omega (arith, end) in
-    coe 0 1 (j. Outside b first (same j) n) o
-outside-all b first i n o front (t ∷ ts) more long types end =
-    let c = t.composite.inner in
-    let at : composite_at b.types i ≡ c = (λ j. composite_at (types j) (sym long j)) ∙ at-front front t (ts ++ more) in
-    let lt : i < length b.types = omega (arith, ap length types, length-append front (t ∷ (ts ++ more)), long) in
-    let g = grows b i c in
-    outside-all (assign_trampoline b i c) first (suc i) n (outside-assign b first i n o lt c at) (front ++ t ∷ []) ts (more ++ g.more)
-    (length-append front (t ∷ []) ∙ omega (arith, long))
-    (g.types ∙ ap (λ us. us ++ g.more) types ∙ append-again front (t ∷ (ts ++ more)) g.more
-    ∙ ap (λ us. front ++ t ∷ us) (append-again ts more g.more) ∙ sym (append-again front (t ∷ []) (ts ++ (more ++ g.more))))
-    (omega (arith, end))
-
--- ---- groups
-
-module _ (b : Built) (sized : length b.trampolines ≡ length b.types) (ts : List Interned) where
-  opened-sized : length (opened b ts).trampolines ≡ length (opened b ts).types
+module _ (b : Built) (sized : IsSized b) (ts : List Interned) where
+  opened-sized : IsSized (opened b ts)
   opened-sized =
       length-append b.trampolines (replicate (length ts) None)
       ∙ omega (arith, sized, length-replicate (length ts) (let o : Option ℕ = None in o), length-append b.types ts)
 
-  outside-group : (first : ℕ) → ((j : ℕ) (f : Called) → first ≤ j → composite_at b.types j ≡ Func f → HasTrampoline b j)
-      → Outside (with_group b ts) first (length b.types + length ts) (length b.types + length ts)
-  outside-group first old =
-      outside-all (opened b ts) first (length b.types) (length b.types + length ts)
-      (record { sized = opened-sized; called = λ j f from out is. by j f from out is })
-      b.types ts [] refl (ap (λ us. b.types ++ us) (no-more ts)) refl where
-        by : (j : ℕ) (f : Called) → first ≤ j → (j < length b.types) ⊎ (length b.types + length ts ≤ j) → composite_at (b.types ++ ts) j ≡ Func f
-            → HasTrampoline (opened b ts) j
-        by j f from (inl below) is =
-            at-more b.trampolines (replicate (length ts) None) j (old j f from (sym (composite-before b.types ts j below) ∙ is))
-        by j f from (inr past) is = absurd (omega (arith, past, within (b.types ++ ts) j f is, length-append b.types ts))
-
-  called-in-group : (first : ℕ) → ((j : ℕ) (f : Called) → first ≤ j → composite_at b.types j ≡ Func f → HasTrampoline b j)
-      → (j : ℕ) (f : Called) → first ≤ j → composite_at (with_group b ts).types j ≡ Func f → HasTrampoline (with_group b ts) j
-  called-in-group first old j f from is = (outside-group first old).called j f from (before-or-from (length b.types + length ts) j) is
-
   -- each function member of a group has a trampoline
   pub called-member : (i : ℕ) (f : Called) → composite_at ts i ≡ Func f → HasTrampoline (with_group b ts) (length b.types + i)
-  called-member i f is =
-      let x = extends-group b ts in
-      let inside : length b.types + i < length (b.types ++ ts) = omega (arith, within ts i f is, length-append b.types ts) in
-      let at : composite_at (with_group b ts).types (length b.types + i) ≡ Func f =
-      ap (λ us. composite_at us (length b.types + i)) x.types ∙ composite-before (b.types ++ ts) x.types_more (length b.types + i) inside
-      ∙ composite-behind b.types ts i (length b.types + i) refl ∙ is in
-      called-in-group (length b.types) (λ j f' from is'. absurd (omega (arith, from, within b.types j f' is'))) (length b.types + i) f (omega arith) at
+  called-member i f is = called-all (opened b ts) (length b.types) ts i f (omega (arith, opened-sized, length-append b.types ts)) is
 
 -- ---- whole lists
 
 -- each function has a trampoline
 record Entire (b : Built) : Type 0 where
-  sized : length b.trampolines ≡ length b.types
+  sized : IsSized b
   called : (j : ℕ) (f : Called) → composite_at b.types j ≡ Func f → HasTrampoline b j
 
 entire-group : (b : Built) → Entire b → (ts : List Interned) → Entire (with_group b ts)
-entire-group b e ts = record {
-  sized = (outside-group b e.sized ts 0 (λ j f from is. e.called j f is)).sized;
-  called = λ j f is. called-in-group b e.sized ts 0 (λ j' f' from is'. e.called j' f' is') j f (omega arith) is;
-}
-
--- what each group keeps holds of what is taken of a module
-module _ (P : Built → Type 0) (group : (b : Built) → P b → (ts : List Interned) → P (with_group b ts)) where
-  module _ (all : List (Group ℕ ℕ)) where
-    through-group : (s : Taken) (start : ℕ) (g : Group ℕ ℕ) (o : Option ℕ) → P s.built → P (take_group all s start g o).built
-    through-group s start g (Some j) p = p
-    through-group s start g None p = group s.built p (interned_group all s.declared start (length s.built.types) g)
-
-    through-groups : (gs : List (Group ℕ ℕ)) (s : Taken) (start : ℕ) → P s.built → P (take_groups all s start gs).built
-    through-groups [] s start p = p
-    through-groups ([] ∷ gs) s start p = through-groups gs s start p
-    through-groups ((t ∷ ts) ∷ gs) s start p =
-        let o = first_equal all start 0 start in
-        through-groups gs (take_group all s start (t ∷ ts) o) (start + length (t ∷ ts)) (through-group s start (t ∷ ts) o p)
-
-  pub through-taken : P empty → (ms : List (Group ℕ ℕ)) → P (taken ms).built
-  through-taken p ms = through-groups ms ms none_taken 0 p
-
--- what each exception type and the startup type keep holds of the interned list of a module
-module _ (P : Built → Type 0) (more : (b : Built) (t : Interned) → P b → P (alone b t None)) where
-  through-exceptions : (is : List ℕ) (b : Built) (done : List ℕ) → P b → P (with_exceptions b done is)
-  through-exceptions [] b done p = p
-  through-exceptions (i ∷ is) b done p = by (through-exceptions is) (is_among i done) where
-    by : ((c : Built) (done' : List ℕ) → P c → P (with_exceptions c done' is))
-        → (there : Bool) → P (if there then with_exceptions b done is else with_exceptions (with_exception b i) (i ∷ done) is)
-    by rest true = rest b done p
-    by rest false = rest (with_exception b i) (i ∷ done) (more b (plain (exception_for i (composite_at b.types i))) p)
-
-  through-startup : (b : Built) (startup : Bool) → P b → P (with_startup b startup)
-  through-startup b false p = p
-  through-startup b true p = more b startup_type p
-
-  pub through-interned : (ms : List (Group ℕ ℕ)) (tags : List ℕ) (startup : Bool) → P (taken ms).built → P (interned ms tags startup)
-  through-interned ms tags startup p =
-      let is = map (λ i. get_or (taken ms).declared i 0) tags in
-      through-startup (with_exceptions (taken ms).built [] is) startup (through-exceptions is (taken ms).built [] p)
+entire-group b e ts =
+    let k = keeps-steps (opened b ts) (length b.types) ts in
+    let x = extends-group b ts in
+    let opened_sized = opened-sized b e.sized ts in
+    record {
+      sized = k.sized opened_sized;
+      called = λ j f is.
+          elim (cases_lt j (length (b.types ++ ts))) [
+            | inl low ↦
+                let at = sym (composite-before (b.types ++ ts) x.types_more j low) ∙ ap (λ us. composite_at us j) (sym x.types) ∙ is in
+                elim (cases_lt j (length b.types)) [
+                  | inl old ↦ kept-group b ts j (e.called j f (sym (composite-before b.types ts j old) ∙ at))
+                  | inr in_group ↦
+                      let p = j - length b.types in
+                      let place : length b.types + p ≡ j = omega (arith, in_group) in
+                      subst (HasTrampoline (with_group b ts)) place
+                      (called-member b e.sized ts p f (sym (composite-behind b.types ts p) ∙ ap (composite_at (b.types ++ ts)) place ∙ at))
+                ]
+            | inr new ↦ k.from (length (b.types ++ ts)) opened_sized (λ n low lt. absurd (omega (arith, low, lt))) j new (within (with_group b ts).types j f is)
+          ];
+    }
 
 entire : (ms : List (Group ℕ ℕ)) → Entire (taken ms).built
 entire = through-taken Entire entire-group (record { sized = refl; called = λ j f is. absurd cc })
-
--- the types below a bound are as in another list, and its functions there have trampolines
-record Still (b : Built) (c : Built) : Type 0 where
-  more : List Interned
-  types : c.types ≡ b.types ++ more
-  kept : (j : ℕ) → HasTrampoline b j → HasTrampoline c j
-
-still-more : (b c : Built) (t : Interned) → Still b c → Still b (alone c t None)
-still-more b c t s = record {
-  more = s.more ++ t ∷ [];
-  types = ap (λ us. us ++ t ∷ []) s.types ∙ append-again b.types s.more (t ∷ []);
-  kept = λ j has. kept-alone c t None j (s.kept j has);
-}
 
 pub called-taken : (ms : List (Group ℕ ℕ)) → HaveTrampolines (length (taken ms).built.types) (taken ms).built
 called-taken ms i f lt is = (entire ms).called i f is
@@ -282,8 +332,10 @@ called-taken ms i f lt is = (entire ms).called i f is
 pub called-interned : (ms : List (Group ℕ ℕ)) (tags : List ℕ) (startup : Bool) → HaveTrampolines (length (taken ms).built.types) (interned ms tags startup)
 called-interned ms tags startup i f lt is =
     let b = (taken ms).built in
-    let s = through-interned (Still b) (λ c t. still-more b c t) ms tags startup (record { more = []; types = no-more b.types; kept = λ j has. has }) in
-    s.kept i (called-taken ms i f lt (sym (composite-before b.types s.more i lt) ∙ ap (λ us. composite_at us i) (sym s.types) ∙ is))
+    let s = through-alone (λ c. Extends b c × ((j : ℕ) → HasTrampoline b j → HasTrampoline c j))
+    (λ c t s. (extends-both b c (alone c t None) s.0 (extends-alone c t None), λ j has. kept-alone c t None j (s.1 j has))) ms tags startup
+    (extends-none b, λ j has. has) in
+    s.1 i (called-taken ms i f lt (sym (composite-before b.types s.0.types_more i lt) ∙ ap (λ us. composite_at us i) (sym s.0.types) ∙ is))
 
 -- ---- builders
 
@@ -293,28 +345,25 @@ builder-member b id ts tied unheld i f is =
     coe 0 1 (j. HasTrampoline (interns_by b id ts (sym unheld j)).built (length b.built.types + i)) (called-member b.built tied.sized ts i f is)
 
 pub builder-group : (b : Builder) (id : ℕ) (ts : List Interned) (i : ℕ) → HasTrampoline b.built i → HasTrampoline (interns b id ts).built i
-builder-group b id ts i has = by (b.ids id) where
-  by : (o : Option ℕ) → HasTrampoline (interns_by b id ts o).built i
-  by (Some k) = has
-  by None = kept-group b.built ts i has
+builder-group b id ts i has =
+    elim (b.ids id) as (λ o. HasTrampoline (interns_by b id ts o).built i) [ Some k ↦ has | None ↦ kept-group b.built ts i has ]
 
 pub builder-exception : (b : Builder) (k i : ℕ) → HasTrampoline b.built i → HasTrampoline (excepts b k).built i
-builder-exception b k i has = by (b.exceptions k) where
-  by : (o : Option ℕ) → HasTrampoline (excepts_by b k o).built i
-  by (Some n) = has
-  by None = kept-alone b.built (plain (exception_for k (composite_at b.built.types k))) None i has
+builder-exception b k i has =
+    elim (b.exceptions k) as (λ o. HasTrampoline (excepts_by b k o).built i) [
+      | Some n ↦ has
+      | None ↦ kept-alone b.built (plain (exception_for k (composite_at b.built.types k))) None i has
+    ]
 
 pub builder-startup : (b : Builder) (i : ℕ) → HasTrampoline b.built i → HasTrampoline (starts b).built i
-builder-startup b i has = by b.startup where
-  by : (o : Option ℕ) → HasTrampoline (starts_by b o).built i
-  by (Some n) = has
-  by None = kept-alone b.built startup_type None i has
+builder-startup b i has =
+    elim b.startup as (λ o. HasTrampoline (starts_by b o).built i) [ Some n ↦ has | None ↦ kept-alone b.built startup_type None i has ]
 
 shown-at : (xs : List (Option TypeIndex)) (i : ℕ) → IsSome (get_or (map (option_map number_of) xs) i None) → IsSome (option_and_then (λ t. t) (slice_get xs i))
-shown-at [] i s = absurd cc
 shown-at (None ∷ xs) zero s = absurd cc
 shown-at (Some k ∷ xs) zero s = refl
 shown-at (x ∷ xs) (suc i) s = shown-at xs i s
+shown-at [] i s = absurd cc
 
 pub shown : (b : BuilderState) (i : ℕ) → HasTrampoline (builder_view b).built i → IsSome (trampoline_at b.list i)
 shown b i has = shown-at b.list.trampolines i has

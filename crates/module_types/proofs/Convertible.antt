@@ -1,11 +1,11 @@
 -- A group of a list of types can be converted, and what it becomes.
-use Rattle.std.proofs.Common.{◌≡◌, ◌≤◌, ◌<◌, ℕ, zero, suc, ◌+◌, List, [], ◌∷◌, All, length, get_or, map, Option, Some, None, refl, sym, ap, ◌∙◌, inl, inr, arith}
+use Rattle.std.proofs.Common.{◌≡◌, ◌≤◌, ◌<◌, ℕ, zero, suc, ◌+◌, List, [], ◌∷◌, All, length, get_or, map, Option, Some, None, refl, sym, ap, ◌∙◌, inl, inr, arith, take}
 use Rattle.std.specs.Prelude.{slice_get, IsSome, IsSomeAnd, ◌⊎◌}
-use Rattle.std.proofs.lemmas.List.{length-map}
+use Rattle.std.proofs.lemmas.List.{length-map, take_all}
 use Rattle.std.proofs.lemmas.List.Elements.{All-head, All-tail, All-cons, All-nil, All-weaker}
 use Rattle.wasm_spec.specs.declared.types.UnpackedIndex.{UnpackedIndex}
 use Rattle.wasm_spec.specs.declared.types.UnpackedIndex.TheVariants as index
-use Rattle.wasm_spec.specs.TypeData.{SubType, Composite, Func, Array, Struct, Cont, Exn, map_sub_type, group_edges}
+use Rattle.wasm_spec.specs.TypeData.{SubType, Composite, Func, map_sub_type, group_edges}
 use Rattle.wasm_spec.specs.Sizes.{HasShortLists, CompositeHasShortLists}
 use Rattle.rule_spec.specs.TypeRules.{IsFunction}
 use Rattle.type_data.specs.TypeShapes.{group_shape}
@@ -21,21 +21,23 @@ use Rattle.wasm_types.specs.declared.sub.WasmSubType.{WasmSubType}
 use Rattle.wasm_types.specs.TypeViews.{sub_type_of}
 use Rattle.wasm_convert.specs.Conversion.{index_in}
 use Rattle.wasm_convert.specs.Known.{CanLookUp, Known, CanConvert}
-use Rattle.module_types.specs.Views.{interned_number, interned_of}
-use Rattle.module_types.specs.Conversion.{id_number, first_id, kind_in, group_of_id, members_of, members_by_index, look_by_id, StandsInterned, KnowsId, HasIndex, HoldsGroups, interned_members}
-use Rattle.module_types.specs.Builder.{Builder}
-use Rattle.module_types.proofs.Parts.{all-first, all-second}
+use Rattle.module_types.specs.Views.{interned_number, interned_of, span_of}
+use Rattle.module_types.specs.Conversion.{id_number, first_id, kind_in, group_of_id, members_of, members_by_index, look_by_id, StandsInterned, KnowsId, HasIndex, interned_members}
+use Rattle.module_types.specs.TypeList.{TypeList}
+use Rattle.module_types.specs.Noted.{noted_at}
+use Rattle.module_types.specs.Builder.{Builder, BuilderState, builder_view}
+use Rattle.module_types.specs.Converter.{TypesAndGroup, KnowsIndex, HaveIndices}
+use Rattle.wasm_index.specs.declared.index.Index.{Index}
+use Rattle.wasm_index.specs.declared.spaces.TypeSpace.{TypeSpace}
+use Rattle.wasm_spec.specs.declared.types.CoreTypeId.{CoreTypeId}
+use Rattle.form_lists.proofs.AllSections.{All-joined, All-from_map, All-parts}
 use Rattle.module_types.proofs.Places.{group-ends}
+use Rattle.std.specs.List.{flat_map}
 
 all-both : {A : Type 0} (P Q R : A → Type 0) → ((x : A) → P x → Q x → R x) → (xs : List A) → All P xs → All Q xs → All R xs
 all-both P Q R each [] p q = All-nil R
 all-both P Q R each (x ∷ xs) p q =
     All-cons R x xs (each x (All-head P x xs p) (All-head Q x xs q)) (all-both P Q R each xs (All-tail P x xs p) (All-tail Q x xs q))
-
-all-of-mapped : {A B : Type 0} (P : B → Type 0) (f : A → B) (xs : List A) → All P (map f xs) → All (λ x. P (f x)) xs
-all-of-mapped P f [] all = All-nil (λ x. P (f x))
-all-of-mapped P f (x ∷ xs) all =
-    All-cons (λ x. P (f x)) x xs (All-head P (f x) (map f xs) all) (all-of-mapped P f xs (All-tail P (f x) (map f xs) all))
 
 not-some : (o : Option ℕ) → IsSome o → o ≡ None → ⊥
 not-some None h e = cc
@@ -45,47 +47,48 @@ not-some (Some x) h e = cc
 
 below-more : (a b : ℕ) → a ≤ b → (i : UnpackedIndex) → IsIdBelow a i → IsIdBelow b i
 below-more a b h (index.Id id) lt = omega (arith, h, lt)
-below-more a b h (index.Module n) lt = absurd lt
-below-more a b h (index.RecGroup n) lt = absurd lt
+below-more a b h i lt = absurd lt
 
-names-earlier : (first : ℕ) (gs : List NamedGroup) (k : ℕ) → k < length gs → NameEarlier first gs
+pub names-earlier : (first : ℕ) (gs : List NamedGroup) (k : ℕ) → NameEarlier first gs
     → All (IsIdBelow (first + (first_id gs k + length (get_or gs k [])))) (group_edges (λ r. r) (get_or gs k []))
-names-earlier first [] k h e = absurd (omega arith)
-names-earlier first (g ∷ gs) zero h e =
+names-earlier first [] k e = All-nil (IsIdBelow (first + 0))
+names-earlier first (g ∷ gs) zero e =
     let le : first + length g ≤ first + (0 + length g) = omega arith in
     All-weaker (IsIdBelow (first + length g)) (IsIdBelow (first + (0 + length g))) (below-more _ _ le) (group_edges (λ r. r) g) e.0
-names-earlier first (g ∷ gs) (suc k) h e =
-    let rest = names-earlier (first + length g) gs k (omega arith) e.1 in
+names-earlier first (g ∷ gs) (suc k) e =
+    let rest = names-earlier (first + length g) gs k e.1 in
     let le : (first + length g) + (first_id gs k + length (get_or gs k [])) ≤ first + ((length g + first_id gs k) + length (get_or gs k [])) = omega arith in
     All-weaker _ (IsIdBelow (first + ((length g + first_id gs k) + length (get_or gs k [])))) (below-more _ _ le) (group_edges (λ r. r) (get_or gs k [])) rest
 
 module _ (t : TypesData) (next : ℕ) (spans : List Span) (ids : ℕ → Option ℕ) (k : ℕ)
-    (holds : (m j : ℕ) → ids m ≡ Some j → StandsInterned t next spans ids m j) (room : next + length (members_of t k) < 4294967295) where
-  no-room : (n : ℕ) → (group_of_id t n ≡ k) ⊎ IsSome (ids (group_of_id t n)) → ids (group_of_id t n) ≡ None
-      → next + length (members_of t (group_of_id t n)) < 4294967295
-  no-room n (inl same) none = let back = sym same in coe 0 1 (j. next + length (members_of t (back j)) < 4294967295) room
-  no-room n (inr some) none = absurd (not-some (ids (group_of_id t n)) some none)
+    (holds : (m j : ℕ) → ids m ≡ Some j → StandsInterned t spans m j) (room : ids k ≡ None → next + length (members_of t k) < 4294967295) where
+  -- an id of a group that stands, or of the one that comes next
+  pub index-known : (n : ℕ) → n < length (types_by_id t.groups) → (group_of_id t n ≡ k) ⊎ IsSome (ids (group_of_id t n)) → HasIndex t next spans ids n
+  index-known n h held = record { within = h; stands = λ j e. holds (group_of_id t n) j e; room = λ none. by held none } where
+    by : (group_of_id t n ≡ k) ⊎ IsSome (ids (group_of_id t n)) → ids (group_of_id t n) ≡ None → next + length (members_of t (group_of_id t n)) < 4294967295
+    by (inl same) none =
+        let back = sym same in
+        coe 0 1 (j. next + length (members_of t (back j)) < 4294967295) (room (ap ids back ∙ none))
+    by (inr some) none = absurd (not-some (ids (group_of_id t n)) some none)
 
   knows : (bound : ℕ) → bound ≤ length (types_by_id t.groups) → (i : UnpackedIndex) → IsIdBelow bound i
       → (group_of_id t (id_number i) ≡ k) ⊎ IsSome (ids (group_of_id t (id_number i))) → CanLookUp (KnowsId t next spans ids) i
-  knows bound le (index.Id id) lt held =
-      record { within = omega (arith, lt, le); stands = λ j e. holds (group_of_id t id.0) j e; room = no-room id.0 held }
-  knows bound le (index.Module n) lt held = absurd lt
-  knows bound le (index.RecGroup n) lt held = absurd lt
+  knows bound le (index.Id id) lt held = index-known id.0 (omega (arith, lt, le)) held
+  knows bound le i lt held = absurd lt
 
-  pub group-known : k < length t.groups → IsSound t
+  pub group-known : IsSound t
       → All (λ i. (group_of_id t (id_number i) ≡ k) ⊎ IsSome (ids (group_of_id t (id_number i)))) (group_edges (λ r. r) (members_of t k))
       → Known (KnowsId t next spans ids) (group_edges (λ r. r) (members_of t k))
-  group-known h sound held =
+  group-known sound held =
       let bound : 0 + (first_id t.groups k + length (members_of t k)) ≤ length (types_by_id t.groups) = omega (arith, group-ends t.groups k) in
-      all-both _ _ (CanLookUp (KnowsId t next spans ids)) (knows _ bound) (group_edges (λ r. r) (members_of t k)) (names-earlier 0 t.groups k h sound.references) held
+      all-both _ _ (CanLookUp (KnowsId t next spans ids)) (knows _ bound) (group_edges (λ r. r) (members_of t k)) (names-earlier 0 t.groups k sound.references) held
 
 -- ---- its members
 
 all-in : (P : SubType UnpackedIndex UnpackedIndex → Type 0) (gs : List NamedGroup) (k : ℕ) → All P (types_by_id gs) → All P (get_or gs k [])
 all-in P [] k all = All-nil P
-all-in P (g ∷ gs) zero all = all-first P g (types_by_id gs) all
-all-in P (g ∷ gs) (suc k) all = all-in P gs k (all-second P g (types_by_id gs) all)
+all-in P (g ∷ gs) zero all = ((All-joined P g (types_by_id gs)).0 all).0
+all-in P (g ∷ gs) (suc k) all = all-in P gs k ((All-joined P g (types_by_id gs)).0 all).1
 
 kind-function : (o : Option (SubType UnpackedIndex UnpackedIndex)) → IsSomeAnd o (λ t. IsFunction t.composite.inner) → kind_in o ≡ FuncName
 kind-function None h = absurd h
@@ -93,16 +96,12 @@ kind-function (Some t) h = by t.composite.inner h where
   by : (c : Composite UnpackedIndex UnpackedIndex) → IsFunction c
       → kind_in (Some (record { is_final = t.is_final; supertype = t.supertype; composite = record { inner = c; shared = t.composite.shared } })) ≡ FuncName
   by (Func f) h = refl
-  by (Array f) h = absurd h
-  by (Struct f) h = absurd h
-  by (Cont f) h = absurd h
-  by (Exn f) h = absurd h
+  by c h = absurd h
 
 module _ (t : TypesData) (next : ℕ) (spans : List Span) (ids : ℕ → Option ℕ) where
   resumes : (i : UnpackedIndex) → NamesFunction (types_by_id t.groups) i → (look_by_id t next spans ids i).kind ≡ FuncName
   resumes (index.Id id) h = kind-function (slice_get (types_by_id t.groups) id.0) h
-  resumes (index.Module n) h = absurd h
-  resumes (index.RecGroup n) h = absurd h
+  resumes i h = absurd h
 
   can-by : (m : Read) (c : CompositeInnerType)
       → ContinuesFunction (types_by_id t.groups) (record { is_final = m.is_final; supertype = m.supertype; composite = record { inner = form.composite_of c; shared = (form.sub_type_of m).composite.shared } })
@@ -115,8 +114,8 @@ module _ (t : TypesData) (next : ℕ) (spans : List Span) (ids : ℕ → Option 
   pub members-can : (k : ℕ) (members : List Read) → members_of t k ≡ map form.sub_type_of members → IsSound t
       → All (λ m. CanConvert (look_by_id t next spans ids) (form.composite_of m.composite)) members
   members-can k members is sound =
-      let resumed = all-of-mapped (ContinuesFunction (types_by_id t.groups)) form.sub_type_of members (coe 0 1 (j. All (ContinuesFunction (types_by_id t.groups)) (is j)) (all-in (ContinuesFunction (types_by_id t.groups)) t.groups k sound.continuations)) in
-      let short = all-of-mapped HasShortLists form.sub_type_of members (coe 0 1 (j. All HasShortLists (is j)) (all-in HasShortLists t.groups k sound.lists)) in
+      let resumed = All-from_map (ContinuesFunction (types_by_id t.groups)) form.sub_type_of members (coe 0 1 (j. All (ContinuesFunction (types_by_id t.groups)) (is j)) (all-in (ContinuesFunction (types_by_id t.groups)) t.groups k sound.continuations)) in
+      let short = All-from_map HasShortLists form.sub_type_of members (coe 0 1 (j. All HasShortLists (is j)) (all-in HasShortLists t.groups k sound.lists)) in
       all-both (λ m. ContinuesFunction (types_by_id t.groups) (form.sub_type_of m)) (λ m. HasShortLists (form.sub_type_of m)) (λ m. CanConvert (look_by_id t next spans ids) (form.composite_of m.composite)) (λ m. can-by m m.composite) members resumed short
 
   pub made-is : (k : ℕ) (members : List Read) → members_of t k ≡ map form.sub_type_of members → (made : List WasmSubType)
@@ -130,16 +129,25 @@ module _ (t : TypesData) (next : ℕ) (spans : List Span) (ids : ℕ → Option 
 pub members-long : (t : TypesData) (b : Builder) (k : ℕ) → length (interned_members t b k) ≡ length (members_of t k)
 members-long t b k = length-map (members_of t k) _
 
--- an id of a group that stands, or of the one that comes next
-pub index-known : (t : TypesData) (b : Builder) (next k : ℕ) → HoldsGroups t b → (b.ids k ≡ None → next + length (members_of t k) < 4294967295)
-    → (n : ℕ) → n < length (types_by_id t.groups) → (group_of_id t n ≡ k) ⊎ IsSome (b.ids (group_of_id t n)) → HasIndex t next b.built.groups b.ids n
-index-known t b next k holds room n h held = record {
-  within = h;
-  stands = λ j e. let s = holds (group_of_id t n) j e in record { within = s.within; whole = s.whole };
-  room = λ none. by held none;
-} where
-  by : (group_of_id t n ≡ k) ⊎ IsSome (b.ids (group_of_id t n)) → b.ids (group_of_id t n) ≡ None → next + length (members_of t (group_of_id t n)) < 4294967295
-  by (inl same) none =
-      let back = sym same in
-      coe 0 1 (j. next + length (members_of t (back j)) < 4294967295) (room (ap b.ids back ∙ none))
-  by (inr some) none = absurd (not-some (b.ids (group_of_id t n)) some none)
+-- what looks up the ids of a converter knows each that the converter knows
+pub known-by : (Callable : Index TypeSpace → Type 0) (b : BuilderState) (bound : ℕ) (ids : Option TypesAndGroup) (i : UnpackedIndex) (id : CoreTypeId)
+    → i ≡ index.Id id → CanLookUp (KnowsIndex Callable b bound ids) i → (p : TypesAndGroup) → ids ≡ Some p → HaveIndices b ids
+    → (t : TypesData) (list : TypeList) (held : List (Option ℕ)) → t ≡ p.0 → list ≡ b.list → held ≡ b.ids
+    → CanLookUp (KnowsId t (length list.types) (map span_of list.groups) (noted_at held)) i
+known-by Callable b bound ids i id is known p one have t list held types lists helds =
+    let here = coe 0 1 (j. CanLookUp (KnowsIndex Callable b bound (one j)) (is j)) known in
+    let whole = coe 0 1 (j. HaveIndices b (one j)) have in
+    let found = index-known p.0 (length b.list.types) (builder_view b).built.groups (builder_view b).ids p.1 whole.0 whole.1 id.0 here.0 here.1 in
+    coe 0 1 (j. CanLookUp (KnowsId (sym types j) (length (sym lists j).types) (map span_of (sym lists j).groups) (noted_at (sym helds j))) (sym is j)) found
+
+-- ---- what is known of each part, and what each becomes
+
+pub all-parts : {A B E : Type 0} (P : E → Type 0) (edges : B → List E) (view : A → B) (xs : List A) → All P (flat_map edges (map view xs))
+    → All (λ x. All P (edges (view x))) xs
+all-parts P edges view xs all = All-from_map (λ y. All P (edges y)) view xs ((All-parts P edges (map view xs)).0 all)
+
+-- what a list of converted parts is, past the last
+pub converted : {A B C D : Type 0} (made : D → C) (f : B → C) (view : A → B) (xs : List A) (n : ℕ) (ys : List D) → length xs ≤ n
+    → map made ys ≡ map (λ x. f (view x)) (take n xs) → map made ys ≡ map f (map view xs)
+converted made f view xs n ys past each =
+    each ∙ ap (map (λ x. f (view x))) (take_all n xs past) ∙ sym (map-twice view f (λ x. f (view x)) (λ x. refl) xs)

@@ -1,9 +1,8 @@
 -- A builder that interned the declared groups of a module in turn holds what the definition takes.
-use Rattle.std.proofs.Common.{◌≡◌, ◌∙◌, ◌↔◌, ◌⊎◌, inl, inr, ℕ, zero, suc, ◌+◌, ◌-◌, ◌<◌, ◌≤◌, Bool, true, false, nat_eq, Option, Some, None, List, [], ◌∷◌, ◌++◌, length, get_or, take, replicate, refl, sym, ap, subst, arith, length-append}
-use Rattle.std.specs.Prelude.{slice_get, slice_index, IsSome, if◌then◌else◌}
+use Rattle.std.proofs.Common.{◌≡◌, ◌∙◌, ◌↔◌, ◌⊎◌, inl, inr, ℕ, zero, suc, ◌+◌, ◌-◌, ◌<◌, ◌≤◌, Option, Some, None, List, [], ◌∷◌, ◌++◌, length, get_or, take, replicate, refl, sym, ap, subst, arith, length-append}
+use Rattle.std.specs.Prelude.{slice_get, slice_index, IsSome}
 use Rattle.std.specs.List.{All}
 use Rattle.std.proofs.lemmas.List.Elements.{All-map, All-weaker}
-use Rattle.std.proofs.lemmas.Bool.{eqb-true, eq-eqb}
 use Rattle.std.proofs.lemmas.List.{length-map, get_or-map, get_or_append_left, get_or-append-add, get_or-replicate, length-replicate}
 use Rattle.std.proofs.lemmas.List.Concat.{get_or-flat_map}
 use Rattle.std.proofs.lemmas.Option.{slice_get-get_or}
@@ -13,7 +12,7 @@ use Rattle.wasm_spec.specs.Module as plain
 use Rattle.type_data.specs.TypeShapes.{group_shape}
 use Rattle.type_data.specs.Names.{NameKind, plainly}
 use Rattle.type_spec.specs.Equality.{Home, home, SameType}
-use Rattle.type_spec.specs.Interned.{Interned, Span, Built, Taken, with_group, next_span, kind_of_type, kind_at, first_equal, interned_group, take_group, take_groups, none_taken, taken}
+use Rattle.type_spec.specs.Interned.{Interned, Span, Built, Taken, with_group, opened, kind_of_type, kind_at, first_equal, interned_group, take_group, take_groups, none_taken, taken}
 use Rattle.type_spec.specs.Taken.{NameEarlier}
 use Rattle.type_spec.proofs.Homes.{size, size-cons, home-within, home-again, home-type}
 use Rattle.type_spec.proofs.ByNames.{names-same, zip-known-itself, some_type, joined-kind}
@@ -25,11 +24,11 @@ use Rattle.form_types.proofs.Ruled.{size-places}
 use Rattle.module_types.specs.Builder.{Builder, new_builder, interns_by}
 use Rattle.module_types.specs.Conversion.{first_id, kind_in, group_of_id, members_of, no_span, start_by, index_by_id, name_by_id, id_number, interned_members, interned_index, HoldsGroups, NamesInterned}
 use Rattle.module_types.specs.InTurn.{interns_type, interns_declared, HasTaken, CanIntern}
-use Rattle.module_types.proofs.Extends.{extends-group}
-use Rattle.module_types.proofs.Holding.{holds-kept}
+use Rattle.module_types.proofs.GroupMembers.{Extends, extends-group, group-within, span-new, span-old}
+use Rattle.module_types.proofs.Holding.{noted-here, noted-elsewhere, holds-kept}
 use Rattle.module_types.proofs.Places.{group-ends}
 use Rattle.module_types.proofs.WellNamed.{kind-mapped}
-use Rattle.module_types.proofs.Taking.{Found, Taking, first-found, none-found, either, home-first, home-member, place-first, place-member, same-at, earlier-member, number-met, number-new, form-new, taking-met, taking-new, taking-hollow, whole, number_in, starting, ends}
+use Rattle.module_types.proofs.Taking.{Told, told as told-first, Taking, either, home-first, home-member, place-first, place-member, same-at, earlier-member, number-met, number-new, form-new, taking-met, taking-new, taking-hollow, whole, number_in, starting, ends}
 
 -- ---- ids, and numbers of groups
 
@@ -185,17 +184,17 @@ module _ (m : plain.Module) (t : TypesData) (are : AreNumbered m t) (near : Name
         ∙ ap (λ (x : Home). group x.start) (home-member all number s start g gs done h some p lt)
 
     -- an equal group is held
-    module _ (j : ℕ) (found : Found all start 0 (0 + start) j)
+    module _ (j : ℕ) (found : Told all start 0 start (Some j))
         (reads : (i : ℕ) → number i ≡ get_or (take_groups all (take_group all s start g (Some j)) (start + length g) gs).declared i 0) where
       pub before : j < start
-      before = omega (arith, found.high)
+      before = omega (arith, found.0)
 
       pub held-met : HoldsAt b j
       held-met = has.held j before
 
       pub none-more : interns_type t b (id start) ≡ b
       none-more =
-          let one = same-group j start (omega (arith, before, starts)) starts found.same in
+          let one = same-group j start (omega (arith, before, starts)) starts found.1 in
           ap (interns_by b (group start) (interned_members t b (group start))) (ap b.ids (sym one) ∙ held-met.id_is)
 
       pub has-met : Has b (take_group all s start g (Some j)) (start + length g)
@@ -222,7 +221,7 @@ module _ (m : plain.Module) (t : TypesData) (are : AreNumbered m t) (near : Name
       }
 
     -- a new group is appended
-    module _ (none : first_equal all start 0 start ≡ None)
+    module _ (none : Told all start 0 start None)
         (reads : (i : ℕ) → number i ≡ get_or (take_groups all (take_group all s start g None) (start + length g) gs).declared i 0) where
       pub other : (i : ℕ) → i < start → group i ≡ group start → ⊥
       other i lt same =
@@ -232,7 +231,7 @@ module _ (m : plain.Module) (t : TypesData) (are : AreNumbered m t) (near : Name
           let again = home-again all i first lt' (record { from = omega arith; to = omega (arith, w.from, w.to) }) in
           let place : first - (home all first).start ≡ start - (home all start).start =
           ap (λ (x : Home). first - x.start) again ∙ omega arith ∙ sym (place-first all number s start g gs done h some) in
-          none-found all start 0 start none first (omega arith) (omega (arith, w.from, lt))
+          none first (omega arith) (omega (arith, w.from, lt))
           (group-same first start (omega (arith, w.from, lt')) starts place (sym (first-group i lt') ∙ same))
 
       pub unheld : b.ids (group start) ≡ None
@@ -280,6 +279,9 @@ module _ (m : plain.Module) (t : TypesData) (are : AreNumbered m t) (near : Name
           })
           ∙ sym (form-new all number s start g gs done h some none reads)
 
+      abbrev at : ℕ
+      at = length b.built.groups
+
       abbrev pub later : Builder
       later = interns_by b (group start) next None
 
@@ -289,45 +291,8 @@ module _ (m : plain.Module) (t : TypesData) (are : AreNumbered m t) (near : Name
       pub built-new : later.built ≡ (take_group all s start g None).built
       built-new = λ i. with_group (has.built i) (next-is i)
 
-      abbrev pub groups-more : List Span
-      groups-more = (extends-group b.built next).groups_more
-
-      pub groups-are : later.built.groups ≡ (b.built.groups ++ next_span b.built (length next) ∷ []) ++ groups-more
-      groups-are = (extends-group b.built next).groups
-
-      pub groups-long : length later.built.groups ≡ length b.built.groups + 1 + length groups-more
-      groups-long =
-          omega (
-            arith,
-            ap length groups-are,
-            length-append (b.built.groups ++ next_span b.built (length next) ∷ []) groups-more,
-            length-append b.built.groups (next_span b.built (length next) ∷ []),
-          )
-
-      pub span-new : get_or later.built.groups (length b.built.groups) no_span ≡ next_span b.built (length next)
-      span-new =
-          let at : length b.built.groups ≡ length b.built.groups + 0 = omega arith in
-          ap (λ l. get_or l (length b.built.groups) no_span) groups-are
-          ∙ get_or_append_left (b.built.groups ++ next_span b.built (length next) ∷ []) groups-more no_span (length b.built.groups)
-          (omega (arith, length-append b.built.groups (next_span b.built (length next) ∷ [])))
-          ∙ ap (λ n. get_or (b.built.groups ++ next_span b.built (length next) ∷ []) n no_span) at
-          ∙ get_or-append-add b.built.groups (next_span b.built (length next) ∷ []) 0 no_span
-
-      pub span-old : (n : ℕ) → n < length b.built.groups → get_or later.built.groups n no_span ≡ get_or b.built.groups n no_span
-      span-old n lt =
-          ap (λ l. get_or l n no_span) groups-are
-          ∙ get_or_append_left (b.built.groups ++ next_span b.built (length next) ∷ []) groups-more no_span n
-          (omega (arith, lt, length-append b.built.groups (next_span b.built (length next) ∷ [])))
-          ∙ get_or_append_left b.built.groups (next_span b.built (length next) ∷ []) no_span n lt
-
-      pub ids-new : later.ids (group start) ≡ Some (length b.built.groups)
-      ids-new = ap (λ c. if c then Some (length b.built.groups) else b.ids (group start)) (eq-eqb (group start) (group start) refl)
-
-      pub ids-old : (n : ℕ) → (group start ≡ n → ⊥) → later.ids n ≡ b.ids n
-      ids-old n apart = by (nat_eq (group start) n) refl where
-        by : (c : Bool) → nat_eq (group start) n ≡ c → (if c then Some (length b.built.groups) else b.ids n) ≡ b.ids n
-        by true e = absurd (apart (eqb-true (group start) n e))
-        by false e = refl
+      after : Extends (opened b.built next) later.built
+      after = extends-group b.built next
 
       pub has-new : Has later (take_group all s start g None) (start + length g)
       has-new = record {
@@ -338,23 +303,23 @@ module _ (m : plain.Module) (t : TypesData) (are : AreNumbered m t) (near : Name
                   let x = has.held i old in
                   record {
                     at = x.at;
-                    id_is = ids-old (group i) (λ e. other i old (sym e)) ∙ x.id_is;
-                    within = omega (arith, x.within, groups-long);
-                    index = ap (λ (r : Span). r.start + (i - (home all i).start)) (span-old x.at x.within) ∙ x.index;
+                    id_is = noted-elsewhere b.ids (group start) at (group i) (λ e. other i old (sym e)) ∙ x.id_is;
+                    within = omega (arith, x.within, group-within b.built next later.built after);
+                    index = ap (λ (r : Span). r.start + (i - (home all i).start)) (span-old b.built next later.built after x.at x.within) ∙ x.index;
                   }
               | inr x ↦
                   let q = start + x.place in
                   subst (HoldsAt later) (sym x.is) (record {
-                    at = length b.built.groups;
-                    id_is = ap later.ids (member-group x.place x.lt) ∙ ids-new;
-                    within = omega (arith, groups-long);
-                    index = ap (λ (r : Span). r.start + (q - (home all q).start)) span-new
+                    at = at;
+                    id_is = ap later.ids (member-group x.place x.lt) ∙ noted-here b.ids (group start) at;
+                    within = group-within b.built next later.built after;
+                    index = ap (λ (r : Span). r.start + (q - (home all q).start)) (span-new b.built next later.built after)
                         ∙ (λ i. long-types i + place-member all number s start g gs done h some x.place x.lt i)
                         ∙ sym (number-new all number s start g gs done h some none reads x.place x.lt);
                   })
             ];
         fresh = λ n apart.
-            ids-old n (λ e. apart start (omega (arith, some)) e) ∙ has.fresh n (λ i lt. apart i (omega (arith, lt)));
+            noted-elsewhere b.ids (group start) at n (λ e. apart start (omega (arith, some)) e) ∙ has.fresh n (λ i lt. apart i (omega (arith, lt)));
       }
 
   -- what holds after each of the two steps holds after the step that is made
@@ -366,14 +331,15 @@ module _ (m : plain.Module) (t : TypesData) (are : AreNumbered m t) (near : Name
       → ((i : ℕ) → number i ≡ get_or (take_groups all (take_group all s start g o) (start + length g) gs).declared i 0)
       → Q (interns_type t b (id start)) (take_group all s start g o)
   step-by b s start g gs done h some has Q rest (Some j) e reads =
-      let found = first-found all start 0 start j e in
+      let found = subst (Told all start 0 start) e (told-first all start 0 start) in
       let s' = take_group all s start g (Some j) in
       subst (λ c. Q c s') (sym (none-more b s start g gs done h some has j found reads))
       (rest b s' done reads (taking-met all number s start g gs done h some j found reads) (has-met b s start g gs done h some has j found reads))
   step-by b s start g gs done h some has Q rest None e reads =
+      let none = subst (Told all start 0 start) e (told-first all start 0 start) in
       let s' = take_group all s start g None in
-      subst (λ c. Q c s') (sym (one-more b s start g gs done h some has e reads))
-      (rest _ s' _ reads (taking-new all number s start g gs done h some e reads) (has-new b s start g gs done h some has e reads))
+      subst (λ c. Q c s') (sym (one-more b s start g gs done h some has none reads))
+      (rest _ s' _ reads (taking-new all number s start g gs done h some none reads) (has-new b s start g gs done h some has none reads))
 
   pub tied-from : (gs : List (Group ℕ ℕ)) (b : Builder) (s : Taken) (start : ℕ) (done : List Home)
       → ((i : ℕ) → number i ≡ get_or (take_groups all s start gs).declared i 0) → Taking all number s start gs done → Has b s start

@@ -1,22 +1,150 @@
--- Two lists of groups have equal interned lists exactly where they take equal groups in turn.
-use Rattle.std.proofs.Common.{◌≡◌, ◌∙◌, ◌↔◌, ◌<◌, ℕ, List, [], ◌∷◌, length, map, refl, sym, ap, arith}
+-- Two lists of groups have equal interned lists exactly where they take equal groups in turn, and what is built tells the groups that it was built of.
+use Rattle.std.proofs.Common.{◌≡◌, ◌∙◌, ◌↔◌, ◌<◌, ℕ, List, [], ◌∷◌, length, map, sym, ap, arith, ◌++◌, refl, inl, inr, ◌+◌, ◌-◌, ◌≤◌, subst}
 use Rattle.std.proofs.lemmas.List.{length-map}
-use Rattle.std.proofs.lemmas.List.Elements.{All-nil, All-cons}
+use Rattle.std.proofs.lemmas.List.Elements.{All-nil, All-cons, All-head, All-tail}
 use Rattle.wasm_spec.specs.TypeData.{Group, map_sub_type}
-use Rattle.type_spec.specs.Equality.{Home, SameType}
-use Rattle.type_spec.specs.Interned.{Interned, Built, empty, with_group, kind_at, taken}
+use Rattle.type_spec.specs.Equality.{Home, SameType, home, SameGroup}
+use Rattle.type_spec.specs.Interned.{Interned, Built, empty, with_group, kind_at, taken, Span, next_span}
 use Rattle.type_spec.specs.Taken.{NameEarlier, taken_groups, TakeEqual, SameLists}
-use Rattle.type_spec.proofs.ByNames.{name_by}
+use Rattle.type_spec.proofs.ByNames.{name_by, same-kind}
 use Rattle.module_types.specs.Runs.{with_groups, AllFilled}
-use Rattle.module_types.proofs.Taking.{form, Stand, with_forms, number_in, whole}
-use Rattle.module_types.proofs.TakingBoth.{all-told}
-use Rattle.module_types.proofs.BuiltGroups.{groups_determined}
+use Rattle.module_types.proofs.Taking.{form, Stand, number_in, whole, IsCopy, Covers, Next, IsExactBelow}
+use Rattle.type_data.specs.ListLaws.{front-same, back-same}
+use Rattle.module_types.proofs.GroupMembers.{types-apart, groups-apart, first-group, longer}
+use Rattle.std.specs.List.{AllZip}
+use Rattle.type_spec.proofs.Equivalence.{type-turned, type-chained, groups-long}
+use Rattle.type_spec.proofs.Homes.{size, home-again}
+use Rattle.module_types.proofs.Telling.{Tells, same-at, told}
+
+-- a type of the group that comes next, by its place in the list
+module _ (all : List (Group ℕ ℕ)) (number : ℕ → ℕ) (b : Built) (h : Home) (x : Next all number b h) where
+  pub next-home : (r : ℕ) → h.start ≤ r → r < h.start + length h.members → home all r ≡ h
+  next-home r low high =
+      let at = x.at in
+      home-again all h.start r (omega (arith, x.some, x.inside)) (record {
+        from = omega (arith, low, ap (λ (g : Home). g.start) at);
+        to = omega
+            (arith, high, ap (λ (g : Home). g.start) at, ap (λ (g : Home). length g.members) at);
+      }) ∙ at
+
+  pub next-place : (r : ℕ) → h.start ≤ r → r < h.start + length h.members → r - (home all r).start ≡ r - h.start
+  next-place r low high = ap (λ (g : Home). r - g.start) (next-home r low high)
+
+  pub next-number : (r : ℕ) → h.start ≤ r → r < h.start + length h.members → number r ≡ length b.types + (r - h.start)
+  next-number r low high =
+      let at : r ≡ h.start + (r - h.start) = omega (arith, low) in
+      ap number at ∙ x.numbers (r - h.start) (omega (arith, low, high))
+
+module _ (ms ns : List (Group ℕ ℕ)) (number number' : ℕ
+    → ℕ) (exact : IsExactBelow ms number (size ms)) (exact' : IsExactBelow ns number' (size ns)) where
+  abbrev Same : ℕ → ℕ → Type 0
+  Same i j = SameType ms ns i j
+
+  -- an equal type of the other list has the same number
+  pub record Bridge (i : ℕ) : Type 0 where
+    pub other : ℕ
+    pub lt : other < size ns
+    pub same : SameType ms ns i other
+    pub number_is : number i ≡ number' other
+
+  -- where there is one, numbers tell the types of the other list from it
+  across : (i j : ℕ) → Bridge i → j < size ns → (number i ≡ number' j) ↔ SameType ms ns i j
+  across i j b lt = (
+    (λ same. type-chained ms ns ns i b.other j b.same ((exact' b.other j b.lt lt).0 (sym b.number_is ∙ same))),
+    (λ same. b.number_is ∙ (exact' b.other j b.lt lt).1 (type-chained ns ms ns b.other i j (type-turned ms ns i b.other b.same) same)),
+  )
+
+  module _ (b : Built) (h k : Home) (x : Next ms number b h) (y : Next ns number' b k) (bridges : (i : ℕ) → i < size ms → i < h.start
+      → Bridge i) where
+    tells : Tells ms ns h k (h.start + length h.members) (k.start + length k.members) (kind_at ms) (kind_at ns) number number'
+    tells = record {
+      near = x.near;
+      near' = y.near;
+      home_is = next-home ms number b h x;
+      home_is' = next-home ns number' b k y;
+      inside = λ r s low p low' q.
+          let one = next-number ms number b h x r low p in
+          let two = next-number ns number' b k y s low' q in
+          ((λ e. omega (arith, e, one, two)), (λ e. one ∙ ap (λ n. length b.types + n) e ∙ sym two));
+      outside = λ r s low p low' q. across r s (bridges r (omega (arith, p, x.inside)) low) (omega (arith, q, y.inside));
+      apart = λ r s low p low' e. omega (arith, e, next-number ms number b h x r low p, y.below s low');
+      apart' = λ r s low low' q e. omega (arith, e, next-number ns number' b k y s low' q, x.below r low);
+      kinds = λ r s p q same. same-kind ms ns r s (omega (arith, p, x.inside)) (omega (arith, q, y.inside)) same;
+    }
+
+    -- two groups that come next become equal groups exactly where they are equal
+    pub forms-told : (form ms number h ≡ form ns number' k) ↔ SameGroup Same h k
+    forms-told = told ms ns h k (h.start + length h.members) (k.start + length k.members) (kind_at ms) (kind_at ns) number number' tells
+
+    module _ (groups : SameGroup Same h k) (done : List Home) (bridged : (i : ℕ) → i < size ms → IsCopy ms done i → Bridge i) where
+      bridge-more : (i : ℕ) → i < size ms → IsCopy ms (h ∷ done) i → Bridge i
+      bridge-more i lt copy =
+          elim copy [
+            | inl c ↦
+                let p = c.member in
+                let long = groups-long Same h k groups in
+                let at : h.start + p - h.start ≡ k.start + p - k.start = omega arith in
+                record {
+                  other = k.start + p;
+                  lt = omega (arith, c.lt, long, y.inside);
+                  same = type-chained ms ms ns i (h.start + p) (k.start + p) c.same
+                      (same-at ms ns h k (h.start + length h.members) (k.start + length k.members) (kind_at ms) (kind_at ns) number number' tells groups
+                      (h.start + p) (k.start + p) (omega arith) (omega (arith, c.lt)) (omega arith) (omega (arith, c.lt, long)) at);
+                  number_is = (exact i (h.start + p) lt (omega (arith, c.lt, x.inside))).1 c.same ∙ x.numbers p c.lt
+                      ∙ sym (y.numbers p (omega (arith, c.lt, long)));
+                }
+            | inr old ↦ bridged i lt old
+          ]
+
+  pub all-told : (hs ks : List Home) (b : Built) (done : List Home) → Stand ms number b hs → Covers ms done hs → Stand ns number' b ks
+      → ((i : ℕ) → i < size ms → IsCopy ms done i → Bridge i)
+      → (map (form ms number) hs ≡ map (form ns number') ks) ↔ AllZip (SameGroup Same) hs ks
+  all-told [] [] b done x covers y bridged = (λ same. tt, λ same. refl)
+  all-told [] (k ∷ ks) b done x covers y bridged =
+      (λ same. let no : [] ≡ form ns number' k ∷ map (form ns number') ks = same in cc, λ same. absurd same)
+  all-told (h ∷ hs) [] b done x covers y bridged =
+      (λ same. let no : form ms number h ∷ map (form ms number) hs ≡ [] = same in cc, λ same. absurd same)
+  all-told (h ∷ hs) (k ∷ ks) b done x covers y bridged =
+      let bridges : (i : ℕ) → i < size ms → i < h.start → Bridge i = λ i lt before. bridged i lt (covers.0 i before) in
+      let one = forms-told b h k x.0 y.0 bridges in
+      let rest : (same : form ms number h ≡ form ns number' k) (groups : SameGroup Same h k)
+      → (map (form ms number) hs ≡ map (form ns number') ks) ↔ AllZip (SameGroup Same) hs ks = λ same groups.
+      all-told hs ks (with_group b (form ms number h)) (h ∷ done) x.1 covers.1
+      (subst (λ ts. Stand ns number' (with_group b ts) ks) (sym same) y.1)
+      (bridge-more b h k x.0 y.0 bridges groups done bridged) in (
+        (λ same.
+            let whole : form ms number h ∷ map (form ms number) hs ≡ form ns number' k ∷ map (form ns number') ks = same in
+            let first : form ms number h ≡ form ns number' k = cc in
+            let others : map (form ms number) hs ≡ map (form ns number') ks = cc in
+            (one.0 first, (rest first (one.0 first)).0 others)),
+        (λ same.
+            let first = one.1 same.0 in
+            let others = (rest first same.0).1 same.1 in
+            λ i. first i ∷ others i),
+      )
+
+pub groups_determined : (b : Built) (tss uss : List (List Interned)) → AllFilled tss → AllFilled uss
+    → (with_groups b tss).types ≡ (with_groups b uss).types → (with_groups b tss).groups ≡ (with_groups b uss).groups → tss ≡ uss
+groups_determined b [] [] p q types groups = refl
+groups_determined b [] (us ∷ uss) p q types groups = absurd (longer b us uss (All-head (λ ts. 0 < length ts) us uss q) types)
+groups_determined b (ts ∷ tss) [] p q types groups = absurd (longer b ts tss (All-head (λ ts. 0 < length ts) ts tss p) (sym types))
+groups_determined b (ts ∷ tss) (us ∷ uss) p q types groups =
+    let x = first-group b ts tss in
+    let y = first-group b us uss in
+    let spans : next_span b (length ts) ∷ x.groups_more ≡ next_span b (length us) ∷ y.groups_more =
+    back-same b.groups b.groups (next_span b (length ts) ∷ x.groups_more) (next_span b (length us) ∷ y.groups_more) refl
+    (sym (groups-apart b ts (with_groups b (ts ∷ tss)) x) ∙ groups ∙ groups-apart b us (with_groups b (us ∷ uss)) y) in
+    let first : next_span b (length ts) ≡ next_span b (length us) = cc in
+    let long : length ts ≡ length us = omega (arith, ap (λ (s : Span). s.end) first) in
+    let same : ts ≡ us =
+    front-same ts us x.types_more y.types_more long
+    (back-same b.types b.types (ts ++ x.types_more) (us ++ y.types_more) refl (sym (types-apart b ts (with_groups b (ts ∷ tss)) x) ∙ types ∙ types-apart b us (with_groups b (us ∷ uss)) y)) in
+    let rest = groups_determined (with_group b ts) tss uss (All-tail (λ ts. 0 < length ts) ts tss p) (All-tail (λ ts. 0 < length ts) us uss q)
+    (types ∙ ap (λ vs. (with_groups (with_group b vs) uss).types) (sym same))
+    (groups ∙ ap (λ vs. (with_groups (with_group b vs) uss).groups) (sym same)) in
+    λ i. same i ∷ rest i
 
 module _ (all : List (Group ℕ ℕ)) (number : ℕ → ℕ) where
-  in-turn : (hs : List Home) (b : Built) → with_forms all number b hs ≡ with_groups b (map (form all number) hs)
-  in-turn [] b = refl
-  in-turn (h ∷ hs) b = in-turn hs (with_group b (form all number h))
-
   filled : (hs : List Home) (b : Built) → Stand all number b hs → AllFilled (map (form all number) hs)
   filled [] b x = All-nil (λ (ts : List Interned). 0 < length ts)
   filled (h ∷ hs) b x =
@@ -32,8 +160,8 @@ equal-lists ms ns near near' =
     let ks = taken_groups ns in
     let groups = map (form ms (number_in ms)) hs in
     let groups' = map (form ns (number_in ns)) ks in
-    let is : (taken ms).built ≡ with_groups empty groups = w.built ∙ in-turn ms (number_in ms) hs empty in
-    let is' : (taken ns).built ≡ with_groups empty groups' = w'.built ∙ in-turn ns (number_in ns) ks empty in
+    let is : (taken ms).built ≡ with_groups empty groups = w.built in
+    let is' : (taken ns).built ≡ with_groups empty groups' = w'.built in
     let both = all-told ms ns (number_in ms) (number_in ns) w.exact w'.exact hs ks empty [] w.stand w.covers w'.stand (λ i lt none. absurd none) in (
       (λ same. both.0 (groups_determined empty groups groups' (filled ms (number_in ms) hs empty w.stand) (filled ns (number_in ns) ks empty w'.stand)
           (sym (ap (λ (b : Built). b.types) is) ∙ same.types ∙ ap (λ (b : Built). b.types) is')

@@ -1,78 +1,158 @@
--- The types of a group, one by one.
-use Rattle.std.proofs.Common.{◌≡◌, ◌≤◌, ◌<◌, ℕ, zero, suc, ◌+◌, List, [], ◌∷◌, ◌++◌, length, drop, Bool, true, false, Option, Some, None, refl, sym, ap, ◌∙◌, arith}
+-- The steps that follow a group: what each keeps, all keep; groups that lie one after another, and where they stand.
+use Rattle.std.proofs.Common.{◌≡◌, ◌≤◌, ◌<◌, ℕ, zero, suc, ◌+◌, List, [], ◌∷◌, ◌++◌, length, set, drop, Bool, true, false, Option, Some, None, refl, sym, ap, ◌∙◌, arith, get_or, take, ◌-◌}
 use Rattle.std.specs.Prelude.{if◌then◌else◌}
-use Rattle.std.proofs.lemmas.List.{length-append}
-use Rattle.wasm_spec.specs.TypeData.{Composite, Func, Array, Struct, Cont, Exn}
+use Rattle.std.proofs.lemmas.List.{append_assoc, append-nil, length-append, drop_all, get_or_at, get_or_append_left, drop_at, take_at}
+use Rattle.wasm_spec.specs.TypeData.{Composite, Func}
 use Rattle.type_data.specs.Names.{Named}
-use Rattle.type_spec.specs.Interned.{Interned, Called, Built, mapped, same_mapped, plain, alone, knows, with_trampoline, assign_at, assign_trampoline, assign_trampolines, composite_at, opened, with_group, next_span, with_exception, exception_for, with_startup, startup_type}
-use Rattle.module_types.specs.Orderly.{IsOrderly}
-use Rattle.module_types.proofs.Ordering.{one-more, lie-to}
+use Rattle.type_spec.specs.Interned.{Interned, Called, Built, Span, mapped, same_mapped, plain, alone, now_known, knows, with_trampoline, assign_at, assign_trampoline, assign_trampolines, composite_at, opened, with_group, next_span, exception_for, startup_type, with_exception, with_startup}
+use Rattle.module_types.specs.Orderly.{IsOrderly, LieBetween}
+use Rattle.module_types.specs.Conversion.{no_span}
+use Rattle.module_types.specs.ListGroups.{types_in}
+use Rattle.module_types.specs.Runs.{with_groups}
 
--- a step appends at most one type, in a group of its own
-pub record Grows (b c : Built) : Type 0 where
-  pub more : List Interned
-  pub types : c.types ≡ b.types ++ more
-  pub few : length more ≤ 1
-  pub orderly : IsOrderly b → IsOrderly c
+-- ---- groups one after another
 
-pub no-more : {A : Type 0} (xs : List A) → xs ≡ xs ++ []
-no-more [] = refl
-no-more (x ∷ xs) = λ i. x ∷ no-more xs i
+pub one-more : (first end later : ℕ) (ss : List Span) → LieBetween first ss end → end < later
+    → LieBetween first (ss ++ record { start = end; end = later } ∷ []) later
+one-more first end later [] lie more = (sym lie, more, refl)
+one-more first end later (s ∷ ss) lie more = (lie.0, lie.1, one-more s.end end later ss lie.2 more)
+
+few-from : (first end : ℕ) (ss : List Span) → LieBetween first ss end → length ss + first ≤ end
+few-from first end [] lie = omega (arith, lie)
+few-from first end (s ∷ ss) lie =
+    let rest = few-from s.end end ss lie.2 in
+    omega (arith, rest, lie.0, lie.1)
+
+-- there are no more groups than types
+pub few-groups : (b : Built) → IsOrderly b → length b.groups ≤ length b.types
+few-groups b orderly = omega (arith, few-from 0 (length b.types) b.groups orderly)
+
+pub lie-to : (first end later : ℕ) (ss : List Span) → end ≡ later → LieBetween first ss end → LieBetween first ss later
+lie-to first end later ss same lie = coe 0 1 (j. LieBetween first ss (same j)) lie
+
+-- ---- one step
+
+-- the type at an index is called by a type, where trampolines of mapped types are known
+abbrev pub trampoline_set : Built → (Called → Option ℕ) → ℕ → ℕ → Built
+trampoline_set b known i k = record b { trampolines = set b.trampolines i (Some k); known_trampolines = known }
+
+-- by a new type
+abbrev pub trampoline_next : Built → (Called → Option ℕ) → ℕ → Called → Built
+trampoline_next b known i f = alone (trampoline_set b known i (length b.types)) (plain (Func (mapped f))) (Some (length b.types))
+
+-- what holds between the list before and after the two holds of each step, and of all
+module _ (R : Built → Built → Type 0) (none : (b : Built) → R b b)
+    (called : (b : Built) (known : Called → Option ℕ) (i k : ℕ) → R b (trampoline_set b known i k))
+    (next : (b : Built) (known : Called → Option ℕ) (i : ℕ) (f : Called) → R b (trampoline_next b known i f)) where
+  at-function : (b : Built) (i : ℕ) (f : Called) (o : Option ℕ) → R b (assign_at b i f o)
+  at-function b i f (Some k) = called b b.known_trampolines i k
+  at-function b i f None = by (same_mapped (mapped f) f) where
+    by : (own : Bool) → R b (if own then with_trampoline (knows b (mapped f) i) i i
+        else alone (with_trampoline (knows b (mapped f) (length b.types)) i (length b.types)) (plain (Func (mapped f))) (Some (length b.types)))
+    by true = called b (now_known b.known_trampolines (mapped f) i) i i
+    by false = next b (now_known b.known_trampolines (mapped f) (length b.types)) i f
+
+  pub each-step : (b : Built) (i : ℕ) (c : Composite (Named ℕ) ℕ) → R b (assign_trampoline b i c)
+  each-step b i (Func f) = at-function b i f (b.known_trampolines (mapped f))
+  each-step b i c = none b
+
+  pub all-steps : ((b c d : Built) → R b c → R c d → R b d) → (b : Built) (i : ℕ) (ts : List Interned) → R b (assign_trampolines b i ts)
+  all-steps both b i [] = none b
+  all-steps both b i (t ∷ ts) =
+      both b (assign_trampoline b i t.composite.inner) (assign_trampolines b i (t ∷ ts)) (each-step b i t.composite.inner)
+      (all-steps both (assign_trampoline b i t.composite.inner) (suc i) ts)
+
+-- ---- types and groups come after the others
+
+pub record ExtendsLists (ts us : List Interned) (ss rs : List Span) : Type 0 where
+  pub types_more : List Interned
+  pub types : us ≡ ts ++ types_more
+  pub groups_more : List Span
+  pub groups : rs ≡ ss ++ groups_more
+
+abbrev pub Extends : Built → Built → Type 0
+Extends b c = ExtendsLists b.types c.types b.groups c.groups
+
+pub extends-none : (b : Built) → Extends b b
+extends-none b = record { types_more = []; types = sym (append-nil b.types); groups_more = []; groups = sym (append-nil b.groups) }
+
+pub extends-both : (b c d : Built) → Extends b c → Extends c d → Extends b d
+extends-both b c d x y = record {
+  types_more = x.types_more ++ y.types_more;
+  types = y.types ∙ ap (λ ts. ts ++ y.types_more) x.types ∙ append_assoc b.types x.types_more y.types_more;
+  groups_more = x.groups_more ++ y.groups_more;
+  groups = y.groups ∙ ap (λ ts. ts ++ y.groups_more) x.groups ∙ append_assoc b.groups x.groups_more y.groups_more;
+}
+
+pub extends-alone : (b : Built) (t : Interned) (k : Option ℕ) → Extends b (alone b t k)
+extends-alone b t k = record { types_more = t ∷ []; types = refl; groups_more = next_span b 1 ∷ []; groups = refl }
+
+extends-next : (b : Built) (known : Called → Option ℕ) (i : ℕ) (f : Called) → Extends b (trampoline_next b known i f)
+extends-next b known i f = extends-alone b (plain (Func (mapped f))) None
+
+pub extends-step : (b : Built) (i : ℕ) (c : Composite (Named ℕ) ℕ) → Extends b (assign_trampoline b i c)
+extends-step = each-step Extends extends-none (λ b known i k. extends-none b) extends-next
+
+pub extends-steps : (b : Built) (i : ℕ) (ts : List Interned) → Extends b (assign_trampolines b i ts)
+extends-steps = all-steps Extends extends-none (λ b known i k. extends-none b) extends-next extends-both
+
+pub extends-long : (b c : Built) → Extends b c → length b.types ≤ length c.types
+extends-long b c x = omega (arith, ap length x.types, length-append b.types x.types_more)
+
+-- the members of a group are among the types in the end
+pub group-long : (b : Built) (ts : List Interned) → length b.types + length ts ≤ length (with_group b ts).types
+group-long b ts = omega (arith, extends-long (opened b ts) (with_group b ts) (extends-steps (opened b ts) (length b.types) ts), length-append b.types ts)
+
+-- a step appends at most one type
+pub few-more : (b : Built) (i : ℕ) (c : Composite (Named ℕ) ℕ) → length (assign_trampoline b i c).types ≤ length b.types + 1
+few-more =
+    each-step (λ b c. length c.types ≤ length b.types + 1) (λ b. omega arith) (λ b known i k. omega arith)
+    (λ b known i f. omega (arith, length-append b.types (plain (Func (mapped f)) ∷ [])))
+
+-- ---- groups lie one after another
 
 -- a group after the others
-pub orderly-more : (b : Built) (t : Interned) (ts : List Interned) → IsOrderly b
+orderly-more : (b : Built) (t : Interned) (ts : List Interned) → IsOrderly b
     → IsOrderly (record b { types = b.types ++ t ∷ ts; groups = b.groups ++ next_span b (length (t ∷ ts)) ∷ [] })
 orderly-more b t ts orderly =
     lie-to 0 (length b.types + length (t ∷ ts)) (length (b.types ++ t ∷ ts)) _ (sym (length-append b.types (t ∷ ts)))
     (one-more 0 (length b.types) (length b.types + length (t ∷ ts)) b.groups orderly (omega arith))
 
-pub grows-alone : (b : Built) (t : Interned) (k : Option ℕ) → Grows b (alone b t k)
-grows-alone b t k = record { more = t ∷ []; types = refl; few = omega arith; orderly = λ o. orderly-more b t [] o }
+pub orderly-exception : (b : Built) (i : ℕ) → IsOrderly b → IsOrderly (with_exception b i)
+orderly-exception b i o = orderly-more b (plain (exception_for i (composite_at b.types i))) [] o
 
-pub grows-exception : (b : Built) (i : ℕ) → Grows b (with_exception b i)
-grows-exception b i = grows-alone b (plain (exception_for i (composite_at b.types i))) None
+pub orderly-startup : (b : Built) → IsOrderly b → IsOrderly (with_startup b true)
+orderly-startup b o = orderly-more b startup_type [] o
 
-pub grows-startup : (b : Built) → Grows b (with_startup b true)
-grows-startup b = grows-alone b startup_type None
+abbrev KeepsOrder : Built → Built → Type 0
+KeepsOrder b c = IsOrderly b → IsOrderly c
 
-grows-none : (b c : Built) → c.types ≡ b.types → c.groups ≡ b.groups → Grows b c
-grows-none b c types groups = record {
-  more = [];
-  types = types ∙ no-more b.types;
-  few = omega arith;
-  orderly = λ o. coe 0 1 (j. IsOrderly (record { types = sym types j; groups = sym groups j; trampolines = c.trampolines; known_trampolines = c.known_trampolines })) o;
-}
+orderly-next : (b : Built) (known : Called → Option ℕ) (i : ℕ) (f : Called) → KeepsOrder b (trampoline_next b known i f)
+orderly-next b known i f o = orderly-more b (plain (Func (mapped f))) [] o
 
-grows-at : (b : Built) (i : ℕ) (f : Called) (o : Option ℕ) → Grows b (assign_at b i f o)
-grows-at b i f (Some k) = grows-none b (with_trampoline b i k) refl refl
-grows-at b i f None = by (same_mapped (mapped f) f) where
-  by : (own : Bool) → Grows b (if own then with_trampoline (knows b (mapped f) i) i i
-      else alone (with_trampoline (knows b (mapped f) (length b.types)) i (length b.types)) (plain (Func (mapped f))) (Some (length b.types)))
-  by true = grows-none b (with_trampoline (knows b (mapped f) i) i i) refl refl
-  by false =
-      let g = grows-alone (with_trampoline (knows b (mapped f) (length b.types)) i (length b.types)) (plain (Func (mapped f))) (Some (length b.types)) in
-      record { more = g.more; types = g.types; few = g.few; orderly = g.orderly }
+orderly-step : (b : Built) (i : ℕ) (c : Composite (Named ℕ) ℕ) → KeepsOrder b (assign_trampoline b i c)
+orderly-step = each-step KeepsOrder (λ b o. o) (λ b known i k o. o) orderly-next
 
-pub grows : (b : Built) (i : ℕ) (c : Composite (Named ℕ) ℕ) → Grows b (assign_trampoline b i c)
-grows b i (Func f) = grows-at b i f (b.known_trampolines (mapped f))
-grows b i (Array f) = grows-none b b refl refl
-grows b i (Struct fs) = grows-none b b refl refl
-grows b i (Cont f) = grows-none b b refl refl
-grows b i (Exn t) = grows-none b b refl refl
+pub orderly-opened : (b : Built) (ts : List Interned) → 0 < length ts → IsOrderly b → IsOrderly (opened b ts)
+orderly-opened b [] h o = absurd (omega arith)
+orderly-opened b (t ∷ ts) h o = orderly-more b t ts o
 
-grows-long : (b c : Built) → Grows b c → length b.types ≤ length c.types
-grows-long b c g = omega (arith, ap length g.types, length-append b.types g.more)
+pub orderly-group : (b : Built) (ts : List Interned) → 0 < length ts → IsOrderly b → IsOrderly (with_group b ts)
+orderly-group b ts h o =
+    all-steps KeepsOrder (λ b o. o) (λ b known i k o. o) orderly-next (λ b c d x y o. y (x o)) (opened b ts) (length b.types) ts (orderly-opened b ts h o)
 
--- all steps leave the types that there are
-all-long : (b : Built) (i : ℕ) (ts : List Interned) → length b.types ≤ length (assign_trampolines b i ts).types
-all-long b i [] = omega arith
-all-long b i (t ∷ ts) =
-    omega (arith, grows-long b (assign_trampoline b i t.composite.inner) (grows b i t.composite.inner), all-long (assign_trampoline b i t.composite.inner) (suc i) ts)
+-- ---- one member after another
 
 pub composite-before : (ts us : List Interned) (i : ℕ) → i < length ts → composite_at (ts ++ us) i ≡ composite_at ts i
 composite-before [] us i h = absurd (omega arith)
 composite-before (t ∷ ts) us zero h = refl
 composite-before (t ∷ ts) us (suc i) h = composite-before ts us i (omega arith)
+
+pub composite-behind : (ts us : List Interned) (i : ℕ) → composite_at (ts ++ us) (length ts + i) ≡ composite_at us i
+composite-behind [] us i = let same : 0 + i ≡ i = omega arith in ap (composite_at us) same
+composite-behind (t ∷ ts) us i =
+    let next : length (t ∷ ts) + i ≡ suc (length ts + i) = omega arith in
+    ap (composite_at (t ∷ (ts ++ us))) next ∙ composite-behind ts us i
 
 step : (b : Built) (i : ℕ) (ts : List Interned) (at : ℕ) → at < length ts
     → assign_trampolines (assign_trampoline b i (composite_at ts at)) (suc i) (drop (suc at) ts) ≡ assign_trampolines b i (drop at ts)
@@ -80,74 +160,90 @@ step b i [] at h = absurd (omega arith)
 step b i (t ∷ ts) zero h = refl
 step b i (t ∷ ts) (suc at) h = step b i ts at (omega arith)
 
-pub append-again : {A : Type 0} (xs ys zs : List A) → (xs ++ ys) ++ zs ≡ xs ++ (ys ++ zs)
-append-again [] ys zs = refl
-append-again (x ∷ xs) ys zs = λ i. x ∷ append-again xs ys zs i
-
 -- the types from `first` to i have their trampolines
 pub record Along (old now : Built) (first i : ℕ) : Type 0 where
   pub rest : assign_trampolines now i (drop i old.types) ≡ assign_trampolines old first (drop first old.types)
-  pub more : List Interned
-  pub types : now.types ≡ old.types ++ more
+  pub extends : Extends old now
   pub orderly : IsOrderly now
 
 pub along-none : (old : Built) (first : ℕ) → IsOrderly old → Along old old first first
-along-none old first o = record { rest = refl; more = []; types = no-more old.types; orderly = o }
+along-none old first o = record { rest = refl; extends = extends-none old; orderly = o }
 
 module _ (old now : Built) (first i : ℕ) (a : Along old now first i) (h : i < length old.types) where
-  here : composite_at now.types i ≡ composite_at old.types i
-  here = ap (λ ts. composite_at ts i) a.types ∙ composite-before old.types a.more i h
+  abbrev made : Built
+  made = assign_trampoline now i (composite_at now.types i)
 
-  stepped : assign_trampolines (assign_trampoline now i (composite_at now.types i)) (suc i) (drop (suc i) old.types) ≡ assign_trampolines old first (drop first old.types)
-  stepped = ap (λ d. assign_trampolines (assign_trampoline now i d) (suc i) (drop (suc i) old.types)) here ∙ step now i old.types i h ∙ a.rest
+  stepped : assign_trampolines made (suc i) (drop (suc i) old.types) ≡ assign_trampolines old first (drop first old.types)
+  stepped =
+      ap (λ c. assign_trampolines (assign_trampoline now i c) (suc i) (drop (suc i) old.types))
+      (ap (λ ts. composite_at ts i) a.extends.types ∙ composite-before old.types a.extends.types_more i h)
+      ∙ step now i old.types i h ∙ a.rest
 
-  pub along-more : (later : Built) → later ≡ assign_trampoline now i (composite_at now.types i) → Along old later first (i + 1)
+  pub along-more : (later : Built) → later ≡ made → Along old later first (i + 1)
   along-more later is =
-      let c = composite_at now.types i in
-      let g = grows now i c in
-      let made : Along old (assign_trampoline now i c) first (suc i) = record {
-        rest = stepped;
-        more = a.more ++ g.more;
-        types = g.types ∙ ap (λ ts. ts ++ g.more) a.types ∙ append-again old.types a.more g.more;
-        orderly = g.orderly a.orderly;
-      } in
-      let back = sym is in
       let next : suc i ≡ i + 1 = omega arith in
-      coe 0 1 (j. Along old (back j) first (next j)) made
+      coe 0 1 (j. Along old (sym is j) first (next j)) (record {
+        rest = stepped;
+        extends = extends-both old now made a.extends (extends-step now i (composite_at now.types i));
+        orderly = orderly-step now i (composite_at now.types i) a.orderly;
+      })
 
   -- no step makes more types than there are in the end
-  pub along-room : length (assign_trampoline now i (composite_at now.types i)).types ≤ length (assign_trampolines old first (drop first old.types)).types
-  along-room = omega (arith, all-long (assign_trampoline now i (composite_at now.types i)) (suc i) (drop (suc i) old.types), ap (λ b. length b.types) stepped)
+  pub along-room : length made.types ≤ length (assign_trampolines old first (drop first old.types)).types
+  along-room =
+      omega (arith, extends-long made (assign_trampolines made (suc i) (drop (suc i) old.types)) (extends-steps made (suc i) (drop (suc i) old.types)), ap (λ (b : Built). length b.types) stepped)
 
   pub along-within : i < length now.types
-  along-within = omega (arith, h, ap length a.types, length-append old.types a.more)
+  along-within = omega (arith, h, extends-long old now a.extends)
 
 pub along-all : (old now : Built) (first i : ℕ) → Along old now first i → i ≡ length old.types → now ≡ assign_trampolines old first (drop first old.types)
-along-all old now first i a e = (none now i old.types (omega (arith, e))) ∙ a.rest where
-  none : (b : Built) (i : ℕ) (ts : List Interned) → length ts ≤ i → b ≡ assign_trampolines b i (drop i ts)
-  none b i ts h = by ts i i h where
-    by : (ts : List Interned) (at k : ℕ) → length ts ≤ at → b ≡ assign_trampolines b k (drop at ts)
-    by [] zero k h = refl
-    by [] (suc at) k h = refl
-    by (t ∷ ts) zero k h = absurd (omega arith)
-    by (t ∷ ts) (suc at) k h = by ts at k (omega arith)
+along-all old now first i a e = ap (assign_trampolines now i) (sym (drop_all i old.types (omega (arith, e)))) ∙ a.rest
 
-orderly-all : (b : Built) (i : ℕ) (ts : List Interned) → IsOrderly b → IsOrderly (assign_trampolines b i ts)
-orderly-all b i [] o = o
-orderly-all b i (t ∷ ts) o = orderly-all (assign_trampoline b i t.composite.inner) (suc i) ts ((grows b i t.composite.inner).orderly o)
+-- ---- groups after the others, and where they stand
 
-pub orderly-opened : (b : Built) (ts : List Interned) → 0 < length ts → IsOrderly b → IsOrderly (opened b ts)
-orderly-opened b [] h o = absurd (omega arith)
-orderly-opened b (t ∷ ts) h o = orderly-more b t ts o
+-- what a list has where a group was opened
+module _ (b : Built) (ts : List Interned) (c : Built) (x : Extends (opened b ts) c) where
+  pub types-apart : c.types ≡ b.types ++ (ts ++ x.types_more)
+  types-apart = x.types ∙ append_assoc b.types ts x.types_more
 
-pub orderly-group : (b : Built) (ts : List Interned) → 0 < length ts → IsOrderly b → IsOrderly (with_group b ts)
-orderly-group b ts h o = orderly-all (opened b ts) (length b.types) ts (orderly-opened b ts h o)
+  pub groups-apart : c.groups ≡ b.groups ++ next_span b (length ts) ∷ x.groups_more
+  groups-apart = x.groups ∙ append_assoc b.groups (next_span b (length ts) ∷ []) x.groups_more
 
--- the members of a group are among the types in the end
-pub group-long : (b : Built) (ts : List Interned) → length b.types + length ts ≤ length (with_group b ts).types
-group-long b ts = omega (arith, all-long (opened b ts) (length b.types) ts, length-append b.types ts)
+  pub group-within : length b.groups < length c.groups
+  group-within = omega (arith, ap length groups-apart, length-append b.groups (next_span b (length ts) ∷ x.groups_more))
 
--- a group's members are what stands after the others
-pub behind : (xs ys : List Interned) → drop (length xs) (xs ++ ys) ≡ ys
-behind [] ys = refl
-behind (x ∷ xs) ys = behind xs ys
+  pub span-new : get_or c.groups (length b.groups) no_span ≡ next_span b (length ts)
+  span-new = ap (λ ss. get_or ss (length b.groups) no_span) groups-apart ∙ get_or_at b.groups (next_span b (length ts)) x.groups_more no_span (length b.groups) refl
+
+  pub span-old : (n : ℕ) → n < length b.groups → get_or c.groups n no_span ≡ get_or b.groups n no_span
+  span-old n lt =
+      ap (λ ss. get_or ss n no_span) groups-apart ∙ get_or_append_left b.groups (next_span b (length ts) ∷ x.groups_more) no_span n lt
+
+  pub types-new : types_in c.types (next_span b (length ts)) ≡ ts
+  types-new =
+      let s = next_span b (length ts) in
+      ap (λ us. types_in us s) types-apart ∙ ap (take (s.end - s.start)) (drop_at b.types (ts ++ x.types_more) (length b.types) refl)
+      ∙ take_at ts x.types_more (s.end - s.start) (omega arith)
+
+pub extends-group : (b : Built) (ts : List Interned) → Extends (opened b ts) (with_group b ts)
+extends-group b ts = extends-steps (opened b ts) (length b.types) ts
+
+pub extends-more : (b : Built) (ts : List Interned) → Extends b (with_group b ts)
+extends-more b ts =
+    extends-both b (opened b ts) (with_group b ts) (record { types_more = ts; types = refl; groups_more = next_span b (length ts) ∷ []; groups = refl })
+    (extends-group b ts)
+
+pub extends-groups : (b : Built) (tss : List (List Interned)) → Extends b (with_groups b tss)
+extends-groups b [] = extends-none b
+extends-groups b (ts ∷ tss) = extends-both b (with_group b ts) (with_groups b (ts ∷ tss)) (extends-more b ts) (extends-groups (with_group b ts) tss)
+
+-- the first group, and what comes after it
+pub first-group : (b : Built) (ts : List Interned) (tss : List (List Interned)) → Extends (opened b ts) (with_groups b (ts ∷ tss))
+first-group b ts tss =
+    extends-both (opened b ts) (with_group b ts) (with_groups b (ts ∷ tss)) (extends-group b ts) (extends-groups (with_group b ts) tss)
+
+-- a group that is not empty leaves more types
+pub longer : (b : Built) (ts : List Interned) (tss : List (List Interned)) → 0 < length ts → b.types ≡ (with_groups b (ts ∷ tss)).types → ⊥
+longer b ts tss filled same =
+    let x = first-group b ts tss in
+    omega (arith, filled, ap length (same ∙ types-apart b ts (with_groups b (ts ∷ tss)) x), length-append b.types (ts ++ x.types_more), length-append ts x.types_more)

@@ -1,5 +1,5 @@
--- The way back from data, and which keys are equal.
-use Rattle.std.proofs.Common.{◌≡◌, ℕ, true, ◌&&◌, List, [], ◌∷◌, map, refl, ap, ◌∙◌}
+-- The way back from data, mapped types, and which keys are equal.
+use Rattle.std.proofs.Common.{◌≡◌, ℕ, true, ◌&&◌, List, [], ◌∷◌, map, refl, ap, ◌∙◌, sym}
 use Rattle.std.specs.Bool.{beq}
 use Rattle.std.specs.Cmp.Lexicographic.{pointwise}
 use Rattle.wasm_spec.specs.declared.types.AbstractHeapType.{AbstractHeapType}
@@ -7,9 +7,9 @@ use Rattle.wasm_spec.specs.declared.types.AbstractHeapType.TheVariants as abstra
 use Rattle.wasm_spec.specs.TypeData as types
 use Rattle.wasm_spec.specs.TypeData.{map_heap, map_value}
 use Rattle.type_data.specs.Shapes.{erased}
-use Rattle.type_data.specs.Names.{NameKind, FuncName, ArrayName, StructName, ContName, ExnName, Named, named}
+use Rattle.type_data.specs.Names.{NameKind, FuncName, Named, named}
 use Rattle.type_spec.specs.Same.{same_heap, same_value}
-use Rattle.type_spec.specs.Interned.{Called, top, passed, mapped, same_mapped}
+use Rattle.type_spec.specs.Interned.{Called, top, passed, mapped, same_mapped, top_of_kind, top_of_heap}
 use Rattle.wasm_types.specs.declared.heap.WasmHeapType.{WasmHeapType}
 use Rattle.wasm_types.specs.declared.heap.WasmHeapType.TheVariants as heap
 use Rattle.wasm_types.specs.declared.value.WasmValType.{WasmValType}
@@ -27,10 +27,7 @@ use Rattle.module_types.specs.Views.{plain_heap, plain_value, interned_number, c
 
 concrete-back : (k : NameKind) (n : ℕ) → plain_heap (heap_at (types.Concrete (record { kind = k; index = n }))) ≡ types.Concrete (record { kind = k; index = n })
 concrete-back FuncName n = refl
-concrete-back ArrayName n = refl
-concrete-back StructName n = refl
-concrete-back ContName n = refl
-concrete-back ExnName n = refl
+concrete-back k n = refl
 
 abstract-back : (a : AbstractHeapType) → plain_heap (heap_at (types.Abstract a)) ≡ types.Abstract a
 abstract-back abstract.Func = refl
@@ -76,30 +73,14 @@ called-mapped f = ap called_of (mapped-is f) ∙ function-back (mapped (called_o
 heap-is : (a : AbstractHeapType) (b : WasmHeapType)
     → heaps.ghosts.eq (heap_at (types.Abstract a)) b ≡ same_heap (types.Abstract a) (map_heap erased (plain_heap b))
 heap-is abstract.Func heap.Func = refl
-heap-is abstract.Extern heap.Func = refl
-heap-is abstract.Any heap.Func = refl
-heap-is abstract.None heap.Func = refl
-heap-is abstract.NoExtern heap.Func = refl
-heap-is abstract.NoFunc heap.Func = refl
-heap-is abstract.Eq heap.Func = refl
-heap-is abstract.Struct heap.Func = refl
-heap-is abstract.Array heap.Func = refl
-heap-is abstract.I31 heap.Func = refl
-heap-is abstract.Exn heap.Func = refl
-heap-is abstract.NoExn heap.Func = refl
-heap-is abstract.Cont heap.Func = refl
-heap-is abstract.NoCont heap.Func = refl
-heap-is _ _ = refl
+heap-is a heap.Func = refl
+heap-is a b = refl
 
 value-is : (v : types.Value (Named ℕ)) (b : WasmValType)
     → values.ghosts.eq (value_at (passed v)) b ≡ same_value (map_value erased (passed v)) (map_value erased (plain_value b))
 value-is (types.Ref r) (val.Ref s) = ap (λ t. beq true s.nullable && t) (heap-is (top r.heap) s.heap_type)
-value-is types.I32 val.I32 = refl
-value-is types.I64 val.I32 = refl
-value-is types.F32 val.I32 = refl
-value-is types.F64 val.I32 = refl
-value-is types.V128 val.I32 = refl
-value-is _ _ = refl
+value-is v val.I32 = refl
+value-is v w = refl
 
 values-are : (vs : List (types.Value (Named ℕ))) (ws : List WasmValType)
     → pointwise values.ghosts.eq (map value_at (map passed vs)) ws
@@ -114,3 +95,44 @@ pub key-is : (f q : WasmFuncType) → func.ghosts.eq (trampoline_of f) q ≡ sam
 key-is f q =
     ap (λ k. func.ghosts.eq k q) (mapped-is f)
     ∙ (λ i. values-are (called_of f).params q.params i && values-are (called_of f).results q.results i)
+
+-- ---- mapped again and compared
+
+kind-twice : (k : NameKind) → top_of_heap (top_of_kind k) ≡ top_of_kind k
+kind-twice FuncName = refl
+kind-twice k = refl
+
+top-twice : (h : types.Heap (Named ℕ)) → top_of_heap (top h) ≡ top h
+top-twice (types.Concrete n) = kind-twice n.kind
+top-twice (types.Abstract abstract.Func) = refl
+top-twice (types.Abstract h) = refl
+
+passed-twice : (v : types.Value (Named ℕ)) → passed (passed v) ≡ passed v
+passed-twice (types.Ref r) = ap (λ h. types.Ref (record { nullable = true; heap = types.Abstract h })) (top-twice r.heap)
+passed-twice v = refl
+
+all-twice : (vs : List (types.Value (Named ℕ))) → map passed (map passed vs) ≡ map passed vs
+all-twice [] = refl
+all-twice (v ∷ vs) = λ i. passed-twice v i ∷ all-twice vs i
+
+pub mapped-twice : (f : Called) → mapped (mapped f) ≡ mapped f
+mapped-twice f = λ i. record { params = all-twice f.params i; results = all-twice f.results i }
+
+-- where `==` of function types tells them, the test tells mapped types
+module _ (tells : (x y : WasmFuncType) → (func.ghosts.eq x y ≡ true → x ≡ y) × (x ≡ y → func.ghosts.eq x y ≡ true)) (f g : Called) where
+  tie : func.ghosts.eq (trampoline_of (function_at f)) (function_at g) ≡ same_mapped (mapped f) g
+  tie = key-is (function_at f) (function_at g) ∙ (λ i. same_mapped (mapped (function-back f i)) (function-back g i))
+
+  pub same-mapped : same_mapped (mapped f) g ≡ true → mapped f ≡ g
+  same-mapped e =
+      let same = (tells (trampoline_of (function_at f)) (function_at g)).0 (tie ∙ e) in
+      sym (called-mapped (function_at f) ∙ ap mapped (function-back f)) ∙ ap called_of same ∙ function-back g
+
+  pub mapped-same : mapped f ≡ g → same_mapped (mapped f) g ≡ true
+  mapped-same e =
+      sym tie ∙ (tells (trampoline_of (function_at f)) (function_at g)).1 (mapped-is (function_at f) ∙ ap function_at (ap mapped (function-back f) ∙ e))
+
+-- a mapped type is its own mapped type
+pub trampoline-twice : (f : WasmFuncType) → trampoline_of (trampoline_of f) ≡ trampoline_of f
+trampoline-twice f =
+    mapped-is (trampoline_of f) ∙ ap function_at (ap mapped (called-mapped f) ∙ mapped-twice (called_of f)) ∙ sym (mapped-is f)

@@ -1,29 +1,149 @@
--- The interned list of a module is well named.
-use Rattle.std.proofs.Common.{◌≡◌, ◌∙◌, ◌<◌, ◌≤◌, inl, inr, ℕ, zero, suc, ◌+◌, ◌-◌, Bool, true, false, None, List, [], ◌∷◌, ◌++◌, length, get_or, map, refl, sym, ap, subst, arith, length-append}
-use Rattle.std.specs.List.{All}
-use Rattle.std.proofs.lemmas.Bool.{ltb-true, ltb-false}
-use Rattle.std.proofs.lemmas.List.{length-map, get_or_past}
-use Rattle.std.proofs.lemmas.List.Elements.{All-nil, All-map, All-weaker, All-cons}
-use lib.Dec.{ltb}
-use Rattle.wasm_spec.specs.TypeData.{Struct, SubType, Group, map_sub_type, map_group, group_edges}
+-- The interned list of a module is well named, and so it was before trampolines, exception types and the startup type.
+use Rattle.std.proofs.Common.{◌≡◌, ◌∙◌, ◌<◌, ◌≤◌, inl, inr, ℕ, zero, suc, ◌+◌, ◌-◌, Bool, true, false, None, List, [], ◌∷◌, ◌++◌, length, get_or, refl, sym, ap, subst, arith, length-append, Option, map}
+use Rattle.std.specs.List.{All, flat_map}
+use Rattle.std.specs.Prelude.{◌⊎◌}
+use Rattle.std.proofs.lemmas.Bool.{cases_lt}
+use Rattle.std.proofs.lemmas.List.{length-map, length_push, get_or_past}
+use Rattle.std.proofs.lemmas.List.Elements.{All-nil, All-map, All-weaker, All-cons, All-append}
+use Rattle.wasm_spec.specs.TypeData.{Struct, SubType, Group, map_sub_type, map_group, group_edges, Value, I32, Composite, Func, Exn, map_value, map_field, map_function, map_composite, value_edges, field_edges, composite_edges, sub_type_edges}
 use Rattle.type_data.specs.Shapes.{erased}
 use Rattle.type_data.specs.TypeShapes.{group_shape}
-use Rattle.type_data.specs.Names.{NameKind, plainly}
+use Rattle.type_data.specs.Names.{NameKind, plainly, Named, index_of}
 use Rattle.type_spec.specs.Equality.{Home}
-use Rattle.type_spec.specs.Interned.{Interned, Built, empty, with_group, kind_of_type, kind_at, taken, interned, with_exceptions}
+use Rattle.type_spec.specs.Interned.{Interned, Built, empty, with_group, plain, exception_for, composite_at, startup_type, kind_of_type, kind_at, taken, interned, Called, passed, mapped, opened, field_for, with_exception, with_startup}
 use Rattle.type_spec.specs.Taken.{NameEarlier, taken_groups}
 use Rattle.type_spec.proofs.Homes.{size}
 use Rattle.type_spec.proofs.ByNames.{name_by, by_names, names-same, names-plain, zip-known-itself, home-kind, same-kind}
 use Rattle.module_types.specs.ListGroups.{unkinded, kind_in, IsWellNamed}
 use Rattle.module_types.proofs.Taking.{IsCopy, Covers, form, Next, Stand, IsExactBelow, with_forms, number_in, whole}
-use Rattle.module_types.proofs.TakingBoth.{next-home, next-place, next-number}
-use Rattle.module_types.proofs.WellNamed.{kind-mapped, AllBelow, Well, kind-before}
-use Rattle.module_types.proofs.NamedSteps.{group-steps, steps-exceptions, steps-startup}
+use Rattle.module_types.proofs.EqualLists.{next-home, next-place, next-number}
+use Rattle.module_types.proofs.GroupMembers.{composite-behind, extends-group, trampoline_next, all-steps}
+use Rattle.module_types.proofs.WellNamed.{kind-mapped, AllBelow, Well, kind-before, well-next, named-before}
+use Rattle.module_types.proofs.WholeLists.{through-interned}
+use Rattle.std.specs.Option.{option_to_list}
+use Rattle.form_lists.proofs.AllSections.{All-joined}
 
--- the kinds of types that are appended
-kind-behind : (ts us : List Interned) (p : ℕ) → kind_in (ts ++ us) (length ts + p) ≡ kind_in us p
-kind-behind [] us p = let at : 0 + p ≡ p = omega arith in ap (kind_in us) at
-kind-behind (t ∷ ts) us p = let at : length (t ∷ ts) + p ≡ suc (length ts + p) = omega arith in ap (kind_in (t ∷ (ts ++ us))) at ∙ kind-behind ts us p
+-- ---- a mapped type names nothing
+
+value-nothing : (v : Value (Named ℕ)) → value_edges (λ (r : ℕ). r) (map_value (index_of {R = ℕ}) (passed v)) ≡ []
+value-nothing I32 = refl
+value-nothing v = refl
+
+values-nothing : (vs : List (Value (Named ℕ))) → flat_map (value_edges (λ (r : ℕ). r)) (map (map_value (index_of {R = ℕ})) (map passed vs)) ≡ []
+values-nothing [] = refl
+values-nothing (v ∷ vs) = λ i. value-nothing v i ++ values-nothing vs i
+
+mapped-nothing : (f : Called) → group_edges (λ r. r) (unkinded (plain (Func (mapped f)) ∷ [])) ≡ []
+mapped-nothing f = λ i. (values-nothing f.params i ++ values-nothing f.results i) ++ []
+
+module _ (kind : ℕ → NameKind) where
+  value-named : (v : Value (Named ℕ)) → map_value (name_by kind (λ (r : ℕ). r)) (map_value (index_of {R = ℕ}) (passed v)) ≡ passed v
+  value-named I32 = refl
+  value-named v = refl
+
+  values-named : (vs : List (Value (Named ℕ)))
+      → map (map_value (name_by kind (λ (r : ℕ). r))) (map (map_value (index_of {R = ℕ})) (map passed vs)) ≡ map passed vs
+  values-named [] = refl
+  values-named (v ∷ vs) = λ i. value-named v i ∷ values-named vs i
+
+  mapped-named : (f : Called) → by_names kind (λ r. r) (unkinded (plain (Func (mapped f)) ∷ [])) ≡ plain (Func (mapped f)) ∷ []
+  mapped-named f = λ i. plain (Func (record { params = values-named f.params i; results = values-named f.results i })) ∷ []
+
+-- ---- trampolines
+
+abbrev KeepsNames : Built → Built → Type 0
+KeepsNames b c = Well b.types b.groups → Well c.types c.groups
+
+names-next : (b : Built) (known : Called → Option ℕ) (i : ℕ) (f : Called) → KeepsNames b (trampoline_next b known i f)
+names-next b known i f w =
+    let t = plain (Func (mapped f)) in
+    well-next b.types (t ∷ []) b.groups w (omega arith)
+    (subst (λ rs. All (λ r. r < length b.types + 1) rs) (sym (mapped-nothing f)) (All-nil (λ r. r < length b.types + 1)))
+    (mapped-named (kind_in (b.types ++ t ∷ [])) f)
+
+-- a group, and then the trampolines that are missing
+pub well-group : (b : Built) (ts : List Interned) → 0 < length ts → Well b.types b.groups → AllBelow (length b.types + length ts) (unkinded ts)
+    → by_names (kind_in (b.types ++ ts)) (λ r. r) (unkinded ts) ≡ ts → Well (with_group b ts).types (with_group b ts).groups
+well-group b ts some w below kinds =
+    all-steps KeepsNames (λ b w. w) (λ b known i k w. w) names-next (λ b c d x y w. y (x w)) (opened b ts) (length b.types) ts
+    (well-next b.types ts b.groups w some below kinds)
+
+-- ---- exception types
+
+module _ (index : ℕ → Named ℕ) where
+  composite-named : (ts : List Interned) (i : ℕ) → composite_at (map_group index (λ r. r) (unkinded ts)) i
+      ≡ map_composite index (λ r. r) (map_composite (index_of {R = ℕ}) (λ r. r) (composite_at ts i))
+  composite-named [] i = refl
+  composite-named (t ∷ ts) zero = refl
+  composite-named (t ∷ ts) (suc i) = composite-named ts i
+
+  -- the parameters of the function type at an index
+  params-at : (ts : List Interned) (i : ℕ) (f : Called) → map_group index (λ r. r) (unkinded ts) ≡ ts → composite_at ts i ≡ Func f
+      → map (map_value index) (map (map_value (index_of {R = ℕ})) f.params) ≡ f.params
+  params-at ts i f same at =
+      let whole : Func (map_function index (map_function (index_of {R = ℕ}) f)) ≡ Func f =
+      ap (λ c. map_composite index (λ r. r) (map_composite (index_of {R = ℕ}) (λ r. r) c)) (sym at) ∙ sym (composite-named ts i)
+      ∙ ap (λ us. composite_at us i) same ∙ at in
+      let function : map_function index (map_function (index_of {R = ℕ}) f) ≡ f = cc in
+      ap (λ (g : Called). g.params) function
+
+  fields-named : (vs : List (Value (Named ℕ))) → map (map_field index) (map (map_field (index_of {R = ℕ})) (map field_for vs))
+      ≡ map field_for (map (map_value index) (map (map_value (index_of {R = ℕ})) vs))
+  fields-named [] = refl
+  fields-named (v ∷ vs) = λ i. field_for (map_value index (map_value (index_of {R = ℕ}) v)) ∷ fields-named vs i
+
+fields-edges : (vs : List (Value (Named ℕ))) → flat_map (field_edges (λ (r : ℕ). r)) (map (map_field (index_of {R = ℕ})) (map field_for vs))
+    ≡ flat_map (value_edges (λ (r : ℕ). r)) (map (map_value (index_of {R = ℕ})) vs)
+fields-edges [] = refl
+fields-edges (v ∷ vs) = λ i. value_edges (λ r. r) (map_value (index_of {R = ℕ}) v) ++ fields-edges vs i
+
+module _ (P : ℕ → Type 0) where
+  params-below : (ts : List Interned) (i : ℕ) (f : Called) → All P (group_edges (λ r. r) (unkinded ts)) → composite_at ts i ≡ Func f
+      → All P (flat_map (value_edges (λ (r : ℕ). r)) (map (map_value (index_of {R = ℕ})) f.params))
+  params-below [] i f all at = let no : Struct [] ≡ Func f = at in cc
+  params-below (t ∷ ts) zero f all at =
+      let u = map_sub_type (index_of {R = ℕ}) (λ r. r) t in
+      let here = ((All-joined P (sub_type_edges (λ r. r) u) (group_edges (λ r. r) (unkinded ts))).0 all).0 in
+      let inner = ((All-joined P (option_to_list u.supertype) (composite_edges (λ r. r) u.composite.inner)).0 here).1 in
+      let function = subst (λ c. All P (composite_edges (λ r. r) (map_composite (index_of {R = ℕ}) (λ r. r) c))) at inner in
+      ((All-joined P (flat_map (value_edges (λ r. r)) (map (map_value (index_of {R = ℕ})) f.params)) (flat_map (value_edges (λ r. r)) (map
+      (map_value (index_of {R = ℕ})) f.results))).0 function).0
+  params-below (t ∷ ts) (suc i) f all at =
+      params-below ts i f ((All-joined P (sub_type_edges (λ r. r) (map_sub_type (index_of {R = ℕ}) (λ r. r) t)) (group_edges (λ r. r)
+      (unkinded ts))).0 all).1 at
+
+module _ (b : Built) (i : ℕ) (le : i ≤ length b.types) where
+  abbrev exception : Composite (Named ℕ) ℕ → Interned
+  exception c = plain (exception_for i c)
+
+  abbrev Low : ℕ → Type 0
+  Low r = r < length b.types + 1
+
+  exception-below : (c : Composite (Named ℕ) ℕ) → composite_at b.types i ≡ c → Well b.types b.groups
+      → AllBelow (length b.types + 1) (unkinded (exception c ∷ []))
+  exception-below (Func f) at w =
+      let params = params-below (λ r. r < length b.types) b.types i f w.below at in
+      let low = All-weaker (λ r. r < length b.types) Low (λ r lt. omega (arith, lt)) _ params in
+      let edges = flat_map (field_edges (λ (r : ℕ). r)) (map (map_field (index_of {R = ℕ})) (map field_for f.params)) in
+      All-append Low (i ∷ edges) [] (All-cons Low i edges (omega (arith, le)) (subst (All Low) (sym (fields-edges f.params)) low)) (All-nil Low)
+  exception-below c at w = All-cons Low i [] (omega (arith, le)) (All-nil Low)
+
+  exception-named : (c : Composite (Named ℕ) ℕ) → composite_at b.types i ≡ c → Well b.types b.groups
+      → by_names (kind_in (b.types ++ exception c ∷ [])) (λ r. r) (unkinded (exception c ∷ [])) ≡ exception c ∷ []
+  exception-named (Func f) at w =
+      let us = exception (Func f) ∷ [] in
+      let index = name_by (kind_in (b.types ++ us)) (λ (r : ℕ). r) in
+      let params = params-at index b.types i f (named-before b.types us (unkinded b.types) w.below ∙ w.kinds) at in
+      λ j. plain (Exn (record { function = i; fields = (fields-named index f.params ∙ ap (map field_for) params) j })) ∷ []
+  exception-named c at w = refl
+
+  pub well-exception : Well b.types b.groups → Well (with_exception b i).types (with_exception b i).groups
+  well-exception w =
+      let c = composite_at b.types i in
+      well-next b.types (exception c ∷ []) b.groups w (omega arith) (exception-below c refl w) (exception-named c refl w)
+
+pub well-startup : (b : Built) → Well b.types b.groups → Well (with_startup b true).types (with_startup b true).groups
+well-startup b w = well-next b.types (startup_type ∷ []) b.groups w (omega arith) (All-nil (λ r. r < length b.types + 1)) refl
 
 abbrev some_member : SubType (Unit {0}) (Unit {0})
 some_member = record { is_final = true; supertype = None; composite = record { inner = Struct []; shared = false } }
@@ -56,25 +176,25 @@ module _ (all : List (Group ℕ ℕ)) (number : ℕ → ℕ) (exact : IsExactBel
         let inside : p < length h.members = omega (arith, low, high) in
         let at = next-home all number b h x r low high in
         let place = next-place all number b h x r low high in
-        ap (kind_in (b.types ++ next)) (next-number all number b h x r low high) ∙ kind-behind b.types next p
+        ap (kind_in (b.types ++ next)) (next-number all number b h x r low high) ∙ ap kind_of_type (composite-behind b.types next p)
         ∙ member-named (kind_at all) number h.members p inside
         ∙ (λ t. kind_of_type (get_or (map_group (erased {R = ℕ}) (erased {R = ℕ}) (sym at t).members) (sym place t) some_member).composite.inner)
         ∙ sym (home-kind all r (omega (arith, high, x.inside)))
 
     module _ (there : (i : ℕ) → i < size all → i < h.start → IsThere b i) where
       reference-below : (r : ℕ) → r < h.start + length h.members → number r < length b.types + length next
-      reference-below r lt = by (ltb r h.start) refl where
-        by : (c : Bool) → ltb r h.start ≡ c → number r < length b.types + length next
-        by true e = let before = x.below r (ltb-true r h.start e) in omega (arith, before)
-        by false e = let low = ltb-false r h.start e in omega (arith, next-number all number b h x r low lt, low, lt, long)
+      reference-below r lt =
+          elim (cases_lt r h.start) [
+            | inl old ↦ let before = x.below r old in omega (arith, before)
+            | inr low ↦ omega (arith, next-number all number b h x r low lt, low, lt, long)
+          ]
 
       reference-kind : (r : ℕ) → r < h.start + length h.members → kind_in (b.types ++ next) (number r) ≡ kind_at all r
-      reference-kind r lt = by (ltb r h.start) refl where
-        by : (c : Bool) → ltb r h.start ≡ c → kind_in (b.types ++ next) (number r) ≡ kind_at all r
-        by true e =
-            let is = there r (omega (arith, lt, x.inside)) (ltb-true r h.start e) in
-            kind-before b.types next (number r) is.lt ∙ is.kind
-        by false e = member-kind r (ltb-false r h.start e) lt
+      reference-kind r lt =
+          elim (cases_lt r h.start) [
+            | inl old ↦ let is = there r (omega (arith, lt, x.inside)) old in kind-before b.types next (number r) is.lt ∙ is.kind
+            | inr low ↦ member-kind r low lt
+          ]
 
       next-below : AllBelow (length b.types + length next) (unkinded next)
       next-below =
@@ -97,8 +217,8 @@ module _ (all : List (Group ℕ ℕ)) (number : ℕ → ℕ) (exact : IsExactBel
       module _ (done : List Home) (found : (i : ℕ) → i < size all → IsCopy all done i → IsThere b i) where
         there-more : (i : ℕ) → i < size all → IsCopy all (h ∷ done) i → IsThere (with_group b next) i
         there-more i lt copy =
-            let s = group-steps b next (omega (arith, x.some, long)) in
-            let whole = ap length s.types ∙ length-append (b.types ++ next) s.more in
+            let s = extends-group b next in
+            let whole = ap length s.types ∙ length-append (b.types ++ next) s.types_more in
             elim copy [
               | inl c ↦
                   let r = h.start + c.member in
@@ -108,7 +228,7 @@ module _ (all : List (Group ℕ ℕ)) (number : ℕ → ℕ) (exact : IsExactBel
                   (arith, same, x.numbers c.member c.lt, c.lt, long, length-append b.types next) in
                   record {
                     lt = omega (arith, at, whole);
-                    kind = ap (λ ts. kind_in ts (number i)) s.types ∙ kind-before (b.types ++ next) s.more (number i) at
+                    kind = ap (λ ts. kind_in ts (number i)) s.types ∙ kind-before (b.types ++ next) s.types_more (number i) at
                         ∙ ap (kind_in (b.types ++ next)) same ∙ member-kind r (omega arith) (omega (arith, c.lt))
                         ∙ sym (same-kind all all i r lt inside c.same);
                   }
@@ -117,7 +237,7 @@ module _ (all : List (Group ℕ ℕ)) (number : ℕ → ℕ) (exact : IsExactBel
                   let at : number i < length (b.types ++ next) = omega (arith, is.lt, length-append b.types next) in
                   record {
                     lt = omega (arith, at, whole);
-                    kind = ap (λ ts. kind_in ts (number i)) s.types ∙ kind-before (b.types ++ next) s.more (number i) at
+                    kind = ap (λ ts. kind_in ts (number i)) s.types ∙ kind-before (b.types ++ next) s.types_more (number i) at
                         ∙ kind-before b.types next (number i) is.lt ∙ is.kind;
                   }
             ]
@@ -128,9 +248,8 @@ module _ (all : List (Group ℕ ℕ)) (number : ℕ → ℕ) (exact : IsExactBel
   well-forms [] b done x covers found w = w
   well-forms (h ∷ hs) b done x covers found w =
       let there : (i : ℕ) → i < size all → i < h.start → IsThere b i = λ i lt before. found i lt (covers.0 i before) in
-      let s = group-steps b (form all number h) (omega (arith, x.0.some, long b h x.0)) in
       well-forms hs (with_group b (form all number h)) (h ∷ done) x.1 covers.1 (there-more b h x.0 there done found)
-      (s.well w (next-below b h x.0 there) (next-kinds b h x.0 there))
+      (well-group b (form all number h) (omega (arith, x.0.some, long b h x.0)) w (next-below b h x.0 there) (next-kinds b h x.0 there))
 
 well-empty : Well [] []
 well-empty = record { orderly = refl; earlier = tt; below = All-nil (λ r. r < 0); kinds = refl }
@@ -140,18 +259,13 @@ well-named ms near tags startup =
     let w = whole ms near in
     let first = well-forms ms (number_in ms) w.exact (taken_groups ms) empty [] w.stand w.covers (λ i lt none. absurd none) well-empty in
     let built : Well (taken ms).built.types (taken ms).built.groups = coe 0 1 (t. Well (sym w.built t).types (sym w.built t).groups) first in
-    let low : (i : ℕ) → number_in ms i ≤ length (taken ms).built.types = λ i. by i (ltb i (size ms)) refl in
-    let all = with_exceptions (taken ms).built [] (map (number_in ms) tags) in
-    let s = steps-exceptions (map (number_in ms) tags) (taken ms).built [] (All-map (λ i. i ≤ length (taken ms).built.types) (number_in ms) tags
-    (each low tags)) in
-    let end = (steps-startup all startup).well (s.well built) in
-    record { orderly = end.orderly; earlier = end.earlier; kinds = end.kinds } where
-      by : (i : ℕ) (c : Bool) → ltb i (size ms) ≡ c → number_in ms i ≤ length (taken ms).built.types
-      by i true e = let lt = (whole ms near).below i (ltb-true i (size ms) e) in omega (arith, lt)
-      by i false e =
-          let past : number_in ms i ≡ 0 = get_or_past (taken ms).declared i 0 (omega (arith, ltb-false i (size ms) e, (whole ms near).counted)) in
-          omega (arith, past)
-
-      each : ((i : ℕ) → number_in ms i ≤ length (taken ms).built.types) → (is : List ℕ) → All (λ i. number_in ms i ≤ length (taken ms).built.types) is
-      each low [] = All-nil (λ i. number_in ms i ≤ length (taken ms).built.types)
-      each low (i ∷ is) = All-cons (λ i. number_in ms i ≤ length (taken ms).built.types) i is (low i) (each low is)
+    let n = length (taken ms).built.types in
+    let end = through-interned (λ b. Well b.types b.groups × (n ≤ length b.types)) (λ i. i ≤ n)
+    (λ b i le p. (well-exception b i (omega (arith, le, p.1)) p.0, omega (arith, p.1, length_push b.types (plain (exception_for i (composite_at b.types i))))))
+    (λ b p. (well-startup b p.0, omega (arith, p.1, length_push b.types startup_type))) ms tags startup (λ i. low i (cases_lt i (size ms))) (built, omega arith) in
+    record { orderly = end.0.orderly; earlier = end.0.earlier; kinds = end.0.kinds } where
+      low : (i : ℕ) → (i < size ms) ⊎ (size ms ≤ i) → number_in ms i ≤ length (taken ms).built.types
+      low i (inl lt) = let below = (whole ms near).below i lt in omega (arith, below)
+      low i (inr past) =
+          let nowhere : number_in ms i ≡ 0 = get_or_past (taken ms).declared i 0 (omega (arith, past, (whole ms near).counted)) in
+          omega (arith, nowhere)

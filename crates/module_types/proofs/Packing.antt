@@ -1,5 +1,5 @@
 -- Codes in words.
-use Rattle.std.proofs.Common.{◌≡◌, ◌<◌, ◌≤◌, ◌+◌, ◌*◌, ◌^◌, ℕ, Bool, List, [], ◌∷◌, map, refl, sym, ap, ◌∙◌, arith}
+use Rattle.std.proofs.Common.{◌≡◌, ◌<◌, ◌≤◌, ◌+◌, ◌*◌, ◌^◌, ℕ, Bool, List, [], ◌∷◌, map, refl, sym, ap, ◌∙◌}
 use Rattle.std.specs.Prelude.{if◌then◌else◌}
 use Rattle.std.specs.List.{fold, flat_map}
 use Rattle.std.specs.Hash as fed
@@ -31,19 +31,12 @@ fed-full h later word c cs full is =
 -- ---- a mapped type has the codes of the type
 
 top-code : (t : WasmHeapTopType) → code_of_top (top_of (heap_of_top t)) ≡ code_of_top t
-top-code top.Extern = refl
-top-code top.Any = refl
 top-code top.Func = refl
-top-code top.Exn = refl
-top-code top.Cont = refl
+top-code t = refl
 
 same-code : (v : WasmValType) → code_of (trampoline_val v) ≡ code_of v
 same-code (val.Ref r) = top-code (top_of r.heap_type)
-same-code val.I32 = refl
-same-code val.I64 = refl
-same-code val.F32 = refl
-same-code val.F64 = refl
-same-code val.V128 = refl
+same-code v = refl
 
 pub same-codes : (vs : List WasmValType) → map code_of (map trampoline_val vs) ≡ map code_of vs
 same-codes [] = refl

@@ -1,16 +1,13 @@
--- The group of an id, and the id of a group's first member.
-use Rattle.std.proofs.Common.{◌≡◌, ◌≤◌, ◌<◌, ℕ, zero, suc, ◌+◌, ◌-◌, List, [], ◌∷◌, ◌++◌, length, get_or, replicate, Some, sym, ap, ◌∙◌, inl, inr, arith}
+-- The group of an id, the id of its first member, and the index of its type.
+use Rattle.std.proofs.Common.{◌≡◌, ◌≤◌, ◌<◌, ℕ, zero, suc, ◌+◌, ◌-◌, List, [], ◌∷◌, ◌++◌, length, get_or, replicate, Some, sym, ap, ◌∙◌, inl, inr, arith, Option, None}
 use Rattle.std.specs.Prelude.{slice_get, ◌⊎◌}
 use Rattle.std.proofs.lemmas.List.{length-append}
+use Rattle.std.proofs.lemmas.Option.{get_or_from_slice_get}
 use Rattle.wasm_spec.specs.declared.types.CoreTypeId.{CoreTypeId}
 use Rattle.form_types.specs.Ids.{ids_from}
 use Rattle.form_types.specs.Types.{NamedGroup, TypesData, types_by_id, group_numbers, member_ids}
-use Rattle.module_types.specs.Conversion.{first_id, group_of_id}
-
-pub get-or : {A : Type 0} (xs : List A) (i : ℕ) (x d : A) → slice_get xs i ≡ Some x → get_or xs i d ≡ x
-get-or [] i x d e = absurd cc
-get-or (y ∷ ys) zero x d e = cc
-get-or (y ∷ ys) (suc i) x d e = get-or ys i x d e
+use Rattle.module_types.specs.Conversion.{first_id, group_of_id, members_of, start_by, index_by_id, StandsInterned, HasIndex, no_span}
+use Rattle.type_spec.specs.Interned.{Span}
 
 in-parts : (m v : ℕ) (rest : List ℕ) (n k : ℕ) → slice_get (replicate m v ++ rest) n ≡ Some k
     → ((n < m) × (v ≡ k)) ⊎ ((m ≤ n) × (slice_get rest (n - m) ≡ Some k))
@@ -43,7 +40,7 @@ is-in base (g ∷ gs) n k e =
 
 module _ (t : TypesData) (n k : ℕ) (e : slice_get (group_numbers 0 t.groups) n ≡ Some k) where
   pub group-is : group_of_id t n ≡ k
-  group-is = get-or (group_numbers 0 t.groups) n k 0 e
+  group-is = get_or_from_slice_get (group_numbers 0 t.groups) n k 0 e
 
   abbrev found : IsIn 0 t.groups n k
   found = is-in 0 t.groups n k e
@@ -88,3 +85,50 @@ pub group-ends : (gs : List NamedGroup) (k : ℕ) → first_id gs k + length (ge
 group-ends [] k = omega arith
 group-ends (g ∷ gs) zero = omega (arith, length-append g (types_by_id gs))
 group-ends (g ∷ gs) (suc k) = omega (arith, group-ends gs k, length-append g (types_by_id gs))
+
+-- ---- the index of the type of an id
+
+module _ (t : TypesData) (n k : ℕ) (e : slice_get (group_numbers 0 t.groups) n ≡ Some k) (known : k < length t.groups)
+    (all : List CoreTypeId) (are : slice_get (member_ids 0 t.groups) k ≡ Some all) where
+  members : 0 < length (members_of t k)
+  members = filled t n k e
+
+  pub some : all ≡ [] → ⊥
+  some none = some-ids (first_id t.groups k) (length (members_of t k)) members (sym none ∙ ids-are t.groups k all known are)
+
+  module _ (first : CoreTypeId) (rest : List CoreTypeId) (is : all ≡ first ∷ rest) where
+    first-is : first.0 ≡ first_id t.groups k
+    first-is = head-of (first_id t.groups k) (length (members_of t k)) first rest members (sym is ∙ ids-are t.groups k all known are)
+
+    pub before : first.0 ≤ n
+    before = omega (arith, first-is, starts t n k e)
+
+    module _ (next : ℕ) (spans : List Span) (ids : ℕ → Option ℕ) (has : HasIndex t next spans ids n) where
+      index-is : (o : Option ℕ) → ids k ≡ o → index_by_id t next spans ids n ≡ start_by t next spans ids o + (n - first.0)
+      index-is o held =
+          (λ j. start_by t next spans ids (ids (group-is t n k e j)) + (n - first_id t.groups (group-is t n k e j)))
+          ∙ (λ j. start_by t next spans ids (held j) + (n - sym first-is j))
+
+      pub stands : (j : ℕ) → ids k ≡ Some j → StandsInterned t spans k j
+      stands j held = coe 0 1 (i. StandsInterned t spans (group-is t n k e i) j) (has.stands j (ap ids (group-is t n k e) ∙ held))
+
+      module _ (j : ℕ) (held : ids k ≡ Some j) (s : Span) (at : slice_get spans j ≡ Some s) where
+        span-is : get_or spans j no_span ≡ s
+        span-is = get_or_from_slice_get spans j s no_span at
+
+        pub held-within : s.start + (n - first.0) < s.end
+        held-within =
+            omega (arith, (stands j held).whole, ap (λ (r : Span). r.start) span-is, ap (λ (r : Span). r.end) span-is, first-is, starts t n k e, within t n k e)
+
+        pub held-index : index_by_id t next spans ids n ≡ s.start + (n - first.0)
+        held-index = index-is (Some j) held ∙ ap (λ (r : Span). r.start + (n - first.0)) span-is
+
+      module _ (unheld : ids k ≡ None) where
+        pub next-within : next + (n - first.0) < 4294967295
+        next-within =
+            let room : next + length (members_of t k) < 4294967295 =
+            coe 0 1 (i. next + length (members_of t (group-is t n k e i)) < 4294967295) (has.room (ap ids (group-is t n k e) ∙ unheld)) in
+            omega (arith, room, first-is, starts t n k e, within t n k e)
+
+        pub next-index : index_by_id t next spans ids n ≡ next + (n - first.0)
+        next-index = index-is None unheld

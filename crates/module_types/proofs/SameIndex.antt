@@ -1,57 +1,31 @@
 -- Each declared type is equal to the interned type at its index.
-use Rattle.std.proofs.Common.{◌≡◌, ◌∙◌, ◌<◌, ◌≤◌, None, inl, inr, ℕ, ◌+◌, ◌-◌, Bool, true, false, nat_le, List, [], ◌∷◌, ◌++◌, length, get_or, map, refl, sym, ap, subst, arith, length-append}
-use Rattle.std.specs.Prelude.{if◌then◌else◌}
+use Rattle.std.proofs.Common.{◌≡◌, ◌∙◌, ◌<◌, ◌≤◌, None, inl, inr, ℕ, ◌+◌, ◌-◌, Bool, true, false, nat_le, List, [], ◌∷◌, length, get_or, map, refl, sym, ap, subst, arith}
 use Rattle.std.specs.List.{AllZip, All}
 use Rattle.std.proofs.lemmas.Bool.{leb-true, leb-false}
-use Rattle.std.proofs.lemmas.List.{length-map, get_or_append_left, get_or-append-add}
+use Rattle.std.proofs.lemmas.List.{length-map}
 use Rattle.std.proofs.lemmas.List.Elements.{All-head, All-tail}
 use Rattle.wasm_spec.specs.TypeData.{Group, map_sub_type, map_group, group_edges}
 use Rattle.type_data.specs.Shapes.{erased}
 use Rattle.type_data.specs.TypeShapes.{group_shape}
 use Rattle.type_data.specs.Names.{plainly}
 use Rattle.type_spec.specs.Equality.{Home, home, target, target_by, SameTarget, SameGroup, SameType}
-use Rattle.type_spec.specs.Interned.{Interned, Span, Built, empty, with_group, next_span, opened, plain, alone, exception_for, composite_at, is_among, with_exception, with_exceptions, startup_type, with_startup, kind_at, taken, interned}
+use Rattle.type_spec.specs.Interned.{Interned, Span, Built, empty, with_group, next_span, opened, alone, kind_at, taken, interned}
 use Rattle.type_spec.specs.Taken.{NameEarlier, taken_groups}
 use Rattle.type_spec.proofs.Equivalence.{type-chained, groups-type}
 use Rattle.type_spec.proofs.Homes.{size, home-again}
 use Rattle.type_spec.proofs.ByNames.{name_by, names-plain}
 use Rattle.module_types.specs.Conversion.{no_span}
 use Rattle.module_types.specs.ListGroups.{unkinded, types_in, list_groups, IsWellNamed}
-use Rattle.module_types.proofs.Extends.{Extends, extends-none, extends-both, extends-group, extends-opened}
+use Rattle.module_types.proofs.GroupMembers.{Extends, extends-none, extends-both, extends-alone, group-within, span-new, types-new, extends-group, extends-groups}
+use Rattle.module_types.proofs.WholeLists.{through-alone}
 use Rattle.module_types.proofs.Taking.{IsCopy, Covers, form, Next, Stand, IsExactBelow, with_forms, number_in, whole}
-use Rattle.module_types.proofs.TakingBoth.{next-home, next-place, next-number}
-use Rattle.module_types.proofs.WellNamed.{types-before, types-last}
+use Rattle.module_types.proofs.EqualLists.{next-home, next-place, next-number}
 use Rattle.module_types.proofs.NamedLists.{well-named}
 use Rattle.module_types.proofs.Standing.{list-size, stands-at}
-
--- ---- exception types and the startup type come after
-
-extends-alone : (b : Built) (t : Interned) → Extends b (alone b t None)
-extends-alone b t = record { types_more = t ∷ []; types = refl; groups_more = next_span b 1 ∷ []; groups = refl }
-
-extends-exceptions : (is : List ℕ) (b : Built) (done : List ℕ) → Extends b (with_exceptions b done is)
-extends-exceptions [] b done = extends-none b b refl refl
-extends-exceptions (i ∷ is) b done = by (extends-exceptions is) (is_among i done) where
-  by : ((c : Built) (done' : List ℕ) → Extends c (with_exceptions c done' is))
-      → (there : Bool) → Extends b (if there then with_exceptions b done is else with_exceptions (with_exception b i) (i ∷ done) is)
-  by rest true = rest b done
-  by rest false = extends-both b (with_exception b i) _ (extends-alone b (plain (exception_for i (composite_at b.types i)))) (rest
-      (with_exception b i) (i ∷ done))
-
-extends-startup : (b : Built) (startup : Bool) → Extends b (with_startup b startup)
-extends-startup b false = extends-none b b refl refl
-extends-startup b true = extends-alone b startup_type
 
 module _ (all : List (Group ℕ ℕ)) (number : ℕ → ℕ) (exact : IsExactBelow all number (size all)) (l : Built) (w : IsWellNamed l) where
   abbrev Same : ℕ → ℕ → Type 0
   Same i j = SameType all (list_groups l) i j
-
-  extends-forms : (hs : List Home) (b : Built) → Extends b (with_forms all number b hs)
-  extends-forms [] b = extends-none b b refl refl
-  extends-forms (h ∷ hs) b =
-      let ts = form all number h in
-      extends-both b (with_group b ts) (with_forms all number b (h ∷ hs))
-      (extends-both b (opened b ts) (with_group b ts) (extends-opened b ts) (extends-group b ts)) (extends-forms hs (with_group b ts))
 
   module _ (b : Built) (h : Home) (x : Next all number b h) (behind : Extends (opened b (form all number h)) l) where
     abbrev next : List Interned
@@ -66,34 +40,24 @@ module _ (all : List (Group ℕ ℕ)) (number : ℕ → ℕ) (exact : IsExactBel
     long : length next ≡ length h.members
     long = length-map h.members (map_sub_type (name_by (kind_at all) number) number)
 
-    groups-long : length b.groups < length l.groups
-    groups-long = omega (arith, ap length behind.groups, length-append (b.groups ++ span ∷ []) behind.groups_more, length-append b.groups (span ∷ []))
+    within : length b.groups < length l.groups
+    within = group-within b next l behind
 
     span-is : get_or l.groups (length b.groups) no_span ≡ span
-    span-is =
-        let at : length b.groups ≡ length b.groups + 0 = omega arith in
-        ap (λ ss. get_or ss (length b.groups) no_span) behind.groups
-        ∙ get_or_append_left (b.groups ++ span ∷ []) behind.groups_more no_span (length b.groups) (omega (arith, length-append b.groups (span ∷ [])))
-        ∙ ap (λ n. get_or (b.groups ++ span ∷ []) n no_span) at ∙ get_or-append-add b.groups (span ∷ []) 0 no_span
-
-    types-are : types_in l.types span ≡ next
-    types-are =
-        ap (λ ts. types_in ts span) behind.types
-        ∙ types-before (b.types ++ next) behind.types_more span (omega arith) (omega (arith, length-append b.types next))
-        ∙ types-last b.types next span refl refl
+    span-is = span-new b next l behind
 
     abbrev there : Home
     there = record { start = first; members = map_group number number h.members }
 
     home-there : home (list_groups l) first ≡ there
     home-there =
-        ap (λ (s : Span). home (list_groups l) s.start) (sym span-is) ∙ (stands-at l w (length b.groups) groups-long).at
+        ap (λ (s : Span). home (list_groups l) s.start) (sym span-is) ∙ (stands-at l w (length b.groups) within).at
         ∙ (λ i. record { start = (span-is i).start; members = unkinded (types_in l.types (span-is i)) })
-        ∙ ap (λ ts. record { start = first; members = unkinded ts }) types-are
+        ∙ ap (λ ts. record { start = first; members = unkinded ts }) (types-new b next l behind)
         ∙ ap (λ g. record { start = first; members = g }) (names-plain (kind_at all) number h.members)
 
     first-in : first + length h.members ≤ size (list_groups l)
-    first-in = omega (arith, (stands-at l w (length b.groups) groups-long).high, ap (λ (s : Span). s.end) span-is, long, list-size l w)
+    first-in = omega (arith, (stands-at l w (length b.groups) within).high, ap (λ (s : Span). s.end) span-is, long, list-size l w)
 
     home-member : (p : ℕ) → p < length h.members → home (list_groups l) (first + p) ≡ there
     home-member p lt =
@@ -160,7 +124,7 @@ module _ (all : List (Group ℕ ℕ)) (number : ℕ → ℕ) (exact : IsExactBel
   all-same (h ∷ hs) b done x covers behind found i lt =
       let ts = form all number h in
       let ext = extends-both (opened b ts) (with_group b ts) l (extends-group b ts)
-      (extends-both (with_group b ts) (with_forms all number (with_group b ts) hs) l (extends-forms hs (with_group b ts)) behind) in
+      (extends-both (with_group b ts) (with_forms all number (with_group b ts) hs) l (extends-groups (with_group b ts) (map (form all number) hs)) behind) in
       all-same hs (with_group b ts) (h ∷ done) x.1 covers.1 behind
       (found-more b h x.0 ext (λ j below before. found j below (covers.0 j before)) done found) i lt
 
@@ -168,10 +132,8 @@ pub same-index : (ms : List (Group ℕ ℕ)) → NameEarlier 0 ms → (tags : Li
     → SameType ms (list_groups (interned ms tags startup)) i (get_or (taken ms).declared i 0)
 same-index ms near tags startup i lt =
     let w = whole ms near in
-    let is = map (number_in ms) tags in
-    let made = with_exceptions (taken ms).built [] is in
     let l = interned ms tags startup in
-    let behind : Extends (taken ms).built l = extends-both (taken ms).built made l (extends-exceptions is (taken ms).built [])
-    (extends-startup made startup) in
+    let b = (taken ms).built in
+    let behind : Extends b l = through-alone (Extends b) (λ c t x. extends-both b c (alone c t None) x (extends-alone c t None)) ms tags startup (extends-none b) in
     all-same ms (number_in ms) w.exact l (well-named ms near tags startup) (taken_groups ms) empty [] w.stand w.covers
     (subst (λ b. Extends b l) w.built behind) (λ j below none. absurd none) i (omega (arith, lt, w.counted))

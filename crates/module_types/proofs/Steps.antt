@@ -1,11 +1,11 @@
--- What a step of an interner does to what it holds.
-use Rattle.std.proofs.Common.{◌≡◌, ℕ, zero, suc, ◌+◌, List, [], ◌∷◌, ◌++◌, length, set, map, replicate, Bool, true, false, cond, Option, Some, None, refl, sym, ap, ◌∙◌}
+-- What a step of an interner does to what it holds, and what its types are named by.
+use Rattle.std.proofs.Common.{◌≡◌, ℕ, zero, suc, ◌+◌, List, [], ◌∷◌, ◌++◌, length, map, replicate, Bool, true, false, cond, Option, Some, None, refl, sym, ap, ◌∙◌, IsTrue}
 use Rattle.std.specs.Prelude.{if◌then◌else◌, slice_get}
 use Rattle.std.specs.Option.{option_map}
 use Rattle.std.specs.declared.ops.Range.{Range}
-use Rattle.std.proofs.lemmas.List.{length-map, length-append}
-use Rattle.wasm_spec.specs.TypeData.{Func}
-use Rattle.type_spec.specs.Interned.{Called, Built, mapped, same_mapped, plain, alone, now_known, knows, with_trampoline, assign_at, assign_trampoline, composite_at, opened}
+use Rattle.std.proofs.lemmas.List.{length-map, length-append, map-append, map-set}
+use Rattle.wasm_spec.specs.TypeData.{Func, map_field, map_value}
+use Rattle.type_spec.specs.Interned.{Called, Built, mapped, same_mapped, plain, alone, now_known, knows, with_trampoline, assign_at, assign_trampoline, composite_at, next_span, opened, kind_of_type, exception_for, field_for, with_exception}
 use Rattle.wasm_index.specs.Index.{number_of, index_of}
 use Rattle.wasm_types.specs.declared.func.WasmFuncType.{WasmFuncType}
 use Rattle.wasm_types.specs.declared.composite.WasmCompositeInnerType.{WasmCompositeInnerType}
@@ -13,24 +13,23 @@ use Rattle.wasm_types.specs.declared.composite.WasmCompositeInnerType.TheVariant
 use Rattle.wasm_types.specs.declared.sub.WasmSubType.{WasmSubType}
 use Rattle.wasm_types.specs.contracts.equal.WasmFuncTypePartialEq.TheImpl as func
 use Rattle.wasm_types.specs.Trampolines.{trampoline_of}
-use Rattle.module_types.specs.Views.{TypeIndex, inner_of, interned_of, called_of, function_at, span_of}
+use Rattle.module_types.specs.Views.{TypeIndex, inner_of, interned_of, called_of, function_at, span_of, index_at, interned_number, field_at}
 use Rattle.module_types.specs.TypeList.{TypeList, with_type, with_types, with_range, called_by}
 use Rattle.module_types.specs.Held.{built_of}
 use Rattle.module_types.specs.Interner.{with_next_trampoline}
 use Rattle.module_types.proofs.Keys.{function-back, mapped-is, called-mapped, key-is}
+use Rattle.wasm_types.specs.ValueViews.{Name, value_of, field_of}
+use Rattle.wasm_types.specs.TypeViews.{composite_of}
+use Rattle.module_types.specs.Builder.{BuilderState, is_function}
+use Rattle.module_types.specs.Converter.{interned_name}
+use Rattle.wasm_spec.specs.TypeData as types
+use Rattle.type_data.specs.Names.{named}
+use Rattle.wasm_types.specs.declared.value.WasmValType.{WasmValType}
+use Rattle.wasm_types.specs.declared.field.WasmFieldType.{WasmFieldType}
 
 -- ---- lists
 
-pub map-set : {A B : Type 0} (f : A → B) (xs : List A) (i : ℕ) (v : A) → map f (set xs i v) ≡ set (map f xs) i (f v)
-map-set f [] i v = refl
-map-set f (x ∷ xs) zero v = refl
-map-set f (x ∷ xs) (suc i) v = λ j. f x ∷ map-set f xs i v j
-
-pub map-both : {A B : Type 0} (f : A → B) (xs ys : List A) → map f (xs ++ ys) ≡ map f xs ++ map f ys
-map-both f [] ys = refl
-map-both f (x ∷ xs) ys = λ j. f x ∷ map-both f xs ys j
-
-pub map-replicate : {A B : Type 0} (f : A → B) (n : ℕ) (v : A) → map f (replicate n v) ≡ replicate n (f v)
+map-replicate : {A B : Type 0} (f : A → B) (n : ℕ) (v : A) → map f (replicate n v) ≡ replicate n (f v)
 map-replicate f zero v = refl
 map-replicate f (suc n) v = λ j. f v ∷ map-replicate f n v j
 
@@ -52,37 +51,48 @@ module _ (l : TypeList) (get : WasmFuncType → Option TypeIndex) where
   abbrev held : Built
   held = built_of l get
 
+  -- types in a group after the others, each with its trampoline if it has one
+  more-is : (ts : List WasmSubType) (ks : List (Option TypeIndex)) (r : Range TypeIndex) → r.start ≡ index_of (length l.types)
+      → r.end ≡ index_of (length (l.types ++ ts))
+      → built_of (record { types = l.types ++ ts; groups = l.groups ++ r ∷ []; trampolines = l.trampolines ++ ks }) get ≡ record held {
+        types = held.types ++ map interned_of ts;
+        groups = held.groups ++ next_span held (length (map interned_of ts)) ∷ [];
+        trampolines = held.trampolines ++ map (option_map number_of) ks;
+      }
+  more-is ts ks r start end =
+      let long = sym (length-map l.types interned_of) in
+      let many = sym (length-map ts interned_of) in
+      λ j. record held {
+        types = map-append interned_of l.types ts j;
+        groups = (map-append span_of l.groups (r ∷ [])
+            ∙ (λ i. map span_of l.groups ++ record { start = (ap number_of start ∙ long) i; end = (ap number_of end ∙ length-append l.types ts ∙ (λ m. long m + many m)) i } ∷ [])) j;
+        trampolines = map-append (option_map number_of) l.trampolines ks j;
+      }
+
   pub alone-is : (t : WasmSubType) (k : Option TypeIndex) (r : Range TypeIndex) → r.start ≡ index_of (length l.types)
       → r.end ≡ index_of (length (l.types ++ t ∷ []))
       → built_of (with_range (with_type l t k) r) get ≡ alone held (interned_of t) (option_map number_of k)
-  alone-is t k r start end =
-      let long = sym (length-map l.types interned_of) in
-      λ j. record {
-        types = map-both interned_of l.types (t ∷ []) j;
-        groups = (map-both span_of l.groups (r ∷ [])
-            ∙ (λ i. map span_of l.groups ++ record { start = (ap number_of start ∙ long) i; end = (ap number_of end ∙ length-append l.types (t ∷ []) ∙ ap (λ n. n + 1) long) i } ∷ [])) j;
-        trampolines = map-both (option_map number_of) l.trampolines (k ∷ []) j;
-        known_trampolines = held.known_trampolines;
-      }
+  alone-is t k r start end = more-is (t ∷ []) (k ∷ []) r start end
 
   pub opened-is : (ts : List WasmSubType) (r : Range TypeIndex) → r.start ≡ index_of (length l.types)
       → r.end ≡ index_of (length (l.types ++ ts))
       → built_of (with_range (with_types l ts) r) get ≡ opened held (map interned_of ts)
   opened-is ts r start end =
-      let long = sym (length-map l.types interned_of) in
-      let many = sym (length-map ts interned_of) in
-      λ j. record {
-        types = map-both interned_of l.types ts j;
-        groups = (map-both span_of l.groups (r ∷ [])
-            ∙ (λ i. map span_of l.groups ++ record { start = (ap number_of start ∙ long) i; end = (ap number_of end ∙ length-append l.types ts ∙ (λ m. long m + many m)) i } ∷ [])) j;
-        trampolines = (map-both (option_map number_of) l.trampolines (replicate (length ts) None)
-            ∙ ap (λ ks. map (option_map number_of) l.trampolines ++ ks) (map-replicate (option_map number_of) (length ts) None ∙ ap (λ n. replicate n None) many)) j;
-        known_trampolines = held.known_trampolines;
-      }
+      more-is ts (replicate (length ts) None) r start end
+      ∙ ap (λ ks. record (opened held (map interned_of ts)) { trampolines = held.trampolines ++ ks })
+      (map-replicate (option_map number_of) (length ts) None ∙ ap (λ n. replicate n None) (sym (length-map ts interned_of)))
 
 number-or : (b : Bool) (k : TypeIndex) (o : Option TypeIndex) → option_map number_of (cond b (Some k) o) ≡ cond b (Some (number_of k)) (option_map number_of o)
 number-or true k o = refl
 number-or false k o = refl
+
+-- what is known once a key is noted that a type stands for
+noted-by : (get : WasmFuncType → Option TypeIndex) (key : WasmFuncType) (m : Called) → ((g : Called) → func.ghosts.eq key (function_at g) ≡ same_mapped m g)
+    → (later : WasmFuncType → Option TypeIndex) (k : TypeIndex) → ((q : WasmFuncType) → later q ≡ cond (func.ghosts.eq key q) (Some k) (get q)) → (g : Called)
+    → option_map number_of (later (function_at g)) ≡ now_known (λ h. option_map number_of (get (function_at h))) m (number_of k) g
+noted-by get key m tests later k puts g =
+    ap (option_map number_of) (puts (function_at g)) ∙ number-or (func.ghosts.eq key (function_at g)) k (get (function_at g))
+    ∙ ap (λ b. cond b (Some (number_of k)) (option_map number_of (get (function_at g)))) (tests g)
 
 -- ---- a function and its trampoline
 
@@ -114,19 +124,15 @@ module _ (l : TypeList) (get : WasmFuncType → Option TypeIndex) (i : ℕ) (f :
 
   module _ (none : None ≡ get (trampoline_of f)) (later : WasmFuncType → Option TypeIndex) (k : TypeIndex)
       (puts : (q : WasmFuncType) → later q ≡ cond (func.ghosts.eq (trampoline_of f) q) (Some k) (get q)) where
-    noted : (g : Called) → option_map number_of (later (function_at g)) ≡ now_known old.known_trampolines (mapped (called_of f)) (number_of k) g
-    noted g =
-        ap (option_map number_of) (puts (function_at g))
-        ∙ number-or (func.ghosts.eq (trampoline_of f) (function_at g)) k (get (function_at g))
-        ∙ ap (λ b. cond b (Some (number_of k)) (old.known_trampolines g)) (key-is f (function_at g))
-        ∙ ap (λ h. cond (same_mapped (mapped (called_of f)) h) (Some (number_of k)) (old.known_trampolines g)) (function-back g)
+    mapped-test : (g : Called) → func.ghosts.eq (trampoline_of f) (function_at g) ≡ same_mapped (mapped (called_of f)) g
+    mapped-test g = key-is f (function_at g) ∙ ap (same_mapped (mapped (called_of f))) (function-back g)
 
     pub known-now : built_of (called_by l i k) later ≡ with_trampoline (knows old (mapped (called_of f)) (number_of k)) i (number_of k)
     known-now = λ j. record {
       types = old.types;
       groups = old.groups;
       trampolines = map-set (option_map number_of) l.trampolines i (Some k) j;
-      known_trampolines = λ g. noted g j;
+      known_trampolines = λ g. noted-by get (trampoline_of f) (mapped (called_of f)) mapped-test later k puts g j;
     }
 
   -- it is its own mapped type
@@ -169,21 +175,12 @@ module _ (l : TypeList) (get : WasmFuncType → Option TypeIndex) where
         ∙ key-is f (function_at g)
         ∙ (λ j. same_mapped ((sym (called-mapped f) ∙ ap called_of own) j) (function-back g j))
 
-    noted-at : (g : Called) → option_map number_of (later (function_at g)) ≡ now_known (built_of l get).known_trampolines (called_of f) (number_of k) g
-    noted-at g =
-        ap (option_map number_of) (puts (function_at g))
-        ∙ number-or (func.ghosts.eq f (function_at g)) k (get (function_at g))
-        ∙ ap (λ b. cond b (Some (number_of k)) (option_map number_of (get (function_at g)))) (own-test g)
-
     pub noted-is : built_of l later ≡ knows (built_of l get) (called_of f) (number_of k)
-    noted-is = λ j. record (built_of l get) { known_trampolines = λ g. noted-at g j }
+    noted-is = λ j. record (built_of l get) { known_trampolines = λ g. noted-by get f (called_of f) own-test later k puts g j }
 
 not-function : (b : Built) (i : ℕ) (c : WasmCompositeInnerType) → ((f : WasmFuncType) → c ≡ inner.Func f → ⊥) → assign_trampoline b i (inner_of c) ≡ b
 not-function b i (inner.Func f) other = absurd (other f refl)
-not-function b i (inner.Array f) other = refl
-not-function b i (inner.Struct f) other = refl
-not-function b i (inner.Cont f) other = refl
-not-function b i (inner.Exn f) other = refl
+not-function b i c other = refl
 
 -- only a function has a trampoline
 pub assign_trampoline-other : (l : TypeList) (get : WasmFuncType → Option TypeIndex) (i : ℕ) (x : WasmSubType)
@@ -191,3 +188,44 @@ pub assign_trampoline-other : (l : TypeList) (get : WasmFuncType → Option Type
     → built_of l get ≡ assign_trampoline (built_of l get) i (composite_at (map interned_of l.types) i)
 assign_trampoline-other l get i x read other =
     sym (ap (assign_trampoline (built_of l get) i) (composite-read l.types i x read x.composite_type.inner refl) ∙ not-function (built_of l get) i x.composite_type.inner other)
+
+-- ---- what an interned type is named by
+
+kind-kept : (c : WasmCompositeInnerType) → kind_of_type (composite_of c) ≡ kind_of_type (inner_of c)
+kind-kept (inner.Func t) = refl
+kind-kept c = refl
+
+abbrev named_as : WasmSubType → ℕ → Name
+named_as t n = record { kind = kind_of_type (composite_of t.composite_type.inner); index = index_at n }
+
+pub name-is : (b : BuilderState) (i : TypeIndex) (t : WasmSubType) → slice_get b.list.types (number_of i) ≡ Some t → (n : ℕ) → number_of i ≡ n
+    → named_as t (number_of i) ≡ interned_name b n
+name-is b i t read n is =
+    (λ j. record {
+      kind = (kind-kept t.composite_type.inner ∙ ap kind_of_type (sym (composite-read b.list.types (number_of i) t read t.composite_type.inner refl))) j;
+      index = index_at (number_of i);
+    }) ∙ ap (interned_name b) is
+
+-- ---- the exception type of a function type
+
+none-function : (c : WasmCompositeInnerType) → ((f : WasmFuncType) → c ≡ inner.Func f → ⊥) → IsTrue (is_function (inner_of c)) → ⊥
+none-function (inner.Func f) other is = other f refl
+none-function c other is = absurd cc
+
+pub no-function : (ts : List WasmSubType) (i : ℕ) (x : WasmSubType) → slice_get ts i ≡ Some x
+    → ((f : WasmFuncType) → x.composite_type.inner ≡ inner.Func f → ⊥) → IsTrue (is_function (composite_at (map interned_of ts) i)) → ⊥
+no-function ts i x read other is =
+    let e = composite-read ts i x read x.composite_type.inner refl in
+    none-function x.composite_type.inner other (coe 0 1 (j. IsTrue (is_function (e j))) is)
+
+fields-made : (vs : List WasmValType)
+    → map (map_field (named interned_number)) (map field_of (map field_at vs)) ≡ map field_for (map (map_value (named interned_number)) (map value_of vs))
+fields-made [] = refl
+fields-made (v ∷ vs) = λ i. field_for (map_value (named interned_number) (value_of v)) ∷ fields-made vs i
+
+pub exception-made : (b : Built) (i : ℕ) (f : WasmFuncType) → composite_at b.types i ≡ types.Func (called_of f)
+    → (fields : List WasmFieldType) → fields ≡ map field_at f.params
+    → alone b (plain (types.Exn (record { function = i; fields = map (map_field (named interned_number)) (map field_of fields) }))) None ≡ with_exception b i
+exception-made b i f kind fields is =
+    ap (λ fs. alone b (plain (types.Exn (record { function = i; fields = fs }))) None) (ap (λ fs. map (map_field (named interned_number)) (map field_of fs)) is ∙ fields-made f.params)
+    ∙ sym (ap (λ c. alone b (plain (exception_for i c)) None) kind)

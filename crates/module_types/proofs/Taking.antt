@@ -1,9 +1,10 @@
 -- What the taking of a list's groups makes: the groups that are taken get the next indices, and each type has that of the first equal one.
-use Rattle.std.proofs.Common.{◌≡◌, ◌∙◌, ◌↔◌, ◌⊎◌, inl, inr, ℕ, zero, suc, ◌+◌, ◌-◌, ◌<◌, ◌≤◌, Bool, true, false, Option, Some, None, List, [], ◌∷◌, ◌++◌, length, get_or, take, drop, refl, sym, ap, subst, arith, length-append}
+use Rattle.std.proofs.Common.{◌≡◌, ◌∙◌, ◌↔◌, ◌⊎◌, inl, inr, ℕ, zero, suc, ◌+◌, ◌-◌, ◌<◌, ◌≤◌, Bool, true, false, Option, Some, None, List, [], ◌∷◌, ◌++◌, length, get_or, take, drop, map, refl, sym, ap, subst, arith, length-append}
 use Rattle.std.specs.Prelude.{nat_lt, if◌then◌else◌}
 use Rattle.std.specs.List.{All, range_with_len}
-use Rattle.std.proofs.lemmas.Bool.{ltb-true, ltb-false}
-use Rattle.std.proofs.lemmas.List.{append_assoc, append-nil, get_or_append_left, get_or-append-add, get_or-take, get_or-drop, length-take-le, length-drop, length-map}
+use Rattle.std.proofs.lemmas.Bool.{ltb-true, ltb-false, cases_lt, cases_eq}
+use Rattle.std.proofs.lemmas.List.{append_assoc, append-nil, get_or-append-add, get_or-take, get_or-drop, length-take-le, length-drop, length-map}
+use Rattle.std.proofs.lemmas.List.Prefix.{front_reads}
 use Rattle.std.proofs.lemmas.List.FromFn.{get_or-range_with_len, length-range_with_len}
 use lib.Dec.{ltb}
 use Rattle.wasm_spec.specs.TypeData.{Group, map_sub_type, group_edges}
@@ -14,60 +15,45 @@ use Rattle.type_spec.proofs.Decided.{down-decided}
 use Rattle.type_spec.proofs.Equivalence.{home-start, type-itself, type-turned, type-chained, type-groups, type-beside, groups-long}
 use Rattle.type_spec.proofs.Homes.{size, size-cons, in_front, behind, home-within, home-again}
 use Rattle.type_spec.proofs.ByNames.{name_by, by_names, names-same, zip-known-itself}
+use Rattle.module_types.specs.Runs.{with_groups}
 use Rattle.module_types.proofs.GroupMembers.{group-long}
 
 module _ (all : List (Group ℕ ℕ)) where
   -- ---- the search for an equal group
 
-  pub record Found (i from end j : ℕ) : Type 0 where
-    pub low : from ≤ j
-    pub high : j < end
-    pub same : SameType all all j i
+  -- what the search tells: the first such type, or that there is none
+  abbrev pub Told : ℕ → ℕ → ℕ → Option ℕ → Type 0
+  Told i from n (Some j) = (j < from + n) × SameType all all j i
+  Told i from n None = (j : ℕ) → from ≤ j → j < from + n → SameType all all j i → ⊥
 
-  pub first-found : (i from n j : ℕ) → first_equal all i from n ≡ Some j → Found i from (from + n) j
-  first-found i from zero j e = absurd (let no : None ≡ Some j = e in cc)
-  first-found i from (suc n) j e = by (first-found i (suc from) n j) (same_type all all from i) refl e where
-    by : (first_equal all i (suc from) n ≡ Some j → Found i (suc from) (suc from + n) j)
-        → (b : Bool) → same_type all all from i ≡ b → (if b then Some from else first_equal all i (suc from) n) ≡ Some j
-        → Found i from (from + suc n) j
-    by rest true is e =
-        let at : from ≡ j = let one : Some from ≡ Some j = e in cc in
-        record {
-          low = omega (arith, at);
-          high = omega (arith, at);
-          same = subst (λ k. SameType all all k i) at ((down-decided (suc from) all all from i).0 is);
-        }
-    by rest false is e = let f = rest e in record { low = omega (arith, f.low); high = omega (arith, f.high); same = f.same }
-
-  pub none-found : (i from n : ℕ) → first_equal all i from n ≡ None → (j : ℕ) → from ≤ j → j < from + n → SameType all all j i → ⊥
-  none-found i from zero e j low high same = omega (arith, low, high)
-  none-found i from (suc n) e j low high same = by (none-found i (suc from) n) (same_type all all from i) refl e where
-    by : (first_equal all i (suc from) n ≡ None → (j : ℕ) → suc from ≤ j → j < suc from + n → SameType all all j i → ⊥)
-        → (b : Bool) → same_type all all from i ≡ b → (if b then Some from else first_equal all i (suc from) n) ≡ None → ⊥
-    by rest true is e = let no : Some from ≡ None = e in cc
-    by rest false is e = at (ltb from j) refl where
-      at : (c : Bool) → ltb from j ≡ c → ⊥
-      at true l = rest e j (ltb-true from j l) (omega (arith, high)) same
-      at false l =
-          let one : j ≡ from = omega (arith, low, ltb-false from j l) in
-          let yes : same_type all all from i ≡ true = (down-decided (suc from) all all from i).1 (subst (λ k. SameType all all k i) one same) in
-          let no : true ≡ false = sym yes ∙ is in cc
+  pub told : (i from n : ℕ) → Told i from n (first_equal all i from n)
+  told i from zero = λ j low high same. omega (arith, low, high)
+  told i from (suc n) = by (first_equal all i (suc from) n) (told i (suc from) n) (same_type all all from i) refl where
+    by : (o : Option ℕ) → Told i (suc from) n o → (b : Bool) → same_type all all from i ≡ b → Told i from (suc n) (if b then Some from else o)
+    by o rest true is = (omega arith, (down-decided (suc from) all all from i).0 is)
+    by (Some j) rest false is = (omega (arith, rest.0), rest.1)
+    by None rest false is = λ j low high same.
+        elim (cases_eq j from) [
+          | inl one ↦
+              let yes : same_type all all from i ≡ true = (down-decided (suc from) all all from i).1 (subst (λ k. SameType all all k i) one same) in
+              let no : true ≡ false = sym yes ∙ is in cc
+          | inr other ↦ rest j (omega (arith, low, other)) (omega (arith, high)) same
+        ]
 
   -- ---- what was declared stays
 
-  pub record Grown (old new : List ℕ) : Type 0 where
-    pub more : List ℕ
-    pub is : new ≡ old ++ more
+  abbrev Grown : List ℕ → List ℕ → Type 0
+  Grown old new = (more : List ℕ) × (new ≡ old ++ more)
 
   grown-both : (a b c : List ℕ) → Grown a b → Grown b c → Grown a c
-  grown-both a b c x y = record { more = x.more ++ y.more; is = y.is ∙ ap (λ l. l ++ y.more) x.is ∙ append_assoc a x.more y.more }
+  grown-both a b c x y = (x.0 ++ y.0, y.1 ∙ ap (λ l. l ++ y.0) x.1 ∙ append_assoc a x.0 y.0)
 
   grown-one : (b : Taken) (start : ℕ) (g : Group ℕ ℕ) (o : Option ℕ) → Grown b.declared (take_group all b start g o).declared
-  grown-one b start g (Some j) = record { more = take (length g) (drop j b.declared); is = refl }
-  grown-one b start g None = record { more = range_with_len (length b.built.types) (length g); is = refl }
+  grown-one b start g (Some j) = (take (length g) (drop j b.declared), refl)
+  grown-one b start g None = (range_with_len (length b.built.types) (length g), refl)
 
   grown-all : (gs : List (Group ℕ ℕ)) (b : Taken) (start : ℕ) → Grown b.declared (take_groups all b start gs).declared
-  grown-all [] b start = record { more = []; is = sym (append-nil b.declared) }
+  grown-all [] b start = ([], sym (append-nil b.declared))
   grown-all ([] ∷ gs) b start = grown-all gs b start
   grown-all ((t ∷ ts) ∷ gs) b start =
       let o = first_equal all start 0 start in
@@ -75,7 +61,7 @@ module _ (all : List (Group ℕ ℕ)) where
       (grown-one b start (t ∷ ts) o) (grown-all gs (take_group all b start (t ∷ ts) o) (start + length (t ∷ ts)))
 
   read-grown : (old new : List ℕ) → Grown old new → (i : ℕ) → i < length old → get_or new i 0 ≡ get_or old i 0
-  read-grown old new x i lt = ap (λ l. get_or l i 0) x.is ∙ get_or_append_left old x.more 0 i lt
+  read-grown old new x i lt = front_reads 0 new old x.0 x.1 i lt
 
   -- ---- copies of groups that were taken
 
@@ -121,8 +107,7 @@ module _ (all : List (Group ℕ ℕ)) where
     Stand b (h ∷ hs) = Next b h × Stand (with_group b (form h)) hs
 
     abbrev pub with_forms : Built → List Home → Built
-    with_forms b [] = b
-    with_forms b (h ∷ hs) = with_forms (with_group b (form h)) hs
+    with_forms b hs = with_groups b (map form hs)
 
     abbrev pub IsExactBelow : ℕ → Type 0
     IsExactBelow end = (i j : ℕ) → i < end → j < end → (number i ≡ number j) ↔ SameType all all i j
@@ -175,10 +160,11 @@ module _ (all : List (Group ℕ ℕ)) where
         pub is : i ≡ start + place
 
       pub either : (i : ℕ) → i < start + length g → (i < start) ⊎ Member i
-      either i lt = by (ltb i start) refl where
-        by : (b : Bool) → ltb i start ≡ b → (i < start) ⊎ Member i
-        by true e = inl (ltb-true i start e)
-        by false e = let low = ltb-false i start e in inr (record { place = i - start; lt = omega (arith, lt, low); is = omega (arith, low) })
+      either i lt =
+          elim (cases_lt i start) [
+            | inl old ↦ inl old
+            | inr low ↦ inr (record { place = i - start; lt = omega (arith, lt, low); is = omega (arith, low) })
+          ]
 
       homes-behind : (i : ℕ) → start + length g ≤ i → home all i ≡ home_from (start + length g) gs i
       homes-behind i le = h.homes i (omega (arith, le)) ∙ behind start g gs i le
@@ -195,31 +181,31 @@ module _ (all : List (Group ℕ ℕ)) where
         read-before i lt =
             let x = grown-one b start g o in
             let long : i < length b.declared = omega (arith, lt, h.counted) in
-            read-now i (omega (arith, long, ap length x.is, length-append b.declared x.more)) ∙ read-grown _ _ x i long
+            read-now i (omega (arith, long, ap length x.1, length-append b.declared x.0)) ∙ read-grown _ _ x i long
 
       -- an earlier group is equal
-      module _ (j : ℕ) (found : Found start 0 (0 + start) j)
+      module _ (j : ℕ) (found : Told start 0 start (Some j))
           (reads : (i : ℕ) → number i ≡ get_or (take_groups all (take_group all b start g (Some j)) (start + length g) gs).declared i 0) where
         low : j < start
-        low = omega (arith, found.high)
+        low = omega (arith, found.0)
 
         inside : j < size all
         inside = omega (arith, low, ends)
 
         starts : (home all j).start ≡ j
-        starts = omega (arith, found.same.0, place-first, home-start all j)
+        starts = omega (arith, found.1.0, place-first, home-start all j)
 
         long : length (home all j).members ≡ length g
-        long = groups-long _ (home all j) (home all start) (type-groups all all j start found.same) ∙ ap (λ (x : Home). length x.members) home-first
+        long = groups-long _ (home all j) (home all start) (type-groups all all j start found.1) ∙ ap (λ (x : Home). length x.members) home-first
 
         before : j + length g ≤ start
-        before = by (ltb start (j + length g)) refl where
-          by : (b : Bool) → ltb start (j + length g) ≡ b → j + length g ≤ start
-          by true e =
-              let lt = ltb-true start (j + length g) e in
-              let again = home-again all j start inside (record { from = omega (arith, starts, low); to = omega (arith, starts, long, lt) }) in
-              absurd (omega (arith, low, starts, ap (λ (x : Home). x.start) (sym home-first ∙ again)))
-          by false e = ltb-false start (j + length g) e
+        before =
+            elim (cases_lt start (j + length g)) [
+              | inl lt ↦
+                  let again = home-again all j start inside (record { from = omega (arith, starts, low); to = omega (arith, starts, long, lt) }) in
+                  absurd (omega (arith, low, starts, ap (λ (x : Home). x.start) (sym home-first ∙ again)))
+              | inr le ↦ le
+            ]
 
         again : (p : ℕ) → p < length g → home all (j + p) ≡ home all j
         again p lt = home-again all j (j + p) inside (record { from = omega (arith, starts); to = omega (arith, starts, long, lt) })
@@ -228,7 +214,7 @@ module _ (all : List (Group ℕ ℕ)) where
         same-at p lt =
             let at : j + p - (home all (j + p)).start ≡ p = ap (λ (x : Home). j + p - x.start) (again p lt) ∙ omega (arith, starts) in
             type-turned all all (j + p) (start + p)
-            (type-beside all all j start (j + p) (start + p) found.same (again p lt) (home-member p lt ∙ sym home-first) (at
+            (type-beside all all j start (j + p) (start + p) found.1 (again p lt) (home-member p lt ∙ sym home-first) (at
             ∙ sym (place-member p lt)))
 
         pub earlier-member : (p : ℕ) → p < length g → j + p < start
@@ -297,7 +283,7 @@ module _ (all : List (Group ℕ ℕ)) where
         }
 
       -- the group is new
-      module _ (none : first_equal all start 0 start ≡ None)
+      module _ (none : Told start 0 start None)
           (reads : (i : ℕ) → number i ≡ get_or (take_groups all (take_group all b start g None) (start + length g) gs).declared i 0) where
         abbrev first : ℕ
         first = length b.built.types
@@ -334,7 +320,7 @@ module _ (all : List (Group ℕ ℕ)) where
             let w = home-within all i (omega (arith, lt, ends)) in
             let again = home-again all i j (omega (arith, lt, ends)) (record { from = omega arith; to = omega (arith, w.from, w.to) }) in
             let at : j - (home all j).start ≡ 0 = ap (λ (x : Home). j - x.start) again ∙ omega arith in
-            none-found start 0 start none j (omega arith) (omega (arith, w.from, lt))
+            none j (omega arith) (omega (arith, w.from, lt))
             (type-beside all all i (start + p) j start same again (home-first ∙ sym (home-member p lt')) (at ∙ sym place-first))
 
         exact-new : IsExactBelow (start + length g)
@@ -423,12 +409,11 @@ module _ (all : List (Group ℕ ℕ)) where
       whole-by : ((b' : Taken) (done' : List Home) → ((i : ℕ) → number i ≡ get_or (take_groups all b' (start + length g) gs).declared i 0)
           → Taking b' (start + length g) gs done'
           → Whole (take_groups all b' (start + length g) gs) b'.built done' (new_groups all (start + length g) gs))
-          → (o : Option ℕ) → first_equal all start 0 start ≡ o
+          → (o : Option ℕ) → Told start 0 start o
           → ((i : ℕ) → number i ≡ get_or (take_groups all (take_group all b start g o) (start + length g) gs).declared i 0)
           → Whole (take_groups all (take_group all b start g o) (start + length g) gs) b.built done (unless_met start g o (new_groups all
           (start + length g) gs))
-      whole-by rest (Some j) e reads =
-          rest (take_group all b start g (Some j)) done reads (taking-met j (first-found start 0 start j e) reads)
+      whole-by rest (Some j) e reads = rest (take_group all b start g (Some j)) done reads (taking-met j e reads)
       whole-by rest None e reads =
           whole-new e reads _ _ (rest (take_group all b start g None) (here ∷ done) reads (taking-new e reads))
 
@@ -462,7 +447,7 @@ module _ (all : List (Group ℕ ℕ)) where
     whole-from ([] ∷ gs) b start done reads h = whole-from gs b start done reads (taking-hollow b start gs done h)
     whole-from ((t ∷ ts) ∷ gs) b start done reads h =
         whole-by b start (t ∷ ts) gs done h (omega arith) (λ b' done' reads' h'. whole-from gs b' (start + length (t ∷ ts)) done' reads' h')
-        (first_equal all start 0 start) refl reads
+        (first_equal all start 0 start) (told start 0 start) reads
 
   -- the interned index of the type at a place
   abbrev pub number_in : ℕ → ℕ

@@ -5,7 +5,7 @@ use Rattle.std.proofs.lemmas.List.{length-map, map-append, drop-append-le, take-
 use Rattle.std.proofs.Math.Seq.{drop-append_seam, take-length}
 use Rattle.std.proofs.lemmas.List.Concat.{flat_map-append}
 use Rattle.std.proofs.lemmas.List.Elements.{All-append, All-weaker}
-use Rattle.wasm_spec.specs.TypeData.{Group, map_sub_type, group_edges, sub_type_edges, Composite, Func, Array, Struct, Cont, Exn, map_composite}
+use Rattle.wasm_spec.specs.TypeData.{Group, map_sub_type, group_edges, sub_type_edges, Composite, Func, map_composite}
 use Rattle.type_data.specs.Names.{index_of}
 use Rattle.type_spec.specs.Interned.{Interned, Span, kind_of_type}
 use Rattle.type_spec.specs.Taken.{NameEarlier}
@@ -13,8 +13,7 @@ use Rattle.type_spec.proofs.Homes.{size, size-cons}
 use Rattle.type_spec.proofs.ByNames.{name_by, by_names, names-same, zip-known-itself}
 use Rattle.module_types.specs.Orderly.{LieBetween}
 use Rattle.module_types.specs.ListGroups.{unkinded, types_in, kind_in}
-use Rattle.module_types.proofs.GroupMembers.{composite-before}
-use Rattle.module_types.proofs.Ordering.{one-more, lie-to}
+use Rattle.module_types.proofs.GroupMembers.{composite-before, one-more, lie-to}
 
 abbrev pub AllBelow : ℕ → Group ℕ ℕ → Type 0
 AllBelow end g = All (λ r. r < end) (group_edges (λ r. r) g)
@@ -79,10 +78,7 @@ earlier-more (h ∷ gs) g start earlier here =
 -- replacing names keeps the kind of a type
 pub kind-mapped : {H I R S : Type 0} (h : H → I) (f : R → S) (c : Composite H R) → kind_of_type (map_composite h f c) ≡ kind_of_type c
 kind-mapped h f (Func t) = refl
-kind-mapped h f (Array t) = refl
-kind-mapped h f (Struct ts) = refl
-kind-mapped h f (Cont t) = refl
-kind-mapped h f (Exn t) = refl
+kind-mapped h f c = refl
 
 -- kinds stay where types are appended
 pub kind-before : (ts us : List Interned) (i : ℕ) → i < length ts → kind_in (ts ++ us) i ≡ kind_in ts i

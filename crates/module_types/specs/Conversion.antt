@@ -37,6 +37,11 @@ module _ (t : TypesData) where
   abbrev pub members_of : ℕ → NamedGroup
   members_of k = get_or t.groups k []
 
+-- a group stands under its id with all its members
+pub record StandsInterned (t : TypesData) (spans : List Span) (k j : ℕ) : Type 0 where
+  pub within : j < length spans
+  pub whole : (get_or spans j no_span).end ≡ (get_or spans j no_span).start + length (members_of t k)
+
 -- a list of types by ids; the next index, the indices of each interned group, and the group that was interned under each id of a group
 module _ (t : TypesData) (next : ℕ) (spans : List Span) (ids : ℕ → Option ℕ) where
   -- where the first member of a group stands: where it was interned, or else at the next index
@@ -59,15 +64,10 @@ module _ (t : TypesData) (next : ℕ) (spans : List Span) (ids : ℕ → Option 
   abbrev pub members_by_index : ℕ → List Interned
   members_by_index k = map_group (λ i. name_by_id (id_number i)) (λ i. index_by_id (id_number i)) (members_of t k)
 
-  -- a group stands under its id with all its members
-  pub record StandsInterned (k j : ℕ) : Type 0 where
-    pub within : j < length spans
-    pub whole : (get_or spans j no_span).end ≡ (get_or spans j no_span).start + length (members_of t k)
-
   -- the type of an id is that of a group that stands, or there is room for its group
   pub record HasIndex (n : ℕ) : Type 0 where
     pub within : n < length (types_by_id t.groups)
-    pub stands : (j : ℕ) → ids (group_of_id t n) ≡ Some j → StandsInterned (group_of_id t n) j
+    pub stands : (j : ℕ) → ids (group_of_id t n) ≡ Some j → StandsInterned t spans (group_of_id t n) j
     pub room : ids (group_of_id t n) ≡ None → next + length (members_of t (group_of_id t n)) < 4294967295
 
   abbrev pub KnowsId : UnpackedIndex → Type 0
@@ -87,7 +87,7 @@ module _ (t : TypesData) (b : Builder) where
 
   -- each id of a group that the builder holds names in the list of types the group that was interned under it
   abbrev pub HoldsGroups : Type 0
-  HoldsGroups = (k j : ℕ) → b.ids k ≡ Some j → StandsInterned t (length b.built.types) b.built.groups b.ids k j
+  HoldsGroups = (k j : ℕ) → b.ids k ≡ Some j → StandsInterned t b.built.groups k j
 
   -- the groups that a group names outside itself are interned
   abbrev pub NamesInterned : ℕ → Type 0

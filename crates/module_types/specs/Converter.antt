@@ -45,13 +45,13 @@ HaveIndices b (Some p) =
     HoldsGroups p.0 (builder_view b)
     × ((builder_view b).ids p.1 ≡ None → length b.list.types + length (members_of p.0 p.1) < 4294967295)
 
-stands-prop : (t : TypesData) (next : ℕ) (spans : List Span) (ids : ℕ → Option ℕ) (k j : ℕ) (x y : StandsInterned t next spans ids k j) → x ≡ y
-stands-prop t next spans ids k j x y = λ i. record { within = le_prop x.within y.within i; whole = ℕ_set _ _ x.whole y.whole i }
+stands-prop : (t : TypesData) (spans : List Span) (k j : ℕ) (x y : StandsInterned t spans k j) → x ≡ y
+stands-prop t spans k j x y = λ i. record { within = le_prop x.within y.within i; whole = ℕ_set _ _ x.whole y.whole i }
 
 pub HaveIndices-prop : (b : BuilderState) (ids : Option TypesAndGroup) (x y : HaveIndices b ids) → x ≡ y
 HaveIndices-prop b None x y = refl
 HaveIndices-prop b (Some p) x y = λ i. (
-  λ k j e. stands-prop p.0 _ _ _ k j (x.0 k j e) (y.0 k j e) i,
+  λ k j e. stands-prop p.0 _ k j (x.0 k j e) (y.0 k j e) i,
   λ none. le_prop (x.1 none) (y.1 none) i,
 )
 

@@ -99,8 +99,8 @@ impl Interner {
         ty: WasmSubType,
         trampoline: Option<ModuleInternedTypeIndex>,
     ) -> Result<(), OutOfMemory>
-        requires types { length self.old.list.types < u32.MAX - 1 }
-        requires groups { length self.old.list.groups < u32.MAX - 1 }
+        requires room { length self.old.list.types < u32.MAX - 1 }
+        requires orderly { IsOrderly (built self.old) }
         requires found { FindsMet self.old }
         ensures built { OnOk result (built self.new ≡ alone (built self.old) (interned_of ty) (option_map number_of trampoline)) }
         ensures found { OnOk result (FindsMet self.new) }
@@ -136,8 +136,8 @@ impl Interner {
         mapped: WasmFuncType,
     ) -> Result<(), OutOfMemory>
         requires in_range { number_of ty < length self.old.list.types }
-        requires types { length self.old.list.types < u32.MAX - 1 }
-        requires groups { length self.old.list.groups < u32.MAX - 1 }
+        requires room { length self.old.list.types < u32.MAX - 1 }
+        requires orderly { IsOrderly (built self.old) }
         requires found { FindsMet self.old }
         requires mapped { trampoline_of mapped ≡ mapped }
         requires digest { digest ≡ digest_of self.old.met.hasher mapped }

@@ -1,4 +1,5 @@
 pub mod Hexadecimal
 pub mod Plain
+pub mod PlainTable
 pub mod Trampolines
 pub mod Written

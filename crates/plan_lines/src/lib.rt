@@ -11,6 +11,7 @@ mod module_lines;
 mod name_lines;
 mod numbers;
 mod quoted;
+mod room;
 mod segment_lines;
 mod table_lines;
 mod text;

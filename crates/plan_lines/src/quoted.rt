@@ -6,11 +6,22 @@ ghost use Rattle.plan_lines.specs.Quoted.{is_plain, quoted_byte, quoted_bytes, q
 use crate::text::Text;
 use entity_map::OutOfMemory;
 
+// For each byte a digit, which is 1 where the byte stands for itself.
+static PLAIN: [u8; 256] = *b"\
+    00000000000000000000000000000000\
+    11011111111111111111111111111111\
+    11111111111111111111111111110111\
+    11111111111111111111111111111110\
+    00000000000000000000000000000000\
+    00000000000000000000000000000000\
+    00000000000000000000000000000000\
+    00000000000000000000000000000000";
+
 // Whether a byte stands for itself.
 fn is_plain(byte: u8) -> bool
     ensures { result ≡ is_plain byte }
 {
-    (0x20..=0x7E).contains(&byte) && byte != b'"' && byte != b'\\'
+    PLAIN[byte as usize] == b'1'
 }
 
 fn are_plain(bytes: &[u8]) -> bool

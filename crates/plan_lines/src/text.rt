@@ -4,6 +4,7 @@ ghost use Rattle.std.specs.Prelude.{◌≡◌, ◌<◌, ◌≤◌, ◌++◌, ◌
 ghost use Rattle.std.specs.Fmt.{digit_glyph, AppendsText};
 ghost use Rattle.plan_lines.specs.Expressions.{hexadecimal};
 
+use crate::room::{make_room, put, put_byte};
 use entity_map::OutOfMemory;
 use itoa::{Buffer, Integer};
 use std::alloc::Global;
@@ -13,15 +14,19 @@ use std::marker::Model;
 /// Bytes that are written from the first to the last. After a failure the text may end anywhere.
 #[derive(Drop)]
 pub struct Text {
-    bytes: Vec<u8>,
+    // The bytes, and room behind them: so most writes are a test of its length, and a copy.
+    room: Vec<u8>,
+    used: usize,
 }
 
 impl Model for Text {
-    ghost use Rattle.std.specs.Prelude.{ℕ, List};
+    ghost use Rattle.std.specs.Prelude.{◌≤◌, ℕ, List, take, vec_len};
 
     ghost Value = { List ℕ };
 
-    ghost view = { λ t. t.bytes.items };
+    ghost view = { λ t. take t.used t.room.items };
+
+    ghost invariant = { λ t. t.used ≤ vec_len t.room };
 }
 
 impl Text {
@@ -30,7 +35,8 @@ impl Text {
         ensures { result ≡ [] }
     {
         Text {
-            bytes: Vec::new(alloc),
+            room: Vec::new(alloc),
+            used: 0,
         }
     }
 
@@ -38,7 +44,9 @@ impl Text {
     pub fn into_bytes(self) -> Vec<u8>
         ensures { result.items ≡ self }
     {
-        self.bytes
+        let Text { mut room, used } = self;
+        room.truncate(used);
+        room
     }
 
     /// Appends words.
@@ -54,7 +62,9 @@ impl Text {
     pub(crate) fn push_bytes(&mut self, bytes: &[u8]) -> Result<(), OutOfMemory>
         ensures { OnOk result (self.new ≡ self.old ++ bytes.now) }
     {
-        self.bytes.extend_from_slice(bytes)?;
+        make_room(&mut self.room, self.used, bytes.len())?;
+        put(&mut self.room, self.used, bytes);
+        self.used += bytes.len();
         Ok(())
     }
 
@@ -63,7 +73,9 @@ impl Text {
     pub fn push_byte(&mut self, byte: u8) -> Result<(), OutOfMemory>
         ensures { OnOk result (self.new ≡ self.old ++ byte ∷ []) }
     {
-        self.bytes.push(byte)?;
+        make_room(&mut self.room, self.used, 1)?;
+        put_byte(&mut self.room, self.used, byte);
+        self.used += 1;
         Ok(())
     }
 

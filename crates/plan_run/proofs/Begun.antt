@@ -3,7 +3,6 @@ use Rattle.std.proofs.Common.{◌≡◌, ◌≢◌, ℕ, zero, suc, ◌+◌, ◌
 use Rattle.std.specs.Prelude.{slice_get, slice_index, unwrap_or}
 use Rattle.std.specs.Option.{option_map}
 use Rattle.std.proofs.Math.Logic.{⊎_elim}
-use Rattle.std.proofs.lemmas.Bool.{cases_lt}
 use Rattle.std.proofs.lemmas.List.{length-map, length-replicate, get_or_append_left}
 use Rattle.std.proofs.lemmas.Option.{none-some, same_Some, slice_get-map, slice_get-get_or, slice_get_past, get_or_from_slice_get}
 use Rattle.wasm_spec.specs.Module.{Expression}
@@ -18,7 +17,7 @@ use Rattle.plan_run.specs.declared.laid.Way.{Way}
 use Rattle.plan_run.specs.declared.laid.Way.TheVariants as way
 use Rattle.plan_run.specs.Lays.{Hold}
 use Rattle.plan_run.specs.Memories.{bytes_in, plan_phase, image_in, first_bytes, image_pages, seen, begun, ImageIsWithin, ImagesAreWithin}
-use Rattle.plan_run.proofs.Lists.{get-append-low, get-append-high, get-replicate}
+use Rattle.plan_run.proofs.Lists.{get-append-low, get-append-high, get-replicate, each-half}
 use Rattle.plan_run.proofs.Writing.{written-item, length-written}
 
 -- ---- images
@@ -202,21 +201,12 @@ module _ (w : Way) (plan : MemoryPlan) (page : ℕ) where
           ∙ ap Some (sym (base-is plan w place_of (bytes_in imported) (length imported + j) place))
 
       any-size : (i : ℕ) (memory : Contents) → slice_get memories i ≡ Some memory → length memory.bytes ≡ size_at i
-      any-size i memory at = ⊎_elim
-          (λ (low : i < length imported). low-size i memory low at)
-          (λ (high : length imported ≤ i).
-          let there : length imported + (i - length imported) ≡ i = omega arith in
-          high-size (i - length imported) memory (ap (slice_get memories) there ∙ at) ∙ ap size_at there)
-          (cases_lt i (length imported))
+      any-size = each-half memories (length imported) (λ i m. length m.bytes ≡ size_at i) low-size high-size
 
       any-item : (i place : ℕ) (memory : Contents) → slice_get memories i ≡ Some memory → place < size_at i → slice_get memory.bytes place ≡ Some (base_at i place)
-      any-item i place memory at l = ⊎_elim
-          (λ (low : i < length imported). low-item i place memory low at l)
-          (λ (high : length imported ≤ i).
-          let there : length imported + (i - length imported) ≡ i = omega arith in
-          high-item (i - length imported) place memory (ap (slice_get memories) there ∙ at) (subst (λ k. place < size_at k) (sym there) l)
-          ∙ ap (λ k. Some (base_at k place)) there)
-          (cases_lt i (length imported))
+      any-item i place memory at =
+          each-half memories (length imported) (λ i m. (place : ℕ) → place < size_at i → slice_get m.bytes place ≡ Some (base_at i place))
+          (λ i m low at place. low-item i place m low at) (λ j m at place. high-item j place m at) i memory at place
 
       pub begun-hold : Hold (plan_phase w place_of (bytes_in imported) plan).sizes (plan_phase w place_of (bytes_in imported) plan).base (bytes_in memories)
       begun-hold = record {

@@ -61,26 +61,24 @@ planned-at (x ∷ ts) (y ∷ vs) (z ∷ images) zero t v image a b c =
     ∙ ap (λ o. Some (record { minimum = t.limits.min; initial = initial_of v; image = o })) three
 planned-at (x ∷ ts) (y ∷ vs) (z ∷ images) (suc i) t v image a b c = planned-at ts vs images i t v image a b c
 
--- what is planned of a table, by its type, initial value and image
-pub planned-is : (t : ModuleTranslation) (number : ℕ) (d : Table) (value : TableInitialValue) (image : Vec (Index FuncSpace)) (planned : PlannedTable)
-    → slice_get t.module.tables (t.module.num_imported_tables + number) ≡ Some d → slice_get t.table_initialization.initial_values number ≡ Some value
-    → slice_get t.module.table_initialization number ≡ Some image → slice_get (plan_of_tables t).tables number ≡ Some planned
-    → planned ≡ record { minimum = d.limits.min; initial = initial_of value; image = image_of image.items }
-planned-is t number d value image planned table_at value_at image_at at =
-    same_Some planned (record { minimum = d.limits.min; initial = initial_of value; image = image_of image.items })
-    (sym at ∙ planned-at (own_tables t) t.table_initialization.initial_values (images_of t.module.table_initialization) number d value (image_of image.items)
-    (get-drop t.module.num_imported_tables t.module.tables number ∙ table_at) value_at
-    (slice_get-map (λ (x : Vec (Index FuncSpace)). image_of x.items) t.module.table_initialization number ∙ ap (option_map (λ (x : Vec (Index FuncSpace)). image_of x.items)) image_at))
+module _ (t : ModuleTranslation) (number : ℕ) (d : Table) (value : TableInitialValue) (image : Vec (Index FuncSpace))
+    (table_at : slice_get t.module.tables (t.module.num_imported_tables + number) ≡ Some d) (value_at : slice_get t.table_initialization.initial_values number ≡ Some value)
+    (image_at : slice_get t.module.table_initialization number ≡ Some image) where
+  abbrev its : PlannedTable
+  its = record { minimum = d.limits.min; initial = initial_of value; image = image_of image.items }
 
--- an image is not longer than its table
-pub image-short : (t : ModuleTranslation) (number : ℕ) (d : Table) (value : TableInitialValue) (image : Vec (Index FuncSpace))
-    → slice_get t.module.tables (t.module.num_imported_tables + number) ≡ Some d → slice_get t.table_initialization.initial_values number ≡ Some value
-    → slice_get t.module.table_initialization number ≡ Some image → All (λ table. length table.image ≤ table.minimum) (plan_of_tables t).tables
-    → length image.items ≤ d.limits.min
-image-short t number d value image table_at value_at image_at short =
-    let at = planned-at (own_tables t) t.table_initialization.initial_values (images_of t.module.table_initialization) number d value (image_of image.items)
-    (get-drop t.module.num_imported_tables t.module.tables number ∙ table_at) value_at
-    (slice_get-map (λ (x : Vec (Index FuncSpace)). image_of x.items) t.module.table_initialization number ∙ ap (option_map (λ (x : Vec (Index FuncSpace)). image_of x.items)) image_at) in
-    let l : length (image_of image.items) ≤ d.limits.min = all-at (λ (x : PlannedTable). length x.image ≤ x.minimum) (plan_of_tables t).tables number
-    (record { minimum = d.limits.min; initial = initial_of value; image = image_of image.items }) short at in
-    omega (arith, l, length-map image.items cell_of)
+  is-planned : slice_get (plan_of_tables t).tables number ≡ Some its
+  is-planned =
+      planned-at (own_tables t) t.table_initialization.initial_values (images_of t.module.table_initialization) number d value (image_of image.items)
+      (get-drop t.module.num_imported_tables t.module.tables number ∙ table_at) value_at
+      (slice_get-map (λ (x : Vec (Index FuncSpace)). image_of x.items) t.module.table_initialization number ∙ ap (option_map (λ (x : Vec (Index FuncSpace)). image_of x.items)) image_at)
+
+  -- what is planned of a table, by its type, initial value and image
+  pub planned-is : (planned : PlannedTable) → slice_get (plan_of_tables t).tables number ≡ Some planned → planned ≡ its
+  planned-is planned at = same_Some planned its (sym at ∙ is-planned)
+
+  -- an image is not longer than its table
+  pub image-short : All (λ table. length table.image ≤ table.minimum) (plan_of_tables t).tables → length image.items ≤ d.limits.min
+  image-short short =
+      let l : length (image_of image.items) ≤ d.limits.min = all-at (λ (x : PlannedTable). length x.image ≤ x.minimum) (plan_of_tables t).tables number its short is-planned in
+      omega (arith, l, length-map image.items cell_of)

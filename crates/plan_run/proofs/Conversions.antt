@@ -7,7 +7,7 @@ use Rattle.std.proofs.lemmas.Option.{none-some}
 use Rattle.wasm_spec.specs.declared.operators.Operator.{Operator}
 use Rattle.wasm_spec.specs.declared.operators.Operator.TheVariants as op
 use Rattle.replay_spec.specs.Values as plain
-use Rattle.replay_spec.specs.Values.{Term, Action, action, converted}
+use Rattle.replay_spec.specs.Values.{Term, action, converted}
 use Rattle.plan_run.specs.declared.value.Value.{Value}
 use Rattle.plan_run.specs.declared.value.Value.TheVariants as value
 use Rattle.plan_run.specs.declared.value.Node.{Node}
@@ -55,42 +55,22 @@ operator_in (plain.AsAny term) = Some op.AnyConvertExtern
 operator_in _ = None
 
 operator-kept : (o : Operator) (vs : List plain.Value) → operator_in (kept_term o vs) ≡ Some o
-operator-kept op.ExternConvertAny [] = refl
 operator-kept op.ExternConvertAny (plain.Ref t ∷ []) = refl
-operator-kept op.ExternConvertAny (plain.Ref t ∷ v ∷ vs) = refl
-operator-kept op.ExternConvertAny (plain.I32 n ∷ vs) = refl
-operator-kept op.ExternConvertAny (plain.I64 n ∷ vs) = refl
-operator-kept op.ExternConvertAny (plain.F32 n ∷ vs) = refl
-operator-kept op.ExternConvertAny (plain.F64 n ∷ vs) = refl
-operator-kept op.ExternConvertAny (plain.V128 n ∷ vs) = refl
-operator-kept op.AnyConvertExtern [] = refl
+operator-kept op.ExternConvertAny _ = refl
 operator-kept op.AnyConvertExtern (plain.Ref t ∷ []) = refl
-operator-kept op.AnyConvertExtern (plain.Ref t ∷ v ∷ vs) = refl
-operator-kept op.AnyConvertExtern (plain.I32 n ∷ vs) = refl
-operator-kept op.AnyConvertExtern (plain.I64 n ∷ vs) = refl
-operator-kept op.AnyConvertExtern (plain.F32 n ∷ vs) = refl
-operator-kept op.AnyConvertExtern (plain.F64 n ∷ vs) = refl
-operator-kept op.AnyConvertExtern (plain.V128 n ∷ vs) = refl
+operator-kept op.AnyConvertExtern _ = refl
 operator-kept _ vs = refl
 
 -- a conversion wraps a term that the other did not make
 wraps-extern : (t : Term) (b : Operator) → operator_in t ≡ Some b → undoes op.ExternConvertAny b ≡ false → plain.to_extern t ≡ plain.AsExtern t
 wraps-extern plain.Null b is isnt = absurd (cc)
-wraps-extern (plain.Func f) b is isnt = refl
-wraps-extern (plain.Host n) b is isnt = refl
-wraps-extern (plain.I31 n) b is isnt = refl
-wraps-extern (plain.Allocated o vs) b is isnt = refl
-wraps-extern (plain.AsExtern t) b is isnt = refl
 wraps-extern (plain.AsAny t) b is isnt = let same : op.AnyConvertExtern ≡ b = cc in absurd (false≢true (sym isnt ∙ ap (undoes op.ExternConvertAny) (sym same)))
+wraps-extern _ b is isnt = refl
 
 wraps-any : (t : Term) (b : Operator) → operator_in t ≡ Some b → undoes op.AnyConvertExtern b ≡ false → plain.to_any t ≡ plain.AsAny t
 wraps-any plain.Null b is isnt = absurd (cc)
-wraps-any (plain.Func f) b is isnt = refl
-wraps-any (plain.Host n) b is isnt = refl
-wraps-any (plain.I31 n) b is isnt = refl
-wraps-any (plain.Allocated o vs) b is isnt = refl
-wraps-any (plain.AsAny t) b is isnt = refl
 wraps-any (plain.AsExtern t) b is isnt = let same : op.ExternConvertAny ≡ b = cc in absurd (false≢true (sym isnt ∙ ap (undoes op.AnyConvertExtern) (sym same)))
+wraps-any _ b is isnt = refl
 
 wraps : (a b : Operator) (t : Term) → kind_of a ≡ Conversion → operator_in t ≡ Some b → undoes a b ≡ false → conversion a t ≡ kept_term a (plain.Ref t ∷ [])
 wraps op.ExternConvertAny b t is made isnt = wraps-extern t b made isnt
@@ -117,24 +97,16 @@ term-in terms (value.Func function) is = (_, refl)
 term-in terms (value.Host n) is = (_, refl)
 term-in terms (value.I31 n) is = (_, refl)
 term-in terms (value.Term k) is = (_, refl)
-term-in terms (value.I32 n) is = absurd is
-term-in terms (value.I64 n) is = absurd is
-term-in terms (value.F32 n) is = absurd is
-term-in terms (value.F64 n) is = absurd is
-term-in terms (value.V128 n) is = absurd is
+term-in terms _ is = absurd is
 
 -- and what is none is not converted
 pub not-converted : (f : Term → Term) (terms : List Term) (v : Value) → (IsReference v → ⊥) → converted f (value_in terms v ∷ []) ≡ None
-not-converted f terms value.Null isnt = absurd (isnt tt)
-not-converted f terms (value.Func function) isnt = absurd (isnt tt)
-not-converted f terms (value.Host n) isnt = absurd (isnt tt)
-not-converted f terms (value.I31 n) isnt = absurd (isnt tt)
-not-converted f terms (value.Term k) isnt = absurd (isnt tt)
 not-converted f terms (value.I32 n) isnt = refl
 not-converted f terms (value.I64 n) isnt = refl
 not-converted f terms (value.F32 n) isnt = refl
 not-converted f terms (value.F64 n) isnt = refl
 not-converted f terms (value.V128 n) isnt = refl
+not-converted f terms _ isnt = absurd (isnt tt)
 
 module _ (nodes : List Node) (ordered : AreOrdered nodes) (a : Operator) (is : kind_of a ≡ Conversion) (k : ℕ) (n : Node) (at : slice_get nodes k ≡ Some n) where
   node-is : value_in (terms_of nodes) (value.Term k) ≡ plain.Ref (term_of (terms_of nodes) n)

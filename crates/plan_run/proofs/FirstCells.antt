@@ -1,9 +1,8 @@
 -- Tables as they begin hold what their phase begins with.
-use Rattle.std.proofs.Common.{◌≡◌, ℕ, zero, suc, ◌+◌, ◌-◌, ◌<◌, ◌≤◌, List, [], ◌∷◌, ◌++◌, length, map, get_or, replicate, Option, None, Some, refl, sym, ◌∙◌, ap, subst, arith}
+use Rattle.std.proofs.Common.{◌≡◌, ℕ, zero, suc, ◌+◌, ◌-◌, ◌<◌, ◌≤◌, List, [], ◌∷◌, ◌++◌, length, map, get_or, replicate, Option, None, Some, refl, sym, ◌∙◌, ap, arith}
 use Rattle.std.specs.Prelude.{slice_get, slice_index, unwrap_or, nat_lt, All}
 use Rattle.std.specs.Option.{option_map}
-use Rattle.std.proofs.Math.Logic.{⊎_elim}
-use Rattle.std.proofs.lemmas.Bool.{cases_lt, lt-ltb, le-ltb, cond-true, cond-false}
+use Rattle.std.proofs.lemmas.Bool.{lt-ltb, le-ltb, cond-true, cond-false}
 use Rattle.std.proofs.lemmas.List.{length-map, length-append, length-replicate, get_or_append_left}
 use Rattle.std.proofs.lemmas.Option.{none-some, same_Some, slice_get-map, slice_get-get_or, get_or_from_slice_get}
 use Rattle.wasm_spec.specs.Module.{Expression}
@@ -12,7 +11,7 @@ use Rattle.replay_spec.specs.Tables.{PlannedTable, TablePlan, reference_of, plan
 use Rattle.replay_spec.specs.Values as plain
 use Rattle.plan_run.specs.Lays.{Hold}
 use Rattle.plan_run.specs.Tables.{image_cells, cells_from, first_cells}
-use Rattle.plan_run.proofs.Lists.{get-append-low, get-append-high, get-replicate, all-at}
+use Rattle.plan_run.proofs.Lists.{get-append-low, get-append-high, get-replicate, all-at, each-half}
 
 -- ---- one table
 
@@ -117,17 +116,7 @@ module _ (globals : List plain.Value) (fields : ℕ → ℕ) where
 
     pub tables-hold : Hold (planned_elements_phase globals fields imported plan).sizes (planned_elements_phase globals fields imported plan).base objects
     tables-hold = record {
-      sizes = λ i object at. ⊎_elim
-          (λ (low : i < length imported). low-size i object low at)
-          (λ (high : length imported ≤ i).
-          let there : length imported + (i - length imported) ≡ i = omega arith in
-          high-size (i - length imported) object (ap (slice_get objects) there ∙ at) ∙ ap size_at there)
-          (cases_lt i (length imported));
-      items = λ i place object at l. ⊎_elim
-          (λ (low : i < length imported). low-item i place object low at l)
-          (λ (high : length imported ≤ i).
-          let there : length imported + (i - length imported) ≡ i = omega arith in
-          high-item (i - length imported) place object (ap (slice_get objects) there ∙ at) (subst (λ k. place < size_at k) (sym there) l)
-          ∙ ap (λ k. Some (base_at k place)) there)
-          (cases_lt i (length imported));
+      sizes = each-half objects (length imported) (λ i object. length object ≡ size_at i) low-size high-size;
+      items = λ i place object at. each-half objects (length imported) (λ i object. (place : ℕ) → place < size_at i → slice_get object place ≡ Some (base_at i place))
+          (λ i object low at place. low-item i place object low at) (λ j object at place. high-item j place object at) i object at place;
     }

@@ -27,6 +27,7 @@ use Rattle.plan_run.specs.declared.segments.DataPiece.{DataPiece}
 use Rattle.init_plan.specs.declared.translation.ModuleTranslation.{ModuleTranslation}
 use Rattle.init_plan.specs.Views.{memory_plan_of}
 use Rattle.paged_memory.specs.Memory.{Contents, count_lent}
+use Rattle.form_lists.proofs.AllSections.{All-from_map}
 use Rattle.plan_run.specs.declared.laid.Way.{Way}
 use Rattle.plan_run.specs.declared.laid.Way.TheVariants as way
 use Rattle.plan_run.specs.Finished.{Finished, IsStatic}
@@ -38,12 +39,6 @@ use Rattle.plan_run.specs.Segments.{left_pieces, LendNoMore}
 use Rattle.plan_run.specs.Tables.{element_piece}
 use Rattle.plan_run.proofs.Begun.{within-at, begun-hold, begun-lent}
 use Rattle.plan_run.proofs.Lists.{get-drop}
-
--- ---- lists
-
-pub all-unmap : {A B : Type 0} (f : A → B) (P : B → Type 0) (xs : List A) → All P (map f xs) → All (λ x. P (f x)) xs
-all-unmap f P [] all = All-nil (λ x. P (f x))
-all-unmap f P (x ∷ xs) all = All-cons (λ y. P (f y)) x xs (All-head P (f x) (map f xs) all) (all-unmap f P xs (All-tail P (f x) (map f xs) all))
 
 -- ---- memories
 
@@ -219,10 +214,10 @@ tables-planned t counted = planned-count (own_tables t) t.table_initialization.i
 pub elements-below : (globals : List plain.Value) (fields : ℕ → ℕ) (terms : List Term) (n : ℕ) (segments : List ActiveElements) (pieces : List ElementPiece)
     → All (λ s. s.table < n) segments → map (element_piece terms) pieces ≡ map (elements_piece globals fields) segments → All (λ p. p.table < n) pieces
 elements-below globals fields terms n segments pieces all are =
-    all-unmap (element_piece terms) (λ (q : Piece plain.Value). q.object < n) pieces
+    All-from_map (λ (q : Piece plain.Value). q.object < n) (element_piece terms) pieces
     (All-same (λ (q : Piece plain.Value). q.object < n) (map (element_piece terms) pieces) (map (elements_piece globals fields) segments) are
     (All-map (λ (q : Piece plain.Value). q.object < n) (elements_piece globals fields) segments all))
 
 pub data-below : (n : ℕ) (left : List (Piece ℕ)) (pieces : List DataPiece) → All (λ q. q.object < n) left → map data_piece pieces ≡ left → All (λ p. p.memory < n) pieces
 data-below n left pieces all are =
-    all-unmap data_piece (λ (q : Piece ℕ). q.object < n) pieces (All-same (λ (q : Piece ℕ). q.object < n) (map data_piece pieces) left are all)
+    All-from_map (λ (q : Piece ℕ). q.object < n) data_piece pieces (All-same (λ (q : Piece ℕ). q.object < n) (map data_piece pieces) left are all)

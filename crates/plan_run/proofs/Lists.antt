@@ -1,11 +1,13 @@
 -- Items of lists.
-use Rattle.std.proofs.Common.{◌≡◌, ◌≢◌, ℕ, zero, suc, ◌+◌, ◌<◌, ◌≤◌, List, [], ◌∷◌, ◌++◌, length, get_or, set, take, drop, replicate, Option, None, Some, refl, sym, ◌∙◌, ap, subst, arith}
+use Rattle.std.proofs.Common.{◌≡◌, ◌≢◌, ℕ, zero, suc, ◌+◌, ◌<◌, ◌≤◌, List, [], ◌∷◌, ◌++◌, length, get_or, set, take, drop, replicate, Option, None, Some, refl, sym, ◌∙◌, ap, subst, arith, ◌-◌}
 use Rattle.std.specs.Prelude.{slice_get, All, MatchOption}
 use Rattle.std.specs.Borrow.{Bor}
 use Rattle.std.specs.List.{HoldsAt}
 use Rattle.std.specs.Option.{option_copied}
 use Rattle.std.proofs.lemmas.List.Elements.{All-get_or}
 use Rattle.std.proofs.lemmas.Option.{get_or_from_slice_get, slice_get_within, slice_get_past, slice_get-get_or}
+use Rattle.std.proofs.Math.Logic.{⊎_elim}
+use Rattle.std.proofs.lemmas.Bool.{cases_lt}
 
 -- ---- lists
 
@@ -76,3 +78,9 @@ pub some-at : {A : Type 0} (xs : List A) (i : ℕ) → i < length xs → (x : A)
 some-at [] i l = absurd (omega arith)
 some-at (x ∷ xs) zero l = (x, refl)
 some-at (x ∷ xs) (suc i) l = some-at xs i (omega arith)
+
+-- what the first of some have and all behind them, each has
+pub each-half : {X : Type 0} (xs : List X) (n : ℕ) (P : ℕ → X → Type 0) → ((i : ℕ) (x : X) → i < n → slice_get xs i ≡ Some x → P i x)
+    → ((j : ℕ) (x : X) → slice_get xs (n + j) ≡ Some x → P (n + j) x) → (i : ℕ) (x : X) → slice_get xs i ≡ Some x → P i x
+each-half xs n P low high i x at = ⊎_elim (λ (l : i < n). low i x l at)
+    (λ (h : n ≤ i). let there : n + (i - n) ≡ i = omega arith in subst (λ k. P k x) there (high (i - n) x (ap (slice_get xs) there ∙ at))) (cases_lt i n)

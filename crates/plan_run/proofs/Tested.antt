@@ -19,9 +19,10 @@ use Rattle.table_images.specs.Steps.{images_of}
 use Rattle.table_images.specs.Views.{cell_of, image_of, initial_of, planned_tables_of}
 use Rattle.init_plan.specs.declared.translation.MemorySegmentOffset.{MemorySegmentOffset}
 use Rattle.init_plan.specs.Views.{planned_offset_of, planned_segment_of}
+use Rattle.form_lists.proofs.AllSections.{All-from_map}
 use Rattle.plan_run.specs.Finished.{IsStatic}
 use Rattle.plan_run.proofs.CellSteps.{planned-at}
-use Rattle.plan_run.proofs.Given.{all-unmap, planned-count}
+use Rattle.plan_run.proofs.Given.{planned-count}
 use Rattle.plan_run.proofs.LeftSteps.{view_image}
 use Rattle.plan_run.proofs.Lists.{all-at, some-at}
 
@@ -32,7 +33,7 @@ module _ (segments : List (Index MemorySpace × MemorySegmentOffset × Index Run
   planned-on P all = All-same P processed (map planned_segment_of segments) is (All-map P planned_segment_of segments all)
 
   planned-back : (P : PlannedSegment → Type 0) → All P processed → All (λ s. P (planned_segment_of s)) segments
-  planned-back P all = all-unmap planned_segment_of P segments (All-same P (map planned_segment_of segments) processed (sym is) all)
+  planned-back P all = All-from_map P planned_segment_of segments (All-same P (map planned_segment_of segments) processed (sym is) all)
 
   pub static-on : All (λ s. IsStatic (planned_offset_of s.1)) segments → All (λ s. IsStatic s.offset) processed
   static-on = planned-on (λ s. IsStatic s.offset)

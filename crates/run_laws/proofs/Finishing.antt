@@ -18,7 +18,8 @@ use Rattle.replay_spec.specs.Tables.{IsTablePlan}
 use Rattle.replay_spec.proofs.Joined.{positive-power}
 use Rattle.init_plan.specs.declared.translation.ModuleTranslation.{ModuleTranslation}
 use Rattle.init_plan.specs.Views.{memory_plan_of, images_of, IsSegmented, IsProcessed}
-use Rattle.init_plan.specs.Images.{image_memory, image_memories}
+use Rattle.memory_images.specs.Views.{image_memory}
+use Rattle.init_plan.specs.Images.{image_memories}
 use Rattle.init_plan.specs.Held.{plan_of_globals, simple_global_of, kept_global_of}
 use Rattle.init_plan.specs.Tables.{plan_of_tables, AreCounted}
 use Rattle.plan_run.specs.Finished.{Finished, GlobalsAreFinished, MemoriesAreFinished, TablesAreFinished, ImageFits}

@@ -1,12 +1,12 @@
 -- What the plan of a translation's memories promises of the module whose lists the translation holds.
-use Rattle.std.proofs.Common.{◌≡◌, ◌<◌, ◌^◌, ℕ, List, length, map, None, refl, sym, ap, subst}
+use Rattle.std.proofs.Common.{◌≡◌, ◌<◌, ◌-◌, ◌^◌, ℕ, List, length, map, None, refl, sym, ap, subst}
 use Rattle.std.specs.Prelude.{All, Contains, slice_get, sum_by}
 use Rattle.wasm_spec.specs.Module.{Module, imported_memories, defined_memories, segments}
 use Rattle.replay_spec.specs.Data.{ActiveSegment, active_segments}
 use Rattle.replay_spec.specs.Images.{ImageMemory, image_memory_of, IsStatic, IsMemoryPlan}
 use Rattle.replay_spec.specs.Plan.{MemoryPlan, ranges_from}
 use Rattle.init_plan.specs.declared.translation.ModuleTranslation.{ModuleTranslation}
-use Rattle.init_plan.specs.Views.{initializers_of, passive_data_of, memory_plan_of, ranges_of, FindsData, FindsInOrder, IsProcessed}
+use Rattle.init_plan.specs.Views.{initializers_of, passive_data_of, memory_plan_of, ranges_of, FindsInOrder, IsProcessed}
 use Rattle.init_plan.specs.Views as held
 use Rattle.init_plan.specs.Images.{image_memories, BeginsByRule, HasTightImages, HasWholeRanges, HasRuntimeSize, WillHaveRuntimeSize}
 use Rattle.init_plan.specs.Held.{HoldsMemories}
@@ -24,6 +24,10 @@ moved P a b c d e f g h ab cd ef gh x =
     subst (P b d f) gh (subst (λ (s : List ActiveSegment). P b d s g) ef
     (subst (λ (m : List ImageMemory). P b m e g) cd (subst (λ (n : ℕ). P n c e g) ab x)))
 
+-- passive segments are found at the last of the runtime data
+abbrev pub IsFoundLast : MemoryPlan → List (ℕ × List ℕ) → Type 0
+IsFoundLast plan ps = FindsInOrder plan.runtime plan.passive (length plan.runtime - length ps) ps
+
 -- a translation holds the memories and data segments of the module
 pub record HoldsData (m : Module) (old : ModuleTranslation) : Type 0 where
   pub holds : HoldsMemories m old
@@ -38,8 +42,7 @@ pub record MemoriesTell (i : InitOptions) (old mid : ModuleTranslation) : Type 0
   pub tight : HasTightImages (images i) old.module.num_imported_memories (image_memories old.module) (initializers_of old) (held.passive_bytes old) (memory_plan_of mid)
   pub ranges : ranges_of mid.module ≡ ranges_from 0 (map length (memory_plan_of mid).runtime)
   pub whole_ranges : HasWholeRanges i.page_size (memory_plan_of mid).images (ranges_of mid.module)
-  pub found : All (FindsData (memory_plan_of mid)) (passive_data_of old)
-  pub in_order : FindsInOrder (memory_plan_of mid) (passive_data_of old)
+  pub found : IsFoundLast (memory_plan_of mid) (passive_data_of old)
   pub others : (index : ℕ) → ¬ Contains (map (λ p. p.0) (passive_data_of old)) index → (memory_plan_of mid).passive index ≡ None
   pub fits : sum_by length (memory_plan_of mid).runtime < 2 ^ 32
 
@@ -78,10 +81,10 @@ module _ (i : InitOptions) (m : Module) (old : ModuleTranslation) (has : HoldsDa
       ranges = tell.ranges;
       whole_ranges = tell.whole_ranges;
       fits = tell.fits;
-      passive = λ index. finds (memory_plan_of mid) (segments m) (subst (All (FindsData (memory_plan_of mid))) has.passive tell.found)
+      passive = λ index. finds (memory_plan_of mid) (segments m) _ (subst (IsFoundLast (memory_plan_of mid)) has.passive tell.found)
           (λ k none. tell.others k (subst (λ (ps : List (ℕ × List ℕ)). ¬ Contains (map (λ p. p.0) ps) k) (sym has.passive) none))
           index (slice_get (segments m) index) refl;
-      in_order = subst (FindsInOrder (memory_plan_of mid)) has.passive tell.in_order;
+      in_order = subst (IsFoundLast (memory_plan_of mid)) has.passive tell.found;
     }
 
     -- the plan of the tables keeps it

@@ -1,11 +1,13 @@
 -- The passive segments of a list of segments, and where each is found.
 use Rattle.std.proofs.Common.{◌≡◌, ◌≤◌, ◌<◌, ◌+◌, ℕ, zero, suc, List, [], ◌∷◌, ◌++◌, length, map, Option, Some, None, refl, sym, subst, ◌∙◌, arith, inl, inr}
 use Rattle.std.specs.Prelude.{◌⊎◌, All, Contains, slice_get, slice_index_or}
+use Rattle.std.specs.Option.{option_and_then}
+use Rattle.std.proofs.lemmas.List.Elements.{All-nil, All-cons}
 use Rattle.wasm_spec.specs.Module.{Expression, DataKind, Passive, Active, Segment}
-use Rattle.replay_spec.specs.Plan.{MemoryPlan, FindsPassive}
-use Rattle.init_plan.specs.Views.{FindsData, FindsRuntime}
+use Rattle.replay_spec.specs.Plan.{MemoryPlan}
+use Rattle.init_plan.specs.Views.{FindsInOrder}
 use Rattle.module_environ.specs.Initialisers.{passive_data_in, passive_data_from}
-use Rattle.translate.specs.Initialised.{Finds}
+use Rattle.translate.specs.Initialised.{Finds, bytes_if_passive, passive_bytes_of}
 
 -- ---- members of lists
 
@@ -85,26 +87,22 @@ not_contained i ss other c = not_among 0 i ss other
 
 -- ---- where they are found
 
--- a data segment is found where it is passive, and not otherwise
-pub finds : (plan : MemoryPlan) (ss : List Segment) → All (FindsData plan) (passive_data_from 0 ss)
-    → ((index : ℕ) → ¬ Contains (map (λ p. p.0) (passive_data_from 0 ss)) index → plan.passive index ≡ None)
-    → (index : ℕ) (o : Option Segment) → slice_get ss index ≡ o → Finds plan (plan.passive index) o
-finds plan ss found others index None e = others index (not_contained index ss (rw e tt))
-finds plan ss found others index (Some s) e = by_kind s.kind refl where
-  is_found : (o : Option ℕ) → FindsRuntime plan.runtime o s.bytes → FindsPassive plan o Passive s.bytes
-  is_found None h = h
-  is_found (Some n) h = h
+-- each of those that are found in order is found with its bytes
+all_found : (plan : MemoryPlan) (index : ℕ) (ps : List (ℕ × List ℕ)) → FindsInOrder plan.runtime plan.passive index ps
+    → All (λ p. Finds plan.runtime (plan.passive p.0) (Some p.1)) ps
+all_found plan index [] found = All-nil (λ p. Finds plan.runtime (plan.passive p.0) (Some p.1))
+all_found plan index (p ∷ ps) found = All-cons (λ p. Finds plan.runtime (plan.passive p.0) (Some p.1)) p ps (rw found.0 found.1) (all_found plan (index + 1) ps found.2)
 
+-- a data segment is found where it is passive, and not otherwise
+pub finds : (plan : MemoryPlan) (ss : List Segment) (start : ℕ) → FindsInOrder plan.runtime plan.passive start (passive_data_from 0 ss)
+    → ((index : ℕ) → ¬ Contains (map (λ p. p.0) (passive_data_from 0 ss)) index → plan.passive index ≡ None)
+    → (index : ℕ) (o : Option Segment) → slice_get ss index ≡ o → Finds plan.runtime (plan.passive index) (option_and_then passive_bytes_of o)
+finds plan ss start found others index None e = rw (others index (not_contained index ss (rw e tt))) tt
+finds plan ss start found others index (Some s) e = by_kind s.kind refl where
   is_active : (memory : ℕ) (offset : Expression) → s.kind ≡ Active memory offset → s.kind ≡ Passive → ⊥
   is_active memory offset e passive = let h : Active memory offset ≡ Passive = sym e ∙ passive in absurd cc
 
-  not_found : (o : Option ℕ) (memory : ℕ) (offset : Expression) → o ≡ None → FindsPassive plan o (Active memory offset) s.bytes
-  not_found None memory offset e = e
-  not_found (Some n) memory offset e = e
-
-  by_kind : (kind : DataKind) → s.kind ≡ kind → FindsPassive plan (plan.passive index) s.kind s.bytes
-  by_kind Passive is = subst (λ (k : DataKind). FindsPassive plan (plan.passive index) k s.bytes) (sym is)
-      (is_found (plan.passive index) (passive_has (FindsData plan) index ss s found e is))
-  by_kind (Active memory offset) is =
-      let none = others index (not_contained index ss (rw e (is_active memory offset is))) in
-      subst (λ (k : DataKind). FindsPassive plan (plan.passive index) k s.bytes) (sym is) (not_found (plan.passive index) memory offset none)
+  by_kind : (kind : DataKind) → s.kind ≡ kind → Finds plan.runtime (plan.passive index) (bytes_if_passive s.kind s.bytes)
+  by_kind Passive is = rw is (passive_has (λ p. Finds plan.runtime (plan.passive p.0) (Some p.1)) index ss s
+      (all_found plan start (passive_data_from 0 ss) found) e is)
+  by_kind (Active memory offset) is = rw (is, others index (not_contained index ss (rw e (is_active memory offset is)))) tt

@@ -1,11 +1,12 @@
 -- A translation whose memories and tables are planned.
-use Rattle.std.specs.Prelude.{◌≡◌, ℕ, ◌^◌, ◌<◌, List, false, length, map, sum_by, slice_get, Option, Some, None}
-use Rattle.wasm_spec.specs.Module.{Module, Segment, segments, imported_memories, defined_memories}
+use Rattle.std.specs.Prelude.{◌≡◌, ℕ, ◌-◌, ◌^◌, ◌<◌, List, false, length, map, sum_by, slice_get, Option, Some, None}
+use Rattle.std.specs.Option.{option_and_then}
+use Rattle.wasm_spec.specs.Module.{Module, DataKind, Passive, Active, Segment, segments, imported_memories, defined_memories}
 use Rattle.rule_spec.specs.Rules.{Keeps}
 use Rattle.wasm_index.specs.Index.{index_of}
 use Rattle.replay_spec.specs.Data.{active_segments}
 use Rattle.replay_spec.specs.Images.{image_memory_of}
-use Rattle.replay_spec.specs.Plan.{MemoryPlan, ranges_from, FindsPassive}
+use Rattle.replay_spec.specs.Plan.{MemoryPlan, ranges_from}
 use Rattle.module_types.specs.Builder.{BuilderState, builder_view}
 use Rattle.init_plan.specs.declared.translation.ModuleTranslation.{ModuleTranslation}
 use Rattle.init_plan.specs.Views.{memory_plan_of, ranges_of, IsSegmented, IsProcessed, FindsInOrder}
@@ -21,10 +22,19 @@ use Rattle.module_environ.specs.Translation.{IsTranslation}
 use Rattle.module_environ.specs.Types.{interned_list, type_index}
 use Rattle.translate.specs.Options.{InitOptions, images, passive_bytes, startup_by, runs, BecomesImages, PlansMemories, PlansTables}
 
--- a passive segment is found with its bytes, and nothing else is found
-abbrev pub Finds : MemoryPlan → Option ℕ → Option Segment → Type 0
-Finds plan found None = found ≡ None
-Finds plan found (Some s) = FindsPassive plan found s.kind s.bytes
+-- the bytes of a data segment that is passive
+abbrev pub bytes_if_passive : DataKind → List ℕ → Option (List ℕ)
+bytes_if_passive Passive bytes = Some bytes
+bytes_if_passive (Active memory offset) bytes = None
+
+abbrev pub passive_bytes_of : Segment → Option (List ℕ)
+passive_bytes_of s = bytes_if_passive s.kind s.bytes
+
+-- bytes are found at an index of the runtime data; where there are none, nothing is found
+abbrev pub Finds : List (List ℕ) → Option ℕ → Option (List ℕ) → Type 0
+Finds runtime (Some index) (Some bytes) = slice_get runtime index ≡ Some bytes
+Finds runtime None None = Unit {0}
+Finds runtime found bytes = ⊥
 
 -- all but how memories and tables begin, runtime data, what is left to be written, and startup
 abbrev pub OnlyInitChanges : ModuleTranslation → ModuleTranslation → Type 0
@@ -65,9 +75,11 @@ pub record InitialisesMemories (i : InitOptions) (m : Module) (t : ModuleTransla
   pub ranges : ranges_of t.module ≡ ranges_from 0 (map length (memory_plan_of t).runtime)
   pub whole_ranges : HasWholeRanges i.page_size (memory_plan_of t).images (ranges_of t.module)
   pub fits : sum_by length (memory_plan_of t).runtime < 2 ^ 32
-  pub passive : (index : ℕ) → Finds (memory_plan_of t) ((memory_plan_of t).passive index) (slice_get (segments m) index)
-  -- the passive segments are found behind the other runtime data, in order
-  pub in_order : FindsInOrder (memory_plan_of t) (passive_data_from 0 (segments m))
+  -- each passive segment is found with its bytes, and nothing else is found
+  pub passive : (index : ℕ) → Finds (memory_plan_of t).runtime ((memory_plan_of t).passive index) (option_and_then passive_bytes_of (slice_get (segments m) index))
+  -- the passive segments are found after the other runtime data, in order
+  pub in_order : let plan = memory_plan_of t in let ps = passive_data_from 0 (segments m) in
+      FindsInOrder plan.runtime plan.passive (length plan.runtime - length ps) ps
 
 -- the translation of the module, planned
 pub record IsInitialised (i : InitOptions) (bytes : List ℕ) (m : Module) (t : ModuleTranslation) : Type 0 where

@@ -1,10 +1,12 @@
 -- What a balanced registry tells, and that it is balanced once a module is released.
-use Rattle.std.proofs.Common.{if◌then◌else◌, ◌≡◌, ◌∙◌, ◌<◌, ◌≤◌, ℕ, zero, suc, Bool, true, false, nat_eq, nat_le, List, [], ◌∷◌, get_or, take, drop, slice_get, Contains, Option, Some, None, option_and_then, refl, sym, ap, subst, arith, eq-eqb}
-use Rattle.std.specs.Prelude.{◌||◌, IsSome}
+use Rattle.std.proofs.Common.{if◌then◌else◌, ◌≡◌, ◌∙◌, ◌<◌, ◌≤◌, ℕ, zero, suc, Bool, true, false, nat_eq, List, [], ◌∷◌, get_or, take, drop, slice_get, Contains, Option, Some, None, option_and_then, refl, sym, ap, subst, arith, eq-eqb}
+use Rattle.std.specs.Prelude.{IsSome}
 use Rattle.std.specs.Cmp.{nat_eq_equiv}
 use Rattle.std.specs.List.{list_any}
-use Rattle.std.proofs.lemmas.Bool.{eqb-true, leb-true, leb-false}
+use Rattle.std.proofs.lemmas.Bool.{eqb-true, ne_eqb, cases_Bool, false_from_ne_true, eqb-false}
 use Rattle.std.proofs.lemmas.Map.Views.{Contains-from_any, list_any-from_Contains}
+use Rattle.std.proofs.lemmas.Option.{none-some, same_Some}
+use Rattle.std.proofs.lemmas.Bool.Decides.{nat_tests}
 use Rattle.type_spec.specs.Interned.{Span}
 use Rattle.wasm_types.specs.TypeViews.{group_of}
 use Rattle.module_types.specs.TypeList.{TypeList}
@@ -12,8 +14,6 @@ use Rattle.type_registry.specs.Registry.{Registry, Group, Groups, Module, empty,
 use Rattle.type_registry.specs.Changes.{planned, registered, released_by, size_of}
 use Rattle.type_registry.specs.Standing.{AreOrdered, GroupStands, IsHeld, LiveWhereHeld, Stands, kept_at}
 use Rattle.type_registry.specs.Balanced.{IsBalanced, count_in, indices_in, indices_at, times, times_below}
-use Rattle.type_registry.proofs.Dropping.{some-none, group-is}
-use Rattle.type_registry.proofs.FreeIndices.{apart}
 use Rattle.type_registry.proofs.KeepingAll.{true-false, any-second}
 use Rattle.type_registry.proofs.NewGroups.{any-right}
 use Rattle.type_registry.proofs.OwnerLists.{any-place, place-any}
@@ -42,7 +42,7 @@ live-in (e ∷ gs) i ordered has = by (list_any (nat_eq i) e.1.indices) refl (li
       record {
         first = w.first;
         group = w.group;
-        kept = ap (λ (c : Bool). if c then Some e.1 else found gs w.first) (apart w.first e.0 (λ same. absurd (omega (arith, same, lt)))) ∙ w.kept;
+        kept = ap (λ (c : Bool). if c then Some e.1 else found gs w.first) (ne_eqb w.first e.0 (λ same. absurd (omega (arith, same, lt)))) ∙ w.kept;
         has = w.has;
       }
 
@@ -64,18 +64,14 @@ record IsAmong (r : Registry) (key place i : ℕ) : Type 0 where
 
 among-of : (r : Registry) (key place i : ℕ) (o : Option Module) → r.held key ≡ o → option_and_then (λ (m : Module). slice_get m.indices place) o ≡ Some i
     → IsAmong r key place i
-among-of r key place i None e at = absurd (some-none i at)
+among-of r key place i None e at = absurd (none-some i at)
 among-of r key place i (Some m) e at = record { listed = m; held = e; at = at }
 
 -- what a part of a list has the list has
 any-take : (ns : List ℕ) (n i : ℕ) → list_any (nat_eq i) (take n ns) ≡ true → list_any (nat_eq i) ns ≡ true
 any-take ns zero i has = let no-way : false ≡ true = has in cc
 any-take [] (suc n) i has = has
-any-take (x ∷ ns) (suc n) i has = by (nat_eq i x) has (any-take ns n i) where
-  by : (c : Bool) → (c || list_any (nat_eq i) (take n ns)) ≡ true → (list_any (nat_eq i) (take n ns) ≡ true → list_any (nat_eq i) ns ≡ true)
-      → (c || list_any (nat_eq i) ns) ≡ true
-  by true has rest = refl
-  by false has rest = rest has
+any-take (x ∷ ns) (suc n) i has = let rest = any-take ns n i in grind (arith, nat_tests)
 
 any-drop : (ns : List ℕ) (n i : ℕ) → list_any (nat_eq i) (drop n ns) ≡ true → list_any (nat_eq i) ns ≡ true
 any-drop ns zero i has = has
@@ -99,10 +95,7 @@ module _ (r : Registry) (b : IsBalanced r) where
 
   -- a key that is held was given
   pub given-key : (key : ℕ) (m : Module) → r.held key ≡ Some m → key < r.registrations
-  given-key key m is = by (nat_le r.registrations key) refl where
-    by : (c : Bool) → nat_le r.registrations key ≡ c → key < r.registrations
-    by true le = absurd (some-none m (sym (b.unused key (leb-true r.registrations key le)) ∙ is))
-    by false le = leb-false r.registrations key le
+  given-key key m is = let none = b.unused key in grind arith
 
   at-place : (key : ℕ) (m : Module) (place i : ℕ) → r.held key ≡ Some m → slice_get m.indices place ≡ Some i → index_at r key place ≡ Some i
   at-place key m place i is at = ap (option_and_then (λ (m : Module). slice_get m.indices place)) is ∙ at
@@ -152,10 +145,10 @@ module _ (r : Registry) (b : IsBalanced r) (key : ℕ) (m : Module) (is : r.held
   now = released_by r key (Some m)
 
   still-held : (k : ℕ) (o : Module) → now.held k ≡ Some o → (k ≡ key → ⊥) × (r.held k ≡ Some o)
-  still-held k o here = by (nat_eq key k) refl here where
-    by : (c : Bool) → nat_eq key k ≡ c → (if c then None else r.held k) ≡ Some o → (k ≡ key → ⊥) × (r.held k ≡ Some o)
-    by true e here = absurd (some-none o here)
-    by false e here = ((λ same. true-false (nat_eq key k) (eq-eqb key k (sym same)) e), here)
+  still-held k o here =
+      let differ : nat_eq key k ≡ false =
+      false_from_ne_true (nat_eq key k) (λ e. none-some o (sym (ap (λ (c : Bool). if c then None else r.held k) e) ∙ here)) in
+      ((λ same. eqb-false key k differ (sym same)), sym (ap (λ (c : Bool). if c then None else r.held k) differ) ∙ here)
 
   counted-now : (first : ℕ) → count_in (kept_at now first) ≡ times_below now.held first r.registrations
   counted-now first =
@@ -188,8 +181,7 @@ module _ (r : Registry) (b : IsBalanced r) (key : ℕ) (m : Module) (is : r.held
       ap indices_in w.was ∙ ap (λ (g : Group). g.indices) w.same ∙ ap indices_in (sym w.kept)
 
   no-more-held : (c : Bool) (k : ℕ) → r.registrations ≤ k → (if c then None else r.held k) ≡ None
-  no-more-held true k le = refl
-  no-more-held false k le = b.unused k le
+  no-more-held c k le = let none = b.unused k le in let any = cases_Bool c in grind arith
 
   pub left-balanced : IsBalanced now
   left-balanced = record {
@@ -203,7 +195,7 @@ module _ (r : Registry) (b : IsBalanced r) (key : ℕ) (m : Module) (is : r.held
   pub left-stands : (k : ℕ) (l : TypeList) → (k ≡ key → ⊥) → Stands r k l → Stands now k l
   left-stands k l differ st =
       let here : now.held k ≡ Some st.listed =
-      ap (λ (c : Bool). if c then None else r.held k) (apart key k (λ e. differ (sym e))) ∙ st.held in
+      ap (λ (c : Bool). if c then None else r.held k) (ne_eqb key k (λ e. differ (sym e))) ∙ st.held in
       record {
         sound = left-balanced.sound;
         listed = st.listed;
@@ -213,7 +205,7 @@ module _ (r : Registry) (b : IsBalanced r) (key : ℕ) (m : Module) (is : r.held
             let g = st.groups j s at in
             let first = get_or st.listed.indices s.start 0 in
             let w = still-kept k st.listed first here (first-listed r b k st.listed l s st.held g) in
-            let old : w.old ≡ g.group = group-is w.old g.group (sym w.was ∙ g.kept) in
+            let old : w.old ≡ g.group = same_Some w.old g.group (sym w.was ∙ g.kept) in
             record {
               group = w.group;
               kept = w.kept;
@@ -225,13 +217,13 @@ module _ (r : Registry) (b : IsBalanced r) (key : ℕ) (m : Module) (is : r.held
 -- ---- indices of other modules
 
 pub left-index : (r : Registry) (key : ℕ) (m : Module) (k i : ℕ) → (k ≡ key → ⊥) → index_at (released_by r key (Some m)) k i ≡ index_at r k i
-left-index r key m k i differ = ap (λ (c : Bool). option_and_then (λ (o : Module). slice_get o.indices i) (if c then None else r.held k)) (apart key k (λ e. differ (sym e)))
+left-index r key m k i differ = ap (λ (c : Bool). option_and_then (λ (o : Module). slice_get o.indices i) (if c then None else r.held k)) (ne_eqb key k (λ e. differ (sym e)))
 
 pub registered-index : (r : Registry) (l : TypeList) → IsBalanced r → (k i : ℕ) → IsSome (r.held k) → index_at (registered r l) k i ≡ index_at r k i
 registered-index r l b k i held =
     let differ : r.registrations ≡ k → ⊥ =
     λ same. subst (λ (o : Option Module). IsSome o → ⊥) (sym (b.unused k (omega (arith, same)))) (λ none. true-false false none refl) held in
-    ap (λ (c : Bool). option_and_then (λ (o : Module). slice_get o.indices i) (if c then Some (planned r l).listed else r.held k)) (apart r.registrations k differ)
+    ap (λ (c : Bool). option_and_then (λ (o : Module). slice_get o.indices i) (if c then Some (planned r l).listed else r.held k)) (ne_eqb r.registrations k differ)
 
 pub released-balanced : (r : Registry) (key : ℕ) (o : Option Module) → r.held key ≡ o → IsBalanced r → IsBalanced (released_by r key o)
 released-balanced r key None e b = b
@@ -247,6 +239,6 @@ empty-balanced n = record {
   sound = none-sound;
   unused = λ k le. refl;
   counted = λ first. refl;
-  had = λ first g is. absurd (some-none g is);
-  listed = λ key m is. absurd (some-none m is);
+  had = λ first g is. absurd (none-some g is);
+  listed = λ key m is. absurd (none-some m is);
 }

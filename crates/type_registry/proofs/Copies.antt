@@ -1,8 +1,9 @@
 -- Parts of lists, an element at a time; and what references of a listed group become.
-use Rattle.std.proofs.Common.{◌≡◌, ◌∙◌, ℕ, zero, suc, ◌+◌, ◌-◌, ◌<◌, ◌≤◌, List, [], ◌∷◌, ◌++◌, length, take, drop, map, get_or, slice_get, Option, Some, None, refl, sym, ap, subst, arith}
+use Rattle.std.proofs.Common.{◌≡◌, ◌∙◌, ℕ, zero, suc, ◌+◌, ◌-◌, ◌<◌, ◌≤◌, List, [], ◌∷◌, ◌++◌, length, take, drop, map, get_or, slice_get, Some, refl, sym, ap, subst, arith}
 use Rattle.std.specs.List.{All}
-use Rattle.std.proofs.lemmas.List.{take-map, drop-map}
+use Rattle.std.proofs.lemmas.List.{take-map, drop-map, take_more}
 use Rattle.std.proofs.lemmas.List.Elements.{All-map}
+use Rattle.std.proofs.lemmas.Option.{slice_get_within, get_or_from_slice_get}
 use Rattle.form_lists.proofs.AllSections.{All-from_map}
 use Rattle.wasm_spec.specs.TypeData.{map_group, map_sub_type, group_edges}
 use Rattle.type_data.specs.Names.{named, by_name, index_of as index_in}
@@ -17,18 +18,11 @@ use Rattle.module_types.specs.ListGroups.{unkinded, types_in, span_at}
 use Rattle.module_types.proofs.Standing.{stands-at}
 use Rattle.type_registry.specs.Listed.{Listed, list_of}
 use Rattle.type_registry.specs.Changes.{members_of, edges_of, IsGiven}
-use Rattle.type_registry.proofs.Dropping.{some-none}
-
-value-is : {A : Type 0} (x y : A) → Some x ≡ Some y → x ≡ y
-value-is x y e = ap (λ o. by x o) e where
-  by : {A : Type 0} → A → Option A → A
-  by d None = d
-  by d (Some z) = z
 
 pub take-next : {A : Type 0} (xs : List A) (k : ℕ) (x : A) → slice_get xs k ≡ Some x → take (suc k) xs ≡ take k xs ++ x ∷ []
-take-next [] k x at = absurd (some-none x at)
-take-next (y ∷ xs) zero x at = ap (λ z. z ∷ []) (value-is y x at)
-take-next (y ∷ xs) (suc k) x at = ap (λ l. y ∷ l) (take-next xs k x at)
+take-next xs k x at =
+    let next : suc k ≡ k + 1 = omega arith in
+    ap (λ n. take n xs) next ∙ take_more xs k x (slice_get_within xs k x at) ∙ ap (λ y. take k xs ++ y ∷ []) (get_or_from_slice_get xs k x x at)
 
 pub get-dropped : {A : Type 0} (xs : List A) (s p : ℕ) → slice_get (drop s xs) p ≡ slice_get xs (s + p)
 get-dropped xs zero p = let at : p ≡ 0 + p = omega arith in ap (slice_get xs) at
@@ -45,7 +39,7 @@ part-next xs s i x low at =
 -- ---- what references of a listed group may become
 
 module _ (l : TypeList) (listed : Listed l) where
-  members-are : (s : Span) → group_of (members_of l s) ≡ map_group (named index_at) index_at (types_in (list_of l).types s)
+  pub members-are : (s : Span) → group_of (members_of l s) ≡ map_group (named index_at) index_at (types_in (list_of l).types s)
   members-are s =
       let f = map_sub_type (named index_at) index_at in
       let n = s.end - s.start in
@@ -78,21 +72,3 @@ module _ (l : TypeList) (listed : Listed l) where
   pub may-use : (k : ℕ) → k < length (list_of l).groups
       → All (CanBeRuntimeEdge (IsGiven (span_at (list_of l) k).end)) (edges_of (members_of l (span_at (list_of l) k)))
   may-use k lt = each-edge (CanBeRuntimeEdge (IsGiven (span_at (list_of l) k).end)) k lt (λ r below. below)
-
--- ---- whole lists
-
-pub take-whole : {A : Type 0} (xs : List A) → take (length xs) xs ≡ xs
-take-whole [] = refl
-take-whole (x ∷ xs) = ap (λ l. x ∷ l) (take-whole xs)
-
-pub take-front : {A : Type 0} (xs ys : List A) (n : ℕ) → length xs ≡ n → take n (xs ++ ys) ≡ xs
-take-front [] ys zero e = refl
-take-front [] ys (suc n) e = absurd (omega (arith, e))
-take-front (x ∷ xs) ys zero e = absurd (omega (arith, e))
-take-front (x ∷ xs) ys (suc n) e = ap (λ l. x ∷ l) (take-front xs ys n (omega (arith, e)))
-
-pub take-enough : {A : Type 0} (xs : List A) (n : ℕ) → length xs ≤ n → take n xs ≡ xs
-take-enough [] zero le = refl
-take-enough [] (suc n) le = refl
-take-enough (x ∷ xs) zero le = absurd (omega (arith, le))
-take-enough (x ∷ xs) (suc n) le = ap (λ l. x ∷ l) (take-enough xs n (omega (arith, le)))

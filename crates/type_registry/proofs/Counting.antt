@@ -1,48 +1,38 @@
 -- How often modules have kept groups.
-use Rattle.std.proofs.Common.{if◌then◌else◌, ◌≡◌, ◌≤◌, ◌+◌, ℕ, ◌-◌, Bool, true, false, nat_eq, nat_le, List, [], ◌∷◌, ◌++◌, length, Option, Some, None, refl, ap, arith}
+use Rattle.std.proofs.Common.{◌≡◌, ◌≤◌, ◌+◌, ℕ, ◌-◌, nat_eq, List, [], ◌∷◌, ◌++◌, length, Option, Some, None, refl, arith}
 use Rattle.std.specs.Map.{lookup, set_value, remove_entry}
 use Rattle.std.specs.Option.{option_map}
+use Rattle.std.proofs.lemmas.Option.{none-some, same_Some}
+use Rattle.std.proofs.lemmas.Bool.Decides.{nat_tests}
 use Rattle.type_registry.specs.Registry.{Group}
 use Rattle.type_registry.specs.Changes.{leave_group, leave_groups, count_group, count_groups, keep_group}
 use Rattle.type_registry.specs.Counted.{counted}
-use Rattle.type_registry.proofs.Dropping.{group-is, number-is, some-none}
 
 pub counted-one : (gs : List (ℕ × Group)) (f : ℕ) (g : Group) → lookup (nat_eq f) gs ≡ Some g → g.count ≤ counted gs
-counted-one [] f g found = absurd (some-none g found)
-counted-one (e ∷ gs) f g found = by (nat_eq f e.0) found (counted-one gs f g) where
-  by : (c : Bool) → (if c then Some e.1 else lookup (nat_eq f) gs) ≡ Some g → (lookup (nat_eq f) gs ≡ Some g → g.count ≤ counted gs) → g.count ≤ e.1.count + counted gs
-  by true found rest = omega (arith, ap (λ (h : Group). h.count) (group-is e.1 g found))
-  by false found rest = omega (arith, rest found)
+counted-one [] f g found = absurd (none-some g found)
+counted-one (e ∷ gs) f g found = let rest = counted-one gs f g in grind (arith, nat_tests)
 
 pub counted-found : (gs : List (ℕ × Group)) (f n : ℕ) → option_map (λ (g : Group). g.count) (lookup (nat_eq f) gs) ≡ Some n → n ≤ counted gs
 counted-found gs f n found = by (lookup (nat_eq f) gs) refl found where
   by : (o : Option Group) → lookup (nat_eq f) gs ≡ o → option_map (λ (g : Group). g.count) o ≡ Some n → n ≤ counted gs
-  by None e is = absurd (some-none n is)
-  by (Some g) e is = omega (arith, counted-one gs f g e, number-is g.count n is)
+  by None e is = absurd (none-some n is)
+  by (Some g) e is = omega (arith, counted-one gs f g e, same_Some g.count n is)
 
 pub counted-set : (gs : List (ℕ × Group)) (f n : ℕ) (g : Group) → lookup (nat_eq f) gs ≡ Some g
     → counted (set_value (nat_eq f) gs (record g { count = n })) + g.count ≡ counted gs + n
-counted-set [] f n g found = absurd (some-none g found)
-counted-set (e ∷ gs) f n g found = by (nat_eq f e.0) found (counted-set gs f n g) where
-  by : (c : Bool) → (if c then Some e.1 else lookup (nat_eq f) gs) ≡ Some g
-      → (lookup (nat_eq f) gs ≡ Some g → counted (set_value (nat_eq f) gs (record g { count = n })) + g.count ≡ counted gs + n)
-      → counted (if c then (e.0, record g { count = n }) ∷ gs else e ∷ set_value (nat_eq f) gs (record g { count = n })) + g.count ≡ e.1.count + counted gs + n
-  by true found rest = omega (arith, ap (λ (h : Group). h.count) (group-is e.1 g found))
-  by false found rest = omega (arith, rest found)
+counted-set [] f n g found = absurd (none-some g found)
+counted-set (e ∷ gs) f n g found = let rest = counted-set gs f n g in grind (arith, nat_tests)
 
 counted-remove : (gs : List (ℕ × Group)) (f : ℕ) → counted (remove_entry (nat_eq f) gs) ≤ counted gs
 counted-remove [] f = omega arith
-counted-remove (e ∷ gs) f = by (nat_eq f e.0) (counted-remove gs f) where
-  by : (c : Bool) → counted (remove_entry (nat_eq f) gs) ≤ counted gs → counted (if c then gs else e ∷ remove_entry (nat_eq f) gs) ≤ e.1.count + counted gs
-  by true less = omega arith
-  by false less = omega (arith, less)
+counted-remove (e ∷ gs) f = let rest = counted-remove gs f in grind (arith, nat_tests)
 
 counted-leave : (gs : List (ℕ × Group)) (f : ℕ) (o : Option Group) → lookup (nat_eq f) gs ≡ o → counted (leave_group gs f o) ≤ counted gs
 counted-leave gs f None e = omega arith
-counted-leave gs f (Some g) e = by (nat_le g.count 1) where
-  by : (c : Bool) → counted (if c then remove_entry (nat_eq f) gs else set_value (nat_eq f) gs (record g { count = g.count - 1 })) ≤ counted gs
-  by true = counted-remove gs f
-  by false = omega (arith, counted-set gs f (g.count - 1) g e)
+counted-leave gs f (Some g) e =
+    let removed = counted-remove gs f in
+    let set = counted-set gs f (g.count - 1) g e in
+    grind (arith, nat_tests)
 
 pub counted-left : (gs : List (ℕ × Group)) (fs : List ℕ) → counted (leave_groups gs fs) ≤ counted gs
 counted-left gs [] = omega arith
@@ -68,8 +58,4 @@ counted_push gs (x ∷ fs) f = counted_push (count_group gs x (lookup (nat_eq x)
 -- a new group is counted for what it is
 pub counted-keep : (gs : List (ℕ × Group)) (f : ℕ) (g : Group) → counted (keep_group gs f g) ≡ counted gs + g.count
 counted-keep [] f g = omega arith
-counted-keep (e ∷ gs) f g = by (nat_le f e.0) (counted-keep gs f g) where
-  by : (c : Bool) → counted (keep_group gs f g) ≡ counted gs + g.count
-      → counted (if c then (f, g) ∷ e ∷ gs else e ∷ keep_group gs f g) ≡ e.1.count + counted gs + g.count
-  by true rest = omega arith
-  by false rest = omega (arith, rest)
+counted-keep (e ∷ gs) f g = let rest = counted-keep gs f g in grind (arith, nat_tests)

@@ -1,43 +1,17 @@
 -- What is kept stays so where a group is kept no longer, or is counted otherwise.
-use Rattle.std.proofs.Common.{if◌then◌else◌, ◌≡◌, ◌∙◌, ◌↔◌, ℕ, ◌+◌, Bool, true, false, nat_eq, List, [], length, map, set, slice_get, Option, Some, None, refl, sym, ap, arith, length-set}
+use Rattle.std.proofs.Common.{if◌then◌else◌, ◌≡◌, ◌∙◌, ◌↔◌, ℕ, ◌+◌, Bool, true, false, nat_eq, List, length, map, set, slice_get, Option, Some, None, refl, sym, ap, arith, length-set}
 use Rattle.std.specs.Prelude.{cond}
 use Rattle.std.specs.List.{list_any}
-use Rattle.std.proofs.lemmas.Bool.{eqb-true, eqb-false}
+use Rattle.std.proofs.lemmas.Bool.{eqb-true, eqb-false, false_from_ne_true}
+use Rattle.std.proofs.lemmas.Option.{none-some, same_Some}
 use Rattle.wasm_types.specs.declared.sub.WasmSubType.{WasmSubType}
 use Rattle.wasm_types.specs.contracts.equal_groups.WasmRecGroupPartialEq.TheImpl as groups_equal
 use Rattle.type_registry.specs.declared.owners.Owner.{Owner}
 use Rattle.type_registry.specs.Registry.{Group}
 use Rattle.type_registry.specs.Owners.{owner_at, free_count, emptied}
 use Rattle.type_registry.specs.Keeping.{group_in, IsOwned, HasCanonical, AreKept}
-use Rattle.type_registry.proofs.FirstIndices.{set-other, set-here, set-none, length-removed, length-counted}
+use Rattle.type_registry.proofs.FirstIndices.{set-other, set-here, set-none, length-removed, length-counted, group-within}
 use Rattle.type_registry.proofs.OwnerLists.{emptied-at, emptied-length, any-place, place-any}
-
-no_group : Group
-no_group = record { canonical = []; indices = []; count = 0 }
-
-pub group-is : (g h : Group) → Some g ≡ Some h → g ≡ h
-group-is g h e = ap (by no_group) e where
-  by : Group → Option Group → Group
-  by d None = d
-  by d (Some x) = x
-
-no_owner : Owner
-no_owner = record { first = 0; place = 0 }
-
-pub owner-is : (o p : Owner) → Some o ≡ Some p → o ≡ p
-owner-is o p e = ap (by no_owner) e where
-  by : Owner → Option Owner → Owner
-  by d None = d
-  by d (Some x) = x
-
-pub number-is : (m n : ℕ) → Some m ≡ Some n → m ≡ n
-number-is m n e = ap (by 0) e where
-  by : ℕ → Option ℕ → ℕ
-  by d None = d
-  by d (Some x) = x
-
-pub some-none : {A : Type 0} (x : A) → None ≡ Some x → ⊥
-some-none x e = let no-way : None ≡ Some x = e in cc
 
 abbrev Eq : List WasmSubType → List WasmSubType → Bool
 Eq = groups_equal.ghosts.eq
@@ -56,19 +30,16 @@ module _ {Key : Type 0} (content : Key → List WasmSubType) (live live' : ℕ) 
   -- what is there now was there, elsewhere
   stays : (n : ℕ) (h : Group) → group_in gs' n ≡ Some h → (n ≡ f → ⊥) × (group_in gs n ≡ Some h)
   stays n h here =
-      let apart : n ≡ f → ⊥ = λ e. some-none h (sym (ap (group_in gs') e ∙ set-none gs f) ∙ here) in
+      let apart : n ≡ f → ⊥ = λ e. none-some h (sym (ap (group_in gs') e ∙ set-none gs f) ∙ here) in
       (apart, sym (set-other gs f n None apart) ∙ here)
 
   -- an index of another group is no index of this one
   elsewhere : (n p i : ℕ) (h : Group) → (n ≡ f → ⊥) → group_in gs n ≡ Some h → slice_get h.indices p ≡ Some i → list_any (nat_eq i) g.indices ≡ false
-  elsewhere n p i h apart here is = by (list_any (nat_eq i) g.indices) refl where
-    by : (c : Bool) → list_any (nat_eq i) g.indices ≡ c → c ≡ false
-    by false e = refl
-    by true e =
-        let q = place-any g.indices i e in
-        let one = k.owned f q.place i g at q.at in
-        let two = k.owned n p i h here is in
-        absurd (apart (ap (λ (o : Owner). o.first) (owner-is (record { first = n; place = p }) (record { first = f; place = q.place }) (sym two ∙ one))))
+  elsewhere n p i h apart here is = false_from_ne_true (list_any (nat_eq i) g.indices) (λ e.
+      let q = place-any g.indices i e in
+      let one = k.owned f q.place i g at q.at in
+      let two = k.owned n p i h here is in
+      apart (ap (λ (o : Owner). o.first) (same_Some (record { first = n; place = p }) (record { first = f; place = q.place }) (sym two ∙ one))))
 
   owned : (n p i : ℕ) (h : Group) → group_in gs' n ≡ Some h → slice_get h.indices p ≡ Some i → owner_at os' i ≡ Some (record { first = n; place = p })
   owned n p i h here is =
@@ -79,34 +50,31 @@ module _ {Key : Type 0} (content : Key → List WasmSubType) (live live' : ℕ) 
   owns : (i : ℕ) (o : Owner) → owner_at os' i ≡ Some o → IsOwned gs' i o
   owns i o is = by (list_any (nat_eq i) g.indices) refl (sym (emptied-at os g.indices i) ∙ is) where
     by : (c : Bool) → list_any (nat_eq i) g.indices ≡ c → (if c then None else owner_at os i) ≡ Some o → IsOwned gs' i o
-    by true e now = absurd (some-none o now)
+    by true e now = absurd (none-some o now)
     by false e now =
         let w = k.owns i o now in
         let apart : o.first ≡ f → ⊥ = λ same.
-        let here : w.group ≡ g = group-is w.group g (sym w.kept ∙ ap (group_in gs) same ∙ at) in
+        let here : w.group ≡ g = same_Some w.group g (sym w.kept ∙ ap (group_in gs) same ∙ at) in
         let any : list_any (nat_eq i) g.indices ≡ true = ap (λ (h : Group). list_any (nat_eq i) h.indices) (sym here) ∙ any-place w.group.indices i o.place w.at in
         let no-way : false ≡ true = sym e ∙ any in cc in
         record { group = w.group; kept = set-other gs f o.first None apart ∙ w.kept; at = w.at }
 
   known-still : (n : ℕ) (h : Group) → group_in gs' n ≡ Some h → (key : Key) → content key ≡ h.canonical → known' key ≡ Some n
-  known-still n h here key is = by (Eq g.canonical (content key)) refl where
-    s : (n ≡ f → ⊥) × (group_in gs n ≡ Some h)
-    s = stays n h here
-
-    by : (c : Bool) → Eq g.canonical (content key) ≡ c → known' key ≡ Some n
-    by true e =
-        let same : g.canonical ≡ content key = (equal g.canonical (content key)).0 e in
-        absurd (s.0 (number-is n f (sym (k.found n h s.1 key is) ∙ k.found f g at key (sym same))))
-    by false e = forgets key ∙ ap (λ c. cond c None (known key)) e ∙ k.found n h s.1 key is
+  known-still n h here key is =
+      let s = stays n h here in
+      let old = k.found n h s.1 key is in
+      let differ : Eq g.canonical (content key) ≡ false = false_from_ne_true (Eq g.canonical (content key)) (λ e.
+          s.0 (same_Some n f (sym old ∙ k.found f g at key (sym ((equal g.canonical (content key)).0 e))))) in
+      forgets key ∙ ap (λ c. cond c None (known key)) differ ∙ old
 
   knows-still : (key : Key) (n : ℕ) → known' key ≡ Some n → HasCanonical gs' n (content key)
   knows-still key n is = by (Eq g.canonical (content key)) refl (sym (forgets key) ∙ is) where
     by : (b : Bool) → Eq g.canonical (content key) ≡ b → cond b None (known key) ≡ Some n → HasCanonical gs' n (content key)
-    by true e now = absurd (some-none n now)
+    by true e now = absurd (none-some n now)
     by false e now =
         let w = k.knows key n now in
         let apart : n ≡ f → ⊥ = λ same.
-        let here : w.group ≡ g = group-is w.group g (sym w.kept ∙ ap (group_in gs) same ∙ at) in
+        let here : w.group ≡ g = same_Some w.group g (sym w.kept ∙ ap (group_in gs) same ∙ at) in
         let yes : Eq g.canonical (content key) ≡ true = (equal g.canonical (content key)).1 (ap (λ (h : Group). h.canonical) (sym here) ∙ w.same) in
         let no-way : false ≡ true = sym e ∙ yes in cc in
         record { group = w.group; kept = set-other gs f n None apart ∙ w.kept; same = w.same }
@@ -146,7 +114,7 @@ module _ {Key : Type 0} (content : Key → List WasmSubType) (live : ℕ) (known
     by : (c : Bool) → nat_eq n f ≡ c → Was n h
     by true e =
         let same : n ≡ f = eqb-true n f e in
-        let is : h ≡ g' = group-is h g' (sym here ∙ ap (group_in counted) same ∙ set-here gs f g g' at) in
+        let is : h ≡ g' = same_Some h g' (sym here ∙ ap (group_in counted) same ∙ set-here gs f (Some g') (group-within gs f g at)) in
         record { group = g; kept = ap (group_in gs) same ∙ at; indices = ap (λ (x : Group). x.indices) is; canonical = ap (λ (x : Group). x.canonical) is }
     by false e = record { group = h; kept = sym (set-other gs f n (Some g') (eqb-false n f e)) ∙ here; indices = refl; canonical = refl }
 
@@ -162,8 +130,8 @@ module _ {Key : Type 0} (content : Key → List WasmSubType) (live : ℕ) (known
     by : (c : Bool) → nat_eq n f ≡ c → Is n h
     by true e =
         let same : n ≡ f = eqb-true n f e in
-        let is : g ≡ h = group-is g h (sym at ∙ ap (group_in gs) (sym same) ∙ here) in
-        record { group = g'; kept = ap (group_in counted) same ∙ set-here gs f g g' at; indices = ap (λ (x : Group). x.indices) is; canonical = ap (λ (x : Group). x.canonical) is }
+        let is : g ≡ h = same_Some g h (sym at ∙ ap (group_in gs) (sym same) ∙ here) in
+        record { group = g'; kept = ap (group_in counted) same ∙ set-here gs f (Some g') (group-within gs f g at); indices = ap (λ (x : Group). x.indices) is; canonical = ap (λ (x : Group). x.canonical) is }
     by false e = record { group = h; kept = set-other gs f n (Some g') (eqb-false n f e) ∙ here; indices = refl; canonical = refl }
 
   pub kept-counted : AreKept content live known counted os free

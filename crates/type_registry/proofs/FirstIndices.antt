@@ -1,24 +1,14 @@
 -- Groups at their first indices.
-use Rattle.std.proofs.Common.{if◌then◌else◌, ◌≡◌, ◌∙◌, ◌≤◌, ◌<◌, ℕ, zero, suc, ◌+◌, Bool, true, false, nat_eq, List, [], ◌∷◌, ◌++◌, length, Option, Some, None, option_and_then, set, eq-eqb, refl, sym, ap, arith}
+use Rattle.std.proofs.Common.{if◌then◌else◌, ◌≡◌, ◌∙◌, ◌≤◌, ◌<◌, ℕ, zero, suc, ◌+◌, nat_eq, List, [], ◌∷◌, ◌++◌, length, Option, Some, None, option_and_then, set, eq-eqb, refl, sym, ap, arith}
 use Rattle.std.proofs.lemmas.List.{length-append}
-use Rattle.std.proofs.lemmas.Bool.{eqb-true}
+use Rattle.std.proofs.lemmas.Bool.{ne_eqb}
 use Rattle.std.proofs.lemmas.Option.{slice_get_past}
 use Rattle.std.specs.Map.{lookup, set_value, remove_entry}
+use Rattle.std.proofs.lemmas.Bool.Decides.{nat_tests}
+use Rattle.std.specs.List.{slice_get}
 use Rattle.type_registry.specs.Registry.{Group, Groups, indices_of}
 use Rattle.type_registry.specs.Keeping.{kept_from, group_in}
 use Rattle.type_registry.specs.Changes.{with_count}
-
-apart : (n k : ℕ) → n < k → nat_eq n k ≡ false
-apart n k h = by (nat_eq n k) refl where
-  by : (c : Bool) → nat_eq n k ≡ c → c ≡ false
-  by true e = absurd (omega (arith, eqb-true n k e, h))
-  by false e = refl
-
-behind : (n k : ℕ) → k < n → nat_eq n k ≡ false
-behind n k h = by (nat_eq n k) refl where
-  by : (c : Bool) → nat_eq n k ≡ c → c ≡ false
-  by true e = absurd (omega (arith, eqb-true n k e, h))
-  by false e = refl
 
 abbrev nothing : Option Group
 nothing = None
@@ -27,7 +17,7 @@ lookup-below : (gs : List (Option Group)) (k n : ℕ) → n < k → lookup (nat_
 lookup-below [] k n h = refl
 lookup-below (None ∷ gs) k n h = lookup-below gs (k + 1) n (omega (arith, h))
 lookup-below (Some g ∷ gs) k n h =
-    ap (λ c. if c then Some g else lookup (nat_eq n) (kept_from (k + 1) gs)) (apart n k h) ∙ lookup-below gs (k + 1) n (omega (arith, h))
+    ap (λ c. if c then Some g else lookup (nat_eq n) (kept_from (k + 1) gs)) (ne_eqb n k (λ same. omega arith)) ∙ lookup-below gs (k + 1) n (omega (arith, h))
 
 pub lookup-at : (gs : List (Option Group)) (k m n : ℕ) → n ≡ k + m → lookup (nat_eq n) (kept_from k gs) ≡ group_in gs m
 lookup-at [] k m n e = refl
@@ -36,7 +26,7 @@ lookup-at (None ∷ gs) k (suc m) n e = lookup-at gs (k + 1) m n (omega (arith, 
 lookup-at (Some g ∷ gs) k zero n e =
     ap (λ c. if c then Some g else lookup (nat_eq n) (kept_from (k + 1) gs)) (eq-eqb n k (omega (arith, e)))
 lookup-at (Some g ∷ gs) k (suc m) n e =
-    ap (λ c. if c then Some g else lookup (nat_eq n) (kept_from (k + 1) gs)) (behind n k (omega (arith, e))) ∙ lookup-at gs (k + 1) m n (omega (arith, e))
+    ap (λ c. if c then Some g else lookup (nat_eq n) (kept_from (k + 1) gs)) (ne_eqb n k (λ same. omega arith)) ∙ lookup-at gs (k + 1) m n (omega (arith, e))
 
 -- another group at a place, or none
 pub set-at : (gs : List (Option Group)) (k m n : ℕ) (g h : Group) → n ≡ k + m → group_in gs m ≡ Some g
@@ -48,7 +38,7 @@ set-at (Some x ∷ gs) k zero n g h e at =
     ap (λ c. if c then (k, h) ∷ kept_from (k + 1) gs else (k, x) ∷ set_value (nat_eq n) (kept_from (k + 1) gs) h) (sym (eq-eqb n k (omega (arith, e))))
 set-at (Some x ∷ gs) k (suc m) n g h e at =
     ap (λ es. (k, x) ∷ es) (set-at gs (k + 1) m n g h (omega (arith, e)) at)
-    ∙ ap (λ c. if c then (k, h) ∷ kept_from (k + 1) gs else (k, x) ∷ set_value (nat_eq n) (kept_from (k + 1) gs) h) (sym (behind n k (omega (arith, e))))
+    ∙ ap (λ c. if c then (k, h) ∷ kept_from (k + 1) gs else (k, x) ∷ set_value (nat_eq n) (kept_from (k + 1) gs) h) (sym (ne_eqb n k (λ same. omega arith)))
 
 pub remove-at : (gs : List (Option Group)) (k m n : ℕ) (g : Group) → n ≡ k + m → group_in gs m ≡ Some g
     → kept_from k (set gs m None) ≡ remove_entry (nat_eq n) (kept_from k gs)
@@ -59,21 +49,22 @@ remove-at (Some x ∷ gs) k zero n g e at =
     ap (λ c. if c then kept_from (k + 1) gs else (k, x) ∷ remove_entry (nat_eq n) (kept_from (k + 1) gs)) (sym (eq-eqb n k (omega (arith, e))))
 remove-at (Some x ∷ gs) k (suc m) n g e at =
     ap (λ es. (k, x) ∷ es) (remove-at gs (k + 1) m n g (omega (arith, e)) at)
-    ∙ ap (λ c. if c then kept_from (k + 1) gs else (k, x) ∷ remove_entry (nat_eq n) (kept_from (k + 1) gs)) (sym (behind n k (omega (arith, e))))
+    ∙ ap (λ c. if c then kept_from (k + 1) gs else (k, x) ∷ remove_entry (nat_eq n) (kept_from (k + 1) gs)) (sym (ne_eqb n k (λ same. omega arith)))
 
 -- ---- the group at a place, once another is put there
 
-pub set-other : (gs : List (Option Group)) (f n : ℕ) (o : Option Group) → (n ≡ f → ⊥) → group_in (set gs f o) n ≡ group_in gs n
+pub set-other : {A : Type 0} (xs : List (Option A)) (f n : ℕ) (o : Option A) → (n ≡ f → ⊥)
+    → option_and_then (λ (x : Option A). x) (slice_get (set xs f o) n) ≡ option_and_then (λ (x : Option A). x) (slice_get xs n)
 set-other [] f n o apart = refl
-set-other (x ∷ gs) zero zero o apart = absurd (apart refl)
-set-other (x ∷ gs) zero (suc n) o apart = refl
-set-other (x ∷ gs) (suc f) zero o apart = refl
-set-other (x ∷ gs) (suc f) (suc n) o apart = set-other gs f n o (λ e. apart (ap suc e))
+set-other (x ∷ xs) zero zero o apart = absurd (apart refl)
+set-other (x ∷ xs) zero (suc n) o apart = refl
+set-other (x ∷ xs) (suc f) zero o apart = refl
+set-other (x ∷ xs) (suc f) (suc n) o apart = set-other xs f n o (λ e. apart (ap suc e))
 
-pub set-here : (gs : List (Option Group)) (f : ℕ) (g h : Group) → group_in gs f ≡ Some g → group_in (set gs f (Some h)) f ≡ Some h
-set-here [] f g h at = let no : nothing ≡ Some g = at in cc
-set-here (x ∷ gs) zero g h at = refl
-set-here (x ∷ gs) (suc f) g h at = set-here gs f g h at
+pub set-here : {A : Type 0} (xs : List (Option A)) (n : ℕ) (o : Option A) → n < length xs → option_and_then (λ (x : Option A). x) (slice_get (set xs n o) n) ≡ o
+set-here [] n o lt = absurd (omega (arith, lt))
+set-here (x ∷ xs) zero o lt = refl
+set-here (x ∷ xs) (suc n) o lt = set-here xs n o (omega (arith, lt))
 
 pub set-none : (gs : List (Option Group)) (f : ℕ) → group_in (set gs f None) f ≡ None
 set-none [] f = refl
@@ -86,11 +77,6 @@ set-nothing (None ∷ gs) zero at = refl
 set-nothing (Some g ∷ gs) zero at = let no : nothing ≡ Some g = sym at in cc
 set-nothing (x ∷ gs) (suc f) at = ap (λ l. x ∷ l) (set-nothing gs f at)
 
-pub set-twice : (gs : List (Option Group)) (f : ℕ) (o p : Option Group) → set (set gs f o) f p ≡ set gs f p
-set-twice [] f o p = refl
-set-twice (x ∷ gs) zero o p = refl
-set-twice (x ∷ gs) (suc f) o p = ap (λ l. x ∷ l) (set-twice gs f o p)
-
 pub group-past : (gs : List (Option Group)) (f : ℕ) → length gs ≤ f → group_in gs f ≡ None
 group-past gs f le = ap (λ (o : Option (Option Group)). option_and_then (λ (g : Option Group). g) o) (slice_get_past gs f le)
 
@@ -100,11 +86,7 @@ pub remove-none : (gs : List (Option Group)) (k m n : ℕ) → n ≡ k + m → g
 remove-none gs k m n e none = absent (kept_from k gs) (lookup-at gs k m n e ∙ none) where
   absent : (es : Groups) → lookup (nat_eq n) es ≡ None → es ≡ remove_entry (nat_eq n) es
   absent [] none = refl
-  absent (x ∷ es) none = by (nat_eq n x.0) none (absent es) where
-    by : (c : Bool) → (if c then Some x.1 else lookup (nat_eq n) es) ≡ None → (lookup (nat_eq n) es ≡ None → es ≡ remove_entry (nat_eq n) es)
-        → x ∷ es ≡ (if c then es else x ∷ remove_entry (nat_eq n) es)
-    by true none rest = let bad : Some x.1 ≡ None = none in cc
-    by false none rest = ap (λ l. x ∷ l) (rest none)
+  absent (x ∷ es) none = let rest = absent es in grind (arith, nat_tests)
 
 pub count-at : (gs : List (Option Group)) (f n : ℕ) (g : Group) → group_in gs f ≡ Some g
     → kept_from 0 (set gs f (Some (record g { count = n }))) ≡ with_count (kept_from 0 gs) f n (lookup (nat_eq f) (kept_from 0 gs))

@@ -2,25 +2,19 @@
 use Rattle.std.specs.Prelude.{◌||◌}
 use Rattle.std.proofs.Common.{if◌then◌else◌, ◌≡◌, ◌∙◌, ◌<◌, ◌≤◌, ℕ, zero, suc, ◌+◌, ◌-◌, Bool, true, false, nat_eq, List, [], ◌∷◌, ◌++◌, length, get_or, slice_get, Some, refl, sym, ap, arith, eq-eqb}
 use Rattle.std.specs.List.{list_any}
-use Rattle.std.proofs.lemmas.Bool.{eqb-true}
+use Rattle.std.proofs.lemmas.Bool.{ne_eqb, cases_Bool, cases_eq, false_from_ne_true}
+use Rattle.std.proofs.lemmas.Option.{slice_get-get_or, slice_get_within, none-some, same_Some}
+use Rattle.std.proofs.lemmas.Bool.Decides.{nat_tests}
+use Rattle.std.proofs.lemmas.List.{append-nil}
 use Rattle.free_numbers.specs.Counts.{total, before}
+use Rattle.free_numbers.proofs.Pairs.{before-more, all-before, some-within}
 use Rattle.type_registry.specs.FreeIndices.{free_below}
 use Rattle.type_registry.proofs.OwnerLists.{place-any}
-use Rattle.type_registry.proofs.Dropping.{number-is, some-none}
 use Rattle.type_registry.proofs.KeepingAll.{true-false, IsOnce}
 use Rattle.type_registry.specs.Changes.{past, least_from, least_free, free_indices}
 
 abbrev has : List ℕ → ℕ → Bool
 has taken n = list_any (nat_eq n) taken
-
-pub apart : (m n : ℕ) → (m ≡ n → ⊥) → nat_eq m n ≡ false
-apart m n differ = by (nat_eq m n) refl where
-  by : (c : Bool) → nat_eq m n ≡ c → c ≡ false
-  by true e = absurd (differ (eqb-true m n e))
-  by false e = refl
-
-not-same : (m n : ℕ) → nat_eq m n ≡ false → m ≡ n → ⊥
-not-same m n e same = let bad : true ≡ false = sym (eq-eqb m n same) ∙ e in cc
 
 -- ---- how many are free before one
 
@@ -57,23 +51,17 @@ all-taken taken i (suc j) (suc d) e all =
 none-less : (t : ℕ) (ts : List ℕ) (n : ℕ) → n ≤ t → free_below (t ∷ ts) n ≡ free_below ts n
 none-less t ts zero le = refl
 none-less t ts (suc n) le =
-    let no : nat_eq n t ≡ false = apart n t (λ e. absurd (omega (arith, e, le))) in
+    let no : nat_eq n t ≡ false = ne_eqb n t (λ e. absurd (omega (arith, e, le))) in
     ap (λ (c : Bool). free_below (t ∷ ts) n + (if c || has ts n then 0 else 1)) no
     ∙ ap (λ k. k + (if has ts n then 0 else 1)) (none-less t ts n (omega (arith, le)))
 
 one-less : (t : ℕ) (ts : List ℕ) (n : ℕ) → free_below ts n ≤ free_below (t ∷ ts) n + 1
 one-less t ts zero = omega arith
-one-less t ts (suc n) = by (nat_eq n t) refl (one-less t ts n) where
-  bit : (c : Bool) → (if c then 0 else 1) ≤ 1
-  bit true = omega arith
-  bit false = omega arith
-
-  by : (c : Bool) → nat_eq n t ≡ c → free_below ts n ≤ free_below (t ∷ ts) n + 1
-      → free_below ts n + (if has ts n then 0 else 1) ≤ free_below (t ∷ ts) n + (if c || has ts n then 0 else 1) + 1
-  by true e rest =
-      let same = none-less t ts n (omega (arith, eqb-true n t e)) in
-      omega (arith, same, bit (has ts n))
-  by false e rest = omega (arith, rest)
+one-less t ts (suc n) =
+    let rest = one-less t ts n in
+    let same = none-less t ts n in
+    let any = cases_Bool (has ts n) in
+    grind (arith, nat_tests)
 
 no-taken : (n : ℕ) → free_below [] n ≡ n
 no-taken zero = refl
@@ -89,26 +77,22 @@ rank-high (t ∷ ts) n = omega (arith, rank-high ts n, one-less t ts n)
 past-none : (taken : List ℕ) (m : ℕ) → past taken ≤ m → has taken m ≡ false
 past-none [] m le = refl
 past-none (t ∷ ts) m le =
-    ap (λ c. c || has ts m) (apart m t (λ e. absurd (omega (arith, e, le)))) ∙ past-none ts m (omega (arith, le))
+    ap (λ c. c || has ts m) (ne_eqb m t (λ e. absurd (omega (arith, e, le)))) ∙ past-none ts m (omega (arith, le))
 
 from-none : (taken : List ℕ) (i n : ℕ) → ((m : ℕ) → i + n ≤ m → has taken m ≡ false) → has taken (least_from taken i n) ≡ false
 from-none taken i zero none = none i (omega arith)
-from-none taken i (suc n) none = by (has taken i) refl (from-none taken (i + 1) n (λ m le. none m (omega (arith, le)))) where
-  by : (c : Bool) → has taken i ≡ c → has taken (least_from taken (i + 1) n) ≡ false → has taken (if c then least_from taken (i + 1) n else i) ≡ false
-  by true e rest = rest
-  by false e rest = e
+from-none taken i (suc n) none =
+    let rest = from-none taken (i + 1) n (λ m le. none m (omega (arith, le))) in
+    let any = cases_Bool (has taken i) in
+    grind arith
 
 from-below : (taken : List ℕ) (i n m : ℕ) → i ≤ m → m < least_from taken i n → has taken m ≡ true
 from-below taken i zero m low high = absurd (omega (arith, low, high))
-from-below taken i (suc n) m low high = by (has taken i) refl high (from-below taken (i + 1) n m) where
-  later : (c : Bool) → nat_eq m i ≡ c → has taken i ≡ true → (i + 1 ≤ m → has taken m ≡ true) → has taken m ≡ true
-  later true e is rest = ap (has taken) (eqb-true m i e) ∙ is
-  later false e is rest = let differ = not-same m i e in rest (omega (arith, low, differ))
-
-  by : (c : Bool) → has taken i ≡ c → m < (if c then least_from taken (i + 1) n else i) → (i + 1 ≤ m → m < least_from taken (i + 1) n → has taken m ≡ true)
-      → has taken m ≡ true
-  by true e high rest = later (nat_eq m i) refl e (λ le. rest le high)
-  by false e high rest = absurd (omega (arith, low, high))
+from-below taken i (suc n) m low high =
+    let rest = from-below taken (i + 1) n m in
+    let any = cases_Bool (has taken i) in
+    let here = cases_eq m i in
+    grind arith
 
 least-none : (taken : List ℕ) → has taken (least_free taken) ≡ false
 least-none taken = from-none taken 0 (past taken) (λ m le. past-none taken m (omega (arith, le)))
@@ -145,12 +129,9 @@ not-below now i all =
     omega (arith, high)
 
 up-to : (now : List ℕ) (m : ℕ) → m < suc (least_free now) → has (least_free now ∷ now) m ≡ true
-up-to now m lt = by (nat_eq m (least_free now)) refl where
-  by : (c : Bool) → nat_eq m (least_free now) ≡ c → (c || has now m) ≡ true
-  by true e = refl
-  by false e = least-below now m (below (not-same m (least_free now) e)) where
-    below : (m ≡ least_free now → ⊥) → m < least_free now
-    below differ = omega (arith, lt, differ)
+up-to now m lt =
+    let rest = least-below now m in
+    grind (arith, nat_tests)
 
 -- a number that is free in turn, when so many are free before the first
 record IsFreeAt (taken : List ℕ) (earlier : ℕ) (x : ℕ) : Type 0 where
@@ -160,10 +141,10 @@ record IsFreeAt (taken : List ℕ) (earlier : ℕ) (x : ℕ) : Type 0 where
 -- those below an index are all taken meanwhile, and from it on nothing has changed
 in-turn : (taken now : List ℕ) (i n k x : ℕ) → ((m : ℕ) → m < i → has now m ≡ true) → ((m : ℕ) → i ≤ m → has now m ≡ has taken m)
     → slice_get (free_indices now n) k ≡ Some x → IsFreeAt taken (free_below taken i + k) x
-in-turn taken now i zero k x all same at = absurd (some-none x at)
+in-turn taken now i zero k x all same at = absurd (none-some x at)
 in-turn taken now i (suc n) zero x all same at =
     let j = least_free now in
-    let here : j ≡ x = number-is j x at in
+    let here : j ≡ x = same_Some j x at in
     let low = not-below now i all in
     record {
       free = ap (has taken) (sym here) ∙ sym (same j low) ∙ least-none now;
@@ -177,7 +158,7 @@ in-turn taken now i (suc n) (suc k) x all same at =
     let low = not-below now i all in
     let none : has taken j ≡ false = sym (same j low) ∙ least-none now in
     let rest = in-turn taken (j ∷ now) (suc j) n k x (λ m lt. up-to now m lt)
-    (λ m le. ap (λ c. c || has now m) (apart m j (λ e. absurd (omega (arith, e, le)))) ∙ same m (omega (arith, low, le))) at in
+    (λ m le. ap (λ c. c || has now m) (ne_eqb m j (λ e. absurd (omega (arith, e, le)))) ∙ same m (omega (arith, low, le))) at in
     let before = all-taken taken i j (j - i) (omega (arith, low)) (λ m le lt. sym (same m le) ∙ least-below now m lt) in
     record { free = rest.free; rank = omega (arith, rest.rank, step-free taken j none, before) }
 
@@ -191,10 +172,7 @@ free-at taken n k x at =
 pub free-split : (taken : List ℕ) (m n : ℕ) → free_indices taken (m + n) ≡ free_indices taken m ++ free_indices (taken ++ free_indices taken m) n
 free-split taken zero n =
     let none : 0 + n ≡ n = omega arith in
-    ap (free_indices taken) none ∙ free-same taken (taken ++ []) n (λ x. sym (none-more taken x)) where
-      none-more : (xs : List ℕ) (x : ℕ) → has (xs ++ []) x ≡ has xs x
-      none-more [] x = refl
-      none-more (y ∷ ys) x = ap (λ c. nat_eq x y || c) (none-more ys x)
+    ap (free_indices taken) none ∙ ap (λ l. free_indices l n) (sym (append-nil taken))
 free-split taken (suc m) n =
     let j = least_free taken in
     let more : suc m + n ≡ suc (m + n) = omega arith in
@@ -202,23 +180,13 @@ free-split taken (suc m) n =
     let fs = free_indices (j ∷ taken) m in
     let moved = free-same ((j ∷ taken) ++ fs) (taken ++ j ∷ fs) n (λ x. move taken fs j x) in
     ap (free_indices taken) more ∙ ap (λ l. j ∷ l) (rest ∙ ap (λ l. fs ++ l) moved) where
-      swap : (a b c : Bool) → (a || (b || c)) ≡ (b || (a || c))
-      swap true true c = refl
-      swap true false c = refl
-      swap false b c = refl
-
       move : (xs ys : List ℕ) (j x : ℕ) → has ((j ∷ xs) ++ ys) x ≡ has (xs ++ j ∷ ys) x
       move [] ys j x = refl
-      move (y ∷ xs) ys j x = swap (nat_eq x j) (nat_eq x y) (has (xs ++ ys) x) ∙ ap (λ c. nat_eq x y || c) (move xs ys j x)
+      move (y ∷ xs) ys j x = let rest = move xs ys j x in let any = cases_Bool (has (xs ++ ys) x) in grind (arith, nat_tests)
 
 get-behind : (xs ys : List ℕ) (k : ℕ) → slice_get (xs ++ ys) (length xs + k) ≡ slice_get ys k
 get-behind [] ys k = let none : 0 + k ≡ k = omega arith in ap (slice_get ys) none
 get-behind (x ∷ xs) ys k = let more : suc (length xs) + k ≡ suc (length xs + k) = omega arith in ap (slice_get (x ∷ xs ++ ys)) more ∙ get-behind xs ys k
-
-some-within : (xs : List ℕ) (k : ℕ) → k < length xs → slice_get xs k ≡ Some (get_or xs k 0)
-some-within [] k lt = absurd (omega (arith, lt))
-some-within (x ∷ xs) zero lt = refl
-some-within (x ∷ xs) (suc k) lt = some-within xs k (omega (arith, lt))
 
 -- a free number before which so many are free is the next in turn, where so many less were free in turn
 pub free-next : (taken : List ℕ) (m n k x : ℕ) → has taken x ≡ false → free_below taken x ≡ m + k → k < n
@@ -227,7 +195,7 @@ free-next taken m n k x none rank lt =
     let fs = free_indices taken m in
     let gs = free_indices (taken ++ fs) n in
     let y = get_or gs k 0 in
-    let here : slice_get gs k ≡ Some y = some-within gs k (omega (arith, lt, free-length (taken ++ fs) n)) in
+    let here : slice_get gs k ≡ Some y = slice_get-get_or gs k 0 (omega (arith, lt, free-length (taken ++ fs) n)) in
     let size : length fs + k ≡ m + k = omega (arith, free-length taken m) in
     let whole : slice_get (free_indices taken (m + n)) (m + k) ≡ Some y =
     ap (λ l. slice_get l (m + k)) (free-split taken m n) ∙ ap (slice_get (fs ++ gs)) (sym size) ∙ get-behind fs gs k ∙ here in
@@ -239,38 +207,22 @@ free-next taken m n k x none rank lt =
 pub not-taken : (taken : List ℕ) (n x : ℕ) → has (free_indices taken n) x ≡ true → has taken x ≡ false
 not-taken taken n x is = let p = place-any (free_indices taken n) x is in (free-at taken n p.place x p.at).0
 
-get-within : (xs : List ℕ) (k x : ℕ) → slice_get xs k ≡ Some x → k < length xs
-get-within [] k x at = absurd (some-none x at)
-get-within (y ∷ xs) zero x at = omega arith
-get-within (y ∷ xs) (suc k) x at = omega (arith, get-within xs k x at)
-
 pub free-low : (taken : List ℕ) (n x : ℕ) → has (free_indices taken n) x ≡ true → x < length taken + n
 free-low taken n x is =
     let p = place-any (free_indices taken n) x is in
     let f = free-at taken n p.place x p.at in
-    omega (arith, f.1, rank-high taken x, get-within (free_indices taken n) p.place x p.at, free-length taken n)
+    omega (arith, f.1, rank-high taken x, slice_get_within (free_indices taken n) p.place x p.at, free-length taken n)
 
 pub free-once : (taken : List ℕ) (n : ℕ) → IsOnce (free_indices taken n)
 free-once taken zero = tt
-free-once taken (suc n) = (absent (has (free_indices (least_free taken ∷ taken) n) (least_free taken)) refl, free-once (least_free taken ∷ taken) n) where
-  absent : (c : Bool) → has (free_indices (least_free taken ∷ taken) n) (least_free taken) ≡ c → c ≡ false
-  absent false e = refl
-  absent true e =
-      absurd (true-false (has (least_free taken ∷ taken) (least_free taken))
-      (ap (λ c. c || has taken (least_free taken)) (eq-eqb (least_free taken) (least_free taken) refl))
-      (not-taken (least_free taken ∷ taken) n (least_free taken) e))
+free-once taken (suc n) =
+    let first = least_free taken in (
+      false_from_ne_true (has (free_indices (first ∷ taken) n) first) (λ e.
+          true-false (has (first ∷ taken) first) (ap (λ c. c || has taken first) (eq-eqb first first refl)) (not-taken (first ∷ taken) n first e)),
+      free-once (first ∷ taken) n,
+    )
 
 -- ---- numbers that are counted where they are free
-
-before-more : (xs : List ℕ) (p : ℕ) → before (suc p) xs ≡ before p xs + get_or xs p 0
-before-more [] zero = refl
-before-more [] (suc p) = refl
-before-more (x ∷ xs) zero = omega arith
-before-more (x ∷ xs) (suc p) = omega (arith, before-more xs p)
-
-before-all : (xs : List ℕ) → before (length xs) xs ≡ total xs
-before-all [] = refl
-before-all (x ∷ xs) = omega (arith, before-all xs)
 
 -- a 1 for each number that is free, and a 0 for each other
 abbrev pub AreCounted : List ℕ → List ℕ → Type 0
@@ -282,23 +234,18 @@ counted-before taken xs are (suc n) le =
     omega (arith, before-more xs n, counted-before taken xs are n (omega (arith, le)), are n (omega (arith, le)))
 
 pub counted-free : (taken xs : List ℕ) → AreCounted taken xs → (n : ℕ) → get_or xs n 0 ≡ 1 → (n < length xs) × (has taken n ≡ false)
-counted-free taken xs are n one = (within xs n one, by (has taken n) (sym (are n (within xs n one)) ∙ one)) where
-  within : (xs : List ℕ) (n : ℕ) → get_or xs n 0 ≡ 1 → n < length xs
-  within [] zero one = absurd (omega (arith, one))
-  within [] (suc n) one = absurd (omega (arith, one))
-  within (x ∷ xs) zero one = omega arith
-  within (x ∷ xs) (suc n) one = omega (arith, within xs n one)
-
-  by : (c : Bool) → ◌≡◌ {A = ℕ} (if c then 0 else 1) 1 → c ≡ false
-  by true e = absurd (omega (arith, e))
-  by false e = refl
+counted-free taken xs are n one =
+    let within : n < length xs = some-within xs n (omega (arith, one)) in
+    let here = are n within in
+    let any = cases_Bool (has taken n) in
+    (within, grind arith)
 
 -- past them all are free
 pub counted-past : (taken xs : List ℕ) → AreCounted taken xs → ((i : ℕ) → length xs ≤ i → has taken i ≡ false)
     → (n d : ℕ) → n ≡ length xs + d → free_below taken n ≡ total xs + d
 counted-past taken xs are free n zero e =
     let same : n ≡ length xs = omega (arith, e) in
-    omega (arith, ap (free_below taken) same, counted-before taken xs are (length xs) (omega arith), before-all xs)
+    omega (arith, ap (free_below taken) same, counted-before taken xs are (length xs) (omega arith), all-before xs)
 counted-past taken xs are free zero (suc d) e = absurd (omega (arith, e))
 counted-past taken xs are free (suc n) (suc d) e =
     omega (arith, step-free taken n (free n (omega (arith, e))), counted-past taken xs are free n d (omega (arith, e)))

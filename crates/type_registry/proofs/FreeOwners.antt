@@ -1,6 +1,9 @@
 -- An index is free where it has no owner.
-use Rattle.std.proofs.Common.{if◌then◌else◌, ◌≡◌, ◌∙◌, ◌<◌, ◌≤◌, ℕ, zero, suc, ◌+◌, Bool, true, false, nat_eq, List, [], ◌∷◌, length, map, get_or, slice_get, Option, Some, None, refl, sym, ap, arith}
+use Rattle.std.proofs.Common.{if◌then◌else◌, ◌≡◌, ◌∙◌, ◌<◌, ◌≤◌, ℕ, zero, suc, ◌+◌, Bool, true, false, nat_eq, List, [], ◌∷◌, length, map, get_or, slice_get, Option, Some, None, refl, sym, ap, arith, option_and_then}
 use Rattle.std.specs.List.{list_any}
+use Rattle.std.proofs.lemmas.Option.{none-some, slice_get_past}
+use Rattle.std.proofs.lemmas.List.{length-map}
+use Rattle.std.proofs.lemmas.Bool.{false_from_ne_true}
 use Rattle.wasm_types.specs.declared.sub.WasmSubType.{WasmSubType}
 use Rattle.free_numbers.specs.Counts.{total, before}
 use Rattle.type_registry.specs.declared.owners.Owner.{Owner}
@@ -9,7 +12,6 @@ use Rattle.type_registry.specs.Owners.{owner_at, free_count}
 use Rattle.type_registry.specs.Keeping.{kept_from, group_in, AreKept}
 use Rattle.type_registry.specs.FreeIndices.{free_below}
 use Rattle.type_registry.proofs.OwnerLists.{place-any}
-use Rattle.type_registry.proofs.Dropping.{some-none}
 use Rattle.type_registry.proofs.NewGroups.{has-index}
 use Rattle.type_registry.proofs.KeepingAll.{any-second, true-false}
 use Rattle.type_registry.proofs.FreeIndices.{AreCounted, counted-before, counted-free, counted-past}
@@ -41,13 +43,7 @@ count-at (o ∷ os) zero lt = refl
 count-at (o ∷ os) (suc i) lt = count-at os i (omega (arith, lt))
 
 owner-past : (os : List (Option Owner)) (i : ℕ) → length os ≤ i → owner_at os i ≡ None
-owner-past [] i le = refl
-owner-past (o ∷ os) zero le = absurd (omega (arith, le))
-owner-past (o ∷ os) (suc i) le = owner-past os i (omega (arith, le))
-
-length-map : (os : List (Option Owner)) → length (map free_count os) ≡ length os
-length-map [] = refl
-length-map (o ∷ os) = ap suc (length-map os)
+owner-past os i le = ap (λ (o : Option (Option Owner)). option_and_then (λ (x : Option Owner). x) o) (slice_get_past os i le)
 
 module _ {Key : Type 0} (content : Key → List WasmSubType) (live : ℕ) (known : Key → Option ℕ) (gs : List (Option Group)) (os : List (Option Owner))
     (free : List ℕ) (k : AreKept content live known gs os free) where
@@ -55,18 +51,15 @@ module _ {Key : Type 0} (content : Key → List WasmSubType) (live : ℕ) (known
   taken = indices_of (kept_from 0 gs)
 
   without-owner : (i : ℕ) → owner_at os i ≡ None → list_any (nat_eq i) taken ≡ false
-  without-owner i none = by (list_any (nat_eq i) taken) refl where
-    by : (c : Bool) → list_any (nat_eq i) taken ≡ c → c ≡ false
-    by false e = refl
-    by true e =
-        let w = index-has gs 0 i e in
-        absurd (some-none (record { first = w.first; place = w.place }) (sym none ∙ k.owned w.first w.place i w.group w.kept w.at))
+  without-owner i none = false_from_ne_true (list_any (nat_eq i) taken) (λ e.
+      let w = index-has gs 0 i e in
+      none-some (record { first = w.first; place = w.place }) (sym none ∙ k.owned w.first w.place i w.group w.kept w.at))
 
   with-owner : (i : ℕ) (o : Owner) → owner_at os i ≡ Some o → list_any (nat_eq i) taken ≡ true
   with-owner i o is = let w = k.owns i o is in has-index gs 0 o.first o.place i w.group w.kept w.at
 
   pub owners-long : length free ≡ length os
-  owners-long = ap length k.unowned ∙ length-map os
+  owners-long = ap length k.unowned ∙ length-map os free_count
 
   pub counted-owners : AreCounted taken free
   counted-owners i lt =

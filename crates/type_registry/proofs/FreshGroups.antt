@@ -3,21 +3,16 @@ use Rattle.std.specs.Prelude.{cond}
 use Rattle.std.proofs.Common.{if◌then◌else◌, ◌≡◌, ◌∙◌, ◌↔◌, ◌<◌, ℕ, zero, suc, ◌+◌, Bool, true, false, List, [], ◌∷◌, ◌++◌, length, slice_get, Option, Some, None, refl, sym, ap, arith}
 use Rattle.std.proofs.lemmas.List.{length-append}
 use Rattle.std.specs.Option.{option_map}
+use Rattle.std.proofs.lemmas.Option.{none-some, same_Some}
+use Rattle.std.proofs.lemmas.Bool.{cases_Bool, false_from_ne_true}
 use Rattle.wasm_types.specs.declared.sub.WasmSubType.{WasmSubType}
 use Rattle.type_registry.specs.Registry.{Group, Groups, indices_of}
 use Rattle.type_registry.specs.Changes.{find_group}
 use Rattle.type_registry.specs.Planning.{HasMembers, AreFresh}
-use Rattle.type_registry.proofs.Dropping.{number-is, some-none}
 use Rattle.type_registry.proofs.Keeping.{Eq}
 
 abbrev Entry : Type 0
 Entry = ℕ × Group
-
-entry-is : (e f : Entry) → Some e ≡ Some f → e ≡ f
-entry-is e f is = ap (by e) is where
-  by : Entry → Option Entry → Entry
-  by d None = d
-  by d (Some x) = x
 
 abbrev group_of : Entry → Group
 group_of e = e.1
@@ -25,32 +20,33 @@ group_of e = e.1
 -- the one group that is equal is found
 find-one : (es : Groups) (p : ℕ) (e : Entry) (c : List WasmSubType) → slice_get es p ≡ Some e → Eq e.1.canonical c ≡ true
     → ((q : ℕ) (f : Entry) → slice_get es q ≡ Some f → Eq f.1.canonical c ≡ true → q ≡ p) → find_group c es ≡ Some e.1
-find-one [] p e c at holds only = absurd (some-none e at)
+find-one [] p e c at holds only = absurd (none-some e at)
 find-one (x ∷ es) zero e c at holds only =
-    let same = entry-is x e at in
+    let same = same_Some x e at in
     ap (λ b. if b then Some x.1 else find_group c es) (ap (λ (f : Entry). Eq f.1.canonical c) same ∙ holds) ∙ ap (λ (f : Entry). Some f.1) same
 find-one (x ∷ es) (suc p) e c at holds only =
-    by (Eq x.1.canonical c) refl (find-one es p e c at holds (λ q f here is. let n : suc q ≡ suc p = only (suc q) f here is in omega (arith, n))) where
-      by : (b : Bool) → Eq x.1.canonical c ≡ b → find_group c es ≡ Some e.1 → (if b then Some x.1 else find_group c es) ≡ Some e.1
-      by true is rest = let fails : 0 ≡ suc p = only 0 x refl is in absurd (omega (arith, fails))
-      by false is rest = rest
+    let rest = find-one es p e c at holds (λ q f here is. let n : suc q ≡ suc p = only (suc q) f here is in omega (arith, n)) in
+    let equal = cases_Bool (Eq x.1.canonical c) in
+    let first = only 0 x refl in
+    grind arith
 
 find-no-one : (es : Groups) (c : List WasmSubType) → ((q : ℕ) (f : Entry) → slice_get es q ≡ Some f → Eq f.1.canonical c ≡ true → ⊥) → find_group c es ≡ None
 find-no-one [] c none = refl
-find-no-one (x ∷ es) c none = by (Eq x.1.canonical c) refl (find-no-one es c (λ q f here is. none (suc q) f here is)) where
-  by : (b : Bool) → Eq x.1.canonical c ≡ b → find_group c es ≡ None → (if b then Some x.1 else find_group c es) ≡ None
-  by true is rest = absurd (none 0 x refl is)
-  by false is rest = rest
+find-no-one (x ∷ es) c none =
+    let rest = find-no-one es c (λ q f here is. none (suc q) f here is) in
+    let equal = cases_Bool (Eq x.1.canonical c) in
+    let first = none 0 x refl in
+    grind arith
 
 -- an equal one would be found
 none-there : (es : Groups) (c : List WasmSubType) (q : ℕ) (f : Entry) → find_group c es ≡ None → slice_get es q ≡ Some f → Eq f.1.canonical c ≡ true → ⊥
-none-there [] c q f none at is = some-none f at
+none-there [] c q f none at is = none-some f at
 none-there (x ∷ es) c zero f none at is =
-    some-none x.1 (sym none ∙ ap (λ b. if b then Some x.1 else find_group c es) (ap (λ (e : Entry). Eq e.1.canonical c) (entry-is x f at) ∙ is))
-none-there (x ∷ es) c (suc q) f none at is = by (Eq x.1.canonical c) none (λ n. none-there es c q f n at is) where
-  by : (b : Bool) → (if b then Some x.1 else find_group c es) ≡ None → (find_group c es ≡ None → ⊥) → ⊥
-  by true none rest = some-none x.1 (sym none)
-  by false none rest = rest none
+    none-some x.1 (sym none ∙ ap (λ b. if b then Some x.1 else find_group c es) (ap (λ (e : Entry). Eq e.1.canonical c) (same_Some x f at) ∙ is))
+none-there (x ∷ es) c (suc q) f none at is =
+    let rest : find_group c es ≡ None → ⊥ = (λ n. none-there es c q f n at is) in
+    let equal = cases_Bool (Eq x.1.canonical c) in
+    grind arith
 
 -- ---- one more group
 
@@ -60,8 +56,8 @@ data Where (es : Groups) (p : ℕ) (e f : Entry) : Type 0 where
   Earlier : p < length es → slice_get es p ≡ Some f → Where es p e f
 
 pushed-at : (es : Groups) (e f : Entry) (p : ℕ) → slice_get (es ++ e ∷ []) p ≡ Some f → Where es p e f
-pushed-at [] e f zero at = Last refl (entry-is f e (sym at))
-pushed-at [] e f (suc p) at = absurd (some-none f at)
+pushed-at [] e f zero at = Last refl (same_Some f e (sym at))
+pushed-at [] e f (suc p) at = absurd (none-some f at)
 pushed-at (x ∷ es) e f zero at = Earlier (omega arith) at
 pushed-at (x ∷ es) e f (suc p) at = by (pushed-at es e f p at) where
   by : Where es p e f → Where (x ∷ es) (suc p) e f
@@ -73,7 +69,7 @@ at-last [] e = refl
 at-last (x ∷ es) e = at-last es e
 
 at-earlier : (es : Groups) (e f : Entry) (p : ℕ) → slice_get es p ≡ Some f → slice_get (es ++ e ∷ []) p ≡ Some f
-at-earlier [] e f p at = absurd (some-none f at)
+at-earlier [] e f p at = absurd (none-some f at)
 at-earlier (x ∷ es) e f zero at = at
 at-earlier (x ∷ es) e f (suc p) at = at-earlier es e f p at
 
@@ -96,12 +92,12 @@ module _ {Key : Type 0} (content : Key → List WasmSubType) (places : Key → O
     found-fresh key p is =
         let w = k.knows key p is in
         find-one es p w.entry (content key) w.at ((equal w.entry.1.canonical (content key)).1 w.same)
-        (λ q f here holds. number-is q p (sym (k.found q f here key (sym ((equal f.1.canonical (content key)).0 holds))) ∙ is))
+        (λ q f here holds. same_Some q p (sym (k.found q f here key (sym ((equal f.1.canonical (content key)).0 holds))) ∙ is))
         ∙ ap (option_map group_of) (sym w.at)
 
     pub not-fresh : (key : Key) → places key ≡ None → find_group (content key) es ≡ None
     not-fresh key none =
-        find-no-one es (content key) (λ q f here holds. some-none q (sym none ∙ k.found q f here key (sym ((equal f.1.canonical (content key)).0 holds))))
+        find-no-one es (content key) (λ q f here holds. none-some q (sym none ∙ k.found q f here key (sym ((equal f.1.canonical (content key)).0 holds))))
 
     module _ (places' : Key → Option ℕ) (members' : ℕ) (e : Entry) (unknown : find_group e.1.canonical es ≡ None)
         (learns : (q : Key) → places' q ≡ cond (Eq e.1.canonical (content q)) (Some (length es)) (places q)) (more : members' ≡ members + length e.1.indices) where
@@ -114,18 +110,17 @@ module _ {Key : Type 0} (content : Key → List WasmSubType) (places : Key → O
         by (Last n is) =
             let yes = (equal e.1.canonical (content key)).1 (sym (has ∙ ap (λ (x : Entry). x.1.canonical) is)) in
             learns key ∙ ap (λ c. cond c (Some (length es)) (places key)) yes ∙ ap Some (sym n)
-        by (Earlier lt was) = other (Eq e.1.canonical (content key)) refl where
-          other : (c : Bool) → Eq e.1.canonical (content key) ≡ c → places' key ≡ Some p
-          other true is =
-              let same : f.1.canonical ≡ e.1.canonical = sym has ∙ sym ((equal e.1.canonical (content key)).0 is) in
-              absurd (none-there es e.1.canonical p f unknown was ((equal f.1.canonical e.1.canonical).1 same))
-          other false is = learns key ∙ ap (λ c. cond c (Some (length es)) (places key)) is ∙ k.found p f was key has
+        by (Earlier lt was) =
+            let differ : Eq e.1.canonical (content key) ≡ false = false_from_ne_true (Eq e.1.canonical (content key)) (λ is.
+                let same : f.1.canonical ≡ e.1.canonical = sym has ∙ sym ((equal e.1.canonical (content key)).0 is) in
+                none-there es e.1.canonical p f unknown was ((equal f.1.canonical e.1.canonical).1 same)) in
+            learns key ∙ ap (λ c. cond c (Some (length es)) (places key)) differ ∙ k.found p f was key has
 
       knows' : (key : Key) (p : ℕ) → places' key ≡ Some p → HasMembers es' p (content key)
       knows' key p is = by (Eq e.1.canonical (content key)) refl (sym (learns key) ∙ is) where
         by : (c : Bool) → Eq e.1.canonical (content key) ≡ c → cond c (Some (length es)) (places key) ≡ Some p → HasMembers es' p (content key)
         by true holds now =
-            let n : length es ≡ p = number-is (length es) p now in
+            let n : length es ≡ p = same_Some (length es) p now in
             record { entry = e; at = ap (slice_get es') (sym n) ∙ at-last es e; same = (equal e.1.canonical (content key)).0 holds }
         by false holds now = let w = k.knows key p now in record { entry = w.entry; at = at-earlier es e w.entry p w.at; same = w.same }
 

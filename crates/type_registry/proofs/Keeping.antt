@@ -1,9 +1,10 @@
 -- What is kept stays so where a group is kept that was not.
-use Rattle.std.proofs.Common.{if◌then◌else◌, ◌≡◌, ◌∙◌, ◌<◌, ◌≤◌, ◌↔◌, ℕ, zero, suc, ◌+◌, Bool, true, false, nat_eq, nat_le, List, [], ◌∷◌, ◌++◌, length, map, set, slice_get, Option, Some, None, refl, sym, ap, arith, length-set}
+use Rattle.std.proofs.Common.{if◌then◌else◌, ◌≡◌, ◌∙◌, ◌<◌, ◌↔◌, ℕ, zero, suc, ◌+◌, Bool, true, false, nat_eq, List, [], ◌∷◌, ◌++◌, length, map, set, slice_get, Option, Some, None, refl, sym, ap, arith, length-set}
 use Rattle.std.specs.Prelude.{cond, Result, Ok, Err, is_ok, OnOk}
 use Rattle.std.specs.List.{list_any}
 use Rattle.std.proofs.lemmas.List.{length-append}
-use Rattle.std.proofs.lemmas.Bool.{eqb-true, eqb-false, leb-true, leb-false}
+use Rattle.std.proofs.lemmas.Bool.{eqb-true, eqb-false, le-leb, lt-leb, false_from_ne_true}
+use Rattle.std.proofs.lemmas.Option.{none-some, same_Some}
 use Rattle.wasm_types.specs.declared.sub.WasmSubType.{WasmSubType}
 use Rattle.wasm_types.specs.contracts.equal_groups.WasmRecGroupPartialEq.TheImpl as groups_equal
 use Rattle.type_registry.specs.declared.owners.Owner.{Owner}
@@ -11,9 +12,8 @@ use Rattle.type_registry.specs.Registry.{Group, indices_of}
 use Rattle.type_registry.specs.Changes.{keep_group}
 use Rattle.type_registry.specs.Owners.{owner_at, free_count, owned_by}
 use Rattle.type_registry.specs.Keeping.{kept_from, group_in, IsOwned, HasCanonical, AreKept}
-use Rattle.type_registry.proofs.FirstIndices.{set-other}
+use Rattle.type_registry.proofs.FirstIndices.{set-other, set-here}
 use Rattle.type_registry.proofs.OwnerLists.{any-place, place-any}
-use Rattle.type_registry.proofs.Dropping.{group-is, owner-is, number-is, some-none}
 
 abbrev nobody : Option Owner
 nobody = None
@@ -23,18 +23,6 @@ ok-is (Ok x) e p = p
 ok-is (Err x) e p = let no : false ≡ true = e in cc
 
 -- ---- owners of a new group's indices
-
-owner-set : (os : List (Option Owner)) (n : ℕ) (o : Option Owner) → n < length os → owner_at (set os n o) n ≡ o
-owner-set [] n o h = absurd (omega (arith, h))
-owner-set (x ∷ os) zero o h = refl
-owner-set (x ∷ os) (suc n) o h = owner-set os n o (omega (arith, h))
-
-owner-other : (os : List (Option Owner)) (n i : ℕ) (o : Option Owner) → (i ≡ n → ⊥) → owner_at (set os n o) i ≡ owner_at os i
-owner-other [] n i o apart = refl
-owner-other (x ∷ os) zero zero o apart = absurd (apart refl)
-owner-other (x ∷ os) zero (suc i) o apart = refl
-owner-other (x ∷ os) (suc n) zero o apart = refl
-owner-other (x ∷ os) (suc n) (suc i) o apart = owner-other os n i o (λ e. apart (ap suc e))
 
 pub owned-length : (f p : ℕ) (os : List (Option Owner)) (ns : List ℕ) → length (owned_by f p os ns) ≡ length os
 owned-length f p os [] = refl
@@ -53,17 +41,17 @@ owned-else : (f p : ℕ) (os : List (Option Owner)) (ns : List ℕ) (i : ℕ) �
 owned-else f p os [] i none = refl
 owned-else f p os (n ∷ ns) i none =
     owned-else f (p + 1) (set os n (Some (record { first = f; place = p }))) ns i (λ q at. none (suc q) at)
-    ∙ owner-other os n i (Some (record { first = f; place = p })) (λ e. none 0 (ap Some (sym e)))
+    ∙ set-other os n i (Some (record { first = f; place = p })) (λ e. none 0 (ap Some (sym e)))
 
 -- the index at a place has that place for its owner
 owned-at : (f p : ℕ) (os : List (Option Owner)) (ns : List ℕ) (q i : ℕ) → slice_get ns q ≡ Some i → i < length os
     → ((r : ℕ) → slice_get ns r ≡ Some i → r ≡ q) → owner_at (owned_by f p os ns) i ≡ Some (record { first = f; place = p + q })
-owned-at f p os [] q i at h one = absurd (some-none i at)
+owned-at f p os [] q i at h one = absurd (none-some i at)
 owned-at f p os (n ∷ ns) zero i at h one =
-    let same : n ≡ i = number-is n i at in
+    let same : n ≡ i = same_Some n i at in
     let here : p ≡ p + 0 = omega arith in
     owned-else f (p + 1) (set os n (Some (record { first = f; place = p }))) ns i (λ r there. let bad : suc r ≡ 0 = one (suc r) there in absurd (omega (arith, bad)))
-    ∙ ap (λ m. owner_at (set os m (Some (record { first = f; place = p }))) i) same ∙ owner-set os i (Some (record { first = f; place = p })) h
+    ∙ ap (λ m. owner_at (set os m (Some (record { first = f; place = p }))) i) same ∙ set-here os i (Some (record { first = f; place = p })) h
     ∙ ap (λ r. Some (record { first = f; place = r })) here
 owned-at f p os (n ∷ ns) (suc q) i at h one =
     let next : p + 1 + q ≡ p + suc q = omega arith in
@@ -73,23 +61,11 @@ owned-at f p os (n ∷ ns) (suc q) i at h one =
 
 -- ---- the list by first indices
 
-no-less : (n k : ℕ) → k < n → nat_le n k ≡ false
-no-less n k lt = by (nat_le n k) refl where
-  by : (c : Bool) → nat_le n k ≡ c → c ≡ false
-  by false e = refl
-  by true e = absurd (omega (arith, leb-true n k e, lt))
-
-less : (n k : ℕ) → n ≤ k → nat_le n k ≡ true
-less n k le = by (nat_le n k) refl where
-  by : (c : Bool) → nat_le n k ≡ c → c ≡ true
-  by true e = refl
-  by false e = absurd (omega (arith, leb-false n k e, le))
-
 front : (gs : List (Option Group)) (k n : ℕ) (g : Group) → n < k → (n, g) ∷ kept_from k gs ≡ keep_group (kept_from k gs) n g
 front [] k n g lt = refl
 front (None ∷ gs) k n g lt = front gs (k + 1) n g (omega (arith, lt))
 front (Some x ∷ gs) k n g lt =
-    ap (λ c. if c then (n, g) ∷ (k, x) ∷ kept_from (k + 1) gs else (k, x) ∷ keep_group (kept_from (k + 1) gs) n g) (sym (less n k (omega (arith, lt))))
+    ap (λ c. if c then (n, g) ∷ (k, x) ∷ kept_from (k + 1) gs else (k, x) ∷ keep_group (kept_from (k + 1) gs) n g) (sym (le-leb n k (omega (arith, lt))))
 
 pub keep-at : (gs : List (Option Group)) (k m n : ℕ) (g : Group) → n ≡ k + m → m < length gs → group_in gs m ≡ None
     → kept_from k (set gs m (Some g)) ≡ keep_group (kept_from k gs) n g
@@ -97,17 +73,17 @@ keep-at [] k m n g e h none = absurd (omega (arith, h))
 keep-at (None ∷ gs) k zero n g e h none =
     let here : k ≡ n = omega (arith, e) in
     ap (λ i. (i, g) ∷ kept_from (k + 1) gs) here ∙ front gs (k + 1) n g (omega (arith, e))
-keep-at (Some x ∷ gs) k zero n g e h none = absurd (some-none x (sym none))
+keep-at (Some x ∷ gs) k zero n g e h none = absurd (none-some x (sym none))
 keep-at (None ∷ gs) k (suc m) n g e h none = keep-at gs (k + 1) m n g (omega (arith, e)) (omega (arith, h)) none
 keep-at (Some x ∷ gs) k (suc m) n g e h none =
     ap (λ es. (k, x) ∷ es) (keep-at gs (k + 1) m n g (omega (arith, e)) (omega (arith, h)) none)
-    ∙ ap (λ c. if c then (n, g) ∷ (k, x) ∷ kept_from (k + 1) gs else (k, x) ∷ keep_group (kept_from (k + 1) gs) n g) (sym (no-less n k (omega (arith, e))))
+    ∙ ap (λ c. if c then (n, g) ∷ (k, x) ∷ kept_from (k + 1) gs else (k, x) ∷ keep_group (kept_from (k + 1) gs) n g) (sym (lt-leb n k (omega (arith, e))))
 
 pub length-kept : (gs : List (Option Group)) (k f : ℕ) (g : Group) → f < length gs → group_in gs f ≡ None
     → length (indices_of (kept_from k (set gs f (Some g)))) ≡ length (indices_of (kept_from k gs)) + length g.indices
 length-kept [] k f g h none = absurd (omega (arith, h))
 length-kept (None ∷ gs) k zero g h none = omega (arith, length-append g.indices (indices_of (kept_from (k + 1) gs)))
-length-kept (Some x ∷ gs) k zero g h none = absurd (some-none x (sym none))
+length-kept (Some x ∷ gs) k zero g h none = absurd (none-some x (sym none))
 length-kept (None ∷ gs) k (suc f) g h none = length-kept gs (k + 1) f g (omega (arith, h)) none
 length-kept (Some x ∷ gs) k (suc f) g h none =
     omega (
@@ -116,11 +92,6 @@ length-kept (Some x ∷ gs) k (suc f) g h none =
       length-append x.indices (indices_of (kept_from (k + 1) gs)),
       length-append x.indices (indices_of (kept_from (k + 1) (set gs f (Some g)))),
     )
-
-group-set : (gs : List (Option Group)) (f : ℕ) (g : Group) → f < length gs → group_in (set gs f (Some g)) f ≡ Some g
-group-set [] f g h = absurd (omega (arith, h))
-group-set (x ∷ gs) zero g h = refl
-group-set (x ∷ gs) (suc f) g h = group-set gs f g (omega (arith, h))
 
 abbrev pub Eq : List WasmSubType → List WasmSubType → Bool
 Eq = groups_equal.ghosts.eq
@@ -154,11 +125,11 @@ module _ {Key : Type 0} (content : Key → List WasmSubType) (live live' : ℕ) 
     by : (c : Bool) → nat_eq n f ≡ c → Where n h
     by true e =
         let same : n ≡ f = eqb-true n f e in
-        Here same (group-is h g (sym is ∙ ap (group_in gs') same ∙ group-set gs f g new.room))
+        Here same (same_Some h g (sym is ∙ ap (group_in gs') same ∙ set-here gs f (Some g) new.room))
     by false e = let apart = eqb-false n f e in There apart (sym (set-other gs f n (Some g) apart) ∙ is)
 
   still : (n : ℕ) (h : Group) → group_in gs n ≡ Some h → group_in gs' n ≡ Some h
-  still n h is = set-other gs f n (Some g) (λ e. some-none h (sym (ap (group_in gs) e ∙ new.empty) ∙ is)) ∙ is
+  still n h is = set-other gs f n (Some g) (λ e. none-some h (sym (ap (group_in gs) e ∙ new.empty) ∙ is)) ∙ is
 
   first' : (n : ℕ) (h : Group) → group_in gs' n ≡ Some h → slice_get h.indices 0 ≡ Some n
   first' n h is = by (at-of n h is) where
@@ -176,7 +147,7 @@ module _ {Key : Type 0} (content : Key → List WasmSubType) (live live' : ℕ) 
         ∙ ap (λ q. Some (record { first = f; place = q })) zero-is ∙ ap (λ m. Some (record { first = m; place = p })) (sym same)
     by (There apart was) =
         let old = k.owned n p i h was at in
-        owned-else f 0 os g.indices i (λ q there. some-none (record { first = n; place = p }) (sym (new.free q i there).1 ∙ old)) ∙ old
+        owned-else f 0 os g.indices i (λ q there. none-some (record { first = n; place = p }) (sym (new.free q i there).1 ∙ old)) ∙ old
 
   owns' : (i : ℕ) (o : Owner) → owner_at os' i ≡ Some o → IsOwned gs' i o
   owns' i o is = by (list_any (nat_eq i) g.indices) refl where
@@ -186,10 +157,10 @@ module _ {Key : Type 0} (content : Key → List WasmSubType) (live live' : ℕ) 
         let zero-is : 0 + q.place ≡ q.place = omega arith in
         let mine = owned-at f 0 os g.indices q.place i q.at (omega (arith, (new.free q.place i q.at).0, k.owners)) (λ r there. new.once r q.place i there q.at) in
         let same : o ≡ record { first = f; place = q.place } =
-        owner-is o (record { first = f; place = q.place }) (sym is ∙ mine ∙ ap (λ r. Some (record { first = f; place = r })) zero-is) in
+        same_Some o (record { first = f; place = q.place }) (sym is ∙ mine ∙ ap (λ r. Some (record { first = f; place = r })) zero-is) in
         record {
           group = g;
-          kept = ap (λ (p : Owner). group_in gs' p.first) same ∙ group-set gs f g new.room;
+          kept = ap (λ (p : Owner). group_in gs' p.first) same ∙ set-here gs f (Some g) new.room;
           at = ap (λ (p : Owner). slice_get g.indices p.place) same ∙ q.at;
         }
     by false e =
@@ -203,20 +174,18 @@ module _ {Key : Type 0} (content : Key → List WasmSubType) (live live' : ℕ) 
     by (Here same one) =
         let yes : Eq g.canonical (content key) ≡ true = (equal g.canonical (content key)).1 (ap (λ (x : Group). x.canonical) (sym one) ∙ sym has) in
         learns key ∙ ap (λ c. cond c (Some f) (known key)) yes ∙ ap Some (sym same)
-    by (There apart was) = other (Eq g.canonical (content key)) refl where
-      old : known key ≡ Some n
-      old = k.found n h was key has
-
-      other : (c : Bool) → Eq g.canonical (content key) ≡ c → known' key ≡ Some n
-      other true e = absurd (some-none n (sym (unknown key (sym ((equal g.canonical (content key)).0 e))) ∙ old))
-      other false e = learns key ∙ ap (λ c. cond c (Some f) (known key)) e ∙ old
+    by (There apart was) =
+        let old = k.found n h was key has in
+        let differ : Eq g.canonical (content key) ≡ false = false_from_ne_true (Eq g.canonical (content key)) (λ e.
+            none-some n (sym (unknown key (sym ((equal g.canonical (content key)).0 e))) ∙ old)) in
+        learns key ∙ ap (λ c. cond c (Some f) (known key)) differ ∙ old
 
   knows' : (key : Key) (n : ℕ) → known' key ≡ Some n → HasCanonical gs' n (content key)
   knows' key n is = by (Eq g.canonical (content key)) refl (sym (learns key) ∙ is) where
     by : (c : Bool) → Eq g.canonical (content key) ≡ c → cond c (Some f) (known key) ≡ Some n → HasCanonical gs' n (content key)
     by true e now =
-        let same : f ≡ n = number-is f n now in
-        record { group = g; kept = ap (group_in gs') (sym same) ∙ group-set gs f g new.room; same = (equal g.canonical (content key)).0 e }
+        let same : f ≡ n = same_Some f n now in
+        record { group = g; kept = ap (group_in gs') (sym same) ∙ set-here gs f (Some g) new.room; same = (equal g.canonical (content key)).0 e }
     by false e now = let w = k.knows key n now in record { group = w.group; kept = still n w.group w.kept; same = w.same }
 
   pub kept-with : AreKept content live' known' gs' os' free'

@@ -3,7 +3,10 @@ use Rattle.std.specs.Prelude.{◌||◌, ⊤}
 use Rattle.std.proofs.Common.{if◌then◌else◌, ◌≡◌, ◌∙◌, ◌<◌, ◌≤◌, ◌+◌, ℕ, zero, suc, Bool, true, false, nat_eq, nat_le, List, [], ◌∷◌, ◌++◌, length, slice_get, Some, None, refl, sym, ap, subst, arith}
 use Rattle.std.specs.List.{list_any}
 use Rattle.std.proofs.lemmas.List.{length-append}
-use Rattle.std.proofs.lemmas.Bool.{eqb-true}
+use Rattle.std.proofs.lemmas.Bool.{cases_Bool, or_parts, cond_both}
+use Rattle.std.proofs.lemmas.List.Folds.{list_any-append}
+use Rattle.std.proofs.lemmas.Bool.Decides.{nat_tests}
+use Rattle.std.proofs.lemmas.Option.{none-some, same_Some}
 use Rattle.wasm_types.specs.declared.sub.WasmSubType.{WasmSubType}
 use Rattle.type_registry.specs.Registry.{Group, Groups, GroupsState, indices_of}
 use Rattle.type_registry.specs.Changes.{find_group, keep_group, keep_groups}
@@ -11,7 +14,6 @@ use Rattle.type_registry.specs.Fresh.{MayBeKept, IsKeptIn, MayKeepAll}
 use Rattle.type_registry.proofs.OwnerLists.{any-place}
 use Rattle.type_registry.proofs.Keeping.{Eq}
 use Rattle.type_registry.proofs.NewGroups.{any-left, any-right}
-use Rattle.type_registry.proofs.Dropping.{number-is, some-none}
 
 -- ---- numbers that a list has once
 
@@ -23,27 +25,16 @@ pub true-false : (c : Bool) → c ≡ true → c ≡ false → ⊥
 true-false c holds fails = let no-way : true ≡ false = sym holds ∙ fails in cc
 
 pub any-second : (xs ys : List ℕ) (n : ℕ) → list_any (nat_eq n) xs ≡ false → list_any (nat_eq n) (xs ++ ys) ≡ list_any (nat_eq n) ys
-any-second [] ys n fails = refl
-any-second (x ∷ xs) ys n fails = by (nat_eq n x) fails (any-second xs ys n) where
-  by : (c : Bool) → (c || list_any (nat_eq n) xs) ≡ false → (list_any (nat_eq n) xs ≡ false → list_any (nat_eq n) (xs ++ ys) ≡ list_any (nat_eq n) ys)
-      → (c || list_any (nat_eq n) (xs ++ ys)) ≡ list_any (nat_eq n) ys
-  by true fails rest = let no-way : true ≡ false = fails in cc
-  by false fails rest = rest fails
+any-second xs ys n fails = list_any-append (nat_eq n) xs ys ∙ ap (λ c. c || list_any (nat_eq n) ys) fails
 
 pub any-both : (xs ys : List ℕ) (n : ℕ) → list_any (nat_eq n) xs ≡ false → list_any (nat_eq n) ys ≡ false → list_any (nat_eq n) (xs ++ ys) ≡ false
 any-both xs ys n a b = any-second xs ys n a ∙ b
 
 pub not-left : (xs ys : List ℕ) (n : ℕ) → list_any (nat_eq n) (xs ++ ys) ≡ false → list_any (nat_eq n) xs ≡ false
-not-left xs ys n fails = by (list_any (nat_eq n) xs) refl where
-  by : (c : Bool) → list_any (nat_eq n) xs ≡ c → list_any (nat_eq n) xs ≡ false
-  by true e = absurd (true-false (list_any (nat_eq n) (xs ++ ys)) (any-left xs ys n e) fails)
-  by false e = e
+not-left xs ys n fails = (or_parts (list_any (nat_eq n) xs) (list_any (nat_eq n) ys) (sym (list_any-append (nat_eq n) xs ys) ∙ fails)).0
 
 pub not-right : (xs ys : List ℕ) (n : ℕ) → list_any (nat_eq n) (xs ++ ys) ≡ false → list_any (nat_eq n) ys ≡ false
-not-right xs ys n fails = by (list_any (nat_eq n) ys) refl where
-  by : (c : Bool) → list_any (nat_eq n) ys ≡ c → list_any (nat_eq n) ys ≡ false
-  by true e = absurd (true-false (list_any (nat_eq n) (xs ++ ys)) (any-right xs ys n e) fails)
-  by false e = e
+not-right xs ys n fails = (or_parts (list_any (nat_eq n) xs) (list_any (nat_eq n) ys) (sym (list_any-append (nat_eq n) xs ys) ∙ fails)).1
 
 once-left : (xs ys : List ℕ) → IsOnce (xs ++ ys) → IsOnce xs
 once-left [] ys o = tt
@@ -56,19 +47,18 @@ once-right (x ∷ xs) ys o = once-right xs ys o.1
 -- what the second has the first has not
 once-apart : (xs ys : List ℕ) (n : ℕ) → IsOnce (xs ++ ys) → list_any (nat_eq n) ys ≡ true → list_any (nat_eq n) xs ≡ false
 once-apart [] ys n o has = refl
-once-apart (x ∷ xs) ys n o has = by (nat_eq n x) refl (once-apart xs ys n o.1 has) where
-  by : (c : Bool) → nat_eq n x ≡ c → list_any (nat_eq n) xs ≡ false → (c || list_any (nat_eq n) xs) ≡ false
-  by true e rest =
-      absurd (true-false (list_any (nat_eq x) ys) (ap (λ m. list_any (nat_eq m) ys) (sym (eqb-true n x e)) ∙ has) (not-right xs ys x o.0))
-  by false e rest = rest
+once-apart (x ∷ xs) ys n o has =
+    let rest = once-apart xs ys n o.1 has in
+    let not = not-right xs ys x o.0 in
+    grind (arith, nat_tests)
 
 once-at : (ns : List ℕ) (p q n : ℕ) → IsOnce ns → slice_get ns p ≡ Some n → slice_get ns q ≡ Some n → p ≡ q
-once-at [] p q n o at at' = absurd (some-none n at)
+once-at [] p q n o at at' = absurd (none-some n at)
 once-at (m ∷ ns) zero zero n o at at' = refl
 once-at (m ∷ ns) zero (suc q) n o at at' =
-    absurd (true-false (list_any (nat_eq m) ns) (ap (λ i. list_any (nat_eq i) ns) (number-is m n at) ∙ any-place ns n q at') o.0)
+    absurd (true-false (list_any (nat_eq m) ns) (ap (λ i. list_any (nat_eq i) ns) (same_Some m n at) ∙ any-place ns n q at') o.0)
 once-at (m ∷ ns) (suc p) zero n o at at' =
-    absurd (true-false (list_any (nat_eq m) ns) (ap (λ i. list_any (nat_eq i) ns) (number-is m n at') ∙ any-place ns n p at) o.0)
+    absurd (true-false (list_any (nat_eq m) ns) (ap (λ i. list_any (nat_eq i) ns) (same_Some m n at') ∙ any-place ns n p at) o.0)
 once-at (m ∷ ns) (suc p) (suc q) n o at at' = ap suc (once-at ns p q n o.1 at at')
 
 -- ---- what is kept once one more group is
@@ -77,32 +67,21 @@ keep-without : (gs : Groups) (f n : ℕ) (g : Group) → list_any (nat_eq n) g.i
     → list_any (nat_eq n) (indices_of (keep_group gs f g)) ≡ false
 keep-without [] f n g a b = any-both g.indices [] n a refl
 keep-without (e ∷ gs) f n g a b =
-    by (nat_le f e.0) (keep-without gs f n g a (not-right e.1.indices (indices_of gs) n b)) where
-      by : (c : Bool) → list_any (nat_eq n) (indices_of (keep_group gs f g)) ≡ false
-          → list_any (nat_eq n) (indices_of (if c then (f, g) ∷ e ∷ gs else e ∷ keep_group gs f g)) ≡ false
-      by true rest = any-both g.indices (indices_of (e ∷ gs)) n a b
-      by false rest = any-both e.1.indices (indices_of (keep_group gs f g)) n (not-left e.1.indices (indices_of gs) n b) rest
+    let rest = keep-without gs f n g a (not-right e.1.indices (indices_of gs) n b) in
+    cond_both (nat_le f e.0) ((f, g) ∷ e ∷ gs) (e ∷ keep_group gs f g) (λ (es : Groups). list_any (nat_eq n) (indices_of es) ≡ false)
+    (λ _. any-both g.indices (indices_of (e ∷ gs)) n a b)
+    (λ _. any-both e.1.indices (indices_of (keep_group gs f g)) n (not-left e.1.indices (indices_of gs) n b) rest)
 
 pub keep-length : (gs : Groups) (f : ℕ) (g : Group) → length (indices_of (keep_group gs f g)) ≡ length (indices_of gs) + length g.indices
 keep-length [] f g = omega (arith, length-append g.indices (indices_of []))
-keep-length (e ∷ gs) f g = by (nat_le f e.0) (keep-length gs f g) where
-  by : (c : Bool) → length (indices_of (keep_group gs f g)) ≡ length (indices_of gs) + length g.indices
-      → length (indices_of (if c then (f, g) ∷ e ∷ gs else e ∷ keep_group gs f g)) ≡ length (indices_of (e ∷ gs)) + length g.indices
-  by true rest = omega (arith, length-append g.indices (indices_of (e ∷ gs)))
-  by false rest = omega (arith, rest, length-append e.1.indices (indices_of gs), length-append e.1.indices (indices_of (keep_group gs f g)))
+keep-length (e ∷ gs) f g = let rest = keep-length gs f g in grind (arith, nat_tests, length-append)
 
 keep-unknown : (gs : Groups) (f : ℕ) (g : Group) (c : List WasmSubType) → Eq g.canonical c ≡ false → find_group c gs ≡ None → find_group c (keep_group gs f g) ≡ None
 keep-unknown [] f g c unlike none = ap (λ b. if b then Some g else None) unlike
-keep-unknown (e ∷ gs) f g c unlike none = by (nat_le f e.0) (keep-unknown gs f g c unlike) where
-  last : (b : Bool) → (if b then Some e.1 else find_group c gs) ≡ None → (find_group c gs ≡ None → find_group c (keep_group gs f g) ≡ None)
-      → (if b then Some e.1 else find_group c (keep_group gs f g)) ≡ None
-  last true fails rest = absurd (some-none e.1 (sym fails))
-  last false fails rest = rest fails
-
-  by : (b : Bool) → (find_group c gs ≡ None → find_group c (keep_group gs f g) ≡ None)
-      → find_group c (if b then (f, g) ∷ e ∷ gs else e ∷ keep_group gs f g) ≡ None
-  by true rest = ap (λ b. if b then Some g else find_group c (e ∷ gs)) unlike ∙ none
-  by false rest = last (Eq e.1.canonical c) none rest
+keep-unknown (e ∷ gs) f g c unlike none =
+    let rest = keep-unknown gs f g c unlike in
+    let equal = cases_Bool (Eq e.1.canonical c) in
+    grind (arith, nat_tests)
 
 -- ---- one after another
 

@@ -1,7 +1,8 @@
 -- Groups that modules leave.
-use Rattle.std.proofs.Common.{if◌then◌else◌, ◌≡◌, ◌∙◌, ◌≤◌, ℕ, ◌+◌, ◌-◌, Bool, true, false, nat_eq, nat_le, List, [], ◌∷◌, ◌++◌, length, Option, Some, None, refl, sym, ap, arith}
+use Rattle.std.proofs.Common.{◌≡◌, ◌∙◌, ◌≤◌, ℕ, ◌+◌, ◌-◌, nat_eq, List, [], ◌∷◌, ◌++◌, length, Option, Some, None, refl, arith}
 use Rattle.std.proofs.lemmas.List.{length-append}
 use Rattle.std.specs.Map.{lookup, set_value, remove_entry}
+use Rattle.std.proofs.lemmas.Bool.Decides.{nat_tests}
 use Rattle.type_registry.specs.Registry.{Group, indices_of}
 use Rattle.type_registry.specs.Changes.{leave_group, leave_groups, count_group, count_groups}
 
@@ -13,30 +14,19 @@ left_push gs (x ∷ fs) f = left_push (leave_group gs x (lookup (nat_eq x) gs)) 
 -- what is left has no more indices
 remove-short : (f : ℕ) (gs : List (ℕ × Group)) → length (indices_of (remove_entry (nat_eq f) gs)) ≤ length (indices_of gs)
 remove-short f [] = omega arith
-remove-short f (e ∷ gs) = by (nat_eq f e.0) (remove-short f gs) where
-  by : (c : Bool) → length (indices_of (remove_entry (nat_eq f) gs)) ≤ length (indices_of gs)
-      → length (indices_of (if c then gs else e ∷ remove_entry (nat_eq f) gs)) ≤ length (indices_of (e ∷ gs))
-  by true less = omega (arith, length-append e.1.indices (indices_of gs))
-  by false less =
-      omega (arith, less, length-append e.1.indices (indices_of gs), length-append e.1.indices (indices_of (remove_entry (nat_eq f) gs)))
+remove-short f (e ∷ gs) = let rest = remove-short f gs in grind (arith, nat_tests, length-append)
 
 set-short : (f n : ℕ) (gs : List (ℕ × Group)) (g : Group) → lookup (nat_eq f) gs ≡ Some g
     → length (indices_of (set_value (nat_eq f) gs (record g { count = n }))) ≡ length (indices_of gs)
 set-short f n [] g found = refl
-set-short f n (e ∷ gs) g found = by (nat_eq f e.0) found (set-short f n gs g) where
-  by : (c : Bool) → (if c then Some e.1 else lookup (nat_eq f) gs) ≡ Some g
-      → (lookup (nat_eq f) gs ≡ Some g → length (indices_of (set_value (nat_eq f) gs (record g { count = n }))) ≡ length (indices_of gs))
-      → length (indices_of (if c then (e.0, record g { count = n }) ∷ gs else e ∷ set_value (nat_eq f) gs (record g { count = n }))) ≡ length (indices_of (e ∷ gs))
-  by true found rest = let one : e.1 ≡ g = (let t : Some e.1 ≡ Some g = found in cc) in ap (λ (h : Group). length (h.indices ++ indices_of gs)) (sym one)
-  by false found rest =
-      omega (arith, rest found, length-append e.1.indices (indices_of gs), length-append e.1.indices (indices_of (set_value (nat_eq f) gs (record g { count = n }))))
+set-short f n (e ∷ gs) g found = let rest = set-short f n gs g in grind (arith, nat_tests, length-append)
 
 one-short : (f : ℕ) (gs : List (ℕ × Group)) (o : Option Group) → lookup (nat_eq f) gs ≡ o → length (indices_of (leave_group gs f o)) ≤ length (indices_of gs)
 one-short f gs None e = omega arith
-one-short f gs (Some g) e = by (nat_le g.count 1) where
-  by : (c : Bool) → length (indices_of (if c then remove_entry (nat_eq f) gs else set_value (nat_eq f) gs (record g { count = g.count - 1 }))) ≤ length (indices_of gs)
-  by true = remove-short f gs
-  by false = omega (arith, set-short f (g.count - 1) gs g e)
+one-short f gs (Some g) e =
+    let removed = remove-short f gs in
+    let set = set-short f (g.count - 1) gs g e in
+    grind (arith, nat_tests)
 
 pub left_short : (gs : List (ℕ × Group)) (fs : List ℕ) → length (indices_of (leave_groups gs fs)) ≤ length (indices_of gs)
 left_short gs [] = omega arith

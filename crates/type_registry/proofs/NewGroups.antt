@@ -1,7 +1,9 @@
 -- Groups that are found among those that are kept, and groups that are not.
-use Rattle.std.specs.Prelude.{◌||◌}
-use Rattle.std.proofs.Common.{if◌then◌else◌, ◌≡◌, ◌∙◌, ◌↔◌, ◌+◌, ℕ, zero, suc, Bool, true, false, nat_eq, List, [], ◌∷◌, ◌++◌, length, slice_get, Option, Some, None, refl, sym, ap, arith}
+use Rattle.std.proofs.Common.{if◌then◌else◌, ◌≡◌, ◌∙◌, ◌↔◌, ◌+◌, ℕ, zero, suc, true, false, nat_eq, List, [], ◌∷◌, ◌++◌, length, slice_get, Option, Some, None, refl, sym, ap, arith}
 use Rattle.std.specs.List.{list_any}
+use Rattle.std.proofs.lemmas.Bool.{cases_Bool, or_left, or_right, both_ways}
+use Rattle.std.proofs.lemmas.List.Folds.{list_any-append}
+use Rattle.std.proofs.lemmas.Option.{none-some, same_Some}
 use Rattle.wasm_types.specs.declared.sub.WasmSubType.{WasmSubType}
 use Rattle.type_registry.specs.declared.owners.Owner.{Owner}
 use Rattle.type_registry.specs.Registry.{Group, GroupsState, indices_of}
@@ -11,34 +13,28 @@ use Rattle.type_registry.specs.Keeping.{kept_from, group_in, AreKept}
 use Rattle.type_registry.specs.Fresh.{MayBeKept}
 use Rattle.type_registry.proofs.OwnerLists.{any-place}
 use Rattle.type_registry.proofs.Keeping.{Eq, IsNew}
-use Rattle.type_registry.proofs.Dropping.{group-is, number-is, some-none}
 
 -- ---- numbers of two lists
 
 pub any-left : (xs ys : List ℕ) (n : ℕ) → list_any (nat_eq n) xs ≡ true → list_any (nat_eq n) (xs ++ ys) ≡ true
-any-left [] ys n e = let fails : false ≡ true = e in cc
-any-left (x ∷ xs) ys n e = by (nat_eq n x) e (any-left xs ys n) where
-  by : (c : Bool) → (c || list_any (nat_eq n) xs) ≡ true → (list_any (nat_eq n) xs ≡ true → list_any (nat_eq n) (xs ++ ys) ≡ true)
-      → (c || list_any (nat_eq n) (xs ++ ys)) ≡ true
-  by true e rest = refl
-  by false e rest = rest e
+any-left xs ys n e = list_any-append (nat_eq n) xs ys ∙ or_left (list_any (nat_eq n) xs) (list_any (nat_eq n) ys) e
 
 pub any-right : (xs ys : List ℕ) (n : ℕ) → list_any (nat_eq n) ys ≡ true → list_any (nat_eq n) (xs ++ ys) ≡ true
-any-right [] ys n e = e
-any-right (x ∷ xs) ys n e = by (nat_eq n x) (any-right xs ys n e) where
-  by : (c : Bool) → list_any (nat_eq n) (xs ++ ys) ≡ true → (c || list_any (nat_eq n) (xs ++ ys)) ≡ true
-  by true rest = refl
-  by false rest = rest
+any-right xs ys n e = list_any-append (nat_eq n) xs ys ∙ or_right (list_any (nat_eq n) xs) (list_any (nat_eq n) ys) e
 
 -- ---- what kept groups have
 
+pub none-of : {A : Type 0} (o : Option A) → ((x : A) → o ≡ Some x → ⊥) → o ≡ None
+none-of None not = refl
+none-of (Some x) not = absurd (not x refl)
+
 pub has-index : (gs : List (Option Group)) (k f p n : ℕ) (g : Group) → group_in gs f ≡ Some g → slice_get g.indices p ≡ Some n
     → list_any (nat_eq n) (indices_of (kept_from k gs)) ≡ true
-has-index [] k f p n g at is = absurd (some-none g at)
-has-index (None ∷ gs) k zero p n g at is = absurd (some-none g at)
+has-index [] k f p n g at is = absurd (none-some g at)
+has-index (None ∷ gs) k zero p n g at is = absurd (none-some g at)
 has-index (Some x ∷ gs) k zero p n g at is =
     any-left x.indices (indices_of (kept_from (k + 1) gs)) n
-    (any-place x.indices n p (ap (λ (h : Group). slice_get h.indices p) (group-is x g at) ∙ is))
+    (any-place x.indices n p (ap (λ (h : Group). slice_get h.indices p) (same_Some x g at) ∙ is))
 has-index (None ∷ gs) k (suc f) p n g at is = has-index gs (k + 1) f p n g at is
 has-index (Some x ∷ gs) k (suc f) p n g at is =
     any-right x.indices (indices_of (kept_from (k + 1) gs)) n (has-index gs (k + 1) f p n g at is)
@@ -46,27 +42,28 @@ has-index (Some x ∷ gs) k (suc f) p n g at is =
 -- the one kept group that is equal is found
 find-some : (gs : List (Option Group)) (k f : ℕ) (g : Group) (c : List WasmSubType) → group_in gs f ≡ Some g → Eq g.canonical c ≡ true
     → ((n : ℕ) (h : Group) → group_in gs n ≡ Some h → Eq h.canonical c ≡ true → n ≡ f) → find_group c (kept_from k gs) ≡ Some g
-find-some [] k f g c at holds only = absurd (some-none g at)
-find-some (None ∷ gs) k zero g c at holds only = absurd (some-none g at)
+find-some [] k f g c at holds only = absurd (none-some g at)
+find-some (None ∷ gs) k zero g c at holds only = absurd (none-some g at)
 find-some (None ∷ gs) k (suc f) g c at holds only =
     find-some gs (k + 1) f g c at holds (λ n h here is. let e : suc n ≡ suc f = only (suc n) h here is in omega (arith, e))
 find-some (Some x ∷ gs) k zero g c at holds only =
-    ap (λ b. if b then Some x else find_group c (kept_from (k + 1) gs)) (ap (λ (h : Group). Eq h.canonical c) (group-is x g at) ∙ holds) ∙ at
+    ap (λ b. if b then Some x else find_group c (kept_from (k + 1) gs)) (ap (λ (h : Group). Eq h.canonical c) (same_Some x g at) ∙ holds) ∙ at
 find-some (Some x ∷ gs) k (suc f) g c at holds only =
-    by (Eq x.canonical c) refl (find-some gs (k + 1) f g c at holds (λ n h here is. let e : suc n ≡ suc f = only (suc n) h here is in omega (arith, e))) where
-      by : (b : Bool) → Eq x.canonical c ≡ b → find_group c (kept_from (k + 1) gs) ≡ Some g → (if b then Some x else find_group c (kept_from (k + 1) gs)) ≡ Some g
-      by true e rest = let fails : 0 ≡ suc f = only 0 x refl e in absurd (omega (arith, fails))
-      by false e rest = rest
+    let rest = find-some gs (k + 1) f g c at holds (λ n h here is. let e : suc n ≡ suc f = only (suc n) h here is in omega (arith, e)) in
+    let equal = cases_Bool (Eq x.canonical c) in
+    let first = only 0 x refl in
+    grind arith
 
 -- where none is equal none is found
 find-none : (gs : List (Option Group)) (k : ℕ) (c : List WasmSubType) → ((n : ℕ) (h : Group) → group_in gs n ≡ Some h → Eq h.canonical c ≡ true → ⊥)
     → find_group c (kept_from k gs) ≡ None
 find-none [] k c none = refl
 find-none (None ∷ gs) k c none = find-none gs (k + 1) c (λ n h here is. none (suc n) h here is)
-find-none (Some x ∷ gs) k c none = by (Eq x.canonical c) refl (find-none gs (k + 1) c (λ n h here is. none (suc n) h here is)) where
-  by : (b : Bool) → Eq x.canonical c ≡ b → find_group c (kept_from (k + 1) gs) ≡ None → (if b then Some x else find_group c (kept_from (k + 1) gs)) ≡ None
-  by true e rest = absurd (none 0 x refl e)
-  by false e rest = rest
+find-none (Some x ∷ gs) k c none =
+    let rest = find-none gs (k + 1) c (λ n h here is. none (suc n) h here is) in
+    let equal = cases_Bool (Eq x.canonical c) in
+    let first = none 0 x refl in
+    grind arith
 
 module _ {Key : Type 0} (content : Key → List WasmSubType) (live : ℕ) (known : Key → Option ℕ) (gs : List (Option Group)) (os : List (Option Owner)) (free : List ℕ)
     (k : AreKept content live known gs os free) (equal : (x y : List WasmSubType) → (Eq x y ≡ true) ↔ (x ≡ y)) where
@@ -74,33 +71,27 @@ module _ {Key : Type 0} (content : Key → List WasmSubType) (live : ℕ) (known
   found-known key n is =
       let w = k.knows key n is in
       find-some gs 0 n w.group (content key) w.kept ((equal w.group.canonical (content key)).1 w.same)
-      (λ m h here holds. number-is m n (sym (k.found m h here key (sym ((equal h.canonical (content key)).0 holds))) ∙ is))
+      (λ m h here holds. same_Some m n (sym (k.found m h here key (sym ((equal h.canonical (content key)).0 holds))) ∙ is))
       ∙ sym w.kept
 
   pub not-found : (key : Key) → known key ≡ None → find_group (content key) (kept_from 0 gs) ≡ None
   not-found key none =
-      find-none gs 0 (content key) (λ m h here holds. some-none m (sym none ∙ k.found m h here key (sym ((equal h.canonical (content key)).0 holds))))
+      find-none gs 0 (content key) (λ m h here holds. none-some m (sym none ∙ k.found m h here key (sym ((equal h.canonical (content key)).0 holds))))
 
   -- ---- a group that may be kept
 
   module _ (s : GroupsState) (seen : kept_from 0 gs ≡ s.groups) (room : length gs ≡ s.room) (g : Group) (f : ℕ) (first : slice_get g.indices 0 ≡ Some f)
       (may : MayBeKept s g) where
     unowned : (n : ℕ) → list_any (nat_eq n) (indices_of s.groups) ≡ false → owner_at os n ≡ None
-    unowned n none = by (owner_at os n) refl where
-      by : (o : Option Owner) → owner_at os n ≡ o → owner_at os n ≡ None
-      by None e = e
-      by (Some o) e =
-          let w = k.owns n o e in
-          let holds : list_any (nat_eq n) (indices_of s.groups) ≡ true =
-          ap (λ es. list_any (nat_eq n) (indices_of es)) (sym seen) ∙ has-index gs 0 o.first o.place n w.group w.kept w.at in
-          let no-way : false ≡ true = sym none ∙ holds in cc
+    unowned n none = none-of (owner_at os n) (λ o e.
+        let w = k.owns n o e in
+        let holds : list_any (nat_eq n) (indices_of s.groups) ≡ true =
+        ap (λ es. list_any (nat_eq n) (indices_of es)) (sym seen) ∙ has-index gs 0 o.first o.place n w.group w.kept w.at in
+        both_ways (list_any (nat_eq n) (indices_of s.groups)) none holds)
 
     empty : group_in gs f ≡ None
-    empty = by (group_in gs f) refl where
-      by : (o : Option Group) → group_in gs f ≡ o → group_in gs f ≡ None
-      by None e = e
-      by (Some h) e =
-          absurd (some-none (record { first = f; place = 0 }) (sym (unowned f (may.free 0 f first)) ∙ k.owned f 0 f h e (k.first f h e)))
+    empty = none-of (group_in gs f) (λ h e.
+        none-some (record { first = f; place = 0 }) (sym (unowned f (may.free 0 f first)) ∙ k.owned f 0 f h e (k.first f h e)))
 
     pub is-new : IsNew gs os f g
     is-new = record {
@@ -112,11 +103,8 @@ module _ {Key : Type 0} (content : Key → List WasmSubType) (live : ℕ) (known
     }
 
     pub unknown : (key : Key) → content key ≡ g.canonical → known key ≡ None
-    unknown key is = by (known key) refl where
-      by : (o : Option ℕ) → known key ≡ o → known key ≡ None
-      by None e = e
-      by (Some n) e =
-          let w = k.knows key n e in
-          let none : find_group (content key) (kept_from 0 gs) ≡ None =
-          ap (λ c. find_group c (kept_from 0 gs)) is ∙ ap (find_group g.canonical) seen ∙ may.unknown in
-          absurd (some-none w.group (sym none ∙ found-known key n e ∙ w.kept))
+    unknown key is = none-of (known key) (λ n e.
+        let w = k.knows key n e in
+        let none : find_group (content key) (kept_from 0 gs) ≡ None =
+        ap (λ c. find_group c (kept_from 0 gs)) is ∙ ap (find_group g.canonical) seen ∙ may.unknown in
+        none-some w.group (sym none ∙ found-known key n e ∙ w.kept))

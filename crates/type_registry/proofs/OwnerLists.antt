@@ -1,31 +1,21 @@
 -- Lists of owners.
-use Rattle.std.specs.Prelude.{◌||◌}
-use Rattle.std.proofs.Common.{if◌then◌else◌, ◌≡◌, ◌∙◌, ◌≤◌, ℕ, zero, suc, Bool, true, false, nat_eq, List, [], ◌∷◌, ◌++◌, length, map, set, slice_get, Option, Some, None, refl, sym, ap, arith, length-set, eq-eqb}
+use Rattle.std.proofs.Common.{if◌then◌else◌, ◌≡◌, ◌∙◌, ℕ, zero, suc, true, nat_eq, List, [], ◌∷◌, ◌++◌, length, map, set, slice_get, Option, Some, None, refl, sym, ap, arith, length-set, eq-eqb}
 use Rattle.std.specs.List.{list_any}
 use Rattle.std.proofs.Math.Dec.{eqb-suc-zero, eqb-zero-suc, eqb-suc-suc}
-use Rattle.std.proofs.lemmas.Bool.{eqb-true}
+use Rattle.std.proofs.lemmas.Bool.{eqb-true, cases_Bool}
+use Rattle.std.proofs.lemmas.Bool.Decides.{nat_tests}
+use Rattle.std.proofs.lemmas.Map.Keys.{any_passes_from_place}
+use Rattle.std.proofs.lemmas.List.{map-set}
+use Rattle.std.proofs.lemmas.Option.{slice_get-get_or}
+use Rattle.std.proofs.lemmas.Map.Views.{Contains-from_any}
 use Rattle.type_registry.specs.declared.owners.Owner.{Owner}
 use Rattle.type_registry.specs.Owners.{owner_at, free_count, emptied}
 
 abbrev nobody : Option Owner
 nobody = None
 
-pub map-set : (os : List (Option Owner)) (n : ℕ) (o : Option Owner) → map free_count (set os n o) ≡ set (map free_count os) n (free_count o)
-map-set [] n o = refl
-map-set (x ∷ os) zero o = refl
-map-set (x ∷ os) (suc n) o = ap (λ l. free_count x ∷ l) (map-set os n o)
-
-pub set-past : (os : List (Option Owner)) (n : ℕ) (o : Option Owner) → length os ≤ n → set os n o ≡ os
-set-past [] n o h = refl
-set-past (x ∷ os) zero o h = absurd (omega (arith, h))
-set-past (x ∷ os) (suc n) o h = ap (λ l. x ∷ l) (set-past os n o (omega (arith, h)))
-
-none-both : (c : Bool) → nobody ≡ (if c then nobody else nobody)
-none-both true = refl
-none-both false = refl
-
 owner-emptied : (os : List (Option Owner)) (n i : ℕ) → owner_at (set os n None) i ≡ (if nat_eq i n then nobody else owner_at os i)
-owner-emptied [] n i = none-both (nat_eq i n)
+owner-emptied [] n i = grind (arith, nat_tests)
 owner-emptied (o ∷ os) zero zero = refl
 owner-emptied (o ∷ os) zero (suc i) = ap (λ c. if c then nobody else owner_at os i) (sym (eqb-suc-zero i))
 owner-emptied (o ∷ os) (suc n) zero = ap (λ c. if c then nobody else owner_at (o ∷ os) 0) (sym (eqb-zero-suc n))
@@ -34,12 +24,10 @@ owner-emptied (o ∷ os) (suc n) (suc i) = owner-emptied os n i ∙ ap (λ c. if
 pub emptied-at : (os : List (Option Owner)) (ns : List ℕ) (i : ℕ) → owner_at (emptied os ns) i ≡ (if list_any (nat_eq i) ns then nobody else owner_at os i)
 emptied-at os [] i = refl
 emptied-at os (n ∷ ns) i =
-    emptied-at (set os n None) ns i ∙ ap (λ (o : Option Owner). if list_any (nat_eq i) ns then nobody else o) (owner-emptied os n i)
-    ∙ by (nat_eq i n) (list_any (nat_eq i) ns) where
-      by : (c d : Bool) → (if d then nobody else (if c then nobody else owner_at os i)) ≡ (if c || d then nobody else owner_at os i)
-      by true true = refl
-      by true false = refl
-      by false d = refl
+    let rest = emptied-at (set os n None) ns i in
+    let here = owner-emptied os n i in
+    let any = cases_Bool (list_any (nat_eq i) ns) in
+    grind (arith, nat_tests)
 
 pub emptied-length : (os : List (Option Owner)) (ns : List ℕ) → length (emptied os ns) ≡ length os
 emptied-length os [] = refl
@@ -52,17 +40,7 @@ emptied-push os (m ∷ ns) n = emptied-push (set os m None) ns n
 -- ---- which numbers a list has
 
 pub any-place : (ns : List ℕ) (i p : ℕ) → slice_get ns p ≡ Some i → list_any (nat_eq i) ns ≡ true
-any-place [] i p at = let no : None ≡ Some i = at in cc
-any-place (n ∷ ns) i zero at = ap (λ c. c || list_any (nat_eq i) ns) (ap (nat_eq i) (let t : Some n ≡ Some i = at in some-is n i t) ∙ eq-refl i) where
-  eq-refl : (i : ℕ) → nat_eq i i ≡ true
-  eq-refl i = eq-eqb i i refl
-
-  some-is : (x y : ℕ) → Some x ≡ Some y → x ≡ y
-  some-is x y e = cc
-any-place (n ∷ ns) i (suc p) at = by (nat_eq i n) (any-place ns i p at) where
-  by : (c : Bool) → list_any (nat_eq i) ns ≡ true → (c || list_any (nat_eq i) ns) ≡ true
-  by true e = refl
-  by false e = e
+any-place ns i p at = any_passes_from_place (nat_eq i) ns p i at (eq-eqb i i refl)
 
 -- a place of a number
 pub record Place (ns : List ℕ) (i : ℕ) : Type 0 where
@@ -70,20 +48,18 @@ pub record Place (ns : List ℕ) (i : ℕ) : Type 0 where
   pub at : slice_get ns place ≡ Some i
 
 pub place-any : (ns : List ℕ) (i : ℕ) → list_any (nat_eq i) ns ≡ true → Place ns i
-place-any [] i e = let no : false ≡ true = e in cc
-place-any (n ∷ ns) i e = by (nat_eq i n) refl e (place-any ns i) where
-  by : (c : Bool) → nat_eq i n ≡ c → (c || list_any (nat_eq i) ns) ≡ true → (list_any (nat_eq i) ns ≡ true → Place ns i) → Place (n ∷ ns) i
-  by true same e rest = record { place = 0; at = ap Some (sym (eqb-true i n same)) }
-  by false same e rest = let p = rest e in record { place = suc p.place; at = p.at }
+place-any ns i e =
+    let w = Contains-from_any eqb-true i ns e in
+    record { place = w.0; at = slice_get-get_or ns w.0 i w.1 ∙ ap Some w.2 }
 
 -- ---- which numbers are free
 
 pub given-set : (os : List (Option Owner)) (i : ℕ) (o : Option Owner) (free new : List ℕ) → o ≡ None → free ≡ map free_count os → new ≡ set free i 1
     → new ≡ map free_count (set os i o)
 given-set os i o free new none are is =
-    is ∙ ap (λ l. set l i 1) are ∙ ap (λ p. set (map free_count os) i (free_count p)) (sym none) ∙ sym (map-set os i o)
+    is ∙ ap (λ l. set l i 1) are ∙ ap (λ p. set (map free_count os) i (free_count p)) (sym none) ∙ sym (map-set free_count os i o)
 
 pub taken-set : (os : List (Option Owner)) (i : ℕ) (o : Option Owner) (p : Owner) (free new : List ℕ) → o ≡ Some p → free ≡ map free_count os
     → new ≡ set free i 0 → new ≡ map free_count (set os i o)
 taken-set os i o p free new some are is =
-    is ∙ ap (λ l. set l i 0) are ∙ ap (λ q. set (map free_count os) i (free_count q)) (sym some) ∙ sym (map-set os i o)
+    is ∙ ap (λ l. set l i 0) are ∙ ap (λ q. set (map free_count os) i (free_count q)) (sym some) ∙ sym (map-set free_count os i o)

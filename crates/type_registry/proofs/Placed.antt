@@ -1,12 +1,14 @@
 -- Where the groups of a planned module are kept.
-use Rattle.std.proofs.Common.{if◌then◌else◌, ◌≡◌, ◌∙◌, ◌↔◌, ◌<◌, ◌≤◌, ℕ, zero, suc, ◌+◌, ◌-◌, Bool, true, false, List, [], ◌∷◌, ◌++◌, length, get_or, slice_get, take, drop, Option, Some, None, refl, sym, ap, subst, arith}
-use Rattle.std.specs.Prelude.{nat_lt, ⊤}
-use Rattle.std.proofs.lemmas.List.{length-append}
-use Rattle.std.proofs.lemmas.Bool.{ltb-true}
+use Rattle.std.proofs.Common.{if◌then◌else◌, ◌≡◌, ◌∙◌, ◌↔◌, ◌<◌, ◌≤◌, ℕ, zero, suc, ◌+◌, ◌-◌, Bool, true, false, List, [], ◌∷◌, ◌++◌, length, slice_get, take, drop, Some, None, refl, sym, ap, subst, arith, get_or}
+use Rattle.std.specs.Prelude.{⊤}
+use Rattle.std.proofs.lemmas.List.{length-append, get_or_append_left, take-append-le, drop-append-le, length-drop, take_all, append-nil, append_assoc}
+use Rattle.std.proofs.lemmas.Option.{none-some, same_Some, slice_get-get_or}
+use Rattle.std.proofs.Math.ListN.{drop_of_length-le}
+use Rattle.std.proofs.lemmas.Bool.Decides.{nat_tests}
 use Rattle.wasm_spec.specs.TypeData.{map_group}
 use Rattle.type_data.specs.Names.{named}
 use Rattle.type_spec.specs.Interned.{Span}
-use Rattle.wasm_index.specs.Index.{number_of, index_of}
+use Rattle.wasm_index.specs.Index.{number_of}
 use Rattle.wasm_types.specs.declared.index.EngineOrModuleTypeIndex.{EngineOrModuleTypeIndex}
 use Rattle.wasm_types.specs.declared.index.EngineOrModuleTypeIndex.TheVariants as index
 use Rattle.wasm_types.specs.declared.sub.WasmSubType.{WasmSubType}
@@ -15,33 +17,24 @@ use Rattle.wasm_trace.specs.Canonical.{consed_edge}
 use Rattle.module_types.specs.TypeList.{TypeList}
 use Rattle.module_types.specs.Orderly.{LieBetween}
 use Rattle.type_registry.specs.Registry.{Group, Groups, Module, indices_of}
-use Rattle.type_registry.specs.Changes.{Plan, at_first, canonical_data, canonical_of, find_group, first_index, given, members_of, next_group, plan_group, plan_groups, size_of, take_group, with_group}
+use Rattle.type_registry.specs.Changes.{Plan, at_first, canonical_data, canonical_of, find_group, first_index, given, members_of, next_group, plan_group, plan_groups, size_of, with_group}
 use Rattle.type_registry.specs.Planning.{MayBePlanned, MayBePlannedFrom, plan}
-use Rattle.type_registry.proofs.Copies.{take-whole}
-use Rattle.type_registry.proofs.Dropping.{some-none, group-is}
 use Rattle.type_registry.proofs.FreeIndices.{free-length}
 use Rattle.type_registry.proofs.Keeping.{Eq}
-use Rattle.type_registry.proofs.PlanGroups.{canonical-long, found-equal, find-some, find-none}
+use Rattle.type_registry.proofs.PlanGroups.{mapped-long, found-equal, find-some, find-none, either-planned}
 use Rattle.type_registry.proofs.Seen.{had-back}
 use Rattle.type_registry.proofs.Sound.{AllFirst}
 
 -- ---- canonical members by the indices of a whole module
 
-get-front : (xs ys : List ℕ) (n : ℕ) → n < length xs → get_or (xs ++ ys) n 0 ≡ get_or xs n 0
-get-front [] ys n lt = absurd (omega (arith, lt))
-get-front (x ∷ xs) ys zero lt = refl
-get-front (x ∷ xs) ys (suc n) lt = get-front xs ys n (omega (arith, lt))
-
 edge-more : (xs ys : List ℕ) (start : ℕ) → start ≤ length xs → (e : EngineOrModuleTypeIndex)
     → consed_edge (given xs) start e ≡ consed_edge (given (xs ++ ys)) start e
 edge-more xs ys start at (index.Engine i) = refl
 edge-more xs ys start at (index.RecGroup i) = refl
-edge-more xs ys start at (index.Module i) = by (nat_lt (number_of i) start) refl where
-  by : (c : Bool) → nat_lt (number_of i) start ≡ c
-      → (if c then index.Engine (given xs i) else index.RecGroup (index_of (number_of i - start)))
-      ≡ (if c then index.Engine (given (xs ++ ys) i) else index.RecGroup (index_of (number_of i - start)))
-  by true e = ap (λ n. index.Engine (index_of n)) (sym (get-front xs ys (number_of i) (omega (arith, ltb-true (number_of i) start e, at))))
-  by false e = refl
+edge-more xs ys start at (index.Module i) =
+    let same : number_of i < start → get_or (xs ++ ys) (number_of i) 0 ≡ get_or xs (number_of i) 0 =
+    (λ lt. get_or_append_left xs ys 0 (number_of i) (omega (arith, lt, at))) in
+    grind (arith, nat_tests)
 
 -- indices of later types do not matter
 data-more : (l : TypeList) (s : Span) (xs ys : List ℕ) → s.start ≤ length xs → canonical_data l xs s ≡ canonical_data l (xs ++ ys) s
@@ -49,24 +42,15 @@ data-more l s xs ys at =
     let same : consed_edge (given xs) s.start ≡ consed_edge (given (xs ++ ys)) s.start = (λ i. λ e. edge-more xs ys s.start at e i) in
     ap (λ (f : EngineOrModuleTypeIndex → EngineOrModuleTypeIndex). map_group (named f) f (group_of (members_of l s))) same
 
-take-within : (xs ys : List ℕ) (n : ℕ) → n ≤ length xs → take n (xs ++ ys) ≡ take n xs
-take-within xs ys zero le = refl
-take-within [] ys (suc n) le = absurd (omega (arith, le))
-take-within (x ∷ xs) ys (suc n) le = ap (λ l. x ∷ l) (take-within xs ys n (omega (arith, le)))
-
 -- a part that lies in the front
 part-within : (xs ys : List ℕ) (n s : ℕ) → s + n ≤ length xs → take n (drop s (xs ++ ys)) ≡ take n (drop s xs)
-part-within xs ys n zero le = take-within xs ys n (omega (arith, le))
-part-within [] ys zero (suc s) le = refl
-part-within [] ys (suc n) (suc s) le = absurd (omega (arith, le))
-part-within (x ∷ xs) ys n (suc s) le = part-within xs ys n s (omega (arith, le))
+part-within xs ys n s le =
+    ap (take n) (drop-append-le s xs ys (omega (arith, le))) ∙ take-append-le n (drop s xs) ys (omega (arith, le, length-drop s xs))
 
 -- the part behind the front is the rest
 part-behind : (xs ys : List ℕ) (s n : ℕ) → length xs ≡ s → length ys ≡ n → take n (drop s (xs ++ ys)) ≡ ys
-part-behind [] ys zero n at long = ap (λ k. take k ys) (sym long) ∙ take-whole ys
-part-behind [] ys (suc s) n at long = absurd (omega (arith, at))
-part-behind (x ∷ xs) ys zero n at long = absurd (omega (arith, at))
-part-behind (x ∷ xs) ys (suc s) n at long = part-behind xs ys s n (omega (arith, at)) long
+part-behind xs ys s n at long =
+    ap (take n) (drop-append-le s xs ys (omega (arith, at)) ∙ ap (λ l. l ++ ys) (drop_of_length-le xs (omega (arith, at)))) ∙ take_all n ys (omega (arith, long))
 
 -- ---- what a group that is found among some tells
 
@@ -76,34 +60,22 @@ pub record IsAt (es : Groups) (g : Group) : Type 0 where
   pub at : slice_get es place ≡ Some (first, g)
 
 pub find-at : (es : Groups) (c : List WasmSubType) (g : Group) → find_group c es ≡ Some g → IsAt es g
-find-at [] c g is = absurd (some-none g is)
+find-at [] c g is = absurd (none-some g is)
 find-at (e ∷ es) c g is = by (Eq e.1.canonical c) is (find-at es c g) where
   by : (b : Bool) → (if b then Some e.1 else find_group c es) ≡ Some g → (find_group c es ≡ Some g → IsAt es g) → IsAt (e ∷ es) g
-  by true is rest = record { place = 0; first = e.0; at = ap (λ (x : Group). Some (e.0, x)) (group-is e.1 g is) }
+  by true is rest = record { place = 0; first = e.0; at = ap (λ (x : Group). Some (e.0, x)) (same_Some e.1 g is) }
   by false is rest = let w = rest is in record { place = suc w.place; first = w.first; at = w.at }
-
-entry-is : (x y : ℕ × Group) → Some x ≡ Some y → x ≡ y
-entry-is x y is = ap (by x) is where
-  by : ℕ × Group → Option (ℕ × Group) → ℕ × Group
-  by d None = d
-  by d (Some z) = z
 
 pub first-at : (es : Groups) (p f : ℕ) (g : Group) → AllFirst es → slice_get es p ≡ Some (f, g)
     → (slice_get g.indices 0 ≡ Some f) × (length g.indices ≡ length g.canonical)
-first-at [] p f g first at = absurd (some-none (f, g) at)
+first-at [] p f g first at = absurd (none-some (f, g) at)
 first-at (e ∷ es) zero f g first at =
-    subst (λ (x : ℕ × Group). (slice_get x.1.indices 0 ≡ Some x.0) × (length x.1.indices ≡ length x.1.canonical)) (entry-is e (f, g) at) (first.0, first.1)
+    subst (λ (x : ℕ × Group). (slice_get x.1.indices 0 ≡ Some x.0) × (length x.1.indices ≡ length x.1.canonical)) (same_Some e (f, g) at) (first.0, first.1)
 first-at (e ∷ es) (suc p) f g first at = first-at es p f g first.2 at
 
 pub first-both : (xs ys : Groups) → AllFirst xs → AllFirst ys → AllFirst (xs ++ ys)
 first-both [] ys a b = b
 first-both (x ∷ xs) ys a b = (a.0, a.1, first-both xs ys a.2 b)
-
-span-is : (s t : Span) → Some s ≡ Some t → s ≡ t
-span-is s t is = ap (by s) is where
-  by : Span → Option Span → Span
-  by d None = d
-  by d (Some x) = x
 
 -- ---- each group of a plan
 
@@ -116,10 +88,6 @@ pub record IsPlanned (gs : Groups) (l : TypeList) (p : Plan) (s : Span) : Type 0
   pub within : s.end ≤ length p.listed.indices
   pub among : find_group group.canonical (gs ++ p.fresh) ≡ Some group
 
-pub both-more : (gs es fs : Groups) → (gs ++ es) ++ fs ≡ gs ++ (es ++ fs)
-both-more [] es fs = refl
-both-more (g ∷ gs) es fs = ap (λ l. g ∷ l) (both-more gs es fs)
-
 -- it stays so where more groups follow
 planned-more : (gs : Groups) (l : TypeList) (listed : Module) (es fs : Groups) (ns firsts : List ℕ) (s : Span)
     → IsPlanned gs l (plan listed es) s → IsPlanned gs l (plan (record { indices = listed.indices ++ ns; groups = firsts }) (es ++ fs)) s
@@ -129,12 +97,8 @@ planned-more gs l listed es fs ns firsts s w = record {
   canonical = w.canonical ∙ data-more l s listed.indices ns (omega (arith, w.low, w.within));
   low = w.low;
   within = omega (arith, w.within, length-append listed.indices ns);
-  among = ap (find_group w.group.canonical) (sym (both-more gs es fs)) ∙ find-some (gs ++ es) fs w.group.canonical w.group w.among;
+  among = ap (find_group w.group.canonical) (sym (append_assoc gs es fs)) ∙ find-some (gs ++ es) fs w.group.canonical w.group w.among;
 }
-
-no-more : (es : Groups) → es ++ [] ≡ es
-no-more [] = refl
-no-more (e ∷ es) = ap (λ l. e ∷ l) (no-more es)
 
 module _ (equal : (x y : List WasmSubType) → (Eq x y ≡ true) ↔ (x ≡ y)) (gs : Groups) (l : TypeList) where
   -- the group that is planned
@@ -146,7 +110,7 @@ module _ (equal : (x y : List WasmSubType) → (Eq x y ≡ true) ↔ (x ≡ y)) 
     form = had-back (canonical_data l p.listed.indices s)
 
     pub size : length c ≡ size_of s
-    size = canonical-long l s p.listed.indices c may.within form
+    size = mapped-long l s (consed_edge (given p.listed.indices) s.start) c may.within form
 
     known-long : (g : Group) → find_group c (gs ++ p.fresh) ≡ Some g → length g.indices ≡ size_of s
     known-long g is =
@@ -181,16 +145,13 @@ module _ (equal : (x y : List WasmSubType) → (Eq x y ≡ true) ↔ (x ≡ y)) 
           canonical = form ∙ data-more l s p.listed.indices new.indices (omega (arith, at));
           low = may.some;
           within = omega (arith, length-append p.listed.indices new.indices, at, new-long, may.some);
-          among = ap (find_group c) (sym (both-more gs p.fresh (at_first new ∷ []))) ∙ find-none (gs ++ p.fresh) (at_first new ∷ []) c none
+          among = ap (find_group c) (sym (append_assoc gs p.fresh (at_first new ∷ []))) ∙ find-none (gs ++ p.fresh) (at_first new ∷ []) c none
               ∙ ap (λ (b : Bool). if b then Some new else None) ((equal c c).1 refl);
         }
 
     new-first : AllFirst (at_first new ∷ [])
     new-first =
-        (get-first new.indices (omega (arith, new-long, may.some)), new-long ∙ sym size, tt) where
-          get-first : (ns : List ℕ) → 0 < length ns → slice_get ns 0 ≡ Some (get_or ns 0 0)
-          get-first [] lt = absurd (omega (arith, lt))
-          get-first (n ∷ ns) lt = refl
+        (slice_get-get_or new.indices 0 0 (omega (arith, new-long, may.some)), new-long ∙ sym size, tt)
 
     -- what is known once the group is planned
     pub record IsNext (q : Plan) : Type 0 where
@@ -200,24 +161,21 @@ module _ (equal : (x y : List WasmSubType) → (Eq x y ≡ true) ↔ (x ≡ y)) 
       pub still : (t : Span) → IsPlanned gs l p t → IsPlanned gs l q t
 
     pub is-next : IsNext (plan_group gs l p s)
-    is-next = by (find_group c (gs ++ p.fresh)) refl where
-      by : (o : Option Group) → find_group (canonical_of l p.listed.indices s) (gs ++ p.fresh) ≡ o
-          → IsNext (take_group p (next_group gs p.fresh (canonical_of l p.listed.indices s) (size_of s)) o)
-      by (Some g) is =
-          record {
-            here = known g is;
-            firsts = first;
-            long = omega (arith, length-append p.listed.indices g.indices, at, known-long g is, may.some);
-            still = λ t x. subst (λ (fs : Groups). IsPlanned gs l (plan (with_group p.listed g) fs) t) (no-more p.fresh)
-                (planned-more gs l p.listed p.fresh [] g.indices (p.listed.groups ++ first_index g ∷ []) t x);
-          }
-      by None is =
-          record {
-            here = unknown is;
-            firsts = subst AllFirst (both-more gs p.fresh (at_first new ∷ [])) (first-both (gs ++ p.fresh) (at_first new ∷ []) first new-first);
-            long = omega (arith, length-append p.listed.indices new.indices, at, new-long, may.some);
-            still = λ t x. planned-more gs l p.listed p.fresh (at_first new ∷ []) new.indices (p.listed.groups ++ first_index new ∷ []) t x;
-          }
+    is-next =
+        either-planned gs l p s IsNext
+        (λ g is. record {
+          here = known g is;
+          firsts = first;
+          long = omega (arith, length-append p.listed.indices g.indices, at, known-long g is, may.some);
+          still = λ t x. subst (λ (fs : Groups). IsPlanned gs l (plan (with_group p.listed g) fs) t) (append-nil p.fresh)
+              (planned-more gs l p.listed p.fresh [] g.indices (p.listed.groups ++ first_index g ∷ []) t x);
+        })
+        (λ is. record {
+          here = unknown is;
+          firsts = subst AllFirst (append_assoc gs p.fresh (at_first new ∷ [])) (first-both (gs ++ p.fresh) (at_first new ∷ []) first new-first);
+          long = omega (arith, length-append p.listed.indices new.indices, at, new-long, may.some);
+          still = λ t x. planned-more gs l p.listed p.fresh (at_first new ∷ []) new.indices (p.listed.groups ++ first_index new ∷ []) t x;
+        })
 
   -- each group of some
   abbrev pub EachPlanned : Plan → List Span → Type 0
@@ -246,6 +204,6 @@ module _ (equal : (x y : List WasmSubType) → (Eq x y ≡ true) ↔ (x ≡ y)) 
       }
 
   pub planned-at : (p : Plan) (ss : List Span) (k : ℕ) (s : Span) → EachPlanned p ss → slice_get ss k ≡ Some s → IsPlanned gs l p s
-  planned-at p [] k s each at = absurd (some-none s at)
-  planned-at p (t ∷ ss) zero s each at = subst (λ x. IsPlanned gs l p x) (span-is t s at) each.0
+  planned-at p [] k s each at = absurd (none-some s at)
+  planned-at p (t ∷ ss) zero s each at = subst (λ x. IsPlanned gs l p x) (same_Some t s at) each.0
   planned-at p (t ∷ ss) (suc k) s each at = planned-at p ss k s each.1 at

@@ -1,19 +1,21 @@
 -- The groups of a module are planned one after another.
 use Rattle.std.proofs.Common.{if◌then◌else◌, ◌≡◌, ◌∙◌, ◌<◌, ◌≤◌, ℕ, suc, ◌+◌, ◌-◌, Bool, true, false, nat_eq, List, [], ◌∷◌, ◌++◌, length, map, get_or, drop, Option, Some, None, refl, sym, ap, subst, arith}
 use Rattle.std.specs.List.{list_any}
-use Rattle.std.proofs.lemmas.List.{length-append, length-map, length-take-le, length-drop}
+use Rattle.std.proofs.lemmas.List.{length-append, length-map, length-take-le, length-drop, append-nil}
 use Rattle.std.proofs.lemmas.Grind.{flat_map-append}
-use Rattle.wasm_spec.specs.TypeData.{map_sub_type}
+use Rattle.wasm_spec.specs.TypeData.{map_group, map_sub_type}
 use Rattle.type_data.specs.Names.{named}
 use Rattle.type_spec.specs.Interned.{Span}
 use Rattle.std.specs.declared.ops.Range.{Range}
+use Rattle.std.proofs.lemmas.Option.{none-some}
+use Rattle.std.proofs.lemmas.Bool.{cases_Bool}
 use Rattle.entity_map.specs.Keyed.{keyed, keyed_from}
 use Rattle.wasm_index.specs.declared.index.Index.{Index}
 use Rattle.wasm_index.specs.declared.spaces.ModuleInternedRecGroupSpace.{ModuleInternedRecGroupSpace}
 use Rattle.wasm_index.specs.Index.{index_of}
 use Rattle.wasm_types.specs.declared.sub.WasmSubType.{WasmSubType}
 use Rattle.wasm_types.specs.TypeViews.{sub_type_of, group_of}
-use Rattle.wasm_trace.specs.Canonical.{consed_edge}
+use Rattle.wasm_types.specs.declared.index.EngineOrModuleTypeIndex.{EngineOrModuleTypeIndex}
 use Rattle.module_types.specs.Views.{TypeIndex, span_of, interned_of}
 use Rattle.module_types.specs.TypeList.{TypeList}
 use Rattle.module_types.specs.Orderly.{LieBetween}
@@ -21,16 +23,16 @@ use Rattle.module_types.specs.Conversion.{no_span}
 use Rattle.module_types.specs.ListGroups.{span_at}
 use Rattle.module_types.proofs.Standing.{stands-at}
 use Rattle.type_registry.specs.Registry.{Group, Groups, GroupsState, indices_of}
-use Rattle.type_registry.specs.Changes.{Plan, begun, find_group, first_index, keep_group, keep_groups, given, members_of, at_first, free_indices, next_group, canonical_data, canonical_of, take_group, plan_group, plan_groups, size_of, with_group}
+use Rattle.type_registry.specs.Changes.{Plan, begun, find_group, first_index, keep_group, keep_groups, members_of, at_first, free_indices, next_group, canonical_of, take_group, plan_group, plan_groups, size_of, with_group}
 use Rattle.type_registry.specs.Listed.{Listed, list_of}
 use Rattle.type_registry.specs.Planning.{MayBePlanned, MayBePlannedFrom, HaveFirstFree, plan}
 use Rattle.type_registry.specs.Counted.{counted}
 use Rattle.type_registry.proofs.Counting.{counted-keep}
 use Rattle.type_registry.proofs.Copies.{may-cons, may-use}
-use Rattle.type_registry.proofs.Dropping.{some-none, group-is}
 use Rattle.type_registry.proofs.Keeping.{Eq}
 use Rattle.type_registry.proofs.FreeIndices.{free-split, free-length, free-low, free-once, not-taken}
 use Rattle.type_registry.proofs.KeepingAll.{keep-length, IsOnce, AllUnknown, AllUnlike, AllApart, MayKeep}
+use Rattle.type_registry.proofs.NewGroups.{none-of}
 
 -- ---- the groups of a list may be planned
 
@@ -57,39 +59,36 @@ may-plan l listed few =
 
 -- ---- groups that are found
 
+-- a group that is planned is found, or is new
+pub either-planned : (gs : Groups) (l : TypeList) (p : Plan) (s : Span) (P : Plan → Type 0)
+    → ((g : Group) → find_group (canonical_of l p.listed.indices s) (gs ++ p.fresh) ≡ Some g → P (plan (with_group p.listed g) p.fresh))
+    → (find_group (canonical_of l p.listed.indices s) (gs ++ p.fresh) ≡ None → P (take_group p (next_group gs p.fresh (canonical_of l p.listed.indices s) (size_of s)) None))
+    → P (plan_group gs l p s)
+either-planned gs l p s P known new = by (find_group (canonical_of l p.listed.indices s) (gs ++ p.fresh)) known new where
+  by : (o : Option Group) → ((g : Group) → o ≡ Some g → P (plan (with_group p.listed g) p.fresh))
+      → (o ≡ None → P (take_group p (next_group gs p.fresh (canonical_of l p.listed.indices s) (size_of s)) None))
+      → P (take_group p (next_group gs p.fresh (canonical_of l p.listed.indices s) (size_of s)) o)
+  by (Some g) known new = known g refl
+  by None known new = new refl
+
 pub find-some : (gs es : Groups) (c : List WasmSubType) (g : Group) → find_group c gs ≡ Some g → find_group c (gs ++ es) ≡ Some g
-find-some [] es c g is = absurd (some-none g is)
-find-some (x ∷ gs) es c g is = by (Eq x.1.canonical c) is (find-some gs es c g) where
-  by : (b : Bool) → (if b then Some x.1 else find_group c gs) ≡ Some g → (find_group c gs ≡ Some g → find_group c (gs ++ es) ≡ Some g)
-      → (if b then Some x.1 else find_group c (gs ++ es)) ≡ Some g
-  by true is rest = is
-  by false is rest = rest is
+find-some [] es c g is = absurd (none-some g is)
+find-some (x ∷ gs) es c g is = let rest = find-some gs es c g in let equal = cases_Bool (Eq x.1.canonical c) in grind arith
 
 pub find-none : (gs es : Groups) (c : List WasmSubType) → find_group c gs ≡ None → find_group c (gs ++ es) ≡ find_group c es
 find-none [] es c none = refl
-find-none (x ∷ gs) es c none = by (Eq x.1.canonical c) none (find-none gs es c) where
-  by : (b : Bool) → (if b then Some x.1 else find_group c gs) ≡ None → (find_group c gs ≡ None → find_group c (gs ++ es) ≡ find_group c es)
-      → (if b then Some x.1 else find_group c (gs ++ es)) ≡ find_group c es
-  by true none rest = absurd (some-none x.1 (sym none))
-  by false none rest = rest none
+find-none (x ∷ gs) es c none = let rest = find-none gs es c in let equal = cases_Bool (Eq x.1.canonical c) in grind arith
 
 -- where none of both is found
 pub none-first : (gs es : Groups) (c : List WasmSubType) → find_group c (gs ++ es) ≡ None → find_group c gs ≡ None
-none-first gs es c none = by (find_group c gs) refl where
-  by : (o : Option Group) → find_group c gs ≡ o → find_group c gs ≡ None
-  by None e = e
-  by (Some g) e = absurd (some-none g (sym none ∙ find-some gs es c g e))
+none-first gs es c none = none-of (find_group c gs) (λ g e. none-some g (sym none ∙ find-some gs es c g e))
 
 pub none-second : (gs es : Groups) (c : List WasmSubType) → find_group c (gs ++ es) ≡ None → find_group c es ≡ None
 none-second gs es c none = sym (find-none gs es c (none-first gs es c none)) ∙ none
 
 pub found-equal : (gs : Groups) (c : List WasmSubType) (g : Group) → find_group c gs ≡ Some g → Eq g.canonical c ≡ true
-found-equal [] c g is = absurd (some-none g is)
-found-equal (x ∷ gs) c g is = by (Eq x.1.canonical c) refl is (found-equal gs c g) where
-  by : (b : Bool) → Eq x.1.canonical c ≡ b → (if b then Some x.1 else find_group c gs) ≡ Some g → (find_group c gs ≡ Some g → Eq g.canonical c ≡ true)
-      → Eq g.canonical c ≡ true
-  by true e is rest = ap (λ (h : Group). Eq h.canonical c) (sym (group-is x.1 g is)) ∙ e
-  by false e is rest = rest is
+found-equal [] c g is = absurd (none-some g is)
+found-equal (x ∷ gs) c g is = let rest = found-equal gs c g in let equal = cases_Bool (Eq x.1.canonical c) in grind arith
 
 -- ---- the indices of new groups
 
@@ -99,12 +98,8 @@ indices e = e.1.indices
 pub indices-both : (gs es : Groups) → indices_of (gs ++ es) ≡ indices_of gs ++ indices_of es
 indices-both gs es = flat_map-append indices gs es
 
-none-more : (xs : List ℕ) → xs ++ [] ≡ xs
-none-more [] = refl
-none-more (x ∷ xs) = ap (λ l. x ∷ l) (none-more xs)
-
 pub indices-one : (es : Groups) (e : ℕ × Group) → indices_of (es ++ e ∷ []) ≡ indices_of es ++ e.1.indices
-indices-one es e = indices-both es (e ∷ []) ∙ ap (λ l. indices_of es ++ l) (none-more e.1.indices)
+indices-one es e = indices-both es (e ∷ []) ∙ ap (λ l. indices_of es ++ l) (append-nil e.1.indices)
 
 -- the indices of the next new group are those that were free in turn
 pub next-free : (gs es : Groups) (n : ℕ) → HaveFirstFree (indices_of gs) es
@@ -137,7 +132,7 @@ apart-last (x ∷ es) e none apart = by (Eq x.1.canonical e.1.canonical) refl no
 
   by : (b : Bool) → Eq x.1.canonical e.1.canonical ≡ b → (if b then Some x.1 else find_group e.1.canonical es) ≡ None
       → (find_group e.1.canonical es ≡ None → AllApart es → AllApart (es ++ e ∷ [])) → AllApart (x ∷ (es ++ e ∷ []))
-  by true is none rest = absurd (some-none x.1 (sym none))
+  by true is none rest = absurd (none-some x.1 (sym none))
   by false is none rest = (unlike-last es apart.0 is, rest none apart.1)
 
 unknown-last : (gs es : Groups) (e : ℕ × Group) → find_group e.1.canonical gs ≡ None → AllUnknown gs es → AllUnknown gs (es ++ e ∷ [])
@@ -146,11 +141,9 @@ unknown-last gs (x ∷ es) e none all = (all.0, unknown-last gs es e none all.1)
 
 pub group-first : (gs : Groups) (l : TypeList) (p : Plan) (s : Span) → HaveFirstFree (indices_of gs) p.fresh
     → HaveFirstFree (indices_of gs) (plan_group gs l p s).fresh
-group-first gs l p s first = by (find_group (canonical_of l p.listed.indices s) (gs ++ p.fresh)) where
-  by : (o : Option Group)
-      → HaveFirstFree (indices_of gs) (take_group p (next_group gs p.fresh (canonical_of l p.listed.indices s) (size_of s)) o).fresh
-  by (Some g) = first
-  by None = first-more gs p.fresh (canonical_of l p.listed.indices s) (size_of s) first
+group-first gs l p s first =
+    either-planned gs l p s (λ q. HaveFirstFree (indices_of gs) q.fresh) (λ g is. first)
+    (λ none. first-more gs p.fresh (canonical_of l p.listed.indices s) (size_of s) first)
 
 -- new groups have the least indices that were free, are not kept, and no two are equal
 pub record AreNew (gs es : Groups) : Type 0 where
@@ -162,20 +155,13 @@ none-new : (gs : Groups) → AreNew gs []
 none-new gs = record { first = refl; unknown = tt; apart = tt }
 
 new-group : (gs : Groups) (l : TypeList) (p : Plan) (s : Span) → AreNew gs p.fresh → AreNew gs (plan_group gs l p s).fresh
-new-group gs l p s new = by (find_group canonical (gs ++ p.fresh)) refl where
-  canonical : List WasmSubType
-  canonical = canonical_of l p.listed.indices s
-
-  by : (o : Option Group) → find_group (canonical_of l p.listed.indices s) (gs ++ p.fresh) ≡ o
-      → AreNew gs (take_group p (next_group gs p.fresh (canonical_of l p.listed.indices s) (size_of s)) o).fresh
-  by (Some g) e = new
-  by None e =
-      let c = canonical_of l p.listed.indices s in
-      record {
-        first = first-more gs p.fresh c (size_of s) new.first;
-        unknown = unknown-last gs p.fresh (at_first (next_group gs p.fresh c (size_of s))) (none-first gs p.fresh c e) new.unknown;
-        apart = apart-last p.fresh (at_first (next_group gs p.fresh c (size_of s))) (none-second gs p.fresh c e) new.apart;
-      }
+new-group gs l p s new =
+    let c = canonical_of l p.listed.indices s in
+    either-planned gs l p s (λ q. AreNew gs q.fresh) (λ g is. new) (λ none. record {
+      first = first-more gs p.fresh c (size_of s) new.first;
+      unknown = unknown-last gs p.fresh (at_first (next_group gs p.fresh c (size_of s))) (none-first gs p.fresh c none) new.unknown;
+      apart = apart-last p.fresh (at_first (next_group gs p.fresh c (size_of s))) (none-second gs p.fresh c none) new.apart;
+    })
 
 new-groups : (gs : Groups) (l : TypeList) (p : Plan) (ss : List Span) → AreNew gs p.fresh → AreNew gs (plan_groups gs l p ss).fresh
 new-groups gs l p [] new = new
@@ -208,10 +194,9 @@ abbrev members : Plan → ℕ
 members p = length (indices_of p.fresh)
 
 group-grows : (gs : Groups) (l : TypeList) (p : Plan) (s : Span) → members p ≤ members (plan_group gs l p s)
-group-grows gs l p s = by (find_group (canonical_of l p.listed.indices s) (gs ++ p.fresh)) where
-  by : (o : Option Group) → members p ≤ members (take_group p (next_group gs p.fresh (canonical_of l p.listed.indices s) (size_of s)) o)
-  by (Some g) = omega arith
-  by None = omega (arith, next-length gs p.fresh (canonical_of l p.listed.indices s) (size_of s))
+group-grows gs l p s =
+    either-planned gs l p s (λ q. members p ≤ members q) (λ g is. omega arith)
+    (λ none. omega (arith, next-length gs p.fresh (canonical_of l p.listed.indices s) (size_of s)))
 
 pub groups-grow : (gs : Groups) (l : TypeList) (p : Plan) (ss : List Span) → members p ≤ members (plan_groups gs l p ss)
 groups-grow gs l p [] = omega arith
@@ -219,14 +204,14 @@ groups-grow gs l p (s ∷ ss) = omega (arith, group-grows gs l p s, groups-grow 
 
 -- ---- one group
 
-pub canonical-long : (l : TypeList) (s : Span) (before : List ℕ) (c : List WasmSubType) → s.end ≤ length l.types → group_of c ≡ canonical_data l before s
-    → length c ≡ s.end - s.start
-canonical-long l s before c within is =
+pub mapped-long : (l : TypeList) (s : Span) (f : EngineOrModuleTypeIndex → EngineOrModuleTypeIndex) (c : List WasmSubType) → s.end ≤ length l.types
+    → group_of c ≡ map_group (named f) f (group_of (members_of l s)) → length c ≡ s.end - s.start
+mapped-long l s f c within is =
     omega (
       arith,
       length-map c sub_type_of,
       ap length is,
-      length-map (group_of (members_of l s)) (map_sub_type (named (consed_edge (given before) s.start)) (consed_edge (given before) s.start)),
+      length-map (group_of (members_of l s)) (map_sub_type (named f) f),
       length-map (members_of l s) sub_type_of,
       length-take-le (s.end - s.start) (drop s.start l.types) (omega (arith, length-drop s.start l.types, within)),
     )
@@ -262,11 +247,9 @@ spans-keyed rs = spans-from 0 rs
 -- ---- how many groups there are, and how often modules have the new ones
 
 count-group : (gs : Groups) (l : TypeList) (p : Plan) (s : Span) → length (plan_group gs l p s).listed.groups ≡ length p.listed.groups + 1
-count-group gs l p s = by (find_group (canonical_of l p.listed.indices s) (gs ++ p.fresh)) where
-  by : (o : Option Group)
-      → length (take_group p (next_group gs p.fresh (canonical_of l p.listed.indices s) (size_of s)) o).listed.groups ≡ length p.listed.groups + 1
-  by (Some g) = length-append p.listed.groups (first_index g ∷ [])
-  by None = length-append p.listed.groups (first_index (next_group gs p.fresh (canonical_of l p.listed.indices s) (size_of s)) ∷ [])
+count-group gs l p s =
+    either-planned gs l p s (λ q. length q.listed.groups ≡ length p.listed.groups + 1) (λ g is. length-append p.listed.groups (first_index g ∷ []))
+    (λ none. length-append p.listed.groups (first_index (next_group gs p.fresh (canonical_of l p.listed.indices s) (size_of s)) ∷ []))
 
 count-groups : (gs : Groups) (l : TypeList) (p : Plan) (ss : List Span) → length (plan_groups gs l p ss).listed.groups ≡ length p.listed.groups + length ss
 count-groups gs l p [] = omega arith
@@ -288,10 +271,9 @@ counted-last [] e = omega arith
 counted-last (x ∷ es) e = omega (arith, counted-last es e)
 
 none-counted : (gs : Groups) (l : TypeList) (p : Plan) (s : Span) → counted p.fresh ≡ 0 → counted (plan_group gs l p s).fresh ≡ 0
-none-counted gs l p s none = by (find_group (canonical_of l p.listed.indices s) (gs ++ p.fresh)) where
-  by : (o : Option Group) → counted (take_group p (next_group gs p.fresh (canonical_of l p.listed.indices s) (size_of s)) o).fresh ≡ 0
-  by (Some g) = none
-  by None = omega (arith, counted-last p.fresh (at_first (next_group gs p.fresh (canonical_of l p.listed.indices s) (size_of s))), none)
+none-counted gs l p s none =
+    either-planned gs l p s (λ q. counted q.fresh ≡ 0) (λ g is. none)
+    (λ new. omega (arith, counted-last p.fresh (at_first (next_group gs p.fresh (canonical_of l p.listed.indices s) (size_of s))), none))
 
 pub fresh-counted : (gs : Groups) (l : TypeList) (p : Plan) (ss : List Span) → counted p.fresh ≡ 0 → counted (plan_groups gs l p ss).fresh ≡ 0
 fresh-counted gs l p [] none = none

@@ -2,26 +2,24 @@
 use Rattle.std.proofs.Common.{if◌then◌else◌, ◌≡◌, ◌∙◌, ◌↔◌, ◌<◌, ◌≤◌, ℕ, ◌+◌, Bool, true, false, nat_eq, List, [], ◌∷◌, ◌++◌, map, Option, Some, None, refl, sym, ap, subst, arith, eq-eqb, ◌⊎◌, inl, inr}
 use Rattle.std.specs.List.{flat_map}
 use Rattle.std.proofs.lemmas.Grind.{flat_map-append}
-use Rattle.std.proofs.lemmas.List.{append-nil}
-use Rattle.std.proofs.lemmas.Option.{get_or_from_slice_get}
-use Rattle.std.proofs.lemmas.Bool.{eqb-true}
+use Rattle.std.proofs.lemmas.List.{append-nil, append_assoc}
+use Rattle.std.proofs.lemmas.Option.{get_or_from_slice_get, same_Some}
+use Rattle.std.proofs.lemmas.Bool.{eqb-true, ne_eqb}
 use Rattle.type_spec.specs.Interned.{Span}
 use Rattle.wasm_types.specs.declared.sub.WasmSubType.{WasmSubType}
 use Rattle.module_types.specs.Views.{span_of}
 use Rattle.module_types.specs.TypeList.{TypeList}
 use Rattle.type_registry.specs.Registry.{Registry, Group, Groups, Module}
-use Rattle.type_registry.specs.Changes.{Plan, begun, at_first, canonical_of, find_group, first_index, keep_groups, next_group, plan_group, plan_groups, planned, registered, size_of, take_group, with_group}
+use Rattle.type_registry.specs.Changes.{Plan, begun, at_first, canonical_of, find_group, first_index, keep_groups, next_group, plan_group, plan_groups, planned, registered, size_of, with_group}
 use Rattle.type_registry.specs.Standing.{MayRegister, kept_at}
 use Rattle.type_registry.specs.Balanced.{IsBalanced, count_in, indices_in, indices_at, times, times_in, times_below}
 use Rattle.type_registry.proofs.Balance.{kept-listed}
-use Rattle.type_registry.proofs.FreeIndices.{apart}
 use Rattle.type_registry.proofs.Keeping.{Eq}
-use Rattle.type_registry.proofs.Placed.{both-more}
-use Rattle.type_registry.proofs.PlanGroups.{found-equal, find-some, find-none, fresh-counted}
+use Rattle.type_registry.proofs.PlanGroups.{found-equal, find-some, find-none, fresh-counted, either-planned}
 use Rattle.type_registry.proofs.Registered.{state, may, new-first, kept-of, registered-sound}
 use Rattle.type_registry.proofs.Sound.{IsBut, found, counted-is, counted-was, keeps-found}
 use Rattle.type_registry.proofs.Tallies.{IsThere, counted-more, firsts_of, keep-none, kept-was}
-use Rattle.type_registry.proofs.Times.{below-next, below-with, flat-same, module-is, times-append}
+use Rattle.type_registry.proofs.Times.{below-next, below-with, flat-same, times-append}
 
 -- ---- the list of a module that is planned
 
@@ -49,13 +47,10 @@ module _ (equal : (x y : List WasmSubType) → (Eq x y ≡ true) ↔ (x ≡ y)) 
   -- a group that is found stays so where more groups are planned
   found-next : (p : Plan) (s : Span) (c : List WasmSubType) (g : Group) → find_group c (gs ++ p.fresh) ≡ Some g
       → find_group c (gs ++ (plan_group gs l p s).fresh) ≡ Some g
-  found-next p s c g is = by (find_group (canonical_of l p.listed.indices s) (gs ++ p.fresh)) where
-    by : (o : Option Group)
-        → find_group c (gs ++ (take_group p (next_group gs p.fresh (canonical_of l p.listed.indices s) (size_of s)) o).fresh) ≡ Some g
-    by (Some h) = is
-    by None =
-        let new = next_group gs p.fresh (canonical_of l p.listed.indices s) (size_of s) in
-        ap (find_group c) (sym (both-more gs p.fresh (at_first new ∷ []))) ∙ find-some (gs ++ p.fresh) (at_first new ∷ []) c g is
+  found-next p s c g is =
+      let new = next_group gs p.fresh (canonical_of l p.listed.indices s) (size_of s) in
+      either-planned gs l p s (λ q. find_group c (gs ++ q.fresh) ≡ Some g) (λ h known. is)
+      (λ none. ap (find_group c) (sym (append_assoc gs p.fresh (at_first new ∷ []))) ∙ find-some (gs ++ p.fresh) (at_first new ∷ []) c g is)
 
   found-later : (p : Plan) (ss : List Span) (c : List WasmSubType) (g : Group) → find_group c (gs ++ p.fresh) ≡ Some g
       → find_group c (gs ++ (plan_groups gs l p ss).fresh) ≡ Some g
@@ -69,23 +64,19 @@ module _ (equal : (x y : List WasmSubType) → (Eq x y ≡ true) ↔ (x ≡ y)) 
     pub among : find_group group.canonical (gs ++ es) ≡ Some group
 
   is-taken : (p : Plan) (s : Span) → IsTaken p.listed (plan_group gs l p s).listed (plan_group gs l p s).fresh
-  is-taken p s = by (find_group (canonical_of l p.listed.indices s) (gs ++ p.fresh)) refl where
-    by : (o : Option Group) → find_group (canonical_of l p.listed.indices s) (gs ++ p.fresh) ≡ o
-        → IsTaken p.listed (take_group p (next_group gs p.fresh (canonical_of l p.listed.indices s) (size_of s)) o).listed
-        (take_group p (next_group gs p.fresh (canonical_of l p.listed.indices s) (size_of s)) o).fresh
-    by (Some g) is =
-        let c = canonical_of l p.listed.indices s in
-        let same : g.canonical ≡ c = (equal g.canonical c).0 (found-equal (gs ++ p.fresh) c g is) in
-        record { group = g; listed = refl; among = ap (λ x. find_group x (gs ++ p.fresh)) same ∙ is }
-    by None is =
-        let c = canonical_of l p.listed.indices s in
-        let new = next_group gs p.fresh c (size_of s) in
-        record {
-          group = new;
-          listed = refl;
-          among = ap (find_group c) (sym (both-more gs p.fresh (at_first new ∷ []))) ∙ find-none (gs ++ p.fresh) (at_first new ∷ []) c is
-              ∙ ap (λ (b : Bool). if b then Some new else None) ((equal c c).1 refl);
-        }
+  is-taken p s =
+      let c = canonical_of l p.listed.indices s in
+      let new = next_group gs p.fresh c (size_of s) in
+      either-planned gs l p s (λ q. IsTaken p.listed q.listed q.fresh)
+      (λ g is.
+      let same : g.canonical ≡ c = (equal g.canonical c).0 (found-equal (gs ++ p.fresh) c g is) in
+      record { group = g; listed = refl; among = ap (λ x. find_group x (gs ++ p.fresh)) same ∙ is })
+      (λ none. record {
+        group = new;
+        listed = refl;
+        among = ap (find_group c) (sym (append_assoc gs p.fresh (at_first new ∷ []))) ∙ find-none (gs ++ p.fresh) (at_first new ∷ []) c none
+            ∙ ap (λ (b : Bool). if b then Some new else None) ((equal c c).1 refl);
+      })
 
   -- the list is that of its groups where each group that is found is kept at its first index
   planned-listed : (at : ℕ → Option Group) (p : Plan) (ss : List Span)
@@ -101,18 +92,14 @@ module _ (equal : (x y : List WasmSubType) → (Eq x y ≡ true) ↔ (x ≡ y)) 
   -- each new group is one of the module's
   new-listed : (p : Plan) (s : Span) (first : ℕ) → times first (firsts_of p.fresh) ≤ times first p.listed.groups
       → times first (firsts_of (plan_group gs l p s).fresh) ≤ times first (plan_group gs l p s).listed.groups
-  new-listed p s first le = by (find_group (canonical_of l p.listed.indices s) (gs ++ p.fresh)) where
-    firsts-more : (es : Groups) (e : ℕ × Group) → times first (firsts_of (es ++ e ∷ [])) ≡ times first (firsts_of es) + times first (e.0 ∷ [])
-    firsts-more [] e = omega arith
-    firsts-more (x ∷ es) e = omega (arith, firsts-more es e)
-
-    by : (o : Option Group)
-        → times first (firsts_of (take_group p (next_group gs p.fresh (canonical_of l p.listed.indices s) (size_of s)) o).fresh)
-        ≤ times first (take_group p (next_group gs p.fresh (canonical_of l p.listed.indices s) (size_of s)) o).listed.groups
-    by (Some g) = omega (arith, le, times-append first p.listed.groups (first_index g ∷ []))
-    by None =
-        let new = next_group gs p.fresh (canonical_of l p.listed.indices s) (size_of s) in
-        omega (arith, le, times-append first p.listed.groups (first_index new ∷ []), firsts-more p.fresh (at_first new))
+  new-listed p s first le =
+      let new = next_group gs p.fresh (canonical_of l p.listed.indices s) (size_of s) in
+      either-planned gs l p s (λ q. times first (firsts_of q.fresh) ≤ times first q.listed.groups)
+      (λ g is. omega (arith, le, times-append first p.listed.groups (first_index g ∷ [])))
+      (λ none. omega (arith, le, times-append first p.listed.groups (first_index new ∷ []), firsts-more p.fresh (at_first new))) where
+        firsts-more : (es : Groups) (e : ℕ × Group) → times first (firsts_of (es ++ e ∷ [])) ≡ times first (firsts_of es) + times first (e.0 ∷ [])
+        firsts-more [] e = omega arith
+        firsts-more (x ∷ es) e = omega (arith, firsts-more es e)
 
   pub all-listed : (p : Plan) (ss : List Span) (first : ℕ) → times first (firsts_of p.fresh) ≤ times first p.listed.groups
       → times first (firsts_of (plan_groups gs l p ss).fresh) ≤ times first (plan_groups gs l p ss).listed.groups
@@ -190,7 +177,7 @@ module _ (equal : (x y : List WasmSubType) → (Eq x y ≡ true) ↔ (x ≡ y)) 
   listed-now : (key : ℕ) (n : Module) → now.held key ≡ Some n → n.indices ≡ flat_map (indices_at now) n.groups
   listed-now key n is = by (nat_eq r.registrations key) is where
     by : (c : Bool) → (if c then Some p.listed else r.held key) ≡ Some n → n.indices ≡ flat_map (indices_at now) n.groups
-    by true is = subst (λ (x : Module). x.indices ≡ flat_map (indices_at now) x.groups) (module-is p.listed n is) listed-new
+    by true is = subst (λ (x : Module). x.indices ≡ flat_map (indices_at now) x.groups) (same_Some p.listed n is) listed-new
     by false is =
         b.listed key n is
         ∙ flat-same (indices_at r) (indices_at now) n.groups
@@ -203,7 +190,7 @@ module _ (equal : (x y : List WasmSubType) → (Eq x y ≡ true) ↔ (x ≡ y)) 
   registered-balanced = record {
     sound = registered-sound equal r l m;
     unused = λ k le.
-        ap (λ (c : Bool). if c then Some p.listed else r.held k) (apart r.registrations k (λ e. absurd (omega (arith, e, le)))) ∙ b.unused k (omega (arith, le));
+        ap (λ (c : Bool). if c then Some p.listed else r.held k) (ne_eqb r.registrations k (λ e. absurd (omega (arith, e, le)))) ∙ b.unused k (omega (arith, le));
     counted = counted-now;
     had = had-now;
     listed = listed-now;

@@ -1,7 +1,8 @@
 -- What holds of a registry once a module is registered.
 use Rattle.std.proofs.Common.{if◌then◌else◌, ◌≡◌, ◌∙◌, ◌↔◌, ◌<◌, ℕ, zero, suc, ◌+◌, Bool, true, List, [], ◌∷◌, ◌++◌, length, map, get_or, slice_get, drop, Option, Some, None, refl, sym, ap, subst, arith, eq-eqb}
-use Rattle.std.proofs.lemmas.Option.{slice_get-get_or}
-use Rattle.std.proofs.lemmas.List.{length-map}
+use Rattle.std.proofs.lemmas.Option.{slice_get-get_or, none-some, same_Some}
+use Rattle.std.proofs.lemmas.List.{length-map, append-nil}
+use Rattle.std.proofs.lemmas.Bool.{ne_eqb}
 use Rattle.type_spec.specs.Interned.{Span}
 use Rattle.wasm_types.specs.declared.sub.WasmSubType.{WasmSubType}
 use Rattle.wasm_types.specs.TypeViews.{group_of}
@@ -12,36 +13,29 @@ use Rattle.type_registry.specs.Listed.{list_of}
 use Rattle.type_registry.specs.Changes.{Plan, begun, find_group, planned, registered, size_of, keep_groups}
 use Rattle.type_registry.specs.Fresh.{MayKeepAll}
 use Rattle.type_registry.specs.Standing.{AreAbove, AreOrdered, IsSound, GroupStands, Stands, MayRegister}
-use Rattle.type_registry.proofs.Dropping.{some-none, number-is}
-use Rattle.type_registry.proofs.FreeIndices.{apart}
 use Rattle.type_registry.proofs.Keeping.{Eq}
 use Rattle.type_registry.proofs.KeepingAll.{may-keep-all}
 use Rattle.type_registry.proofs.PlanGroups.{planned-new, new-may-keep, may-plan, find-some, find-none}
 use Rattle.type_registry.proofs.Sound.{found, AllFirst, keeps-sound, keeps-found, keeps-new, counted-sound, counted-is}
 use Rattle.type_registry.proofs.Placed.{ArePlanned, are-planned, planned-at, find-at, first-at}
-use Rattle.type_registry.proofs.Telling.{take-get, drop-get}
+use Rattle.type_registry.proofs.Telling.{take-get}
+use Rattle.type_registry.proofs.Copies.{get-dropped}
 
 -- ---- groups in order
 
-entry-is : (x y : ℕ × Group) → Some x ≡ Some y → x ≡ y
-entry-is x y is = ap (by x) is where
-  by : ℕ × Group → Option (ℕ × Group) → ℕ × Group
-  by d None = d
-  by d (Some z) = z
-
 above-differ : (gs : Groups) (n p : ℕ) (e : ℕ × Group) → AreAbove n gs → slice_get gs p ≡ Some e → n < e.0
-above-differ [] n p e all at = absurd (some-none e at)
-above-differ (x ∷ gs) n zero e all at = subst (λ (y : ℕ × Group). n < y.0) (entry-is x e at) all.0
+above-differ [] n p e all at = absurd (none-some e at)
+above-differ (x ∷ gs) n zero e all at = subst (λ (y : ℕ × Group). n < y.0) (same_Some x e at) all.0
 above-differ (x ∷ gs) n (suc p) e all at = above-differ gs n p e all.1 at
 
 -- each group is found at its first index
 entry-found : (gs : Groups) (p f : ℕ) (g : Group) → AreOrdered gs → slice_get gs p ≡ Some (f, g) → found gs f ≡ Some g
-entry-found [] p f g ordered at = absurd (some-none (f, g) at)
+entry-found [] p f g ordered at = absurd (none-some (f, g) at)
 entry-found (x ∷ gs) zero f g ordered at =
-    subst (λ (y : ℕ × Group). found (x ∷ gs) y.0 ≡ Some y.1) (entry-is x (f, g) at) (ap (λ (c : Bool). if c then Some x.1 else found gs x.0) (eq-eqb x.0 x.0 refl))
+    subst (λ (y : ℕ × Group). found (x ∷ gs) y.0 ≡ Some y.1) (same_Some x (f, g) at) (ap (λ (c : Bool). if c then Some x.1 else found gs x.0) (eq-eqb x.0 x.0 refl))
 entry-found (x ∷ gs) (suc p) f g ordered at =
     let lt = above-differ gs x.0 p (f, g) ordered.0 at in
-    ap (λ (c : Bool). if c then Some x.1 else found gs f) (apart f x.0 (λ e. absurd (omega (arith, e, lt)))) ∙ entry-found gs p f g ordered.1 at
+    ap (λ (c : Bool). if c then Some x.1 else found gs f) (ne_eqb f x.0 (λ e. absurd (omega (arith, e, lt)))) ∙ entry-found gs p f g ordered.1 at
 
 all-first : (gs : Groups) → ((p f : ℕ) (g : Group) → slice_get gs p ≡ Some (f, g) → (slice_get g.indices 0 ≡ Some f) × (length g.indices ≡ length g.canonical))
     → AllFirst gs
@@ -76,14 +70,10 @@ module _ (equal : (x y : List WasmSubType) → (Eq x y ≡ true) ↔ (x ≡ y)) 
   abbrev ss : List Span
   ss = map span_of l.groups
 
-  no-more : (es : Groups) → es ++ [] ≡ es
-  no-more [] = refl
-  no-more (e ∷ es) = ap (λ l. e ∷ l) (no-more es)
-
   all : ArePlanned equal gs l begun ss (length (list_of l).types)
   all =
       are-planned equal gs l begun ss (length (list_of l).types) (may-plan l m.listed m.few) m.listed.well_named.orderly
-      (subst AllFirst (sym (no-more gs)) (sound-first gs m.sound))
+      (subst AllFirst (sym (append-nil gs)) (sound-first gs m.sound))
 
   pub new-first : AllFirst p.fresh
   new-first = first-second gs p.fresh all.first
@@ -120,9 +110,9 @@ module _ (equal : (x y : List WasmSubType) → (Eq x y ≡ true) ↔ (x ≡ y)) 
       let b = counted-is (keep_groups gs p.fresh) p.listed.groups x.first w.group x.kept in
       let none : s.start + 0 ≡ s.start = omega arith in
       let first : x.first ≡ get_or p.listed.indices s.start 0 =
-      number-is x.first (get_or p.listed.indices s.start 0)
+      same_Some x.first (get_or p.listed.indices s.start 0)
       (sym x.start ∙ ap (λ is. slice_get is 0) w.at ∙ take-get (drop s.start p.listed.indices) (size_of s) 0 (omega (arith, w.low))
-      ∙ drop-get p.listed.indices s.start 0 ∙ ap (slice_get p.listed.indices) none
+      ∙ get-dropped p.listed.indices s.start 0 ∙ ap (slice_get p.listed.indices) none
       ∙ slice_get-get_or p.listed.indices s.start 0 (omega (arith, w.low, w.within))) in
       record {
         group = b.group;
@@ -144,7 +134,7 @@ module _ (equal : (x y : List WasmSubType) → (Eq x y ≡ true) ↔ (x ≡ y)) 
   others-stand k key differ st = record {
     sound = registered-sound;
     listed = st.listed;
-    held = ap (λ (c : Bool). if c then Some p.listed else r.held key) (apart r.registrations key (λ e. differ (sym e))) ∙ st.held;
+    held = ap (λ (c : Bool). if c then Some p.listed else r.held key) (ne_eqb r.registrations key (λ e. differ (sym e))) ∙ st.held;
     count = st.count;
     groups = λ j s at.
         let g = st.groups j s at in

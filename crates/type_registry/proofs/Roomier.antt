@@ -1,7 +1,7 @@
 -- What is kept stays so where there is room for more.
 use Rattle.std.specs.Prelude.{replicate}
 use Rattle.std.proofs.Common.{◌≡◌, ◌∙◌, ◌<◌, ℕ, zero, suc, ◌+◌, List, [], ◌∷◌, ◌++◌, length, map, slice_get, Option, Some, None, option_and_then, refl, sym, ap, arith}
-use Rattle.std.proofs.lemmas.List.{length-append}
+use Rattle.std.proofs.lemmas.List.{length-append, length-replicate}
 use Rattle.wasm_types.specs.declared.sub.WasmSubType.{WasmSubType}
 use Rattle.free_numbers.specs.Counts.{IsCounts}
 use Rattle.type_registry.specs.declared.owners.Owner.{Owner}
@@ -32,10 +32,6 @@ pub kept-more : (gs : List (Option Group)) (k n : ℕ) → kept_from k (gs ++ re
 kept-more [] k n = none-kept k n
 kept-more (None ∷ gs) k n = kept-more gs (k + 1) n
 kept-more (Some g ∷ gs) k n = ap (λ es. (k, g) ∷ es) (kept-more gs (k + 1) n)
-
-pub long : {A : Type 0} (n : ℕ) (x : A) → length (replicate n x) ≡ n
-long zero x = refl
-long (suc n) x = ap suc (long n x)
 
 all-free : (n : ℕ) → map free_count (replicate n nothing) ≡ replicate n 1
 all-free zero = refl
@@ -73,8 +69,8 @@ module _ {Key : Type 0} (content : Key → List WasmSubType) (live : ℕ) (known
   pub kept-roomier : (n : ℕ) → length gs + n < 4294967296
       → AreKept content live known (gs ++ replicate n None) (os ++ replicate n None) (map free_count os ++ replicate n 1)
   kept-roomier n few =
-      let more = long n (nothing {A = Group}) in
-      let more' = long n (nothing {A = Owner}) in
+      let more = length-replicate n (nothing {A = Group}) in
+      let more' = length-replicate n (nothing {A = Owner}) in
       record {
         few = omega (arith, few, length-append gs (replicate n None), more);
         owners = omega (arith, k.owners, length-append gs (replicate n None), length-append os (replicate n None), more, more');

@@ -1,21 +1,21 @@
--- Kept groups are told apart, also once more are kept and counted.
+-- Kept groups are told ne_eqb, also once more are kept and counted.
 use Rattle.std.specs.Prelude.{⊤}
-use Rattle.std.proofs.Common.{if◌then◌else◌, ◌≡◌, ◌∙◌, ◌↔◌, ◌<◌, ◌≤◌, ℕ, zero, suc, ◌+◌, ◌-◌, Bool, true, false, nat_eq, nat_le, List, [], ◌∷◌, length, slice_get, Option, Some, None, refl, sym, ap, subst, arith, eq-eqb}
+use Rattle.std.proofs.Common.{if◌then◌else◌, ◌≡◌, ◌∙◌, ◌↔◌, ◌<◌, ℕ, zero, suc, ◌+◌, ◌-◌, Bool, true, false, nat_eq, nat_le, List, [], ◌∷◌, length, slice_get, Option, Some, None, refl, sym, ap, subst, arith, eq-eqb}
 use Rattle.std.specs.List.{list_any}
 use Rattle.std.specs.Map.{lookup, set_value, remove_entry}
 use Rattle.std.specs.Option.{option_map}
-use Rattle.std.proofs.lemmas.Bool.{eqb-true, leb-true, leb-false}
+use Rattle.std.proofs.lemmas.Bool.{eqb-true, leb-true, leb-false, cases_Bool, cond_both, ne_eqb}
+use Rattle.std.proofs.lemmas.Bool.Decides.{nat_tests}
+use Rattle.std.proofs.lemmas.Option.{none-some, same_Some}
 use Rattle.wasm_types.specs.declared.sub.WasmSubType.{WasmSubType}
 use Rattle.type_registry.specs.Registry.{Group, Groups, GroupsState, indices_of}
 use Rattle.type_registry.specs.Changes.{find_group, keep_group, keep_groups, count_group, count_groups, leave_group, leave_groups}
 use Rattle.type_registry.specs.Standing.{AreAbove, AreOrdered, IsSound}
 use Rattle.type_registry.specs.Fresh.{MayBeKept, MayKeepAll}
-use Rattle.type_registry.proofs.Dropping.{some-none, group-is}
 use Rattle.type_registry.proofs.OwnerLists.{any-place}
 use Rattle.type_registry.proofs.Keeping.{Eq}
 use Rattle.type_registry.proofs.KeepingAll.{true-false}
-use Rattle.type_registry.proofs.NewGroups.{any-left, any-right}
-use Rattle.type_registry.proofs.FreeIndices.{apart}
+use Rattle.type_registry.proofs.NewGroups.{any-left, any-right, none-of}
 
 -- the group that is kept at a first index
 abbrev pub found : Groups → ℕ → Option Group
@@ -27,40 +27,26 @@ Kept = ℕ × Group
 -- ---- what a group that is found tells
 
 pub found-index : (gs : Groups) (i p n : ℕ) (h : Group) → found gs i ≡ Some h → slice_get h.indices p ≡ Some n → list_any (nat_eq n) (indices_of gs) ≡ true
-found-index [] i p n h is at = absurd (some-none h is)
-found-index (e ∷ gs) i p n h is at = by (nat_eq i e.0) is (found-index gs i p n h) where
-  by : (c : Bool) → (if c then Some e.1 else found gs i) ≡ Some h → (found gs i ≡ Some h → slice_get h.indices p ≡ Some n → list_any (nat_eq n) (indices_of gs) ≡ true)
-      → list_any (nat_eq n) (indices_of (e ∷ gs)) ≡ true
-  by true is rest =
-      any-left e.1.indices (indices_of gs) n (any-place e.1.indices n p (ap (λ (g : Group). slice_get g.indices p) (group-is e.1 h is) ∙ at))
-  by false is rest = any-right e.1.indices (indices_of gs) n (rest is at)
+found-index [] i p n h is at = absurd (none-some h is)
+found-index (e ∷ gs) i p n h is at =
+    let rest = found-index gs i p n h in
+    let mine = any-place e.1.indices n p in
+    let left = any-left e.1.indices (indices_of gs) n in
+    let right = any-right e.1.indices (indices_of gs) n in
+    grind (arith, nat_tests)
 
 found-unlike : (gs : Groups) (i : ℕ) (h : Group) (c : List WasmSubType) → found gs i ≡ Some h → find_group c gs ≡ None → Eq h.canonical c ≡ true → ⊥
-found-unlike [] i h c is none holds = some-none h is
-found-unlike (e ∷ gs) i h c is none holds = by (nat_eq i e.0) (Eq e.1.canonical c) refl is none (found-unlike gs i h c) where
-  by : (b d : Bool) → Eq e.1.canonical c ≡ d → (if b then Some e.1 else found gs i) ≡ Some h → (if d then Some e.1 else find_group c gs) ≡ None
-      → (found gs i ≡ Some h → find_group c gs ≡ None → Eq h.canonical c ≡ true → ⊥) → ⊥
-  by b true same is none rest = some-none e.1 (sym none)
-  by true false same is none rest = true-false (Eq e.1.canonical c) (ap (λ (g : Group). Eq g.canonical c) (group-is e.1 h is) ∙ holds) same
-  by false false same is none rest = rest is none holds
+found-unlike [] i h c is none holds = none-some h is
+found-unlike (e ∷ gs) i h c is none holds =
+    let rest = found-unlike gs i h c in
+    let equal = cases_Bool (Eq e.1.canonical c) in
+    grind (arith, nat_tests)
 
 -- ---- one more group
 
 pub found-keep : (gs : Groups) (f i : ℕ) (g : Group) → found (keep_group gs f g) i ≡ (if nat_eq i f then Some g else found gs i)
 found-keep [] f i g = refl
-found-keep (e ∷ gs) f i g = by (nat_le f e.0) refl (found-keep gs f i g) where
-  skip : (b c : Bool) → nat_eq i e.0 ≡ b → nat_eq i f ≡ c → e.0 < f
-      → (if b then Some e.1 else (if c then Some g else found gs i)) ≡ (if c then Some g else (if b then Some e.1 else found gs i))
-  skip true true here there lt = absurd (omega (arith, eqb-true i e.0 here, eqb-true i f there, lt))
-  skip true false here there lt = refl
-  skip false c here there lt = refl
-
-  by : (b : Bool) → nat_le f e.0 ≡ b → found (keep_group gs f g) i ≡ (if nat_eq i f then Some g else found gs i)
-      → found (if b then (f, g) ∷ e ∷ gs else e ∷ keep_group gs f g) i ≡ (if nat_eq i f then Some g else (if nat_eq i e.0 then Some e.1 else found gs i))
-  by true is rest = refl
-  by false is rest =
-      ap (λ (o : Option Group). if nat_eq i e.0 then Some e.1 else o) rest
-      ∙ skip (nat_eq i e.0) (nat_eq i f) refl refl (leb-false f e.0 is)
+found-keep (e ∷ gs) f i g = let rest = found-keep gs f i g in grind (arith, nat_tests)
 
 above-less : (m n : ℕ) (gs : Groups) → m < n → AreAbove n gs → AreAbove m gs
 above-less m n [] lt all = tt
@@ -68,22 +54,16 @@ above-less m n (e ∷ gs) lt all = (omega (arith, lt, all.0), above-less m n gs 
 
 keep-above : (n f : ℕ) (gs : Groups) (g : Group) → n < f → AreAbove n gs → AreAbove n (keep_group gs f g)
 keep-above n f [] g lt all = (lt, tt)
-keep-above n f (e ∷ gs) g lt all = by (nat_le f e.0) (keep-above n f gs g lt all.1) where
-  by : (b : Bool) → AreAbove n (keep_group gs f g) → AreAbove n (if b then (f, g) ∷ e ∷ gs else e ∷ keep_group gs f g)
-  by true rest = (lt, all)
-  by false rest = (all.0, rest)
+keep-above n f (e ∷ gs) g lt all =
+    cond_both (nat_le f e.0) ((f, g) ∷ e ∷ gs) (e ∷ keep_group gs f g) (AreAbove n) (λ _. (lt, all)) (λ _. (all.0, keep-above n f gs g lt all.1))
 
 keep-ordered : (f : ℕ) (gs : Groups) (g : Group) → found gs f ≡ None → AreOrdered gs → AreOrdered (keep_group gs f g)
 keep-ordered f [] g none ordered = (tt, tt)
-keep-ordered f (e ∷ gs) g none ordered = by (nat_le f e.0) refl (nat_eq f e.0) refl none (λ n. keep-ordered f gs g n ordered.1) where
-  by : (b : Bool) → nat_le f e.0 ≡ b → (c : Bool) → nat_eq f e.0 ≡ c → (if c then Some e.1 else found gs f) ≡ None
-      → (found gs f ≡ None → AreOrdered (keep_group gs f g)) → AreOrdered (if b then (f, g) ∷ e ∷ gs else e ∷ keep_group gs f g)
-  by b le true same none rest = absurd (some-none e.1 (sym none))
-  by true le false same none rest =
-      let differ : f ≡ e.0 → ⊥ = λ is. true-false (nat_eq f e.0) (eq-eqb f e.0 is) same in
-      let lt : f < e.0 = omega (arith, leb-true f e.0 le, differ) in
-      ((lt, above-less f e.0 gs lt ordered.0), ordered)
-  by false le false same none rest = (keep-above e.0 f gs g (leb-false f e.0 le) ordered.0, rest none)
+keep-ordered f (e ∷ gs) g none ordered =
+    let differ : (f ≡ e.0 → ⊥) × (found gs f ≡ None) = (λ same. grind (arith, nat_tests), grind (arith, nat_tests)) in
+    cond_both (nat_le f e.0) ((f, g) ∷ e ∷ gs) (e ∷ keep_group gs f g) AreOrdered
+    (λ le. let lt : f < e.0 = omega (arith, leb-true f e.0 le, differ.0) in ((lt, above-less f e.0 gs lt ordered.0), ordered))
+    (λ gt. (keep-above e.0 f gs g (leb-false f e.0 gt) ordered.0, keep-ordered f gs g differ.1 ordered.1))
 
 -- a group that is found is the new one or was found
 data Where (gs : Groups) (f i : ℕ) (g h : Group) : Type 0 where
@@ -93,7 +73,7 @@ data Where (gs : Groups) (f i : ℕ) (g h : Group) : Type 0 where
 where-of : (gs : Groups) (f i : ℕ) (g h : Group) → found (keep_group gs f g) i ≡ Some h → Where gs f i g h
 where-of gs f i g h is = by (nat_eq i f) refl (sym (found-keep gs f i g) ∙ is) where
   by : (c : Bool) → nat_eq i f ≡ c → (if c then Some g else found gs i) ≡ Some h → Where gs f i g h
-  by true e is = Here (eqb-true i f e) (sym (group-is g h is))
+  by true e is = Here (eqb-true i f e) (sym (same_Some g h is))
   by false e is = There is
 
 module _ (equal : (x y : List WasmSubType) → (Eq x y ≡ true) ↔ (x ≡ y)) (s : GroupsState) (f : ℕ) (g : Group) (sound : IsSound s.groups) (may : MayBeKept s g)
@@ -106,10 +86,7 @@ module _ (equal : (x y : List WasmSubType) → (Eq x y ≡ true) ↔ (x ≡ y)) 
   elsewhere i p q n h is at at' = true-false (list_any (nat_eq n) (indices_of kept)) (found-index kept i q n h is at') (may.free p n at)
 
   pub none-found : found kept f ≡ None
-  none-found = by (found kept f) refl where
-    by : (o : Option Group) → found kept f ≡ o → found kept f ≡ None
-    by None e = e
-    by (Some h) e = absurd (elsewhere f 0 0 f h e first (sound.firsts f h e))
+  none-found = none-of (found kept f) (λ h e. elsewhere f 0 0 f h e first (sound.firsts f h e))
 
   unlike : (i : ℕ) (h : Group) → found kept i ≡ Some h → h.canonical ≡ g.canonical → ⊥
   unlike i h is same = found-unlike kept i h g.canonical is may.unknown ((equal h.canonical g.canonical).1 same)
@@ -148,6 +125,12 @@ module _ (equal : (x y : List WasmSubType) → (Eq x y ≡ true) ↔ (x ≡ y)) 
 
 -- ---- more groups
 
+abbrev pub with_one : GroupsState → Kept → GroupsState
+with_one s e = record { groups = keep_group s.groups e.0 e.1; room = s.room; spare = s.spare }
+
+pub may-rest : (s : GroupsState) (e : Kept) (es : Groups) → MayKeepAll s (e ∷ es) → MayKeepAll (with_one s e) es
+may-rest s e es may = may.1 (with_one s e) (refl, refl, omega arith)
+
 -- each group is at its first index, and has an index for each member
 abbrev pub AllFirst : Groups → Type 0
 AllFirst [] = ⊤
@@ -157,41 +140,28 @@ module _ (equal : (x y : List WasmSubType) → (Eq x y ≡ true) ↔ (x ≡ y)) 
   pub keeps-sound : (es : Groups) (s : GroupsState) → IsSound s.groups → MayKeepAll s es → AllFirst es → IsSound (keep_groups s.groups es)
   keeps-sound [] s sound may first = sound
   keeps-sound (e ∷ es) s sound may first =
-      let t : GroupsState = record { groups = keep_group s.groups e.0 e.1; room = s.room; spare = s.spare } in
-      let less : s.spare ≤ s.spare + 1 = omega arith in
-      keeps-sound es t (keep-sound equal s e.0 e.1 sound may.0 first.0 first.1) (may.1 t (refl, refl, less)) first.2
+      keeps-sound es (with_one s e) (keep-sound equal s e.0 e.1 sound may.0 first.0 first.1) (may-rest s e es may) first.2
 
   -- a group that is kept stays so
   pub keeps-found : (es : Groups) (s : GroupsState) (i : ℕ) (h : Group) → IsSound s.groups → MayKeepAll s es → AllFirst es → found s.groups i ≡ Some h
       → found (keep_groups s.groups es) i ≡ Some h
   keeps-found [] s i h sound may first is = is
   keeps-found (e ∷ es) s i h sound may first is =
-      let t : GroupsState = record { groups = keep_group s.groups e.0 e.1; room = s.room; spare = s.spare } in
-      let less : s.spare ≤ s.spare + 1 = omega arith in
       let none = none-found equal s e.0 e.1 sound may.0 first.0 first.1 in
-      let differ : i ≡ e.0 → ⊥ = λ same. some-none h (sym none ∙ ap (found s.groups) (sym same) ∙ is) in
-      let still : found t.groups i ≡ Some h = found-keep s.groups e.0 i e.1 ∙ ap (λ (c : Bool). if c then Some e.1 else found s.groups i) (apart i e.0 differ) ∙ is in
-      keeps-found es t i h (keep-sound equal s e.0 e.1 sound may.0 first.0 first.1) (may.1 t (refl, refl, less)) first.2 still
+      let differ : i ≡ e.0 → ⊥ = λ same. none-some h (sym none ∙ ap (found s.groups) (sym same) ∙ is) in
+      let still : found (with_one s e).groups i ≡ Some h = found-keep s.groups e.0 i e.1 ∙ ap (λ (c : Bool). if c then Some e.1 else found s.groups i) (ne_eqb i e.0 differ) ∙ is in
+      keeps-found es (with_one s e) i h (keep-sound equal s e.0 e.1 sound may.0 first.0 first.1) (may-rest s e es may) first.2 still
 
   -- each of the new groups is kept
   pub keeps-new : (es : Groups) (s : GroupsState) (p : ℕ) (e : Kept) → IsSound s.groups → MayKeepAll s es → AllFirst es → slice_get es p ≡ Some e
       → found (keep_groups s.groups es) e.0 ≡ Some e.1
-  keeps-new [] s p e sound may first at = absurd (some-none e at)
+  keeps-new [] s p e sound may first at = absurd (none-some e at)
   keeps-new (x ∷ es) s zero e sound may first at =
-      let t : GroupsState = record { groups = keep_group s.groups x.0 x.1; room = s.room; spare = s.spare } in
-      let less : s.spare ≤ s.spare + 1 = omega arith in
-      let here : found t.groups x.0 ≡ Some x.1 = found-keep s.groups x.0 x.0 x.1 ∙ ap (λ (c : Bool). if c then Some x.1 else found s.groups x.0) (eq-eqb x.0 x.0 refl) in
-      let whole = keeps-found es t x.0 x.1 (keep-sound equal s x.0 x.1 sound may.0 first.0 first.1) (may.1 t (refl, refl, less)) first.2 here in
-      subst (λ (y : Kept). found (keep_groups s.groups (x ∷ es)) y.0 ≡ Some y.1) (kept-is x e at) whole where
-        kept-is : (x y : Kept) → Some x ≡ Some y → x ≡ y
-        kept-is x y is = ap (by x) is where
-          by : Kept → Option Kept → Kept
-          by d None = d
-          by d (Some z) = z
+      let here : found (with_one s x).groups x.0 ≡ Some x.1 = found-keep s.groups x.0 x.0 x.1 ∙ ap (λ (c : Bool). if c then Some x.1 else found s.groups x.0) (eq-eqb x.0 x.0 refl) in
+      let whole = keeps-found es (with_one s x) x.0 x.1 (keep-sound equal s x.0 x.1 sound may.0 first.0 first.1) (may-rest s x es may) first.2 here in
+      subst (λ (y : Kept). found (keep_groups s.groups (x ∷ es)) y.0 ≡ Some y.1) (same_Some x e at) whole
   keeps-new (x ∷ es) s (suc p) e sound may first at =
-      let t : GroupsState = record { groups = keep_group s.groups x.0 x.1; room = s.room; spare = s.spare } in
-      let less : s.spare ≤ s.spare + 1 = omega arith in
-      keeps-new es t p e (keep-sound equal s x.0 x.1 sound may.0 first.0 first.1) (may.1 t (refl, refl, less)) first.2 at
+      keeps-new es (with_one s x) p e (keep-sound equal s x.0 x.1 sound may.0 first.0 first.1) (may-rest s x es may) first.2 at
 
 -- ---- groups that are counted
 
@@ -206,28 +176,13 @@ pub record IsBut (gs : Groups) (i : ℕ) (h : Group) : Type 0 where
   pub same : bare group ≡ bare h
 
 pub but-of : (gs : Groups) (i : ℕ) (h : Group) (o : Option Group) → found gs i ≡ o → option_map bare o ≡ Some (bare h) → IsBut gs i h
-but-of gs i h None e is = absurd (some-none (bare h) is)
-but-of gs i h (Some g) e is = record { group = g; kept = e; same = group-is (bare g) (bare h) is }
+but-of gs i h None e is = absurd (none-some (bare h) is)
+but-of gs i h (Some g) e is = record { group = g; kept = e; same = same_Some (bare g) (bare h) is }
 
 set-bare : (gs : Groups) (f i n : ℕ) (g : Group) → found gs f ≡ Some g
     → option_map bare (found (set_value (nat_eq f) gs (record g { count = n })) i) ≡ option_map bare (found gs i)
 set-bare [] f i n g is = refl
-set-bare (e ∷ gs) f i n g is = by (nat_eq f e.0) is (set-bare gs f i n g) where
-  here : (b : Bool) → e.1 ≡ g → option_map bare (if b then Some (record g { count = n }) else found gs i) ≡ option_map bare (if b then Some e.1 else found gs i)
-  here true same = ap (λ (x : Group). Some (bare x)) (sym same)
-  here false same = refl
-
-  there : (b : Bool) → option_map bare (found (set_value (nat_eq f) gs (record g { count = n })) i) ≡ option_map bare (found gs i)
-      → option_map bare (if b then Some e.1 else found (set_value (nat_eq f) gs (record g { count = n })) i) ≡ option_map bare (if b then Some e.1 else found gs i)
-  there true rest = refl
-  there false rest = rest
-
-  by : (c : Bool) → (if c then Some e.1 else found gs f) ≡ Some g
-      → (found gs f ≡ Some g → option_map bare (found (set_value (nat_eq f) gs (record g { count = n })) i) ≡ option_map bare (found gs i))
-      → option_map bare (found (if c then (e.0, record g { count = n }) ∷ gs else e ∷ set_value (nat_eq f) gs (record g { count = n })) i)
-      ≡ option_map bare (if nat_eq i e.0 then Some e.1 else found gs i)
-  by true is rest = here (nat_eq i e.0) (group-is e.1 g is)
-  by false is rest = there (nat_eq i e.0) (rest is)
+set-bare (e ∷ gs) f i n g is = let rest = set-bare gs f i n g in grind (arith, nat_tests)
 
 count-bare : (gs : Groups) (f i : ℕ) (o : Option Group) → found gs f ≡ o → option_map bare (found (count_group gs f o) i) ≡ option_map bare (found gs i)
 count-bare gs f i None e = refl
@@ -246,17 +201,13 @@ counted-was gs fs i h is = but-of gs i h (found gs i) refl (sym (counts-bare gs 
 
 set-above : (n f : ℕ) (gs : Groups) (g : Group) → AreAbove n gs → AreAbove n (set_value (nat_eq f) gs g)
 set-above n f [] g all = tt
-set-above n f (e ∷ gs) g all = by (nat_eq f e.0) (set-above n f gs g all.1) where
-  by : (c : Bool) → AreAbove n (set_value (nat_eq f) gs g) → AreAbove n (if c then (e.0, g) ∷ gs else e ∷ set_value (nat_eq f) gs g)
-  by true rest = all
-  by false rest = (all.0, rest)
+set-above n f (e ∷ gs) g all =
+    cond_both (nat_eq f e.0) ((e.0, g) ∷ gs) (e ∷ set_value (nat_eq f) gs g) (AreAbove n) (λ _. all) (λ _. (all.0, set-above n f gs g all.1))
 
 set-ordered : (f : ℕ) (gs : Groups) (g : Group) → AreOrdered gs → AreOrdered (set_value (nat_eq f) gs g)
 set-ordered f [] g all = tt
-set-ordered f (e ∷ gs) g all = by (nat_eq f e.0) (set-ordered f gs g all.1) where
-  by : (c : Bool) → AreOrdered (set_value (nat_eq f) gs g) → AreOrdered (if c then (e.0, g) ∷ gs else e ∷ set_value (nat_eq f) gs g)
-  by true rest = all
-  by false rest = (set-above e.0 f gs g all.0, rest)
+set-ordered f (e ∷ gs) g all =
+    cond_both (nat_eq f e.0) ((e.0, g) ∷ gs) (e ∷ set_value (nat_eq f) gs g) AreOrdered (λ _. all) (λ _. (set-above e.0 f gs g all.0, set-ordered f gs g all.1))
 
 count-ordered : (f : ℕ) (gs : Groups) (o : Option Group) → AreOrdered gs → AreOrdered (count_group gs f o)
 count-ordered f gs None all = all
@@ -266,7 +217,7 @@ counts-ordered : (gs : Groups) (fs : List ℕ) → AreOrdered gs → AreOrdered 
 counts-ordered gs [] all = all
 counts-ordered gs (f ∷ fs) all = counts-ordered (count_group gs f (found gs f)) fs (count-ordered f gs (found gs f) all)
 
--- what is kept in order, and was kept but for its count, is told apart as it was
+-- what is kept in order, and was kept but for its count, is told ne_eqb as it was
 sound-but : (gs now : Groups) → AreOrdered now → ((i : ℕ) (h : Group) → found now i ≡ Some h → IsBut gs i h) → IsSound gs → IsSound now
 sound-but gs now ordered was sound = record {
   ordered = ordered;
@@ -292,47 +243,35 @@ counted-sound gs fs sound = sound-but gs (count_groups gs fs) (counts-ordered gs
 -- ---- groups that modules leave
 
 pub found-above : (gs : Groups) (n i : ℕ) (h : Group) → AreAbove n gs → found gs i ≡ Some h → n < i
-found-above [] n i h all is = absurd (some-none h is)
-found-above (e ∷ gs) n i h all is = by (nat_eq i e.0) refl is (found-above gs n i h all.1) where
-  by : (c : Bool) → nat_eq i e.0 ≡ c → (if c then Some e.1 else found gs i) ≡ Some h → (found gs i ≡ Some h → n < i) → n < i
-  by true same is rest = omega (arith, eqb-true i e.0 same, all.0)
-  by false same is rest = rest is
+found-above [] n i h all is = absurd (none-some h is)
+found-above (e ∷ gs) n i h all is = let rest = found-above gs n i h all.1 in let low = all.0 in grind (arith, nat_tests)
+
+pub found-remove : (gs : Groups) (f i : ℕ) → AreOrdered gs → found (remove_entry (nat_eq f) gs) i ≡ (if nat_eq i f then None else found gs i)
+found-remove [] f i ordered = grind (arith, nat_tests)
+found-remove (e ∷ gs) f i ordered =
+    let rest = found-remove gs f i ordered.1 in
+    let none : i ≡ e.0 → found gs i ≡ None =
+    (λ same. none-of (found gs i) (λ h is. let low = found-above gs e.0 i h ordered.0 is in omega (arith, same, low))) in
+    grind (arith, nat_tests)
 
 removed-was : (gs : Groups) (f i : ℕ) (h : Group) → AreOrdered gs → found (remove_entry (nat_eq f) gs) i ≡ Some h → found gs i ≡ Some h
-removed-was [] f i h ordered is = is
-removed-was (e ∷ gs) f i h ordered is = by (nat_eq f e.0) is (removed-was gs f i h ordered.1) where
-  there : (b : Bool) → nat_eq i e.0 ≡ b → (if b then Some e.1 else found (remove_entry (nat_eq f) gs) i) ≡ Some h
-      → (found (remove_entry (nat_eq f) gs) i ≡ Some h → found gs i ≡ Some h) → (if b then Some e.1 else found gs i) ≡ Some h
-  there true same is rest = is
-  there false same is rest = rest is
-
-  by : (c : Bool) → found (if c then gs else e ∷ remove_entry (nat_eq f) gs) i ≡ Some h
-      → (found (remove_entry (nat_eq f) gs) i ≡ Some h → found gs i ≡ Some h) → (if nat_eq i e.0 then Some e.1 else found gs i) ≡ Some h
-  by true is rest =
-      let lt = found-above gs e.0 i h ordered.0 is in
-      ap (λ (b : Bool). if b then Some e.1 else found gs i) (apart i e.0 (λ same. absurd (omega (arith, same, lt)))) ∙ is
-  by false is rest = there (nat_eq i e.0) refl is rest
+removed-was gs f i h ordered is = let all = found-remove gs f i ordered in grind (arith, nat_tests)
 
 remove-above : (n f : ℕ) (gs : Groups) → AreAbove n gs → AreAbove n (remove_entry (nat_eq f) gs)
 remove-above n f [] all = tt
-remove-above n f (e ∷ gs) all = by (nat_eq f e.0) (remove-above n f gs all.1) where
-  by : (c : Bool) → AreAbove n (remove_entry (nat_eq f) gs) → AreAbove n (if c then gs else e ∷ remove_entry (nat_eq f) gs)
-  by true rest = all.1
-  by false rest = (all.0, rest)
+remove-above n f (e ∷ gs) all =
+    cond_both (nat_eq f e.0) gs (e ∷ remove_entry (nat_eq f) gs) (AreAbove n) (λ _. all.1) (λ _. (all.0, remove-above n f gs all.1))
 
 remove-ordered : (f : ℕ) (gs : Groups) → AreOrdered gs → AreOrdered (remove_entry (nat_eq f) gs)
 remove-ordered f [] all = tt
-remove-ordered f (e ∷ gs) all = by (nat_eq f e.0) (remove-ordered f gs all.1) where
-  by : (c : Bool) → AreOrdered (remove_entry (nat_eq f) gs) → AreOrdered (if c then gs else e ∷ remove_entry (nat_eq f) gs)
-  by true rest = all.1
-  by false rest = (remove-above e.0 f gs all.0, rest)
+remove-ordered f (e ∷ gs) all =
+    cond_both (nat_eq f e.0) gs (e ∷ remove_entry (nat_eq f) gs) AreOrdered (λ _. all.1) (λ _. (remove-above e.0 f gs all.0, remove-ordered f gs all.1))
 
 pub leave-ordered : (gs : Groups) (f : ℕ) (o : Option Group) → AreOrdered gs → AreOrdered (leave_group gs f o)
 leave-ordered gs f None ordered = ordered
-leave-ordered gs f (Some g) ordered = by (nat_le g.count 1) where
-  by : (c : Bool) → AreOrdered (if c then remove_entry (nat_eq f) gs else set_value (nat_eq f) gs (record g { count = g.count - 1 }))
-  by true = remove-ordered f gs ordered
-  by false = set-ordered f gs (record g { count = g.count - 1 }) ordered
+leave-ordered gs f (Some g) ordered =
+    cond_both (nat_le g.count 1) (remove_entry (nat_eq f) gs) (set_value (nat_eq f) gs (record g { count = g.count - 1 })) AreOrdered
+    (λ _. remove-ordered f gs ordered) (λ _. set-ordered f gs (record g { count = g.count - 1 }) ordered)
 
 -- what is kept once a module leaves a group was kept, but for its count
 pub leave-was : (gs : Groups) (f : ℕ) (o : Option Group) → found gs f ≡ o → AreOrdered gs → (i : ℕ) (h : Group) → found (leave_group gs f o) i ≡ Some h → IsBut gs i h
@@ -352,8 +291,8 @@ left-sound gs (f ∷ fs) sound = left-sound (leave_group gs f (found gs f)) fs (
 pub none-sound : IsSound []
 none-sound = record {
   ordered = tt;
-  groups = λ i j g h is is' same. absurd (some-none g is);
-  members = λ i g is. absurd (some-none g is);
-  firsts = λ i g is. absurd (some-none g is);
-  owned = λ i j p q n g h is is' at at'. absurd (some-none g is);
+  groups = λ i j g h is is' same. absurd (none-some g is);
+  members = λ i g is. absurd (none-some g is);
+  firsts = λ i g is. absurd (none-some g is);
+  owned = λ i j p q n g h is is' at at'. absurd (none-some g is);
 }

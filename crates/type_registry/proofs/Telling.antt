@@ -1,17 +1,15 @@
 -- Registered types have one index exactly where they are equal.
 use Rattle.std.proofs.Common.{◌≡◌, ◌∙◌, ℕ, zero, suc, ◌+◌, ◌-◌, ◌<◌, ◌≤◌, List, [], ◌∷◌, length, take, drop, get_or, slice_get, Option, Some, None, option_and_then, refl, sym, ap, arith}
-use Rattle.std.proofs.lemmas.List.{take-map, drop-map, length-map}
-use Rattle.std.proofs.lemmas.Option.{slice_get-get_or}
-use Rattle.wasm_spec.specs.TypeData.{map_group, map_sub_type}
-use Rattle.type_data.specs.Names.{named}
+use Rattle.std.proofs.lemmas.List.{length-map}
+use Rattle.std.proofs.lemmas.Option.{slice_get-get_or, same_Some}
 use Rattle.type_spec.specs.Interned.{Span}
 use Rattle.wasm_index.specs.Index.{number_of, index_of}
 use Rattle.wasm_types.specs.declared.sub.WasmRecGroup.{WasmRecGroup}
-use Rattle.wasm_types.specs.TypeViews.{sub_type_of, group_of}
-use Rattle.module_types.specs.Views.{index_at, interned_of}
+use Rattle.wasm_types.specs.TypeViews.{group_of}
+use Rattle.module_types.specs.Views.{interned_of}
 use Rattle.module_types.specs.TypeList.{TypeList}
 use Rattle.module_types.specs.Conversion.{no_span}
-use Rattle.module_types.specs.ListGroups.{types_in, span_at, EngineMap, TellTypes, OneIndex, AreCompared}
+use Rattle.module_types.specs.ListGroups.{span_at, EngineMap, TellTypes, OneIndex, AreCompared}
 use Rattle.module_types.proofs.Standing.{stands-at}
 use Rattle.module_types.proofs.ToldByForms.{told-by-forms}
 use Rattle.type_registry.specs.Registry as registry
@@ -19,6 +17,7 @@ use Rattle.type_registry.specs.Registry.{Registry, Group}
 use Rattle.type_registry.specs.Listed.{Listed, list_of}
 use Rattle.type_registry.specs.Changes.{given, members_of}
 use Rattle.type_registry.specs.Standing.{kept_at, GroupStands, Stands, TellsTypes}
+use Rattle.type_registry.proofs.Copies.{get-dropped, members-are}
 
 -- ---- parts of lists
 
@@ -27,20 +26,6 @@ take-get xs zero p h = absurd (omega (arith, h))
 take-get [] (suc n) p h = refl
 take-get (x ∷ xs) (suc n) zero h = refl
 take-get (x ∷ xs) (suc n) (suc p) h = take-get xs n p (omega (arith, h))
-
-pub drop-get : {A : Type 0} (xs : List A) (s p : ℕ) → slice_get (drop s xs) p ≡ slice_get xs (s + p)
-drop-get xs zero p = let at : p ≡ 0 + p = omega arith in ap (slice_get xs) at
-drop-get [] (suc s) p = refl
-drop-get (x ∷ xs) (suc s) p = let at : suc (s + p) ≡ suc s + p = omega arith in drop-get xs s p ∙ ap (slice_get (x ∷ xs)) at
-
-some-is : {A : Type 0} (d x y : A) → Some x ≡ Some y → x ≡ y
-some-is d x y e = ap (λ o. by d o) e where
-  by : {A : Type 0} → A → Option A → A
-  by d None = d
-  by d (Some z) = z
-
-no_group : Group
-no_group = record { canonical = []; indices = []; count = 0 }
 
 abbrev canonical_in : Option Group → WasmRecGroup
 canonical_in None = []
@@ -70,18 +55,10 @@ module _ (r : Registry) (a : ℕ) (l : TypeList) (listed : Listed l) (st : Stand
   pub canonical-at : (k : ℕ) (lt : k < length (list_of l).groups) → canonicals k ≡ (group-at k lt).group.canonical
   canonical-at k lt = ap canonical_in (group-at k lt).kept
 
-  old-is : (s : Span) → group_of (members_of l s) ≡ map_group (named index_at) index_at (types_in (list_of l).types s)
-  old-is s =
-      let f = map_sub_type (named index_at) index_at in
-      let n = s.end - s.start in
-      sym (take-map sub_type_of n (drop s.start l.types)) ∙ ap (take n) (sym (drop-map sub_type_of s.start l.types))
-      ∙ ap (λ ts. take n (drop s.start ts)) (sym listed.indexed)
-      ∙ ap (take n) (drop-map f s.start (list_of l).types) ∙ take-map f n (drop s.start (list_of l).types)
-
   pub are : AreCompared (list_of l) engine olds canonicals
   are k lt = record {
     within = lt;
-    stands = old-is (span k);
+    stands = members-are l listed (span k);
     mapped = ap group_of (canonical-at k lt) ∙ (group-at k lt).canonical;
   }
 
@@ -93,7 +70,7 @@ module _ (r : Registry) (a : ℕ) (l : TypeList) (listed : Listed l) (st : Stand
       let at : s.start + (i - s.start) ≡ i = omega (arith, low) in
       ap (λ is. slice_get is (i - s.start)) (group-at k lt).at
       ∙ take-get (drop s.start indices) (s.end - s.start) (i - s.start) (omega (arith, low, high))
-      ∙ drop-get indices s.start (i - s.start) ∙ ap (slice_get indices) at
+      ∙ get-dropped indices s.start (i - s.start) ∙ ap (slice_get indices) at
       ∙ slice_get-get_or indices i 0 (omega (arith, short, st.count))
 
   pub index-is : (i : ℕ) → i < length l.types → registry.index_at r a i ≡ Some (get_or indices i 0)
@@ -129,9 +106,9 @@ module _ (r : Registry) (a b : ℕ) (l m : TypeList) (listed : Listed l) (listed
             (both.1, ap (λ n. canonical_in (kept_at r n)) both.0)),
         (λ both.
             let firsts : first ≡ first' = st.sound.groups first first' x.group y.group x.kept y.kept (sym canonical ∙ both.1 ∙ canonical') in
-            let groups : x.group ≡ y.group = some-is no_group x.group y.group (sym x.kept ∙ ap (kept_at r) firsts ∙ y.kept) in
+            let groups : x.group ≡ y.group = same_Some x.group y.group (sym x.kept ∙ ap (kept_at r) firsts ∙ y.kept) in
             let numbers : get_or is i 0 ≡ get_or js j 0 =
-            some-is 0 (get_or is i 0) (get_or js j 0) (sym at ∙ (λ t. slice_get (groups t).indices (both.0 t)) ∙ at') in
+            same_Some (get_or is i 0) (get_or js j 0) (sym at ∙ (λ t. slice_get (groups t).indices (both.0 t)) ∙ at') in
             ap index_of numbers),
       )
 
@@ -144,6 +121,6 @@ module _ (r : Registry) (a b : ℕ) (l m : TypeList) (listed : Listed l) (listed
       let t = told i j (omega (arith, lt, length-map l.types interned_of)) (omega (arith, lt', length-map m.types interned_of)) in
       let at = index-is r a l listed st i lt in
       let at' = index-is r b m listed' st' j lt' in (
-        (λ e. t.0 (ap index_of (some-is 0 (get_or is i 0) (get_or js j 0) (sym at ∙ e ∙ at')))),
+        (λ e. t.0 (ap index_of (same_Some (get_or is i 0) (get_or js j 0) (sym at ∙ e ∙ at')))),
         (λ same. at ∙ ap Some (ap number_of (t.1 same)) ∙ sym at'),
       )

@@ -1,19 +1,13 @@
 -- How often lists have numbers, and how often held modules have groups.
 use Rattle.std.proofs.Common.{if◌then◌else◌, ◌≡◌, ◌∙◌, ◌<◌, ◌≤◌, ℕ, zero, suc, ◌+◌, Bool, true, false, nat_eq, List, [], ◌∷◌, ◌++◌, Option, Some, None, refl, sym, ap, arith, eq-eqb}
 use Rattle.std.specs.List.{flat_map, list_any}
-use Rattle.std.proofs.lemmas.Bool.{eqb-true}
+use Rattle.std.proofs.lemmas.Bool.{ne_eqb}
+use Rattle.std.proofs.lemmas.Bool.Decides.{nat_tests}
 use Rattle.type_registry.specs.Registry.{Module}
 use Rattle.type_registry.specs.Changes.{with_module, without_module}
 use Rattle.type_registry.specs.Balanced.{times, times_in, times_below}
-use Rattle.type_registry.proofs.FreeIndices.{apart}
 use Rattle.type_registry.proofs.KeepingAll.{any-second}
 use Rattle.type_registry.proofs.NewGroups.{any-left, any-right}
-
-pub module-is : (m n : Module) → Some m ≡ Some n → m ≡ n
-module-is m n e = ap (by m) e where
-  by : Module → Option Module → Module
-  by d None = d
-  by d (Some x) = x
 
 -- ---- lists
 
@@ -33,12 +27,11 @@ flat-same ix ix' (x ∷ ns) same =
 
 pub flat-has : (ix : ℕ → List ℕ) (ns : List ℕ) (n i : ℕ) → 0 < times n ns → list_any (nat_eq i) (ix n) ≡ true → list_any (nat_eq i) (flat_map ix ns) ≡ true
 flat-has ix [] n i lt has = absurd (omega (arith, lt))
-flat-has ix (x ∷ ns) n i lt has = by (nat_eq n x) refl lt (flat-has ix ns n i) where
-  by : (c : Bool) → nat_eq n x ≡ c → 0 < (if c then 1 else 0) + times n ns
-      → (0 < times n ns → list_any (nat_eq i) (ix n) ≡ true → list_any (nat_eq i) (flat_map ix ns) ≡ true)
-      → list_any (nat_eq i) (ix x ++ flat_map ix ns) ≡ true
-  by true e lt rest = any-left (ix x) (flat_map ix ns) i (ap (λ m. list_any (nat_eq i) (ix m)) (sym (eqb-true n x e)) ∙ has)
-  by false e lt rest = any-right (ix x) (flat_map ix ns) i (rest (omega (arith, lt)) has)
+flat-has ix (x ∷ ns) n i lt has =
+    let rest = flat-has ix ns n i in
+    let left = any-left (ix x) (flat_map ix ns) i in
+    let right = any-right (ix x) (flat_map ix ns) i in
+    grind (arith, nat_tests)
 
 -- a number of the list whose list has an index
 pub record IsFrom (ix : ℕ → List ℕ) (ns : List ℕ) (i : ℕ) : Type 0 where
@@ -65,31 +58,23 @@ pub below-with : (held : ℕ → Option Module) (key first n : ℕ) (m : Module)
 below-with held key first zero m le = refl
 below-with held key first (suc n) m le =
     let same : with_module held key m n ≡ held n =
-    ap (λ (c : Bool). if c then Some m else held n) (apart key n (λ e. absurd (omega (arith, e, le)))) in
+    ap (λ (c : Bool). if c then Some m else held n) (ne_eqb key n (λ e. absurd (omega (arith, e, le)))) in
     omega (arith, below-with held key first n m (omega (arith, le)), ap (times_in first) same)
 
 below-low : (held : ℕ → Option Module) (key first n : ℕ) → n ≤ key → times_below (without_module held key) first n ≡ times_below held first n
 below-low held key first zero le = refl
 below-low held key first (suc n) le =
-    let same : without_module held key n ≡ held n = ap (λ (c : Bool). if c then None else held n) (apart key n (λ e. absurd (omega (arith, e, le)))) in
+    let same : without_module held key n ≡ held n = ap (λ (c : Bool). if c then None else held n) (ne_eqb key n (λ e. absurd (omega (arith, e, le)))) in
     omega (arith, below-low held key first n (omega (arith, le)), ap (times_in first) same)
 
 pub below-without : (held : ℕ → Option Module) (key first n : ℕ) (m : Module) → held key ≡ Some m → key < n
     → times_below (without_module held key) first n + times first m.groups ≡ times_below held first n
 below-without held key first zero m is lt = absurd (omega (arith, lt))
-below-without held key first (suc n) m is lt = by (nat_eq key n) refl (below-without held key first n m is) where
-  by : (c : Bool) → nat_eq key n ≡ c
-      → (key < n → times_below (without_module held key) first n + times first m.groups ≡ times_below held first n)
-      → times_below (without_module held key) first (suc n) + times first m.groups ≡ times_below held first (suc n)
-  by true e rest =
-      let same : key ≡ n = eqb-true key n e in
-      let none : without_module held key n ≡ None = ap (λ (c : Bool). if c then None else held n) e in
-      let here : times_in first (held n) ≡ times first m.groups = ap (λ k. times_in first (held k)) (sym same) ∙ ap (times_in first) is in
-      omega (arith, below-low held key first n (omega (arith, same)), ap (times_in first) none, here)
-  by false e rest =
-      let differ : key ≡ n → ⊥ = λ same. let no-way : false ≡ true = sym e ∙ eq-eqb key n same in cc in
-      let still : without_module held key n ≡ held n = ap (λ (c : Bool). if c then None else held n) e in
-      omega (arith, rest (omega (arith, lt, differ)), ap (times_in first) still)
+below-without held key first (suc n) m is lt =
+    let rest = below-without held key first n m is in
+    let low = below-low held key first n in
+    let here : key ≡ n → times_in first (held n) ≡ times first m.groups = (λ same. ap (λ k. times_in first (held k)) (sym same) ∙ ap (times_in first) is) in
+    grind (arith, nat_tests)
 
 -- a held module has a group no more often than all
 pub below-one : (held : ℕ → Option Module) (key first n : ℕ) (m : Module) → held key ≡ Some m → key < n → times first m.groups ≤ times_below held first n

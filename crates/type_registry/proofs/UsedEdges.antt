@@ -1,9 +1,10 @@
 -- The types of a new group as they are used.
-use Rattle.std.proofs.Common.{if◌then◌else◌, ◌≡◌, ◌∙◌, ◌<◌, ◌≤◌, ℕ, zero, suc, ◌-◌, Bool, true, false, List, [], ◌∷◌, ◌++◌, length, map, get_or, refl, sym, ap, subst, arith}
+use Rattle.std.proofs.Common.{if◌then◌else◌, ◌≡◌, ◌∙◌, ℕ, ◌-◌, Bool, true, false, List, [], ◌∷◌, ◌++◌, length, map, refl, sym, ap, subst, arith}
 use Rattle.std.specs.Prelude.{nat_lt}
 use Rattle.std.specs.List.{All, AllZip}
 use Rattle.std.proofs.lemmas.List.Elements.{All-head, All-tail}
 use Rattle.std.proofs.lemmas.Bool.{ltb-true, ltb-false}
+use Rattle.std.proofs.lemmas.List.{get_or_append_left, get_or-append_right}
 use Rattle.wasm_spec.specs.TypeData.{map_group, map_sub_type}
 use Rattle.type_data.specs.Names.{named, by_name, alike-mapped}
 use Rattle.type_data.specs.Shapes.{erased}
@@ -19,18 +20,6 @@ use Rattle.wasm_trace.specs.Canonical.{CanBeConsedEdge, consed_edge, runtime_edg
 use Rattle.module_types.specs.TypeList.{TypeList}
 use Rattle.type_registry.specs.Registry.{used_edge, used_type}
 use Rattle.type_registry.specs.Changes.{members_of, edges_of, given, canonical_data, IsGiven}
-
-get-left : (xs ys : List ℕ) (n : ℕ) → n < length xs → get_or (xs ++ ys) n 0 ≡ get_or xs n 0
-get-left [] ys n lt = absurd (omega (arith, lt))
-get-left (x ∷ xs) ys zero lt = refl
-get-left (x ∷ xs) ys (suc n) lt = get-left xs ys n (omega (arith, lt))
-
-get-right : (xs ys : List ℕ) (n : ℕ) → length xs ≤ n → get_or (xs ++ ys) n 0 ≡ get_or ys (n - length xs) 0
-get-right [] ys n le = let same : n ≡ n - 0 = omega arith in ap (λ k. get_or ys k 0) same
-get-right (x ∷ xs) ys zero le = absurd (omega (arith, le))
-get-right (x ∷ xs) ys (suc n) le =
-    let same : n - length xs ≡ suc n - suc (length xs) = omega arith in
-    get-right xs ys n (omega (arith, le)) ∙ ap (λ k. get_or ys k 0) same
 
 module _ (before new : List ℕ) (start end : ℕ) (at : length before ≡ start) where
   abbrev used : EngineOrModuleTypeIndex → EngineOrModuleTypeIndex
@@ -50,10 +39,10 @@ module _ (before new : List ℕ) (start end : ℕ) (at : length before ≡ start
     by : (c : Bool) → nat_lt (number_of i) start ≡ c
         → used (index.Module i) ≡ used_edge new (if c then index.Engine (given before i) else index.RecGroup (index_of (number_of i - start)))
     by true e =
-        ap (λ n. index.Engine (index_of n)) (get-left before new (number_of i) (omega (arith, ltb-true (number_of i) start e, at)))
+        ap (λ n. index.Engine (index_of n)) (get_or_append_left before new 0 (number_of i) (omega (arith, ltb-true (number_of i) start e, at)))
     by false e =
         ap (λ n. index.Engine (index_of n))
-        (get-right before new (number_of i) (omega (arith, ltb-false (number_of i) start e, at)) ∙ ap (λ k. get_or new (number_of i - k) 0) at)
+        (get_or-append_right before new start (number_of i) 0 at (ltb-false (number_of i) start e))
 
   all-each : (es : List EngineOrModuleTypeIndex) → All Can es → AllZip (λ a b. used a ≡ used_edge new b) es (map consed es)
   all-each [] all = tt

@@ -1,62 +1,50 @@
 -- The types of live indices as they are used.
-use Rattle.std.specs.Prelude.{◌||◌}
-use Rattle.std.proofs.Common.{if◌then◌else◌, ◌≡◌, ◌∙◌, ℕ, zero, suc, ◌+◌, Bool, true, false, nat_eq, List, [], ◌∷◌, ◌++◌, map, slice_get, Option, Some, None, refl, sym, ap, arith, eq-eqb}
+use Rattle.std.proofs.Common.{if◌then◌else◌, ◌≡◌, ◌∙◌, ℕ, zero, suc, ◌+◌, false, nat_eq, List, [], ◌∷◌, ◌++◌, map, slice_get, Option, Some, None, refl, sym, ap, arith, eq-eqb}
 use Rattle.std.specs.List.{list_any, zip}
 use Rattle.std.specs.Map.{lookup}
-use Rattle.std.proofs.lemmas.Bool.{eqb-true}
+use Rattle.std.proofs.lemmas.Bool.{false_from_ne_true}
+use Rattle.std.proofs.lemmas.Option.{none-some, same_Some}
+use Rattle.std.proofs.lemmas.Bool.Decides.{nat_tests}
 use Rattle.wasm_types.specs.declared.sub.WasmSubType.{WasmSubType}
 use Rattle.type_registry.specs.declared.owners.Owner.{Owner}
 use Rattle.type_registry.specs.Registry.{Group, Groups, UsedType, used_type, used_types}
 use Rattle.type_registry.specs.Owners.{owner_at}
 use Rattle.type_registry.specs.Keeping.{kept_from, group_in, AreKept}
 use Rattle.type_registry.proofs.OwnerLists.{place-any}
-use Rattle.type_registry.proofs.Dropping.{group-is, owner-is, number-is, some-none}
 
 abbrev nothing : Option UsedType
 nothing = None
 
-or_else : Option UsedType → Option UsedType → Option UsedType
+abbrev or_else : Option UsedType → Option UsedType → Option UsedType
 or_else None o = o
 or_else (Some t) o = Some t
 
 lookup-both : (n : ℕ) (xs ys : List (ℕ × UsedType)) → lookup (nat_eq n) (xs ++ ys) ≡ or_else (lookup (nat_eq n) xs) (lookup (nat_eq n) ys)
-unfolding or_else
 lookup-both n [] ys = refl
-lookup-both n (x ∷ xs) ys = by (nat_eq n x.0) (lookup-both n xs ys) where
-  by : (c : Bool) → lookup (nat_eq n) (xs ++ ys) ≡ or_else (lookup (nat_eq n) xs) (lookup (nat_eq n) ys)
-      → (if c then Some x.1 else lookup (nat_eq n) (xs ++ ys)) ≡ or_else (if c then Some x.1 else lookup (nat_eq n) xs) (lookup (nat_eq n) ys)
-  by true e = refl
-  by false e = e
+lookup-both n (x ∷ xs) ys = let rest = lookup-both n xs ys in grind (arith, nat_tests)
 
 zip-none : (n : ℕ) (is : List ℕ) (ts : List UsedType) → list_any (nat_eq n) is ≡ false → lookup (nat_eq n) (zip is ts) ≡ None
 zip-none n [] ts e = refl
 zip-none n (i ∷ is) [] e = refl
-zip-none n (i ∷ is) (t ∷ ts) e = by (nat_eq n i) e (zip-none n is ts) where
-  by : (c : Bool) → (c || list_any (nat_eq n) is) ≡ false → (list_any (nat_eq n) is ≡ false → lookup (nat_eq n) (zip is ts) ≡ None)
-      → (if c then Some t else lookup (nat_eq n) (zip is ts)) ≡ None
-  by true e rest = let bad : true ≡ false = e in cc
-  by false e rest = rest e
+zip-none n (i ∷ is) (t ∷ ts) e = let rest = zip-none n is ts in grind (arith, nat_tests)
 
 zip-at : (n : ℕ) (is : List ℕ) (ts : List UsedType) (p : ℕ) → slice_get is p ≡ Some n → ((q : ℕ) → slice_get is q ≡ Some n → q ≡ p)
     → lookup (nat_eq n) (zip is ts) ≡ slice_get ts p
-zip-at n [] ts p at one = absurd (some-none n at)
+zip-at n [] ts p at one = absurd (none-some n at)
 zip-at n (i ∷ is) [] zero at one = refl
 zip-at n (i ∷ is) [] (suc p) at one = refl
 zip-at n (i ∷ is) (t ∷ ts) zero at one =
-    ap (λ c. if c then Some t else lookup (nat_eq n) (zip is ts)) (eq-eqb n i (sym (number-is i n at)))
+    ap (λ c. if c then Some t else lookup (nat_eq n) (zip is ts)) (eq-eqb n i (sym (same_Some i n at)))
 zip-at n (i ∷ is) (t ∷ ts) (suc p) at one =
-    by (nat_eq n i) refl (zip-at n is ts p at (λ q here. let more : suc q ≡ suc p = one (suc q) here in omega (arith, more))) where
-      by : (c : Bool) → nat_eq n i ≡ c → lookup (nat_eq n) (zip is ts) ≡ slice_get ts p
-          → (if c then Some t else lookup (nat_eq n) (zip is ts)) ≡ slice_get ts p
-      by true e rest = let bad : 0 ≡ suc p = one 0 (ap Some (sym (eqb-true n i e))) in absurd (omega (arith, bad))
-      by false e rest = rest
+    let rest = zip-at n is ts p at (λ q here. let more : suc q ≡ suc p = one (suc q) here in omega (arith, more)) in
+    let first : n ≡ i → 0 ≡ suc p = (λ same. one 0 (ap Some (sym same))) in
+    grind (arith, nat_tests)
 
 abbrev used_in : Group → List UsedType
 used_in g = map (used_type g.indices) g.canonical
 
 miss : (gs : List (Option Group)) (k n : ℕ) → ((m : ℕ) (g : Group) → group_in gs m ≡ Some g → list_any (nat_eq n) g.indices ≡ false)
     → lookup (nat_eq n) (used_types (kept_from k gs)) ≡ None
-unfolding or_else
 miss [] k n no-one = refl
 miss (None ∷ gs) k n no-one = miss gs (k + 1) n (λ m g at. no-one (suc m) g at)
 miss (Some g ∷ gs) k n no-one =
@@ -66,7 +54,6 @@ miss (Some g ∷ gs) k n no-one =
 
 -- a value, or else nothing more
 or-nothing : (o : Option UsedType) → or_else o None ≡ o
-unfolding or_else
 or-nothing None = refl
 or-nothing (Some t) = refl
 
@@ -74,12 +61,11 @@ hit : (gs : List (Option Group)) (k m n p : ℕ) (g : Group) → group_in gs m �
     → ((q : ℕ) → slice_get g.indices q ≡ Some n → q ≡ p)
     → ((j : ℕ) (h : Group) → (j ≡ m → ⊥) → group_in gs j ≡ Some h → list_any (nat_eq n) h.indices ≡ false)
     → lookup (nat_eq n) (used_types (kept_from k gs)) ≡ slice_get (used_in g) p
-unfolding or_else
-hit [] k m n p g at is one others = absurd (some-none g at)
-hit (None ∷ gs) k zero n p g at is one others = absurd (some-none g at)
+hit [] k m n p g at is one others = absurd (none-some g at)
+hit (None ∷ gs) k zero n p g at is one others = absurd (none-some g at)
 hit (None ∷ gs) k (suc m) n p g at is one others = hit gs (k + 1) m n p g at is one (λ j h apart here. others (suc j) h (λ e. apart (omega (arith, e))) here)
 hit (Some x ∷ gs) k zero n p g at is one others =
-    let same : x ≡ g = group-is x g at in
+    let same : x ≡ g = same_Some x g at in
     lookup-both n (zip x.indices (used_in x)) (used_types (kept_from (k + 1) gs))
     ∙ ap (or_else (lookup (nat_eq n) (zip x.indices (used_in x)))) (miss gs (k + 1) n (λ m h here. others (suc m) h (λ e. absurd (omega (arith, e))) here))
     ∙ or-nothing (lookup (nat_eq n) (zip x.indices (used_in x)))
@@ -97,32 +83,26 @@ module _ {Key : Type 0} (content : Key → List WasmSubType) (live : ℕ) (known
   pub no-type : owner_at os n ≡ None → lookup (nat_eq n) (used_types now) ≡ None
   no-type none = ap (λ es. lookup (nat_eq n) (used_types es)) (sym seen) ∙ miss gs 0 n absent where
     absent : (m : ℕ) (g : Group) → group_in gs m ≡ Some g → list_any (nat_eq n) g.indices ≡ false
-    absent m g at = by (list_any (nat_eq n) g.indices) refl where
-      by : (c : Bool) → list_any (nat_eq n) g.indices ≡ c → c ≡ false
-      by false e = refl
-      by true e =
-          let q = place-any g.indices n e in
-          absurd (some-none (record { first = m; place = q.place }) (sym none ∙ k.owned m q.place n g at q.at))
+    absent m g at = false_from_ne_true (list_any (nat_eq n) g.indices) (λ e.
+        let q = place-any g.indices n e in
+        none-some (record { first = m; place = q.place }) (sym none ∙ k.owned m q.place n g at q.at))
 
   -- an owner has a group, and its member's type is that of the index
   pub some-type : (o : Owner) (g : Group) → owner_at os n ≡ Some o → group_in gs o.first ≡ Some g
       → lookup (nat_eq n) (used_types now) ≡ slice_get (used_in g) o.place
   some-type o g is at =
       let w = k.owns n o is in
-      let same : w.group ≡ g = group-is w.group g (sym w.kept ∙ at) in
+      let same : w.group ≡ g = same_Some w.group g (sym w.kept ∙ at) in
       let here : slice_get g.indices o.place ≡ Some n = ap (λ (h : Group). slice_get h.indices o.place) (sym same) ∙ w.at in
       ap (λ es. lookup (nat_eq n) (used_types es)) (sym seen) ∙ hit gs 0 o.first n o.place g at here once others where
         once : (q : ℕ) → slice_get g.indices q ≡ Some n → q ≡ o.place
-        once q there = ap (λ (p : Owner). p.place) (owner-is (record { first = o.first; place = q }) o (sym (k.owned o.first q n g at there) ∙ is))
+        once q there = ap (λ (p : Owner). p.place) (same_Some (record { first = o.first; place = q }) o (sym (k.owned o.first q n g at there) ∙ is))
 
         others : (j : ℕ) (h : Group) → (j ≡ o.first → ⊥) → group_in gs j ≡ Some h → list_any (nat_eq n) h.indices ≡ false
-        others j h apart there = by (list_any (nat_eq n) h.indices) refl where
-          by : (c : Bool) → list_any (nat_eq n) h.indices ≡ c → c ≡ false
-          by false e = refl
-          by true e =
-              let q = place-any h.indices n e in
-              absurd (apart (ap (λ (p : Owner). p.first) (owner-is (record { first = j; place = q.place }) o (sym (k.owned j q.place n h there q.at) ∙ is))))
+        others j h apart there = false_from_ne_true (list_any (nat_eq n) h.indices) (λ e.
+            let q = place-any h.indices n e in
+            apart (ap (λ (p : Owner). p.first) (same_Some (record { first = j; place = q.place }) o (sym (k.owned j q.place n h there q.at) ∙ is))))
 
   -- an owner has a group
   pub no-group : (o : Owner) → owner_at os n ≡ Some o → group_in gs o.first ≡ None → ⊥
-  no-group o is none = let w = k.owns n o is in some-none w.group (sym none ∙ w.kept)
+  no-group o is none = let w = k.owns n o is in none-some w.group (sym none ∙ w.kept)

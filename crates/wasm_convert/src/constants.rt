@@ -47,6 +47,17 @@ fn push_function(escaped: &mut SmallVec<FuncIndex, 1>, op: &Operator) -> Result<
     Ok(())
 }
 
+// The value that operators leave alone on an empty stack.
+fn evaluated(ops: &[ConstOp]) -> Option<GlobalConstValue>
+    ensures { option_map plain_value_of result ≡ const_value (expression_of ops.now) }
+{
+    let mut stack = Stack::new();
+    for op in ops {
+        stack.apply(*op)?;
+    }
+    stack.only()
+}
+
 impl ConstExpr {
     /// The expression of these operators.
     ///
@@ -99,11 +110,12 @@ impl ConstExpr {
     pub fn const_eval(&self) -> Option<GlobalConstValue>
         ensures { option_map plain_value_of result ≡ const_value (expression_of self.now) }
     {
-        let mut stack = Stack::new();
-        for op in self.ops() {
-            stack.apply(*op)?;
+        match self.ops() {
+            // One constant needs no stack.
+            [ConstOp::I32Const(value)] => Some(GlobalConstValue::I32(*value)),
+            [ConstOp::I64Const(value)] => Some(GlobalConstValue::I64(*value)),
+            ops => evaluated(ops),
         }
-        stack.only()
     }
 
     /// Whether the expression is one `i32.const` of another number than 0.

@@ -1,13 +1,10 @@
-use Rattle.std.proofs.Common.{rules, arith, add-one, ◌≡◌, ◌∙◌, ◌<◌, ◌++◌, ◌+◌, ◌/◌, suc, List, [], ℕ, length, get_or, set, take, drop, sym, ap, subst}
-use Rattle.std.proofs.lemmas.List.{length-map}
+use Rattle.std.proofs.Common.{rules, arith, ◌≡◌, ◌∙◌, ◌<◌, ◌++◌, ◌+◌, ◌/◌, suc, List, ℕ, length, get_or, set, take, drop, sym, ap, subst}
+use Rattle.std.proofs.lemmas.List.{length-map, get_or-map, map-set}
 use Rattle.std.specs.Global.{Vec}
 use Rattle.free_numbers.specs.Counts.{change_at}
 use Rattle.free_numbers.specs.Levels.{lists_of, changed, half, CanChange, CanChangeFirst, IsTree}
-use Rattle.free_numbers.proofs.Pairs.{can-head, can-next, change-step, lists-set, lists-get, half-is, no_counts}
+use Rattle.free_numbers.proofs.Pairs.{can-head, can-next, change-step, half-is, no_counts}
 use Rattle.free_numbers.proofs.levels.change.Goals as goal
-
-items : Vec ℕ → List ℕ
-items w = w.items
 
 pub change_count-requires : goal.change_count-requires
 change_count-requires c =
@@ -18,7 +15,7 @@ change_count-requires c =
     let short' : i < length (lists_of vs) = omega (arith, short, length-map vs (λ (w : Vec ℕ). w.items)) in
     let can = can-head c.args.less c.args.more (lists_of vs) i c.loop-level.place short' c.loop-level.invariant.can in
     subst (λ (l : List ℕ). CanChange c.args.less c.args.more c.loop-level.place l)
-    (lists-get vs i v short ∙ ap (λ (w : Vec ℕ). w.items) (sym c.index_mut.ensures.value)) can
+    (get_or-map (λ (u : Vec ℕ). u.items) vs i v no_counts short ∙ ap (λ (w : Vec ℕ). w.items) (sym c.index_mut.ensures.value)) can
 
 module _ (less more number place i : ℕ) (orig : List (List ℕ)) (vs : List (Vec ℕ)) (v w : Vec ℕ) (short : i < length vs) (at : v ≡ get_or vs i v)
     (is : w.items ≡ change_at less more place v.items)
@@ -31,8 +28,8 @@ module _ (less more number place i : ℕ) (orig : List (List ℕ)) (vs : List (V
   ys = change_at less more place (get_or (lists_of vs) i no_counts)
 
   new : lists_of (set vs i w) ≡ set (lists_of vs) i ys
-  new = lists-set vs i w ∙ ap (set (lists_of vs) i) (is ∙ ap (λ (u : Vec ℕ). change_at less more place u.items) at
-      ∙ ap (change_at less more place) (sym (lists-get vs i v short)))
+  new = map-set (λ (u : Vec ℕ). u.items) vs i w ∙ ap (set (lists_of vs) i) (is ∙ ap (λ (u : Vec ℕ). change_at less more place u.items) at
+      ∙ ap (change_at less more place) (sym (get_or-map (λ (u : Vec ℕ). u.items) vs i v no_counts short)))
 
   Kept : ℕ → ℕ → List (List ℕ) → Type 0
   Kept j p ls = (changed less more number orig ≡ take j ls ++ changed less more p (drop j ls)) × IsTree (drop j ls) × CanChangeFirst less more p (drop j ls)

@@ -1,5 +1,5 @@
-use Rattle.std.proofs.Common.{arith, ◌≡◌, ◌∙◌, ◌≤◌, ◌+◌, length, get_or, sym, ap}
-use Rattle.free_numbers.specs.Counts.{before, total}
+use Rattle.std.proofs.Common.{arith, ◌≡◌, ◌∙◌, ◌+◌, length, get_or, sym, ap}
+use Rattle.free_numbers.specs.Counts.{before}
 use Rattle.free_numbers.proofs.Pairs.{before-next, before-few, all-before}
 use Rattle.free_numbers.proofs.numbers.sum.Goals as goal
 

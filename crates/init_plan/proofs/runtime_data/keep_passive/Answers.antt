@@ -1,7 +1,7 @@
 use Rattle.std.proofs.Common.{◌≡◌, ◌<◌, ◌++◌, [], length, map, drop, subst, sym, ◌∙◌, arith}
 use Rattle.std.proofs.lemmas.List.{append-nil, drop_all, length-map}
 use Rattle.init_plan.specs.Views.{bytes_of, passive_segment_of}
-use Rattle.init_plan.proofs.Entered.{All-read_map, entered, entered-found, entered-in_order, entered-others}
+use Rattle.init_plan.proofs.Entered.{All-read_map, entered, entered-found, entered-others}
 use Rattle.init_plan.proofs.runtime_data.keep_passive.Goals as goal
 
 pub insert-requires : goal.insert-requires
@@ -20,14 +20,6 @@ returns-clause-found c =
     rw none at c.loop-index.invariant.entries in
     rw (runtime, found) (entered-found before (length c.args.runtime_data.now) c.args.found.now ps
     (sym (length-map c.args.runtime_data.now bytes_of)) c.requires.distinct)
-
-pub returns-clause-in_order : goal.returns-clause-in_order
-returns-clause-in_order c =
-    let ps = map passive_segment_of c.args.segments.now in
-    let none : drop c.loop-index.index-index c.args.segments.now ≡ [] = drop_all c.loop-index.index-index c.args.segments.now (omega arith) in
-    let found : c.loop-index.found ≡ entered (length c.args.runtime_data.now) c.args.found.now (map (λ p. p.0) ps) =
-    rw none at c.loop-index.invariant.entries in
-    rw found (entered-in_order (length c.args.runtime_data.now) c.args.found.now ps c.requires.distinct)
 
 pub returns-clause-others : goal.returns-clause-others
 returns-clause-others c = λ n absent.

@@ -4,7 +4,7 @@ use Rattle.form_data.specs.Views as form
 use Rattle.wasm_types.specs.TypeViews.{sub_type_of}
 use Rattle.wasm_convert.specs.Conversion.{index_in}
 use Rattle.wasm_convert.specs.Known.{CanLookUp}
-use Rattle.module_types.proofs.Parts.{all-parts, converted}
+use Rattle.module_types.proofs.Convertible.{all-parts, converted}
 use Rattle.module_types.proofs.group_converter.convert_members.Goals as goal
 
 pub convert_sub_type-requires-clause-known : goal.convert_sub_type-requires-clause-known

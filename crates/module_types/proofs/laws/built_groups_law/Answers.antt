@@ -1,7 +1,7 @@
 use Rattle.std.proofs.Common.{ap}
 use Rattle.type_spec.specs.Interned.{empty}
 use Rattle.module_types.specs.Runs.{with_groups}
-use Rattle.module_types.proofs.BuiltGroups.{groups_determined}
+use Rattle.module_types.proofs.EqualLists.{groups_determined}
 use Rattle.module_types.proofs.laws.built_groups_law.Goals as goal
 
 pub returns : goal.returns

@@ -1,8 +1,8 @@
 use Rattle.std.proofs.Common.{List, refl}
 use Rattle.type_spec.specs.Interned.{Built, Interned, empty, plain, with_group, exception_for, composite_at, startup_type}
 use Rattle.module_types.specs.Tied.{IsTied}
-use Rattle.module_types.proofs.Tying.{tied-alone, tied-group, one-index}
-use Rattle.module_types.proofs.Called.{through-taken, through-interned}
+use Rattle.module_types.proofs.Called.{tied-alone, tied-group, one-index}
+use Rattle.module_types.proofs.WholeLists.{through-taken, through-alone}
 use Rattle.module_types.proofs.laws.one_trampoline_law.Goals as goal
 
 tied-none : IsTied empty
@@ -18,6 +18,6 @@ returns c =
       exception = λ b i tied. tied-alone b tied (plain (exception_for i (composite_at b.types i)));
       startup = λ b tied. tied-alone b tied startup_type;
       taken = taken;
-      interned = λ ms tags startup. through-interned IsTied (λ b t tied. tied-alone b tied t) ms tags startup (taken ms);
+      interned = λ ms tags startup. through-alone IsTied (λ b t tied. tied-alone b tied t) ms tags startup (taken ms);
       one = one-index;
     }

@@ -1,4 +1,4 @@
-use Rattle.module_types.proofs.MappedTypes.{mapped-twice, same-mapped, mapped-same}
+use Rattle.module_types.proofs.Keys.{mapped-twice, same-mapped, mapped-same}
 use Rattle.module_types.proofs.laws.trampolines_law.Goals as goal
 
 pub returns : goal.returns

@@ -6,7 +6,7 @@ use Rattle.replay_spec.specs.Elements.{ActiveElements}
 use Rattle.table_images.specs.Steps.{images_of}
 use Rattle.table_images.specs.Views.{active_elements_of, planned_tables_of}
 use Rattle.init_plan.specs.Tables.{own_tables}
-use Rattle.plan_run.proofs.Given.{all-unmap}
+use Rattle.form_lists.proofs.AllSections.{All-from_map}
 use Rattle.plan_run.proofs.finished.tables_are_finished.Goals as goal
 
 pub returns : goal.returns
@@ -35,5 +35,5 @@ returns c =
       },
       λ f. c.elements_are_within.ensures.1 (subst (All (λ s. number_of s.table_index < length c.as_slice-tables.result.now)) (sym c.deref.ensures.value)
           (subst (λ k. All (λ s. number_of s.table_index < k) segments) (sym count)
-          (all-unmap active_elements_of (λ (s : ActiveElements). s.table < length t.«module».tables) segments f.elements))),
+          (All-from_map (λ (s : ActiveElements). s.table < length t.«module».tables) active_elements_of segments f.elements))),
     )

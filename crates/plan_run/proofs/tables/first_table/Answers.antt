@@ -57,7 +57,7 @@ returns-in_ok-cells-in-Null-clause-means c = λ planned at.
     (c.index-as_slice-number.is ∙ ap (λ xs. get_or xs c.args.number value) c.as_slice.ensures) in
     let image_at = slice_get_read t.«module».table_initialization (length t.«module».table_initialization) c.args.number image refl (omega arith)
     (c.index-as_slice-number-in-Null.is ∙ ap (λ xs. get_or xs c.args.number image) c.as_slice-in-Null.ensures) in
-    let is = planned-is t c.args.number found.0 value image planned found.1 value_at image_at at
+    let is = planned-is t c.args.number found.0 value image found.1 value_at image_at planned at
     ∙ ap (λ (v : TableInitialValue). record { minimum = found.0.limits.min; initial = initial_of v; image = image_of image.items }) c.in-Null.is in
     subst (λ (p : PlannedTable). AllMean nodes cells (first_cells globals fields p)) (sym is) (record {
       below = all-names-more 0 (length nodes) cells (omega arith) c.in_ok-cells-in-Null.ensures.plain;
@@ -84,7 +84,7 @@ returns-in_ok-cells-in-Expr-clause-means c = λ planned at.
     let minimum = c.minimum_of-minimum.ensures found.0 (ap (λ xs. slice_get xs n) c.as_slice-tables.ensures ∙ found.1) in
     let value_at = slice_get_read t.table_initialization.initial_values (length t.table_initialization.initial_values) c.args.number value refl (omega arith)
     (c.index-as_slice-number.is ∙ ap (λ xs. get_or xs c.args.number value) c.as_slice.ensures) in
-    let is = planned-is t c.args.number found.0 value image_found.0 planned found.1 value_at image_found.1 at
+    let is = planned-is t c.args.number found.0 value image_found.0 found.1 value_at image_found.1 planned at
     ∙ ap (λ (v : TableInitialValue). record { minimum = found.0.limits.min; initial = initial_of v; image = image_of image_found.0.items }) c.in-Expr.is in
     subst (λ (p : PlannedTable). AllMean new cells (first_cells globals fields p)) (sym is)
     (subst (λ vs. AllMean new vs (replicate found.0.limits.min (cell_of globals fields (expression_of c.in-Expr.initial)))) (sym c.in_ok-cells-in-Expr.ensures)

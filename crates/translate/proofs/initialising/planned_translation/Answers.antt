@@ -119,7 +119,6 @@ returns-clause-initialised c =
         ranges = m.ranges;
         whole_ranges = m.whole_ranges;
         found = m.found;
-        in_order = m.in_order;
         others = m.others;
         fits = m.fits;
       };

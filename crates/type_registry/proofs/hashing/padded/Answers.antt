@@ -1,5 +1,5 @@
 use Rattle.std.proofs.Common.{arith, ◌≡◌, ◌∙◌, ◌-◌, ◌++◌, length, take, replicate, refl, ap}
-use Rattle.type_registry.proofs.Copies.{take-whole}
+use Rattle.std.proofs.lemmas.List.{take_all}
 use Rattle.type_registry.proofs.Filled.{filled-one}
 use Rattle.type_registry.proofs.hashing.padded.Goals as goal
 
@@ -13,4 +13,4 @@ pub returns : goal.returns
 returns c =
     let bs = c.args.bytes.now in
     let all : c.loop-place.place ≡ length bs = omega (arith, c.loop-place-test.false, c.loop-place.auto.place-end) in
-    c.loop-place.invariant ∙ ap (λ k. take k bs ++ replicate (8 - k) 0) all ∙ ap (λ l. l ++ replicate (8 - length bs) 0) (take-whole bs)
+    c.loop-place.invariant ∙ ap (λ k. take k bs ++ replicate (8 - k) 0) all ∙ ap (λ l. l ++ replicate (8 - length bs) 0) (take_all (length bs) bs (omega arith))

@@ -1,14 +1,15 @@
-use Rattle.std.proofs.Common.{arith, ◌≡◌, ◌∙◌, ◌++◌, ◌-◌, length, map, take, drop, refl, sym, ap, subst}
-use Rattle.std.proofs.lemmas.List.{length-map, length-take-le, length-drop}
+use Rattle.std.proofs.Common.{arith, ◌≡◌, ◌∙◌, ◌++◌, ◌-◌, length, map, take, refl, sym, ap, subst}
+use Rattle.std.proofs.lemmas.List.{length-map, length-take-le}
 use Rattle.std.specs.List.{All}
-use Rattle.wasm_spec.specs.TypeData.{map_group, map_sub_type}
+use Rattle.wasm_spec.specs.TypeData.{map_group}
 use Rattle.type_data.specs.Names.{named}
 use Rattle.type_spec.specs.Interned.{Span}
 use Rattle.wasm_index.specs.Index.{number_of}
-use Rattle.wasm_types.specs.TypeViews.{sub_type_of, group_of}
+use Rattle.wasm_types.specs.TypeViews.{group_of}
 use Rattle.wasm_trace.specs.Canonical.{CanBeConsedEdge, runtime_edge}
 use Rattle.type_registry.specs.Changes.{given, members_of, edges_of, IsGiven}
 use Rattle.type_registry.proofs.UsedEdges.{used-types}
+use Rattle.type_registry.proofs.PlanGroups.{mapped-long}
 use Rattle.type_registry.proofs.planning.fresh_group.Goals as goal
 
 pub invariant_of-kept : goal.invariant_of-kept
@@ -27,13 +28,5 @@ invariant_of-kept c =
     let can = subst (λ n. All (CanBeConsedEdge (IsGiven n) start end) (edges_of (members_of l s))) (sym at) may.consed in
     let is = ap group_of c.used-2.view_is ∙ c.in_ok-used.ensures ∙ ap (λ is. map_group (named (runtime_edge (given is))) (runtime_edge (given is)) (group_of (members_of l s))) c.requires.given in
     let same = used-types before new start end at l s refl can types c.args.canonical.value is c.requires.canonical in
-    let long : length types ≡ end - start =
-    omega (
-      arith,
-      length-map types sub_type_of,
-      ap length is,
-      length-map (group_of (members_of l s)) (map_sub_type (named (runtime_edge (given (before ++ new)))) (runtime_edge (given (before ++ new)))),
-      length-map (members_of l s) sub_type_of,
-      length-take-le (end - start) (drop start l.types) (omega (arith, length-drop start l.types, may.within)),
-    ) in
+    let long = mapped-long l s (runtime_edge (given (before ++ new))) types may.within is in
     (omega (arith, c.requires.count, may.some), same, omega (arith, long, c.requires.count))

@@ -1,9 +1,9 @@
 use Rattle.std.proofs.Common.{arith, ◌≡◌, ◌∙◌, ◌<◌, ◌++◌, ◌∷◌, [], suc, ◌+◌, map, take, length, sym, ap}
-use Rattle.std.proofs.lemmas.List.{map-append}
+use Rattle.std.proofs.lemmas.List.{map-append, take_all}
 use Rattle.wasm_index.specs.Index.{number_of}
 use Rattle.type_registry.specs.Registry.{indices_of}
 use Rattle.type_registry.specs.Changes.{free_indices}
-use Rattle.type_registry.proofs.Copies.{take-next, take-whole}
+use Rattle.type_registry.proofs.Copies.{take-next}
 use Rattle.type_registry.proofs.FreeIndices.{free-next, free-length}
 use Rattle.type_registry.proofs.planning.new_indices.Goals as goal
 
@@ -25,4 +25,4 @@ returns c =
     let taken = indices_of c.args.groups.now.groups in
     let free = free_indices (taken ++ free_indices taken c.args.given) c.args.count in
     let all : c.loop-place.place ≡ length free = omega (arith, free-length (taken ++ free_indices taken c.args.given) c.args.count) in
-    c.loop-place.invariant ∙ ap (λ m. take m free) all ∙ take-whole free
+    c.loop-place.invariant ∙ ap (λ m. take m free) all ∙ take_all (length free) free (omega arith)

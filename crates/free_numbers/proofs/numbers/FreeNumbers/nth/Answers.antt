@@ -1,4 +1,4 @@
-use Rattle.std.proofs.Common.{rules, arith, ◌≡◌, ◌∙◌, ◌<◌, ◌≤◌, ◌+◌, List, ℕ, length, get_or, sym, ap, subst}
+use Rattle.std.proofs.Common.{arith, ◌≡◌, ◌∙◌, ◌≤◌, List, ℕ, get_or, ap, subst}
 use Rattle.std.specs.Global.{Vec}
 use Rattle.free_numbers.specs.Counts.{before, IsCounts}
 use Rattle.free_numbers.specs.Levels.{lists_of, counts_of}

@@ -1,4 +1,4 @@
-use Rattle.std.proofs.Common.{rules, arith, ◌≡◌, ◌∙◌, ◌<◌, List, ℕ, length, sym, ap, subst}
+use Rattle.std.proofs.Common.{arith, ◌<◌, List, ℕ, sym, subst}
 use Rattle.free_numbers.specs.Counts.{total}
 use Rattle.free_numbers.proofs.Pairs.{few-in-all}
 use Rattle.free_numbers.proofs.numbers.FreeNumbers.of.Goals as goal

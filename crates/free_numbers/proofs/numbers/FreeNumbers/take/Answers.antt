@@ -1,69 +1,54 @@
-use Rattle.std.proofs.Common.{rules, arith, ◌≡◌, ◌∙◌, ◌<◌, ◌≤◌, ◌+◌, ◌-◌, List, ℕ, length, get_or, set, refl, sym, ap, subst}
-use Rattle.free_numbers.specs.Counts.{total}
-use Rattle.free_numbers.specs.Levels.{lists_of, counts_of}
-use Rattle.free_numbers.proofs.Pairs.{first-can, can-take, value, new-counts, stays, count-few, before-few, set-same}
+use Rattle.std.proofs.Common.{arith, ◌≡◌, ◌∙◌, ◌<◌, ◌+◌, ◌-◌, List, ℕ, length, get_or, set, sym, ap}
+use Rattle.std.proofs.lemmas.List.{set-get_or}
+use Rattle.free_numbers.specs.Levels.{lists_of, counts_of, CanChange}
+use Rattle.free_numbers.proofs.Pairs.{first-can, can-take, value, new-counts, stays, count-few, before-few}
+use Rattle.free_numbers.proofs.numbers.FreeNumbers.take.Goals.{Then-index-gt0}
 use Rattle.free_numbers.proofs.numbers.FreeNumbers.take.Goals as goal
 
+-- the count of the number
+read : (c : Then-index-gt0) → (c.args.number < length (counts_of (lists_of c.self.inside.levels.items)))
+    × (c.index-2.result.now ≡ get_or (counts_of (lists_of c.self.inside.levels.items)) c.args.number 0)
+read c = value c.self.inside.levels.items c.index.result.now c.args.number c.index-2.result.now c.args.self.now c.self.view_is c.requires c.index.ensures c.index-2.ensures
+
+can : (c : Then-index-gt0) → CanChange 1 0 c.args.number (counts_of (lists_of c.self.inside.levels.items))
+can c =
+    can-take (counts_of (lists_of c.self.inside.levels.items)) c.args.number c.self.invariant.1 c.self.invariant.2 (read c).0
+    (omega (arith, (read c).1, c.if-index-gt0.true))
+
 pub change-requires-clause-can : goal.change-requires-clause-can
-change-requires-clause-can c =
-    let vs = c.self.inside.levels.items in
-    let ls = lists_of vs in
-    let n = c.args.number in
-    let x = c.index-2.result.now in
-    let inv = c.self.invariant in
-    let lt : n < length (counts_of ls) = subst (λ (l : List ℕ). n < length l) (sym c.self.view_is) c.requires in
-    let at : x ≡ get_or (counts_of ls) n 0 = value vs c.index.result.now n x c.index.ensures c.index-2.ensures lt in
-    let can = can-take (counts_of ls) n inv.1 inv.2 lt (omega (arith, at, c.if-index-gt0.true)) in
-    first-can 1 0 n ls can
+change-requires-clause-can c = first-can 1 0 c.args.number (lists_of c.self.inside.levels.items) (can (goal.at.change-requires-clause-can c).Then-index-gt0)
+
+gives : (c : Then-index-gt0) → get_or (counts_of (lists_of c.self.inside.levels.items)) c.args.number 0 - 1 + 0 ≡ 0
+gives c = omega (arith, (read c).1, count-few (counts_of (lists_of c.self.inside.levels.items)) c.args.number c.self.invariant.1, c.if-index-gt0.true)
+
+some : (c : Then-index-gt0) → 0 < c.self.inside.free
+some c = omega (arith, c.self.invariant.3, before-few (counts_of (lists_of c.self.inside.levels.items)) c.args.number, (read c).1, c.if-index-gt0.true)
 
 pub overflow_sub-self : goal.overflow_sub-self
-overflow_sub-self c =
-    let vs = c.self.inside.levels.items in
-    let ls = lists_of vs in
-    let n = c.args.number in
-    let x = c.index-2.result.now in
-    let inv = c.self.invariant in
-    let lt : n < length (counts_of ls) = subst (λ (l : List ℕ). n < length l) (sym c.self.view_is) c.requires in
-    let at : x ≡ get_or (counts_of ls) n 0 = value vs c.index.result.now n x c.index.ensures c.index-2.ensures lt in
-    let can = can-take (counts_of ls) n inv.1 inv.2 lt (omega (arith, at, c.if-index-gt0.true)) in
-    omega (arith, inv.3, before-few (counts_of ls) n, at, c.if-index-gt0.true)
+overflow_sub-self c = omega (arith, some (goal.at.overflow_sub-self c).Then-index-gt0)
 
 pub invariant_of-self : goal.invariant_of-self
 invariant_of-self c =
-    let vs = c.self.inside.levels.items in
-    let ls = lists_of vs in
-    let n = c.args.number in
-    let x = c.index-2.result.now in
+    let then = (goal.at.invariant_of-self c).Then-index-gt0 in
+    let s = c.self.inside in
     let inv = c.self.invariant in
-    let lt : n < length (counts_of ls) = subst (λ (l : List ℕ). n < length l) (sym c.self.view_is) c.requires in
-    let at : x ≡ get_or (counts_of ls) n 0 = value vs c.index.result.now n x c.index.ensures c.index-2.ensures lt in
-    let can = can-take (counts_of ls) n inv.1 inv.2 lt (omega (arith, at, c.if-index-gt0.true)) in
-    let gives : get_or (counts_of ls) n 0 - 1 + 0 ≡ 0 = omega (arith, at, count-few (counts_of ls) n inv.1, c.if-index-gt0.true) in
-    let frees : c.self.inside.free - 1 + 1 ≡ c.self.inside.free + 0 = omega (arith, inv.3, before-few (counts_of ls) n, at, c.if-index-gt0.true) in
-    stays 1 0 ls (lists_of c.change.new.levels.items) n 0 c.self.inside.free (c.self.inside.free - 1) c.change.ensures inv.0 inv.1 inv.2 inv.3 can (omega arith) gives frees
+    stays 1 0 (lists_of s.levels.items) (lists_of c.change.new.levels.items) c.args.number 0 s.free (s.free - 1) c.change.ensures inv.0 inv.1 inv.2 inv.3
+    (can then) (omega arith) (gives then) (omega (arith, some then))
 
 pub returns-then-index-gt0 : goal.returns-then-index-gt0
 returns-then-index-gt0 c =
-    let vs = c.self.inside.levels.items in
-    let ls = lists_of vs in
-    let n = c.args.number in
-    let x = c.index-2.result.now in
+    let then = (goal.at.returns-then-index-gt0 c).Then-index-gt0 in
+    let s = c.self.inside in
     let inv = c.self.invariant in
-    let lt : n < length (counts_of ls) = subst (λ (l : List ℕ). n < length l) (sym c.self.view_is) c.requires in
-    let at : x ≡ get_or (counts_of ls) n 0 = value vs c.index.result.now n x c.index.ensures c.index-2.ensures lt in
-    let can = can-take (counts_of ls) n inv.1 inv.2 lt (omega (arith, at, c.if-index-gt0.true)) in
-    let gives : get_or (counts_of ls) n 0 - 1 + 0 ≡ 0 = omega (arith, at, count-few (counts_of ls) n inv.1, c.if-index-gt0.true) in
-    let frees : c.self.inside.free - 1 + 1 ≡ c.self.inside.free + 0 = omega (arith, inv.3, before-few (counts_of ls) n, at, c.if-index-gt0.true) in
-    new-counts 1 0 ls (lists_of c.change.new.levels.items) n 0 c.self.inside.free (c.self.inside.free - 1) c.change.ensures inv.0 inv.1 inv.2 inv.3 can (omega arith) gives frees ∙ ap (λ (l : List ℕ). set l n 0) c.self.view_is
+    new-counts 1 0 (lists_of s.levels.items) (lists_of c.change.new.levels.items) c.args.number 0 s.free (s.free - 1) c.change.ensures inv.0 inv.1 inv.2 inv.3
+    (can then) (omega arith) (gives then) (omega (arith, some then)) ∙ ap (λ (l : List ℕ). set l c.args.number 0) c.self.view_is
 
 pub returns-else-index-gt0 : goal.returns-else-index-gt0
 returns-else-index-gt0 c =
-    let vs = c.self.inside.levels.items in
-    let ls = lists_of vs in
+    let now = c.args.self.now in
+    let ls = lists_of c.self.inside.levels.items in
     let n = c.args.number in
-    let x = c.index-2.result.now in
-    let inv = c.self.invariant in
-    let lt : n < length (counts_of ls) = subst (λ (l : List ℕ). n < length l) (sym c.self.view_is) c.requires in
-    let at : x ≡ get_or (counts_of ls) n 0 = value vs c.index.result.now n x c.index.ensures c.index-2.ensures lt in
-    let now : get_or (counts_of ls) n 0 ≡ get_or c.args.self.now n 0 = ap (λ (l : List ℕ). get_or l n 0) c.self.view_is in
-    set-same c.args.self.now n 0 (omega (arith, at, now, count-few (counts_of ls) n inv.1, c.if-index-gt0.false))
+    let read = value c.self.inside.levels.items c.index.result.now n c.index-2.result.now now c.self.view_is c.requires c.index.ensures c.index-2.ensures in
+    let is : get_or now n 0 ≡ 0 =
+    sym (ap (λ (l : List ℕ). get_or l n 0) c.self.view_is) ∙ omega (arith, read.1, count-few (counts_of ls) n c.self.invariant.1, c.if-index-gt0.false) in
+    sym (ap (set now n) (sym is) ∙ set-get_or now n 0)

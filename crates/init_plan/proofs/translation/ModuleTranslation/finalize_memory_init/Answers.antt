@@ -1,4 +1,4 @@
-use Rattle.std.proofs.Common.{◌≡◌, ◌∙◌, Err, sym, ap, subst, arith}
+use Rattle.std.proofs.Common.{◌≡◌, ◌∙◌, ◌-◌, Err, length, sym, ap, subst, arith}
 use Rattle.std.proofs.lemmas.Result.{err_from_is_err_and}
 use Rattle.replay_spec.specs.Plan.{AgreesOver}
 use Rattle.init_plan.specs.declared.error.PlanError.TheVariants as plan
@@ -36,9 +36,11 @@ pub returns-clause-tables_ready : goal.returns-clause-tables_ready
 returns-clause-tables_ready c = λ h. TableHalfIsReady-same c.args.self.now _
     (memories-frame c.args.self.now _ _ _ c.in_ok-plan_memories.ensures.same c.in_ok-raise_startup_by_memories.ensures.ok) h
 
-pub returns-clause-in_order : goal.returns-clause-in_order
-returns-clause-in_order c =
-    subst (λ t. FindsInOrder (memory_plan_of t) (passive_data_of c.args.self.now)) (sym c.in_ok-raise_startup_by_memories.ensures.ok) c.in_ok-plan_memories.ensures.in_order
+pub returns-clause-found : goal.returns-clause-found
+returns-clause-found c =
+    let ps = passive_data_of c.args.self.now in
+    subst (λ (t : ModuleTranslation). let plan = memory_plan_of t in FindsInOrder plan.runtime plan.passive (length plan.runtime - length ps) ps)
+    (sym c.in_ok-raise_startup_by_memories.ensures.ok) c.in_ok-plan_memories.ensures.found
 
 -- the runtime data of every plan fit, once there are images
 pub returns-then-is_poisoned-clause-large : goal.returns-then-is_poisoned-clause-large

@@ -5,7 +5,7 @@ use Rattle.entity_map.specs.Secondary.{value_at}
 use Rattle.wasm_index.specs.Index.{number_of}
 use Rattle.memory_images.specs.Views.{options_of}
 use Rattle.init_plan.specs.declared.translation.ModuleTranslation.{ModuleTranslation}
-use Rattle.init_plan.specs.Views.{initializers_of, active_segment_of, passive_segment_of, passive_data_of, passive_bytes, bytes_of, FindsFrom}
+use Rattle.init_plan.specs.Views.{initializers_of, active_segment_of, passive_segment_of, passive_data_of, passive_bytes, bytes_of, FindsInOrder}
 use Rattle.init_plan.proofs.Planning.{few_images, stands, planned_sized, agrees_sized}
 use Rattle.init_plan.proofs.Sized.{fits_sized}
 use Rattle.init_plan.proofs.translation.ModuleTranslation.plan_memories.Goals as goal
@@ -67,8 +67,8 @@ ranges_end_to_end-requires-clause-few c =
     omega (arith, long, few, few_passive, c.in_ok-begin_memories.ensures.few, c.requires.ready.few_passive)
 
 -- as many runtime data stand before those of the passive segments as the memories have
-pub returns-clause-in_order : goal.returns-clause-in_order
-returns-clause-in_order c =
+pub returns-clause-found : goal.returns-clause-found
+returns-clause-found c =
     let old : ModuleTranslation = c.args.self.now in
     let mid : ModuleTranslation = c.begin_memories.new.self in
     let stand = stands (options_of c.args.settings) old c.take_segments-segments.new.self mid c.args.images (map active_segment_of c.take_segments-segments.result.items)
@@ -83,5 +83,5 @@ returns-clause-in_order c =
     let few_passive : length (passive_bytes old) ≡ length (passive_data_of old) = length-map (passive_data_of old) (λ p. p.1) in
     let start : length mid.runtime_data ≡ length runtime - length (passive_data_of old) = omega (arith, long, few, few_passive) in
     let found : ℕ → Option ℕ = λ index. option_map number_of (value_at c.keep_passive.new.found index) in
-    subst (λ (n : ℕ). FindsFrom found n (passive_data_of old)) start
-    (subst (λ ps. FindsFrom found (length mid.runtime_data) (map passive_segment_of ps)) segments c.in_ok-keep_passive.ensures.in_order)
+    subst (λ (n : ℕ). FindsInOrder runtime found n (passive_data_of old)) start
+    (subst (λ ps. FindsInOrder runtime found (length mid.runtime_data) (map passive_segment_of ps)) segments c.in_ok-keep_passive.ensures.found)

@@ -1,5 +1,7 @@
 use Rattle.std.proofs.Common.{◌≡◌, ◌∙◌, [], All, length, map, sym, ap, arith}
 use Rattle.std.proofs.lemmas.List.{length-map}
+use Rattle.std.proofs.lemmas.Option.{get_or_from_slice_get}
+use Rattle.std.proofs.lemmas.Result.{IfOk-weaker}
 use Rattle.wasm_spec.specs.TypeData.{group_edges}
 use Rattle.form_data.specs.declared.types.SubType.{SubType}
 use Rattle.form_data.specs.Views as form
@@ -10,9 +12,7 @@ use Rattle.module_types.specs.TypeList.{TypeList}
 use Rattle.module_types.specs.Builder.{builder_view}
 use Rattle.module_types.specs.Noted.{noted_at}
 use Rattle.module_types.specs.Conversion.{KnowsId, look_by_id, members_of, members_by_index}
-use Rattle.module_types.proofs.Places.{get-or}
 use Rattle.module_types.proofs.Convertible.{group-known, members-can, made-is}
-use Rattle.module_types.proofs.Shows.{if-ok}
 use Rattle.module_types.proofs.builder.ModuleTypesBuilder.converted.Goals as goal
 
 pub convert_members-requires-clause-known : goal.convert_members-requires-clause-known
@@ -24,9 +24,9 @@ convert_members-requires-clause-known c =
     let ids = sym c.looking_up-converter.ensures.ids in
     let types = sym c.looking_up-converter.ensures.types in
     let next : length b.built.types ≡ length c.looking_up-converter.result.list.now.types = length-map c.args.self.now.list.types interned_of ∙ ap (λ (l : TypeList). length l.types) list in
-    let members : members_of t k ≡ map form.sub_type_of c.members.result.now = get-or t.groups k _ [] c.members.ensures.members in
+    let members : members_of t k ≡ map form.sub_type_of c.members.result.now = get_or_from_slice_get t.groups k _ [] c.members.ensures.members in
     let known : Known (KnowsId t (length b.built.types) b.built.groups b.ids) (group_edges (λ r. r) (members_of t k)) =
-    group-known t (length b.built.types) b.built.groups b.ids k c.requires.holds (omega (arith, c.requires.room, length-map c.args.self.now.list.types interned_of)) c.requires.known c.members.ensures.sound c.requires.named in
+    group-known t (length b.built.types) b.built.groups b.ids k c.requires.holds (λ none. omega (arith, c.requires.room, length-map c.args.self.now.list.types interned_of)) c.members.ensures.sound c.requires.named in
     coe 0 1 (j. Known (KnowsId (types j) (next j) (map span_of (list j).groups) (noted_at (ids j))) (group_edges (λ r. r) (members j))) known
 
 pub convert_members-requires-clause-can : goal.convert_members-requires-clause-can
@@ -38,7 +38,7 @@ convert_members-requires-clause-can c =
     let ids = sym c.looking_up-converter.ensures.ids in
     let types = sym c.looking_up-converter.ensures.types in
     let next : length b.built.types ≡ length c.looking_up-converter.result.list.now.types = length-map c.args.self.now.list.types interned_of ∙ ap (λ (l : TypeList). length l.types) list in
-    let members : members_of t k ≡ map form.sub_type_of c.members.result.now = get-or t.groups k _ [] c.members.ensures.members in
+    let members : members_of t k ≡ map form.sub_type_of c.members.result.now = get_or_from_slice_get t.groups k _ [] c.members.ensures.members in
     let can : All (λ (m : SubType). CanConvert (look_by_id t (length b.built.types) b.built.groups b.ids) (form.composite_of m.composite)) c.members.result.now =
     members-can t (length b.built.types) b.built.groups b.ids k c.members.result.now members c.members.ensures.sound in
     coe 0 1 (j. All (λ (m : SubType). CanConvert (look_by_id (types j) (next j) (map span_of (list j).groups) (noted_at (ids j))) (form.composite_of m.composite)) c.members.result.now) can
@@ -54,8 +54,8 @@ returns c =
     let next : length c.looking_up-converter.result.list.now.types ≡ length b.built.types = ap (λ (l : TypeList). length l.types) list ∙ sym (length-map c.args.self.now.list.types interned_of) in
     let converter = c.looking_up-converter.result in
     let members : members_of converter.types.now k ≡ map form.sub_type_of c.members.result.now =
-    ap (λ (d : TypesData). members_of d k) types ∙ get-or t.groups k _ [] c.members.ensures.members in
-    if-ok c.convert_members.result
+    ap (λ (d : TypesData). members_of d k) types ∙ get_or_from_slice_get t.groups k _ [] c.members.ensures.members in
+    IfOk-weaker c.convert_members.result _ _
     (λ made is. made-is converter.types.now (length converter.list.now.types) (map span_of converter.list.now.groups)
     (noted_at converter.ids.now) k c.members.result.now members made.items is
     ∙ (λ j. members_by_index (types j) (next j) (map span_of (list j).groups) (noted_at (ids j)) k))

@@ -5,7 +5,7 @@ use Rattle.module_types.specs.Orderly.{IsOrderly}
 use Rattle.module_types.specs.Interner.{built}
 use Rattle.module_types.specs.Builder.{BuilderState, builder_view, excepts}
 use Rattle.module_types.specs.contracts.builder.ModuleTypesBuilder.{the_view}
-use Rattle.module_types.proofs.GroupMembers.{grows-exception}
+use Rattle.module_types.proofs.GroupMembers.{orderly-exception}
 use Rattle.module_types.proofs.Shows.{where-ok, shows-excepted}
 use Rattle.module_types.proofs.builder.ModuleTypesBuilder.define_exception_type_for_tag.Goals as goal
 
@@ -13,7 +13,7 @@ pub invariant_of-self-2 : goal.invariant_of-self-2
 invariant_of-self-2 c = λ e.
     let back = sym (where-ok c.push_exception.result (sym c.if-is_err.ensures.value) c.push_exception.ensures.built) in
     record {
-      orderly = coe 0 1 (j. IsOrderly (back j)) ((grows-exception (built c.self.inside.interner) (number_of c.args.for_func_ty)).orderly (c.self.invariant c.if-self.false).orderly);
+      orderly = coe 0 1 (j. IsOrderly (back j)) (orderly-exception (built c.self.inside.interner) (number_of c.args.for_func_ty) (c.self.invariant c.if-self.false).orderly);
       found = where-ok c.push_exception.result (sym c.if-is_err.ensures.value) c.push_exception.ensures.found;
     }
 

@@ -3,7 +3,7 @@ use Rattle.module_types.specs.Orderly.{IsOrderly}
 use Rattle.module_types.specs.Interner.{built}
 use Rattle.module_types.specs.Builder.{BuilderState, builder_view, starts}
 use Rattle.module_types.specs.contracts.builder.ModuleTypesBuilder.{the_view}
-use Rattle.module_types.proofs.GroupMembers.{grows-startup}
+use Rattle.module_types.proofs.GroupMembers.{orderly-startup}
 use Rattle.module_types.proofs.Shows.{where-ok, shows-started}
 use Rattle.module_types.proofs.builder.ModuleTypesBuilder.startup_func_type.Goals as goal
 
@@ -11,7 +11,7 @@ pub invariant_of-self-2 : goal.invariant_of-self-2
 invariant_of-self-2 c = λ e.
     let back = sym (where-ok c.push_startup.result (sym c.if-is_err.ensures.value) c.push_startup.ensures.built) in
     record {
-      orderly = coe 0 1 (j. IsOrderly (back j)) ((grows-startup (built c.self.inside.interner)).orderly (c.self.invariant c.if-self.false).orderly);
+      orderly = coe 0 1 (j. IsOrderly (back j)) (orderly-startup (built c.self.inside.interner) (c.self.invariant c.if-self.false).orderly);
       found = where-ok c.push_startup.result (sym c.if-is_err.ensures.value) c.push_startup.ensures.found;
     }
 

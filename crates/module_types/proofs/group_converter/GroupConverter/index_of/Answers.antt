@@ -3,7 +3,7 @@ use Rattle.std.proofs.lemmas.List.{length-map}
 use Rattle.wasm_index.specs.Index.{number_of, index_of}
 use Rattle.module_types.specs.Views.{span_of}
 use Rattle.module_types.specs.Noted.{noted_at}
-use Rattle.module_types.proofs.Indexing.{some, before, stands, held-within, held-index, next-within, next-index}
+use Rattle.module_types.proofs.Places.{some, before, stands, held-within, held-index, next-within, next-index}
 use Rattle.module_types.proofs.group_converter.GroupConverter.index_of.Goals as goal
 
 pub unreachable-requires : goal.unreachable-requires

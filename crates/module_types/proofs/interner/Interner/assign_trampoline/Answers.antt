@@ -1,5 +1,4 @@
 use Rattle.std.proofs.Common.{◌≡◌, ◌∙◌, ℕ, List, Some, refl, sym, ap, subst, arith}
-use Rattle.std.proofs.lemmas.List.{length-map}
 use Rattle.std.specs.Prelude.{slice_get, option_and_then}
 use Rattle.type_spec.specs.Interned.{assign_trampoline, composite_at}
 use Rattle.wasm_index.specs.Index.{number_of}
@@ -8,7 +7,7 @@ use Rattle.wasm_types.specs.declared.func.WasmFuncType.{WasmFuncType}
 use Rattle.wasm_types.specs.declared.sub.WasmSubType.{WasmSubType}
 use Rattle.wasm_types.specs.Trampolines.{trampoline_of}
 use Rattle.wasm_types.specs.Views.{func_in}
-use Rattle.module_types.specs.Views.{TypeIndex, interned_of, called_of, span_of}
+use Rattle.module_types.specs.Views.{TypeIndex, called_of}
 use Rattle.module_types.specs.TypeList.{TypeList, called_by}
 use Rattle.module_types.specs.TypeParts.{part_at}
 use Rattle.module_types.specs.Held.{built_of}
@@ -18,9 +17,7 @@ use Rattle.module_types.specs.declared.interner.Trampoline.TheVariants.{Itself}
 use Rattle.module_types.specs.declared.met.MetTypes.{MetTypes}
 use Rattle.module_types.specs.Met.{met_at, digest_of, IsLinked, IsNoted}
 use Rattle.module_types.proofs.Chaining.{equal}
-use Rattle.module_types.proofs.Keys.{called-mapped}
-use Rattle.module_types.proofs.MappedTypes.{trampoline-twice}
-use Rattle.module_types.proofs.Ordering.{few-groups}
+use Rattle.module_types.proofs.Keys.{called-mapped, trampoline-twice}
 use Rattle.module_types.proofs.Steps.{composite-read, assign_trampoline-other, known-before, known-itself, known-next, new-long}
 use Rattle.module_types.proofs.interner.Interner.assign_trampoline.Goals as goal
 
@@ -70,22 +67,13 @@ returns-in_ok-note-in-Itself-clause-found c =
     (subst (IsTrampoline (known i) i.met.hasher c.in-Func.func) c.in-Itself.is c.in_ok-found.ensures) _ c.set_trampoline-in-Itself.ensures _ c.in_ok-note-in-Itself.ensures
 
 -- another type comes next
-pub push_trampoline-requires-clause-types : goal.push_trampoline-requires-clause-types
-push_trampoline-requires-clause-types c =
+pub push_trampoline-requires-clause-room : goal.push_trampoline-requires-clause-room
+push_trampoline-requires-clause-room c =
     let i = c.args.self.now in
     let kind = composite-read i.list.types (number_of c.args.ty) c.index.result.now c.index.ensures _ c.in-Func.is in
     let other = subst (IsTrampoline (known i) i.met.hasher c.in-Func.func) c.in-New.is c.in_ok-found.ensures in
     let long = new-long i.list (known i) (number_of c.args.ty) c.in-Func.func kind (sym other.0) other.3 in
     omega (arith, long, c.requires.room)
-
-pub push_trampoline-requires-clause-groups : goal.push_trampoline-requires-clause-groups
-push_trampoline-requires-clause-groups c =
-    let i = c.args.self.now in
-    let kind = composite-read i.list.types (number_of c.args.ty) c.index.result.now c.index.ensures _ c.in-Func.is in
-    let other = subst (IsTrampoline (known i) i.met.hasher c.in-Func.func) c.in-New.is c.in_ok-found.ensures in
-    let long = new-long i.list (known i) (number_of c.args.ty) c.in-Func.func kind (sym other.0) other.3 in
-    let few = few-groups (built i) c.requires.orderly in
-    omega (arith, long, few, c.requires.room, length-map i.list.types interned_of, length-map i.list.groups span_of)
 
 pub push_trampoline-requires-clause-mapped : goal.push_trampoline-requires-clause-mapped
 push_trampoline-requires-clause-mapped c =

@@ -8,9 +8,8 @@ use Rattle.module_types.specs.Orderly.{IsOrderly}
 use Rattle.module_types.specs.Held.{built_of}
 use Rattle.module_types.specs.Interner.{known, built}
 use Rattle.module_types.specs.Met.{met_at, IsLinked}
-use Rattle.module_types.proofs.Linking.{known-on, linked-on}
-use Rattle.module_types.proofs.GroupMembers.{orderly-opened, group-long}
-use Rattle.module_types.proofs.Ordering.{few-groups}
+use Rattle.module_types.proofs.Chaining.{known-on, linked-on}
+use Rattle.module_types.proofs.GroupMembers.{orderly-opened, group-long, few-groups}
 use Rattle.module_types.proofs.Steps.{opened-is}
 use Rattle.module_types.proofs.interner.Interner.open_group.Goals as goal
 

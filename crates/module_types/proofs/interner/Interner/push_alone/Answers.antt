@@ -1,14 +1,28 @@
-use Rattle.std.proofs.Common.{◌∙◌, [], ◌∷◌, length, sym, ap}
+use Rattle.std.proofs.Common.{◌∙◌, [], ◌∷◌, length, sym, ap, arith}
+use Rattle.std.proofs.lemmas.List.{length-map}
 use Rattle.std.specs.declared.ops.Range.{Range}
 use Rattle.wasm_index.specs.Index.{index_of}
-use Rattle.module_types.specs.Views.{TypeIndex}
+use Rattle.module_types.specs.Views.{TypeIndex, interned_of, span_of}
 use Rattle.module_types.specs.TypeList.{TypeList, with_type, with_range}
 use Rattle.module_types.specs.Held.{built_of}
-use Rattle.module_types.specs.Interner.{known}
+use Rattle.module_types.specs.Interner.{known, built}
 use Rattle.module_types.specs.Met.{met_at, IsLinked}
-use Rattle.module_types.proofs.Linking.{known-on, linked-on}
+use Rattle.module_types.proofs.GroupMembers.{few-groups}
+use Rattle.module_types.proofs.Chaining.{known-on, linked-on}
 use Rattle.module_types.proofs.Steps.{alone-is}
 use Rattle.module_types.proofs.interner.Interner.push_alone.Goals as goal
+
+pub push_rec_group-requires : goal.push_rec_group-requires
+push_rec_group-requires c =
+    let l = c.args.self.now.list in
+    omega (
+      arith,
+      c.requires.room,
+      few-groups (built c.args.self.now) c.requires.orderly,
+      length-map l.types interned_of,
+      length-map l.groups span_of,
+      ap (λ (m : TypeList). length m.groups) c.in_ok-start.ensures.ok,
+    )
 
 pub returns-clause-built : goal.returns-clause-built
 returns-clause-built c =

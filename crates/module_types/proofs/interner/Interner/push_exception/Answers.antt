@@ -1,25 +1,18 @@
-use Rattle.std.proofs.Common.{◌∙◌, map, ap, arith}
-use Rattle.std.proofs.lemmas.List.{length-map}
+use Rattle.std.proofs.Common.{◌∙◌, map, ap}
+use Rattle.std.proofs.lemmas.Result.{on_ok_weaker}
 use Rattle.wasm_index.specs.Index.{number_of}
-use Rattle.module_types.specs.Views.{field_at, interned_of, span_of}
+use Rattle.module_types.specs.Views.{field_at}
 use Rattle.module_types.specs.Interner.{built}
-use Rattle.module_types.proofs.Ordering.{few-groups}
-use Rattle.module_types.proofs.Steps.{composite-read}
-use Rattle.module_types.proofs.Exceptions.{no-function, exception-made}
-use Rattle.module_types.proofs.Shows.{ok-to}
+use Rattle.module_types.proofs.Steps.{composite-read, no-function, exception-made}
 use Rattle.module_types.proofs.interner.Interner.push_exception.Goals as goal
 
 pub unreachable-requires : goal.unreachable-requires
 unreachable-requires c =
     no-function c.args.self.now.list.types (number_of c.args.function) c.index.result.now c.index.ensures c.in_default.not-Func c.requires.function
 
-pub push_alone-requires-clause-groups : goal.push_alone-requires-clause-groups
-push_alone-requires-clause-groups c =
-    omega (arith, few-groups (built c.args.self.now) c.requires.orderly, c.requires.room, length-map c.args.self.now.list.types interned_of, length-map c.args.self.now.list.groups span_of)
-
 pub returns-clause-built : goal.returns-clause-built
 returns-clause-built c =
     let kind = composite-read c.args.self.now.list.types (number_of c.args.function) c.index.result.now c.index.ensures _ c.in-Func.is in
     let made = exception-made (built c.args.self.now) (number_of c.args.function) c.in-Func.func kind c.in_ok-fields.fields.items
     (c.in_ok-fields.ensures ∙ ap (map field_at) c.params.ensures.listed) in
-    ok-to _ _ _ c.push_alone.result made c.push_alone.ensures.built
+    on_ok_weaker c.push_alone.result (λ built. built ∙ made) c.push_alone.ensures.built

@@ -1,6 +1,6 @@
-use Rattle.std.proofs.Common.{◌≡◌, ◌∙◌, ℕ, List, [], ◌∷◌, ◌++◌, length, Some, OnOk, sym, ap}
-use Rattle.std.specs.Prelude.{Result, Ok, Err}
+use Rattle.std.proofs.Common.{◌≡◌, ◌∙◌, ℕ, List, [], ◌∷◌, ◌++◌, length, map, Some, OnOk, sym, ap}
 use Rattle.std.proofs.lemmas.List.{length-map}
+use Rattle.std.proofs.lemmas.Result.{on_ok_weaker}
 use Rattle.wasm_spec.specs.TypeData.{Func}
 use Rattle.type_spec.specs.Interned.{plain, alone, knows}
 use Rattle.wasm_index.specs.Index.{number_of, index_of}
@@ -10,13 +10,14 @@ use Rattle.module_types.specs.declared.interner.Interner.{Interner}
 use Rattle.module_types.specs.declared.met.MetTypes.{MetTypes}
 use Rattle.wasm_types.specs.declared.sub.WasmSubType.{WasmSubType}
 use Rattle.wasm_types.specs.Views.{func_in}
-use Rattle.module_types.specs.Views.{TypeIndex, interned_of, called_of}
+use Rattle.module_types.specs.Views.{TypeIndex, interned_of, called_of, span_of}
+use Rattle.module_types.specs.Orderly.{LieBetween}
 use Rattle.module_types.specs.TypeList.{TypeList, called_by}
 use Rattle.module_types.specs.TypeParts.{part_at}
 use Rattle.module_types.specs.Held.{built_of}
 use Rattle.module_types.specs.Interner.{known, built, with_next_trampoline, FindsMet}
 use Rattle.module_types.specs.Met.{met_at, digest_of, IsLinked, IsNoted}
-use Rattle.module_types.proofs.Linking.{part-at-end}
+use Rattle.module_types.proofs.Chaining.{part-at-end}
 use Rattle.module_types.proofs.Steps.{next-is, noted-is}
 use Rattle.module_types.proofs.interner.Interner.push_trampoline.Goals as goal
 
@@ -26,9 +27,10 @@ push_alone-requires-clause-found c =
     let types = ap (λ (l : TypeList). l.types) c.set_trampoline.ensures in
     coe 0 1 (j. IsLinked (sym types j) c.args.self.now.met) c.requires.found
 
-ok-then : {A E P Q : Type 0} (r : Result A E) → (P → Q) → OnOk r P → OnOk r Q
-ok-then (Ok x) f p = f p
-ok-then (Err x) f p = tt
+pub push_alone-requires-clause-orderly : goal.push_alone-requires-clause-orderly
+push_alone-requires-clause-orderly c =
+    let back = sym c.set_trampoline.ensures in
+    coe 0 1 (j. LieBetween 0 (map span_of (back j).groups) (length (map interned_of (back j).types))) c.requires.orderly
 
 -- what follows once the type is noted
 module _ (i now : Interner) (met : MetTypes) (ty : ℕ) (k : TypeIndex) (mapped : WasmFuncType) (digest : ℕ) (own : trampoline_of mapped ≡ mapped)
@@ -44,30 +46,23 @@ module _ (i now : Interner) (met : MetTypes) (ty : ℕ) (k : TypeIndex) (mapped 
   is-noted = noted now.list.types mapped found (ap (λ ts. part_at func_in ts k) types ∙ part-at-end l.types t k mapped end func_is)
       (is ∙ ap (λ (m : MetTypes). digest_of m.hasher mapped) (sym met_is))
 
-  pub finds : FindsMet (record { list = now.list; met = met })
-  finds = is-noted.linked
+  pub after-note : (built (record { list = now.list; met = met }) ≡ with_next_trampoline (built i) ty (called_of mapped)) × FindsMet (record { list = now.list; met = met })
+  after-note = (
+    noted-is now.list (known now) mapped own (met_at now.list.types met) k is-noted.puts
+        ∙ ap (λ b. knows b (called_of mapped) (number_of k))
+        (pushed ∙ (λ j. alone (built_of (set j) (met_at (set j).types i.met)) (plain_is j) (Some (number_of k))))
+        ∙ next-is i.list (known i) ty k (called_of mapped) (ap number_of count ∙ sym (length-map i.list.types interned_of)),
+    is-noted.linked,
+  )
 
-  pub gained : built (record { list = now.list; met = met }) ≡ with_next_trampoline (built i) ty (called_of mapped)
-  gained =
-      noted-is now.list (known now) mapped own (met_at now.list.types met) k is-noted.puts
-      ∙ ap (λ b. knows b (called_of mapped) (number_of k))
-      (pushed ∙ (λ j. alone (built_of (set j) (met_at (set j).types i.met)) (plain_is j) (Some (number_of k))))
-      ∙ next-is i.list (known i) ty k (called_of mapped) (ap number_of count ∙ sym (length-map i.list.types interned_of))
-
-pub returns-clause-built : goal.returns-clause-built
-returns-clause-built c =
+pub returns : goal.returns
+returns c =
     let pushed = c.in_ok-push_alone.ensures in
-    ok-then c.note.result
-    (λ noted. gained c.args.self.now c.push_alone.new.self _ (number_of c.args.ty) c.next_ty-trampoline.result c.args.mapped c.args.digest c.requires.mapped
+    let Then = λ (met : MetTypes). (built (record { list = c.push_alone.new.self.list; met = met }) ≡ with_next_trampoline (built c.args.self.now) (number_of c.args.ty) (called_of c.args.mapped))
+    × FindsMet (record { list = c.push_alone.new.self.list; met = met }) in
+    let after : OnOk c.note.result (Then c.note.new.self) = on_ok_weaker c.note.result
+    (λ noted. after-note c.args.self.now c.push_alone.new.self c.note.new.self (number_of c.args.ty) c.next_ty-trampoline.result c.args.mapped c.args.digest c.requires.mapped
     _ c.set_trampoline.ensures c.next_ty-trampoline.ensures c.requires.digest c.plain_function.result c.plain_function.ensures.interned c.plain_function.ensures.function
     pushed.built pushed.found pushed.types c.push_alone.ensures.met noted)
-    c.note.ensures
-
-pub returns-clause-found : goal.returns-clause-found
-returns-clause-found c =
-    let pushed = c.in_ok-push_alone.ensures in
-    ok-then c.note.result
-    (λ noted. finds c.args.self.now c.push_alone.new.self _ (number_of c.args.ty) c.next_ty-trampoline.result c.args.mapped c.args.digest c.requires.mapped
-    _ c.set_trampoline.ensures c.next_ty-trampoline.ensures c.requires.digest c.plain_function.result c.plain_function.ensures.interned c.plain_function.ensures.function
-    pushed.built pushed.found pushed.types c.push_alone.ensures.met noted)
-    c.note.ensures
+    c.note.ensures in
+    record { built = on_ok_weaker c.note.result (λ both. both.0) after; found = on_ok_weaker c.note.result (λ both. both.1) after }

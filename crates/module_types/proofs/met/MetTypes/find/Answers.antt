@@ -12,8 +12,7 @@ use Rattle.module_types.specs.TypeParts.{part_at}
 use Rattle.module_types.specs.declared.met.MetType.{MetType}
 use Rattle.module_types.specs.declared.met.MetTypes.{MetTypes}
 use Rattle.module_types.specs.Met.{Met, digest_of, newest_of, met_of, mets, met_at, Leads, IsLinked}
-use Rattle.module_types.proofs.Chaining.{at-map, in-range, found-there, steps-back}
-use Rattle.module_types.proofs.Linking.{key-read, part-below}
+use Rattle.module_types.proofs.Chaining.{at-map, in-range, found-there, steps-back, key-read, part-below}
 use Rattle.module_types.proofs.met.MetTypes.find.Goals as goal
 
 -- one of a chain, which was read

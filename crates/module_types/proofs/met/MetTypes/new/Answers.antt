@@ -2,7 +2,7 @@ use Rattle.std.proofs.Common.{ap}
 use Rattle.std.specs.Prelude.{nat_eq}
 use Rattle.std.specs.Option.{unwrap_or}
 use Rattle.std.specs.Map.{lookup}
-use Rattle.module_types.proofs.Linking.{linked-none}
+use Rattle.module_types.proofs.Chaining.{linked-none}
 use Rattle.module_types.proofs.met.MetTypes.new.Goals as goal
 
 pub returns-clause-linked : goal.returns-clause-linked

@@ -2,7 +2,7 @@ use Rattle.std.proofs.Common.{◌≡◌, ◌∙◌, ℕ, suc, ◌+◌, length, B
 use Rattle.std.specs.Prelude.{nat_eq, if◌then◌else◌}
 use Rattle.std.specs.HashMap.{get}
 use Rattle.std.specs.Option.{unwrap_or}
-use Rattle.module_types.proofs.Linking.{is-noted}
+use Rattle.module_types.proofs.Chaining.{is-noted}
 use Rattle.module_types.proofs.met.MetTypes.note.Goals as goal
 
 count-or : (b : Bool) (n m : ℕ) (o : Option ℕ) → n ≡ m → unwrap_or (cond b (Some n) o) 0 ≡ (if b then m else unwrap_or o 0)

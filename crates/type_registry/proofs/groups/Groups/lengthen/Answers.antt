@@ -1,10 +1,10 @@
 use Rattle.std.proofs.Common.{arith, ◌≡◌, ◌∙◌, ◌≤◌, ◌-◌, ◌++◌, ℕ, List, length, map, Option, None, sym, ap, subst}
 use Rattle.std.specs.Prelude.{replicate, vec_len}
+use Rattle.std.proofs.lemmas.List.{take_all}
 use Rattle.type_registry.specs.declared.owners.Owner.{Owner}
 use Rattle.type_registry.specs.Registry.{Group}
 use Rattle.type_registry.specs.Owners.{free_count}
 use Rattle.type_registry.specs.Keeping.{kept_from, AreKept, shared_content, first_of}
-use Rattle.type_registry.proofs.Copies.{take-enough}
 use Rattle.type_registry.proofs.Roomier.{kept-more, kept-roomier}
 use Rattle.type_registry.proofs.groups.Groups.lengthen.Goals as goal
 
@@ -25,7 +25,7 @@ invariant_of-self-2 c =
     c.fill.ensures ∙ ap (λ (l : List (Option Group)). l ++ replicate (room - length l) None) c.reserve.ensures.items in
     let owners : c.resize.new.self.items ≡ os ++ replicate n None =
     c.in_ok-resize.ensures.items
-    ∙ ap (λ (l : List (Option Owner)). l ++ replicate (room - vec_len s.owners) None) (take-enough os room (omega (arith, size, c.self.invariant.owners)))
+    ∙ ap (λ (l : List (Option Owner)). l ++ replicate (room - vec_len s.owners) None) (take_all room os (omega (arith, size, c.self.invariant.owners)))
     ∙ ap (λ k. os ++ replicate (room - k) None) long in
     let roomier = kept-roomier shared_content s.live known gs os s.free c.self.invariant n (omega (arith, size, c.requires.few)) in
     subst (λ (l : List (Option Group)). AreKept shared_content s.live known l c.resize.new.self.items c.in_ok-free.free) (sym kept)

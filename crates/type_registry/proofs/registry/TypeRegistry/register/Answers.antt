@@ -1,5 +1,6 @@
 use Rattle.std.proofs.Common.{if◌then◌else◌, arith, ◌≡◌, ◌∙◌, ◌+◌, ℕ, nat_eq, length, map, Option, Some, refl, sym, ap, subst}
 use Rattle.std.specs.Map.{lookup}
+use Rattle.std.proofs.lemmas.Option.{none-some}
 use Rattle.module_types.specs.Views.{span_of}
 use Rattle.type_registry.specs.contracts.registry.TypeRegistry as seen
 use Rattle.type_registry.specs.Registry.{Groups, Module, Registry, RegistryState, registry_of, index_at, indices_of}
@@ -9,7 +10,6 @@ use Rattle.type_registry.specs.Balanced.{IsBalanced}
 use Rattle.type_registry.specs.Planning.{plan}
 use Rattle.type_registry.specs.Counted.{counted}
 use Rattle.type_registry.proofs.Balance.{live-held, registered-index}
-use Rattle.type_registry.proofs.Dropping.{some-none}
 use Rattle.type_registry.proofs.Keeping.{ok-is}
 use Rattle.type_registry.proofs.PlannedLists.{registered-balanced}
 use Rattle.type_registry.proofs.Registered.{registered-stands, others-stand}
@@ -169,7 +169,7 @@ pub returns-clause-others : goal.returns-clause-others
 returns-clause-others c = λ k list st.
     let r = registry_of c.args.self.now in
     let l = c.args.types.now in
-    let differ : k ≡ r.registrations → ⊥ = λ same. some-none st.listed (sym ((before c).unused k (omega (arith, same))) ∙ st.held) in
+    let differ : k ≡ r.registrations → ⊥ = λ same. none-some st.listed (sym ((before c).unused k (omega (arith, same))) ∙ st.held) in
     subst (λ (now : Registry). Stands now k list) (sym (now-is c)) (others-stand c.equality_law.ensures.group r l (may c) list k differ st)
 
 pub returns-clause-indices : goal.returns-clause-indices

@@ -1,0 +1,67 @@
+-- The image rule, memory by memory.
+use Rattle.std.proofs.Common.{◌≡◌, ◌≢◌, ℕ, ◌+◌, ◌^◌, ◌<◌, List, [], length, map, get_or, All, Some, sym, ◌∙◌, ap, subst, arith}
+use Rattle.std.specs.Prelude.{slice_get, nat_lt, ◌==◌, ◌&&◌}
+use Rattle.std.specs.Global.{Vec}
+use Rattle.std.specs.Option.{option_map}
+use Rattle.std.proofs.Math.Logic.{⊎_elim}
+use Rattle.std.proofs.lemmas.Bool.{cases_eq}
+use Rattle.std.proofs.lemmas.List.{length-map}
+use Rattle.std.proofs.lemmas.List.Elements.{All-filter, All-map}
+use Rattle.std.proofs.lemmas.Option.{slice_get-map, slice_get-get_or, same_Some}
+use Rattle.replay_spec.specs.Phases.{Piece}
+use Rattle.replay_spec.specs.Data.{ActiveSegment}
+use Rattle.replay_spec.specs.Images.{ImageOptions, ImageMemory, IsPlaced, bytes_on, end_of, MayBeImage}
+use Rattle.replay_spec.proofs.Placed.{start-placed}
+use Rattle.wasm_types.specs.declared.memory.Memory.{Memory}
+use Rattle.memory_images.specs.declared.laid.Laid.{Laid}
+use Rattle.memory_images.specs.Contents.{piece_of, pieces_in, end_of as laid_end}
+use Rattle.memory_images.specs.Layout.{AreLaid, laid_piece}
+use Rattle.memory_images.specs.Views.{image_memory}
+use Rattle.memory_images.proofs.Lists.{all_mapped}
+
+-- bytes are laid exactly where segments are
+pub some_laid : (laid : List Laid) (ss : List ActiveSegment) → map piece_of laid ≡ map laid_piece ss → 0 < length laid → ss ≢ []
+some_laid laid ss same some none =
+    let n = ap length same in
+    let a = length-map laid piece_of in
+    let b = length-map ss laid_piece in
+    let c = ap length none in
+    omega (arith, n, a, b, c)
+
+-- placed segments end at numbers of 64 bits
+abbrev Fits : Piece ℕ → Type 0
+Fits p = p.offset + length p.items < 2 ^ 64
+
+module _ (imports : ℕ) (memories : List ImageMemory) (active : List ActiveSegment) (all : List (Vec Laid)) (are : AreLaid imports memories active all) where
+  pub fit_on : (m : ℕ) (laid : Vec Laid) → slice_get all m ≡ Some laid → All (λ x. laid_end x < 2 ^ 64) laid.items
+  fit_on m laid at = λ k d l. all_mapped piece_of Fits laid.items k d (subst (All Fits) (sym (are.each m) ∙ ap pieces_in at) segments) l where
+    ends : (s : ActiveSegment) → IsPlaced imports memories s → end_of s < 2 ^ 64
+    ends s p =
+        let start = start-placed imports memories s p in
+        let w = p.within in
+        let k = p.known in
+        omega (arith, start, w, k)
+
+    segments : All Fits (map laid_piece (bytes_on m active))
+    segments = All-map Fits laid_piece (bytes_on m active)
+        (All-filter (λ s. s.memory == m && nat_lt 0 (length s.bytes)) (λ s. end_of s < 2 ^ 64) active (λ k s l. ends (get_or active k s) (are.placed k s l)))
+
+  pub all_fit : All (λ laid. All (λ x. laid_end x < 2 ^ 64) laid.items) all
+  all_fit = λ m d l. fit_on m (get_or all m d) (slice_get-get_or all m d l)
+
+  pub laid_same : (m : ℕ) (laid : Vec Laid) → slice_get all m ≡ Some laid → map piece_of laid.items ≡ map laid_piece (bytes_on m active)
+  laid_same m laid at = sym (ap pieces_in at) ∙ are.each m
+
+pub memory_at : (defined : List Memory) (m : ℕ) (d : Memory) → m < length defined → slice_get (map image_memory defined) m ≡ Some (image_memory (get_or defined m d))
+memory_at defined m d l = slice_get-map image_memory defined m ∙ ap (option_map image_memory) (slice_get-get_or defined m d l)
+
+pub may_more : (options : ImageOptions) (imports : ℕ) (memories : List ImageMemory) (active : List ActiveSegment) (m : ℕ) (first : ImageMemory) → slice_get memories m ≡ Some first
+    → (bytes_on (imports + m) active ≢ [] → MayBeImage options first (bytes_on (imports + m) active))
+    → ((k : ℕ) (memory : ImageMemory) → k < m → slice_get memories k ≡ Some memory → bytes_on (imports + k) active ≢ [] → MayBeImage options memory (bytes_on (imports + k) active))
+    → (k : ℕ) (memory : ImageMemory) → k < m + 1 → slice_get memories k ≡ Some memory → bytes_on (imports + k) active ≢ [] → MayBeImage options memory (bytes_on (imports + k) active)
+may_more options imports memories active m first at may so_far k memory l found = ⊎_elim
+    (λ (is : k ≡ m).
+    let same : first ≡ memory = same_Some first memory (sym at ∙ ap (slice_get memories) (sym is) ∙ found) in
+    rw (is, ← same) may)
+    (λ (ne : k ≢ m). so_far k memory (omega arith) found)
+    (cases_eq k m)

@@ -1,0 +1,78 @@
+-- The images of all memories, and how large they are.
+use Rattle.std.proofs.Common.{◌≡◌, ℕ, suc, ◌+◌, ◌-◌, ◌*◌, ◌/◌, ◌^◌, ◌<◌, ◌≤◌, List, [], ◌∷◌, ◌++◌, length, get_or, sum_by, min, Option, None, Some, refl, sym, ◌∙◌, ap, subst, arith}
+use Rattle.std.specs.Prelude.{slice_get}
+use Rattle.std.specs.Global.{Vec}
+use Rattle.std.proofs.Math.Logic.{⊎_elim}
+use Rattle.std.proofs.lemmas.Bool.{cases_lt}
+use Rattle.std.proofs.lemmas.List.{length_push, get_or_push, get_or_append_left}
+use Rattle.std.proofs.lemmas.List.Sums.{sum_by-cons}
+use Rattle.std.proofs.lemmas.Option.{slice_get-get_or, slice_get_within, get_or_from_slice_get}
+use Rattle.replay_spec.specs.Phases.{last_item}
+use Rattle.replay_spec.specs.Images.{MemoryImage, IsImage, ImageOf, image_bytes}
+use Rattle.replay_spec.proofs.One.{same-first, same-last}
+use Rattle.memory_images.specs.declared.laid.Laid.{Laid}
+use Rattle.memory_images.specs.declared.span.Span.{Span}
+use Rattle.memory_images.specs.Contents.{contents_of, contents_at, pieces_in}
+use Rattle.memory_images.specs.Image.{IsSpan, SpanOf}
+use Rattle.memory_images.specs.Images.{AreListed, span_size}
+
+pub listed_more : {A : Type 0} (R : ℕ → A → Type 0) (n : ℕ) (ys : List A) (y : A) → R n y → AreListed R n ys → AreListed R (n + 1) (ys ++ y ∷ [])
+listed_more R n ys y h so_far =
+    let c = so_far.count in
+    let len = length_push ys y in
+    record {
+      count = omega (arith, c, len);
+      each = λ m answer at.
+          let l = slice_get_within (ys ++ y ∷ []) m answer at in
+          let is : get_or (ys ++ y ∷ []) m answer ≡ answer = get_or_from_slice_get (ys ++ y ∷ []) m answer answer at in
+          ⊎_elim
+          (λ (lt : m < length ys). so_far.each m answer (slice_get-get_or ys m answer lt ∙ ap Some (sym (get_or_append_left ys (y ∷ []) answer m lt) ∙ is)))
+          (λ (ge : length ys ≤ m).
+          let last : length ys ≡ m = omega arith in
+          let same : y ≡ answer = sym (get_or_push ys y answer m last) ∙ is in
+          let number : n ≡ m = omega arith in
+          subst (R m) same (subst (λ k. R k y) number h))
+          (cases_lt m (length ys));
+    }
+
+listed_behind : {A : Type 0} (R : ℕ → A → Type 0) (n : ℕ) (x : A) (xs : List A) → AreListed R (suc n) (x ∷ xs) → AreListed (λ m. R (suc m)) n xs
+listed_behind R n x xs h = record { count = (let c = h.count in omega arith); each = λ m answer at. h.each (suc m) answer at }
+
+-- what holds of the contents of a memory, by its number
+pub span_from : (page : ℕ) (all : List (Vec Laid)) (m : ℕ) (laid : Vec Laid) (span : Option Span) → slice_get all m ≡ Some laid → SpanOf page (contents_at all m) span → SpanOf page (contents_of laid.items) span
+span_from page all m laid span at h = subst (λ o. SpanOf page (λ place. last_item 0 place 0 (pieces_in o)) span) at h
+
+pub image_at : (page : ℕ) (all : List (Vec Laid)) (m : ℕ) (laid : Vec Laid) (image : Option MemoryImage) → slice_get all m ≡ Some laid → ImageOf page (contents_of laid.items) image → ImageOf page (contents_at all m) image
+image_at page all m laid image at h = subst (λ o. ImageOf page (λ place. last_item 0 place 0 (pieces_in o)) image) (sym at) h
+
+size_image : (page : ℕ) (c : ℕ → ℕ) (s : Span) (i : MemoryImage) → IsSpan page c s → IsImage page c i → s.size ≡ min (length i.bytes) (2 ^ 64 - 1)
+size_image page c s i span image =
+    let p = span.pages in
+    let first : span.ends.first ≡ image.first = same-first c span.ends.first image.first span.is_first image.is_first in
+    let last : span.ends.last ≡ image.last = same-last c span.ends.last image.last span.is_last image.is_last in
+    let start : s.start ≡ i.start = p.start ∙ ap (λ n. n / page * page) first ∙ sym image.start in
+    let end : s.start + p.full ≡ i.start + length i.bytes = p.end ∙ ap (λ n. (n / page + 1) * page) last ∙ sym image.end in
+    let size = p.size in
+    omega (arith, start, end, size)
+
+-- spans and images of the same contents pass 4294967295 bytes together
+pub same_sums : (page : ℕ) (contents : ℕ → ℕ → ℕ) (n : ℕ) (spans : List (Option Span)) (images : List (Option MemoryImage))
+    → AreListed (λ m. SpanOf page (contents m)) n spans → AreListed (λ m. ImageOf page (contents m)) n images
+    → min (sum_by span_size spans) (2 ^ 32) ≡ min (sum_by length (image_bytes images)) (2 ^ 32)
+same_sums page contents n [] [] z w = refl
+same_sums page contents n [] (i ∷ is) z w = absurd (let a = z.count in let b = w.count in omega (arith, a, b))
+same_sums page contents n (s ∷ ss) [] z w = absurd (let a = z.count in let b = w.count in omega (arith, a, b))
+same_sums page contents n (s ∷ ss) (i ∷ is) z w = by_first s i (z.each 0 s refl) (w.each 0 i refl) (same_sums page (λ m. contents (suc m)) (length ss) ss is
+    (listed_behind (λ m. SpanOf page (contents m)) (length ss) s ss (record { count = refl; each = z.each }))
+    (listed_behind (λ m. ImageOf page (contents m)) (length ss) i is (record { count = w.count ∙ sym z.count; each = w.each }))) where
+      by_first : (s : Option Span) (i : Option MemoryImage) → SpanOf page (contents 0) s → ImageOf page (contents 0) i
+          → min (sum_by span_size ss) (2 ^ 32) ≡ min (sum_by length (image_bytes is)) (2 ^ 32)
+          → min (sum_by span_size (s ∷ ss)) (2 ^ 32) ≡ min (sum_by length (image_bytes (i ∷ is))) (2 ^ 32)
+      by_first None None a b more = let one = sum_by-cons span_size None ss in omega (arith, one, more)
+      by_first None (Some i) a b more = absurd (b.is_first.nonzero (a b.first))
+      by_first (Some s) None a b more = absurd (a.is_first.nonzero (b a.ends.first))
+      by_first (Some s) (Some i) a b more =
+          let one = sum_by-cons span_size (Some s) ss in
+          let two = sum_by-cons length i.bytes (image_bytes is) in
+          let here = size_image page (contents 0) s i a b in
+          omega (arith, one, two, here, more)

@@ -1,9 +1,0 @@
--- What the operators so far leave, the rest leaves as all of them do.
-use Rattle.std.proofs.Common.{◌≡◌, [], drop}
-use Rattle.replay_spec.specs.Values.{plain_step, run}
-use Rattle.wasm_convert.specs.Constants.{expression_of}
-use Rattle.wasm_convert.specs.Evaluation.{plain_stack}
-use Rattle.wasm_convert.proofs.constants.ConstExpr.const_eval.Given as goal
-
-abbrev pub invariant-loop-op : goal.invariant-loop-op
-invariant-loop-op l = run plain_step (expression_of l.op-items) [] ≡ run plain_step (expression_of (drop l.op-index l.op-items)) (plain_stack l.stack)
