@@ -3,12 +3,13 @@
 ghost use Rattle.std.specs.Prelude.{◌≡◌, ◌↔◌, ◌+◌, ◌≤◌, length, sum_by, All, IsTrue};
 ghost use Rattle.std.specs.List.{flat_map};
 ghost use Rattle.wasm_spec.specs.Module.{bodies_of_section, data_counts_of_section, segments};
-ghost use Rattle.form_data.specs.Views.{body_of, payload_of, module_of};
+ghost use Rattle.form_data.specs.Views.{body_of};
 ghost use Rattle.rule_spec.specs.Rules.{CountsAgree, locals};
+ghost use Rattle.form_lists.specs.Source.{source_module, section_of};
 ghost use Rattle.form_lists.specs.Views.{lists_of};
 
-use form_data::{DataSegment, Form, FunctionBody, Payload};
-use form_lists::{Entry, Lists, entries_of};
+use form_data::{DataSegment, FunctionBody, Payload};
+use form_lists::{Entry, Lists, Section, Source, entries_in, entries_of, sections_of};
 use wasm_spec::ValType;
 
 /// Whether bodies, data segments and locals are as many as is stated or allowed.
@@ -22,20 +23,20 @@ pub fn counts_agree(lists: &Lists<'_, '_>) -> bool
 fn bodies_hold(lists: &Lists<'_, '_>) -> bool
     ensures { IsTrue result
         ↔ (length lists.now.spaces.functions.items
-        ≡ lists.now.imported_functions + length (flat_map bodies_of_section (module_of lists.now.form.now))) }
+        ≡ lists.now.imported_functions + length (flat_map bodies_of_section (source_module lists.now.source))) }
 {
     let functions = lists.spaces.functions.len();
     lists.imported_functions <= functions
-        && has_entries::<FunctionBody<'_>>(lists.form, functions - lists.imported_functions)
+        && has_entries::<FunctionBody<'_>>(lists.source, functions - lists.imported_functions)
 }
 
 /// Whether a module has this many entries of one kind.
-fn has_entries<'d, T: Entry<'d>>(form: &Form<'d>, count: usize) -> bool
-    ensures { IsTrue result ↔ (count ≡ length (flat_map T.of_section (module_of form.now))) }
+fn has_entries<'d, T: Entry<'d>>(source: Source<'_, 'd>, count: usize) -> bool
+    ensures { IsTrue result ↔ (count ≡ length (flat_map T.of_section (source_module source.entry))) }
 {
     let mut left = count;
-    for payload in &form.payloads {
-        let here = T::in_section(payload).len();
+    for section in sections_of(source) {
+        let here = entries_in::<T>(section).len();
         if left < here {
             return false;
         }
@@ -47,32 +48,36 @@ fn has_entries<'d, T: Entry<'d>>(form: &Form<'d>, count: usize) -> bool
 /// Whether each stated number of data segments is the number of data segments.
 fn data_counts_hold(lists: &Lists<'_, '_>) -> bool
     ensures { IsTrue result
-        ↔ All (λ count. count ≡ length (segments (module_of lists.now.form.now)))
-        (flat_map data_counts_of_section (module_of lists.now.form.now)) }
+        ↔ All (λ count. count ≡ length (segments (source_module lists.now.source)))
+        (flat_map data_counts_of_section (source_module lists.now.source)) }
 {
-    lists
-        .form
-        .payloads
-        .iter()
-        .all(|payload| data_count_holds(lists, payload))
+    for section in sections_of(lists.source) {
+        if !data_count_holds(lists, section) {
+            return false;
+        }
+    }
+    true
 }
 
-fn data_count_holds(lists: &Lists<'_, '_>, payload: &Payload<'_>) -> bool
+fn data_count_holds(lists: &Lists<'_, '_>, section: Section<'_, '_>) -> bool
     ensures { IsTrue result
-        ↔ All (λ count. count ≡ length (segments (module_of lists.now.form.now)))
-        (data_counts_of_section (payload_of payload.now)) }
+        ↔ All (λ count. count ≡ length (segments (source_module lists.now.source)))
+        (data_counts_of_section (section_of section.entry)) }
 {
-    match payload {
-        Payload::DataCount(count) => has_entries::<DataSegment<'_>>(lists.form, *count as usize),
+    match section {
+        Section::Read(Payload::DataCount(count)) => {
+            let count = *count as usize;
+            has_entries::<DataSegment<'_>>(lists.source, count)
+        }
         _ => true,
     }
 }
 
 fn locals_hold(lists: &Lists<'_, '_>) -> bool
     ensures { IsTrue result
-        ↔ All (λ b. locals b ≤ 4294967295) (flat_map bodies_of_section (module_of lists.now.form.now)) }
+        ↔ All (λ b. locals b ≤ 4294967295) (flat_map bodies_of_section (source_module lists.now.source)) }
 {
-    entries_of::<FunctionBody<'_>>(lists.form).all(body_fits)
+    entries_of::<FunctionBody<'_>>(lists.source).all(body_fits)
 }
 
 fn body_fits(body: &FunctionBody<'_>) -> bool

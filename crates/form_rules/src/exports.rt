@@ -4,9 +4,10 @@ ghost use Rattle.std.specs.Prelude.{◌≡◌, ◌↔◌, All, IsTrue, IfOk};
 ghost use Rattle.std.specs.Hash.DefaultHasher as sip;
 ghost use Rattle.std.specs.List.{flat_map, fold};
 ghost use Rattle.wasm_spec.specs.Module.{exports_of_section};
-ghost use Rattle.form_data.specs.Views.{export_of, module_of};
+ghost use Rattle.form_data.specs.Views.{export_of};
 ghost use Rattle.rule_spec.specs.Indices.{IsInSpace, space_size};
 ghost use Rattle.rule_spec.specs.Rules.{AreExported, AreDistinct};
+ghost use Rattle.form_lists.specs.Source.{source_module};
 ghost use Rattle.form_lists.specs.Views.{lists_of};
 ghost use Rattle.form_rules.specs.Names.{names_of};
 
@@ -31,10 +32,10 @@ pub fn exports_hold(alloc: Global, lists: &Lists<'_, '_>) -> Result<bool, AllocE
 /// Whether no two exports have one name.
 fn names_are_distinct(alloc: Global, lists: &Lists<'_, '_>) -> Result<bool, AllocError>
     ensures { IfOk result (λ distinct. IsTrue distinct
-        ↔ AreDistinct (flat_map exports_of_section (module_of lists.now.form.now))) }
+        ↔ AreDistinct (flat_map exports_of_section (source_module lists.now.source))) }
 {
     let mut names = HashSet::with_hasher(alloc, Seeded::new(seed_of_names(lists)));
-    for export in entries_of::<Export<'_>>(lists.form) {
+    for export in entries_of::<Export<'_>>(lists.source) {
         if !names.insert(export.name)? {
             return Ok(false);
         }
@@ -44,10 +45,10 @@ fn names_are_distinct(alloc: Global, lists: &Lists<'_, '_>) -> Result<bool, Allo
 
 /// A digest of all names, from which hashes begin: names that are chosen to collide change it as well.
 fn seed_of_names(lists: &Lists<'_, '_>) -> u64
-    ensures { result ≡ sip.finish (fold sip.write sip.initial (names_of (flat_map exports_of_section (module_of lists.now.form.now)))) }
+    ensures { result ≡ sip.finish (fold sip.write sip.initial (names_of (flat_map exports_of_section (source_module lists.now.source)))) }
 {
     let mut digest = DefaultHasher::new();
-    for export in entries_of::<Export<'_>>(lists.form) {
+    for export in entries_of::<Export<'_>>(lists.source) {
         digest.write(export.name.as_bytes());
     }
     digest.finish()
@@ -55,9 +56,9 @@ fn seed_of_names(lists: &Lists<'_, '_>) -> u64
 
 /// Whether each export names an entry of its index space.
 fn in_space_hold(lists: &Lists<'_, '_>) -> bool
-    ensures { IsTrue result ↔ All (IsInSpace (lists_of lists.now)) (flat_map exports_of_section (module_of lists.now.form.now)) }
+    ensures { IsTrue result ↔ All (IsInSpace (lists_of lists.now)) (flat_map exports_of_section (source_module lists.now.source)) }
 {
-    entries_of::<Export<'_>>(lists.form).all(|export| is_in_space(lists, export))
+    entries_of::<Export<'_>>(lists.source).all(|export| is_in_space(lists, export))
 }
 
 fn is_in_space(lists: &Lists<'_, '_>, export: &Export<'_>) -> bool

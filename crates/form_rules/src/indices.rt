@@ -1,28 +1,39 @@
 //! Indices of segments (core specification, 3.5, element and data segments).
 
-ghost use Rattle.std.specs.Prelude.{◌≡◌, ◌↔◌, ◌<◌, length, All, IsTrue};
+ghost use Rattle.std.specs.Prelude.{◌≡◌, ◌↔◌, ◌<◌, length, All, IsTrue, IfOk};
 ghost use Rattle.std.specs.List.{flat_map};
 ghost use Rattle.wasm_spec.specs.Module.{segments, elements_of_section};
-ghost use Rattle.form_data.specs.Views.{element_of, element_kind_of, items_of, data_kind_of, module_of};
+ghost use Rattle.form_data.specs.Views.{element_of, element_kind_of, items_of, data_kind_of};
 ghost use Rattle.rule_spec.specs.Indices.{NamesMemory, NamesTable, NamesFunctions, IsElementInRange};
 ghost use Rattle.rule_spec.specs.Rules.{AreInRange};
+ghost use Rattle.form_lists.specs.Source.{source_module};
 ghost use Rattle.form_lists.specs.Views.{lists_of};
 
 use form_data::{DataKind, DataSegment, Element, ElementItems, ElementKind};
-use form_lists::{Lists, entries_of};
+use form_lists::{Lists, elements_of, entries_of};
+use std::alloc::{AllocError, Global};
 
 /// Whether what segments name is in range.
-pub fn indices_hold(lists: &Lists<'_, '_>) -> bool
-    ensures { IsTrue result ↔ AreInRange (lists_of lists.now) }
+pub fn indices_hold(alloc: Global, lists: &Lists<'_, '_>) -> Result<bool, AllocError>
+    ensures { IfOk result (λ hold. IsTrue hold ↔ AreInRange (lists_of lists.now)) }
 {
-    elements_hold(lists) && segments_hold(lists)
+    if !segments_hold(lists) {
+        return Ok(false);
+    }
+    elements_hold(alloc, lists)
 }
 
-fn elements_hold(lists: &Lists<'_, '_>) -> bool
-    ensures { IsTrue result
-        ↔ All (IsElementInRange (lists_of lists.now)) (flat_map elements_of_section (module_of lists.now.form.now)) }
+fn elements_hold(alloc: Global, lists: &Lists<'_, '_>) -> Result<bool, AllocError>
+    ensures { IfOk result (λ hold. IsTrue hold
+        ↔ All (IsElementInRange (lists_of lists.now)) (flat_map elements_of_section (source_module lists.now.source))) }
 {
-    entries_of::<Element>(lists.form).all(|element| is_in_range(lists, element))
+    let mut elements = elements_of(alloc, lists.source);
+    while elements.advance()? {
+        if !is_in_range(lists, elements.segment()) {
+            return Ok(false);
+        }
+    }
+    Ok(true)
 }
 
 fn is_in_range(lists: &Lists<'_, '_>, element: &Element) -> bool
@@ -59,9 +70,9 @@ fn all_below(indices: &[u32], bound: usize) -> bool
 
 fn segments_hold(lists: &Lists<'_, '_>) -> bool
     ensures { IsTrue result
-        ↔ All (λ s. NamesMemory (lists_of lists.now) s.kind) (segments (module_of lists.now.form.now)) }
+        ↔ All (λ s. NamesMemory (lists_of lists.now) s.kind) (segments (source_module lists.now.source)) }
 {
-    entries_of::<DataSegment<'_>>(lists.form).all(|segment| names_memory(lists, &segment.kind))
+    entries_of::<DataSegment<'_>>(lists.source).all(|segment| names_memory(lists, &segment.kind))
 }
 
 fn names_memory(lists: &Lists<'_, '_>, kind: &DataKind) -> bool

@@ -1,11 +1,12 @@
 //! Concrete references outside the type section (core specification, 3.2).
 
-ghost use Rattle.std.specs.Prelude.{◌↔◌, map, length, All, IsTrue};
+ghost use Rattle.std.specs.Prelude.{◌↔◌, map, length, All, IsTrue, IfOk};
 ghost use Rattle.std.specs.List.{flat_map};
 ghost use Rattle.wasm_spec.specs.TypeData.{heap_of};
 ghost use Rattle.wasm_spec.specs.Module.{imports, segments, tables_of_section, globals_of_section, elements_of_section, bodies_of_section};
-ghost use Rattle.form_data.specs.Views.{table_of, global_of, element_of, element_kind_of, items_of, body_of, data_kind_of, expression_of, module_of};
+ghost use Rattle.form_data.specs.Views.{table_of, global_of, element_of, element_kind_of, items_of, body_of, data_kind_of, expression_of};
 ghost use Rattle.rule_spec.specs.References.{RefersIn, ValueRefersIn, ImportRefersIn, OperatorRefersIn, ExpressionRefersIn, TableRefersIn, GlobalRefersIn, ElementKindRefersIn, ItemsReferIn, ElementRefersIn, BodyRefersIn, DataKindRefersIn, AllReferIn};
+ghost use Rattle.form_lists.specs.Source.{source_module};
 ghost use Rattle.form_lists.specs.Views.{lists_of};
 
 use crate::type_rules::{heap_is_below, value_is_below};
@@ -13,20 +14,24 @@ use form_data::{
     ConstExpr, DataKind, DataSegment, Element, ElementItems, ElementKind, FunctionBody, GlobalDef,
     Import, TableDef,
 };
-use form_lists::{Lists, entries_of};
+use form_lists::{Lists, elements_of, entries_of};
+use std::alloc::{AllocError, Global};
 use wasm_spec::{Operator, TypeRef};
 
 /// Whether each concrete reference outside the type section names one of the declared types.
-pub fn references_hold(lists: &Lists<'_, '_>) -> bool
-    ensures { IsTrue result ↔ AllReferIn (length lists.now.types.items) (lists_of lists.now) }
+pub fn references_hold(alloc: Global, lists: &Lists<'_, '_>) -> Result<bool, AllocError>
+    ensures { IfOk result (λ hold. IsTrue hold ↔ AllReferIn (length lists.now.types.items) (lists_of lists.now)) }
 {
     let types = lists.types.len();
-    imports_refer(types, lists)
+    let others_refer = imports_refer(types, lists)
         && tables_refer(types, lists)
         && globals_refer(types, lists)
-        && elements_refer(types, lists)
         && bodies_refer(types, lists)
-        && segments_refer(types, lists)
+        && segments_refer(types, lists);
+    if !others_refer {
+        return Ok(false);
+    }
+    elements_refer(alloc, types, lists)
 }
 
 // ---- expressions
@@ -57,9 +62,9 @@ fn all_expressions_refer(types: usize, expressions: &[ConstExpr]) -> bool
 // ---- imports
 
 fn imports_refer(types: usize, lists: &Lists<'_, '_>) -> bool
-    ensures { IsTrue result ↔ All (λ i. ImportRefersIn types i.type) (imports (module_of lists.now.form.now)) }
+    ensures { IsTrue result ↔ All (λ i. ImportRefersIn types i.type) (imports (source_module lists.now.source)) }
 {
-    entries_of::<Import<'_>>(lists.form).all(|import| import_refers(types, &import.ty))
+    entries_of::<Import<'_>>(lists.source).all(|import| import_refers(types, &import.ty))
 }
 
 fn import_refers(types: usize, ty: &TypeRef) -> bool
@@ -76,9 +81,9 @@ fn import_refers(types: usize, ty: &TypeRef) -> bool
 
 fn tables_refer(types: usize, lists: &Lists<'_, '_>) -> bool
     ensures { IsTrue result
-        ↔ All (TableRefersIn types) (flat_map tables_of_section (module_of lists.now.form.now)) }
+        ↔ All (TableRefersIn types) (flat_map tables_of_section (source_module lists.now.source)) }
 {
-    entries_of::<TableDef>(lists.form).all(|table| table_refers(types, table))
+    entries_of::<TableDef>(lists.source).all(|table| table_refers(types, table))
 }
 
 fn table_refers(types: usize, table: &TableDef) -> bool
@@ -95,9 +100,9 @@ fn table_refers(types: usize, table: &TableDef) -> bool
 
 fn globals_refer(types: usize, lists: &Lists<'_, '_>) -> bool
     ensures { IsTrue result
-        ↔ All (GlobalRefersIn types) (flat_map globals_of_section (module_of lists.now.form.now)) }
+        ↔ All (GlobalRefersIn types) (flat_map globals_of_section (source_module lists.now.source)) }
 {
-    entries_of::<GlobalDef>(lists.form).all(|global| global_refers(types, global))
+    entries_of::<GlobalDef>(lists.source).all(|global| global_refers(types, global))
 }
 
 fn global_refers(types: usize, global: &GlobalDef) -> bool
@@ -108,11 +113,17 @@ fn global_refers(types: usize, global: &GlobalDef) -> bool
 
 // ---- element segments
 
-fn elements_refer(types: usize, lists: &Lists<'_, '_>) -> bool
-    ensures { IsTrue result
-        ↔ All (ElementRefersIn types) (flat_map elements_of_section (module_of lists.now.form.now)) }
+fn elements_refer(alloc: Global, types: usize, lists: &Lists<'_, '_>) -> Result<bool, AllocError>
+    ensures { IfOk result (λ hold. IsTrue hold
+        ↔ All (ElementRefersIn types) (flat_map elements_of_section (source_module lists.now.source))) }
 {
-    entries_of::<Element>(lists.form).all(|element| element_refers(types, element))
+    let mut elements = elements_of(alloc, lists.source);
+    while elements.advance()? {
+        if !element_refers(types, elements.segment()) {
+            return Ok(false);
+        }
+    }
+    Ok(true)
 }
 
 fn element_refers(types: usize, element: &Element) -> bool
@@ -145,9 +156,9 @@ fn items_refer(types: usize, items: &ElementItems) -> bool
 
 fn bodies_refer(types: usize, lists: &Lists<'_, '_>) -> bool
     ensures { IsTrue result
-        ↔ All (BodyRefersIn types) (flat_map bodies_of_section (module_of lists.now.form.now)) }
+        ↔ All (BodyRefersIn types) (flat_map bodies_of_section (source_module lists.now.source)) }
 {
-    entries_of::<FunctionBody<'_>>(lists.form).all(|body| body_refers(types, body))
+    entries_of::<FunctionBody<'_>>(lists.source).all(|body| body_refers(types, body))
 }
 
 fn body_refers(types: usize, body: &FunctionBody<'_>) -> bool
@@ -158,9 +169,12 @@ fn body_refers(types: usize, body: &FunctionBody<'_>) -> bool
 
 fn segments_refer(types: usize, lists: &Lists<'_, '_>) -> bool
     ensures { IsTrue result
-        ↔ All (λ s. DataKindRefersIn types s.kind) (segments (module_of lists.now.form.now)) }
+        ↔ All (λ s. DataKindRefersIn types s.kind) (segments (source_module lists.now.source)) }
 {
-    entries_of::<DataSegment<'_>>(lists.form).all(|segment| data_kind_refers(types, &segment.kind))
+    entries_of::<DataSegment<'_>>(lists.source).all(|segment| data_kind_refers(
+        types,
+        &segment.kind,
+    ))
 }
 
 fn data_kind_refers(types: usize, kind: &DataKind) -> bool

@@ -5,6 +5,7 @@ ghost use Rattle.rule_spec.specs.declared.rules.Rule.{Rule};
 ghost use Rattle.form_data.specs.Views.{module_of};
 ghost use Rattle.rule_spec.specs.Lists.{lists_of_module};
 ghost use Rattle.rule_spec.specs.Rules.{Satisfies, Keeps, KeepsBefore};
+ghost use Rattle.form_lists.specs.Source.{source_module};
 ghost use Rattle.form_lists.specs.Views.{lists_of};
 ghost use Rattle.form_rules.specs.Outcomes.{ChecksOrNoMemory, HasGlobals};
 
@@ -18,7 +19,7 @@ use crate::start::starts_hold;
 use crate::tables::initialisers_hold;
 use crate::type_rules::{types_are_named, types_hold};
 use form_data::Form;
-use form_lists::{Lists, gather_lists};
+use form_lists::{Lists, Source, gather_lists};
 use form_typing::expressions_hold;
 use rule_spec::Rule;
 use std::alloc::{AllocError, Global};
@@ -49,7 +50,7 @@ pub fn check(alloc: Global, form: &Form<'_>) -> Result<(), CheckError>
     // What keeps the rules passes, unless memory runs out.
     ensures complete { Keeps (module_of form.now) → ChecksOrNoMemory result }
 {
-    checked_lists(alloc, form)?;
+    checked_lists(alloc, Source::Form(form))?;
     Ok(())
 }
 
@@ -57,15 +58,18 @@ pub fn check(alloc: Global, form: &Form<'_>) -> Result<(), CheckError>
 ///
 /// # Errors
 /// Those of `check`.
-pub fn checked_lists<'f, 'd>(alloc: Global, form: &'f Form<'d>) -> Result<Lists<'f, 'd>, CheckError>
-    ensures lists { IfOk result (λ l. lists_of l ≡ lists_of_module (module_of form.now)) }
-    ensures of_form { IfOk result (λ l. l.form ≡ form.entry) }
-    ensures kept { OnOk result (Keeps (module_of form.now)) }
-    ensures broken { (rule : Rule) → result ≡ Err (CheckError.Invalid rule) → ¬ Satisfies rule (lists_of_module (module_of form.now)) }
-    ensures first { (rule : Rule) → result ≡ Err (CheckError.Invalid rule) → KeepsBefore rule (module_of form.now) }
-    ensures complete { Keeps (module_of form.now) → ChecksOrNoMemory result }
+pub fn checked_lists<'f, 'd>(
+    alloc: Global,
+    source: Source<'f, 'd>,
+) -> Result<Lists<'f, 'd>, CheckError>
+    ensures lists { IfOk result (λ l. lists_of l ≡ lists_of_module (source_module source.entry)) }
+    ensures of_source { IfOk result (λ l. l.source ≡ source.entry) }
+    ensures kept { OnOk result (Keeps (source_module source.entry)) }
+    ensures broken { (rule : Rule) → result ≡ Err (CheckError.Invalid rule) → ¬ Satisfies rule (lists_of_module (source_module source.entry)) }
+    ensures first { (rule : Rule) → result ≡ Err (CheckError.Invalid rule) → KeepsBefore rule (source_module source.entry) }
+    ensures complete { Keeps (source_module source.entry) → ChecksOrNoMemory result }
 {
-    let lists = gather_lists(alloc, form)?;
+    let lists = gather_lists(alloc, source)?;
     for rule in RULES {
         if !keeps(alloc, rule, &lists)? {
             return Err(CheckError::Invalid(rule));
@@ -87,7 +91,7 @@ fn keeps(alloc: Global, rule: Rule, lists: &Lists<'_, '_>) -> Result<bool, Alloc
         Rule::L6 => expressions_hold(alloc, lists),
         Rule::L7 => exports_hold(alloc, lists),
         Rule::L8 => Ok(starts_hold(lists)),
-        Rule::L9 => Ok(indices_hold(lists)),
-        Rule::L10 => Ok(references_hold(lists)),
+        Rule::L9 => indices_hold(alloc, lists),
+        Rule::L10 => references_hold(alloc, lists),
     }
 }

@@ -3,29 +3,31 @@
 ghost use Rattle.std.specs.Prelude.{◌↔◌, All, IsTrue};
 ghost use Rattle.std.specs.List.{flat_map};
 ghost use Rattle.wasm_spec.specs.Module.{starts_of_section};
-ghost use Rattle.form_data.specs.Views.{composite_of, payload_of, module_of};
+ghost use Rattle.form_data.specs.Views.{composite_of};
 ghost use Rattle.rule_spec.specs.Indices.{TakesAndGivesNothing, CanStart};
+ghost use Rattle.form_lists.specs.Source.{source_module, section_of};
 ghost use Rattle.form_lists.specs.Views.{lists_of};
 
 use form_data::{CompositeInnerType, Payload};
-use form_lists::Lists;
+use form_lists::{Lists, Section, sections_of};
 
 /// Whether the start function, where there is one, can start.
 pub fn starts_hold(lists: &Lists<'_, '_>) -> bool
-    ensures { IsTrue result ↔ All (CanStart (lists_of lists.now)) (flat_map starts_of_section (module_of lists.now.form.now)) }
+    ensures { IsTrue result ↔ All (CanStart (lists_of lists.now)) (flat_map starts_of_section (source_module lists.now.source)) }
 {
-    lists
-        .form
-        .payloads
-        .iter()
-        .all(|payload| section_can_start(lists, payload))
+    for section in sections_of(lists.source) {
+        if !section_can_start(lists, section) {
+            return false;
+        }
+    }
+    true
 }
 
-fn section_can_start(lists: &Lists<'_, '_>, payload: &Payload<'_>) -> bool
-    ensures { IsTrue result ↔ All (CanStart (lists_of lists.now)) (starts_of_section (payload_of payload.now)) }
+fn section_can_start(lists: &Lists<'_, '_>, section: Section<'_, '_>) -> bool
+    ensures { IsTrue result ↔ All (CanStart (lists_of lists.now)) (starts_of_section (section_of section.entry)) }
 {
-    match payload {
-        Payload::Start(function) => can_start(lists, *function),
+    match section {
+        Section::Read(Payload::Start(function)) => can_start(lists, *function),
         _ => true,
     }
 }

@@ -3,17 +3,18 @@
 ghost use Rattle.std.specs.Prelude.{◌↔◌, All, IsTrue};
 ghost use Rattle.std.specs.List.{flat_map};
 ghost use Rattle.wasm_spec.specs.Module.{tables_of_section};
-ghost use Rattle.form_data.specs.Views.{table_of, module_of};
+ghost use Rattle.form_data.specs.Views.{table_of};
 ghost use Rattle.rule_spec.specs.Rules.{IsInitialised};
+ghost use Rattle.form_lists.specs.Source.{source_module};
 
 use form_data::TableDef;
 use form_lists::{Lists, entries_of};
 
 /// Whether each defined table whose cells cannot be null says what they hold at first.
 pub fn initialisers_hold(lists: &Lists<'_, '_>) -> bool
-    ensures { IsTrue result ↔ All IsInitialised (flat_map tables_of_section (module_of lists.now.form.now)) }
+    ensures { IsTrue result ↔ All IsInitialised (flat_map tables_of_section (source_module lists.now.source)) }
 {
-    entries_of::<TableDef>(lists.form).all(is_initialised)
+    entries_of::<TableDef>(lists.source).all(is_initialised)
 }
 
 fn is_initialised(table: &TableDef) -> bool

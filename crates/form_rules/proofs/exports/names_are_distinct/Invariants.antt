@@ -1,9 +1,10 @@
 use Rattle.std.specs.List.{flat_map}
 use Rattle.wasm_spec.specs.Module.{exports_of_section}
-use Rattle.form_data.specs.Views.{export_of, module_of}
+use Rattle.form_data.specs.Views.{export_of}
+use Rattle.form_lists.specs.Source.{source_module}
 use Rattle.form_lists.specs.Sections.{entries_left}
 use Rattle.form_rules.proofs.ExportNames.{Gathers}
 use Rattle.form_rules.proofs.exports.names_are_distinct.Given as goal
 
 abbrev pub invariant-loop-export : goal.invariant-loop-export
-invariant-loop-export l = Gathers l.names (entries_left export_of exports_of_section l.export-iterator) (flat_map exports_of_section (module_of l.lists.form.now))
+invariant-loop-export l = Gathers l.names (entries_left export_of exports_of_section l.export-iterator) (flat_map exports_of_section (source_module l.lists.source))

@@ -2,7 +2,8 @@ use Rattle.std.proofs.Common.{◌≡◌}
 use Rattle.std.specs.Hash.DefaultHasher as sip
 use Rattle.std.specs.List.{flat_map, fold}
 use Rattle.wasm_spec.specs.Module.{exports_of_section}
-use Rattle.form_data.specs.Views.{export_of, module_of}
+use Rattle.form_data.specs.Views.{export_of}
+use Rattle.form_lists.specs.Source.{source_module}
 use Rattle.form_lists.specs.Sections.{entries_left}
 use Rattle.form_rules.specs.Names.{names_of}
 use Rattle.form_rules.proofs.exports.seed_of_names.Given as goal
@@ -10,4 +11,4 @@ use Rattle.form_rules.proofs.exports.seed_of_names.Given as goal
 -- the names that are left are still to be taken
 abbrev pub invariant-loop-export : goal.invariant-loop-export
 invariant-loop-export l = fold sip.write l.digest (names_of (entries_left export_of exports_of_section l.export-iterator))
-    ≡ fold sip.write sip.initial (names_of (flat_map exports_of_section (module_of l.lists.form.now)))
+    ≡ fold sip.write sip.initial (names_of (flat_map exports_of_section (source_module l.lists.source)))
