@@ -1,4 +1,4 @@
-use Rattle.std.proofs.Common.{◌≡◌, ◌++◌, List, All}
+use Rattle.std.proofs.Common.{◌≡◌, ◌++◌, List}
 use Rattle.std.specs.List.{flat_map}
 use Rattle.wasm_spec.specs.Module.{Element, elements_of_section}
 use Rattle.form_data.specs.Views.{element_of, module_of}
