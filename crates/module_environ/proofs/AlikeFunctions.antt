@@ -1,5 +1,5 @@
 -- The metadata of the functions of a module, by look-ups that agree on its declared types.
-use Rattle.std.proofs.Common.{◌≡◌, ◌∙◌, ℕ, ◌+◌, ◌<◌, ◌≤◌, ◌⊎◌, List, [], ◌∷◌, ◌++◌, Option, Some, None, length, map, take, get_or, refl, sym, ap, subst, arith, inl, inr, length-append}
+use Rattle.std.proofs.Common.{◌≡◌, ◌∙◌, ℕ, ◌+◌, ◌<◌, ◌≤◌, ◌⊎◌, List, [], ◌∷◌, ◌++◌, Option, Some, None, length, map, get_or, refl, sym, ap, subst, arith, inl, inr, length-append}
 use Rattle.std.specs.Prelude.{All, slice_get, unwrap_or}
 use Rattle.std.specs.List.{flat_map, enumerate_from}
 use Rattle.std.specs.Option.{option_map}
@@ -13,7 +13,7 @@ use Rattle.wasm_spec.specs.declared.types.ValType.{ValType}
 use Rattle.wasm_spec.specs.TypeData.{Value, Composite, Func, Group, SubType, value_edges, map_value, value_of}
 use Rattle.wasm_spec.specs.Module.{Body}
 use Rattle.wasm_spec.specs.Module as plain
-use Rattle.rule_spec.specs.declared.rules.Rule.TheVariants.{L1, L3, L10}
+use Rattle.rule_spec.specs.declared.rules.Rule.TheVariants.{L1, L3}
 use Rattle.rule_spec.specs.Lists.{Declared, declared_from, declared_groups, lists_of_module, kind_at}
 use Rattle.rule_spec.specs.Lists as rule
 use Rattle.rule_spec.specs.References.{ValueRefersIn, BodyRefersIn}

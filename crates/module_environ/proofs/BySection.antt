@@ -2,7 +2,7 @@
 use Rattle.std.proofs.Common.{◌≡◌, ◌∙◌, ℕ, ◌+◌, ◌<◌, ◌≤◌, suc, List, [], ◌∷◌, ◌++◌, length, map, take, drop, get_or, sym, ap, subst, arith, drop-cons}
 use Rattle.std.specs.Prelude.{All}
 use Rattle.std.specs.List.{flat_map}
-use Rattle.std.proofs.lemmas.List.{append-nil, length-append, length-map, map-append, map_more, map_push, take_more, take-append-drop, get_or-map, get_or_append_left, get_or-append-add}
+use Rattle.std.proofs.lemmas.List.{append-nil, length-append, length-map, map-append, map_more, map_push, take_more, take-append-drop, get_or-map}
 use Rattle.std.proofs.lemmas.List.Concat.{flat_map-append}
 
 -- a list is what stands before an item, the item and what stands after it

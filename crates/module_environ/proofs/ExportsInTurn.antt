@@ -1,10 +1,10 @@
 -- Exports, entered one after another.
-use Rattle.std.proofs.Common.{◌≡◌, ◌≢◌, ◌<◌, ℕ, ◌+◌, Bool, true, false, cond, List, [], ◌∷◌, ◌++◌, length, map, take, drop, get_or, slice_get, unwrap_or, All, IfSome, Some, nat_eq, inl, inr, refl, sym, ap, subst, ◌∙◌, append_assoc, arith}
+use Rattle.std.proofs.Common.{◌≡◌, ◌≢◌, ◌<◌, ℕ, Bool, true, false, cond, List, [], ◌∷◌, ◌++◌, length, map, get_or, slice_get, unwrap_or, All, IfSome, Some, nat_eq, inl, inr, refl, sym, ap, subst, ◌∙◌, arith}
 use Rattle.std.specs.List.{flat_map}
 use Rattle.std.proofs.lemmas.List.{length-append, get_or_append_left, get_or_at, map_push}
 use Rattle.std.proofs.lemmas.Bool.Decides.{eqb_tells}
 use Rattle.std.proofs.lemmas.Option.{slice_get_within}
-use Rattle.std.proofs.lemmas.List.Elements.{All-head, All-tail, All-same, All-push, All-map, All-weaker, All-get_or, All-from_get_or, filter_map-append}
+use Rattle.std.proofs.lemmas.List.Elements.{All-head, All-tail, All-same, All-push, All-map, All-weaker, All-from_get_or}
 use Rattle.indexmap.specs.IndexMap.{insert_entry}
 use Rattle.entity_map.specs.Entity.{reserved_number}
 use Rattle.entity_map.specs.Pool.{atom_number, with_text}

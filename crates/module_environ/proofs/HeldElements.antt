@@ -1,10 +1,10 @@
 -- Element segments, held one after another.
-use Rattle.std.proofs.Common.{◌≡◌, ◌≢◌, ◌∙◌, ℕ, ◌+◌, ◌<◌, ◌≤◌, zero, suc, Bool, true, false, List, [], ◌∷◌, ◌++◌, length, map, Option, None, Some, refl, sym, ap, subst, arith, inl, inr, append_assoc}
+use Rattle.std.proofs.Common.{◌≡◌, ◌≢◌, ◌∙◌, ℕ, ◌+◌, ◌<◌, ◌≤◌, zero, suc, Bool, true, false, List, [], ◌∷◌, ◌++◌, length, map, Option, None, Some, refl, sym, ap, subst, arith, inl, inr}
 use Rattle.std.specs.Prelude.{slice_get, unwrap_or, if◌then◌else◌}
 use Rattle.std.specs.Option.{option_map}
 use Rattle.std.specs.List.{cons_option}
 use Rattle.std.proofs.lemmas.Bool.Decides.{eqb_tells}
-use Rattle.std.proofs.lemmas.List.{append-nil, length-append, length_push, length-map, map-append}
+use Rattle.std.proofs.lemmas.List.{append-nil, length_push, length-map, map-append}
 use Rattle.std.proofs.lemmas.List.Elements.{filter-append, filter_map-append}
 use Rattle.entity_map.specs.Secondary.{Defaulted, value_at, with_value}
 use Rattle.entity_map.proofs.SecondaryLemmas.{value_at-with_value, value_at-with_value_elsewhere}
@@ -21,7 +21,7 @@ use Rattle.wasm_module.specs.Elements.{element_type, element_count}
 use Rattle.replay_spec.specs.Startup.{is_passive, passive_elements}
 use Rattle.module_environ.specs.declared.elements.ElementSegments.{ElementSegments}
 use Rattle.module_environ.specs.Initialisers.{ActiveItems, Items, active_in, active_elements, view_segment, passive_items, items_in, view_items, passive_numbers}
-use Rattle.module_environ.specs.Segments.{HoldsElements, AddsElements, HasRoom}
+use Rattle.module_environ.specs.Segments.{HoldsElements, HasRoom}
 
 -- ---- numbers among the passive ones
 

@@ -1,7 +1,7 @@
 -- Imports, counted and given their entities one after another.
-use Rattle.std.proofs.Common.{◌≡◌, ◌≤◌, ◌<◌, ◌^◌, ℕ, ◌+◌, List, [], ◌∷◌, ◌++◌, length, map, take, get_or, Option, None, Some, suc, refl, sym, ap, subst, ◌∙◌, append_assoc, arith}
+use Rattle.std.proofs.Common.{◌≡◌, ◌≤◌, ◌<◌, ◌^◌, ℕ, ◌+◌, List, [], ◌∷◌, ◌++◌, length, Option, None, Some, suc, refl, sym, ap, subst, ◌∙◌, append_assoc, arith}
 use Rattle.std.specs.List.{filter_map, flat_map, cons_option}
-use Rattle.std.proofs.lemmas.List.{append-nil, length-append, length-map, length-take-le, map_more, map_push}
+use Rattle.std.proofs.lemmas.List.{append-nil, length-append, map_push}
 use Rattle.std.proofs.lemmas.List.Concat.{flat_map-append}
 use Rattle.std.proofs.lemmas.List.Elements.{All-push, All-weaker, filter_map-append}
 use Rattle.wasm_spec.specs.declared.entities.TypeRef.{TypeRef}
@@ -11,8 +11,6 @@ use Rattle.wasm_index.specs.Index.{index_of}
 use Rattle.wasm_types.specs.declared.entity.EntityIndex.{EntityIndex}
 use Rattle.wasm_types.specs.declared.entity.EntityIndex.TheVariants as entity
 use Rattle.wasm_module.specs.declared.initializer.Initializer.{Initializer}
-use Rattle.form_data.specs.declared.form.Import.{Import as Read}
-use Rattle.form_data.specs.Views.{import_of}
 use Rattle.module_environ.specs.declared.imports.ImportCounts.{ImportCounts}
 use Rattle.module_environ.specs.Entities.{NamedEntity, count_of, brought, imports_after, resolved_import}
 use Rattle.module_environ.specs.Imported.{AreCounted, HaveIndices, AreImported, one_if, counted, next_entity}

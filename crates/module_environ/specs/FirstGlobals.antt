@@ -1,13 +1,9 @@
 -- The first values of globals, as they are gathered.
 use Rattle.std.specs.Prelude.{◌≡◌, ℕ, ◌+◌, is_none, List, [], ◌∷◌, ◌++◌, length, map, Option, if◌then◌else◌}
-use Rattle.std.specs.List.{filter_map, enumerate_from}
 use Rattle.std.specs.Option.{option_map, option_to_list}
-use Rattle.wasm_spec.specs.Module.{Expression, GlobalDef}
 use Rattle.wasm_convert.specs.declared.operators.ConstOp.{ConstOp}
-use Rattle.wasm_convert.specs.Conversion.{LookUp}
-use Rattle.wasm_convert.specs.Constants.{const_ops_of, expression_of}
+use Rattle.wasm_convert.specs.Constants.{expression_of}
 use Rattle.replay_spec.specs.Values.{Value, const_value}
-use Rattle.replay_spec.specs.Globals.{simple_of, kept_of}
 use Rattle.module_environ.specs.declared.globals.FirstGlobals.{FirstGlobals}
 use Rattle.module_environ.specs.Initialisers.{view_value, view_initialiser}
 

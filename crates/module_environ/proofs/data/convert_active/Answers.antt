@@ -1,6 +1,6 @@
 use Rattle.std.proofs.Common.{◌∙◌, ◌∷◌, [], map, ap}
 use Rattle.std.specs.List.{filter_map}
-use Rattle.std.proofs.lemmas.List.Elements.{All-head, All-same, All-rest, filter_map-append}
+use Rattle.std.proofs.lemmas.List.Elements.{All-rest, filter_map-append}
 use Rattle.wasm_spec.specs.Module.{Segment, segments_of_section}
 use Rattle.form_data.specs.Views.{segment_of}
 use Rattle.form_lists.specs.Sections.{entries_left}

@@ -1,4 +1,4 @@
-use Rattle.std.proofs.Common.{◌++◌, ◌∷◌, [], ◌<◌, ◌^◌, List, length, ap, subst, arith, length-append}
+use Rattle.std.proofs.Common.{◌++◌, ◌∷◌, [], List, length, ap, subst, arith, length-append}
 use Rattle.wasm_spec.specs.Module.{Import, imports_of_section}
 use Rattle.form_data.specs.Views.{import_of}
 use Rattle.form_lists.specs.Sections.{entries_left}
