@@ -117,22 +117,6 @@ module _ (m : plain.Module) (x : Module) (has : HasCounts m x) where
 -- ---- a planned translation
 
 module _ (i : InitOptions) (bytes : List ℕ) (m : plain.Module) (t : ModuleTranslation) (is : IsInitialised i bytes m t) where
-  -- what is planned is no count
-  same : {A : Type 0} (f : ModuleTranslation → A) → f t ≡ f (record is.rest.before {
-    «module» = record is.rest.before.module {
-      memory_initialization = t.module.memory_initialization;
-      table_initialization = t.module.table_initialization;
-      runtime_data = t.module.runtime_data;
-      startup = t.module.startup;
-    };
-    table_initialization = t.table_initialization;
-    runtime_data_map = t.runtime_data_map;
-    runtime_data = t.runtime_data;
-    memory_init = t.memory_init;
-    data_align = t.data_align;
-  })
-  same f = ap f is.rest.same
-
   has_counts : HasCounts m t.module
   has_counts =
       let before = is.rest.before.module in
@@ -140,19 +124,19 @@ module _ (i : InitOptions) (bytes : List ℕ) (m : plain.Module) (t : ModuleTran
       let counts = translation.sections.counts in
       let entities = translation.sections.entities in
       record {
-        imported_functions = same (λ (x : ModuleTranslation). x.module.num_imported_funcs) ∙ counts.functions;
-        imported_tables = same (λ (x : ModuleTranslation). x.module.num_imported_tables) ∙ counts.tables;
-        imported_memories = same (λ (x : ModuleTranslation). x.module.num_imported_memories) ∙ counts.memories;
-        imported_globals = same (λ (x : ModuleTranslation). x.module.num_imported_globals) ∙ counts.globals;
-        imported_tags = same (λ (x : ModuleTranslation). x.module.num_imported_tags) ∙ counts.tags;
-        functions = same (λ (x : ModuleTranslation). length x.module.functions) ∙ ap length translation.sections.escapes.functions
+        imported_functions = ap (λ (x : ModuleTranslation). x.module.num_imported_funcs) is.rest.same ∙ counts.functions;
+        imported_tables = ap (λ (x : ModuleTranslation). x.module.num_imported_tables) is.rest.same ∙ counts.tables;
+        imported_memories = ap (λ (x : ModuleTranslation). x.module.num_imported_memories) is.rest.same ∙ counts.memories;
+        imported_globals = ap (λ (x : ModuleTranslation). x.module.num_imported_globals) is.rest.same ∙ counts.globals;
+        imported_tags = ap (λ (x : ModuleTranslation). x.module.num_imported_tags) is.rest.same ∙ counts.tags;
+        functions = ap (λ (x : ModuleTranslation). length x.module.functions) is.rest.same ∙ ap length translation.sections.escapes.functions
             ∙ length-map (enumerate_from 0 (plain.functions m)) _ ∙ length-enumerate_from 0 (plain.functions m);
-        tables = same (λ (x : ModuleTranslation). length x.module.tables) ∙ sym (length-map before.tables table_of)
+        tables = ap (λ (x : ModuleTranslation). length x.module.tables) is.rest.same ∙ sym (length-map before.tables table_of)
             ∙ ap length entities.tables ∙ length-map (plain.tables m) _;
-        memories = same (λ (x : ModuleTranslation). x.module.memories) ∙ entities.memories;
-        globals = same (λ (x : ModuleTranslation). length x.module.globals) ∙ sym (length-map before.globals global_of)
+        memories = ap (λ (x : ModuleTranslation). x.module.memories) is.rest.same ∙ entities.memories;
+        globals = ap (λ (x : ModuleTranslation). length x.module.globals) is.rest.same ∙ sym (length-map before.globals global_of)
             ∙ ap length entities.globals ∙ length-map (plain.globals m) _;
-        tags = same (λ (x : ModuleTranslation). length x.module.tags) ∙ ap length translation.types.tags ∙ length-map (plain.tags m) _;
+        tags = ap (λ (x : ModuleTranslation). length x.module.tags) is.rest.same ∙ ap length translation.types.tags ∙ length-map (plain.tags m) _;
       }
 
   pub holds_imports : HoldsImports (record_of t.module)
@@ -163,7 +147,7 @@ module _ (i : InitOptions) (bytes : List ℕ) (m : plain.Module) (t : ModuleTran
       let debugged = ap (λ (j : InitOptions). length (escaping j.tunables.debug_guest (lists_of_module m))) init in
       let kind = startup_by m (memory_plan_of t) (plan_of_tables t) in
       record_counted m t.module has_counts o (memory_plan_of t) (plan_of_tables t)
-      (same (λ (x : ModuleTranslation). x.module.num_escaped_funcs) ∙ is.rest.translation.sections.escapes.count ∙ sym debugged)
+      (ap (λ (x : ModuleTranslation). x.module.num_escaped_funcs) is.rest.same ∙ is.rest.translation.sections.escapes.count ∙ sym debugged)
       (ap length is.memories.ranges ∙ ranges_counted 0 (map length (memory_plan_of t).runtime) ∙ length-map (memory_plan_of t).runtime length)
       (ap has_startup is.startup ∙ runs_same kind (type_index (length (interned_list m false).types)))
 
@@ -171,6 +155,6 @@ module _ (i : InitOptions) (bytes : List ℕ) (m : plain.Module) (t : ModuleTran
   pub few_escape : IsReadable bytes m → is.rest.before.module.num_escaped_funcs ≤ length is.rest.before.module.functions → t.module.num_escaped_funcs ≤ 4294967295
   few_escape read below =
       let few = few_entries bytes m read.spelled read.short in
-      let escaped = same (λ (x : ModuleTranslation). x.module.num_escaped_funcs) in
-      let all = same (λ (x : ModuleTranslation). length x.module.functions) in
+      let escaped = ap (λ (x : ModuleTranslation). x.module.num_escaped_funcs) is.rest.same in
+      let all = ap (λ (x : ModuleTranslation). length x.module.functions) is.rest.same in
       omega (arith, few.functions, escaped, all, has_counts.functions, below)

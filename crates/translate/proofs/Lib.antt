@@ -1,6 +1,6 @@
 mod Segments
 mod Started
-mod Unchanged
+pub mod Unchanged
 mod PlannedMemories
 mod PlannedTables
 mod Refusals

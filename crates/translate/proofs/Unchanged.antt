@@ -1,5 +1,5 @@
 -- What the plans of memories and tables leave of a translation together.
-use Rattle.std.proofs.Common.{sym, ap, ◌∙◌}
+use Rattle.std.proofs.Common.{sym, ap, ◌∙◌, ◌≡◌}
 use Rattle.init_plan.specs.declared.translation.ModuleTranslation.{ModuleTranslation}
 use Rattle.init_plan.specs.Views.{OnlyMemoryInitChanges}
 use Rattle.init_plan.specs.Tables.{OnlyTableInitChanges}
@@ -13,7 +13,7 @@ with_tables new t = record t {
 }
 
 -- with the plan of memories of another
-abbrev with_memories : ModuleTranslation → ModuleTranslation → ModuleTranslation
+abbrev pub with_memories : ModuleTranslation → ModuleTranslation → ModuleTranslation
 with_memories mid t = record t {
   «module» = record t.module {
     memory_initialization = mid.module.memory_initialization;
@@ -26,6 +26,9 @@ with_memories mid t = record t {
   data_align = mid.data_align;
 }
 
+pub both-planned : (old mid new : ModuleTranslation) → OnlyMemoryInitChanges old mid → OnlyTableInitChanges mid new → new ≡ with_tables new (with_memories mid old)
+both-planned old mid new memories tables = tables ∙ ap (with_tables new) memories
+
 pub changes_both : (old mid new : ModuleTranslation) → OnlyMemoryInitChanges old mid → OnlyTableInitChanges mid new → OnlyInitChanges old new
 changes_both old mid new memories tables =
-    tables ∙ ap (with_tables new) memories ∙ sym (ap (λ (t : ModuleTranslation). with_tables new (with_memories t old)) tables)
+    both-planned old mid new memories tables ∙ sym (ap (λ (t : ModuleTranslation). with_tables new (with_memories t old)) tables)
