@@ -29,7 +29,7 @@ pub fn kept_names<'d>(
     source: Source<'_, 'd>,
     locals: bool,
 ) -> Result<NameSection<'d>, OutOfMemory>
-    requires { HasFewEntries (source_module source.entry) }
+    requires { HasFewEntries (source_module source) }
     ensures { IfOk result (KeepsNames (module_names locals (source_module source.entry))) }
 {
     let mut kept = NameSection {

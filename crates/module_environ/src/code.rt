@@ -21,7 +21,7 @@ pub(crate) fn take_bodies<'d>(
     alloc: Global,
     form: InputForm<'d>,
 ) -> Result<(PrimaryMap<DefinedFuncIndex, FunctionBodyData<'d>>, u64), OutOfMemory>
-    requires few { HasFewEntries (input_module_of form.entry) }
+    requires few { HasFewEntries (input_module_of form) }
     ensures bodies { IfOk result (λ r. map (λ input. body_of input.body) r.0 ≡ flat_map bodies_of_section (input_module_of form.entry)) }
     ensures place { IfOk result (λ r. r.1 ≡ first_or_zero (flat_map code_places (input_module_of form.entry))) }
 {

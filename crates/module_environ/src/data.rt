@@ -27,8 +27,8 @@ pub(crate) fn add_segments<'d>(
     source: Source<'_, 'd>,
     translation: &mut ModuleTranslation<'d>,
 ) -> Result<(), OutOfMemory>
-    requires few { HasFewEntries (source_module source.entry) }
-    requires convertible { AreDataConvertible (knows env.now) (segments (source_module source.entry)) }
+    requires few { HasFewEntries (source_module source) }
+    requires convertible { AreDataConvertible (knows env.now) (segments (source_module source)) }
     requires none { passive_data_of translation.old ≡ [] }
     ensures active { OnOk result (initializers_of translation.new ≡ active_segments (source_module source.entry)) }
     ensures passive { OnOk result (passive_data_of translation.new ≡ passive_data_from 0 (segments (source_module source.entry))) }
@@ -48,7 +48,7 @@ fn convert_active<'d>(
     env: &dyn TypeConvert,
     source: Source<'_, 'd>,
 ) -> Result<Vec<MemoryInitializer<'d>>, OutOfMemory>
-    requires { AreDataConvertible (knows env.now) (segments (source_module source.entry)) }
+    requires { AreDataConvertible (knows env.now) (segments (source_module source)) }
     ensures { IfOk result (λ active. map active_segment_of active.items ≡ active_segments (source_module source.entry)) }
 {
     let mut active = Vec::new(alloc);
@@ -87,7 +87,7 @@ fn add_passive<'d>(
     source: Source<'_, 'd>,
     translation: &mut ModuleTranslation<'d>,
 ) -> Result<(), OutOfMemory>
-    requires few { length (segments (source_module source.entry)) < 2 ^ 30 }
+    requires few { length (segments (source_module source)) < 2 ^ 30 }
     ensures passive { OnOk result (passive_data_of translation.new
         ≡ passive_data_of translation.old ++ passive_data_from 0 (segments (source_module source.entry))) }
     ensures same { SameButPassive translation.old translation.new }

@@ -49,8 +49,8 @@ pub(crate) fn convert_elements(
     source: Source<'_, '_>,
     escaping: &mut Escaping,
 ) -> Result<ElementSegments, OutOfMemory>
-    requires few { HasFewEntries (source_module source.entry) }
-    requires convertible { AreElementsConvertible (knows env.now) escaping.old.count (flat_map plain.elements_of_section (source_module source.entry)) }
+    requires few { HasFewEntries (source_module source) }
+    requires convertible { AreElementsConvertible (knows env.now) escaping.old.count (flat_map plain.elements_of_section (source_module source)) }
     ensures holds { IfOk result (HoldsElements (look_up env.now) (flat_map plain.elements_of_section (source_module source.entry))) }
     ensures noted { OnOk result
         (escaping.new ≡ after_escapes escaping.old (flat_map (λ e. item_functions e.items) (flat_map plain.elements_of_section (source_module source.entry)))) }

@@ -31,10 +31,10 @@ pub(crate) fn convert_exports(
     strings: &mut StringPool,
     escaping: &mut Escaping,
 ) -> Result<IndexMap<Atom, EntityIndex>, OutOfMemory>
-    requires few { HasFewEntries (source_module source.entry) }
+    requires few { HasFewEntries (source_module source) }
     requires room { length strings.old < 2 ^ 31 }
-    requires distinct { AreDistinct (flat_map exports_of_section (source_module source.entry)) }
-    requires in_range { All (CanExport escaping.old.count) (flat_map exports_of_section (source_module source.entry)) }
+    requires distinct { AreDistinct (flat_map exports_of_section (source_module source)) }
+    requires in_range { All (CanExport escaping.old.count) (flat_map exports_of_section (source_module source)) }
     ensures exports { IfOk result (λ es. map (resolved_export strings.new) es.entries
         ≡ exported_entities (flat_map exports_of_section (source_module source.entry))) }
     ensures noted { OnOk result (escaping.new

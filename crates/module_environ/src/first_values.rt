@@ -30,8 +30,8 @@ pub(crate) fn first_values(
     escaping: &mut Escaping,
 ) -> Result<PrimaryMap<DefinedTableIndex, TableInitialValue>, OutOfMemory>
     requires convertible { All (λ t. IfSome t.init (IsConvertible (knows env.now) escaping.old.count))
-        (flat_map tables_of_section (source_module source.entry)) }
-    requires few { length (flat_map tables_of_section (source_module source.entry)) < u32.MAX }
+        (flat_map tables_of_section (source_module source)) }
+    requires few { length (flat_map tables_of_section (source_module source)) < u32.MAX }
     ensures values { IfOk result (λ vs. map initial.view_first_value vs
         ≡ initial.first_values (look_up env.now) (flat_map tables_of_section (source_module source.entry))) }
     ensures noted { OnOk result (escaping.new

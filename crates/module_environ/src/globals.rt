@@ -35,8 +35,8 @@ pub(crate) fn first_globals(
     source: Source<'_, '_>,
     escaping: &mut Escaping,
 ) -> Result<FirstGlobals, OutOfMemory>
-    requires convertible { All (λ g. IsConvertible (knows env.now) escaping.old.count g.init) (flat_map globals_of_section (source_module source.entry)) }
-    requires few { length (flat_map globals_of_section (source_module source.entry)) < u32.MAX }
+    requires convertible { All (λ g. IsConvertible (knows env.now) escaping.old.count g.init) (flat_map globals_of_section (source_module source)) }
+    requires few { length (flat_map globals_of_section (source_module source)) < u32.MAX }
     ensures known { IfOk result (λ g. map view_value g.known.items ≡ known_values (flat_map globals_of_section (source_module source.entry))) }
     ensures left { IfOk result (λ g. map (view_initialiser (λ e. e)) g.left.items
         ≡ left_initialisers (look_up env.now) (flat_map globals_of_section (source_module source.entry))) }

@@ -111,7 +111,7 @@ pub(crate) fn convert_imports(
     source: Source<'_, '_>,
     strings: &mut StringPool,
 ) -> Result<(Vec<Initializer>, ImportCounts), OutOfMemory>
-    requires few { HasFewEntries (source_module source.entry) }
+    requires few { HasFewEntries (source_module source) }
     requires empty { strings.old ≡ [] }
     ensures imports { IfOk result (λ r. map (resolved_import strings.new) r.0.items ≡ imported_entities (source_module source.entry)) }
     ensures counts { IfOk result (λ r. AreCounted (plain.imports (source_module source.entry)) r.1) }

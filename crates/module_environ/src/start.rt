@@ -14,7 +14,7 @@ use wasm_index::FuncIndex;
 
 /// The start function of a module that has one (core specification, 2.5, start function).
 pub(crate) fn start_function(source: Source<'_, '_>) -> Option<FuncIndex>
-    requires { All (λ f. f < u32.MAX) (flat_map starts_of_section (source_module source.entry)) }
+    requires { All (λ f. f < u32.MAX) (flat_map starts_of_section (source_module source)) }
     ensures { option_map number_of result ≡ slice_get (flat_map starts_of_section (source_module source.entry)) 0 }
 {
     for section in sections_of(source) {

@@ -134,8 +134,8 @@ fn translate_form<'d>(
     source: Source<'_, 'd>,
     translation: &mut ModuleTranslation<'d>,
 ) -> Result<(), EnvironError>
-    requires few { HasFewEntries (source_module source.entry) }
-    requires short { HasShortTypes (source_module source.entry) }
+    requires few { HasFewEntries (source_module source) }
+    requires short { HasShortTypes (source_module source) }
     requires new { IsNewTranslation translation.old.module.module_index translation.old }
     requires types { types.old.is_poisoned ≡ false → builder_view types.old ≡ new_builder validator.now }
     ensures formed { OnOk result

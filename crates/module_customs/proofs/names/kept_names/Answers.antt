@@ -1,4 +1,4 @@
-use Rattle.std.proofs.Common.{[], ◌∷◌, ◌++◌, ◌∙◌, ◌+◌, ◌<◌, ◌^◌, List, length, subst, sym, ap, append_assoc, arith}
+use Rattle.std.proofs.Common.{[], ◌∷◌, ◌++◌, ◌∙◌, ◌^◌, List, subst, sym, ap, append_assoc, arith}
 use Rattle.std.proofs.lemmas.List.{append-nil}
 use Rattle.wasm_spec.specs.Module as plain
 use Rattle.form_lists.specs.Source.{source_module, section_of, sections_left}
@@ -18,7 +18,7 @@ overflow_add-declared c =
     let whole = append_assoc had.came (p ∷ []) (sections_left c.next.new.self) ∙ sym (ap (λ (ps : List plain.Payload). had.came ++ ps) c.in-Some.ensures.steps) ∙ had.whole in
     omega (
       arith,
-      declared-more had.came p c.loop-section.declared c.declared_functions.result had.declared c.declared_functions.ensures,
+      declared-more had.came p c.loop-section.declared c.declared_functions-declared.result had.declared c.declared_functions-declared.ensures,
       declared-few (had.came ++ p ∷ []) (sections_left c.next.new.self) (source_module c.args.source) (2 ^ 30) whole c.requires.functions,
     )
 
@@ -29,7 +29,7 @@ loop-section-preserved c =
     record {
       came = had.came ++ p ∷ [];
       whole = append_assoc had.came (p ∷ []) (sections_left c.next.new.self) ∙ sym (ap (λ (ps : List plain.Payload). had.came ++ ps) c.in-Some.ensures.steps) ∙ had.whole;
-      declared = declared-more had.came p c.loop-section.declared c.declared_functions.result had.declared c.declared_functions.ensures;
+      declared = declared-more had.came p c.loop-section.declared c.declared_functions-declared.result had.declared c.declared_functions-declared.ensures;
       kept = next-names had.came p c.args.locals c.loop-section.declared had.declared c.add_section.new.kept
           (c.in_ok-add_section.ensures (names_after c.args.locals [] had.came) had.kept);
     }
