@@ -13,41 +13,41 @@ use Rattle.module_environ.proofs.translating.translation_of.Goals as goal
 pub returns-in_err-form-clause-cause : goal.returns-in_err-form-clause-cause
 returns-in_err-form-clause-cause c =
     let p = err_from_is_err_and c.from_residual.result c.from_residual.ensures.1 in
-    let e = c.read_module.ensures in
-    let tells : ReadingTells c.args.bytes.now c.read_module.result = record {
+    let e = c.read_input.ensures in
+    let tells : ReadingTells c.args.bytes.now c.read_input.result = record {
       complete = e.complete;
       too_large = e.too_large;
       unsupported = e.unsupported;
       malformed = e.malformed;
       stops_nowhere = e.stops_nowhere;
     } in
-    rw (p.1, p.2) (read_cause c.args.bytes.now _ c.read_module.result c.in_err-form.field-0.0 tells c.in_err-form.was)
+    rw (p.1, p.2) (read_cause c.args.bytes.now _ c.read_input.result c.in_err-form.field-0.0 tells c.in_err-form.was)
 
 pub returns-in_err-form-clause-complete : goal.returns-in_err-form-clause-complete
 returns-in_err-form-clause-complete c = λ m can kept sound.
     let p = err_from_is_err_and c.from_residual.result c.from_residual.ensures.1 in
-    let e = c.read_module.ensures in
-    let tells : ReadingTells c.args.bytes.now c.read_module.result = record {
+    let e = c.read_input.ensures in
+    let tells : ReadingTells c.args.bytes.now c.read_input.result = record {
       complete = e.complete;
       too_large = e.too_large;
       unsupported = e.unsupported;
       malformed = e.malformed;
       stops_nowhere = e.stops_nowhere;
     } in
-    rw p.1 (p.2 ∙ read_complete c.args.bytes.now c.read_module.result c.in_err-form.field-0.0 m tells c.in_err-form.was can)
+    rw p.1 (p.2 ∙ read_complete c.args.bytes.now c.read_input.result c.in_err-form.field-0.0 m tells c.in_err-form.was can)
 
 pub returns-in_err-form-clause-poisoned : goal.returns-in_err-form-clause-poisoned
 returns-in_err-form-clause-poisoned c = λ m can kept was.
     let p = err_from_is_err_and c.from_residual.result c.from_residual.ensures.1 in
-    let e = c.read_module.ensures in
-    let tells : ReadingTells c.args.bytes.now c.read_module.result = record {
+    let e = c.read_input.ensures in
+    let tells : ReadingTells c.args.bytes.now c.read_input.result = record {
       complete = e.complete;
       too_large = e.too_large;
       unsupported = e.unsupported;
       malformed = e.malformed;
       stops_nowhere = e.stops_nowhere;
     } in
-    rw (p.1, p.2, read_complete c.args.bytes.now c.read_module.result c.in_err-form.field-0.0 m tells c.in_err-form.was can) tt
+    rw (p.1, p.2, read_complete c.args.bytes.now c.read_input.result c.in_err-form.field-0.0 m tells c.in_err-form.was can) tt
 
 -- ---- its form becomes no translation
 
