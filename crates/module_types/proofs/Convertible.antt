@@ -1,5 +1,5 @@
 -- A group of a list of types can be converted, and what it becomes.
-use Rattle.std.proofs.Common.{◌≡◌, ◌≤◌, ◌<◌, ℕ, zero, suc, ◌+◌, List, [], ◌∷◌, All, length, get_or, map, Option, Some, None, refl, sym, ap, ◌∙◌, inl, inr, arith, take}
+use Rattle.std.proofs.Common.{◌≡◌, ◌≤◌, ◌<◌, ℕ, zero, suc, ◌+◌, List, [], ◌∷◌, All, length, get_or, map, Option, Some, None, refl, sym, ap, subst, ◌∙◌, inl, inr, arith, take}
 use Rattle.std.specs.Prelude.{slice_get, IsSome, IsSomeAnd, ◌⊎◌}
 use Rattle.std.proofs.lemmas.List.{length-map, take_all}
 use Rattle.std.proofs.lemmas.List.Elements.{All-head, All-tail, All-cons, All-nil, All-weaker}
@@ -39,10 +39,6 @@ all-both P Q R each [] p q = All-nil R
 all-both P Q R each (x ∷ xs) p q =
     All-cons R x xs (each x (All-head P x xs p) (All-head Q x xs q)) (all-both P Q R each xs (All-tail P x xs p) (All-tail Q x xs q))
 
-not-some : (o : Option ℕ) → IsSome o → o ≡ None → ⊥
-not-some None h e = cc
-not-some (Some x) h e = cc
-
 -- ---- the references of a group
 
 below-more : (a b : ℕ) → a ≤ b → (i : UnpackedIndex) → IsIdBelow a i → IsIdBelow b i
@@ -69,7 +65,7 @@ module _ (t : TypesData) (next : ℕ) (spans : List Span) (ids : ℕ → Option 
     by (inl same) none =
         let back = sym same in
         coe 0 1 (j. next + length (members_of t (back j)) < 4294967295) (room (ap ids back ∙ none))
-    by (inr some) none = absurd (not-some (ids (group_of_id t n)) some none)
+    by (inr some) none = let no = subst IsSome none some in absurd cc
 
   knows : (bound : ℕ) → bound ≤ length (types_by_id t.groups) → (i : UnpackedIndex) → IsIdBelow bound i
       → (group_of_id t (id_number i) ≡ k) ⊎ IsSome (ids (group_of_id t (id_number i))) → CanLookUp (KnowsId t next spans ids) i

@@ -17,9 +17,8 @@ use Rattle.type_spec.proofs.ByNames.{name_by, by_names, names-same, names-plain,
 use Rattle.module_types.specs.ListGroups.{unkinded, kind_in, IsWellNamed}
 use Rattle.module_types.proofs.Taking.{IsCopy, Covers, form, Next, Stand, IsExactBelow, with_forms, number_in, whole}
 use Rattle.module_types.proofs.EqualLists.{next-home, next-place, next-number}
-use Rattle.module_types.proofs.GroupMembers.{composite-behind, extends-group, trampoline_next, all-steps}
+use Rattle.module_types.proofs.GroupMembers.{composite-behind, extends-group, trampoline_next, all-steps, through-interned}
 use Rattle.module_types.proofs.WellNamed.{kind-mapped, AllBelow, Well, kind-before, well-next, named-before}
-use Rattle.module_types.proofs.WholeLists.{through-interned}
 use Rattle.std.specs.Option.{option_to_list}
 use Rattle.form_lists.proofs.AllSections.{All-joined}
 
