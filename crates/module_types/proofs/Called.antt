@@ -32,7 +32,7 @@ within (t ∷ ts) (suc i) f e = let h = within ts i f e in omega (arith, h)
 func-same : (f g : Called) (c : Composite (Named ℕ) ℕ) → c ≡ Func f → c ≡ Func g → f ≡ g
 func-same f g c x y = let e : Func f ≡ Func g = sym x ∙ y in cc
 
--- ---- steps
+-- ---- mapped types are met where they stand
 
 module _ (b : Built) (tied : IsTied b) where
   -- types after the others, which have no trampolines
@@ -182,7 +182,7 @@ at-set (x ∷ xs) i k j s = s
 at-itself : (xs : List (Option ℕ)) (i k : ℕ) → i < length xs → IsAt (set xs i (Some k)) i
 at-itself xs i k lt = subst IsSome (sym (get_or-set_same xs i (Some k) None lt)) refl
 
--- ---- steps
+-- ---- what has a trampoline keeps it
 
 abbrev IsSized : Built → Type 0
 IsSized b = length b.trampolines ≡ length b.types

@@ -171,7 +171,7 @@ module _ (digest : WasmFuncType → ℕ) (newest : ℕ → ℕ) (rs : List Met) 
     pub chained-more : AreChained digest later all
     chained-more = record { first = first-more; next = next-more }
 
--- ---- as the list grows
+-- ---- types that stand in a list
 
 abbrev part_of : WasmSubType → Option WasmFuncType
 part_of t = func_in t.composite_type.inner

@@ -125,6 +125,8 @@ module _ (t : TypesData) (next : ℕ) (spans : List Span) (ids : ℕ → Option 
 pub members-long : (t : TypesData) (b : Builder) (k : ℕ) → length (interned_members t b k) ≡ length (members_of t k)
 members-long t b k = length-map (members_of t k) _
 
+-- ---- a converter
+
 -- what looks up the ids of a converter knows each that the converter knows
 pub known-by : (Callable : Index TypeSpace → Type 0) (b : BuilderState) (bound : ℕ) (ids : Option TypesAndGroup) (i : UnpackedIndex) (id : CoreTypeId)
     → i ≡ index.Id id → CanLookUp (KnowsIndex Callable b bound ids) i → (p : TypesAndGroup) → ids ≡ Some p → HaveIndices b ids
@@ -136,7 +138,7 @@ known-by Callable b bound ids i id is known p one have t list held types lists h
     let found = index-known p.0 (length b.list.types) (builder_view b).built.groups (builder_view b).ids p.1 whole.0 whole.1 id.0 here.0 here.1 in
     coe 0 1 (j. CanLookUp (KnowsId (sym types j) (length (sym lists j).types) (map span_of (sym lists j).groups) (noted_at (sym helds j))) (sym is j)) found
 
--- ---- what is known of each part, and what each becomes
+-- ---- what is known of each part
 
 pub all-parts : {A B E : Type 0} (P : E → Type 0) (edges : B → List E) (view : A → B) (xs : List A) → All P (flat_map edges (map view xs))
     → All (λ x. All P (edges (view x))) xs

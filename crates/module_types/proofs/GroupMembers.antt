@@ -1,4 +1,4 @@
--- The steps that follow a group: what each keeps, all keep; groups that lie one after another, and where they stand; and whole lists.
+-- Groups and the steps that follow them: what each step keeps, all keep, and so does a whole list.
 use Rattle.std.proofs.Common.{◌≡◌, ◌≤◌, ◌<◌, ℕ, zero, suc, ◌+◌, List, [], ◌∷◌, ◌++◌, length, set, drop, Bool, true, false, Option, Some, None, refl, sym, ap, ◌∙◌, arith, get_or, take, ◌-◌, map}
 use Rattle.std.specs.Prelude.{if◌then◌else◌}
 use Rattle.std.proofs.lemmas.List.{append_assoc, append-nil, length-append, drop_all, get_or_at, get_or_append_left, drop_at, take_at}
@@ -12,7 +12,7 @@ use Rattle.module_types.specs.Runs.{with_groups}
 use Rattle.std.specs.List.{All}
 use Rattle.std.proofs.lemmas.List.Elements.{All-nil, All-cons, All-head, All-tail}
 
--- ---- groups one after another
+-- ---- spans one after another
 
 pub one-more : (first end later : ℕ) (ss : List Span) → LieBetween first ss end → end < later
     → LieBetween first (ss ++ record { start = end; end = later } ∷ []) later
@@ -111,7 +111,7 @@ few-more =
     each-step (λ b c. length c.types ≤ length b.types + 1) (λ b. omega arith) (λ b known i k. omega arith)
     (λ b known i f. omega (arith, length-append b.types (plain (Func (mapped f)) ∷ [])))
 
--- ---- groups lie one after another
+-- ---- each step keeps the order of groups
 
 -- a group after the others
 orderly-more : (b : Built) (t : Interned) (ts : List Interned) → IsOrderly b
@@ -201,7 +201,7 @@ module _ (old now : Built) (first i : ℕ) (a : Along old now first i) (h : i < 
 pub along-all : (old now : Built) (first i : ℕ) → Along old now first i → i ≡ length old.types → now ≡ assign_trampolines old first (drop first old.types)
 along-all old now first i a e = ap (assign_trampolines now i) (sym (drop_all i old.types (omega (arith, e)))) ∙ a.rest
 
--- ---- groups after the others, and where they stand
+-- ---- where groups stand
 
 -- what a list has where a group was opened
 module _ (b : Built) (ts : List Interned) (c : Built) (x : Extends (opened b ts) c) where
@@ -250,9 +250,7 @@ longer b ts tss filled same =
     let x = first-group b ts tss in
     omega (arith, filled, ap length (same ∙ types-apart b ts (with_groups b (ts ∷ tss)) x), length-append b.types (ts ++ x.types_more), length-append ts x.types_more)
 
--- ---- whole lists
-
--- ---- groups
+-- ---- what each group keeps holds of what is taken of a module
 
 module _ (P : Built → Type 0) (group : (b : Built) → P b → (ts : List Interned) → P (with_group b ts)) where
   module _ (all : List (Group ℕ ℕ)) where
@@ -270,7 +268,7 @@ module _ (P : Built → Type 0) (group : (b : Built) → P b → (ts : List Inte
   pub through-taken : P empty → (ms : List (Group ℕ ℕ)) → P (taken ms).built
   through-taken p ms = through-groups ms ms none_taken 0 p
 
--- ---- exception types and the startup type
+-- ---- what exception types and the startup type keep holds of the whole list
 
 -- what holds of each index holds of the tags
 all-each : {A : Type 0} (Q : ℕ → Type 0) (number : A → ℕ) → ((x : A) → Q (number x)) → (xs : List A) → All Q (map number xs)

@@ -144,6 +144,8 @@ module _ (b : Built) (i : ℕ) (le : i ≤ length b.types) where
 pub well-startup : (b : Built) → Well b.types b.groups → Well (with_startup b true).types (with_startup b true).groups
 well-startup b w = well-next b.types (startup_type ∷ []) b.groups w (omega arith) (All-nil (λ r. r < length b.types + 1)) refl
 
+-- ---- the list of a module
+
 abbrev some_member : SubType (Unit {0}) (Unit {0})
 some_member = record { is_final = true; supertype = None; composite = record { inner = Struct []; shared = false } }
 
