@@ -1,5 +1,5 @@
 -- The next group of a list of types can be interned.
-use Rattle.std.proofs.Common.{◌≡◌, ◌≤◌, ◌<◌, ℕ, zero, suc, ◌+◌, ◌*◌, ◌-◌, Bool, true, false, nat_eq, List, [], ◌∷◌, ◌++◌, All, length, get_or, replicate, Option, Some, None, OnOk, refl, sym, ap, ◌∙◌, inl, inr, arith}
+use Rattle.std.proofs.Common.{◌≡◌, ◌≤◌, ◌<◌, ℕ, zero, suc, ◌+◌, Bool, true, false, nat_eq, List, [], ◌∷◌, ◌++◌, length, get_or, replicate, Option, Some, None, OnOk, refl, sym, ap, inl, inr, arith}
 use Rattle.std.specs.Prelude.{◌⊎◌, IsSome, if◌then◌else◌, Result, Ok, Err}
 use Rattle.std.proofs.lemmas.Bool.{eq-eqb}
 use Rattle.std.proofs.lemmas.List.{length-append}
@@ -8,7 +8,7 @@ use Rattle.wasm_spec.specs.declared.types.UnpackedIndex.{UnpackedIndex}
 use Rattle.wasm_spec.specs.declared.types.UnpackedIndex.TheVariants as index
 use Rattle.wasm_spec.specs.TypeData.{group_edges}
 use Rattle.type_spec.specs.Interned.{Interned, Built, assign_trampoline, assign_trampolines, opened, with_group}
-use Rattle.form_types.specs.Types.{NamedGroup, TypesData, types_by_id, group_numbers, IsIdBelow, IsSound}
+use Rattle.form_types.specs.Types.{NamedGroup, TypesData, group_numbers, IsIdBelow, IsSound}
 use Rattle.module_types.specs.Builder.{Builder, new_builder, interns_by, interns}
 use Rattle.module_types.specs.Conversion.{id_number, first_id, group_of_id, members_of, interned_members, NamesInterned, HoldsGroups}
 use Rattle.module_types.proofs.GroupMembers.{few-more}

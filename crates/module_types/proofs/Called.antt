@@ -12,10 +12,7 @@ use Rattle.module_types.specs.Views.{TypeIndex}
 use Rattle.module_types.specs.TypeList.{trampoline_at}
 use Rattle.module_types.specs.Builder.{BuilderState, Builder, builder_view, interns_by, interns, excepts_by, excepts, starts_by, starts}
 use Rattle.module_types.specs.Tied.{HasTrampoline, HaveTrampolines, IsTied, trampoline_in}
-use Rattle.module_types.proofs.GroupMembers.{trampoline_set, trampoline_next, each-step, all-steps, Extends, extends-none, extends-both, extends-alone, composite-before, composite-behind, extends-group, extends-step}
-use Rattle.module_types.proofs.WholeLists.{through-taken, through-alone}
-use Rattle.wasm_types.specs.declared.func.WasmFuncType.{WasmFuncType}
-use Rattle.wasm_types.specs.contracts.equal.WasmFuncTypePartialEq.TheImpl as func
+use Rattle.module_types.proofs.GroupMembers.{trampoline_set, trampoline_next, each-step, all-steps, Extends, extends-none, extends-both, extends-alone, composite-before, composite-behind, extends-group, extends-step, through-taken, through-alone}
 use Rattle.module_types.proofs.Keys.{same-mapped, mapped-same, mapped-twice}
 
 none-there : (n i : ℕ) → get_or (replicate n (let o : Option ℕ = None in o)) i None ≡ None
@@ -35,7 +32,7 @@ within (t ∷ ts) (suc i) f e = let h = within ts i f e in omega (arith, h)
 func-same : (f g : Called) (c : Composite (Named ℕ) ℕ) → c ≡ Func f → c ≡ Func g → f ≡ g
 func-same f g c x y = let e : Func f ≡ Func g = sym x ∙ y in cc
 
--- ---- steps
+-- ---- mapped types are met where they stand
 
 module _ (b : Built) (tied : IsTied b) where
   -- types after the others, which have no trampolines
@@ -77,12 +74,11 @@ module _ (b : Built) (tied : IsTied b) where
         ];
   }
 
-  module _ (tells : (x y : WasmFuncType) → (func.ghosts.eq x y ≡ true → x ≡ y) × (x ≡ y → func.ghosts.eq x y ≡ true)) (f : Called) (k : ℕ)
-      (none : b.known_trampolines (mapped f) ≡ None) (stands : composite_at b.types k ≡ Func (mapped f)) where
+  module _ (f : Called) (k : ℕ) (none : b.known_trampolines (mapped f) ≡ None) (stands : composite_at b.types k ≡ Func (mapped f)) where
     met-by : (g : Called) (l : ℕ) (test : Bool) → same_mapped (mapped f) (mapped g) ≡ test → (if test then Some k else b.known_trampolines (mapped g)) ≡ Some l
         → (l < length b.types) × (composite_at b.types l ≡ Func (mapped g))
     met-by g l true same e =
-        let one : mapped f ≡ mapped g = same-mapped tells f (mapped g) same in
+        let one : mapped f ≡ mapped g = same-mapped f (mapped g) same in
         let place : k ≡ l = cc in
         let at : composite_at b.types l ≡ Func (mapped g) = ap (composite_at b.types) (sym place) ∙ stands ∙ ap Func one in
         (within b.types l (mapped g) at, at)
@@ -91,7 +87,7 @@ module _ (b : Built) (tied : IsTied b) where
     called-by : (g : Called) (l : ℕ) → b.known_trampolines (mapped g) ≡ Some l → (test : Bool) → same_mapped (mapped f) (mapped g) ≡ test
         → (if test then Some k else b.known_trampolines (mapped g)) ≡ Some l
     called-by g l is true same =
-        let no : None ≡ Some l = sym none ∙ ap b.known_trampolines (same-mapped tells f (mapped g) same) ∙ is in absurd cc
+        let no : None ≡ Some l = sym none ∙ ap b.known_trampolines (same-mapped f (mapped g) same) ∙ is in absurd cc
     called-by g l is false other = is
 
     -- a mapped type that was not met is met where it stands
@@ -102,64 +98,60 @@ module _ (b : Built) (tied : IsTied b) where
       called = λ i l g e at. called-by g l (tied.called i l g e at) (same_mapped (mapped f) (mapped g)) refl;
     }
 
--- where `==` of function types tells them
-module _ (tells : (x y : WasmFuncType) → (func.ghosts.eq x y ≡ true → x ≡ y) × (x ≡ y → func.ghosts.eq x y ≡ true)) where
-  -- the test finds a mapped type that was just met
-  met-now : (f : Called) (met : Called → Option ℕ) (k : ℕ) → same_mapped (mapped f) (mapped f) ≡ true → now_known met (mapped f) k (mapped f) ≡ Some k
-  met-now f met k e = ap (λ t. if t then Some k else met (mapped f)) e
+-- the test finds a mapped type that was just met
+met-now : (f : Called) (met : Called → Option ℕ) (k : ℕ) → now_known met (mapped f) k (mapped f) ≡ Some k
+met-now f met k = ap (λ t. if t then Some k else met (mapped f)) (mapped-same f (mapped f) refl)
 
-  tied-new : (b : Built) → IsTied b → (i : ℕ) (f : Called) → composite_at b.types i ≡ Func f → b.known_trampolines (mapped f) ≡ None
-      → same_mapped (mapped f) (mapped f) ≡ true
-      → IsTied (alone (with_trampoline (knows b (mapped f) (length b.types)) i (length b.types)) (plain (Func (mapped f))) (Some (length b.types)))
-  tied-new b tied i f at none itself =
-      let k = length b.types in
-      let t = plain (Func (mapped f)) in
-      let one = tied-alone b tied t in
-      let two = tied-knows (alone b t None) one tells f k none (at-front b.types t []) in
-      let there : composite_at (b.types ++ t ∷ []) i ≡ Func f = composite-before b.types (t ∷ []) i (within b.types i f at) ∙ at in
-      let met = met-now f b.known_trampolines k itself in
-      let three = tied-set (knows (alone b t None) (mapped f) k) two i k f there met in
-      let four : IsTied (with_trampoline (with_trampoline (knows (alone b t None) (mapped f) k) i k) k k) =
-      tied-set (with_trampoline (knows (alone b t None) (mapped f) k) i k) three k k (mapped f) (at-front b.types t []) (ap (now_known b.known_trampolines (mapped f) k) (mapped-twice f) ∙ met) in
-      let read : set (set (b.trampolines ++ None ∷ []) i (Some k)) k (Some k) ≡ set b.trampolines i (Some k) ++ Some k ∷ [] =
-      ap (λ ks. set ks k (Some k)) (set-append_left b.trampolines (None ∷ []) i (Some k) (omega (arith, within b.types i f at, tied.sized)))
-      ∙ set_at (set b.trampolines i (Some k)) None [] (Some k) k (length-set b.trampolines i (Some k) ∙ tied.sized) in
-      coe 0 1 (j. IsTied (record {
-        types = b.types ++ t ∷ [];
-        groups = (alone b t None).groups;
-        trampolines = read j;
-        known_trampolines = now_known b.known_trampolines (mapped f) k;
-      })) four
+tied-new : (b : Built) → IsTied b → (i : ℕ) (f : Called) → composite_at b.types i ≡ Func f → b.known_trampolines (mapped f) ≡ None
+    → IsTied (alone (with_trampoline (knows b (mapped f) (length b.types)) i (length b.types)) (plain (Func (mapped f))) (Some (length b.types)))
+tied-new b tied i f at none =
+    let k = length b.types in
+    let t = plain (Func (mapped f)) in
+    let one = tied-alone b tied t in
+    let two = tied-knows (alone b t None) one f k none (at-front b.types t []) in
+    let there : composite_at (b.types ++ t ∷ []) i ≡ Func f = composite-before b.types (t ∷ []) i (within b.types i f at) ∙ at in
+    let met = met-now f b.known_trampolines k in
+    let three = tied-set (knows (alone b t None) (mapped f) k) two i k f there met in
+    let four : IsTied (with_trampoline (with_trampoline (knows (alone b t None) (mapped f) k) i k) k k) =
+    tied-set (with_trampoline (knows (alone b t None) (mapped f) k) i k) three k k (mapped f) (at-front b.types t []) (ap (now_known b.known_trampolines (mapped f) k) (mapped-twice f) ∙ met) in
+    let read : set (set (b.trampolines ++ None ∷ []) i (Some k)) k (Some k) ≡ set b.trampolines i (Some k) ++ Some k ∷ [] =
+    ap (λ ks. set ks k (Some k)) (set-append_left b.trampolines (None ∷ []) i (Some k) (omega (arith, within b.types i f at, tied.sized)))
+    ∙ set_at (set b.trampolines i (Some k)) None [] (Some k) k (length-set b.trampolines i (Some k) ∙ tied.sized) in
+    coe 0 1 (j. IsTied (record {
+      types = b.types ++ t ∷ [];
+      groups = (alone b t None).groups;
+      trampolines = read j;
+      known_trampolines = now_known b.known_trampolines (mapped f) k;
+    })) four
 
-  tied-at : (b : Built) → IsTied b → (i : ℕ) (f : Called) → composite_at b.types i ≡ Func f → same_mapped (mapped f) (mapped f) ≡ true
-      → (o : Option ℕ) → b.known_trampolines (mapped f) ≡ o → IsTied (assign_at b i f o)
-  tied-at b tied i f at itself (Some k) is = tied-set b tied i k f at is
-  tied-at b tied i f at itself None none = by (same_mapped (mapped f) f) refl where
-    by : (own : Bool) → same_mapped (mapped f) f ≡ own → IsTied (if own then with_trampoline (knows b (mapped f) i) i i
-        else alone (with_trampoline (knows b (mapped f) (length b.types)) i (length b.types)) (plain (Func (mapped f))) (Some (length b.types)))
-    by true own =
-        let stands : composite_at b.types i ≡ Func (mapped f) = at ∙ ap Func (sym (same-mapped tells f f own)) in
-        tied-set (knows b (mapped f) i) (tied-knows b tied tells f i none stands) i i f at (met-now f b.known_trampolines i itself)
-    by false other = tied-new b tied i f at none itself
+tied-at : (b : Built) → IsTied b → (i : ℕ) (f : Called) → composite_at b.types i ≡ Func f → (o : Option ℕ) → b.known_trampolines (mapped f) ≡ o → IsTied (assign_at b i f o)
+tied-at b tied i f at (Some k) is = tied-set b tied i k f at is
+tied-at b tied i f at None none = by (same_mapped (mapped f) f) refl where
+  by : (own : Bool) → same_mapped (mapped f) f ≡ own → IsTied (if own then with_trampoline (knows b (mapped f) i) i i
+      else alone (with_trampoline (knows b (mapped f) (length b.types)) i (length b.types)) (plain (Func (mapped f))) (Some (length b.types)))
+  by true own =
+      let stands : composite_at b.types i ≡ Func (mapped f) = at ∙ ap Func (sym (same-mapped f f own)) in
+      tied-set (knows b (mapped f) i) (tied-knows b tied f i none stands) i i f at (met-now f b.known_trampolines i)
+  by false other = tied-new b tied i f at none
 
-  tied-assign_trampoline : (b : Built) → IsTied b → (i : ℕ) (c : Composite (Named ℕ) ℕ) → composite_at b.types i ≡ c → IsTied (assign_trampoline b i c)
-  tied-assign_trampoline b tied i (Func f) at = tied-at b tied i f at (mapped-same tells f (mapped f) refl) (b.known_trampolines (mapped f)) refl
-  tied-assign_trampoline b tied i c at = tied
+tied-assign_trampoline : (b : Built) → IsTied b → (i : ℕ) (c : Composite (Named ℕ) ℕ) → composite_at b.types i ≡ c → IsTied (assign_trampoline b i c)
+tied-assign_trampoline b tied i (Func f) at = tied-at b tied i f at (b.known_trampolines (mapped f)) refl
+tied-assign_trampoline b tied i c at = tied
 
-  tied-all : (b : Built) → IsTied b → (i : ℕ) (front ts more : List Interned) → length front ≡ i → b.types ≡ front ++ (ts ++ more) → IsTied (assign_trampolines b i ts)
-  tied-all b tied i front [] more long types = tied
-  tied-all b tied i front (t ∷ ts) more long types =
-      let c = t.composite.inner in
-      let at : composite_at b.types i ≡ c = (λ j. composite_at (types j) (sym long j)) ∙ at-front front t (ts ++ more) in
-      let x = extends-step b i c in
-      tied-all (assign_trampoline b i c) (tied-assign_trampoline b tied i c at) (suc i) (front ++ t ∷ []) ts (more ++ x.types_more) (length-append front (t ∷ []) ∙ omega (arith, long))
-      (x.types ∙ ap (λ us. us ++ x.types_more) types ∙ append_assoc front (t ∷ (ts ++ more)) x.types_more
-      ∙ ap (λ us. front ++ t ∷ us) (append_assoc ts more x.types_more) ∙ sym (append_assoc front (t ∷ []) (ts ++ (more ++ x.types_more))))
+tied-all : (b : Built) → IsTied b → (i : ℕ) (front ts more : List Interned) → length front ≡ i → b.types ≡ front ++ (ts ++ more) → IsTied (assign_trampolines b i ts)
+tied-all b tied i front [] more long types = tied
+tied-all b tied i front (t ∷ ts) more long types =
+    let c = t.composite.inner in
+    let at : composite_at b.types i ≡ c = (λ j. composite_at (types j) (sym long j)) ∙ at-front front t (ts ++ more) in
+    let x = extends-step b i c in
+    tied-all (assign_trampoline b i c) (tied-assign_trampoline b tied i c at) (suc i) (front ++ t ∷ []) ts (more ++ x.types_more) (length-append front (t ∷ []) ∙ omega (arith, long))
+    (x.types ∙ ap (λ us. us ++ x.types_more) types ∙ append_assoc front (t ∷ (ts ++ more)) x.types_more
+    ∙ ap (λ us. front ++ t ∷ us) (append_assoc ts more x.types_more) ∙ sym (append_assoc front (t ∷ []) (ts ++ (more ++ x.types_more))))
 
-  pub tied-group : (b : Built) → IsTied b → (ts : List Interned) → IsTied (with_group b ts)
-  tied-group b tied ts =
-      tied-all (opened b ts) (tied-more b tied ts (b.groups ++ next_span b (length ts) ∷ [])) (length b.types) b.types ts [] refl
-      (ap (λ us. b.types ++ us) (sym (append-nil ts)))
+pub tied-group : (b : Built) → IsTied b → (ts : List Interned) → IsTied (with_group b ts)
+tied-group b tied ts =
+    tied-all (opened b ts) (tied-more b tied ts (b.groups ++ next_span b (length ts) ∷ [])) (length b.types) b.types ts [] refl
+    (ap (λ us. b.types ++ us) (sym (append-nil ts)))
 
 -- one index exactly for equal mapped types
 pub one-index : (b : Built) → IsTied b → (i j k l : ℕ) (f g : Called) → composite_at b.types i ≡ Func f → composite_at b.types j ≡ Func g
@@ -190,7 +182,7 @@ at-set (x ∷ xs) i k j s = s
 at-itself : (xs : List (Option ℕ)) (i k : ℕ) → i < length xs → IsAt (set xs i (Some k)) i
 at-itself xs i k lt = subst IsSome (sym (get_or-set_same xs i (Some k) None lt)) refl
 
--- ---- steps
+-- ---- what has a trampoline keeps it
 
 abbrev IsSized : Built → Type 0
 IsSized b = length b.trampolines ≡ length b.types

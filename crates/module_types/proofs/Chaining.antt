@@ -1,6 +1,6 @@
 -- Types that were met: chained by their digests, as the list grows and as one more is noted.
 use Rattle.std.proofs.Common.{◌≡◌, ◌<◌, ◌≤◌, ℕ, zero, suc, ◌+◌, ◌-◌, Bool, true, false, cond, List, [], ◌∷◌, ◌++◌, length, take, map, Some, None, refl, sym, ap, ◌∙◌, inl, inr, arith, Option}
-use Rattle.std.specs.Prelude.{◌⊎◌, ◌↔◌, slice_get, nat_eq, if◌then◌else◌, option_and_then, IsSome}
+use Rattle.std.specs.Prelude.{◌⊎◌, slice_get, nat_eq, if◌then◌else◌, option_and_then, IsSome}
 use Rattle.std.specs.Map.{lookup}
 use Rattle.std.specs.Option.{option_map, unwrap_or}
 use Rattle.std.proofs.lemmas.Option.{slice_get-map, slice_get_within}
@@ -8,8 +8,7 @@ use Rattle.std.proofs.lemmas.Bool.{eqb-true, eqb-false}
 use Rattle.std.proofs.lemmas.List.{length-append, reverse-append, take_all, take-append-le, length-map, map-append}
 use Rattle.wasm_types.specs.declared.func.WasmFuncType.{WasmFuncType}
 use Rattle.wasm_types.specs.contracts.equal.WasmFuncTypePartialEq.TheImpl as func
-use Rattle.wasm_types.specs.contracts.equal.WasmFuncTypeEq.TheImpl.Laws as func_equal
-use Rattle.wasm_types.proofs.Sound.{decides, function-sound}
+use Rattle.module_types.proofs.Keys.{equal}
 use Rattle.module_types.specs.Met.{Met, known_in, entry_of, Leads, AreChained, met_of, mets, met_at, digest_of, newest_of, no_function, IsLinked, IsNoted}
 use Rattle.entity_map.proofs.PoolLemmas.{slice_get-append_end}
 use Rattle.wasm_index.specs.Index.{number_of}
@@ -21,9 +20,6 @@ use Rattle.module_types.specs.declared.met.MetType.{MetType}
 use Rattle.module_types.specs.declared.met.MetTypes.{MetTypes}
 
 -- ---- equality of function types
-
-pub equal : (f g : WasmFuncType) → (func.ghosts.eq f g ≡ true) ↔ (f ≡ g)
-equal f g = decides func.ghosts.eq function-sound func_equal.laws-law.refl f g
 
 by-test : {P : Type 0} (b : Bool) → (b ≡ true → P) → (b ≡ false → P) → P
 by-test true holds fails = holds refl
@@ -175,7 +171,7 @@ module _ (digest : WasmFuncType → ℕ) (newest : ℕ → ℕ) (rs : List Met) 
     pub chained-more : AreChained digest later all
     chained-more = record { first = first-more; next = next-more }
 
--- ---- as the list grows
+-- ---- types that stand in a list
 
 abbrev part_of : WasmSubType → Option WasmFuncType
 part_of t = func_in t.composite_type.inner

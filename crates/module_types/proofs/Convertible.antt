@@ -1,5 +1,5 @@
 -- A group of a list of types can be converted, and what it becomes.
-use Rattle.std.proofs.Common.{◌≡◌, ◌≤◌, ◌<◌, ℕ, zero, suc, ◌+◌, List, [], ◌∷◌, All, length, get_or, map, Option, Some, None, refl, sym, ap, ◌∙◌, inl, inr, arith, take}
+use Rattle.std.proofs.Common.{◌≡◌, ◌≤◌, ◌<◌, ℕ, zero, suc, ◌+◌, List, [], ◌∷◌, All, length, get_or, map, Option, Some, None, refl, sym, ap, subst, ◌∙◌, inl, inr, arith, take}
 use Rattle.std.specs.Prelude.{slice_get, IsSome, IsSomeAnd, ◌⊎◌}
 use Rattle.std.proofs.lemmas.List.{length-map, take_all}
 use Rattle.std.proofs.lemmas.List.Elements.{All-head, All-tail, All-cons, All-nil, All-weaker}
@@ -39,10 +39,6 @@ all-both P Q R each [] p q = All-nil R
 all-both P Q R each (x ∷ xs) p q =
     All-cons R x xs (each x (All-head P x xs p) (All-head Q x xs q)) (all-both P Q R each xs (All-tail P x xs p) (All-tail Q x xs q))
 
-not-some : (o : Option ℕ) → IsSome o → o ≡ None → ⊥
-not-some None h e = cc
-not-some (Some x) h e = cc
-
 -- ---- the references of a group
 
 below-more : (a b : ℕ) → a ≤ b → (i : UnpackedIndex) → IsIdBelow a i → IsIdBelow b i
@@ -69,7 +65,7 @@ module _ (t : TypesData) (next : ℕ) (spans : List Span) (ids : ℕ → Option 
     by (inl same) none =
         let back = sym same in
         coe 0 1 (j. next + length (members_of t (back j)) < 4294967295) (room (ap ids back ∙ none))
-    by (inr some) none = absurd (not-some (ids (group_of_id t n)) some none)
+    by (inr some) none = let no = subst IsSome none some in absurd cc
 
   knows : (bound : ℕ) → bound ≤ length (types_by_id t.groups) → (i : UnpackedIndex) → IsIdBelow bound i
       → (group_of_id t (id_number i) ≡ k) ⊎ IsSome (ids (group_of_id t (id_number i))) → CanLookUp (KnowsId t next spans ids) i
@@ -129,6 +125,8 @@ module _ (t : TypesData) (next : ℕ) (spans : List Span) (ids : ℕ → Option 
 pub members-long : (t : TypesData) (b : Builder) (k : ℕ) → length (interned_members t b k) ≡ length (members_of t k)
 members-long t b k = length-map (members_of t k) _
 
+-- ---- a converter
+
 -- what looks up the ids of a converter knows each that the converter knows
 pub known-by : (Callable : Index TypeSpace → Type 0) (b : BuilderState) (bound : ℕ) (ids : Option TypesAndGroup) (i : UnpackedIndex) (id : CoreTypeId)
     → i ≡ index.Id id → CanLookUp (KnowsIndex Callable b bound ids) i → (p : TypesAndGroup) → ids ≡ Some p → HaveIndices b ids
@@ -140,7 +138,7 @@ known-by Callable b bound ids i id is known p one have t list held types lists h
     let found = index-known p.0 (length b.list.types) (builder_view b).built.groups (builder_view b).ids p.1 whole.0 whole.1 id.0 here.0 here.1 in
     coe 0 1 (j. CanLookUp (KnowsId (sym types j) (length (sym lists j).types) (map span_of (sym lists j).groups) (noted_at (sym helds j))) (sym is j)) found
 
--- ---- what is known of each part, and what each becomes
+-- ---- what is known of each part
 
 pub all-parts : {A B E : Type 0} (P : E → Type 0) (edges : B → List E) (view : A → B) (xs : List A) → All P (flat_map edges (map view xs))
     → All (λ x. All P (edges (view x))) xs

@@ -1,5 +1,5 @@
--- The way back from data, mapped types, and which keys are equal.
-use Rattle.std.proofs.Common.{◌≡◌, ℕ, true, ◌&&◌, List, [], ◌∷◌, map, refl, ap, ◌∙◌, sym}
+-- The way back from data, mapped types with their codes, and which keys are equal.
+use Rattle.std.proofs.Common.{◌≡◌, ◌↔◌, ℕ, true, ◌&&◌, List, [], ◌∷◌, map, refl, ap, ◌∙◌, sym, ◌<◌, ◌≤◌, ◌+◌, ◌*◌, ◌^◌, Bool}
 use Rattle.std.specs.Bool.{beq}
 use Rattle.std.specs.Cmp.Lexicographic.{pointwise}
 use Rattle.wasm_spec.specs.declared.types.AbstractHeapType.{AbstractHeapType}
@@ -18,10 +18,21 @@ use Rattle.wasm_types.specs.declared.func.WasmFuncType.{WasmFuncType}
 use Rattle.wasm_types.specs.contracts.heap.WasmHeapTypePartialEq.TheImpl as heaps
 use Rattle.wasm_types.specs.contracts.value.WasmValTypePartialEq.TheImpl as values
 use Rattle.wasm_types.specs.contracts.equal.WasmFuncTypePartialEq.TheImpl as func
+use Rattle.wasm_types.specs.contracts.equal.WasmFuncTypeEq.TheImpl.Laws as func_equal
+use Rattle.wasm_types.proofs.Sound.{decides, function-sound}
 use Rattle.wasm_types.specs.Tops.{top_of, heap_of_top}
 use Rattle.wasm_types.specs.Trampolines.{trampoline_val, trampoline_of}
 use Rattle.wasm_types.specs.ValueViews.{value_of}
 use Rattle.module_types.specs.Views.{plain_heap, plain_value, interned_number, called_of, heap_at, value_at, function_at}
+use Rattle.std.specs.Prelude.{if◌then◌else◌}
+use Rattle.std.specs.List.{fold, flat_map}
+use Rattle.std.specs.Hash as fed
+use Rattle.std.specs.Hash.FoldHasher as folding
+use Rattle.std.specs.declared.hash.FoldHasher.{FoldHasher}
+use Rattle.std.proofs.lemmas.Bool.{lt-ltb, le-ltb}
+use Rattle.wasm_types.specs.declared.heap.WasmHeapTopType.TheVariants as heap_top
+use Rattle.wasm_types.specs.declared.heap.WasmHeapTopType.{WasmHeapTopType}
+use Rattle.module_types.specs.Passed.{code_of_top, code_of, packed, words_of, fed_with}
 
 -- ---- the way back
 
@@ -90,6 +101,9 @@ values-are [] (w ∷ ws) = refl
 values-are (v ∷ vs) [] = refl
 values-are (v ∷ vs) (w ∷ ws) = λ i. value-is v w i && values-are vs ws i
 
+pub equal : (f g : WasmFuncType) → (func.ghosts.eq f g ≡ true) ↔ (f ≡ g)
+equal f g = decides func.ghosts.eq function-sound func_equal.laws-law.refl f g
+
 -- a mapped type is equal to another type exactly where the definition's test says so
 pub key-is : (f q : WasmFuncType) → func.ghosts.eq (trampoline_of f) q ≡ same_mapped (mapped (called_of f)) (called_of q)
 key-is f q =
@@ -118,21 +132,52 @@ all-twice (v ∷ vs) = λ i. passed-twice v i ∷ all-twice vs i
 pub mapped-twice : (f : Called) → mapped (mapped f) ≡ mapped f
 mapped-twice f = λ i. record { params = all-twice f.params i; results = all-twice f.results i }
 
--- where `==` of function types tells them, the test tells mapped types
-module _ (tells : (x y : WasmFuncType) → (func.ghosts.eq x y ≡ true → x ≡ y) × (x ≡ y → func.ghosts.eq x y ≡ true)) (f g : Called) where
+-- the test tells mapped types
+module _ (f g : Called) where
   tie : func.ghosts.eq (trampoline_of (function_at f)) (function_at g) ≡ same_mapped (mapped f) g
   tie = key-is (function_at f) (function_at g) ∙ (λ i. same_mapped (mapped (function-back f i)) (function-back g i))
 
   pub same-mapped : same_mapped (mapped f) g ≡ true → mapped f ≡ g
   same-mapped e =
-      let same = (tells (trampoline_of (function_at f)) (function_at g)).0 (tie ∙ e) in
+      let same = (equal (trampoline_of (function_at f)) (function_at g)).0 (tie ∙ e) in
       sym (called-mapped (function_at f) ∙ ap mapped (function-back f)) ∙ ap called_of same ∙ function-back g
 
   pub mapped-same : mapped f ≡ g → same_mapped (mapped f) g ≡ true
   mapped-same e =
-      sym tie ∙ (tells (trampoline_of (function_at f)) (function_at g)).1 (mapped-is (function_at f) ∙ ap function_at (ap mapped (function-back f) ∙ e))
+      sym tie ∙ (equal (trampoline_of (function_at f)) (function_at g)).1 (mapped-is (function_at f) ∙ ap function_at (ap mapped (function-back f) ∙ e))
 
 -- a mapped type is its own mapped type
 pub trampoline-twice : (f : WasmFuncType) → trampoline_of (trampoline_of f) ≡ trampoline_of f
 trampoline-twice f =
     mapped-is (trampoline_of f) ∙ ap function_at (ap mapped (called-mapped f) ∙ mapped-twice (called_of f)) ∙ sym (mapped-is f)
+
+-- ---- codes in words
+
+abbrev fed_next : FoldHasher → ℕ → List ℕ → Bool → FoldHasher
+fed_next h more cs b = fold folding.write h (flat_map fed.u64 (if b then packed more cs else (more ∷ packed 1 cs)))
+
+pub fed-kept : (h : FoldHasher) (word c : ℕ) (cs : List ℕ) → word * 16 + c < 2 ^ 60
+    → fold folding.write h (words_of (word * 16 + c) cs) ≡ fold folding.write h (words_of word (c ∷ cs))
+fed-kept h word c cs less = ap (fed_next h (word * 16 + c) cs) (sym (lt-ltb (word * 16 + c) (2 ^ 60) less))
+
+pub fed-full : (h later : FoldHasher) (word c : ℕ) (cs : List ℕ) → 2 ^ 60 ≤ word * 16 + c → later ≡ fold folding.write h (fed.u64 (word * 16 + c))
+    → fold folding.write later (words_of 1 cs) ≡ fold folding.write h (words_of word (c ∷ cs))
+fed-full h later word c cs full is =
+    ap (λ k. fold folding.write k (words_of 1 cs)) is ∙ ap (fed_next h (word * 16 + c) cs) (sym (le-ltb (word * 16 + c) (2 ^ 60) full))
+
+-- ---- a mapped type has the codes of the type
+
+top-code : (t : WasmHeapTopType) → code_of_top (top_of (heap_of_top t)) ≡ code_of_top t
+top-code heap_top.Func = refl
+top-code t = refl
+
+same-code : (v : WasmValType) → code_of (trampoline_val v) ≡ code_of v
+same-code (val.Ref r) = top-code (top_of r.heap_type)
+same-code v = refl
+
+pub same-codes : (vs : List WasmValType) → map code_of (map trampoline_val vs) ≡ map code_of vs
+same-codes [] = refl
+same-codes (v ∷ vs) = λ i. same-code v i ∷ same-codes vs i
+
+pub same-feed : (h : FoldHasher) (vs : List WasmValType) → fed_with h (map trampoline_val vs) ≡ fed_with h vs
+same-feed h vs = ap (λ cs. fold folding.write h (words_of 1 cs)) (same-codes vs)

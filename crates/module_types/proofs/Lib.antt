@@ -1,17 +1,11 @@
 pub mod Keys
 pub mod Steps
-pub mod Noting
 pub mod GroupMembers
-pub mod Packing
 pub mod Chaining
-pub mod Shows
 pub mod Elements
 pub mod Places
 pub mod Convertible
-pub mod WholeLists
-pub mod Runs
 pub mod Holding
-pub mod Finding
 pub mod Called
 pub mod Taking
 pub mod Telling
@@ -19,7 +13,6 @@ pub mod EqualLists
 pub mod WellNamed
 pub mod NamedLists
 pub mod Standing
-pub mod Compared
 pub mod ToldByForms
 pub mod NamingEarlier
 pub mod DeclaredGroups

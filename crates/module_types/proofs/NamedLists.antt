@@ -17,9 +17,8 @@ use Rattle.type_spec.proofs.ByNames.{name_by, by_names, names-same, names-plain,
 use Rattle.module_types.specs.ListGroups.{unkinded, kind_in, IsWellNamed}
 use Rattle.module_types.proofs.Taking.{IsCopy, Covers, form, Next, Stand, IsExactBelow, with_forms, number_in, whole}
 use Rattle.module_types.proofs.EqualLists.{next-home, next-place, next-number}
-use Rattle.module_types.proofs.GroupMembers.{composite-behind, extends-group, trampoline_next, all-steps}
+use Rattle.module_types.proofs.GroupMembers.{composite-behind, extends-group, trampoline_next, all-steps, through-interned}
 use Rattle.module_types.proofs.WellNamed.{kind-mapped, AllBelow, Well, kind-before, well-next, named-before}
-use Rattle.module_types.proofs.WholeLists.{through-interned}
 use Rattle.std.specs.Option.{option_to_list}
 use Rattle.form_lists.proofs.AllSections.{All-joined}
 
@@ -144,6 +143,8 @@ module _ (b : Built) (i : ℕ) (le : i ≤ length b.types) where
 
 pub well-startup : (b : Built) → Well b.types b.groups → Well (with_startup b true).types (with_startup b true).groups
 well-startup b w = well-next b.types (startup_type ∷ []) b.groups w (omega arith) (All-nil (λ r. r < length b.types + 1)) refl
+
+-- ---- the list of a module
 
 abbrev some_member : SubType (Unit {0}) (Unit {0})
 some_member = record { is_final = true; supertype = None; composite = record { inner = Struct []; shared = false } }

@@ -16,8 +16,7 @@ use Rattle.type_spec.proofs.Homes.{size, home-again}
 use Rattle.type_spec.proofs.ByNames.{name_by, names-plain}
 use Rattle.module_types.specs.Conversion.{no_span}
 use Rattle.module_types.specs.ListGroups.{unkinded, types_in, list_groups, IsWellNamed}
-use Rattle.module_types.proofs.GroupMembers.{Extends, extends-none, extends-both, extends-alone, group-within, span-new, types-new, extends-group, extends-groups}
-use Rattle.module_types.proofs.WholeLists.{through-alone}
+use Rattle.module_types.proofs.GroupMembers.{Extends, extends-none, extends-both, extends-alone, group-within, span-new, types-new, extends-group, extends-groups, through-alone}
 use Rattle.module_types.proofs.Taking.{IsCopy, Covers, form, Next, Stand, IsExactBelow, with_forms, number_in, whole}
 use Rattle.module_types.proofs.EqualLists.{next-home, next-place, next-number}
 use Rattle.module_types.proofs.NamedLists.{well-named}

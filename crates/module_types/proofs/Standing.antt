@@ -12,7 +12,7 @@ use Rattle.type_spec.proofs.ByNames.{name_by, by_names, some_type, joined-kind}
 use Rattle.module_types.specs.Orderly.{LieBetween}
 use Rattle.module_types.specs.Conversion.{no_span}
 use Rattle.module_types.specs.ListGroups.{unkinded, types_in, home_of, list_groups, kind_in, IsWellNamed}
-use Rattle.module_types.proofs.WellNamed.{kind-mapped, AllBelow, groups_of, groups-size, types-long, unkinded-long, lie-low}
+use Rattle.module_types.proofs.WellNamed.{kind-mapped, AllBelow, groups_of, span-ends, groups-size, types-long, unkinded-long, lie-low}
 
 -- a group with a number, in spans that begin at an index
 pub record StandsFrom (ts : List Interned) (ss : List Span) (first end : ℕ) (s : Span) : Type 0 where
@@ -28,21 +28,17 @@ stands-from : (ts : List Interned) (ss : List Span) (first end k : ℕ) → LieB
 stands-from ts [] first end k lie le earlier lt = absurd (omega arith)
 stands-from ts (s ∷ ss) first end zero lie le earlier lt =
     let g = unkinded (types_in ts s) in
-    let high = lie-low s.end end ss lie.2 in
-    let long = unkinded-long (types_in ts s) ∙ types-long ts s (omega (arith, lie.1)) (omega (arith, high, le)) in
-    let last : first + length g ≡ s.end = omega (arith, long, lie.0, lie.1) in
+    let last = span-ends ts s ss first end lie le in
     record {
       low = omega (arith, lie.0);
       some = lie.1;
-      high = high;
+      high = lie-low s.end end ss lie.2;
       at = in_front first g (groups_of ts ss) s.start (omega (arith, last, lie.0, lie.1)) ∙ ap (λ n. record { start = n; members = g }) (sym lie.0);
       near = subst (λ n. AllBelow n g) last earlier.0;
     }
 stands-from ts (s ∷ ss) first end (suc k) lie le earlier lt =
     let g = unkinded (types_in ts s) in
-    let high = lie-low s.end end ss lie.2 in
-    let long = unkinded-long (types_in ts s) ∙ types-long ts s (omega (arith, lie.1)) (omega (arith, high, le)) in
-    let last : first + length g ≡ s.end = omega (arith, long, lie.0, lie.1) in
+    let last = span-ends ts s ss first end lie le in
     let r = stands-from ts ss s.end end k lie.2 le (subst (λ n. NameEarlier n (groups_of ts ss)) last earlier.1) (omega arith) in
     let t = get_or ss k no_span in
     record {

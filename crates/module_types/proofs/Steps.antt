@@ -51,6 +51,9 @@ module _ (l : TypeList) (get : WasmFuncType → Option TypeIndex) where
   abbrev held : Built
   held = built_of l get
 
+  called-is : (i : ℕ) (k : TypeIndex) → built_of (called_by l i k) get ≡ with_trampoline held i (number_of k)
+  called-is i k = λ j. record held { trampolines = map-set (option_map number_of) l.trampolines i (Some k) j }
+
   -- types in a group after the others, each with its trampoline if it has one
   more-is : (ts : List WasmSubType) (ks : List (Option TypeIndex)) (r : Range TypeIndex) → r.start ≡ index_of (length l.types)
       → r.end ≡ index_of (length (l.types ++ ts))
@@ -109,9 +112,7 @@ module _ (l : TypeList) (get : WasmFuncType → Option TypeIndex) (i : ℕ) (f :
 
   -- the trampoline is known
   pub known-before : (k : TypeIndex) → Some k ≡ get (trampoline_of f) → built_of (called_by l i k) get ≡ assign_trampoline old i (composite_at old.types i)
-  known-before k e =
-      (λ j. record { types = old.types; groups = old.groups; trampolines = map-set (option_map number_of) l.trampolines i (Some k) j; known_trampolines = old.known_trampolines })
-      ∙ sym (made (Some k) e)
+  known-before k e = called-is l get i k ∙ sym (made (Some k) e)
 
   -- what came next where the trampoline was not known
   abbrev unmet : Bool → Built
@@ -128,10 +129,7 @@ module _ (l : TypeList) (get : WasmFuncType → Option TypeIndex) (i : ℕ) (f :
     mapped-test g = key-is f (function_at g) ∙ ap (same_mapped (mapped (called_of f))) (function-back g)
 
     pub known-now : built_of (called_by l i k) later ≡ with_trampoline (knows old (mapped (called_of f)) (number_of k)) i (number_of k)
-    known-now = λ j. record {
-      types = old.types;
-      groups = old.groups;
-      trampolines = map-set (option_map number_of) l.trampolines i (Some k) j;
+    known-now = λ j. record (called-is l get i k j) {
       known_trampolines = λ g. noted-by get (trampoline_of f) (mapped (called_of f)) mapped-test later k puts g j;
     }
 
@@ -157,13 +155,10 @@ module _ (l : TypeList) (get : WasmFuncType → Option TypeIndex) (i : ℕ) (f :
 -- ---- the trampoline that comes next
 
 module _ (l : TypeList) (get : WasmFuncType → Option TypeIndex) where
-  called-is : (i : ℕ) (k : TypeIndex) → built_of (called_by l i k) get ≡ with_trampoline (built_of l get) i (number_of k)
-  called-is i k = λ j. record (built_of l get) { trampolines = map-set (option_map number_of) l.trampolines i (Some k) j }
-
   pub next-is : (i : ℕ) (k : TypeIndex) (f : Called) → number_of k ≡ length (map interned_of l.types)
       → knows (alone (built_of (called_by l i k) get) (plain (Func f)) (Some (number_of k))) f (number_of k) ≡ with_next_trampoline (built_of l get) i f
   next-is i k f count =
-      (λ j. knows (alone (called-is i k j) (plain (Func f)) (Some (number_of k))) f (number_of k))
+      (λ j. knows (alone (called-is l get i k j) (plain (Func f)) (Some (number_of k))) f (number_of k))
       ∙ ap (λ n. alone (with_trampoline (knows (built_of l get) f n) i n) (plain (Func f)) (Some n)) count
 
   -- a type that is its own mapped type is noted

@@ -57,14 +57,18 @@ types-last ts us s start end =
     let long : s.end - s.start ≡ length us = omega (arith, start, end) in
     (λ i. take (long i) (drop (start i) (ts ++ us))) ∙ ap (take (length us)) (drop-append_seam ts us) ∙ take-length us
 
+pub span-ends : (ts : List Interned) (s : Span) (ss : List Span) (first end : ℕ) → LieBetween first (s ∷ ss) end → end ≤ length ts
+    → first + length (unkinded (types_in ts s)) ≡ s.end
+span-ends ts s ss first end lie le =
+    let high = lie-low s.end end ss lie.2 in
+    omega (arith, unkinded-long (types_in ts s), types-long ts s (omega (arith, lie.1)) (omega (arith, high, le)), lie.0, lie.1)
+
 pub groups-size : (ts : List Interned) (ss : List Span) (first end : ℕ) → LieBetween first ss end → end ≤ length ts
     → first + size (groups_of ts ss) ≡ end
 groups-size ts [] first end lie le = omega (arith, lie)
 groups-size ts (s ∷ ss) first end lie le =
-    let low = lie-low s.end end ss lie.2 in
-    let one = unkinded-long (types_in ts s) ∙ types-long ts s (omega (arith, lie.1)) (omega (arith, low, le)) in
     let rest = groups-size ts ss s.end end lie.2 le in
-    omega (arith, size-cons (unkinded (types_in ts s)) (groups_of ts ss), one, rest, lie.0, lie.1)
+    omega (arith, size-cons (unkinded (types_in ts s)) (groups_of ts ss), span-ends ts s ss first end lie le, rest)
 
 earlier-more : (gs : List (Group ℕ ℕ)) (g : Group ℕ ℕ) (start : ℕ) → NameEarlier start gs → AllBelow (start + size gs + length g) g
     → NameEarlier start (gs ++ g ∷ [])

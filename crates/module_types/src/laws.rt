@@ -21,7 +21,7 @@ ghost use Rattle.module_types.specs.InTurn.{interns_declared, HasTaken, CanInter
 ghost use Rattle.module_types.specs.ListGroups.{group_at, list_groups, span_at, IsWellNamed, EngineMap, TellTypes, TellTypesBefore, IsCompared, OneIndex, AreCompared};
 ghost use Rattle.module_types.specs.Runs.{with_groups, runs, firsts, AllFilled};
 
-use wasm_types::{WasmRecGroup, equality_law};
+use wasm_types::WasmRecGroup;
 
 /// The groups of a builder lie behind one another, from the first type to the last: those of the empty one do, and each step keeps it.
 pub fn ranges_law()
@@ -35,9 +35,7 @@ pub fn ranges_law()
 pub fn trampolines_law()
     ensures once { (f : Called) → mapped (mapped f) ≡ mapped f }
     ensures told { (f g : Called) → (same_mapped (mapped f) g ≡ true) ↔ (mapped f ≡ g) }
-{
-    equality_law();
-}
+{}
 
 /// Functions of a builder's list have one trampoline exactly where their mapped types are equal.
 pub fn one_trampoline_law()
@@ -49,9 +47,7 @@ pub fn one_trampoline_law()
     ensures interned { (ms : List (Group ℕ ℕ)) (tags : List ℕ) (startup : Bool) → IsTied (interned ms tags startup) }
     ensures one { (b : Built) → IsTied b → (i j k l : ℕ) (f g : Called) → composite_at b.types i ≡ Func f → composite_at b.types j ≡ Func g
         → trampoline_in b i ≡ Some k → trampoline_in b j ≡ Some l → (k ≡ l) ↔ (mapped f ≡ mapped g) }
-{
-    equality_law();
-}
+{}
 
 /// Each function type that is taken of a module has a trampoline, also in its interned list; in a builder each function member of a group
 /// that was interned has one, and keeps it. So `trampoline_type` may be called with it.

@@ -1,4 +1,4 @@
-use Rattle.module_types.proofs.Compared.{compared}
+use Rattle.module_types.proofs.ToldByForms.{compared}
 use Rattle.module_types.proofs.laws.compared_before_law.Goals as goal
 
 pub returns : goal.returns

@@ -1,4 +1,4 @@
-use Rattle.module_types.proofs.Compared.{compared, all-before}
+use Rattle.module_types.proofs.ToldByForms.{compared, all-before}
 use Rattle.module_types.proofs.laws.compared_groups_law.Goals as goal
 
 pub returns : goal.returns

@@ -1,8 +1,8 @@
-use Rattle.std.proofs.Common.{List, refl}
-use Rattle.type_spec.specs.Interned.{Built, Interned, empty, plain, with_group, exception_for, composite_at, startup_type}
+use Rattle.std.proofs.Common.{refl}
+use Rattle.type_spec.specs.Interned.{empty, plain, exception_for, composite_at, startup_type}
 use Rattle.module_types.specs.Tied.{IsTied}
 use Rattle.module_types.proofs.Called.{tied-alone, tied-group, one-index}
-use Rattle.module_types.proofs.WholeLists.{through-taken, through-alone}
+use Rattle.module_types.proofs.GroupMembers.{through-taken, through-alone}
 use Rattle.module_types.proofs.laws.one_trampoline_law.Goals as goal
 
 tied-none : IsTied empty
@@ -10,11 +10,10 @@ tied-none = record { sized = refl; known = λ f k e. absurd cc; called = λ i k 
 
 pub returns : goal.returns
 returns c =
-    let group : (b : Built) → IsTied b → (ts : List Interned) → IsTied (with_group b ts) = tied-group c.equality_law.ensures.function in
-    let taken = through-taken IsTied group tied-none in
+    let taken = through-taken IsTied tied-group tied-none in
     record {
       none = tied-none;
-      group = λ b ts tied. group b tied ts;
+      group = λ b ts tied. tied-group b tied ts;
       exception = λ b i tied. tied-alone b tied (plain (exception_for i (composite_at b.types i)));
       startup = λ b tied. tied-alone b tied startup_type;
       taken = taken;

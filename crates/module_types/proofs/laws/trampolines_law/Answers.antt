@@ -4,5 +4,5 @@ use Rattle.module_types.proofs.laws.trampolines_law.Goals as goal
 pub returns : goal.returns
 returns c = record {
   once = mapped-twice;
-  told = λ f g. (same-mapped c.equality_law.ensures.function f g, mapped-same c.equality_law.ensures.function f g);
+  told = λ f g. (same-mapped f g, mapped-same f g);
 }

@@ -7,7 +7,7 @@ use Rattle.module_types.specs.Interner.{built}
 use Rattle.module_types.specs.Builder.{BuilderState, builder_view, interns}
 use Rattle.module_types.specs.contracts.builder.ModuleTypesBuilder.{the_view}
 use Rattle.module_types.proofs.GroupMembers.{orderly-group, group-long, few-groups}
-use Rattle.module_types.proofs.Shows.{shows-interned}
+use Rattle.module_types.proofs.Holding.{shows-interned}
 use Rattle.wasm_index.specs.Index.{number_of}
 use Rattle.module_types.proofs.builder.ModuleTypesBuilder.append_group.Goals as goal
 

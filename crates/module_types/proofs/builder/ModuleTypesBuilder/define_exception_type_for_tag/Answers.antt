@@ -6,7 +6,7 @@ use Rattle.module_types.specs.Interner.{built}
 use Rattle.module_types.specs.Builder.{BuilderState, builder_view, excepts}
 use Rattle.module_types.specs.contracts.builder.ModuleTypesBuilder.{the_view}
 use Rattle.module_types.proofs.GroupMembers.{orderly-exception}
-use Rattle.module_types.proofs.Shows.{where-ok, shows-excepted}
+use Rattle.module_types.proofs.Holding.{where-ok, shows-excepted}
 use Rattle.module_types.proofs.builder.ModuleTypesBuilder.define_exception_type_for_tag.Goals as goal
 
 pub invariant_of-self-2 : goal.invariant_of-self-2

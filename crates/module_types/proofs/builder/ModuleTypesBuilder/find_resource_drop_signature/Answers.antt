@@ -2,7 +2,7 @@ use Rattle.std.proofs.Common.{◌≡◌, ◌∙◌, true, false, Some, sym, ap}
 use Rattle.std.specs.Prelude.{slice_get}
 use Rattle.wasm_index.specs.Index.{number_of}
 use Rattle.module_types.specs.TypeParts.{is_resource_drop}
-use Rattle.module_types.proofs.Finding.{first-step}
+use Rattle.module_types.proofs.Elements.{first-step}
 use Rattle.module_types.proofs.builder.ModuleTypesBuilder.find_resource_drop_signature.Goals as goal
 
 pub returns-then-is_resource_drop : goal.returns-then-is_resource_drop

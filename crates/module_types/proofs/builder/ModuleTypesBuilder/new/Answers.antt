@@ -1,6 +1,6 @@
 use Rattle.std.proofs.Common.{◌∙◌, refl, ap}
 use Rattle.module_types.specs.Builder.{new_builder}
-use Rattle.module_types.proofs.Shows.{shows-new}
+use Rattle.module_types.proofs.Holding.{shows-new}
 use Rattle.module_types.proofs.builder.ModuleTypesBuilder.new.Goals as goal
 
 pub returns : goal.returns

@@ -4,7 +4,7 @@ use Rattle.module_types.specs.Interner.{built}
 use Rattle.module_types.specs.Builder.{BuilderState, builder_view, starts}
 use Rattle.module_types.specs.contracts.builder.ModuleTypesBuilder.{the_view}
 use Rattle.module_types.proofs.GroupMembers.{orderly-startup}
-use Rattle.module_types.proofs.Shows.{where-ok, shows-started}
+use Rattle.module_types.proofs.Holding.{where-ok, shows-started}
 use Rattle.module_types.proofs.builder.ModuleTypesBuilder.startup_func_type.Goals as goal
 
 pub invariant_of-self-2 : goal.invariant_of-self-2

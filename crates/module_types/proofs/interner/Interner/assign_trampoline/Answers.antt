@@ -16,8 +16,7 @@ use Rattle.module_types.specs.declared.interner.Interner.{Interner}
 use Rattle.module_types.specs.declared.interner.Trampoline.TheVariants.{Itself}
 use Rattle.module_types.specs.declared.met.MetTypes.{MetTypes}
 use Rattle.module_types.specs.Met.{met_at, digest_of, IsLinked, IsNoted}
-use Rattle.module_types.proofs.Chaining.{equal}
-use Rattle.module_types.proofs.Keys.{called-mapped, trampoline-twice}
+use Rattle.module_types.proofs.Keys.{equal, called-mapped, trampoline-twice}
 use Rattle.module_types.proofs.Steps.{composite-read, assign_trampoline-other, known-before, known-itself, known-next, new-long}
 use Rattle.module_types.proofs.interner.Interner.assign_trampoline.Goals as goal
 

@@ -4,7 +4,7 @@ use Rattle.std.specs.Hash.FoldHasher as folding
 use Rattle.wasm_types.specs.Trampolines.{trampoline_val}
 use Rattle.module_types.specs.Passed.{fed_with}
 use Rattle.module_types.specs.Met.{digest_of}
-use Rattle.module_types.proofs.Packing.{same-feed}
+use Rattle.module_types.proofs.Keys.{same-feed}
 use Rattle.module_types.proofs.met.MetTypes.digest.Goals as goal
 
 pub returns : goal.returns

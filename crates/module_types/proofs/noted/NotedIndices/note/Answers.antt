@@ -7,7 +7,7 @@ use Rattle.entity_map.proofs.Written.{written-within, written-grown}
 use Rattle.wasm_index.specs.Index.{number_of}
 use Rattle.module_types.specs.Builder.{noted}
 use Rattle.module_types.specs.Noted.{noted_at, note_of, notes_of}
-use Rattle.module_types.proofs.Noting.{noted-written}
+use Rattle.module_types.proofs.Holding.{noted-written}
 use Rattle.module_types.proofs.noted.NotedIndices.note.Goals as goal
 
 pub returns-then-place-len : goal.returns-then-place-len
