@@ -5,7 +5,7 @@ use Rattle.std.specs.Global.{Vec}
 use Rattle.memory_images.specs.declared.image.Image.{Image}
 use Rattle.memory_images.specs.Images.{images_of as view_images}
 use Rattle.replay_spec.specs.Plan.{MemoryPlan}
-use Rattle.replay_spec.specs.Images.{ImageOptions, MemoryImage, AreImages, image_bytes, PlansImages, PlansSegments, IsMemoryPlan}
+use Rattle.replay_spec.specs.Images.{ImageOptions, MemoryImage, AreImages, image_bytes, IsMemoryPlan}
 use Rattle.replay_spec.proofs.One.{one-list}
 use Rattle.init_plan.specs.declared.error.PlanError.{PlanError}
 use Rattle.init_plan.specs.declared.error.PlanError.TheVariants as error
@@ -22,24 +22,22 @@ IsPlanFor options t plan = IsMemoryPlan options t.module.num_imported_memories (
 module _ (options : ImageOptions) (t : ModuleTranslation) (ready : MemoryHalfIsReady t) where
   -- the runtime data of any plan fit
   pub fits_sized : (images : Option (Vec (Option Image))) → AreSized options t images → (plan : MemoryPlan) → IsPlanFor options t plan → sum_by length plan.runtime < 2 ^ 32
-  fits_sized None sized plan is = by is.segments where
-    by : PlansImages options t.module.num_imported_memories (image_memories t.module) (initializers_of t) (passive_bytes t) plan
-        ⊎ PlansSegments options t.module.num_imported_memories (image_memories t.module) (initializers_of t) (passive_bytes t) plan → sum_by length plan.runtime < 2 ^ 32
-    by (inl a) = absurd (sized.0 a.static)
-    by (inr b) =
+  fits_sized None sized plan is = elim is.segments [
+    | inl a ↦ absurd (sized.0 a.static)
+    | inr b ↦
         let total = ap (sum_by length) b.runtime ∙ sum_by-append length (map (λ s. s.bytes) (initializers_of t)) (passive_bytes t) in
         omega (arith, total, sized.1)
-  fits_sized (Some v) sized plan is = by is.segments where
-    by : PlansImages options t.module.num_imported_memories (image_memories t.module) (initializers_of t) (passive_bytes t) plan
-        ⊎ PlansSegments options t.module.num_imported_memories (image_memories t.module) (initializers_of t) (passive_bytes t) plan → sum_by length plan.runtime < 2 ^ 32
-    by (inr b) = absurd (b.not_static sized.0)
-    by (inl a) =
+  ]
+  fits_sized (Some v) sized plan is = elim is.segments [
+    | inl a ↦
         let are : AreImages options.page (length t.module.memories) (initializers_of t) a.images =
         subst (λ (n : ℕ). AreImages options.page n (initializers_of t) a.images) (view_count t.module ready.imports) a.are_images in
         let same : a.images ≡ view_images v.items = one-list options.page (length t.module.memories) (initializers_of t) a.images (view_images v.items) are sized.1 in
         let total = ap (sum_by length) (a.runtime ∙ ap (λ (images : List (Option MemoryImage)). image_bytes images ++ passive_bytes t) same)
         ∙ sum_by-append length (image_bytes (view_images v.items)) (passive_bytes t) in
         omega (arith, total, sized.2)
+    | inr b ↦ absurd (b.not_static sized.0)
+  ]
 
   -- where images are off, so do those of the segments
   pub data_fits : options.enabled ≡ false → (images : Option (Vec (Option Image))) → AreSized options t images → data_total t < 2 ^ 32

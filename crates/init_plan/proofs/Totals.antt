@@ -1,6 +1,6 @@
 -- The number of bytes of data segments, by the segments and by their bytes.
-use Rattle.std.proofs.Common.{◌≡◌, ℕ, ◌+◌, List, [], ◌∷◌, length, map, sum_by, refl, sym, ap, ◌∙◌}
-use Rattle.std.proofs.lemmas.List.Sums.{sum_by-cons}
+use Rattle.std.proofs.Common.{◌≡◌, ℕ, ◌+◌, List, length, map, sum_by, ◌∙◌}
+use Rattle.std.proofs.lemmas.List.Folds.{fold-map}
 use Rattle.std.specs.Borrow.{Bor}
 use Rattle.wasm_index.specs.declared.index.Index.{Index}
 use Rattle.wasm_index.specs.declared.spaces.DataSpace.{DataSpace}
@@ -8,8 +8,7 @@ use Rattle.wasm_module.specs.declared.memory_initialization.MemoryInitializer.{M
 use Rattle.init_plan.specs.Views.{active_segment_of, passive_segment_of}
 
 sum_by-map : {X Y : Type 0} (g : Y → ℕ) (f : X → Y) (xs : List X) → sum_by g (map f xs) ≡ sum_by (λ x. g (f x)) xs
-sum_by-map g f [] = refl
-sum_by-map g f (x ∷ xs) = sum_by-cons g (f x) (map f xs) ∙ ap (λ n. g (f x) + n) (sum_by-map g f xs) ∙ sym (sum_by-cons (λ y. g (f y)) x xs)
+sum_by-map g f xs = fold-map (λ n y. n + g y) f 0 xs
 
 pub active_total : (segments : List MemoryInitializer)
     → sum_by length (map (λ s. s.bytes) (map active_segment_of segments)) ≡ sum_by (λ s. length s.bytes.now) segments
