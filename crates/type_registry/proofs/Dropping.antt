@@ -64,7 +64,7 @@ module _ {Key : Type 0} (content : Key → List WasmSubType) (live live' : ℕ) 
       let s = stays n h here in
       let old = k.found n h s.1 key is in
       let differ : Eq g.canonical (content key) ≡ false = false_from_ne_true (Eq g.canonical (content key)) (λ e.
-          s.0 (same_Some n f (sym old ∙ k.found f g at key (sym ((equal g.canonical (content key)).0 e))))) in
+      s.0 (same_Some n f (sym old ∙ k.found f g at key (sym ((equal g.canonical (content key)).0 e))))) in
       forgets key ∙ ap (λ c. cond c None (known key)) differ ∙ old
 
   knows-still : (key : Key) (n : ℕ) → known' key ≡ Some n → HasCanonical gs' n (content key)

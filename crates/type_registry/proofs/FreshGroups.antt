@@ -112,8 +112,8 @@ module _ {Key : Type 0} (content : Key → List WasmSubType) (places : Key → O
             learns key ∙ ap (λ c. cond c (Some (length es)) (places key)) yes ∙ ap Some (sym n)
         by (Earlier lt was) =
             let differ : Eq e.1.canonical (content key) ≡ false = false_from_ne_true (Eq e.1.canonical (content key)) (λ is.
-                let same : f.1.canonical ≡ e.1.canonical = sym has ∙ sym ((equal e.1.canonical (content key)).0 is) in
-                none-there es e.1.canonical p f unknown was ((equal f.1.canonical e.1.canonical).1 same)) in
+            let same : f.1.canonical ≡ e.1.canonical = sym has ∙ sym ((equal e.1.canonical (content key)).0 is) in
+            none-there es e.1.canonical p f unknown was ((equal f.1.canonical e.1.canonical).1 same)) in
             learns key ∙ ap (λ c. cond c (Some (length es)) (places key)) differ ∙ k.found p f was key has
 
       knows' : (key : Key) (p : ℕ) → places' key ≡ Some p → HasMembers es' p (content key)

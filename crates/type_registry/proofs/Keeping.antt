@@ -177,7 +177,7 @@ module _ {Key : Type 0} (content : Key → List WasmSubType) (live live' : ℕ) 
     by (There apart was) =
         let old = k.found n h was key has in
         let differ : Eq g.canonical (content key) ≡ false = false_from_ne_true (Eq g.canonical (content key)) (λ e.
-            none-some n (sym (unknown key (sym ((equal g.canonical (content key)).0 e))) ∙ old)) in
+        none-some n (sym (unknown key (sym ((equal g.canonical (content key)).0 e))) ∙ old)) in
         learns key ∙ ap (λ c. cond c (Some f) (known key)) differ ∙ old
 
   knows' : (key : Key) (n : ℕ) → known' key ≡ Some n → HasCanonical gs' n (content key)
