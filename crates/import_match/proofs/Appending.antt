@@ -1,8 +1,9 @@
 -- Definitions that are appended one by one.
-use Rattle.std.proofs.Common.{◌≡◌, ◌∙◌, ℕ, zero, suc, Bool, true, false, List, [], ◌∷◌, ◌++◌, length, slice_get, All, None, Some, refl, sym, ap, inl, inr, arith, true≢false}
+use Rattle.std.proofs.Common.{◌≡◌, ◌∙◌, ℕ, zero, suc, false, List, [], ◌∷◌, ◌++◌, length, slice_get, All, None, Some, refl, sym, ap, inl, inr, arith, true≢false}
 use Rattle.std.specs.Prelude.{◌⊎◌}
 use Rattle.std.proofs.lemmas.Option.{none-some, same_Some}
 use Rattle.std.proofs.lemmas.List.Elements.{All-tail}
+use Rattle.std.proofs.lemmas.Bool.{false_from_ne_true}
 use Rattle.import_match.specs.Definitions.{Definition, names_eq, found, AreOnce}
 use Rattle.import_match.proofs.Finding.{none-append, none-has}
 use Rattle.import_match.proofs.Named.{equal-names, names-equal}
@@ -18,13 +19,9 @@ module _ (x : Definition) (rest : List Definition) (once : AreOnce (x ∷ rest))
 
   -- a later one has other names
   other-names : (j : ℕ) (d : Definition) → slice_get rest j ≡ Some d → names_eq d.0 x.0 ≡ false
-  other-names j d at = by (names_eq d.0 x.0) refl
-    where
-      by : (b : Bool) → names_eq d.0 x.0 ≡ b → b ≡ false
-      by false e = refl
-      by true e =
-          let one : suc j ≡ 0 = once (suc j) 0 d x at refl (equal-names d.0 x.0 e) in
-          absurd (omega (arith, one))
+  other-names j d at = false_from_ne_true (names_eq d.0 x.0) (λ e.
+      let one : suc j ≡ 0 = once (suc j) 0 d x at refl (equal-names d.0 x.0 e) in
+      omega (arith, one))
 
   -- the later ones stay new once the first is defined
   pub new-rest : (ds : List Definition) → All (IsNew ds) (x ∷ rest) → All (IsNew (ds ++ x ∷ [])) rest

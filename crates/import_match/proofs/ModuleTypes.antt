@@ -1,11 +1,10 @@
 -- The types that what a module exports and imports names are among those that the module names.
-use Rattle.std.proofs.Common.{◌≡◌, ◌∙◌, ℕ, zero, suc, List, [], ◌∷◌, ◌++◌, map, slice_get, All, Option, Some, None, refl, ap, subst}
+use Rattle.std.proofs.Common.{◌≡◌, ◌∙◌, ℕ, List, [], ◌∷◌, ◌++◌, map, slice_get, All, Option, Some, None, refl, ap, subst}
 use Rattle.std.specs.Prelude.{option_and_then}
 use Rattle.std.specs.List.{filter_map, flat_map, cons_option}
 use Rattle.std.specs.Option.{option_map}
 use Rattle.std.proofs.lemmas.Option.{none-some, same_Some, slice_get-map}
-use Rattle.std.proofs.lemmas.List.Elements.{All-nil, All-cons, All-head, All-tail, All-map}
-use Rattle.import_match.proofs.Listing.{mapped}
+use Rattle.std.proofs.lemmas.List.Elements.{All-nil, All-cons, All-map}
 use Rattle.type_data.specs.Names.{index_of as index_in}
 use Rattle.wasm_index.specs.Index.{number_of}
 use Rattle.entity_map.specs.declared.pool.Atom.{Atom}
@@ -29,25 +28,23 @@ use Rattle.wasm_module.specs.Entities.{entity_type}
 use Rattle.wasm_module.specs.Imports.{text_of, import_of, imports_of}
 use Rattle.wasm_module.specs.ModuleData.{FunctionData, type_of_space, function_of, startup_of}
 use Rattle.wasm_module.specs.ModuleShapes.{startup_edges}
+use Rattle.form_lists.proofs.AllSections.{All-parts, All-joined}
 use Rattle.import_match.specs.Rules.{types_in}
 use Rattle.import_match.specs.Definitions.{Definition}
 use Rattle.import_match.specs.Linking.{export_of, exports_of, wants_of}
 use Rattle.import_match.specs.ModuleTypes.{types_of}
 use Rattle.import_match.proofs.Linked.{Import, want_of}
+use Rattle.import_match.proofs.Listing.{mapped, All-slice_get}
 
 all-left : {X : Type 0} (P : X → Type 0) (xs ys : List X) → All P (xs ++ ys) → All P xs
-all-left P [] ys all = All-nil P
-all-left P (x ∷ xs) ys all = All-cons P x xs (All-head P x (xs ++ ys) all) (all-left P xs ys (All-tail P x (xs ++ ys) all))
+all-left P xs ys all = ((All-joined P xs ys).0 all).0
 
 all-right : {X : Type 0} (P : X → Type 0) (xs ys : List X) → All P (xs ++ ys) → All P ys
-all-right P [] ys all = all
-all-right P (x ∷ xs) ys all = all-right P xs ys (All-tail P x (xs ++ ys) all)
+all-right P xs ys all = ((All-joined P xs ys).0 all).1
 
 -- what holds of all that items give holds of what the item at a place gives
 all-at : {X Y : Type 0} (P : Y → Type 0) (f : X → List Y) (xs : List X) (i : ℕ) (x : X) → All P (flat_map f xs) → slice_get xs i ≡ Some x → All P (f x)
-all-at P f [] i x all at = absurd (none-some x at)
-all-at P f (y ∷ xs) zero x all at = subst (λ z. All P (f z)) (same_Some y x at) (all-left P (f y) (flat_map f xs) all)
-all-at P f (y ∷ xs) (suc i) x all at = all-at P f xs i x (all-right P (f y) (flat_map f xs) all) at
+all-at P f xs i x all at = All-slice_get (λ y. All P (f y)) xs i x ((All-parts P f xs).0 all) at
 
 -- what holds of each value that an item gives holds of all
 all-given : {X Y : Type 0} (P : Y → Type 0) (f : X → Option Y) → ((x : X) (y : Y) → f x ≡ Some y → P y) → (xs : List X) → All P (filter_map f xs)

@@ -1,9 +1,10 @@
 -- The numbers of exports that imports are given.
-use Rattle.std.proofs.Common.{◌≡◌, ◌∙◌, ◌<◌, ◌≤◌, ◌+◌, ℕ, Bool, true, false, List, [], ◌∷◌, length, get_or, All, Option, Some, None, refl, arith}
-use Rattle.std.specs.Prelude.{if◌then◌else◌, IsSome}
+use Rattle.std.proofs.Common.{◌≡◌, ◌∙◌, ◌<◌, ◌≤◌, ◌+◌, ℕ, List, [], ◌∷◌, length, get_or, All, Option, Some, None, refl, arith}
+use Rattle.std.specs.Prelude.{IsSome}
 use Rattle.std.proofs.lemmas.List.{length-map}
 use Rattle.std.proofs.lemmas.List.Elements.{All-map, All-weaker}
 use Rattle.std.proofs.lemmas.Option.{none-some}
+use Rattle.std.proofs.lemmas.Bool.{cases_Bool}
 use Rattle.entity_map.specs.declared.pool.Atom.{Atom}
 use Rattle.wasm_types.specs.declared.entity.EntityIndex.{EntityIndex}
 use Rattle.wasm_types.specs.declared.entity.EntityType.{EntityType}
@@ -23,11 +24,10 @@ use Rattle.plan_link.specs.Answers.{judged, answer_by, answer_to, import_answers
 -- a definition that is found has its number among all
 found-below : (k : ℕ) (ds : List Definition) (names : TwoNames) (have : ℕ × EntityType) → found_from k ds names ≡ Some have → have.0 < k + length ds
 found-below k [] names have is = absurd (none-some have is)
-found-below k (d ∷ ds) names have is = by (names_eq names d.0) is (found-below (k + 1) ds names have) where
-  by : (b : Bool) → (if b then Some (k, d.1) else found_from (k + 1) ds names) ≡ Some have
-      → (found_from (k + 1) ds names ≡ Some have → have.0 < k + 1 + length ds) → have.0 < k + length (d ∷ ds)
-  by true e rest = let number : k ≡ have.0 = cc in omega (arith, number)
-  by false e rest = omega (arith, rest e)
+found-below k (d ∷ ds) names have is =
+    let rest = found-below (k + 1) ds names have in
+    let equal = cases_Bool (names_eq names d.0) in
+    grind arith
 
 judged-below : (count number : ℕ) (m : Option Mismatch) → number < count → IsBelow count (judged number m)
 judged-below count number None lt = lt

@@ -1,14 +1,15 @@
 -- A module that is read has fewer than 2 ^ 31 interned types.
 use Rattle.std.proofs.Common.{◌≡◌, ◌≤◌, ◌<◌, ◌+◌, ◌^◌, ℕ, suc, Bool, true, false, Option, Some, None, List, [], ◌∷◌, ◌++◌, length, map, arith, length-append}
-use Rattle.std.specs.Prelude.{◌==◌, if◌then◌else◌}
+use Rattle.std.specs.Prelude.{◌==◌}
 use Rattle.std.specs.List.{list_any, filter_map, flat_map, cons_option}
 use Rattle.std.proofs.lemmas.List.{length-map}
+use Rattle.std.proofs.lemmas.Bool.{cases_Bool}
 use Rattle.wasm_spec.specs.declared.entities.TypeRef.{TypeRef}
 use Rattle.wasm_spec.specs.TypeData.{Group, Composite, Func, Array, Struct, Cont, Exn}
 use Rattle.wasm_spec.specs.Module.{Import, tag_import, imported_of, tags_of_section}
 use Rattle.wasm_spec.specs.Module as plain
 use Rattle.type_data.specs.Names.{Named}
-use Rattle.type_spec.specs.Interned.{Interned, Called, Built, Taken, mapped, same_mapped, plain as plain_type, alone, knows, with_trampoline, assign_at, assign_trampoline, assign_trampolines, opened, interned_group, startup_type, first_equal, take_group, take_groups, none_taken}
+use Rattle.type_spec.specs.Interned.{Interned, Called, Built, Taken, mapped, same_mapped, plain as plain_type, assign_at, assign_trampoline, assign_trampolines, opened, interned_group, startup_type, first_equal, take_group, take_groups, none_taken}
 use Rattle.type_spec.proofs.Homes.{size, size-cons}
 use Rattle.form_types.specs.Placed.{placed_groups}
 use Rattle.form_types.proofs.Ruled.{size-places}
@@ -25,12 +26,10 @@ type_count b = length b.types
 
 at-most-one : (b : Built) (i : ℕ) (f : Called) (o : Option ℕ) → type_count (assign_at b i f o) ≤ type_count b + 1
 at-most-one b i f (Some k) = omega arith
-at-most-one b i f None = by (same_mapped (mapped f) f) where
-  by : (own : Bool) → type_count (if own then with_trampoline (knows b (mapped f) i) i i
-      else alone (with_trampoline (knows b (mapped f) (length b.types)) i (length b.types)) (plain_type (Func (mapped f))) (Some (length b.types)))
-      ≤ type_count b + 1
-  by true = omega arith
-  by false = omega (arith, length-append b.types (plain_type (Func (mapped f)) ∷ []))
+at-most-one b i f None =
+    let one = length-append b.types (plain_type (Func (mapped f)) ∷ []) in
+    let own = cases_Bool (same_mapped (mapped f) f) in
+    grind arith
 
 one-adds : (b : Built) (i : ℕ) (c : Composite (Named ℕ) ℕ) → type_count (assign_trampoline b i c) ≤ type_count b + 1
 one-adds b i (Func f) = at-most-one b i f (b.known_trampolines (mapped f))
@@ -68,12 +67,12 @@ taken-few all ((t ∷ ts) ∷ gs) s start few =
 
 firsts-few : (ns known : List ℕ) → length (firsts_after known ns) ≤ length known + length ns
 firsts-few [] known = omega arith
-firsts-few (n ∷ ns) known = by (list_any (λ k. k == n) known) (firsts-few ns known) (firsts-few ns (known ++ n ∷ [])) where
-  by : (there : Bool) → length (firsts_after known ns) ≤ length known + length ns
-      → length (firsts_after (known ++ n ∷ []) ns) ≤ length (known ++ n ∷ []) + length ns
-      → length (if there then firsts_after known ns else firsts_after (known ++ n ∷ []) ns) ≤ length known + length (n ∷ ns)
-  by true few more = omega (arith, few)
-  by false few more = omega (arith, more, length-append known (n ∷ []))
+firsts-few (n ∷ ns) known =
+    let had = firsts-few ns known in
+    let new = firsts-few ns (known ++ n ∷ []) in
+    let one = length-append known (n ∷ []) in
+    let there = cases_Bool (list_any (λ k. k == n) known) in
+    grind arith
 
 imported-few : {A : Type 0} (kind : TypeRef → Option A) (is : List Import) → length (filter_map (λ i. kind i.type) is) ≤ length is
 imported-few kind [] = omega arith

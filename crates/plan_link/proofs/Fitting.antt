@@ -1,5 +1,5 @@
 -- How many types are live once a module is registered.
-use Rattle.std.proofs.Common.{◌≡◌, ◌≤◌, ◌+◌, ℕ, Option, Some, None, List, [], ◌∷◌, ◌++◌, length, map, inl, inr, refl, arith}
+use Rattle.std.proofs.Common.{◌≡◌, ◌≤◌, ◌+◌, ℕ, List, [], ◌∷◌, length, map, inl, inr, refl, arith}
 use Rattle.std.proofs.lemmas.List.{length-map}
 use Rattle.type_spec.specs.Interned.{Span}
 use Rattle.module_types.specs.Orderly.{LieBetween}
@@ -7,11 +7,11 @@ use Rattle.module_types.specs.TypeList.{TypeList}
 use Rattle.module_types.specs.Views.{span_of, interned_of}
 use Rattle.type_registry.specs.declared.error.RegistryError.{RegistryError}
 use Rattle.type_registry.specs.declared.error.RegistryError.TheVariants as refused
-use Rattle.type_registry.specs.Changes.{Plan, begun, find_group, next_group, take_group, plan_group, plan_groups, planned, fresh, registered, size_of, canonical_of, keep_groups, IsFull}
+use Rattle.type_registry.specs.Changes.{Plan, begun, plan_group, plan_groups, planned, fresh, registered, size_of, canonical_of, keep_groups, IsFull}
 use Rattle.type_registry.specs.Listed.{Listed, list_of}
-use Rattle.type_registry.specs.Registry.{Registry, Groups, Group, indices_of, live}
+use Rattle.type_registry.specs.Registry.{Registry, Groups, indices_of, live}
 use Rattle.type_registry.proofs.Leaving.{counted-long}
-use Rattle.type_registry.proofs.PlanGroups.{next-length, length-both}
+use Rattle.type_registry.proofs.PlanGroups.{next-length, length-both, either-planned}
 use Rattle.plan_link.specs.Registering.{HasRoom}
 
 abbrev members : Plan → ℕ
@@ -19,10 +19,9 @@ members p = length (indices_of p.fresh)
 
 -- a group adds its own types at most
 group-adds : (gs : Groups) (l : TypeList) (p : Plan) (s : Span) → members (plan_group gs l p s) ≤ members p + size_of s
-group-adds gs l p s = by (find_group (canonical_of l p.listed.indices s) (gs ++ p.fresh)) where
-  by : (o : Option Group) → members (take_group p (next_group gs p.fresh (canonical_of l p.listed.indices s) (size_of s)) o) ≤ members p + size_of s
-  by (Some g) = omega arith
-  by None = omega (arith, next-length gs p.fresh (canonical_of l p.listed.indices s) (size_of s))
+group-adds gs l p s =
+    either-planned gs l p s (λ q. members q ≤ members p + size_of s) (λ g is. omega arith)
+    (λ none. omega (arith, next-length gs p.fresh (canonical_of l p.listed.indices s) (size_of s)))
 
 groups-add : (gs : Groups) (l : TypeList) (p : Plan) (ss : List Span) (first end : ℕ) → LieBetween first ss end
     → members (plan_groups gs l p ss) + first ≤ members p + end

@@ -43,7 +43,7 @@ use Rattle.module_environ.specs.Translation.{startup_when}
 use Rattle.module_environ.proofs.Agreeing.{known-table, known-global, all-tables, all-globals}
 use Rattle.module_environ.proofs.DeclaredKinds.{function-below}
 use Rattle.module_environ.proofs.DeclaredLooks.{declared-long, declared-held}
-use Rattle.replay_spec.specs.Startup.{Startup, Never, Always, IfMemoriesNeedInit}
+use Rattle.replay_spec.specs.Startup.{Startup, Never}
 use Rattle.init_plan.specs.Startup.{startup_with}
 use Rattle.translate.specs.Options.{runs}
 use Rattle.import_match.specs.Linking.{IsTypeBelow}
@@ -210,9 +210,7 @@ module _ (m : plain.Module) (keeps : Keeps m) (startup : Bool) (count : ℕ) (co
   pub raised-below : (k : Startup) → length (interned_list m (runs k)).types ≡ count
       → All P (startup_edges (startup_of (startup_with k (type_index (length (interned_list m false).types)))))
   raised-below Never long = All-nil P
-  raised-below Always long =
-      alone (type_index (length (interned_list m false).types)) (omega (arith, long, length-append (interned_list m false).types (startup_type ∷ [])))
-  raised-below IfMemoriesNeedInit long =
+  raised-below _ long =
       alone (type_index (length (interned_list m false).types)) (omega (arith, long, length-append (interned_list m false).types (startup_type ∷ [])))
 
   -- ---- all together

@@ -1,9 +1,10 @@
 -- The struct types of an interned list have as many fields as those of the module.
 use Rattle.std.proofs.Common.{◌≡◌, ◌∙◌, ◌<◌, ◌≤◌, ℕ, zero, suc, ◌+◌, ◌-◌, Bool, true, false, List, [], ◌∷◌, ◌++◌, length, take, drop, get_or, map, refl, sym, ap, arith}
-use Rattle.std.specs.Prelude.{slice_get, unwrap_or, option_and_then, if◌then◌else◌}
+use Rattle.std.specs.Prelude.{slice_get, unwrap_or, option_and_then}
 use Rattle.std.specs.Option.{option_map}
 use Rattle.std.proofs.lemmas.List.{length-map, length_push, get_or-map, map-append, take-append-drop, drop-drop}
 use Rattle.std.proofs.Math.ListN.{drop_of_length-le}
+use Rattle.std.proofs.lemmas.Bool.{cases_Bool}
 use Rattle.wasm_spec.specs.declared.types.UnpackedIndex.{UnpackedIndex}
 use Rattle.wasm_spec.specs.TypeData.{Composite, Func, Array, Struct, Cont, Exn, SubType, Group, map_composite, map_sub_type, map_group}
 use Rattle.wasm_spec.specs.Module as plain
@@ -93,13 +94,12 @@ joined-from ts (s ∷ ss) first lie =
 -- the list holds all that was made of the groups
 grown-exceptions : (is : List ℕ) (b : Built) (done : List ℕ) → length b.types ≤ length (with_exceptions b done is).types
 grown-exceptions [] b done = omega arith
-grown-exceptions (i ∷ is) b done = by (grown-exceptions is) (is_among i done) where
-  by : ((c : Built) (done' : List ℕ) → length c.types ≤ length (with_exceptions c done' is).types) → (there : Bool)
-      → length b.types ≤ length (if there then with_exceptions b done is else with_exceptions (with_exception b i) (i ∷ done) is).types
-  by rest true = rest b done
-  by rest false =
-      let h = rest (with_exception b i) (i ∷ done) in
-      omega (arith, h, length_push b.types (alone_type (exception_for i (composite_at b.types i))))
+grown-exceptions (i ∷ is) b done =
+    let had = grown-exceptions is b done in
+    let new = grown-exceptions is (with_exception b i) (i ∷ done) in
+    let more = length_push b.types (alone_type (exception_for i (composite_at b.types i))) in
+    let there = cases_Bool (is_among i done) in
+    grind arith
 
 grown-startup : (b : Built) (startup : Bool) → length b.types ≤ length (with_startup b startup).types
 grown-startup b false = omega arith

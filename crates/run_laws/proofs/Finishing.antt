@@ -24,8 +24,8 @@ use Rattle.init_plan.specs.Held.{plan_of_globals, simple_global_of, kept_global_
 use Rattle.init_plan.specs.Tables.{plan_of_tables, AreCounted}
 use Rattle.plan_run.specs.Finished.{Finished, GlobalsAreFinished, MemoriesAreFinished, TablesAreFinished, ImageFits}
 use Rattle.plan_run.specs.Limits.{page_size_of}
-use Rattle.plan_run.proofs.Given.{all-unmap}
 use Rattle.plan_run.proofs.Lists.{get-drop}
+use Rattle.form_lists.proofs.AllSections.{All-from_map}
 use Rattle.run_laws.proofs.GlobalNumbers.{simple-low, kept-low}
 use Rattle.run_laws.proofs.ImagesFit.{images-are, segments-below}
 use Rattle.run_laws.proofs.TableImages.{images-short, kept-are}
@@ -96,9 +96,9 @@ module _ (options : ImageOptions) (lazy : Bool) (initialisers : List Expression)
   globals-finished : GlobalsAreFinished t
   globals-finished = record {
     imports = is.imported_globals;
-    simple = all-unmap simple_global_of (λ g. g.0 < length t.module.globals - t.module.num_imported_globals) t.module.global_initializers.items
+    simple = All-from_map (λ g. g.0 < length t.module.globals - t.module.num_imported_globals) simple_global_of t.module.global_initializers.items
         (simple-low initialisers (plan_of_globals t) is.global_plan);
-    kept = all-unmap kept_global_of (λ g. g.0 < length t.module.globals - t.module.num_imported_globals) t.global_initializers.items
+    kept = All-from_map (λ g. g.0 < length t.module.globals - t.module.num_imported_globals) kept_global_of t.global_initializers.items
         (kept-low initialisers (plan_of_globals t) is.global_plan);
   }
 

@@ -2,7 +2,6 @@ pub mod GlobalNumbers
 pub mod ImagesFit
 pub mod TableImages
 pub mod Finishing
-pub mod Changed
 pub mod Translated
 pub mod PlannedWhole
 pub mod FieldCounts

@@ -1,14 +1,16 @@
 -- What a plan of tables says of its images and of its segments.
-use Rattle.std.proofs.Common.{◌≡◌, ℕ, ◌+◌, ◌-◌, ◌≤◌, Bool, true, false, List, [], ◌∷◌, ◌++◌, length, get_or, Some, refl, sym, ◌∙◌, ap, subst, arith}
-use Rattle.std.specs.Prelude.{slice_get, All, unwrap_or, ◌==◌, if◌then◌else◌}
+use Rattle.std.proofs.Common.{◌≡◌, ℕ, ◌+◌, ◌-◌, ◌≤◌, Bool, List, [], ◌∷◌, length, get_or, Some, sym, ◌∙◌, ap, subst, arith}
+use Rattle.std.specs.Prelude.{slice_get, All, unwrap_or}
 use Rattle.std.specs.Option.{option_map}
-use Rattle.std.proofs.lemmas.Bool.{eqb-true}
+use Rattle.std.proofs.lemmas.Bool.{cases_Bool}
 use Rattle.std.proofs.lemmas.List.{length-map}
 use Rattle.std.proofs.lemmas.List.Elements.{All-head, All-tail}
 use Rattle.std.proofs.lemmas.Option.{slice_get-map, slice_get-get_or, same_Some}
+use Rattle.std.proofs.lemmas.Bool.Decides.{nat_tests}
 use Rattle.replay_spec.specs.Elements.{ActiveElements, DefinedTable}
 use Rattle.replay_spec.specs.Tables.{constant_place, elements_end, is_imaged_from_start, MayBeTaken, end_on, image_length, PlannedTable, TablePlan, IsTablePlan}
 use Rattle.plan_run.proofs.Lists.{some-at}
+use Rattle.form_lists.proofs.AllSections.{All-joined}
 
 module _ (lazy : Bool) (imports : ℕ) (tables : List DefinedTable) where
   -- what may be taken ends within its table
@@ -24,19 +26,17 @@ module _ (lazy : Bool) (imports : ℕ) (tables : List DefinedTable) where
   ends-within : (taken : List ActiveElements) → All (MayBeTaken lazy imports tables) taken → (m : ℕ) (t : DefinedTable)
       → slice_get tables (m - imports) ≡ Some t → end_on m taken ≤ t.minimum
   ends-within [] all m t at = omega arith
-  ends-within (s ∷ ss) all m t at = over (s.table == m) refl (ends-within ss (All-tail (MayBeTaken lazy imports tables) s ss all) m t at) where
-    over : (b : Bool) → (s.table == m) ≡ b → end_on m ss ≤ t.minimum → end_on m (s ∷ ss) ≤ t.minimum
-    over true e more =
-        let here = end-within s m t (All-head (MayBeTaken lazy imports tables) s ss all) (eqb-true s.table m e) at in
-        rw e (omega (arith, here, more))
-    over false e more = rw e more
+  ends-within (s ∷ ss) all m t at =
+      let rest = ends-within ss (All-tail (MayBeTaken lazy imports tables) s ss all) m t at in
+      let here : s.table ≡ m → elements_end s ≤ t.minimum = (λ e. end-within s m t (All-head (MayBeTaken lazy imports tables) s ss all) e at) in
+      grind (arith, nat_tests)
 
   length-within : (taken : List ActiveElements) → All (MayBeTaken lazy imports tables) taken → (m : ℕ) (t : DefinedTable)
       → slice_get tables (m - imports) ≡ Some t → image_length lazy taken m t ≤ t.minimum
-  length-within taken all m t at = over (is_imaged_from_start lazy t) where
-    over : (b : Bool) → (if b then t.minimum else end_on m taken) ≤ t.minimum
-    over true = omega arith
-    over false = ends-within taken all m t at
+  length-within taken all m t at =
+      let ends = ends-within taken all m t at in
+      let lent = cases_Bool (is_imaged_from_start lazy t) in
+      grind arith
 
   module _ (active : List ActiveElements) (plan : TablePlan) (is : IsTablePlan lazy imports tables active plan) where
     -- an image is no longer than the minimum of its table
@@ -58,7 +58,4 @@ module _ (lazy : Bool) (imports : ℕ) (tables : List DefinedTable) where
 
     -- what is kept is among the segments
     pub kept-are : (P : ActiveElements → Type 0) → All P active → All P plan.segments
-    kept-are P all = All-behind P is.taken plan.segments (subst (All P) is.prefix.parts all) where
-      All-behind : {X : Type 0} (P : X → Type 0) (xs ys : List X) → All P (xs ++ ys) → All P ys
-      All-behind P [] ys all = all
-      All-behind P (x ∷ xs) ys all = All-behind P xs ys (All-tail P x (xs ++ ys) all)
+    kept-are P all = ((All-joined P is.taken plan.segments).0 (subst (All P) is.prefix.parts all)).1

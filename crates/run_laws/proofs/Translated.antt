@@ -21,8 +21,8 @@ use Rattle.init_plan.specs.Tables.{tables_of, elements_of, plan_of_tables}
 use Rattle.module_environ.specs.Translation.{HasEntities, CountsImports}
 use Rattle.module_environ.specs.Translated.{IsTranslated}
 use Rattle.plan_run.specs.Finished.{Finished}
+use Rattle.translate.proofs.Unchanged.{with_memories, with_tables, both-planned}
 use Rattle.run_laws.specs.Planned.{MemoriesArePlanned, TablesArePlanned}
-use Rattle.run_laws.proofs.Changed.{with_memories, with_tables, both-planned}
 use Rattle.run_laws.proofs.Finishing.{IsPlannedSo, finished}
 
 -- imported globals are among the globals
