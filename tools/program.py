@@ -56,6 +56,8 @@ def translate_script():
 def find(given, room):
     """The program to run: the given one, else the proved one, else one that is compiled without proofs into the folder."""
     if given:
+        if not os.access(given, os.X_OK):
+            raise NoProgram(f"{given} cannot be run")
         return Path(given).resolve()
     script = translate_script()
     return script.PROGRAM if script.is_built() else compile_crate(HERE / "crates" / script.TOOL, room)
