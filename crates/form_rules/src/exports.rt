@@ -11,12 +11,11 @@ ghost use Rattle.form_lists.specs.Source.{source_module};
 ghost use Rattle.form_lists.specs.Views.{lists_of};
 ghost use Rattle.form_rules.specs.Names.{names_of};
 
-use entity_map::Seeded;
+use entity_map::{NameDigest, Seeded};
 use form_data::Export;
-use form_lists::{Lists, entries_of};
+use form_lists::{Lists, entries_in, entries_of, sections_of};
 use std::alloc::{AllocError, Global};
 use std::collections::HashSet;
-use std::hash::{DefaultHasher, Hasher};
 use wasm_spec::ExternalKind;
 
 /// Whether each export names an entry of its index space, and no two have one name.
@@ -34,7 +33,8 @@ fn names_are_distinct(alloc: Global, lists: &Lists<'_, '_>) -> Result<bool, Allo
     ensures { IfOk result (λ distinct. IsTrue distinct
         ↔ AreDistinct (flat_map exports_of_section (source_module lists.now.source))) }
 {
-    let mut names = HashSet::with_hasher(alloc, Seeded::new(seed_of_names(lists)));
+    let hasher = Seeded::new(seed_of_names(lists));
+    let mut names = HashSet::with_capacity_and_hasher(alloc, count_exports(lists), hasher)?;
     for export in entries_of::<Export<'_>>(lists.source) {
         if !names.insert(export.name)? {
             return Ok(false);
@@ -43,11 +43,20 @@ fn names_are_distinct(alloc: Global, lists: &Lists<'_, '_>) -> Result<bool, Allo
     Ok(true)
 }
 
+/// How many exports the sections list, which is the room that the set of their names takes.
+fn count_exports(lists: &Lists<'_, '_>) -> usize {
+    let mut count: usize = 0;
+    for section in sections_of(lists.source) {
+        count = count.saturating_add(entries_in::<Export<'_>>(section).len());
+    }
+    count
+}
+
 /// A digest of all names, from which hashes begin: names that are chosen to collide change it as well.
 fn seed_of_names(lists: &Lists<'_, '_>) -> u64
     ensures { result ≡ sip.finish (fold sip.write sip.initial (names_of (flat_map exports_of_section (source_module lists.now.source)))) }
 {
-    let mut digest = DefaultHasher::new();
+    let mut digest = NameDigest::new();
     for export in entries_of::<Export<'_>>(lists.source) {
         digest.write(export.name.as_bytes());
     }

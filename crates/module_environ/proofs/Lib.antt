@@ -38,7 +38,6 @@ pub mod HeldElements
 pub mod DataSteps
 pub mod ElementsNoted
 pub mod MemoriesReady
-pub mod NamesGathered
 pub mod TablesReady
 pub mod Bodies
 pub mod DeclaredKinds

@@ -13,8 +13,7 @@ ghost use Rattle.module_environ.specs.Imported.{AreCounted, HaveIndices, counted
 ghost use Rattle.module_environ.specs.Pooled.{with_texts, import_names, imported_names, exported_names, HasTexts};
 ghost use Rattle.module_environ.specs.Seeds.{section_names};
 
-use crate::name_digest::NameDigest;
-use entity_map::{EntityRef, OutOfMemory, StringPool};
+use entity_map::{EntityRef, NameDigest, OutOfMemory, StringPool};
 use form_data::{Export, Import};
 use form_lists::{Source, entries_in, entries_of, sections_of};
 use std::alloc::Global;

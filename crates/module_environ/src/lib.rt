@@ -19,7 +19,6 @@ mod import_laws;
 mod imports;
 mod laws;
 mod metadata;
-mod name_digest;
 mod offsets;
 mod sections;
 mod spaces;

@@ -11,7 +11,7 @@ const MOST_GATHERED: usize = 256;
 
 /// SipHash of names, one behind another. A contract sees the state of the hasher that took them.
 #[derive(Drop)]
-pub(crate) struct NameDigest {
+pub struct NameDigest {
     hasher: DefaultHasher,
     gathered: [u8; MOST_GATHERED],
     count: usize,
@@ -32,7 +32,7 @@ impl Model for NameDigest {
 impl NameDigest {
     /// Of no name.
     #[tactic(auto, using(crate::proofs::NamesGathered::written))]
-    pub(crate) fn new() -> Self
+    pub fn new() -> Self
         ensures { result ≡ sip.initial }
     {
         NameDigest {
@@ -43,14 +43,14 @@ impl NameDigest {
     }
 
     /// Takes a name.
-    pub(crate) fn write(&mut self, name: &[u8])
+    pub fn write(&mut self, name: &[u8])
         ensures { self.new ≡ sip.write self.old name.now }
     {
         self.count = gather(&mut self.hasher, &mut self.gathered, self.count, name);
     }
 
     /// The digest of the names.
-    pub(crate) fn finish(&self) -> u64
+    pub fn finish(&self) -> u64
         ensures { result ≡ sip.finish self.now }
     {
         let mut hasher = self.hasher;

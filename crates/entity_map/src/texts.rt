@@ -1,0 +1,74 @@
+//! Texts, end to end in one buffer.
+
+ghost use Rattle.std.specs.Prelude.{◌≡◌, ◌<◌, ◌++◌, ◌∷◌, [], length, slice_get, Some, OnOk, OnErr};
+
+use crate::memory::OutOfMemory;
+use std::alloc::Global;
+use std::marker::Model;
+
+/// Where a text stands in its buffer.
+#[derive(Clone, Copy)]
+pub(crate) struct Place {
+    start: usize,
+    end: usize,
+}
+
+/// A list of texts, which takes two allocations in all.
+#[derive(Drop)]
+pub(crate) struct Texts {
+    buffer: String,
+    places: Vec<Place>,
+}
+
+impl Model for Texts {
+    ghost use Rattle.std.specs.Prelude.{ℕ, List, All, map};
+    ghost use Rattle.std.specs.String.{string_bytes};
+    ghost use Rattle.entity_map.specs.Texts.{text_in, IsCut};
+
+    ghost Value = { List (List ℕ) };
+
+    ghost view = { λ texts. map (text_in (string_bytes texts.buffer)) texts.places.items };
+
+    ghost invariant = { λ texts. All (IsCut (string_bytes texts.buffer)) texts.places.items };
+}
+
+impl Texts {
+    /// No text.
+    pub(crate) fn new(alloc: Global) -> Self
+        ensures { result ≡ [] }
+    {
+        Texts {
+            buffer: String::new(alloc),
+            places: Vec::new(alloc),
+        }
+    }
+
+    /// Adds a text.
+    pub(crate) fn push(&mut self, text: &str) -> Result<(), OutOfMemory>
+        ensures ok { OnOk result (self.new ≡ self.old ++ text.now ∷ []) }
+        ensures err { OnErr result (self.new ≡ self.old) }
+    {
+        self.places.reserve(1)?;
+        let start = self.buffer.len();
+        self.buffer.push_str(text)?;
+        let end = self.buffer.len();
+        self.places.push_reserved(Place { start, end });
+        Ok(())
+    }
+
+    /// A text by its number.
+    pub(crate) fn get(&self, number: usize) -> &str
+        requires { number < length self.now }
+        ensures { slice_get self.now number ≡ Some result.now }
+    {
+        let place = self.places[number];
+        &self.buffer[place.start..place.end]
+    }
+
+    /// How many there are.
+    pub(crate) fn len(&self) -> usize
+        ensures { result ≡ length self.now }
+    {
+        self.places.len()
+    }
+}
