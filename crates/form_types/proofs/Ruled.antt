@@ -4,26 +4,21 @@ use Rattle.std.specs.Prelude.{IfSome}
 use Rattle.std.specs.Option.{option_to_list}
 use Rattle.std.specs.List.{All}
 use Rattle.std.proofs.Math.Seq.{take-append_seam, get_or-append_seam}
-use Rattle.std.proofs.lemmas.List.{length-map, map-append, append-nil, nil_from_length}
+use Rattle.std.proofs.lemmas.List.{length-map, map-append, append-nil}
 use Rattle.std.proofs.lemmas.List.Folds.{length-flat_map-take}
 use Rattle.std.proofs.lemmas.List.Elements.{All-nil, All-cons, All-head, All-tail, All-append, All-map, All-weaker}
-use Rattle.form_lists.proofs.AllSections.{All-joined, All-from_map}
+use Rattle.form_lists.proofs.AllSections.{All-joined}
 use Rattle.wasm_spec.specs.declared.types.UnpackedIndex.{UnpackedIndex}
 use Rattle.wasm_spec.specs.declared.types.UnpackedIndex.TheVariants.{Module}
 use Rattle.wasm_spec.specs.TypeData.{Composite, sub_type_edges, group_edges, composite_edges, map_sub_type}
 use Rattle.wasm_spec.specs.Module as plain
-use Rattle.type_data.specs.ListLaws.{map-same, map-twice}
 use Rattle.type_data.specs.TypeShapes.{group_shape}
 use Rattle.type_data.specs.Names.{plainly}
 use Rattle.type_spec.proofs.Homes.{joined, size}
 use Rattle.rule_spec.specs.Lists.{Declared, Lists, declared_from, declared_groups, lists_of_module}
 use Rattle.rule_spec.specs.TypeRules.{IsBelow, KindIsBelow, IsDeclaredWell}
-use Rattle.form_types.specs.declared.groups.GroupWithKey.{GroupWithKey}
-use Rattle.form_data.specs.Views.{group_of, sub_type_of}
 use Rattle.form_types.specs.Types.{NamedGroup, types_by_id}
 use Rattle.form_types.specs.declared.building.Numbering.{Numbering}
-use Rattle.form_types.specs.Keys.{key_of}
-use Rattle.form_types.specs.Groups.{GroupAndKey, read_key, group_and_key, with_key, lent_groups}
 use Rattle.form_types.specs.Placed.{place_of, placed}
 use Rattle.form_types.proofs.Steps.{NearIn}
 use Rattle.form_types.proofs.Built.{Built, places}
@@ -124,62 +119,27 @@ module _ (m : plain.Module) (done : List NamedGroup) (g : NamedGroup) (rest : Li
   near-next all =
       coe 0 1 (t. NearIn (record { start = size (places (sym done-is t)); members = placed (at t) })) (rules-near m (length done) below all)
 
--- what is lent are the groups, with their keys
-lent-are : (fs : List GroupWithKey) (gs : List NamedGroup) → map group_and_key fs ≡ map with_key gs → lent_groups fs ≡ gs
-lent-are fs gs same =
-    sym (map-twice group_and_key (λ x. x.group) (λ f. group_of f.group.now) (λ f. refl) fs) ∙ ap (map (λ (x : GroupAndKey). x.group)) same
-    ∙ map-twice with_key (λ x. x.group) (λ g. g) (λ g. refl) gs ∙ map-same (λ g. g) (λ g. refl) gs
-
-abbrev IsKeyed : GroupAndKey → Type 0
-IsKeyed x = x.key ≡ read_key x.group
-
-item-keyed : (fs : List GroupWithKey) (f : GroupWithKey) (rest : List GroupWithKey) (gs : List NamedGroup) → map group_and_key (fs ++ f ∷ rest) ≡ map with_key gs
-    → IsKeyed (group_and_key f)
-item-keyed fs f rest gs same =
-    let all = All-from_map IsKeyed group_and_key (fs ++ f ∷ rest) (subst (All IsKeyed) (sym same) (All-map IsKeyed with_key gs (λ k d lt. refl))) in
-    subst (λ x. IsKeyed (group_and_key x)) (get_or-append_seam fs f rest f) (all (length fs) f (omega (arith, length-append fs (f ∷ rest))))
-
--- some groups are numbered, and `count` come next
-pub record Walks (m : plain.Module) (n : Numbering) (done rest : List GroupWithKey) (count : ℕ) : Type 0 where
-  pub built : Built (lent_groups done) n
-  pub all : map group_and_key (done ++ rest) ≡ map with_key (plain.groups m)
-  pub counts : count ≡ length rest
+-- some groups are numbered, and the others are left
+pub record Walks (m : plain.Module) (n : Numbering) (left : List NamedGroup) : Type 0 where
+  pub done : List NamedGroup
+  pub built : Built done n
+  pub all : done ++ left ≡ plain.groups m
 
 -- the last was numbered
-pub walked : {m : plain.Module} {n : Numbering} {done rest : List GroupWithKey} {count : ℕ} → Walks m n done rest count → count ≡ 0 → Built (plain.groups m) n
-walked {m = m} {n = n} {done = done} {rest = rest} w none =
-    let over : rest ≡ [] = nil_from_length rest (sym w.counts ∙ none) in
-    let done-all : map group_and_key done ≡ map with_key (plain.groups m) =
-    ap (map group_and_key) (sym (append-nil done) ∙ ap (λ l. done ++ l) (sym over)) ∙ w.all in
-    subst (λ l. Built l n) (lent-are done (plain.groups m) done-all) w.built
+pub walked : {m : plain.Module} {n : Numbering} {left : List NamedGroup} → Walks m n left → left ≡ [] → Built (plain.groups m) n
+walked {n = n} w over = subst (λ l. Built l n) (sym (append-nil w.done) ∙ ap (λ l. w.done ++ l) (sym over) ∙ w.all) w.built
 
-module _ {m : plain.Module} {n : Numbering} {done rest : List GroupWithKey} {count : ℕ} (w : Walks m n done rest count)
-    {item : GroupWithKey} {rest' : List GroupWithKey} (next : rest ≡ item ∷ rest') where
-  all-next : map group_and_key (done ++ item ∷ rest') ≡ map with_key (plain.groups m)
-  all-next = ap (λ l. map group_and_key (done ++ l)) (sym next) ∙ w.all
+module _ {m : plain.Module} {n : Numbering} {left : List NamedGroup} (w : Walks m n left) {g : NamedGroup} {rest : List NamedGroup}
+    (next : left ≡ g ∷ rest) where
+  whole-next : w.done ++ g ∷ rest ≡ plain.groups m
+  whole-next = ap (λ l. w.done ++ l) (sym next) ∙ w.all
 
-  whole-next : lent_groups done ++ group_of item.group.now ∷ lent_groups rest' ≡ plain.groups m
-  whole-next = sym (map-append (λ (f : GroupWithKey). group_of f.group.now) done (item ∷ rest')) ∙ lent-are (done ++ item ∷ rest') (plain.groups m) all-next
-
-  pub key-next : key_of item.key ≡ read_key (group_of item.group.now)
-  key-next = item-keyed done item rest' (plain.groups m) all-next
-
-  pub room-next : size (places (lent_groups done)) + length item.group.now.types.items ≤ length (plain.types m)
-  room-next =
-      omega (
-        arith,
-        room m (lent_groups done) (group_of item.group.now) (lent_groups rest') whole-next,
-        length-map item.group.now.types.items sub_type_of,
-      )
+  pub room-next : size (places w.done) + length g ≤ length (plain.types m)
+  room-next = room m w.done g rest whole-next
 
   pub near-item : All (IsDeclaredWell (lists_of_module m)) (declared_groups 0 (plain.groups m))
-      → NearIn (record { start = size (places (lent_groups done)); members = placed (group_of item.group.now) })
-  near-item all = near-next m (lent_groups done) (group_of item.group.now) (lent_groups rest') whole-next all
+      → NearIn (record { start = size (places w.done); members = placed g })
+  near-item all = near-next m w.done g rest whole-next all
 
-  pub walks-more : (n' : Numbering) (count' : ℕ) → Built (lent_groups done ++ group_of item.group.now ∷ []) n' → count' + 1 ≡ count
-      → Walks m n' (done ++ item ∷ []) rest' count'
-  walks-more n' count' built left = record {
-    built = subst (λ l. Built l n') (sym (map-append (λ (f : GroupWithKey). group_of f.group.now) done (item ∷ []))) built;
-    all = ap (map group_and_key) (append_assoc done (item ∷ []) rest') ∙ all-next;
-    counts = omega (arith, left, w.counts, ap length next);
-  }
+  pub walks-more : (n' : Numbering) → Built (w.done ++ g ∷ []) n' → Walks m n' rest
+  walks-more n' built = record { done = w.done ++ g ∷ []; built = built; all = append_assoc w.done (g ∷ []) rest ∙ whole-next }

@@ -5,7 +5,6 @@ pub mod Kept
 pub mod Placed
 pub mod Codes
 pub mod Keys
-pub mod Groups
 pub mod Numbered
 pub mod Distinct
 pub mod Finding

@@ -5,21 +5,19 @@ ghost use Rattle.wasm_spec.specs.Sizes.{HasFewEntries, HasShortTypes};
 ghost use Rattle.rule_spec.specs.Rules.{Keeps};
 ghost use Rattle.form_data.specs.Views.{group_of, module_of};
 ghost use Rattle.form_lists.specs.Source.{source_module};
-ghost use Rattle.form_types.specs.Keys.{key_of};
-ghost use Rattle.form_types.specs.Groups.{read_key};
 ghost use Rattle.form_types.specs.Distinct.{IsListed};
 ghost use Rattle.form_types.specs.Numbered.{AreNumbered};
 ghost use Rattle.form_types.specs.Adding.{HasNone, HasFewIds, AddsGroup};
 
+use crate::canonical::CanonicalGroup;
 use crate::distinct::Distinct;
 use crate::finding::{FirstIds, find_or_note, next_key, push_row, seed_of};
-use crate::groups::{GroupWithKey, all_groups};
 use crate::named::named_group;
 use crate::numbering::Types;
 use crate::validator::Validator;
 use entity_map::{OutOfMemory, Seeded};
-use form_data::Form;
-use form_lists::Source;
+use form_data::{Form, RecGroup};
+use form_lists::{Source, entries_of};
 use std::alloc::{AllocError, Global};
 use std::collections::HashMap;
 use wasm_spec::CoreTypeId;
@@ -44,21 +42,24 @@ impl Numbering {
         }
     }
 
-    /// Gives ids to the members of a group: those of an equal group, or new ones.
-    fn add_group(&mut self, alloc: Global, group: GroupWithKey<'_>) -> Result<(), AllocError>
-        requires some { 0 < length group.group.now.types.items }
-        requires keyed { key_of group.key ≡ read_key (group_of group.group.now) }
-        requires room { length self.old.declared.items + length group.group.now.types.items < 2 ^ 30 }
-        requires few { self.old.distinct.next + length group.group.now.types.items < 2 ^ 30 }
+    /// Gives ids to the members of a group: those of an equal group, or new ones. `key` has room for its key.
+    fn add_group(
+        &mut self,
+        alloc: Global,
+        key: &mut CanonicalGroup,
+        group: &RecGroup,
+    ) -> Result<(), AllocError>
+        requires some { 0 < length group.now.types.items }
+        requires room { length self.old.declared.items + length group.now.types.items < 2 ^ 30 }
+        requires few { self.old.distinct.next + length group.now.types.items < 2 ^ 30 }
         requires ids { HasFewIds self.old.first_ids }
         requires listed { IsListed self.old.distinct (map group_of self.old.distinct.groups.items) }
-        ensures { OnOk result (AddsGroup self.old self.new (group_of group.entry.group.now)) }
+        ensures { OnOk result (AddsGroup self.old self.new (group_of group.now)) }
     {
-        let GroupWithKey { group, key } = group;
         let members = group.types.as_slice();
-        let key = next_key(alloc, &self.declared, key)?;
+        next_key(key, &self.declared, members)?;
         let next = self.distinct.next;
-        match find_or_note(&mut self.first_ids, key, next)? {
+        match find_or_note(alloc, &mut self.first_ids, key, next)? {
             Some(first) => push_row(&mut self.declared, first, members.len())?,
             None => {
                 push_row(&mut self.declared, next, members.len())?;
@@ -104,12 +105,12 @@ impl Types {
         ensures made { IfOk result (λ t. t.validator ≡ validator.now) }
         ensures numbered { IfOk result (AreNumbered (source_module source.entry)) }
     {
-        let groups = all_groups(alloc, source)?;
-        let seed = seed_of(&groups);
+        let seed = seed_of(source);
         let mut numbering = Numbering::new(alloc, seed);
-        for group in groups {
-            if !group.group.types.is_empty() {
-                numbering.add_group(alloc, group)?;
+        let mut key = CanonicalGroup::new(alloc);
+        for group in entries_of::<RecGroup>(source) {
+            if !group.types.is_empty() {
+                numbering.add_group(alloc, &mut key, group)?;
             }
         }
         Ok(Types {

@@ -1,86 +1,79 @@
 //! The groups that were met, by their keys.
 
-ghost use Rattle.std.specs.Prelude.{◌≡◌, ◌+◌, ◌<◌, ◌^◌, ◌++◌, IfOk, OnOk, MatchOption, Some, cond, length};
-ghost use Rattle.std.specs.Hash.DefaultHasher as sip;
-ghost use Rattle.std.specs.List.{range_with_len, flat_map, fold};
-ghost use Rattle.form_types.specs.Types.{NamedGroup};
+ghost use Rattle.std.specs.Prelude.{◌≡◌, ◌+◌, ◌<◌, ◌^◌, ◌++◌, IfOk, OnOk, MatchOption, Some, cond, length, map};
+ghost use Rattle.std.specs.List.{range_with_len};
+ghost use Rattle.form_data.specs.Views.{sub_type_of};
 ghost use Rattle.form_types.specs.Seen.{ids_of};
 ghost use Rattle.form_types.specs.Placed.{placed};
 ghost use Rattle.form_types.specs.Keys.{key_of, targets};
-ghost use Rattle.form_types.specs.Groups.{read_key};
 ghost use Rattle.form_types.specs.Finding.{first_of, next_key};
 
 use crate::canonical::CanonicalGroup;
-use crate::groups::GroupWithKey;
 use crate::seen::Seen;
 use entity_map::Seeded;
+use form_data::SubType;
+use form_lists::Source;
+use form_reader::type_section_bytes;
 use std::alloc::{AllocError, Global};
 use std::collections::HashMap;
-use std::hash::{DefaultHasher, Hash, Hasher};
+use std::hash::{DefaultHasher, Hasher};
 use wasm_spec::{CoreTypeId, UnpackedIndex};
 
 /// The first id of each group that was met, by its key.
 pub type FirstIds = HashMap<CanonicalGroup, u32, Seeded>;
 
-/// A digest of all groups, from which hashes begin: groups that are chosen to collide change it as well.
-pub fn seed_of(groups: &[GroupWithKey<'_>]) -> u64
-    ensures { result ≡ sip.finish (fold sip.write sip.initial (flat_map (λ g. ⟦<CanonicalGroup as Hash>⟧.hash_input g.key) groups.now)) }
-{
+/// A digest of the bytes that spell a module's types, from which hashes begin: groups that are chosen to collide change it as well.
+pub fn seed_of(source: Source<'_, '_>) -> u64 {
+    let wasm = match source {
+        Source::Form(form) => form.wasm,
+        Source::Input(form) => form.wasm,
+    };
     let mut digest = DefaultHasher::new();
-    for group in groups {
-        group.key.hash(&mut digest);
-    }
+    digest.write(type_section_bytes(wasm));
     digest.finish()
 }
 
-// What references name.
-fn targets(
-    alloc: Global,
-    seen: Seen<'_>,
-    references: &[UnpackedIndex],
-) -> Result<Vec<UnpackedIndex>, AllocError>
-    ensures { IfOk result (λ v. v.items ≡ targets (ids_of seen.entry.ids.now) seen.entry.start references.now) }
+/// The key of a group that comes next, in `key`, which is no longer asked for.
+pub fn next_key(
+    key: &mut CanonicalGroup,
+    ids: &[CoreTypeId],
+    types: &[SubType],
+) -> Result<(), AllocError>
+    requires { length ids.now < 2 ^ 30 }
+    ensures { OnOk result (key_of key.new ≡ next_key (ids_of ids.now) (placed (map sub_type_of types.now))) }
 {
-    let mut named = Vec::with_capacity(alloc, references.len())?;
-    for index in references {
-        named.push(seen.target(*index))?;
-    }
-    Ok(named)
+    key.clear();
+    key.add_group(types)?;
+    let start = ids.len() as u32;
+    name_targets(&mut key.references, Seen { ids, start });
+    Ok(())
 }
 
-/// The key of a group that comes next, from its key as it was read.
-pub fn next_key(
-    alloc: Global,
-    ids: &[CoreTypeId],
-    read: CanonicalGroup,
-) -> Result<CanonicalGroup, AllocError>
-    requires { length ids.now < 2 ^ 30 }
-    ensures { IfOk result (λ f. (g : NamedGroup) → key_of read ≡ read_key g → key_of f ≡ next_key (ids_of ids.now) (placed g)) }
+/// Each reference becomes what it names.
+fn name_targets(references: &mut Vec<UnpackedIndex>, seen: Seen<'_>)
+    ensures { references.new.items ≡ targets (ids_of seen.entry.ids.now) seen.entry.start references.old.items }
 {
-    let CanonicalGroup { frame, references } = read;
-    let seen = Seen {
-        ids,
-        start: ids.len() as u32,
-    };
-    let references = targets(alloc, seen, &references)?;
-    Ok(CanonicalGroup { frame, references })
+    for place in 0..references.len() {
+        references[place] = seen.target(references[place]);
+    }
 }
 
 /// What a group of this key was given, or else it is given `next`.
 pub fn find_or_note(
+    alloc: Global,
     first_ids: &mut FirstIds,
-    key: CanonicalGroup,
+    key: &CanonicalGroup,
     next: u32,
 ) -> Result<Option<u32>, AllocError>
-    ensures found { IfOk result (λ found. found ≡ first_of first_ids.old key) }
+    ensures found { IfOk result (λ found. found ≡ first_of first_ids.old key.now) }
     ensures noted { IfOk result (λ found. MatchOption found
-        ((q : CanonicalGroup) → first_of first_ids.new q ≡ cond (⟦<CanonicalGroup as PartialEq>⟧.eq key q) (Some next) (first_of first_ids.old q))
+        ((q : CanonicalGroup) → first_of first_ids.new q ≡ cond (⟦<CanonicalGroup as PartialEq>⟧.eq key.now q) (Some next) (first_of first_ids.old q))
         (λ _. (q : CanonicalGroup) → first_of first_ids.new q ≡ first_of first_ids.old q)) }
 {
-    if let Some(first) = first_ids.get(&key).copied() {
+    if let Some(first) = first_ids.get(key).copied() {
         return Ok(Some(first));
     }
-    first_ids.insert(key, next)?;
+    first_ids.insert(key.copied(alloc)?, next)?;
     Ok(None)
 }
 

@@ -7,7 +7,6 @@ mod codes;
 mod distinct;
 mod elements;
 mod finding;
-mod groups;
 mod members;
 mod named;
 mod numbering;

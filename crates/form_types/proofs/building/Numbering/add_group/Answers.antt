@@ -12,14 +12,14 @@ use Rattle.form_types.proofs.building.Numbering.add_group.Goals as goal
 
 pub returns-in_ok-push_row-in-Some : goal.returns-in_ok-push_row-in-Some
 returns-in_ok-push_row-in-Some c =
-    let g = group_of c.args.group.group.now in
-    let key = c.in_ok-key.key in
+    let g = group_of c.args.group.now in
+    let key = c.next_key.new.key in
     let long : length c.as_slice-members.result.now ≡ length g =
-    ap length c.as_slice-members.ensures.value ∙ sym (length-map c.args.group.group.now.types.items sub_type_of) in
+    ap length c.as_slice-members.ensures.value ∙ sym (length-map c.args.group.now.types.items sub_type_of) in
     let found : Some c.in-Some.first ≡ first_of c.args.self.now.first_ids key = sym c.in-Some.is ∙ c.in_ok-first.ensures.found in
     record {
       key = key;
-      key_is = c.in_ok-key.ensures g c.requires.keyed ∙ ap (λ l. next_key (ids_of l) (placed g)) c.deref.ensures.value;
+      key_is = c.in_ok-next_key.ensures ∙ (λ k. next_key (ids_of (c.deref.ensures.value k)) (placed (map sub_type_of (c.as_slice-members.ensures.value k))));
       adds = subst (λ o. AddsBy c.args.self.now (record { first_ids = c.find_or_note.new.first_ids; distinct = c.args.self.now.distinct; declared = c.push_row.new.ids }) g key o) found (record {
         ids = c.in_ok-push_row-in-Some.ensures ∙ ap (λ n. ids_of c.args.self.now.declared.items ++ range_with_len c.in-Some.first n) long;
         listed = c.requires.listed;
@@ -29,10 +29,10 @@ returns-in_ok-push_row-in-Some c =
 
 pub returns-in_ok-push-in-None : goal.returns-in_ok-push-in-None
 returns-in_ok-push-in-None c =
-    let g = group_of c.args.group.group.now in
-    let key = c.in_ok-key.key in
+    let g = group_of c.args.group.now in
+    let key = c.next_key.new.key in
     let long : length c.as_slice-members.result.now ≡ length g =
-    ap length c.as_slice-members.ensures.value ∙ sym (length-map c.args.group.group.now.types.items sub_type_of) in
+    ap length c.as_slice-members.ensures.value ∙ sym (length-map c.args.group.now.types.items sub_type_of) in
     let found : None ≡ first_of c.args.self.now.first_ids key = sym c.in-None.is ∙ c.in_ok-first.ensures.found in
     let named : group_of c.in_ok-named-in-None.named ≡ map_group (named_index (ids_of c.push_row-in-None.new.ids.items)) (named_index (ids_of c.push_row-in-None.new.ids.items)) g =
     c.in_ok-named-in-None.ensures
@@ -40,7 +40,7 @@ returns-in_ok-push-in-None c =
     (map sub_type_of (c.as_slice-members.ensures.value i))) in
     record {
       key = key;
-      key_is = c.in_ok-key.ensures g c.requires.keyed ∙ ap (λ l. next_key (ids_of l) (placed g)) c.deref.ensures.value;
+      key_is = c.in_ok-next_key.ensures ∙ (λ k. next_key (ids_of (c.deref.ensures.value k)) (placed (map sub_type_of (c.as_slice-members.ensures.value k))));
       adds = subst (λ o. AddsBy c.args.self.now (record { first_ids = c.find_or_note.new.first_ids; distinct = c.push.new.self; declared = c.push_row-in-None.new.ids }) g key o) found (record {
         ids = c.in_ok-push_row-in-None.ensures ∙ ap (λ n. ids_of c.args.self.now.declared.items ++ range_with_len c.args.self.now.distinct.next n) long;
         listed = subst (λ x. IsListed c.push.new.self (map group_of c.args.self.now.distinct.groups.items ++ x ∷ [])) named c.in_ok-push-in-None.ensures;

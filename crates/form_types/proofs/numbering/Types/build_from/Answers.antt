@@ -1,17 +1,16 @@
-use Rattle.std.proofs.Common.{◌≡◌, ◌∙◌, ◌<◌, length, map, sym, ap, arith}
+use Rattle.std.proofs.Common.{◌≡◌, ◌∙◌, ◌<◌, [], length, sym, ap, arith}
 use Rattle.std.specs.Prelude.{◌==◌, vec_len, true, false}
-use Rattle.std.specs.Vec.Iter.{into_iter_len}
 use Rattle.std.proofs.lemmas.Grind.{common_steps}
 use Rattle.std.proofs.lemmas.List.{length-map}
 use Rattle.wasm_spec.specs.declared.types.CoreTypeId.{CoreTypeId}
-use Rattle.wasm_spec.specs.Module.{groups}
+use Rattle.wasm_spec.specs.Module.{groups, groups_of_section}
 use Rattle.rule_spec.specs.declared.rules.Rule.TheVariants.{L1}
 use Rattle.form_data.specs.declared.types.RecGroup.{RecGroup}
 use Rattle.form_data.specs.Views.{group_of, sub_type_of}
 use Rattle.form_lists.specs.Source.{source_module}
-use Rattle.form_types.specs.Groups.{group_and_key, lent_groups}
+use Rattle.form_lists.specs.Sections.{entries_left}
 use Rattle.form_types.proofs.Built.{built-none, built-empty, built-more, few-ids}
-use Rattle.form_types.proofs.Ruled.{size-places, walked, key-next, room-next, near-item, walks-more}
+use Rattle.form_types.proofs.Ruled.{size-places, walked, room-next, near-item, walks-more}
 use Rattle.form_types.proofs.Final.{numbered, sound}
 use Rattle.form_types.proofs.numbering.Types.build_from.Goals as goal
 
@@ -23,21 +22,19 @@ has_none g test = grind (arith, common_steps, test, g.types.ok.0)
 
 pub loop-group-init : goal.loop-group-init
 loop-group-init c = record {
+  done = [];
   built = built-none c.new-numbering.result c.new-numbering.ensures;
-  all = ap (map group_and_key) c.into_iter-group-iterator.ensures.into_iter_gives.0 ∙ c.in_ok-groups.ensures;
-  counts = grind (arith, common_steps, c.into_iter-group-iterator.ensures.into_iter_gives, c.in_ok-groups.groups.ok.0);
+  all = ap (entries_left group_of groups_of_section) c.into_iter-group-iterator.ensures.into_iter_gives ∙ c.entries_of-group-items.ensures;
 }
-
-pub add_group-requires-clause-keyed : goal.add_group-requires-clause-keyed
-add_group-requires-clause-keyed c = key-next c.loop-group.invariant c.in-Some.ensures.steps.0
 
 pub add_group-requires-clause-room : goal.add_group-requires-clause-room
 add_group-requires-clause-room c =
     omega (
       arith,
-      room-next c.loop-group.invariant c.in-Some.ensures.steps.0,
+      room-next c.loop-group.invariant c.in-Some.ensures.steps,
       c.requires.few.types,
       c.loop-group.invariant.built.counted,
+      length-map c.in-Some.group.now.types.items sub_type_of,
       length-map c.loop-group.numbering.declared.items (λ (id : CoreTypeId). id.0),
     )
 
@@ -45,33 +42,33 @@ pub add_group-requires-clause-few : goal.add_group-requires-clause-few
 add_group-requires-clause-few c =
     omega (
       arith,
-      room-next c.loop-group.invariant c.in-Some.ensures.steps.0,
+      room-next c.loop-group.invariant c.in-Some.ensures.steps,
       c.requires.few.types,
       c.loop-group.invariant.built.listed.next_is,
       c.loop-group.invariant.built.numbered.few,
+      length-map c.in-Some.group.now.types.items sub_type_of,
     )
 
 pub add_group-requires-clause-ids : goal.add_group-requires-clause-ids
 add_group-requires-clause-ids c =
-    few-ids (lent_groups c.loop-group.yielded) c.loop-group.numbering c.loop-group.invariant.built
-    (omega (arith, room-next c.loop-group.invariant c.in-Some.ensures.steps.0, c.requires.few.types))
+    few-ids c.loop-group.invariant.done c.loop-group.numbering c.loop-group.invariant.built
+    (omega (arith, room-next c.loop-group.invariant c.in-Some.ensures.steps, c.requires.few.types))
 
-pub loop-group-preserved-in-Continue-branch-2 : goal.loop-group-preserved-in-Continue-branch-2
-loop-group-preserved-in-Continue-branch-2 c =
-    let g = c.in-Some.group.group.now in
+pub loop-group-preserved-in-Continue-1 : goal.loop-group-preserved-in-Continue-1
+loop-group-preserved-in-Continue-1 c =
+    let g = c.in-Some.group.now in
     let some : 0 < length g.types.items = has_some g (sym c.is_empty.ensures ∙ c.if-not-is_empty.true) in
-    walks-more c.loop-group.invariant c.in-Some.ensures.steps.0 c.add_group.new.self (into_iter_len c.next.new.self)
-    (built-more (lent_groups c.loop-group.yielded) c.loop-group.numbering c.add_group.new.self (group_of g) c.loop-group.invariant.built
-    (omega (arith, some, length-map g.types.items sub_type_of)) (near-item c.loop-group.invariant c.in-Some.ensures.steps.0 (c.requires.keeps L1))
-    c.in_ok-add_group.ensures) c.in-Some.ensures.steps.1
+    walks-more c.loop-group.invariant c.in-Some.ensures.steps c.add_group.new.self
+    (built-more c.loop-group.invariant.done c.loop-group.numbering c.add_group.new.self (group_of g) c.loop-group.invariant.built
+    (omega (arith, some, length-map g.types.items sub_type_of)) (near-item c.loop-group.invariant c.in-Some.ensures.steps (c.requires.keeps L1))
+    c.in_ok-add_group.ensures)
 
 pub loop-group-preserved : goal.loop-group-preserved
 loop-group-preserved c =
-    let g = c.in-Some.group.group.now in
+    let g = c.in-Some.group.now in
     let none : length g.types.items ≡ 0 = has_none g (sym c.is_empty.ensures ∙ c.if-not-is_empty.false) in
-    walks-more c.loop-group.invariant c.in-Some.ensures.steps.0 c.loop-group.numbering (into_iter_len c.next.new.self)
-    (built-empty (lent_groups c.loop-group.yielded) c.loop-group.numbering (group_of g) (length-map g.types.items sub_type_of ∙ none) c.loop-group.invariant.built)
-    c.in-Some.ensures.steps.1
+    walks-more c.loop-group.invariant c.in-Some.ensures.steps c.loop-group.numbering
+    (built-empty c.loop-group.invariant.done c.loop-group.numbering (group_of g) (length-map g.types.items sub_type_of ∙ none) c.loop-group.invariant.built)
 
 pub invariant_of-result : goal.invariant_of-result
 invariant_of-result c =
