@@ -1,5 +1,5 @@
 -- What holds of each entry, where the entries stand in sections.
-use Rattle.std.proofs.Common.{◌≡◌, ◌↔◌, ℕ, ◌+◌, ◌<◌, ◌≤◌, Bool, false, List, [], ◌∷◌, ◌++◌, length, map, take, drop, get_or, All, IsTrue, sym, ap, subst, ◌∙◌, arith}
+use Rattle.std.proofs.Common.{◌≡◌, ◌↔◌, ℕ, ◌+◌, ◌<◌, ◌≤◌, Bool, true, false, List, [], ◌∷◌, ◌++◌, length, map, take, drop, get_or, All, IsTrue, refl, sym, ap, subst, ◌∙◌, arith}
 use Rattle.std.proofs.lemmas.List.{map-append, map_more, take-append-drop, length-append}
 use Rattle.std.proofs.lemmas.List.Concat.{flat_map-append}
 use Rattle.std.specs.List.{flat_map}
@@ -7,6 +7,9 @@ use Rattle.std.proofs.lemmas.List.Elements.{All-nil, All-cons, All-head, All-tai
 use Rattle.wasm_spec.specs.Module as plain
 use Rattle.form_data.specs.declared.form.Payload.{Payload}
 use Rattle.form_data.specs.Views.{payload_of}
+use Rattle.form_reader.specs.declared.customs.InputCustoms.{InputCustoms}
+use Rattle.form_reader.specs.Input.{customs_in}
+use Rattle.form_reader.proofs.CustomRuns.{none_listed}
 use Rattle.form_lists.proofs.Gathering.{entries_of_more}
 
 -- ---- parts of lists
@@ -65,9 +68,26 @@ length_more_le f ps k p lt at =
 -- ---- loops over the sections, and over the entries of all sections
 
 -- at the beginning all sections are left
-pub left_parts : {X Y : Type 0} (P : X → Type 0) (f : Y → List X) (left ys : List Y) → left ≡ ys → All (λ y. All P (f y)) left ↔ All P (flat_map f ys)
-left_parts {X = X} {Y = Y} P f left ys at =
-    let both = All-parts P f ys in subst (λ (zs : List Y). All (λ y. All P (f y)) zs ↔ All P (flat_map f ys)) (sym at) (both.1, both.0)
+pub left_parts : {X : Type 0} (P : X → Type 0) (f : plain.Payload → List X) (left all : plain.Module) → left ≡ all
+    → All P (flat_map f left) ↔ All P (flat_map f all)
+left_parts P f left all at = subst (λ (ps : plain.Module). All P (flat_map f ps) ↔ All P (flat_map f all)) (sym at) (λ here. here, λ here. here)
+
+-- W is that all entries hold: while those of each section have held so far, it is that those of the sections hold which are left
+module _ {X : Type 0} (P : X → Type 0) (f : plain.Payload → List X) (W : Type 0) (left ps rest : plain.Module) (at : left ≡ ps ++ rest)
+    (tells : All P (flat_map f left) ↔ W) where
+  split : All P (flat_map f left) ↔ (All P (flat_map f ps) × All P (flat_map f rest))
+  split = subst (λ (xs : List X). All P xs ↔ (All P (flat_map f ps) × All P (flat_map f rest))) (sym (ap (flat_map f) at ∙ flat_map-append f ps rest))
+      (All-joined P (flat_map f ps) (flat_map f rest))
+
+  -- those of one step more hold
+  pub sections_more : All P (flat_map f ps) → All P (flat_map f rest) ↔ W
+  sections_more here = (λ others. tells.0 (split.1 (here, others)), λ all. (split.0 (tells.1 all)).1)
+
+  -- they fail
+  pub sections_fail : (b : Bool) → b ≡ false → IsTrue b ↔ All P (flat_map f ps) → IsTrue false ↔ W
+  sections_fail b is these = (λ answered. absurd cc, λ all. absurd (fails (these.1 (split.0 (tells.1 all)).0))) where
+    fails : IsTrue b → ⊥
+    fails holds = absurd cc
 
 -- W is that all hold: while each has held so far, it is that those hold which are left
 module _ {X : Type 0} (P : X → Type 0) (W : Type 0) (left rest : List X) (x : X) (at : left ≡ x ∷ rest) (tells : All P left ↔ W) where
@@ -80,6 +100,11 @@ module _ {X : Type 0} (P : X → Type 0) (W : Type 0) (left rest : List X) (x : 
   left_fails b is one = (λ answered. absurd (cc), λ all. absurd (fails (one.1 (All-head P x rest (All-same P (x ∷ rest) left (sym at) (tells.1 all)))))) where
     fails : IsTrue b → ⊥
     fails holds = absurd (cc)
+
+-- a run of custom sections has no entries of which anything is asked
+pub customs_hold : {X : Type 0} (P : X → Type 0) (f : plain.Payload → List X) → ((name bytes : List ℕ) → f (plain.Custom name bytes) ≡ [])
+    → (run : InputCustoms) → IsTrue true ↔ All P (flat_map f (customs_in run))
+customs_hold P f none run = (λ t. All-same P (flat_map f (customs_in run)) [] (none_listed f none run) (All-nil P), λ all. refl)
 
 -- ---- loops over the entries of one section
 

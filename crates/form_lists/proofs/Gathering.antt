@@ -12,6 +12,9 @@ use Rattle.form_data.specs.declared.form.TableDef.{TableDef}
 use Rattle.form_data.specs.declared.form.GlobalDef.{GlobalDef}
 use Rattle.form_data.specs.declared.form.Payload.{Payload}
 use Rattle.form_data.specs.Views.{table_of, global_of, payload_of}
+use Rattle.form_reader.specs.declared.customs.InputCustoms.{InputCustoms}
+use Rattle.form_reader.specs.Input.{customs_in}
+use Rattle.form_reader.proofs.CustomRuns.{none_listed}
 use Rattle.form_lists.specs.declared.lists.Spaces.{Spaces}
 use Rattle.form_lists.specs.Gathered.{AddsImports, AddsDefined}
 
@@ -87,8 +90,23 @@ pub types_of_globals : (gs : List GlobalDef) → map (λ (g : plain.GlobalDef). 
 types_of_globals [] = refl
 types_of_globals (g ∷ gs) = ap (λ (us : List GlobalType). g.ty ∷ us) (types_of_globals gs)
 
--- one section more of those that are left
-pub AddsDefined-more : (a b c : Spaces) (p : plain.Payload) (left rest all : plain.Module) → left ≡ p ∷ rest → AddsDefined b c (p ∷ [])
+-- some sections more of those that are left
+pub AddsDefined-more : (a b c : Spaces) (ps left rest all : plain.Module) → left ≡ ps ++ rest → AddsDefined b c ps
     → ((d : Spaces) → AddsDefined b d left → AddsDefined a d all) → (d : Spaces) → AddsDefined c d rest → AddsDefined a d all
-AddsDefined-more a b c p left rest all at added before d others =
-    before d (subst (AddsDefined b d) (sym at) (AddsDefined-then b c d (p ∷ []) rest added others))
+AddsDefined-more a b c ps left rest all at added before d others =
+    before d (subst (AddsDefined b d) (sym at) (AddsDefined-then b c d ps rest added others))
+
+nothing_added : {X Y : Type 0} (view : List X → List Y) (f : plain.Payload → List X) → ((name bytes : List ℕ) → f (plain.Custom name bytes) ≡ [])
+    → view [] ≡ [] → (run : InputCustoms) (ys : List Y) → ys ≡ ys ++ view (flat_map f (customs_in run))
+nothing_added {Y = Y} view f none nil run ys =
+    sym (ap (λ xs. ys ++ view xs) (none_listed f none run) ∙ ap (λ (zs : List Y). ys ++ zs) nil ∙ append-nil ys)
+
+-- custom sections define nothing
+pub AddsDefined-customs : (s : Spaces) (run : InputCustoms) → AddsDefined s s (customs_in run)
+AddsDefined-customs s run = record {
+  functions = nothing_added (λ l. l) function_types_of_section (λ name bytes. refl) refl run s.functions.items;
+  table_types = nothing_added (map (λ (t : plain.TableDef). t.type)) tables_of_section (λ name bytes. refl) refl run s.table_types.items;
+  memories = nothing_added (λ l. l) memories_of_section (λ name bytes. refl) refl run s.memories.items;
+  global_types = nothing_added (map (λ (g : plain.GlobalDef). g.type)) globals_of_section (λ name bytes. refl) refl run s.global_types.items;
+  tags = nothing_added (λ l. l) tags_of_section (λ name bytes. refl) refl run s.tags.items;
+}

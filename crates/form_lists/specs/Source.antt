@@ -1,8 +1,9 @@
 -- A module that was read, and its sections, as the plain values of the definitions.
-use Rattle.std.specs.Prelude.{List, map}
+use Rattle.std.specs.Prelude.{◌≡◌, ℕ, List, [], ◌∷◌, ◌++◌, map, length, Option, MatchOption}
+use Rattle.std.specs.List.{flat_map}
 use Rattle.wasm_spec.specs.Module as plain
 use Rattle.form_data.specs.Views.{payload_of, module_of}
-use Rattle.form_reader.specs.Input.{elements_in, input_section_of, input_module_of}
+use Rattle.form_reader.specs.Input.{elements_in, customs_in, sections_of_part, input_module_of}
 use Rattle.form_lists.specs.declared.source.Source.{Source}
 use Rattle.form_lists.specs.declared.source.Source.TheVariants as sources
 use Rattle.form_lists.specs.declared.source.Section.{Section}
@@ -14,11 +15,22 @@ abbrev pub source_module : Source → plain.Module
 source_module (sources.Form form) = module_of form.now
 source_module (sources.Input form) = input_module_of form.now
 
-abbrev pub section_of : Section → plain.Payload
-section_of (section.Read payload) = payload_of payload.now
-section_of (section.Elements segments) = plain.Elements (elements_in segments)
+-- the section that a step gives, or the run of them
+abbrev pub sections_in : Section → List plain.Payload
+sections_in (section.Read payload) = payload_of payload.now ∷ []
+sections_in (section.Elements segments) = plain.Elements (elements_in segments) ∷ []
+sections_in (section.Customs run) = customs_in run
 
--- the sections that a walk has left
+-- the sections that a walk has left, and the steps
 unfoldable pub sections_left : Sections → List plain.Payload
 sections_left (sections.Form payloads) = map payload_of payloads.now
-sections_left (sections.Input list) = map input_section_of list.now
+sections_left (sections.Input parts) = flat_map sections_of_part parts.now
+
+abbrev pub steps_left : Sections → ℕ
+steps_left (sections.Form payloads) = length payloads.now
+steps_left (sections.Input parts) = length parts.now
+
+-- a step gave the first of what was left and left the others, or nothing was left
+abbrev pub GivesFirst : Sections → Option Section → Sections → Type 0
+GivesFirst old given new =
+    MatchOption given ((sections_left old ≡ []) × (sections_left new ≡ [])) (λ section. sections_left old ≡ sections_in section ++ sections_left new)

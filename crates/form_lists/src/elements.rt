@@ -5,7 +5,7 @@ ghost use Rattle.std.specs.List.{flat_map};
 ghost use Rattle.wasm_spec.specs.Module.{elements_of_section};
 ghost use Rattle.form_data.specs.Views.{element_of, payload_of};
 ghost use Rattle.form_reader.specs.Input.{Takes};
-ghost use Rattle.form_lists.specs.Source.{source_module, section_of};
+ghost use Rattle.form_lists.specs.Source.{source_module, sections_in};
 ghost use Rattle.form_lists.specs.Elements.{segments_left, elements_left, segment_at};
 
 use crate::source::{Section, Sections, Source, sections_of};
@@ -47,11 +47,12 @@ pub fn elements_of<'f, 'd>(alloc: Global, source: Source<'f, 'd>) -> Elements<'f
 }
 
 fn segments_in<'f, 'd>(section: Section<'f, 'd>) -> Segments<'f, 'd>
-    ensures { segments_left result ≡ elements_of_section (section_of section.entry) }
+    ensures { segments_left result ≡ flat_map elements_of_section (sections_in section.entry) }
 {
     match section {
         Section::Read(payload) => Segments::Listed(listed_in(payload)),
         Section::Elements(segments) => Segments::Input(segments),
+        Section::Customs(_) => Segments::Listed(&[]),
     }
 }
 

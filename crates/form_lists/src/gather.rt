@@ -4,7 +4,7 @@ ghost use Rattle.std.specs.Prelude.{◌≡◌, ◌+◌, ◌++◌, ◌∷◌, [],
 ghost use Rattle.wasm_spec.specs.Module.{imports, groups};
 ghost use Rattle.rule_spec.specs.Lists.{declared_from, declared_groups, lists_of_module};
 ghost use Rattle.form_data.specs.Views.{import_of, table_of, global_of, group_of, payload_of};
-ghost use Rattle.form_lists.specs.Source.{source_module, section_of};
+ghost use Rattle.form_lists.specs.Source.{source_module, sections_in};
 ghost use Rattle.form_lists.specs.Views.{declared_of, lists_of};
 ghost use Rattle.form_lists.specs.Gathered.{AddsImports, AddsDefined};
 
@@ -107,11 +107,12 @@ fn add_all_defined(spaces: &mut Spaces, source: Source<'_, '_>) -> Result<(), Al
 }
 
 fn add_section(spaces: &mut Spaces, section: Section<'_, '_>) -> Result<(), AllocError>
-    ensures { OnOk result (AddsDefined spaces.old spaces.new (section_of section.entry ∷ [])) }
+    ensures { OnOk result (AddsDefined spaces.old spaces.new (sections_in section.entry)) }
 {
     match section {
         Section::Read(payload) => add_defined(spaces, payload),
         Section::Elements(_) => Ok(()),
+        Section::Customs(_) => Ok(()),
     }
 }
 

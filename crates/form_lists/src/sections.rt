@@ -1,13 +1,13 @@
 //! The entries of the sections of a module, in order.
 
-ghost use Rattle.std.specs.Prelude.{◌≡◌, List, [], map, refl};
+ghost use Rattle.std.specs.Prelude.{◌≡◌, ℕ, List, [], map, refl};
 ghost use Rattle.std.specs.List.{flat_map};
 ghost use Rattle.std.specs.Iterator.{YieldsFirstBy, item_count};
 ghost use Rattle.wasm_spec.specs.declared.types.UnpackedIndex.{UnpackedIndex};
 ghost use Rattle.wasm_spec.specs.TypeData.{Group};
 ghost use Rattle.wasm_spec.specs.Module as plain;
 ghost use Rattle.form_data.specs.Views.{payload_of, import_of, table_of, global_of, export_of, body_of, segment_of, group_of};
-ghost use Rattle.form_lists.specs.Source.{source_module, section_of, sections_left};
+ghost use Rattle.form_lists.specs.Source.{source_module, sections_in, sections_left};
 ghost use Rattle.form_lists.specs.Sections.{entries_left};
 
 use crate::source::{Section, Sections, Source, sections_of};
@@ -28,16 +28,19 @@ pub trait Entry<'d>: Sized {
         ensures { map seen result.now ≡ of_section (payload_of payload.now) };
 
     ghost no_elements: { (segments : List plain.Element) → of_section (plain.Elements segments) ≡ [] };
+
+    ghost no_customs: { (name bytes : List ℕ) → of_section (plain.Custom name bytes) ≡ [] };
 }
 
-/// The entries of a section, of which element segments are none.
+/// The entries of a section, of which element segments are none; custom sections have none.
 #[inline]
 pub fn entries_in<'f, 'd, T: Entry<'d>>(section: Section<'f, 'd>) -> &'f [T]
-    ensures { map T.seen result.now ≡ T.of_section (section_of section.entry) }
+    ensures { map T.seen result.now ≡ flat_map T.of_section (sections_in section.entry) }
 {
     match section {
         Section::Read(payload) => T::in_section(payload),
         Section::Elements(_) => &[],
+        Section::Customs(_) => &[],
     }
 }
 
@@ -97,6 +100,8 @@ impl<'d> Entry<'d> for RecGroup {
     }
 
     ghost no_elements = { λ segments. refl };
+
+    ghost no_customs = { λ name bytes. refl };
 }
 
 impl<'d> Entry<'d> for Import<'d> {
@@ -115,6 +120,8 @@ impl<'d> Entry<'d> for Import<'d> {
     }
 
     ghost no_elements = { λ segments. refl };
+
+    ghost no_customs = { λ name bytes. refl };
 }
 
 impl<'d> Entry<'d> for TableDef {
@@ -133,6 +140,8 @@ impl<'d> Entry<'d> for TableDef {
     }
 
     ghost no_elements = { λ segments. refl };
+
+    ghost no_customs = { λ name bytes. refl };
 }
 
 impl<'d> Entry<'d> for GlobalDef {
@@ -151,6 +160,8 @@ impl<'d> Entry<'d> for GlobalDef {
     }
 
     ghost no_elements = { λ segments. refl };
+
+    ghost no_customs = { λ name bytes. refl };
 }
 
 impl<'d> Entry<'d> for Export<'d> {
@@ -169,6 +180,8 @@ impl<'d> Entry<'d> for Export<'d> {
     }
 
     ghost no_elements = { λ segments. refl };
+
+    ghost no_customs = { λ name bytes. refl };
 }
 
 impl<'d> Entry<'d> for FunctionBody<'d> {
@@ -187,6 +200,8 @@ impl<'d> Entry<'d> for FunctionBody<'d> {
     }
 
     ghost no_elements = { λ segments. refl };
+
+    ghost no_customs = { λ name bytes. refl };
 }
 
 impl<'d> Entry<'d> for DataSegment<'d> {
@@ -205,4 +220,6 @@ impl<'d> Entry<'d> for DataSegment<'d> {
     }
 
     ghost no_elements = { λ segments. refl };
+
+    ghost no_customs = { λ name bytes. refl };
 }

@@ -1,34 +1,36 @@
 //! A module that was read, and its sections.
 
 ghost use Rattle.std.specs.Prelude.{◌≡◌};
-ghost use Rattle.std.specs.Iterator.{YieldsFirstBy, item_count};
-ghost use Rattle.form_reader.specs.Input.{input_section_of};
-ghost use Rattle.form_lists.specs.Source.{source_module, section_of, sections_left};
+ghost use Rattle.std.specs.Iterator.{at_most};
+ghost use Rattle.form_reader.specs.Input.{sections_of_part};
+ghost use Rattle.form_lists.specs.Source.{source_module, sections_in, sections_left, steps_left, GivesFirst};
 
 use form_data::{Form, Payload};
-use form_reader::{InputElements, InputForm, InputSection};
+use form_reader::{InputCustoms, InputElements, InputForm, InputPart, InputSection};
 
-/// A module that was read: as a form, or with element segments that stay in the input.
+/// A module that was read: as a form, or with element segments and custom sections that stay in the input.
 #[derive(Clone, Copy)]
 pub enum Source<'f, 'd> {
     Form(&'f Form<'d>),
     Input(&'f InputForm<'d>),
 }
 
-/// A section of a source.
+/// A section of a source, or a run of custom sections.
 #[derive(Clone, Copy)]
 pub enum Section<'f, 'd> {
     /// Its entries were read.
     Read(&'f Payload<'d>),
     /// Its element segments stay in the input.
     Elements(InputElements<'d>),
+    /// Custom sections with no other one between them, which stay in the input.
+    Customs(InputCustoms<'d>),
 }
 
-/// The sections of a source, one after another.
+/// The sections of a source, one after another; a run of custom sections that stay in the input is one step.
 #[derive(Clone, Copy)]
 pub enum Sections<'f, 'd> {
     Form(&'f [Payload<'d>]),
-    Input(&'f [InputSection<'d>]),
+    Input(&'f [InputPart<'d>]),
 }
 
 /// All sections of a module.
@@ -39,16 +41,16 @@ pub fn sections_of<'f, 'd>(source: Source<'f, 'd>) -> Sections<'f, 'd>
 {
     match source {
         Source::Form(form) => Sections::Form(form.payloads.as_slice()),
-        Source::Input(form) => Sections::Input(form.sections.as_slice()),
+        Source::Input(form) => Sections::Input(form.parts.as_slice()),
     }
 }
 
 impl<'f, 'd> Iterator for Sections<'f, 'd> {
     type Item = Section<'f, 'd>;
 
-    ghost next_gives = { YieldsFirstBy section_of sections_left };
+    ghost next_gives = { GivesFirst };
 
-    ghost remaining = { item_count sections_left };
+    ghost remaining = { λ walk. at_most (steps_left walk) };
 
     #[inline]
     #[tactic(auto, unfolding(crate::specs::Source::sections_left))]
@@ -59,20 +61,21 @@ impl<'f, 'd> Iterator for Sections<'f, 'd> {
                 *self = Sections::Form(others);
                 Some(Section::Read(first))
             }
-            Sections::Input(sections) => {
-                let (first, others) = sections.split_first()?;
+            Sections::Input(parts) => {
+                let (first, others) = parts.split_first()?;
                 *self = Sections::Input(others);
-                Some(section_in(first))
+                Some(section_of(first))
             }
         }
     }
 }
 
-fn section_in<'f, 'd>(section: &'f InputSection<'d>) -> Section<'f, 'd>
-    ensures { section_of result ≡ input_section_of section.now }
+fn section_of<'f, 'd>(part: &'f InputPart<'d>) -> Section<'f, 'd>
+    ensures { sections_in result ≡ sections_of_part part.now }
 {
-    match section {
-        InputSection::Elements(segments) => Section::Elements(*segments),
-        InputSection::Other(payload) => Section::Read(payload),
+    match part {
+        InputPart::Customs(run) => Section::Customs(*run),
+        InputPart::Section(InputSection::Elements(segments)) => Section::Elements(*segments),
+        InputPart::Section(InputSection::Other(payload)) => Section::Read(payload),
     }
 }

@@ -1,4 +1,5 @@
 pub mod ContentLaws
+pub mod CustomRuns
 pub mod Digits
 pub mod Entries
 pub mod Listed

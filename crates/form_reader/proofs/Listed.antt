@@ -58,7 +58,7 @@ module _ {A : Type 0} (read : Reader A) where
 
   -- ---- the first of them
 
-  taken_at : (m : ℕ) (bytes rest : List ℕ) (x : A) → read bytes ≡ Ok (x, rest) → listed read (suc m) bytes ≡ x ∷ listed read m rest
+  pub taken_at : (m : ℕ) (bytes rest : List ℕ) (x : A) → read bytes ≡ Ok (x, rest) → listed read (suc m) bytes ≡ x ∷ listed read m rest
   unfolding listed
   taken_at m bytes rest x e = rw e refl
 
@@ -71,7 +71,7 @@ module _ {A : Type 0} (read : Reader A) where
   unfolding listed
   none_at m bytes fault e = rw e refl
 
-  none_taken : (n : ℕ) (bytes : List ℕ) (fault : Fault) → (n ≡ 0 → ⊥) → read bytes ≡ Err fault → listed read n bytes ≡ []
+  pub none_taken : (n : ℕ) (bytes : List ℕ) (fault : Fault) → (n ≡ 0 → ⊥) → read bytes ≡ Err fault → listed read n bytes ≡ []
   none_taken n bytes fault some e =
       let k : n ≡ suc (n - 1) = omega (arith, some) in
       ap (λ m. listed read m bytes) k ∙ none_at (n - 1) bytes fault e

@@ -1,29 +1,29 @@
 -- Sections, as a loop reads them.
-use Rattle.std.proofs.Common.{◌≡◌, ℕ, suc, zero, ◌-◌, ◌+◌, ◌<◌, List, [], ◌∷◌, ◌++◌, length, Result, Ok, Err, refl, sym, ap, ◌∙◌, append_assoc, arith}
+use Rattle.std.proofs.Common.{◌≡◌, ℕ, suc, zero, ◌-◌, ◌+◌, ◌<◌, ◌≤◌, List, [], ◌∷◌, ◌++◌, length, Result, Ok, Err, refl, sym, ap, subst, ◌∙◌, append_assoc, arith}
 use Rattle.std.proofs.lemmas.List.{append-nil, nil_from_length, length-append}
 use Rattle.form_reader.specs.declared.error.ReadError.{ReadError}
 use Rattle.form_reader.specs.declared.error.ReadError.TheVariants as errors
-use Rattle.wasm_spec.specs.Module.{Payload}
+use Rattle.wasm_spec.specs.Module.{Payload, Module}
 use Rattle.wasm_spec.specs.Grammar as grammar
 use Rattle.wasm_spec.specs.Grammar.{next_order}
-use Rattle.form_reader.specs.Reading.{and_then, measured_at, Fails, Fault, Bad, Stops}
+use Rattle.form_reader.specs.Reading.{Fails, Fault}
 use Rattle.form_reader.specs.SectionRows.{section}
-use Rattle.form_reader.specs.ReadingSections.{sections_at}
+use Rattle.form_reader.specs.ReadingSections.{sections_at, with_payloads, Passes}
 use Rattle.form_reader.proofs.ContentLaws.{taken_spells}
 
--- what was read before, and what is still read
-abbrev pub with_payloads : List Payload → Result (List Payload) Fault → Result (List Payload) Fault
-with_payloads front read = and_then read (λ ps. Ok (front ++ ps))
-
-regroup : (front : List Payload) (p : Payload) (read : Result (List Payload) Fault)
-    → with_payloads front (and_then read (λ ps. Ok (p ∷ ps))) ≡ with_payloads (front ++ p ∷ []) read
-regroup front p (Ok ps) = ap (λ (qs : List Payload). Ok qs) (simp append_assoc)
-regroup front p (Err fault) = refl
+joined : (front more : Module) (read : Result Module Fault) → with_payloads front (with_payloads more read) ≡ with_payloads (front ++ more) read
+joined front more (Ok ps) = ap (λ (qs : Module). Ok qs) (sym (append_assoc front more ps))
+joined front more (Err fault) = refl
 
 -- nothing was read before
-pub all_so_far : (read : Result (List Payload) Fault) → with_payloads [] read ≡ read
+all_so_far : (read : Result Module Fault) → with_payloads [] read ≡ read
 all_so_far (Ok ps) = refl
 all_so_far (Err fault) = refl
+
+no_bytes : (k place next : ℕ) → sections_at k place next [] ≡ Ok []
+unfolding sections_at
+no_bytes zero place next = refl
+no_bytes (suc k) place next = refl
 
 pub section_shortens : (place next : ℕ) (bytes : List ℕ) (p : Payload) (rest : List ℕ) → (section place next).read bytes ≡ Ok (p, rest)
     → length rest < length bytes
@@ -34,48 +34,61 @@ section_shortens place next bytes p rest e = by_front
       by_front (c ∷ front, parts, is) = let long : length bytes ≡ suc (length front + length rest) =
           rw parts (ap suc (length-append front rest)) in omega arith
 
--- ---- one step of the loop, of n at most; each took one before
+-- ---- some sections, and others after them
 
--- the sections after one that was read, in at most k steps
-abbrev others : ℕ → ℕ → ℕ → (Payload × ℕ) × List ℕ → Result (List Payload) Fault
-others k place next p = and_then (sections_at k (place + p.0.1) (next_order next p.0.0) p.1) (λ ps. Ok (p.0.0 ∷ ps))
+pub none_pass : (place next : ℕ) (bytes : List ℕ) → Passes place next bytes [] place next bytes
+none_pass place next bytes = record {
+  fits = omega arith;
+  reads = λ k. ap (λ n. sections_at n place next bytes) (let e : 0 + k ≡ k = omega arith in e) ∙ sym (all_so_far (sections_at k place next bytes));
+}
 
-no_bytes : (k place next : ℕ) → sections_at k place next [] ≡ Ok []
+pub one_passes : (place next : ℕ) (bytes : List ℕ) (p : Payload) (rest : List ℕ) → (section place next).read bytes ≡ Ok (p, rest)
+    → Passes place next bytes (p ∷ []) (place + (length bytes - length rest)) (next_order next p) rest
 unfolding sections_at
-no_bytes zero place next = refl
-no_bytes (suc k) place next = refl
+one_passes place next [] p rest e = absurd (omega (arith, section_shortens place next [] p rest e))
+one_passes place next (b ∷ bytes) p rest e = record {
+  fits = omega (arith, section_shortens place next (b ∷ bytes) p rest e);
+  reads = λ k. ap (λ n. sections_at n place next (b ∷ bytes)) (let one : 1 + k ≡ suc k = omega arith in one) ∙ rw e refl;
+}
 
-some_bytes : (k place next : ℕ) (bytes : List ℕ) → (length bytes ≡ 0 → ⊥)
-    → sections_at (suc k) place next bytes ≡ and_then (measured_at (section place next).read bytes) (others k place next)
+module _ (place next : ℕ) (old : List ℕ) (front : Module) (later after : ℕ) (mid : List ℕ) (passes : Passes place next old front later after mid) where
+  pub then_pass : (more : Module) (last end : ℕ) (new : List ℕ) → Passes later after mid more last end new → Passes place next old (front ++ more) last end new
+  then_pass more last end new others = record {
+    fits = omega (arith, passes.fits, others.fits, length-append front more);
+    reads = λ k.
+        let far : length (front ++ more) + k ≡ length front + (length more + k) = omega (arith, length-append front more) in
+        ap (λ n. sections_at n place next old) far ∙ passes.reads (length more + k) ∙ ap (with_payloads front) (others.reads k)
+        ∙ joined front more (sections_at k last end new);
+  }
+
+  -- at the end of the bytes all are read
+  pub all_pass : length mid ≡ 0 → sections_at (length old) place next old ≡ Ok front
+  all_pass none =
+      let k = length old - length front in
+      let all : length old ≡ length front + k = omega (arith, passes.fits) in
+      ap (λ n. sections_at n place next old) all ∙ passes.reads k
+      ∙ rw (nil_from_length mid none, no_bytes k later after) (ap (λ (ps : Module). Ok ps) (append-nil front))
+
+  fails_as : (error : ReadError) (k : ℕ) → Fails error (sections_at k later after mid) → Fails error (sections_at (length front + k) place next old)
+  fails_as errors.OutOfMemory k h = tt
+  fails_as errors.TooLarge k h = h
+  fails_as errors.Malformed k h = passes.reads k ∙ ap (with_payloads front) h
+  fails_as (errors.Unsupported w) k h = passes.reads k ∙ ap (with_payloads front) h
+
+  -- where the next is not read, nothing is
+  pub fail_after : (error : ReadError) → ((k : ℕ) → 0 < length mid → length mid ≤ k → Fails error (sections_at k later after mid))
+      → 0 < length mid → (k : ℕ) → length old ≤ k → Fails error (sections_at k place next old)
+  fail_after error fails some k enough =
+      let all : length front + (k - length front) ≡ k = omega (arith, passes.fits) in
+      subst (λ n. Fails error (sections_at n place next old)) all (fails_as error (k - length front) (fails (k - length front) some (omega (arith, passes.fits))))
+
+-- the next section is not read
+pub section_fails : (error : ReadError) (place next : ℕ) (bytes : List ℕ) → Fails error ((section place next).read bytes)
+    → (k : ℕ) → 0 < length bytes → length bytes ≤ k → Fails error (sections_at k place next bytes)
 unfolding sections_at
-some_bytes k place next [] some = absurd (some refl)
-some_bytes k place next (b ∷ bytes) some = refl
-
-module _ (front : List Payload) (n place next : ℕ) (bytes : List ℕ) (total : Result (List Payload) Fault)
-    (so_far : with_payloads front (sections_at (n - length front) place next bytes) ≡ total) where
-  -- the sections end where no byte is left
-  pub section_end : length bytes ≡ 0 → total ≡ Ok front
-  section_end none =
-      sym so_far ∙ rw (nil_from_length bytes none, no_bytes (n - length front) place next) (ap (λ (ps : List Payload). Ok ps) (append-nil front))
-
-  module _ (some : length bytes ≡ 0 → ⊥) (left : length front < n) where
-    step : with_payloads front (and_then (measured_at (section place next).read bytes) (others (n - (length front + 1)) place next)) ≡ total
-    step =
-        let k : n - length front ≡ suc (n - (length front + 1)) = omega arith in
-        ap (with_payloads front) (sym (some_bytes (n - (length front + 1)) place next bytes some)) ∙ sym (rw k refl) ∙ so_far
-
-    pub section_more : (p : Payload) (rest : List ℕ) → (section place next).read bytes ≡ Ok (p, rest)
-        → with_payloads (front ++ p ∷ []) (sections_at (n - length (front ++ p ∷ [])) (place + (length bytes - length rest)) (next_order next p) rest) ≡ total
-    section_more p rest h =
-        let one : length (front ++ p ∷ []) ≡ length front + 1 = length-append front (p ∷ []) in
-        let later = sections_at (n - (length front + 1)) (place + (length bytes - length rest)) (next_order next p) rest in
-        rw one (sym (regroup front p later) ∙ sym (rw h refl) ∙ step)
-
-    section_stays : (fault : Fault) → (section place next).read bytes ≡ Err fault → total ≡ Err fault
-    section_stays fault h = sym step ∙ rw h refl
-
-    pub section_fails : (error : ReadError) → Fails error ((section place next).read bytes) → Fails error total
-    section_fails errors.OutOfMemory h = tt
-    section_fails errors.TooLarge h = h
-    section_fails errors.Malformed h = section_stays Bad h
-    section_fails (errors.Unsupported w) h = section_stays (Stops w) h
+section_fails error place next [] h k some enough = absurd (omega arith)
+section_fails error place next (b ∷ bytes) h zero some enough = absurd (omega arith)
+section_fails errors.OutOfMemory place next (b ∷ bytes) h (suc k) some enough = tt
+section_fails errors.TooLarge place next (b ∷ bytes) h (suc k) some enough = h
+section_fails errors.Malformed place next (b ∷ bytes) h (suc k) some enough = rw h refl
+section_fails (errors.Unsupported w) place next (b ∷ bytes) h (suc k) some enough = rw h refl

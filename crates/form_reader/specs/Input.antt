@@ -1,12 +1,18 @@
 -- What stays in the input, as the plain values of the definitions.
-use Rattle.std.specs.Prelude.{◌≡◌, ℕ, zero, suc, Bool, true, false, List, [], ◌∷◌, map, Result, Ok, Err}
+use Rattle.std.specs.Prelude.{◌≡◌, ℕ, zero, suc, Bool, true, false, List, [], ◌∷◌, Result, Ok, Err}
 use Rattle.wasm_spec.specs.Module as plain
+use Rattle.std.specs.List.{flat_map}
+use Rattle.form_data.specs.declared.form.Custom.{Custom}
 use Rattle.form_data.specs.Views.{payload_of}
 use Rattle.form_reader.specs.Reading.{Fault, Reader}
 use Rattle.form_reader.specs.EntryRows.{element_segment}
+use Rattle.form_reader.specs.SectionRows.{custom_section}
+use Rattle.form_reader.specs.declared.customs.InputCustoms.{InputCustoms}
 use Rattle.form_reader.specs.declared.input.InputElements.{InputElements}
 use Rattle.form_reader.specs.declared.input.InputSection.{InputSection}
 use Rattle.form_reader.specs.declared.input.InputSection.TheVariants as sections
+use Rattle.form_reader.specs.declared.input.InputPart.{InputPart}
+use Rattle.form_reader.specs.declared.input.InputPart.TheVariants as parts
 use Rattle.form_reader.specs.declared.input.InputForm.{InputForm}
 
 -- one more entry, if one is read
@@ -27,9 +33,20 @@ abbrev pub input_section_of : InputSection → plain.Payload
 input_section_of (sections.Elements list) = plain.Elements (elements_in list)
 input_section_of (sections.Other payload) = payload_of payload
 
+abbrev pub custom_of : Custom → plain.Payload
+custom_of custom = plain.Custom custom.name.now custom.bytes.now
+
+-- the sections of a run
+abbrev pub customs_in : InputCustoms → List plain.Payload
+customs_in run = listed custom_section.read run.count run.bytes.now
+
+abbrev pub sections_of_part : InputPart → List plain.Payload
+sections_of_part (parts.Customs run) = customs_in run
+sections_of_part (parts.Section section) = input_section_of section ∷ []
+
 -- the module that a form holds
 abbrev pub input_module_of : InputForm → plain.Module
-input_module_of form = map input_section_of form.sections.items
+input_module_of form = flat_map sections_of_part form.parts.items
 
 -- the first of some entries is taken and the others are left, or there is none
 abbrev pub Takes : {A : Type 0} → List A → A → List A → Bool → Type 0

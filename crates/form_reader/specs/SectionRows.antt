@@ -132,3 +132,7 @@ section_of after place next = first_byte (λ id. choose (id == 0) (sized (fill_a
 
 unfoldable pub section : (place next : ℕ) → Row (section_by custom_taken place next)
 section place next = section_of custom_after place next
+
+-- a custom section alone
+unfoldable pub custom_section : Row (part.first_byte (λ id. part.choose (id == 0) (part.sized (part.◌>>=◌ grammar_name custom_taken)) part.nothing))
+custom_section = first_byte (λ id. choose (id == 0) (sized (fill_after name custom_after)) nothing)

@@ -1,43 +1,21 @@
 //! What sections hold, by their ids (core specification, 5.5, sections).
 
 ghost use Rattle.std.specs.Prelude.{◌≡◌, ◌+◌, ◌<◌, ◌^◌, length};
-ghost use Rattle.form_data.specs.Views.{payload_of};
 ghost use Rattle.form_reader.specs.Input.{input_section_of};
-ghost use Rattle.form_reader.specs.Reading.{Reads, whole, fill_after};
-ghost use Rattle.form_reader.specs.ReadingNumbers.{unsigned_at, name_at, sized_at};
-ghost use Rattle.form_reader.specs.SectionRows.{is_interface_name as spec_is_interface_name, custom_after_at, section_contents};
+ghost use Rattle.form_reader.specs.Reading.{Reads, whole};
+ghost use Rattle.form_reader.specs.ReadingNumbers.{unsigned_at, sized_at};
+ghost use Rattle.form_reader.specs.SectionRows.{section_contents};
 
 use crate::cursor::Cursor;
 use crate::entity_types::TagType;
 use crate::error::ReadError;
 use crate::input::InputSection::{self, Elements, Other};
 use crate::vectors::Index;
-use form_data::{Custom, DataSegment, Export, GlobalDef, Import, Payload, RecGroup, TableDef};
+use form_data::{DataSegment, Export, GlobalDef, Import, Payload, RecGroup, TableDef};
 use std::alloc::Global;
-use wasm_spec::{MemoryType, What};
-
-/// Whether a name is one of custom sections of interface types, which are not taken.
-fn is_interface_name(name: &str) -> bool
-    ensures { result ≡ spec_is_interface_name name.now }
-{
-    name == "webidl-bindings" || name == "wasm-interface-types"
-}
+use wasm_spec::MemoryType;
 
 impl<'d> Cursor<'d> {
-    /// A custom section: a name, and whatever follows inside the size.
-    #[tactic(auto, unfolding(crate::specs::ReadingNumbers::sized_at))]
-    pub fn custom(&mut self) -> Result<Payload<'d>, ReadError>
-        ensures { Reads (sized_at (fill_after name_at custom_after_at)) payload_of self.old.rest.now self.new.rest.now result }
-    {
-        let mut body = self.sized()?;
-        let name = body.name()?;
-        if is_interface_name(name) {
-            return Err(ReadError::Unsupported(What::InterfaceTypes));
-        }
-        let bytes = body.rest;
-        Ok(Payload::Custom(Custom { name, bytes }))
-    }
-
     /// A number that fills a section.
     #[tactic(auto, unfolding(crate::specs::ReadingNumbers::sized_at, crate::specs::Reading::whole))]
     fn number(&mut self) -> Result<u32, ReadError>

@@ -1,13 +1,14 @@
-//! Modules whose element segments stay in the input.
+//! Modules whose element segments and custom sections stay in the input.
 
-ghost use Rattle.std.specs.Prelude.{◌≡◌, [], map, false, IfOk};
+ghost use Rattle.std.specs.Prelude.{◌≡◌, ◌++◌, [], map, false, IfOk, OnOk};
 ghost use Rattle.form_data.specs.Views.{element_of, payload_of};
 ghost use Rattle.form_reader.specs.Reading.{Reads, whole};
 ghost use Rattle.form_reader.specs.ReadingNumbers.{vector_at, sized_at};
 ghost use Rattle.form_reader.specs.EntryRows.{element_segment};
-ghost use Rattle.form_reader.specs.Input.{elements_in, input_section_of, Takes};
+ghost use Rattle.form_reader.specs.Input.{elements_in, customs_in, input_section_of, sections_of_part, Takes};
 
 use crate::cursor::Cursor;
+use crate::customs::InputCustoms;
 use crate::elements::no_element;
 use crate::error::ReadError;
 use form_data::{Element, Payload};
@@ -21,18 +22,27 @@ pub struct InputElements<'d> {
     bytes: &'d [u8],
 }
 
-/// A section; its entries were read, but for element segments, which stay in the input.
+/// A section that is no custom one; its entries were read, but for element segments, which stay in the input.
 #[derive(Drop)]
 pub enum InputSection<'d> {
     Elements(InputElements<'d>),
     Other(Payload<'d>),
 }
 
-/// The sections of a module in order, whose element segments stay in the input.
+/// Custom sections with no other one between them, which stay in the input, or one section that is no custom one.
+#[derive(Drop)]
+pub enum InputPart<'d> {
+    Customs(InputCustoms<'d>),
+    Section(InputSection<'d>),
+}
+
+/// The sections of a module in order; its element segments and custom sections stay in the input.
+///
+/// Of sections that are no custom ones there is at most one of each kind, and so at most 27 parts, whatever the input.
 #[derive(Drop)]
 pub struct InputForm<'d> {
     pub wasm: &'d [u8],
-    pub sections: Vec<InputSection<'d>>,
+    pub parts: Vec<InputPart<'d>>,
 }
 
 impl<'d> Cursor<'d> {
@@ -119,4 +129,33 @@ impl<'d> InputSection<'d> {
             InputSection::Other(payload) => Ok(payload),
         }
     }
+}
+
+impl<'d> InputPart<'d> {
+    /// Adds the sections with all of their entries.
+    pub(crate) fn collect_into(
+        self,
+        alloc: Global,
+        payloads: &mut Vec<Payload<'d>>,
+    ) -> Result<(), AllocError>
+        ensures { OnOk result (map payload_of payloads.new.items ≡ map payload_of payloads.old.items ++ sections_of_part self.entry) }
+    {
+        match self {
+            InputPart::Customs(run) => add_customs(payloads, run),
+            InputPart::Section(section) => {
+                payloads.push(section.collected(alloc)?)?;
+                Ok(())
+            }
+        }
+    }
+}
+
+/// Adds custom sections.
+fn add_customs<'d>(payloads: &mut Vec<Payload<'d>>, run: InputCustoms<'d>) -> Result<(), AllocError>
+    ensures { OnOk result (map payload_of payloads.new.items ≡ map payload_of payloads.old.items ++ customs_in run.entry) }
+{
+    for custom in run {
+        payloads.push(Payload::Custom(custom))?;
+    }
+    Ok(())
 }

@@ -4,6 +4,7 @@
 mod code;
 mod contents;
 mod cursor;
+mod customs;
 mod elements;
 mod entity_types;
 mod error;
@@ -26,9 +27,10 @@ mod type_groups;
 mod value_types;
 mod vectors;
 
+pub use customs::InputCustoms;
 pub use elements::no_element;
 pub use error::ReadError;
-pub use input::{InputElements, InputForm, InputSection};
+pub use input::{InputElements, InputForm, InputPart, InputSection};
 pub use laws::spelling_is_unique;
 pub use module::{MAX_MODULE_SIZE, read_input, read_module};
 pub use type_bytes::type_section_bytes;

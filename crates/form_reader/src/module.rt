@@ -1,19 +1,20 @@
 //! Modules (core specification, 5.5, modules).
 
 ghost use Rattle.std.specs.Prelude.{◌≡◌, ◌↔◌, ◌^◌, ◌<◌, ◌≤◌, length, map, IfOk, Err};
+ghost use Rattle.std.specs.List.{flat_map};
 ghost use Rattle.wasm_spec.specs.declared.operators.What.{What};
 ghost use Rattle.wasm_spec.specs.Module.{Module};
 ghost use Rattle.wasm_spec.specs.Grammar.{Spells, Stops};
 ghost use Rattle.wasm_spec.specs.Sizes.{HasFewEntries, HasShortTypes};
 ghost use Rattle.wasm_spec.specs.Interfaces.{HasNoInterfaceTypes};
 ghost use Rattle.form_data.specs.Views.{module_of, payload_of};
-ghost use Rattle.form_reader.specs.Input.{input_section_of, input_module_of};
+ghost use Rattle.form_reader.specs.Input.{sections_of_part, input_module_of};
 ghost use Rattle.form_reader.specs.Outcomes.{ReadsAs, ReadsInputAs};
 ghost use Rattle.form_reader.specs.Reading.{Gives};
 ghost use Rattle.form_reader.specs.ReadingSections.{is_component as spec_is_component, module_at};
 
 use crate::error::ReadError;
-use crate::input::{InputForm, InputSection};
+use crate::input::{InputForm, InputPart};
 use crate::sections::sections;
 use form_data::{Form, Payload};
 use std::alloc::{AllocError, Global};
@@ -40,9 +41,9 @@ fn is_component(bytes: &[u8]) -> bool
 
 /// The sections after the header.
 #[tactic(auto, unfolding(crate::specs::ReadingSections::module_at))]
-fn sections_of<'d>(alloc: Global, bytes: &'d [u8]) -> Result<Vec<InputSection<'d>>, ReadError>
+fn parts_of<'d>(alloc: Global, bytes: &'d [u8]) -> Result<Vec<InputPart<'d>>, ReadError>
     requires { length bytes.now < 2 ^ 30 }
-    ensures { Gives (λ x. map input_section_of x.items) result (module_at bytes.now) }
+    ensures { Gives (λ x. flat_map sections_of_part x.items) result (module_at bytes.now) }
 {
     if bytes.starts_with(&HEADER) {
         return sections(alloc, HEADER.len(), &bytes[HEADER.len()..]);
@@ -54,20 +55,17 @@ fn sections_of<'d>(alloc: Global, bytes: &'d [u8]) -> Result<Vec<InputSection<'d
 }
 
 /// The sections with all of their entries.
-fn collected<'d>(
-    alloc: Global,
-    sections: Vec<InputSection<'d>>,
-) -> Result<Vec<Payload<'d>>, AllocError>
-    ensures { IfOk result (λ payloads. map payload_of payloads.items ≡ map input_section_of sections.entry.items) }
+fn collected<'d>(alloc: Global, parts: Vec<InputPart<'d>>) -> Result<Vec<Payload<'d>>, AllocError>
+    ensures { IfOk result (λ payloads. map payload_of payloads.items ≡ flat_map sections_of_part parts.entry.items) }
 {
-    let mut payloads = Vec::with_capacity(alloc, sections.len())?;
-    for section in sections {
-        payloads.push(section.collected(alloc)?)?;
+    let mut payloads = Vec::with_capacity(alloc, parts.len())?;
+    for part in parts {
+        part.collect_into(alloc, &mut payloads)?;
     }
     Ok(payloads)
 }
 
-/// The module that the bytes spell; its element segments stay in the input.
+/// The module that the bytes spell; its element segments and custom sections stay in the input.
 ///
 /// # Errors
 /// Those of `read_module`.
@@ -90,11 +88,8 @@ pub fn read_input<'d>(alloc: Global, bytes: &'d [u8]) -> Result<InputForm<'d>, R
     if bytes.len() >= MAX_MODULE_SIZE {
         return Err(ReadError::TooLarge);
     }
-    let sections = sections_of(alloc, bytes)?;
-    Ok(InputForm {
-        wasm: bytes,
-        sections,
-    })
+    let parts = parts_of(alloc, bytes)?;
+    Ok(InputForm { wasm: bytes, parts })
 }
 
 /// The module that the bytes spell.
@@ -119,7 +114,7 @@ pub fn read_module<'d>(alloc: Global, bytes: &'d [u8]) -> Result<Form<'d>, ReadE
     ensures stops_nowhere { result ≡ Err ReadError.Malformed → (what : What) → ¬ Stops bytes.now what }
 {
     let input = read_input(alloc, bytes)?;
-    let payloads = collected(alloc, input.sections)?;
+    let payloads = collected(alloc, input.parts)?;
     Ok(Form {
         wasm: bytes,
         payloads,

@@ -1,8 +1,8 @@
 //! Numbers at the front of bytes (core specification, 5.2, integers).
 
 ghost use Rattle.std.specs.Prelude.{◌≡◌, ◌≤◌, ◌<◌, ◌^◌, IfSome};
-ghost use Rattle.std.specs.Option.{option_map};
-ghost use Rattle.form_reader.specs.Reading.{Reads, uncons};
+ghost use Rattle.std.specs.Option.{option_map, ok_or};
+ghost use Rattle.form_reader.specs.Reading.{Bad, Reads, uncons};
 ghost use Rattle.form_reader.specs.ReadingNumbers.{unsigned_at, signed_at, non_negative_at, signed_of, found_at, sevens_of, wide_sevens_of};
 
 use crate::cursor::Cursor;
@@ -34,7 +34,7 @@ pub struct WideSevens {
 
 /// The first byte, and the bytes after it.
 #[inline]
-fn first_byte(bytes: &[u8]) -> Option<(u8, &[u8])>
+pub fn first_byte(bytes: &[u8]) -> Option<(u8, &[u8])>
     ensures { option_map (λ x. (x.0, x.1.now)) result ≡ uncons bytes.now }
 {
     match bytes {
@@ -117,19 +117,27 @@ fn wide_signed(found: &WideSevens) -> i128
     }
 }
 
+/// An unsigned number of 32 bits at the front, and the bytes after it.
+#[tactic(auto, unfolding(crate::specs::ReadingNumbers::unsigned_at))]
+pub fn u32_at(bytes: &[u8]) -> Option<(u32, &[u8])>
+    ensures { ok_or (option_map (λ x. (x.0, x.1.now)) result) Bad ≡ unsigned_at 32 bytes.now }
+{
+    let (found, rest) = sevens_at(bytes)?;
+    match u32::try_from(found.sum) {
+        Ok(number) => Some((number, rest)),
+        Err(_) => None,
+    }
+}
+
 impl<'d> Cursor<'d> {
-    #[tactic(auto, unfolding(crate::specs::ReadingNumbers::unsigned_at))]
     fn long_u32(&mut self) -> Result<u32, ReadError>
         ensures { Reads (unsigned_at 32) (λ x. x) self.old.rest.now self.new.rest.now result }
     {
-        let Some((found, rest)) = sevens_at(self.rest) else {
+        let Some((number, rest)) = u32_at(self.rest) else {
             return Err(ReadError::Malformed);
         };
         self.rest = rest;
-        match u32::try_from(found.sum) {
-            Ok(number) => Ok(number),
-            Err(_) => Err(ReadError::Malformed),
-        }
+        Ok(number)
     }
 
     #[tactic(auto, unfolding(crate::specs::ReadingNumbers::unsigned_at))]

@@ -1,21 +1,20 @@
 //! Sections, one after another (core specification, 5.5, sections).
 
-ghost use Rattle.std.specs.Prelude.{◌≡◌, ◌+◌, ◌<◌, ◌^◌, length, map};
+ghost use Rattle.std.specs.Prelude.{◌≡◌, ◌+◌, ◌<◌, ◌^◌, [], ◌∷◌, length, nat_eq, false};
+ghost use Rattle.std.specs.List.{flat_map, starts_with};
 ghost use Rattle.wasm_spec.specs.Grammar.{order_of as spec_order_of, section_id as spec_section_id, next_order as spec_next_order};
 ghost use Rattle.form_data.specs.Views.{payload_of};
-ghost use Rattle.form_reader.specs.Input.{input_section_of};
+ghost use Rattle.form_reader.specs.Input.{input_section_of, sections_of_part};
 ghost use Rattle.form_reader.specs.Reading.{Gives, Reads};
-ghost use Rattle.form_reader.specs.ReadingSections.{all_sections_at};
+ghost use Rattle.form_reader.specs.ReadingSections.{all_sections_at, ReadsSections};
 ghost use Rattle.form_reader.specs.SectionRows.{section};
 
 use crate::cursor::Cursor;
+use crate::customs::CUSTOM;
 use crate::error::ReadError;
-use crate::input::InputSection;
+use crate::input::{InputPart, InputSection};
 use form_data::Payload;
 use std::alloc::Global;
-
-/// The id of custom sections.
-const CUSTOM: u8 = 0;
 
 /// The other ids in the order in which sections stand; custom sections stand anywhere.
 const ORDER: [u8; 13] = [1, 2, 3, 4, 5, 13, 6, 7, 8, 9, 12, 10, 11];
@@ -70,7 +69,7 @@ fn next_order(next: usize, section: &InputSection<'_>) -> usize
 }
 
 impl<'d> Cursor<'d> {
-    /// A section that stands at a place of the input, where the next one has at least the order `next`.
+    /// A section that is no custom one and stands at a place of the input, where the next one has at least the order `next`.
     #[tactic(auto, unfolding(crate::specs::SectionRows::section))]
     fn section(
         &mut self,
@@ -78,17 +77,33 @@ impl<'d> Cursor<'d> {
         place: usize,
         next: usize,
     ) -> Result<InputSection<'d>, ReadError>
-        requires { place + length self.now.rest.now < 2 ^ 30 }
+        requires small { place + length self.now.rest.now < 2 ^ 30 }
+        requires other { starts_with nat_eq self.now.rest.now (0 ∷ []) ≡ false }
         ensures { Reads (section place next).read input_section_of self.old.rest.now self.new.rest.now result }
     {
         let id = self.byte()?;
-        if id == CUSTOM {
-            return Ok(InputSection::Other(self.custom()?));
-        }
         match order_of(id) {
             Some(order) if next <= order => self.section_contents(alloc, place + 1, id),
             _ => Err(ReadError::Malformed),
         }
+    }
+
+    /// A run of custom sections, or another section, as `section` reads it; after that the next one has at least the new order.
+    fn part(
+        &mut self,
+        alloc: Global,
+        place: usize,
+        next: &mut usize,
+    ) -> Result<InputPart<'d>, ReadError>
+        requires { place + length self.now.rest.now < 2 ^ 30 }
+        ensures { ReadsSections sections_of_part place next.old next.new self.old.rest.now self.new.rest.now result }
+    {
+        if self.is_at_custom() {
+            return Ok(InputPart::Customs(self.customs()?));
+        }
+        let section = self.section(alloc, place, *next)?;
+        *next = next_order(*next, &section);
+        Ok(InputPart::Section(section))
     }
 }
 
@@ -97,20 +112,19 @@ pub fn sections<'d>(
     alloc: Global,
     start: usize,
     bytes: &'d [u8],
-) -> Result<Vec<InputSection<'d>>, ReadError>
+) -> Result<Vec<InputPart<'d>>, ReadError>
     requires { start + length bytes.now < 2 ^ 30 }
-    ensures { Gives (λ x. map input_section_of x.items) result (all_sections_at start 0 bytes.now) }
+    ensures { Gives (λ x. flat_map sections_of_part x.items) result (all_sections_at start 0 bytes.now) }
 {
     let mut all = Vec::new(alloc);
     let mut cursor = Cursor { rest: bytes };
     let mut place = start;
     let mut next = 0;
-    'sections: while !cursor.rest.is_empty() {
+    'parts: while !cursor.rest.is_empty() {
         let before = cursor.rest.len();
-        let one = cursor.section(alloc, place, next)?;
+        let part = cursor.part(alloc, place, &mut next)?;
         place += before - cursor.rest.len();
-        next = next_order(next, &one);
-        all.push(one)?;
+        all.push(part)?;
     }
     Ok(all)
 }

@@ -1,12 +1,12 @@
 use Rattle.std.proofs.Common.{sym, subst}
-use Rattle.form_lists.specs.Source.{section_of}
+use Rattle.form_lists.specs.Source.{sections_in}
 use Rattle.form_lists.specs.Gathered.{AddsDefined}
 use Rattle.form_lists.proofs.Gathering.{AddsDefined-none, AddsDefined-more}
 use Rattle.form_lists.proofs.gather.add_all_defined.Goals as goal
 
 pub loop-section-preserved : goal.loop-section-preserved
 loop-section-preserved c =
-    AddsDefined-more c.args.spaces.now c.loop-section.spaces c.add_section.new.spaces (section_of c.in-Some.section) _ _ _
+    AddsDefined-more c.args.spaces.now c.loop-section.spaces c.add_section.new.spaces (sections_in c.in-Some.section) _ _ _
     c.in-Some.ensures.steps c.in_ok-add_section.ensures c.loop-section.invariant
 
 pub returns : goal.returns

@@ -1,60 +1,47 @@
-use Rattle.std.proofs.Common.{◌≡◌, ◌++◌, ◌∷◌, [], ◌-◌, ◌<◌, map, length, length-append, sym, arith}
+use Rattle.std.proofs.Common.{◌≡◌, [], ◌++◌, ◌<◌, ◌≤◌, ◌∙◌, length, sym, ap, subst, arith}
 use Rattle.std.proofs.lemmas.Result.{err_from_is_err_and}
-use Rattle.std.proofs.lemmas.List.{map_push}
+use Rattle.std.specs.List.{flat_map}
+use Rattle.std.proofs.lemmas.List.{flat_map_more}
 use Rattle.std.proofs.lemmas.Bool.{eqb-true, eqb-false}
-use Rattle.form_reader.specs.Input.{input_section_of}
-use Rattle.form_reader.specs.ReadingSections.{all_sections_at}
-use Rattle.form_reader.proofs.SectionList.{all_so_far, section_end, section_more, section_fails, section_shortens}
+use Rattle.wasm_spec.specs.Module.{Module}
+use Rattle.form_reader.specs.Input.{sections_of_part}
+use Rattle.form_reader.specs.ReadingSections.{Passes}
+use Rattle.form_reader.proofs.SectionList.{none_pass, then_pass, all_pass, fail_after}
 use Rattle.form_reader.proofs.sections.sections.Goals as goal
 
-pub sections-init : goal.sections-init
-sections-init c =
-    let n : length c.args.bytes.now - 0 ≡ length c.args.bytes.now = omega arith in
-    record {
-      small = omega arith;
-      steps = rw c.new-all.ensures.items (omega arith);
-      so_far =
-          rw (c.new-all.ensures.items, n) (all_so_far (all_sections_at c.args.start 0 c.args.bytes.now));
-    }
+pub parts-init : goal.parts-init
+parts-init c = record {
+  small = omega arith;
+  so_far = rw c.new-all.ensures.items (none_pass c.args.start 0 c.args.bytes.now);
+}
 
-pub returns-in_err-one : goal.returns-in_err-one
-returns-in_err-one c =
+pub returns-in_err-part : goal.returns-in_err-part
+returns-in_err-part c =
     let p = err_from_is_err_and c.from_residual.result c.from_residual.ensures.1 in
-    let some : length c.sections.cursor.rest.now ≡ 0 → ⊥ = eqb-false _ _ (sym c.sections-test.ensures) in
-    let left : length (map input_section_of c.sections.all.items) < length c.args.bytes.now = omega (arith, some, c.sections.invariant.steps) in
-    rw (p.1, p.2) (section_fails (map input_section_of c.sections.all.items) (length c.args.bytes.now) c.sections.place c.sections.next
-    c.sections.cursor.rest.now (all_sections_at c.args.start 0 c.args.bytes.now) c.sections.invariant.so_far some left c.in_err-one.field-0.0
-    c.in_err-one.ensures)
+    let some : length c.parts.cursor.rest.now ≡ 0 → ⊥ = eqb-false _ _ (sym c.parts-test.ensures) in
+    rw (p.1, p.2) (fail_after c.args.start 0 c.args.bytes.now _ c.parts.place c.parts.next c.parts.cursor.rest.now c.parts.invariant.so_far
+    c.in_err-part.field-0.0 c.in_err-part.ensures (omega (arith, some)) (length c.args.bytes.now) (omega arith))
 
 pub overflow_sub-place : goal.overflow_sub-place
-overflow_sub-place c = let short =
-    section_shortens c.sections.place c.sections.next c.sections.cursor.rest.now _ c.section.new.self.rest.now c.in_ok-one.ensures in omega arith
+overflow_sub-place c = omega (arith, c.in_ok-part.ensures.1)
 
 pub overflow_add-place : goal.overflow_add-place
-overflow_add-place c = let short =
-    section_shortens c.sections.place c.sections.next c.sections.cursor.rest.now _ c.section.new.self.rest.now c.in_ok-one.ensures in
-    omega (arith, c.sections.invariant.small)
+overflow_add-place c = omega (arith, c.in_ok-part.ensures.1, c.parts.invariant.small)
 
-pub sections-smaller : goal.sections-smaller
-sections-smaller c = section_shortens c.sections.place c.sections.next c.sections.cursor.rest.now _ c.section.new.self.rest.now c.in_ok-one.ensures
+pub parts-smaller : goal.parts-smaller
+parts-smaller c = c.in_ok-part.ensures.1
 
-pub sections-preserved : goal.sections-preserved
-sections-preserved c =
-    let p = c.in_ok-one.one in
-    let front = map input_section_of c.sections.all.items in
-    let short = section_shortens c.sections.place c.sections.next c.sections.cursor.rest.now _ c.section.new.self.rest.now c.in_ok-one.ensures in
-    let some : length c.sections.cursor.rest.now ≡ 0 → ⊥ = eqb-false _ _ (sym c.sections-test.ensures) in
-    let left : length front < length c.args.bytes.now = omega (arith, some, c.sections.invariant.steps) in
-    let e : map input_section_of c.push.new.self.items ≡ front ++ input_section_of p ∷ [] =
-    rw c.in_ok-push.ensures.items (map_push _ c.sections.all.items p) in
+pub parts-preserved : goal.parts-preserved
+parts-preserved c =
+    let more = c.in_ok-part.ensures in
+    let all : flat_map sections_of_part c.push.new.self.items ≡ flat_map sections_of_part c.parts.all.items ++ sections_of_part c.in_ok-part.part =
+    ap (flat_map sections_of_part) c.in_ok-push.ensures.items ∙ sym (flat_map_more sections_of_part [] c.parts.all.items c.in_ok-part.part) in
     record {
-      small = omega (arith, c.sections.invariant.small);
-      steps = rw e (omega (arith, short, length-append front (input_section_of p ∷ []), c.sections.invariant.steps));
-      so_far = rw (e, c.next_order-next.ensures) (section_more front (length c.args.bytes.now) c.sections.place c.sections.next
-          c.sections.cursor.rest.now _ c.sections.invariant.so_far some left (input_section_of p) c.section.new.self.rest.now c.in_ok-one.ensures);
+      small = omega (arith, c.parts.invariant.small, more.1);
+      so_far = rw all (then_pass c.args.start 0 c.args.bytes.now _ c.parts.place c.parts.next c.parts.cursor.rest.now c.parts.invariant.so_far
+          (sections_of_part c.in_ok-part.part) _ c.part.new.next c.part.new.self.rest.now more.0);
     }
 
 pub returns : goal.returns
-returns c = section_end
-    (map input_section_of c.sections.all.items) (length c.args.bytes.now) c.sections.place c.sections.next c.sections.cursor.rest.now _
-    c.sections.invariant.so_far (eqb-true _ _ (sym c.sections-test.ensures))
+returns c = all_pass c.args.start 0 c.args.bytes.now _ c.parts.place c.parts.next c.parts.cursor.rest.now c.parts.invariant.so_far
+    (eqb-true _ _ (sym c.parts-test.ensures))

@@ -1,11 +1,11 @@
-use Rattle.std.proofs.Common.{◌≡◌, length}
-use Rattle.form_lists.specs.Source.{sections_left}
+use Rattle.std.proofs.Common.{◌≡◌}
+use Rattle.form_lists.specs.Source.{steps_left}
 use Rattle.form_lists.specs.Elements.{elements_left}
 use Rattle.form_lists.proofs.elements.Elements.advance.Given as goal
 
 abbrev pub invariant-loop-self : goal.invariant-loop-self
 invariant-loop-self l = elements_left l.self ≡ elements_left l.initial.self
 
--- the sections that are left
+-- the steps that are left
 abbrev pub decreases-loop-self : goal.decreases-loop-self
-decreases-loop-self l = length (sections_left l.self.sections)
+decreases-loop-self l = steps_left l.self.sections

@@ -1,11 +1,11 @@
-use Rattle.std.proofs.Common.{◌≡◌, length}
-use Rattle.form_lists.specs.Source.{sections_left}
+use Rattle.std.proofs.Common.{◌≡◌}
+use Rattle.form_lists.specs.Source.{steps_left}
 use Rattle.form_lists.specs.Sections.{entries_left}
 use Rattle.form_lists.proofs.sections.EntriesIterator.next.Given as goal
 
 abbrev pub invariant-loop-first : goal.invariant-loop-first
 invariant-loop-first g l = entries_left g.T.Entry.seen g.T.Entry.of_section l.self ≡ entries_left g.T.Entry.seen g.T.Entry.of_section l.fn.self
 
--- the sections that are left
+-- the steps that are left
 abbrev pub decreases-loop-first : goal.decreases-loop-first
-decreases-loop-first g l = length (sections_left l.self.sections)
+decreases-loop-first g l = steps_left l.self.sections
