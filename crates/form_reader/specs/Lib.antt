@@ -9,7 +9,6 @@ pub mod Outcomes
 pub mod Reading
 pub mod ReadingNumbers
 pub mod ReadingSections
-pub mod Rooms
 pub mod Rows
 pub mod SectionRows
 pub mod TypeRows

@@ -4,7 +4,6 @@ ghost use Rattle.std.specs.Prelude.{◌≡◌, []};
 ghost use Rattle.wasm_spec.specs.Module as plain;
 ghost use Rattle.form_data.specs.Views.{element_kind_of, element_of};
 ghost use Rattle.form_reader.specs.Reading.{Reads};
-ghost use Rattle.form_reader.specs.Rooms.{IsEmpty};
 ghost use Rattle.form_reader.specs.EntryRows.{functions_as, expressions_as, after_function_kind, active_in, active_in_named, flagged_element, element_segment};
 
 use crate::cursor::Cursor;
@@ -33,52 +32,11 @@ impl<'d> Entry<'d> for Element {
 
     ghost view = { element_of };
 
-    #[tactic(auto, unfolding(crate::specs::EntryRows::element_segment))]
     fn read(alloc: Global, cursor: &mut Cursor<'d>) -> Result<Element, ReadError> {
-        let flag = cursor.u32()?;
-        cursor.flagged_element(alloc, flag, Room::new(alloc))
+        let mut element = no_element(alloc);
+        cursor.element_into(alloc, &mut element)?;
+        Ok(element)
     }
-}
-
-/// Empty lists, which may have room that was used before.
-#[derive(Drop)]
-struct Room {
-    ops: Vec<Operator>,
-    indices: Vec<u32>,
-}
-
-impl Room {
-    fn new(alloc: Global) -> Self
-        ensures { IsEmpty result }
-    {
-        Room {
-            ops: Vec::new(alloc),
-            indices: Vec::new(alloc),
-        }
-    }
-
-    /// The lists of a segment that is no longer asked for.
-    fn of(alloc: Global, element: Element) -> Self
-        ensures { IsEmpty result }
-    {
-        let Element { kind, items } = element;
-        let ops = match kind {
-            ElementKind::Active { offset, .. } => cleared(offset.ops),
-            _ => Vec::new(alloc),
-        };
-        let indices = match items {
-            ElementItems::Functions(indices) => cleared(indices),
-            ElementItems::Expressions(..) => Vec::new(alloc),
-        };
-        Room { ops, indices }
-    }
-}
-
-fn cleared<T: Drop>(mut list: Vec<T>) -> Vec<T>
-    ensures { result.items ≡ [] }
-{
-    list.clear();
-    list
 }
 
 /// A segment of no kind that anything asks for, without an allocation.
@@ -89,8 +47,38 @@ pub fn no_element(alloc: Global) -> Element {
     }
 }
 
+/// The list of the operators of an offset that is no longer asked for, where there is one: empty, it may have room.
+fn room_for_offset(alloc: Global, kind: &mut ElementKind) -> Vec<Operator>
+    ensures { result.items ≡ [] }
+{
+    match kind {
+        ElementKind::Active { offset, .. } => {
+            cleared(mem::replace(&mut offset.ops, Vec::new(alloc)))
+        }
+        ElementKind::Passive | ElementKind::Declared => Vec::new(alloc),
+    }
+}
+
+/// The list of indices that are no longer asked for, where there is one: empty, it may have room.
+fn room_for_indices(alloc: Global, items: &mut ElementItems) -> Vec<u32>
+    ensures { result.items ≡ [] }
+{
+    match items {
+        ElementItems::Functions(indices) => cleared(mem::replace(indices, Vec::new(alloc))),
+        ElementItems::Expressions(..) => Vec::new(alloc),
+    }
+}
+
+fn cleared<T: Drop>(mut list: Vec<T>) -> Vec<T>
+    ensures { result.items ≡ [] }
+{
+    list.clear();
+    list
+}
+
+// Each of these reads in the place of a segment that is no longer asked for, whose lists are used again.
 impl<'d> Cursor<'d> {
-    /// An element segment, in the place of one that is no longer asked for, whose lists are used again.
+    /// An element segment.
     #[tactic(auto, unfolding(crate::specs::EntryRows::element_segment))]
     pub(crate) fn element_into(
         &mut self,
@@ -99,84 +87,8 @@ impl<'d> Cursor<'d> {
     ) -> Result<(), ReadError>
         ensures { Reads element_segment.read (λ u. element_of element.new) self.old.rest.now self.new.rest.now result }
     {
-        let room = Room::of(alloc, mem::replace(element, no_element(alloc)));
         let flag = self.u32()?;
-        *element = self.flagged_element(alloc, flag, room)?;
-        Ok(())
-    }
-
-    /// Items that are functions, by their indices.
-    #[tactic(auto, unfolding(crate::specs::EntryRows::functions_as))]
-    fn functions(
-        &mut self,
-        alloc: Global,
-        kind: ElementKind,
-        indices: Vec<u32>,
-    ) -> Result<Element, ReadError>
-        requires { indices.items ≡ [] }
-        ensures { Reads (functions_as (element_kind_of kind)).read element_of self.old.rest.now self.new.rest.now result }
-    {
-        let indices = self.vector_into::<Index>(alloc, indices)?;
-        let items = ElementItems::Functions(indices);
-        Ok(Element { kind, items })
-    }
-
-    /// The kind of functions, and then their indices.
-    fn kind_and_functions(
-        &mut self,
-        alloc: Global,
-        kind: ElementKind,
-        indices: Vec<u32>,
-    ) -> Result<Element, ReadError>
-        requires { indices.items ≡ [] }
-        ensures { Reads (after_function_kind (functions_as (element_kind_of kind))).read element_of self.old.rest.now self.new.rest.now result }
-    {
-        match self.byte()? {
-            FUNCTION_KIND => self.functions(alloc, kind, indices),
-            _ => Err(ReadError::Malformed),
-        }
-    }
-
-    /// Items of a type, by expressions.
-    #[tactic(auto, unfolding(crate::specs::EntryRows::expressions_as))]
-    fn typed_expressions(
-        &mut self,
-        alloc: Global,
-        kind: ElementKind,
-        ty: RefType,
-    ) -> Result<Element, ReadError>
-        ensures { Reads (expressions_as (element_kind_of kind) ty).read element_of self.old.rest.now self.new.rest.now result }
-    {
-        let list = self.vector::<ConstExpr>(alloc)?;
-        let items = ElementItems::Expressions(ty, list);
-        Ok(Element { kind, items })
-    }
-
-    /// The offset of a segment that is written to a table.
-    #[tactic(auto, unfolding(crate::specs::EntryRows::active_in))]
-    fn active(
-        &mut self,
-        table_index: Option<u32>,
-        ops: Vec<Operator>,
-    ) -> Result<ElementKind, ReadError>
-        requires { ops.items ≡ [] }
-        ensures { Reads (active_in table_index).read element_kind_of self.old.rest.now self.new.rest.now result }
-    {
-        let offset = self.expression_into(ops)?;
-        Ok(ElementKind::Active {
-            table_index,
-            offset,
-        })
-    }
-
-    /// The table and the offset of a segment that is written to it.
-    #[tactic(auto, unfolding(crate::specs::EntryRows::active_in_named))]
-    fn active_in_table(&mut self, ops: Vec<Operator>) -> Result<ElementKind, ReadError>
-        requires { ops.items ≡ [] }
-        ensures { Reads active_in_named.read element_kind_of self.old.rest.now self.new.rest.now result }
-    {
-        let table_index = self.u32()?;
-        self.active(Some(table_index), ops)
+        self.flagged_element(alloc, flag, element)
     }
 
     /// An element segment, after its flag.
@@ -185,41 +97,133 @@ impl<'d> Cursor<'d> {
         &mut self,
         alloc: Global,
         flag: u32,
-        room: Room,
-    ) -> Result<Element, ReadError>
-        requires { IsEmpty room }
-        ensures { Reads (flagged_element flag).read element_of self.old.rest.now self.new.rest.now result }
+        element: &mut Element,
+    ) -> Result<(), ReadError>
+        ensures { Reads (flagged_element flag).read (λ u. element_of element.new) self.old.rest.now self.new.rest.now result }
     {
-        let Room { ops, indices } = room;
         match flag {
             0 => {
-                let kind = self.active(None, ops)?;
-                self.functions(alloc, kind, indices)
+                self.active(alloc, None, &mut element.kind)?;
+                self.functions(alloc, element)
             }
-            1 => self.kind_and_functions(alloc, ElementKind::Passive, indices),
+            1 => self.functions_of(alloc, ElementKind::Passive, element),
             2 => {
-                let kind = self.active_in_table(ops)?;
-                self.kind_and_functions(alloc, kind, indices)
+                self.active_in_table(alloc, &mut element.kind)?;
+                self.kind_and_functions(alloc, element)
             }
-            3 => self.kind_and_functions(alloc, ElementKind::Declared, indices),
+            3 => self.functions_of(alloc, ElementKind::Declared, element),
             4 => {
-                let kind = self.active(None, ops)?;
-                self.typed_expressions(alloc, kind, FUNCREF)
+                self.active(alloc, None, &mut element.kind)?;
+                self.typed_expressions(alloc, FUNCREF, element)
             }
             5 => {
                 let ty = self.reference_type()?;
-                self.typed_expressions(alloc, ElementKind::Passive, ty)
+                self.expressions_of(alloc, ElementKind::Passive, ty, element)
             }
             6 => {
-                let kind = self.active_in_table(ops)?;
+                self.active_in_table(alloc, &mut element.kind)?;
                 let ty = self.reference_type()?;
-                self.typed_expressions(alloc, kind, ty)
+                self.typed_expressions(alloc, ty, element)
             }
             7 => {
                 let ty = self.reference_type()?;
-                self.typed_expressions(alloc, ElementKind::Declared, ty)
+                self.expressions_of(alloc, ElementKind::Declared, ty, element)
             }
             _ => Err(ReadError::Malformed),
         }
+    }
+
+    /// The offset of a segment that is written to a table.
+    #[tactic(auto, unfolding(crate::specs::EntryRows::active_in))]
+    fn active(
+        &mut self,
+        alloc: Global,
+        table_index: Option<u32>,
+        kind: &mut ElementKind,
+    ) -> Result<(), ReadError>
+        ensures { Reads (active_in table_index).read (λ u. element_kind_of kind.new) self.old.rest.now self.new.rest.now result }
+    {
+        let offset = self.expression_into(room_for_offset(alloc, kind))?;
+        *kind = ElementKind::Active {
+            table_index,
+            offset,
+        };
+        Ok(())
+    }
+
+    /// The table and the offset of a segment that is written to it.
+    #[tactic(auto, unfolding(crate::specs::EntryRows::active_in_named))]
+    fn active_in_table(&mut self, alloc: Global, kind: &mut ElementKind) -> Result<(), ReadError>
+        ensures { Reads active_in_named.read (λ u. element_kind_of kind.new) self.old.rest.now self.new.rest.now result }
+    {
+        let table_index = self.u32()?;
+        self.active(alloc, Some(table_index), kind)
+    }
+
+    /// Items that are functions, by their indices.
+    #[tactic(auto, unfolding(crate::specs::EntryRows::functions_as))]
+    fn functions(&mut self, alloc: Global, element: &mut Element) -> Result<(), ReadError>
+        ensures { Reads (functions_as (element_kind_of element.old.kind)).read (λ u. element_of element.new)
+            self.old.rest.now self.new.rest.now result }
+    {
+        let room = room_for_indices(alloc, &mut element.items);
+        let indices = self.vector_into::<Index>(alloc, room)?;
+        element.items = ElementItems::Functions(indices);
+        Ok(())
+    }
+
+    /// The kind of functions, and then their indices.
+    fn kind_and_functions(&mut self, alloc: Global, element: &mut Element) -> Result<(), ReadError>
+        ensures { Reads (after_function_kind (functions_as (element_kind_of element.old.kind))).read (λ u. element_of element.new)
+            self.old.rest.now self.new.rest.now result }
+    {
+        match self.byte()? {
+            FUNCTION_KIND => self.functions(alloc, element),
+            _ => Err(ReadError::Malformed),
+        }
+    }
+
+    /// The functions of a segment of this kind.
+    fn functions_of(
+        &mut self,
+        alloc: Global,
+        kind: ElementKind,
+        element: &mut Element,
+    ) -> Result<(), ReadError>
+        ensures { Reads (after_function_kind (functions_as (element_kind_of kind))).read (λ u. element_of element.new)
+            self.old.rest.now self.new.rest.now result }
+    {
+        element.kind = kind;
+        self.kind_and_functions(alloc, element)
+    }
+
+    /// Items of a type, by expressions.
+    #[tactic(auto, unfolding(crate::specs::EntryRows::expressions_as))]
+    fn typed_expressions(
+        &mut self,
+        alloc: Global,
+        ty: RefType,
+        element: &mut Element,
+    ) -> Result<(), ReadError>
+        ensures { Reads (expressions_as (element_kind_of element.old.kind) ty).read (λ u. element_of element.new)
+            self.old.rest.now self.new.rest.now result }
+    {
+        let list = self.vector::<ConstExpr>(alloc)?;
+        element.items = ElementItems::Expressions(ty, list);
+        Ok(())
+    }
+
+    /// The items of a segment of this kind, of a type and by expressions.
+    fn expressions_of(
+        &mut self,
+        alloc: Global,
+        kind: ElementKind,
+        ty: RefType,
+        element: &mut Element,
+    ) -> Result<(), ReadError>
+        ensures { Reads (expressions_as (element_kind_of kind) ty).read (λ u. element_of element.new) self.old.rest.now self.new.rest.now result }
+    {
+        element.kind = kind;
+        self.typed_expressions(alloc, ty, element)
     }
 }

@@ -1,6 +1,6 @@
 //! Indices of segments (core specification, 3.5, element and data segments).
 
-ghost use Rattle.std.specs.Prelude.{◌≡◌, ◌↔◌, ◌<◌, length, All, IsTrue, IfOk};
+ghost use Rattle.std.specs.Prelude.{◌≡◌, ◌↔◌, ◌<◌, length, All, IsTrue};
 ghost use Rattle.std.specs.List.{flat_map};
 ghost use Rattle.wasm_spec.specs.Module.{segments, elements_of_section};
 ghost use Rattle.form_data.specs.Views.{element_of, element_kind_of, items_of, data_kind_of};
@@ -10,33 +10,19 @@ ghost use Rattle.form_lists.specs.Source.{source_module};
 ghost use Rattle.form_lists.specs.Views.{lists_of};
 
 use form_data::{DataKind, DataSegment, Element, ElementItems, ElementKind};
-use form_lists::{Lists, elements_of, entries_of};
-use std::alloc::{AllocError, Global};
+use form_lists::{Lists, entries_of};
 
-/// Whether what segments name is in range.
-pub fn indices_hold(alloc: Global, lists: &Lists<'_, '_>) -> Result<bool, AllocError>
-    ensures { IfOk result (λ hold. IsTrue hold ↔ AreInRange (lists_of lists.now)) }
+/// Whether what segments name is in range. `elements_hold` says it of element segments, by `is_in_range` of each.
+pub fn indices_hold(lists: &Lists<'_, '_>, elements_hold: bool) -> bool
+    requires { IsTrue elements_hold
+        ↔ All (IsElementInRange (lists_of lists.now)) (flat_map elements_of_section (source_module lists.now.source)) }
+    ensures { IsTrue result ↔ AreInRange (lists_of lists.now) }
 {
-    if !segments_hold(lists) {
-        return Ok(false);
-    }
-    elements_hold(alloc, lists)
+    elements_hold && segments_hold(lists)
 }
 
-fn elements_hold(alloc: Global, lists: &Lists<'_, '_>) -> Result<bool, AllocError>
-    ensures { IfOk result (λ hold. IsTrue hold
-        ↔ All (IsElementInRange (lists_of lists.now)) (flat_map elements_of_section (source_module lists.now.source))) }
-{
-    let mut elements = elements_of(alloc, lists.source);
-    while elements.advance()? {
-        if !is_in_range(lists, elements.segment()) {
-            return Ok(false);
-        }
-    }
-    Ok(true)
-}
-
-fn is_in_range(lists: &Lists<'_, '_>, element: &Element) -> bool
+/// Whether the table and the functions that an element segment names are there.
+pub fn is_in_range(lists: &Lists<'_, '_>, element: &Element) -> bool
     ensures { IsTrue result ↔ IsElementInRange (lists_of lists.now) (element_of element.now) }
 {
     names_table(lists, &element.kind) && names_functions(lists, &element.items)

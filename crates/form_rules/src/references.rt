@@ -1,6 +1,6 @@
 //! Concrete references outside the type section (core specification, 3.2).
 
-ghost use Rattle.std.specs.Prelude.{◌↔◌, map, length, All, IsTrue, IfOk};
+ghost use Rattle.std.specs.Prelude.{◌↔◌, map, length, All, IsTrue};
 ghost use Rattle.std.specs.List.{flat_map};
 ghost use Rattle.wasm_spec.specs.TypeData.{heap_of};
 ghost use Rattle.wasm_spec.specs.Module.{imports, segments, tables_of_section, globals_of_section, elements_of_section, bodies_of_section};
@@ -14,24 +14,22 @@ use form_data::{
     ConstExpr, DataKind, DataSegment, Element, ElementItems, ElementKind, FunctionBody, GlobalDef,
     Import, TableDef,
 };
-use form_lists::{Lists, elements_of, entries_of};
-use std::alloc::{AllocError, Global};
+use form_lists::{Lists, entries_of};
 use wasm_spec::{Operator, TypeRef};
 
-/// Whether each concrete reference outside the type section names one of the declared types.
-pub fn references_hold(alloc: Global, lists: &Lists<'_, '_>) -> Result<bool, AllocError>
-    ensures { IfOk result (λ hold. IsTrue hold ↔ AllReferIn (length lists.now.types.items) (lists_of lists.now)) }
+/// Whether each concrete reference outside the type section names one of the declared types. `elements_refer` says it of element segments, by `element_refers` of each.
+pub fn references_hold(lists: &Lists<'_, '_>, elements_refer: bool) -> bool
+    requires { IsTrue elements_refer
+        ↔ All (ElementRefersIn (length lists.now.types.items)) (flat_map elements_of_section (source_module lists.now.source)) }
+    ensures { IsTrue result ↔ AllReferIn (length lists.now.types.items) (lists_of lists.now) }
 {
     let types = lists.types.len();
-    let others_refer = imports_refer(types, lists)
+    elements_refer
+        && imports_refer(types, lists)
         && tables_refer(types, lists)
         && globals_refer(types, lists)
         && bodies_refer(types, lists)
-        && segments_refer(types, lists);
-    if !others_refer {
-        return Ok(false);
-    }
-    elements_refer(alloc, types, lists)
+        && segments_refer(types, lists)
 }
 
 // ---- expressions
@@ -113,20 +111,8 @@ fn global_refers(types: usize, global: &GlobalDef) -> bool
 
 // ---- element segments
 
-fn elements_refer(alloc: Global, types: usize, lists: &Lists<'_, '_>) -> Result<bool, AllocError>
-    ensures { IfOk result (λ hold. IsTrue hold
-        ↔ All (ElementRefersIn types) (flat_map elements_of_section (source_module lists.now.source))) }
-{
-    let mut elements = elements_of(alloc, lists.source);
-    while elements.advance()? {
-        if !element_refers(types, elements.segment()) {
-            return Ok(false);
-        }
-    }
-    Ok(true)
-}
-
-fn element_refers(types: usize, element: &Element) -> bool
+/// Whether the concrete references of an element segment are below a bound.
+pub fn element_refers(types: usize, element: &Element) -> bool
     ensures { IsTrue result ↔ ElementRefersIn types (element_of element.now) }
 {
     element_kind_refers(types, &element.kind) && items_refer(types, &element.items)

@@ -7,9 +7,12 @@ ghost use Rattle.rule_spec.specs.Lists.{lists_of_module};
 ghost use Rattle.rule_spec.specs.Rules.{Satisfies, Keeps, KeepsBefore};
 ghost use Rattle.form_lists.specs.Source.{source_module};
 ghost use Rattle.form_lists.specs.Views.{lists_of};
+ghost use Rattle.form_typing.specs.Defaults.{defaults as defaults_of_types};
+ghost use Rattle.form_rules.specs.Elements.{AreWalked};
 ghost use Rattle.form_rules.specs.Outcomes.{ChecksOrNoMemory, HasGlobals};
 
 use crate::counts::counts_agree;
+use crate::elements::{ElementsKeep, walk_elements};
 use crate::error::CheckError;
 use crate::exports::exports_hold;
 use crate::indices::indices_hold;
@@ -20,7 +23,7 @@ use crate::tables::initialisers_hold;
 use crate::type_rules::{types_are_named, types_hold};
 use form_data::Form;
 use form_lists::{Lists, Source, gather_lists};
-use form_typing::expressions_hold;
+use form_typing::{expressions_hold, struct_defaults};
 use rule_spec::Rule;
 use std::alloc::{AllocError, Global};
 
@@ -70,16 +73,27 @@ pub fn checked_lists<'f, 'd>(
     ensures complete { Keeps (source_module source.entry) → ChecksOrNoMemory result }
 {
     let lists = gather_lists(alloc, source)?;
+    let defaults = struct_defaults(alloc, &lists)?;
+    let elements = walk_elements(alloc, &lists, &defaults)?;
     for rule in RULES {
-        if !keeps(alloc, rule, &lists)? {
+        if !keeps(alloc, rule, &lists, &defaults, elements)? {
             return Err(CheckError::Invalid(rule));
         }
     }
     Ok(lists)
 }
 
-fn keeps(alloc: Global, rule: Rule, lists: &Lists<'_, '_>) -> Result<bool, AllocError>
-    requires { HasGlobals (lists_of lists.now) }
+/// What is asked of element segments was asked before, of all of them by one walk.
+fn keeps(
+    alloc: Global,
+    rule: Rule,
+    lists: &Lists<'_, '_>,
+    defaults: &[bool],
+    elements: ElementsKeep,
+) -> Result<bool, AllocError>
+    requires counted { HasGlobals (lists_of lists.now) }
+    requires noted { defaults.now ≡ defaults_of_types (lists_of lists.now) }
+    requires walked { AreWalked (lists_of lists.now) elements }
     ensures { IfOk result (λ kept. IsTrue kept ↔ Satisfies rule (lists_of lists.now)) }
 {
     match rule {
@@ -88,10 +102,10 @@ fn keeps(alloc: Global, rule: Rule, lists: &Lists<'_, '_>) -> Result<bool, Alloc
         Rule::L3 => Ok(counts_agree(lists)),
         Rule::L4 => Ok(limits_hold(lists)),
         Rule::L5 => Ok(initialisers_hold(lists)),
-        Rule::L6 => expressions_hold(alloc, lists),
+        Rule::L6 => expressions_hold(alloc, lists, defaults, elements.typed),
         Rule::L7 => exports_hold(alloc, lists),
         Rule::L8 => Ok(starts_hold(lists)),
-        Rule::L9 => indices_hold(alloc, lists),
-        Rule::L10 => references_hold(alloc, lists),
+        Rule::L9 => Ok(indices_hold(lists, elements.in_range)),
+        Rule::L10 => Ok(references_hold(lists, elements.refer)),
     }
 }

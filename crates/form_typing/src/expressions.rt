@@ -11,34 +11,43 @@ ghost use Rattle.form_lists.specs.Source.{source_module};
 ghost use Rattle.form_lists.specs.Views.{lists_of};
 ghost use Rattle.form_typing.specs.Defaults.{defaults as defaults_of_types};
 
-use crate::classes::{class_of, struct_defaults};
+use crate::classes::class_of;
 use crate::typing::is_typed;
 use form_data::{
     ConstExpr, DataKind, DataSegment, Element, ElementItems, ElementKind, GlobalDef, TableDef,
 };
-use form_lists::{Lists, elements_of, entries_of};
+use form_lists::{Lists, entries_of};
 use rule_spec::Class;
 use std::alloc::{AllocError, Global};
 use wasm_spec::GlobalType;
 
 /// Whether each constant expression has the class of its place.
-pub fn expressions_hold(alloc: Global, lists: &Lists<'_, '_>) -> Result<bool, AllocError>
+///
+/// Of element segments this is found where they are walked: `elements_hold` says it, by `element_is_typed` of each.
+pub fn expressions_hold(
+    alloc: Global,
+    lists: &Lists<'_, '_>,
+    defaults: &[bool],
+    elements_hold: bool,
+) -> Result<bool, AllocError>
     requires counted { lists.now.imported_globals + length (flat_map globals_of_section (source_module lists.now.source))
         ≤ length lists.now.spaces.global_types.items }
+    requires noted { defaults.now ≡ defaults_of_types (lists_of lists.now) }
+    requires elements { IsTrue elements_hold
+        ↔ All (IsElementTyped (lists_of lists.now)) (flat_map elements_of_section (source_module lists.now.source)) }
     ensures { IfOk result (λ hold. IsTrue hold ↔ AreExpressionsTyped (lists_of lists.now)) }
 {
-    let defaults = struct_defaults(alloc, lists)?;
+    if !elements_hold {
+        return Ok(false);
+    }
     let mut stack = Vec::new(alloc);
-    if !tables_hold(lists, &defaults, &mut stack)? {
+    if !tables_hold(lists, defaults, &mut stack)? {
         return Ok(false);
     }
-    if !globals_hold(lists, &defaults, &mut stack)? {
+    if !globals_hold(lists, defaults, &mut stack)? {
         return Ok(false);
     }
-    if !elements_hold(alloc, lists, &defaults, &mut stack)? {
-        return Ok(false);
-    }
-    segments_hold(lists, &defaults, &mut stack)
+    segments_hold(lists, defaults, &mut stack)
 }
 
 fn globals_below<'a>(lists: &'a Lists<'_, '_>, index: usize) -> &'a [GlobalType]
@@ -103,33 +112,17 @@ fn table_holds(
 
 // ---- element segments
 
-fn elements_hold(
-    alloc: Global,
-    lists: &Lists<'_, '_>,
-    defaults: &[bool],
-    stack: &mut Vec<Class>,
-) -> Result<bool, AllocError>
-    requires noted { defaults.now ≡ defaults_of_types (lists_of lists.now) }
-    ensures { IfOk result (λ hold. IsTrue hold
-        ↔ All (IsElementTyped (lists_of lists.now)) (flat_map elements_of_section (source_module lists.now.source))) }
-{
-    let mut elements = elements_of(alloc, lists.source);
-    while elements.advance()? {
-        if !element_holds(lists, defaults, elements.segment(), stack)? {
-            return Ok(false);
-        }
-    }
-    Ok(true)
-}
-
-fn element_holds(
+/// Whether the offset and the items of an element segment have the classes of their places.
+///
+/// `defaults` are the types' `struct_defaults`. What `stack` holds does not count.
+pub fn element_is_typed(
     lists: &Lists<'_, '_>,
     defaults: &[bool],
     element: &Element,
     stack: &mut Vec<Class>,
 ) -> Result<bool, AllocError>
     requires noted { defaults.now ≡ defaults_of_types (lists_of lists.now) }
-    ensures { IfOk result (λ holds. IsTrue holds ↔ IsElementTyped (lists_of lists.now) (element_of element.now)) }
+    ensures { IfOk result (λ typed. IsTrue typed ↔ IsElementTyped (lists_of lists.now) (element_of element.now)) }
 {
     if !table_offset_holds(lists, defaults, &element.kind, stack)? {
         return Ok(false);

@@ -1,7 +1,7 @@
 use Rattle.form_data.specs.Views.{element_of}
 use Rattle.form_lists.specs.Views.{lists_of}
 use Rattle.form_typing.proofs.GlobalsTyped.{with_offset}
-use Rattle.form_typing.proofs.expressions.element_holds.Goals as goal
+use Rattle.form_typing.proofs.expressions.element_is_typed.Goals as goal
 
 pub returns : goal.returns
 returns c =

@@ -1,0 +1,67 @@
+//! What the rules ask of element segments, found for all of them by one walk, since a segment that stays in the input is read again in each.
+
+ghost use Rattle.std.specs.Prelude.{◌≡◌, ◌↔◌, IsTrue, IfOk};
+ghost use Rattle.form_data.specs.Views.{element_of};
+ghost use Rattle.form_lists.specs.Views.{lists_of};
+ghost use Rattle.form_typing.specs.Defaults.{defaults as defaults_of_types};
+ghost use Rattle.form_rules.specs.Elements.{AreWalked, IsAdded};
+
+use crate::indices::is_in_range;
+use crate::references::element_refers;
+use form_data::Element;
+use form_lists::{Lists, elements_of};
+use form_typing::element_is_typed;
+use rule_spec::Class;
+use std::alloc::{AllocError, Global};
+
+/// Of each rule that asks something of element segments, whether all of them keep it.
+#[derive(Clone, Copy)]
+pub struct ElementsKeep {
+    /// Their expressions have the classes of their places (L6).
+    pub typed: bool,
+    /// What they name is in range (L9).
+    pub in_range: bool,
+    /// Their concrete references name declared types (L10).
+    pub refer: bool,
+}
+
+/// Walks through the element segments. `defaults` are the types' `struct_defaults`.
+pub fn walk_elements(
+    alloc: Global,
+    lists: &Lists<'_, '_>,
+    defaults: &[bool],
+) -> Result<ElementsKeep, AllocError>
+    requires { defaults.now ≡ defaults_of_types (lists_of lists.now) }
+    ensures { IfOk result (λ kept. AreWalked (lists_of lists.now) kept) }
+{
+    let mut stack = Vec::new(alloc);
+    let mut kept = ElementsKeep {
+        typed: true,
+        in_range: true,
+        refer: true,
+    };
+    let mut elements = elements_of(alloc, lists.source);
+    while elements.advance()? {
+        kept = with_element(lists, defaults, kept, elements.segment(), &mut stack)?;
+    }
+    Ok(kept)
+}
+
+/// What holds of one segment more.
+fn with_element(
+    lists: &Lists<'_, '_>,
+    defaults: &[bool],
+    before: ElementsKeep,
+    element: &Element,
+    stack: &mut Vec<Class>,
+) -> Result<ElementsKeep, AllocError>
+    requires { defaults.now ≡ defaults_of_types (lists_of lists.now) }
+    ensures { IfOk result (λ kept. IsAdded (lists_of lists.now) before (element_of element.now) kept) }
+{
+    let typed = element_is_typed(lists, defaults, element, stack)?;
+    Ok(ElementsKeep {
+        typed: before.typed && typed,
+        in_range: before.in_range && is_in_range(lists, element),
+        refer: before.refer && element_refers(lists.types.len(), element),
+    })
+}
