@@ -21,11 +21,10 @@ use Rattle.type_spec.proofs.Homes.{size, size-cons, home-within, home-again, hom
 use Rattle.type_spec.proofs.ByNames.{names-same, zip-known-itself, some_type, joined-kind}
 use Rattle.form_types.specs.Types.{NamedGroup, TypesData, types_by_id, group_numbers}
 use Rattle.form_types.specs.Placed.{placed_groups, id_at, named}
-use Rattle.form_types.specs.Numbered.{AreNumbered}
-use Rattle.form_types.specs.Numbered as numbered
+use Rattle.form_types.specs.Numbered.{first_id, AreNumbered}
 use Rattle.form_types.proofs.Ruled.{size-places}
 use Rattle.module_types.specs.Builder.{Builder, new_builder, interns_by}
-use Rattle.module_types.specs.Conversion.{first_id, kind_in, group_of_id, members_of, no_span, start_by, index_by_id, name_by_id, id_number, interned_members, interned_index, HoldsGroups, NamesInterned}
+use Rattle.module_types.specs.Conversion.{kind_in, group_of_id, members_of, no_span, start_by, index_by_id, name_by_id, id_number, interned_members, interned_index, HoldsGroups, NamesInterned}
 use Rattle.module_types.specs.InTurn.{interns_type, interns_declared, HasTaken, CanIntern}
 use Rattle.module_types.proofs.GroupMembers.{Extends, extends-group, group-within, span-new, span-old}
 use Rattle.module_types.proofs.Holding.{noted-here, noted-elsewhere, holds-kept}
@@ -34,11 +33,6 @@ use Rattle.module_types.proofs.WellNamed.{kind-mapped}
 use Rattle.module_types.proofs.Taking.{near-from, first-place, equal-same, equal-home, is_met, IsMet, met-same, met-before, met-now, met-either, done_at, state, step-by, reaches, reads, number_in, number-here, near-here, form-here, whole}
 
 -- ---- ids, and numbers of groups
-
-pub first-same : (gs : List NamedGroup) (k : ℕ) → k < length gs → numbered.first_id gs k ≡ first_id gs k
-first-same [] k lt = absurd (omega arith)
-first-same (g ∷ gs) zero lt = refl
-first-same (g ∷ gs) (suc k) lt = length-append g (types_by_id (take k gs)) ∙ ap (λ n. length g + n) (first-same gs k (omega arith))
 
 pub number-of : (gs : List NamedGroup) (base k p : ℕ) → k < length gs → p < length (get_or gs k [])
     → get_or (group_numbers base gs) (first_id gs k + p) 0 ≡ base + k
@@ -51,7 +45,8 @@ number-of (g ∷ gs) base zero p lt lt' =
     ∙ get_or-replicate (length g) p base 0 lt' ∙ omega arith
 number-of (g ∷ gs) base (suc k) p lt lt' =
     let long = length-replicate (length g) base in
-    let at : length g + first_id gs k + p ≡ length (replicate (length g) base) + (first_id gs k + p) = omega (arith, long) in
+    let at : length (g ++ types_by_id (take k gs)) + p ≡ length (replicate (length g) base) + (first_id gs k + p) =
+    omega (arith, long, length-append g (types_by_id (take k gs))) in
     ap (λ n. get_or (replicate (length g) base ++ group_numbers (base + 1) gs) n 0) at
     ∙ get_or-append-add (replicate (length g) base) (group_numbers (base + 1) gs) (first_id gs k + p) 0
     ∙ number-of gs (base + 1) k p (omega arith) lt' ∙ omega arith
@@ -89,8 +84,7 @@ module _ (m : plain.Module) (t : TypesData) (are : AreNumbered m t) (near : Name
       let w = home-within all i lt in
       let long : length (get_or t.groups s.number []) ≡ length (home all i).members = ap length s.group ∙ length-map (home all i).members _ in
       let place : i - (home all i).start < length (get_or t.groups s.number []) = omega (arith, long, w.from, w.to) in
-      let at : id i ≡ first_id t.groups s.number + (i - (home all i).start) = s.member
-      ∙ ap (λ n. n + (i - (home all i).start)) (first-same t.groups s.number s.below) in
+      let at : id i ≡ first_id t.groups s.number + (i - (home all i).start) = s.member in
       let is : group i ≡ s.number =
       ap (λ n. get_or (group_numbers 0 t.groups) n 0) at ∙ number-of t.groups 0 s.number (i - (home all i).start) s.below place ∙ omega arith in
       record {
@@ -134,8 +128,7 @@ module _ (m : plain.Module) (t : TypesData) (are : AreNumbered m t) (near : Name
       let w = home-within all i lt in
       let h = id_at t.declared in
       let d : SubType UnpackedIndex UnpackedIndex = map_sub_type h h some_type in
-      let first = first-same t.groups (group i) x.known in
-      let at : id i ≡ length (types_by_id (take (group i) t.groups)) + p = x.at ∙ ap (λ n. n + p) (sym first) in
+      let at : id i ≡ length (types_by_id (take (group i) t.groups)) + p = x.at in
       let known : id i < length (types_by_id t.groups) = omega (arith, x.at, x.within, group-ends t.groups (group i)) in
       let member : get_or (types_by_id t.groups) (id i) d ≡ map_sub_type h h (get_or (home all i).members p some_type) =
       ap (λ n. get_or (types_by_id t.groups) n d) at

@@ -14,7 +14,7 @@ steps-few : (ts : List Interned) (b : Built) (i : ℕ) → length (assign_trampo
 steps-few [] b i = omega arith
 steps-few (t ∷ ts) b i = omega (arith, few-more b i t.composite.inner, steps-few ts (assign_trampoline b i t.composite.inner) (suc i))
 
-group-few : (b : Built) (ts : List Interned) → length (with_group b ts).types ≤ length b.types + length ts + length ts
+pub group-few : (b : Built) (ts : List Interned) → length (with_group b ts).types ≤ length b.types + length ts + length ts
 group-few b ts = omega (arith, steps-few ts (opened b ts) (length b.types), length-append b.types ts)
 
 module _ (all : List (Group ℕ ℕ)) where

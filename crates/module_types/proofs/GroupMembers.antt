@@ -298,3 +298,8 @@ pub through-alone : (P : Built → Type 0) → ((b : Built) (t : Interned) → P
 through-alone P more ms tags startup p =
     through-interned P (λ i. Unit {0}) (λ b i all p. more b (plain (exception_for i (composite_at b.types i))) p) (λ b p. more b startup_type p) ms tags startup
     (λ i. tt) p
+
+pub extends-interned : (ms : List (Group ℕ ℕ)) (tags : List ℕ) (startup : Bool) → Extends (taken ms).built (interned ms tags startup)
+extends-interned ms tags startup =
+    let b = (taken ms).built in
+    through-alone (Extends b) (λ c t x. extends-both b c (alone c t None) x (extends-alone c t None)) ms tags startup (extends-none b)

@@ -17,7 +17,7 @@ use Rattle.type_spec.proofs.Homes.{size, home-again}
 use Rattle.type_spec.proofs.ByNames.{name_by, names-plain}
 use Rattle.module_types.specs.Conversion.{no_span}
 use Rattle.module_types.specs.ListGroups.{unkinded, types_in, list_groups, IsWellNamed}
-use Rattle.module_types.proofs.GroupMembers.{Extends, extends-none, extends-both, extends-alone, group-within, span-new, types-new, extends-group, extends-groups, through-alone}
+use Rattle.module_types.proofs.GroupMembers.{Extends, extends-both, group-within, span-new, types-new, extends-group, extends-groups, extends-interned}
 use Rattle.module_types.proofs.Taking.{IsMet, Covers, form, Next, Stand, IsExactBelow, with_forms, next-copy, number_in, whole}
 use Rattle.module_types.proofs.EqualLists.{next-home, next-place, next-number}
 use Rattle.module_types.proofs.NamedLists.{well-named}
@@ -135,6 +135,6 @@ same-index ms near tags startup i lt =
     let w = whole ms near in
     let l = interned ms tags startup in
     let b = (taken ms).built in
-    let behind : Extends b l = through-alone (Extends b) (λ c t x. extends-both b c (alone c t None) x (extends-alone c t None)) ms tags startup (extends-none b) in
+    let behind = extends-interned ms tags startup in
     all-same ms (number_in ms) w.exact l (well-named ms near tags startup) (taken_groups ms) empty [] w.stand w.covers
     (subst (λ b. Extends b l) w.built behind) (λ j below none. absurd (false≢true none)) i (omega (arith, lt, w.counted))
