@@ -48,7 +48,7 @@ below-more a b h i lt = absurd lt
 
 pub names-earlier : (first : ℕ) (gs : List NamedGroup) (k : ℕ) → NameEarlier first gs
     → All (IsIdBelow (first + (first_id gs k + length (get_or gs k [])))) (group_edges (λ r. r) (get_or gs k []))
-names-earlier first [] k e = All-nil (IsIdBelow (first + 0))
+names-earlier first [] k e = All-nil (IsIdBelow (first + (first_id [] k + 0)))
 names-earlier first (g ∷ gs) zero e =
     let le : first + length g ≤ first + (0 + length g) = omega arith in
     All-weaker (IsIdBelow (first + length g)) (IsIdBelow (first + (0 + length g))) (below-more _ _ le) (group_edges (λ r. r) g) e.0

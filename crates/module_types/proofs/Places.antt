@@ -84,7 +84,8 @@ some-ids first (suc m) h e = cc
 
 -- the ids of a group are among all
 pub group-ends : (gs : List NamedGroup) (k : ℕ) → first_id gs k + length (get_or gs k []) ≤ length (types_by_id gs)
-group-ends [] k = omega arith
+group-ends [] zero = omega arith
+group-ends [] (suc k) = omega arith
 group-ends (g ∷ gs) zero = omega (arith, length-append g (types_by_id gs))
 group-ends (g ∷ gs) (suc k) = omega (arith, group-ends gs k, length-append g (types_by_id gs), length-append g (types_by_id (take k gs)))
 

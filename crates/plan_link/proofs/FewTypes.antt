@@ -1,19 +1,17 @@
 -- A module that is read has fewer than 2 ^ 31 interned types.
-use Rattle.std.proofs.Common.{◌≡◌, ◌≤◌, ◌<◌, ◌+◌, ◌^◌, ℕ, suc, Bool, true, false, Option, Some, None, List, [], ◌∷◌, ◌++◌, length, map, arith, length-append}
+use Rattle.std.proofs.Common.{◌≡◌, ◌≤◌, ◌<◌, ◌+◌, ◌^◌, ℕ, Bool, true, false, Option, Some, None, List, [], ◌∷◌, ◌++◌, length, map, arith, length-append}
 use Rattle.std.specs.Prelude.{◌==◌}
 use Rattle.std.specs.List.{list_any, filter_map, flat_map, cons_option}
 use Rattle.std.proofs.lemmas.List.{length-map}
 use Rattle.std.proofs.lemmas.Bool.{cases_Bool}
 use Rattle.wasm_spec.specs.declared.entities.TypeRef.{TypeRef}
-use Rattle.wasm_spec.specs.TypeData.{Group, Composite, Func, Array, Struct, Cont, Exn}
 use Rattle.wasm_spec.specs.Module.{Import, tag_import, imported_of, tags_of_section}
 use Rattle.wasm_spec.specs.Module as plain
-use Rattle.type_data.specs.Names.{Named}
-use Rattle.type_spec.specs.Interned.{startup_type}
+use Rattle.type_spec.specs.Interned.{startup_type, taken}
 use Rattle.type_spec.proofs.Homes.{size}
 use Rattle.form_types.specs.Placed.{placed_groups}
 use Rattle.form_types.proofs.Ruled.{size-places}
-use Rattle.module_types.proofs.FewTypes.{few}
+use Rattle.module_types.proofs.FewTypes.{few as taken-few}
 use Rattle.module_environ.specs.Firsts.{firsts_after}
 use Rattle.module_environ.specs.Readable.{IsReadable}
 use Rattle.module_environ.specs.Types.{interned_at, interned_list}
@@ -44,7 +42,8 @@ imported-few {A} kind (i ∷ is) = by (kind i.type) (imported-few kind is) where
 module _ (bytes : List ℕ) (m : plain.Module) (read : IsReadable bytes m) where
   pub few-types : (startup : Bool) → length (interned_list m startup).types < 2 ^ 31
   few-types startup =
-      let groups = few (placed_groups m) (size (placed_groups m)) (omega arith) in
+      let gs = placed_groups m in
+      let groups : length (taken gs).built.types ≤ size gs + size gs = taken-few gs (size gs) (omega arith) in
       let tags = firsts-few (map (interned_at m) (plain.tags m)) [] in
       let each = length-map (plain.tags m) (interned_at m) in
       let imported = imported-few tag_import (plain.imports m) in
