@@ -1,12 +1,12 @@
 -- Declared types that are interned in turn, one after another.
-use Rattle.std.proofs.Common.{◌≡◌, ◌∙◌, ℕ, ◌+◌, ◌<◌, Option, Some, None, List, [], ◌∷◌, ◌++◌, length, get_or, take, refl, sym, ap, subst, arith}
+use Rattle.std.proofs.Common.{◌≡◌, ◌∙◌, ℕ, ◌+◌, ◌<◌, ◌≤◌, Option, Some, None, List, [], ◌∷◌, ◌++◌, length, get_or, take, refl, sym, ap, subst, arith}
 use Rattle.std.specs.Prelude.{◌^◌, slice_index, slice_get, option_and_then, IsSomeAnd, map}
 use Rattle.std.proofs.Math.Seq.{take-length}
 use Rattle.std.proofs.lemmas.List.{length-map, length-take-le, get_or-map, map-append, take_more}
 use Rattle.std.proofs.lemmas.List.Sums.{fold_more}
 use Rattle.std.proofs.lemmas.Option.{slice_get-get_or}
 use Rattle.wasm_spec.specs.Module as plain
-use Rattle.type_spec.specs.Interned.{Interned, with_group, taken}
+use Rattle.type_spec.specs.Interned.{Interned, Built, with_group, taken}
 use Rattle.type_spec.proofs.Homes.{size}
 use Rattle.form_types.specs.Types.{TypesData}
 use Rattle.form_types.specs.Placed.{placed_groups}
@@ -20,16 +20,25 @@ use Rattle.module_types.specs.Builder.{Builder, new_builder, noted, interns_by}
 use Rattle.module_types.specs.Conversion.{group_of_id, members_of, interned_members, interned_index, HoldsGroups, NamesInterned}
 use Rattle.module_types.specs.InTurn.{interns_type}
 use Rattle.module_types.proofs.Holding.{holds-kept}
-use Rattle.module_types.proofs.Taking.{number_in, whole}
+use Rattle.module_types.proofs.Taking.{done_at, state, number_in, whole}
+use Rattle.module_types.proofs.FewTypes.{few}
+use Rattle.module_types.proofs.DeclaredGroups.{Has, has-none, has-next, has-index, has-below, comes-next}
 use Rattle.module_environ.specs.Types.{declared, type_index, AreTypesOf, HoldsGroupsAlone}
 use Rattle.module_environ.specs.Environment.{AreHeld}
 use Rattle.module_environ.specs.OnTheWay.{after_types}
-use Rattle.module_environ.proofs.Reaching.{Reached, reach-none, reach-next, reach-can, reach-index, reach-all, reach-few, reach-held}
 
 module _ (m : plain.Module) (t : TypesData) (of : AreTypesOf m t) where
+  -- a builder holds what is taken of the types before a place
+  abbrev pub Reached : Builder → ℕ → Type 0
+  Reached b i = Has m t of.numbered of.earlier b (done_at (placed_groups m) i) (state (placed_groups m) i)
+
+  few-reached : (b : Builder) (i : ℕ) → i ≤ size (placed_groups m) → Reached b i → length b.built.types < 2 ^ 31
+  few-reached b i le r =
+      omega (arith, few (placed_groups m) i le, ap (λ (c : Built). length c.types) r.built, of.few, size-places (plain.groups m))
+
   -- the module's types before number i were interned, and listed by their indices
   pub record Interns (b : Builder) (i : ℕ) (types : List EngineOrModuleTypeIndex) : Type 0 where
-    pub reached : Reached m t of.numbered of.earlier b i
+    pub reached : Reached b i
     pub holds : HoldsGroups t b
     pub listed : types ≡ map type_index (take i (declared m))
     pub alone : HoldsGroupsAlone t.validator b
@@ -37,7 +46,7 @@ module _ (m : plain.Module) (t : TypesData) (of : AreTypesOf m t) where
 
   pub interns-none : (b : Builder) → b ≡ new_builder t.validator → Interns b 0 []
   interns-none b new = subst (λ c. Interns c 0 []) (sym new) (record {
-    reached = reach-none m t of.numbered of.earlier t.validator;
+    reached = has-none m t of.numbered of.earlier t.validator;
     holds = λ k j e. absurd (let no : None ≡ Some j = e in cc);
     listed = refl;
     alone = refl;
@@ -48,17 +57,14 @@ module _ (m : plain.Module) (t : TypesData) (of : AreTypesOf m t) where
     inside : i < size (placed_groups m)
     inside = omega (arith, lt, of.numbered.each, size-places (plain.groups m))
 
-    counted : size (placed_groups m) < 2 ^ 30
-    counted = omega (arith, of.few, size-places (plain.groups m))
-
     abbrev id : ℕ
     id = slice_index t.declared i
 
     abbrev later : Builder
     later = interns_type t b id
 
-    reached-later : Reached m t of.numbered of.earlier later (i + 1)
-    reached-later = reach-next m t of.numbered of.earlier b i x.reached inside
+    reached-later : Reached later (i + 1)
+    reached-later = has-next m t of.numbered of.earlier b i inside x.reached
 
     alone-by : (k : ℕ) (ts : List Interned) (o : Option ℕ) → HoldsGroupsAlone t.validator (interns_by b k ts o)
     alone-by k ts (Some j) = x.alone
@@ -72,11 +78,11 @@ module _ (m : plain.Module) (t : TypesData) (of : AreTypesOf m t) where
 
     module _ (n : ℕ) (is : n ≡ id) where
       pub names : NamesInterned t b (group_of_id t n)
-      names = subst (λ k. NamesInterned t b (group_of_id t k)) (sym is) (reach-can m t of.numbered of.earlier b i x.reached inside).named
+      names = subst (λ k. NamesInterned t b (group_of_id t k)) (sym is) (comes-next m t of.numbered of.earlier b i inside x.reached).named
 
       pub room : length (interns_type t b n).built.types < 4294967295
       room = subst (λ k. length (interns_type t b k).built.types < 4294967295) (sym is)
-          (omega (arith, reach-few m t of.numbered of.earlier later (i + 1) reached-later counted))
+          (omega (arith, few-reached later (i + 1) (omega (arith, inside)) reached-later))
 
       pub interns-next : (c : Builder) (index : TypeIndex) → c ≡ interns_type t b n → number_of index ≡ interned_index t c n
           → Interns c (i + 1) (types ++ Module index ∷ [])
@@ -86,9 +92,9 @@ module _ (m : plain.Module) (t : TypesData) (of : AreTypesOf m t) where
           let k = group_of_id t id in
           let long : i < length (declared m) = omega (arith, inside, (whole all of.earlier).counted) in
           let number : number_of index ≡ number_in all i = at ∙ (λ j. interned_index t (made' j) (is j))
-          ∙ reach-index m t of.numbered of.earlier b i inside reached-later in
+          ∙ has-index m t of.numbered of.earlier later (i + 1) (omega (arith, inside)) reached-later i (omega arith) in
           record {
-            reached = subst (λ d. Reached m t of.numbered of.earlier d (i + 1)) (sym made') reached-later;
+            reached = subst (λ d. Reached d (i + 1)) (sym made') reached-later;
             holds = subst (HoldsGroups t) (sym made')
                 (holds-kept t b k (interned_members t b k) x.holds (length-map (members_of t k) _));
             listed = (λ j. x.listed j ++ type_index (number j) ∷ [])
@@ -104,16 +110,19 @@ module _ (m : plain.Module) (t : TypesData) (of : AreTypesOf m t) where
     sized : length t.declared ≡ size (placed_groups m)
     sized = omega (arith, of.numbered.each, size-places (plain.groups m))
 
+    reached-all : Reached b (size (placed_groups m))
+    reached-all = subst (Reached b) sized x.reached
+
     pub listed-all : types ≡ map type_index (declared m)
     listed-all =
         let long : length t.declared ≡ length (declared m) = omega (arith, sized, (whole (placed_groups m) of.earlier).counted) in
         x.listed ∙ ap (λ n. map type_index (take n (declared m))) long ∙ ap (map type_index) (take-length (declared m))
 
     pub built-all : b.built ≡ (taken (placed_groups m)).built
-    built-all = reach-all m t of.numbered of.earlier b (subst (Reached m t of.numbered of.earlier b) sized x.reached)
+    built-all = reached-all.built
 
     pub few-all : length b.built.types < 2 ^ 31
-    few-all = reach-few m t of.numbered of.earlier b (length t.declared) x.reached (omega (arith, of.few, size-places (plain.groups m)))
+    few-all = few-reached b (size (placed_groups m)) (omega arith) reached-all
 
     pub held-all : AreHeld types (length b.built.types)
     held-all i lt =
@@ -124,4 +133,4 @@ module _ (m : plain.Module) (t : TypesData) (of : AreTypesOf m t) where
         ∙ slice_get-get_or (map type_index d) i (type_index 0) (omega (arith, lt, sizes, length-map d type_index))
         ∙ ap Some (get_or-map type_index d i 0 (type_index 0) (omega (arith, lt, sizes))) in
         subst (λ o. IsSomeAnd (option_and_then module_index o) (λ k. number_of k < length b.built.types)) (sym is)
-        (reach-held m t of.numbered of.earlier b (length t.declared) x.reached i inside)
+        (has-below m t of.numbered of.earlier b (size (placed_groups m)) (omega arith) reached-all i (omega (arith, inside, sized)))

@@ -1,6 +1,4 @@
 mod Looking
-mod Counting
-mod Reaching
 mod InTurn
 mod FromRules
 mod ReferencesInRange

@@ -1,5 +1,5 @@
 -- The next group of a list of types can be interned.
-use Rattle.std.proofs.Common.{◌≡◌, ◌≤◌, ◌<◌, ℕ, zero, suc, ◌+◌, Bool, true, false, nat_eq, List, [], ◌∷◌, ◌++◌, length, get_or, replicate, Option, Some, None, OnOk, refl, sym, ap, inl, inr, arith}
+use Rattle.std.proofs.Common.{◌≡◌, ◌≤◌, ◌<◌, ℕ, zero, suc, ◌+◌, Bool, true, false, nat_eq, List, [], ◌∷◌, ◌++◌, length, get_or, take, replicate, Option, Some, None, OnOk, refl, sym, ap, inl, inr, arith}
 use Rattle.std.specs.Prelude.{◌⊎◌, IsSome, if◌then◌else◌, Result, Ok, Err}
 use Rattle.std.proofs.lemmas.Bool.{eq-eqb}
 use Rattle.std.proofs.lemmas.List.{length-append}
@@ -7,11 +7,12 @@ use Rattle.std.proofs.lemmas.List.Elements.{All-weaker}
 use Rattle.wasm_spec.specs.declared.types.UnpackedIndex.{UnpackedIndex}
 use Rattle.wasm_spec.specs.declared.types.UnpackedIndex.TheVariants as index
 use Rattle.wasm_spec.specs.TypeData.{group_edges}
-use Rattle.type_spec.specs.Interned.{Interned, Built, assign_trampoline, assign_trampolines, opened, with_group}
-use Rattle.form_types.specs.Types.{NamedGroup, TypesData, group_numbers, IsIdBelow, IsSound}
+use Rattle.type_spec.specs.Interned.{Interned, Built, with_group}
+use Rattle.form_types.specs.Types.{NamedGroup, TypesData, types_by_id, group_numbers, IsIdBelow, IsSound}
+use Rattle.form_types.specs.Numbered.{first_id}
 use Rattle.module_types.specs.Builder.{Builder, new_builder, interns_by, interns}
-use Rattle.module_types.specs.Conversion.{id_number, first_id, group_of_id, members_of, interned_members, NamesInterned, HoldsGroups}
-use Rattle.module_types.proofs.GroupMembers.{few-more}
+use Rattle.module_types.specs.Conversion.{id_number, group_of_id, members_of, interned_members, NamesInterned, HoldsGroups}
+use Rattle.module_types.proofs.FewTypes.{group-few}
 use Rattle.module_types.proofs.Convertible.{names-earlier, members-long}
 use Rattle.module_types.proofs.Holding.{holds-kept}
 use Rattle.module_types.proofs.Places.{group-ends}
@@ -36,7 +37,7 @@ low-group base (g ∷ gs) zero n h =
     split (length g) base (group_numbers (base + 1) gs) n (base + 0) (omega arith) (λ m e. absurd (omega (arith, h, e)))
 low-group base (g ∷ gs) (suc k) n h =
     split (length g) base (group_numbers (base + 1) gs) n (base + suc k) (omega arith)
-    (λ m e. let low = low-group (base + 1) gs k m (omega (arith, h, e)) in omega (arith, low))
+    (λ m e. let low = low-group (base + 1) gs k m (omega (arith, h, e, length-append g (types_by_id (take k gs)))) in omega (arith, low))
 
 at-or-below : (x k : ℕ) → x ≤ k → (x ≡ k) ⊎ (x < k)
 at-or-below zero zero h = inl refl
@@ -45,14 +46,6 @@ at-or-below (suc x) zero h = absurd (omega (arith, h))
 at-or-below (suc x) (suc k) h = elim (at-or-below x k (omega (arith, h))) [ inl e ↦ inl (ap (λ n. suc n) e) | inr lt ↦ inr (omega (arith, lt)) ]
 
 -- ---- how many types there are
-
-all-few : (b : Built) (i : ℕ) (ts : List Interned) → length (assign_trampolines b i ts).types ≤ length b.types + length ts
-all-few b i [] = omega arith
-all-few b i (t ∷ ts) =
-    omega (arith, all-few (assign_trampoline b i t.composite.inner) (suc i) ts, few-more b i t.composite.inner)
-
-group-few : (b : Built) (ts : List Interned) → length (with_group b ts).types ≤ length b.types + (length ts + length ts)
-group-few b ts = omega (arith, all-few (opened b ts) (length b.types) ts, length-append b.types ts)
 
 module _ (t : TypesData) (b : Builder) (k : ℕ) where
   abbrev ts : List Interned

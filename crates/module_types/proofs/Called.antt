@@ -12,7 +12,7 @@ use Rattle.module_types.specs.Views.{TypeIndex}
 use Rattle.module_types.specs.TypeList.{trampoline_at}
 use Rattle.module_types.specs.Builder.{BuilderState, Builder, builder_view, interns_by, interns, excepts_by, excepts, starts_by, starts}
 use Rattle.module_types.specs.Tied.{HasTrampoline, HaveTrampolines, IsTied, trampoline_in}
-use Rattle.module_types.proofs.GroupMembers.{trampoline_set, trampoline_next, each-step, all-steps, Extends, extends-none, extends-both, extends-alone, composite-before, composite-behind, extends-group, extends-step, through-taken, through-alone}
+use Rattle.module_types.proofs.GroupMembers.{trampoline_set, trampoline_next, each-step, all-steps, composite-before, composite-behind, extends-group, extends-step, through-taken, through-alone, extends-interned}
 use Rattle.module_types.proofs.Keys.{same-mapped, mapped-same, mapped-twice}
 
 none-there : (n i : ℕ) → get_or (replicate n (let o : Option ℕ = None in o)) i None ≡ None
@@ -324,10 +324,9 @@ called-taken ms i f lt is = (entire ms).called i f is
 pub called-interned : (ms : List (Group ℕ ℕ)) (tags : List ℕ) (startup : Bool) → HaveTrampolines (length (taken ms).built.types) (interned ms tags startup)
 called-interned ms tags startup i f lt is =
     let b = (taken ms).built in
-    let s = through-alone (λ c. Extends b c × ((j : ℕ) → HasTrampoline b j → HasTrampoline c j))
-    (λ c t s. (extends-both b c (alone c t None) s.0 (extends-alone c t None), λ j has. kept-alone c t None j (s.1 j has))) ms tags startup
-    (extends-none b, λ j has. has) in
-    s.1 i (called-taken ms i f lt (sym (composite-before b.types s.0.types_more i lt) ∙ ap (λ us. composite_at us i) (sym s.0.types) ∙ is))
+    let x = extends-interned ms tags startup in
+    let at = sym (composite-before b.types x.types_more i lt) ∙ ap (λ us. composite_at us i) (sym x.types) ∙ is in
+    through-alone (λ c. HasTrampoline c i) (λ c t has. kept-alone c t None i has) ms tags startup (called-taken ms i f lt at)
 
 -- ---- builders
 

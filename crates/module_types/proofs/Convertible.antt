@@ -1,7 +1,7 @@
 -- A group of a list of types can be converted, and what it becomes.
-use Rattle.std.proofs.Common.{◌≡◌, ◌≤◌, ◌<◌, ℕ, zero, suc, ◌+◌, List, [], ◌∷◌, All, length, get_or, map, Option, Some, None, refl, sym, ap, subst, ◌∙◌, inl, inr, arith, take}
+use Rattle.std.proofs.Common.{◌≡◌, ◌≤◌, ◌<◌, ℕ, zero, suc, ◌+◌, List, [], ◌∷◌, ◌++◌, All, length, get_or, map, Option, Some, None, refl, sym, ap, subst, ◌∙◌, inl, inr, arith, take}
 use Rattle.std.specs.Prelude.{slice_get, IsSome, IsSomeAnd, ◌⊎◌}
-use Rattle.std.proofs.lemmas.List.{length-map, take_all}
+use Rattle.std.proofs.lemmas.List.{length-map, length-append, take_all}
 use Rattle.std.proofs.lemmas.List.Elements.{All-head, All-tail, All-cons, All-nil, All-weaker}
 use Rattle.wasm_spec.specs.declared.types.UnpackedIndex.{UnpackedIndex}
 use Rattle.wasm_spec.specs.declared.types.UnpackedIndex.TheVariants as index
@@ -17,12 +17,13 @@ use Rattle.form_data.specs.declared.types.CompositeInnerType.{CompositeInnerType
 use Rattle.form_data.specs.declared.types.CompositeInnerType.TheVariants as inner
 use Rattle.form_data.specs.Views as form
 use Rattle.form_types.specs.Types.{NamedGroup, TypesData, types_by_id, IsIdBelow, NameEarlier, NamesFunction, ContinuesFunction, IsSound}
+use Rattle.form_types.specs.Numbered.{first_id}
 use Rattle.wasm_types.specs.declared.sub.WasmSubType.{WasmSubType}
 use Rattle.wasm_types.specs.TypeViews.{sub_type_of}
 use Rattle.wasm_convert.specs.Conversion.{index_in}
 use Rattle.wasm_convert.specs.Known.{CanLookUp, Known, CanConvert}
 use Rattle.module_types.specs.Views.{interned_number, interned_of, span_of}
-use Rattle.module_types.specs.Conversion.{id_number, first_id, kind_in, group_of_id, members_of, members_by_index, look_by_id, StandsInterned, KnowsId, HasIndex, interned_members}
+use Rattle.module_types.specs.Conversion.{id_number, kind_in, group_of_id, members_of, members_by_index, look_by_id, StandsInterned, KnowsId, HasIndex, interned_members}
 use Rattle.module_types.specs.TypeList.{TypeList}
 use Rattle.module_types.specs.Noted.{noted_at}
 use Rattle.module_types.specs.Builder.{Builder, BuilderState, builder_view}
@@ -47,14 +48,16 @@ below-more a b h i lt = absurd lt
 
 pub names-earlier : (first : ℕ) (gs : List NamedGroup) (k : ℕ) → NameEarlier first gs
     → All (IsIdBelow (first + (first_id gs k + length (get_or gs k [])))) (group_edges (λ r. r) (get_or gs k []))
-names-earlier first [] k e = All-nil (IsIdBelow (first + 0))
+names-earlier first [] k e = All-nil (IsIdBelow (first + (first_id [] k + 0)))
 names-earlier first (g ∷ gs) zero e =
     let le : first + length g ≤ first + (0 + length g) = omega arith in
     All-weaker (IsIdBelow (first + length g)) (IsIdBelow (first + (0 + length g))) (below-more _ _ le) (group_edges (λ r. r) g) e.0
 names-earlier first (g ∷ gs) (suc k) e =
     let rest = names-earlier (first + length g) gs k e.1 in
-    let le : (first + length g) + (first_id gs k + length (get_or gs k [])) ≤ first + ((length g + first_id gs k) + length (get_or gs k [])) = omega arith in
-    All-weaker _ (IsIdBelow (first + ((length g + first_id gs k) + length (get_or gs k [])))) (below-more _ _ le) (group_edges (λ r. r) (get_or gs k [])) rest
+    let next = length (g ++ types_by_id (take k gs)) in
+    let le : (first + length g) + (first_id gs k + length (get_or gs k [])) ≤ first + (next + length (get_or gs k [])) =
+    omega (arith, length-append g (types_by_id (take k gs))) in
+    All-weaker _ (IsIdBelow (first + (next + length (get_or gs k [])))) (below-more _ _ le) (group_edges (λ r. r) (get_or gs k [])) rest
 
 module _ (t : TypesData) (next : ℕ) (spans : List Span) (ids : ℕ → Option ℕ) (k : ℕ)
     (holds : (m j : ℕ) → ids m ≡ Some j → StandsInterned t spans m j) (room : ids k ≡ None → next + length (members_of t k) < 4294967295) where

@@ -1,10 +1,12 @@
 -- A builder that interned the declared groups of a module in turn holds what the definition takes.
-use Rattle.std.proofs.Common.{◌≡◌, ◌∙◌, ◌↔◌, ◌⊎◌, inl, inr, ℕ, zero, suc, ◌+◌, ◌-◌, ◌<◌, ◌≤◌, Option, Some, None, List, [], ◌∷◌, ◌++◌, length, get_or, take, replicate, refl, sym, ap, subst, arith, length-append}
+use Rattle.std.proofs.Common.{◌≡◌, ◌∙◌, ◌↔◌, ◌⊎◌, inl, inr, ℕ, zero, suc, ◌+◌, ◌-◌, ◌<◌, ◌≤◌, true, false, Some, None, List, [], ◌∷◌, ◌++◌, length, get_or, take, replicate, refl, sym, ap, subst, arith, length-append}
 use Rattle.std.specs.Prelude.{slice_get, slice_index, IsSome}
-use Rattle.std.specs.List.{All}
+use Rattle.std.specs.List.{All, fold, flat_map}
+use Rattle.std.proofs.lemmas.Bool.{cases_lt}
+use Rattle.std.proofs.lemmas.List.Sums.{fold_more}
 use Rattle.std.proofs.lemmas.List.Elements.{All-map, All-weaker}
 use Rattle.std.proofs.lemmas.List.{length-map, get_or-map, get_or_append_left, get_or-append-add, get_or-replicate, length-replicate}
-use Rattle.std.proofs.lemmas.List.Concat.{get_or-flat_map}
+use Rattle.std.proofs.lemmas.List.Concat.{get_or-flat_map, flat_map-append}
 use Rattle.std.proofs.lemmas.Option.{slice_get-get_or}
 use Rattle.wasm_spec.specs.declared.types.UnpackedIndex.{UnpackedIndex}
 use Rattle.wasm_spec.specs.TypeData.{SubType, Group, map_sub_type, map_group, group_edges}
@@ -12,30 +14,25 @@ use Rattle.wasm_spec.specs.Module as plain
 use Rattle.type_data.specs.TypeShapes.{group_shape}
 use Rattle.type_data.specs.Names.{NameKind, plainly}
 use Rattle.type_spec.specs.Equality.{Home, home, SameType}
-use Rattle.type_spec.specs.Interned.{Interned, Span, Built, Taken, with_group, opened, kind_of_type, kind_at, first_equal, interned_group, take_group, take_groups, none_taken, taken}
+use Rattle.type_spec.specs.Interned.{Interned, Span, Built, Taking, with_group, opened, kind_of_type, kind_at, interned_group, take_group, none_taken, taken}
 use Rattle.type_spec.specs.Taken.{NameEarlier}
+use Rattle.type_spec.proofs.Equivalence.{home-start}
 use Rattle.type_spec.proofs.Homes.{size, size-cons, home-within, home-again, home-type}
 use Rattle.type_spec.proofs.ByNames.{names-same, zip-known-itself, some_type, joined-kind}
 use Rattle.form_types.specs.Types.{NamedGroup, TypesData, types_by_id, group_numbers}
 use Rattle.form_types.specs.Placed.{placed_groups, id_at, named}
-use Rattle.form_types.specs.Numbered.{AreNumbered}
-use Rattle.form_types.specs.Numbered as numbered
+use Rattle.form_types.specs.Numbered.{first_id, AreNumbered}
 use Rattle.form_types.proofs.Ruled.{size-places}
 use Rattle.module_types.specs.Builder.{Builder, new_builder, interns_by}
-use Rattle.module_types.specs.Conversion.{first_id, kind_in, group_of_id, members_of, no_span, start_by, index_by_id, name_by_id, id_number, interned_members, interned_index, HoldsGroups, NamesInterned}
+use Rattle.module_types.specs.Conversion.{kind_in, group_of_id, members_of, no_span, start_by, index_by_id, name_by_id, id_number, interned_members, interned_index, HoldsGroups, NamesInterned}
 use Rattle.module_types.specs.InTurn.{interns_type, interns_declared, HasTaken, CanIntern}
 use Rattle.module_types.proofs.GroupMembers.{Extends, extends-group, group-within, span-new, span-old}
 use Rattle.module_types.proofs.Holding.{noted-here, noted-elsewhere, holds-kept}
 use Rattle.module_types.proofs.Places.{group-ends}
 use Rattle.module_types.proofs.WellNamed.{kind-mapped}
-use Rattle.module_types.proofs.Taking.{Told, told as told-first, Taking, either, home-first, home-member, place-first, place-member, same-at, earlier-member, number-met, number-new, form-new, taking-met, taking-new, taking-hollow, whole, number_in, starting, ends}
+use Rattle.module_types.proofs.Taking.{near-from, first-place, equal-same, equal-home, is_met, IsMet, met-same, met-before, met-now, met-either, done_at, state, step-by, reaches, reads, number_in, number-here, near-here, form-here, whole}
 
 -- ---- ids, and numbers of groups
-
-pub first-same : (gs : List NamedGroup) (k : ℕ) → k < length gs → numbered.first_id gs k ≡ first_id gs k
-first-same [] k lt = absurd (omega arith)
-first-same (g ∷ gs) zero lt = refl
-first-same (g ∷ gs) (suc k) lt = length-append g (types_by_id (take k gs)) ∙ ap (λ n. length g + n) (first-same gs k (omega arith))
 
 pub number-of : (gs : List NamedGroup) (base k p : ℕ) → k < length gs → p < length (get_or gs k [])
     → get_or (group_numbers base gs) (first_id gs k + p) 0 ≡ base + k
@@ -48,7 +45,8 @@ number-of (g ∷ gs) base zero p lt lt' =
     ∙ get_or-replicate (length g) p base 0 lt' ∙ omega arith
 number-of (g ∷ gs) base (suc k) p lt lt' =
     let long = length-replicate (length g) base in
-    let at : length g + first_id gs k + p ≡ length (replicate (length g) base) + (first_id gs k + p) = omega (arith, long) in
+    let at : length (g ++ types_by_id (take k gs)) + p ≡ length (replicate (length g) base) + (first_id gs k + p) =
+    omega (arith, long, length-append g (types_by_id (take k gs))) in
     ap (λ n. get_or (replicate (length g) base ++ group_numbers (base + 1) gs) n 0) at
     ∙ get_or-append-add (replicate (length g) base) (group_numbers (base + 1) gs) (first_id gs k + p) 0
     ∙ number-of gs (base + 1) k p (omega arith) lt' ∙ omega arith
@@ -86,8 +84,7 @@ module _ (m : plain.Module) (t : TypesData) (are : AreNumbered m t) (near : Name
       let w = home-within all i lt in
       let long : length (get_or t.groups s.number []) ≡ length (home all i).members = ap length s.group ∙ length-map (home all i).members _ in
       let place : i - (home all i).start < length (get_or t.groups s.number []) = omega (arith, long, w.from, w.to) in
-      let at : id i ≡ first_id t.groups s.number + (i - (home all i).start) = s.member
-      ∙ ap (λ n. n + (i - (home all i).start)) (first-same t.groups s.number s.below) in
+      let at : id i ≡ first_id t.groups s.number + (i - (home all i).start) = s.member in
       let is : group i ≡ s.number =
       ap (λ n. get_or (group_numbers 0 t.groups) n 0) at ∙ number-of t.groups 0 s.number (i - (home all i).start) s.below place ∙ omega arith in
       record {
@@ -131,8 +128,7 @@ module _ (m : plain.Module) (t : TypesData) (are : AreNumbered m t) (near : Name
       let w = home-within all i lt in
       let h = id_at t.declared in
       let d : SubType UnpackedIndex UnpackedIndex = map_sub_type h h some_type in
-      let first = first-same t.groups (group i) x.known in
-      let at : id i ≡ length (types_by_id (take (group i) t.groups)) + p = x.at ∙ ap (λ n. n + p) (sym first) in
+      let at : id i ≡ length (types_by_id (take (group i) t.groups)) + p = x.at in
       let known : id i < length (types_by_id t.groups) = omega (arith, x.at, x.within, group-ends t.groups (group i)) in
       let member : get_or (types_by_id t.groups) (id i) d ≡ map_sub_type h h (get_or (home all i).members p some_type) =
       ap (λ n. get_or (types_by_id t.groups) n d) at
@@ -154,10 +150,10 @@ module _ (m : plain.Module) (t : TypesData) (are : AreNumbered m t) (near : Name
     pub within : at < length b.built.groups
     pub index : (get_or b.built.groups at no_span).start + (i - (home all i).start) ≡ number i
 
-  pub record Has (b : Builder) (s : Taken) (start : ℕ) : Type 0 where
+  pub record Has (b : Builder) (done : List Home) (s : Taking) : Type 0 where
     pub built : b.built ≡ s.built
-    pub held : (i : ℕ) → i < start → HoldsAt b i
-    pub fresh : (k : ℕ) → ((i : ℕ) → i < start → group i ≡ k → ⊥) → b.ids k ≡ None
+    pub held : (i : ℕ) → i < size all → IsMet all done i → HoldsAt b i
+    pub fresh : (k : ℕ) → ((i : ℕ) → i < size all → IsMet all done i → group i ≡ k → ⊥) → b.ids k ≡ None
 
   pub index-held : (b : Builder) (i : ℕ) → i < size all → HoldsAt b i → interned_index t b (id i) ≡ number i
   index-held b i lt x =
@@ -166,285 +162,220 @@ module _ (m : plain.Module) (t : TypesData) (are : AreNumbered m t) (near : Name
       ap (λ o. start_by t (length b.built.types) b.built.groups b.ids o + (id i - first_id t.groups (group i))) x.id_is
       ∙ ap (λ p. (get_or b.built.groups x.at no_span).start + p) place ∙ x.index
 
-  module _ (b : Builder) (s : Taken) (start : ℕ) (g : Group ℕ ℕ) (gs : List (Group ℕ ℕ)) (done : List Home) (h : Taking all number s start
-      (g ∷ gs) done)
-      (some : 0 < length g) (has : Has b s start) where
-    pub end : start + length g ≤ size all
-    end = ends all number s start g gs done h some
-
-    pub starts : start < size all
-    starts = omega (arith, end, some)
-
-    pub k : ℕ
-    k = group start
-
-    pub member-group : (p : ℕ) → p < length g → group (start + p) ≡ group start
-    member-group p lt =
-        first-group (start + p) (omega (arith, end, lt))
-        ∙ ap (λ (x : Home). group x.start) (home-member all number s start g gs done h some p lt)
-
-    -- an equal group is held
-    module _ (j : ℕ) (found : Told all start 0 start (Some j))
-        (reads : (i : ℕ) → number i ≡ get_or (take_groups all (take_group all s start g (Some j)) (start + length g) gs).declared i 0) where
-      pub before : j < start
-      before = omega (arith, found.0)
-
-      pub held-met : HoldsAt b j
-      held-met = has.held j before
-
-      pub none-more : interns_type t b (id start) ≡ b
-      none-more =
-          let one = same-group j start (omega (arith, before, starts)) starts found.1 in
-          ap (interns_by b (group start) (interned_members t b (group start))) (ap b.ids (sym one) ∙ held-met.id_is)
-
-      pub has-met : Has b (take_group all s start g (Some j)) (start + length g)
-      has-met = record {
-        built = has.built;
-        held = λ i lt.
-            elim (either all number s start g gs done h some i lt) [
-              | inl old ↦ has.held i old
-              | inr x ↦
-                  let r = j + x.place in
-                  let same = same-at all number s start g gs done h some j found reads x.place x.lt in
-                  let e = earlier-member all number s start g gs done h some j found reads x.place x.lt in
-                  let y = has.held r e in
-                  let one = same-group (start + x.place) r (omega (arith, end, x.lt)) (omega (arith, e, starts)) same in
-                  subst (HoldsAt b) (sym x.is) (record {
-                    at = y.at;
-                    id_is = ap b.ids one ∙ y.id_is;
-                    within = y.within;
-                    index = ap (λ p. (get_or b.built.groups y.at no_span).start + p) same.0 ∙ y.index
-                        ∙ sym (number-met all number s start g gs done h some j found reads x.place x.lt);
-                  })
-            ];
-        fresh = λ n none. has.fresh n (λ i lt. none i (omega (arith, lt)));
-      }
-
-    -- a new group is appended
-    module _ (none : Told all start 0 start None)
-        (reads : (i : ℕ) → number i ≡ get_or (take_groups all (take_group all s start g None) (start + length g) gs).declared i 0) where
-      pub other : (i : ℕ) → i < start → group i ≡ group start → ⊥
-      other i lt same =
-          let first = (home all i).start in
-          let lt' : i < size all = omega (arith, lt, starts) in
-          let w = home-within all i lt' in
-          let again = home-again all i first lt' (record { from = omega arith; to = omega (arith, w.from, w.to) }) in
-          let place : first - (home all first).start ≡ start - (home all start).start =
-          ap (λ (x : Home). first - x.start) again ∙ omega arith ∙ sym (place-first all number s start g gs done h some) in
-          none first (omega arith) (omega (arith, w.from, lt))
-          (group-same first start (omega (arith, w.from, lt')) starts place (sym (first-group i lt') ∙ same))
-
-      pub unheld : b.ids (group start) ≡ None
-      unheld = has.fresh (group start) other
-
-      abbrev pub next : List Interned
-      next = interned_members t b (group start)
-
-      pub long-types : length b.built.types ≡ length s.built.types
-      long-types = ap (λ (c : Built). length c.types) has.built
-
-      pub index-next : (r : ℕ) → r < start + length g → interned_index t b (id r) ≡ number r
-      index-next r lt =
-          elim (either all number s start g gs done h some r lt) [
-            | inl old ↦ index-held b r (omega (arith, lt, end)) (has.held r old)
-            | inr x ↦
-                let q = start + x.place in
-                let lt' : q < size all = omega (arith, end, x.lt) in
-                let one = member-group x.place x.lt in
-                let place : id q - first_id t.groups (group q) ≡ x.place = omega (
-                  arith,
-                  (id-at q lt').at,
-                  place-member all number s start g gs done h some x.place x.lt,
-                ) in
-                subst (λ i. interned_index t b (id i) ≡ number i) (sym x.is)
-                (ap (λ o. start_by t (length b.built.types) b.built.groups b.ids o + (id q - first_id t.groups (group q))) (ap b.ids one ∙ unheld)
-                ∙ (λ i. long-types i + place i) ∙ sym (number-new all number s start g gs done h some none reads x.place x.lt))
-          ]
-
-      pub next-is : next ≡ interned_group all s.declared start (length s.built.types) g
-      next-is =
-          let d = id_at t.declared in
-          let first = home-first all number s start g gs done h some in
-          let members : members_of t (group start) ≡ named t.declared g = (id-at start starts).members
-          ∙ ap (λ (x : Home). named t.declared x.members) first in
-          let look = λ (i : UnpackedIndex). name_by_id t (length b.built.types) b.built.groups b.ids (id_number i) in
-          let index = λ (i : UnpackedIndex). index_by_id t (length b.built.types) b.built.groups b.ids (id_number i) in
-          let kind : ℕ → NameKind = λ r. kind_in (slice_get (types_by_id t.groups) (id r)) in
-          ap (map_group look index) members
-          ∙ group_shape.map_twice d look d index g
-          ∙ names-same kind (kind_at all) (λ r. interned_index t b (id r)) number g g (record {
-            frames = refl;
-            edges = zip-known-itself (λ r. r < start + length g) _
-                (λ r lt. λ i. record { kind = kind-held r (omega (arith, lt, end)) i; index = index-next r lt i }) (group_edges (λ r. r) g) h.near.0;
-          })
-          ∙ sym (form-new all number s start g gs done h some none reads)
-
-      abbrev at : ℕ
-      at = length b.built.groups
-
-      abbrev pub later : Builder
-      later = interns_by b (group start) next None
-
-      pub one-more : interns_type t b (id start) ≡ later
-      one-more = ap (interns_by b (group start) next) unheld
-
-      pub built-new : later.built ≡ (take_group all s start g None).built
-      built-new = λ i. with_group (has.built i) (next-is i)
-
-      after : Extends (opened b.built next) later.built
-      after = extends-group b.built next
-
-      pub has-new : Has later (take_group all s start g None) (start + length g)
-      has-new = record {
-        built = built-new;
-        held = λ i lt.
-            elim (either all number s start g gs done h some i lt) [
-              | inl old ↦
-                  let x = has.held i old in
-                  record {
-                    at = x.at;
-                    id_is = noted-elsewhere b.ids (group start) at (group i) (λ e. other i old (sym e)) ∙ x.id_is;
-                    within = omega (arith, x.within, group-within b.built next later.built after);
-                    index = ap (λ (r : Span). r.start + (i - (home all i).start)) (span-old b.built next later.built after x.at x.within) ∙ x.index;
-                  }
-              | inr x ↦
-                  let q = start + x.place in
-                  subst (HoldsAt later) (sym x.is) (record {
-                    at = at;
-                    id_is = ap later.ids (member-group x.place x.lt) ∙ noted-here b.ids (group start) at;
-                    within = group-within b.built next later.built after;
-                    index = ap (λ (r : Span). r.start + (q - (home all q).start)) (span-new b.built next later.built after)
-                        ∙ (λ i. long-types i + place-member all number s start g gs done h some x.place x.lt i)
-                        ∙ sym (number-new all number s start g gs done h some none reads x.place x.lt);
-                  })
-            ];
-        fresh = λ n apart.
-            noted-elsewhere b.ids (group start) at n (λ e. apart start (omega (arith, some)) e) ∙ has.fresh n (λ i lt. apart i (omega (arith, lt)));
-      }
-
-  -- what holds after each of the two steps holds after the step that is made
-  pub step-by : (b : Builder) (s : Taken) (start : ℕ) (g : Group ℕ ℕ) (gs : List (Group ℕ ℕ)) (done : List Home) → Taking all number s start (g ∷ gs) done
-      → 0 < length g → Has b s start → (Q : Builder → Taken → Type 0)
-      → ((b' : Builder) (s' : Taken) (done' : List Home) → ((i : ℕ) → number i ≡ get_or (take_groups all s' (start + length g) gs).declared i 0)
-      → Taking all number s' (start + length g) gs done' → Has b' s' (start + length g) → Q b' s')
-      → (o : Option ℕ) → first_equal all start 0 start ≡ o
-      → ((i : ℕ) → number i ≡ get_or (take_groups all (take_group all s start g o) (start + length g) gs).declared i 0)
-      → Q (interns_type t b (id start)) (take_group all s start g o)
-  step-by b s start g gs done h some has Q rest (Some j) e reads =
-      let found = subst (Told all start 0 start) e (told-first all start 0 start) in
-      let s' = take_group all s start g (Some j) in
-      subst (λ c. Q c s') (sym (none-more b s start g gs done h some has j found reads))
-      (rest b s' done reads (taking-met all number s start g gs done h some j found reads) (has-met b s start g gs done h some has j found reads))
-  step-by b s start g gs done h some has Q rest None e reads =
-      let none = subst (Told all start 0 start) e (told-first all start 0 start) in
-      let s' = take_group all s start g None in
-      subst (λ c. Q c s') (sym (one-more b s start g gs done h some has none reads))
-      (rest _ s' _ reads (taking-new all number s start g gs done h some none reads) (has-new b s start g gs done h some has none reads))
-
-  pub tied-from : (gs : List (Group ℕ ℕ)) (b : Builder) (s : Taken) (start : ℕ) (done : List Home)
-      → ((i : ℕ) → number i ≡ get_or (take_groups all s start gs).declared i 0) → Taking all number s start gs done → Has b s start
-      → Has (interns_declared t b start gs) (take_groups all s start gs) (size all)
-  tied-from [] b s start done reads h has = let end : start ≡ size all = omega (arith, h.sized) in subst (Has b s) end has
-  tied-from ([] ∷ gs) b s start done reads h has = tied-from gs b s start done reads (taking-hollow all number s start gs done h) has
-  tied-from ((x ∷ xs) ∷ gs) b s start done reads h has =
-      step-by b s start (x ∷ xs) gs done h (omega arith) has
-      (λ c s'. Has (interns_declared t c (start + length (x ∷ xs)) gs) (take_groups all s' (start + length (x ∷ xs)) gs) (size all))
-      (λ b' s' done' reads' h' has'. tied-from gs b' s' (start + length (x ∷ xs)) done' reads' h' has') (first_equal all start 0 start) refl reads
-
-  -- ---- the group that comes next
-
-  -- each step keeps what ids name
-  pub holds-from : (gs : List (Group ℕ ℕ)) (b : Builder) (start : ℕ) → HoldsGroups t b → HoldsGroups t (interns_declared t b start gs)
-  holds-from [] b start holds = holds
-  holds-from ([] ∷ gs) b start holds = holds-from gs b start holds
-  holds-from ((x ∷ xs) ∷ gs) b start holds =
-      let k = group start in
-      let ts = interned_members t b k in
-      holds-from gs (interns_type t b (id start)) (start + length (x ∷ xs)) (holds-kept t b k ts holds (length-map (members_of t k) _))
-
   -- the group names those before it, which are held, and itself
   pub record CanComeNext (b : Builder) (k : ℕ) : Type 0 where
     pub known : k < length t.groups
     pub filled : 0 < length (members_of t k)
     pub named : NamesInterned t b k
 
-  pub comes-next : (b : Builder) (s : Taken) (start : ℕ) (g : Group ℕ ℕ) (gs : List (Group ℕ ℕ)) (done : List Home)
-      → Taking all number s start (g ∷ gs) done
-      → 0 < length g → Has b s start → CanComeNext b (group start)
-  comes-next b s start g gs done h some has =
-      let lt = starts b s start g gs done h some has in
-      let x = id-at start lt in
-      let first = home-first all number s start g gs done h some in
-      let members : members_of t (group start) ≡ named t.declared g = x.members ∙ ap (λ (y : Home). named t.declared y.members) first in
-      let Is : UnpackedIndex → Type 0 = λ i. (group_of_id t (id_number i) ≡ group start) ⊎ IsSome (b.ids (group_of_id t (id_number i))) in
-      record {
-        known = x.known;
-        filled = omega (arith, ap length members, length-map g (map_sub_type (id_at t.declared) (id_at t.declared)), some);
-        named = subst (λ (y : NamedGroup). All Is (group_edges (λ i. i) y)) (sym members)
-            (subst (All Is) (sym ((plainly group_shape).edges_map (id_at t.declared) g))
-            (All-map Is (id_at t.declared) (group_edges (λ r. r) g)
-            (All-weaker (λ r. r < start + length g) (λ r. Is (id_at t.declared r))
-            (λ r below.
-            elim (either all number s start g gs done h some r below) [
-              | inl old ↦ inr (subst IsSome (sym (has.held r old).id_is) refl)
-              | inr y ↦ inl (ap group y.is ∙ member-group b s start g gs done h some has y.place y.lt)
-            ]) (group_edges (λ r. r) g) h.near.0)));
+  -- ---- one declared type more
+
+  module _ (b : Builder) (n : ℕ) (lt : n < size all) (has : Has b (done_at all n) (state all n)) where
+    abbrev d : List Home
+    d = done_at all n
+
+    abbrev s : Taking
+    s = state all n
+
+    abbrev here : Home
+    here = home all n
+
+    before : (i : ℕ) → i < here.start → (i < size all) × IsMet all d i
+    before i low =
+        let lt' : i < size all = omega (arith, low, home-start all n, lt) in
+        (lt', (reaches all n (omega (arith, lt))).before i lt' (omega (arith, low, home-start all i, home-start all n)))
+
+    member-group : (i : ℕ) → here.start ≤ i → i < here.start + length here.members → (home all i ≡ here) × (group i ≡ group n)
+    member-group i low high =
+        let w = home-within all n lt in
+        let again = home-again all n i lt (record { from = low; to = high }) in
+        (again, first-group i (omega (arith, high, w.high)) ∙ ap (λ (h : Home). group h.start) again ∙ sym (first-group n lt))
+
+    -- its group can be interned
+    pub comes-next : CanComeNext b (group n)
+    comes-next =
+        let x = id-at n lt in
+        let Is : UnpackedIndex → Type 0 = λ i. (group_of_id t (id_number i) ≡ group n) ⊎ IsSome (b.ids (group_of_id t (id_number i))) in
+        record {
+          known = x.known;
+          filled = omega (arith, x.within);
+          named = subst (λ (y : NamedGroup). All Is (group_edges (λ i. i) y)) (sym x.members)
+              (subst (All Is) (sym ((plainly group_shape).edges_map (id_at t.declared) here.members))
+              (All-map Is (id_at t.declared) (group_edges (λ r. r) here.members)
+              (All-weaker (λ r. r < here.start + length here.members) (λ r. Is (id_at t.declared r))
+              (λ r below.
+              elim (cases_lt r here.start) [
+                | inl low ↦ let x = before r low in inr (subst IsSome (sym (has.held r x.0 x.1).id_is) refl)
+                | inr high ↦ inl (member-group r high below).1
+              ]) (group_edges (λ r. r) here.members) (near-from all 0 n (omega arith) (omega (arith, lt)) near))));
+        }
+
+    -- one that is met is held
+    none-more : IsMet all d n → interns_type t b (id n) ≡ b
+    none-more met = ap (interns_by b (group n) (interned_members t b (group n))) (has.held n lt met).id_is
+
+    -- the group of another is appended
+    module _ (unmet : is_met all d here ≡ false) where
+      other : (i : ℕ) → i < size all → IsMet all d i → group i ≡ group n → ⊥
+      other i lt' met same =
+          let one = group-same (home all i).start here.start (omega (arith, home-start all i, lt')) (omega (arith, home-start all n, lt))
+          (first-place all i lt' ∙ sym (first-place all n lt)) (sym (first-group i lt') ∙ same ∙ first-group n lt) in
+          let no : false ≡ true = sym unmet ∙ sym (met-same all d (home all i) here one) ∙ met in
+          cc
+
+      unheld : b.ids (group n) ≡ None
+      unheld = has.fresh (group n) other
+
+      abbrev next : List Interned
+      next = interned_members t b (group n)
+
+      long-types : length b.built.types ≡ length s.built.types
+      long-types = ap (λ (c : Built). length c.types) has.built
+
+      index-next : (r : ℕ) → r < here.start + length here.members → interned_index t b (id r) ≡ number r
+      index-next r below =
+          elim (cases_lt r here.start) [
+            | inl low ↦ let x = before r low in index-held b r x.0 (has.held r x.0 x.1)
+            | inr high ↦
+                let w = home-within all n lt in
+                let lt' : r < size all = omega (arith, below, w.high) in
+                let x = member-group r high below in
+                let place : id r - first_id t.groups (group r) ≡ r - (home all r).start = omega (arith, (id-at r lt').at) in
+                ap (λ o. start_by t (length b.built.types) b.built.groups b.ids o + (id r - first_id t.groups (group r))) (ap b.ids x.1 ∙ unheld)
+                ∙ (λ i. long-types i + place i) ∙ sym (number-here all n lt unmet r lt' (equal-home all here r x.0))
+          ]
+
+      next-is : next ≡ interned_group all (take_group all s here).number here.members
+      next-is =
+          let w = home-within all n lt in
+          let look = λ (i : UnpackedIndex). name_by_id t (length b.built.types) b.built.groups b.ids (id_number i) in
+          let index = λ (i : UnpackedIndex). index_by_id t (length b.built.types) b.built.groups b.ids (id_number i) in
+          let kind : ℕ → NameKind = λ r. kind_in (slice_get (types_by_id t.groups) (id r)) in
+          ap (map_group look index) (id-at n lt).members
+          ∙ group_shape.map_twice (id_at t.declared) look (id_at t.declared) index here.members
+          ∙ names-same kind (kind_at all) (λ r. interned_index t b (id r)) number here.members here.members (record {
+            frames = refl;
+            edges = zip-known-itself (λ r. r < here.start + length here.members) _
+                (λ r below. λ i. record { kind = kind-held r (omega (arith, below, w.high)) i; index = index-next r below i })
+                (group_edges (λ r. r) here.members) (near-here all n lt unmet near);
+          })
+          ∙ sym (form-here all n lt unmet near)
+
+      abbrev at : ℕ
+      at = length b.built.groups
+
+      abbrev later : Builder
+      later = interns_by b (group n) next None
+
+      after : Extends (opened b.built next) later.built
+      after = extends-group b.built next
+
+      has-new : Has later (d ++ here ∷ []) (take_group all s here)
+      has-new = record {
+        built = λ i. with_group (has.built i) (next-is i);
+        held = λ i lt' met.
+            elim (met-either all d here i met) [
+              | inl old ↦
+                  let x = has.held i lt' old in
+                  record {
+                    at = x.at;
+                    id_is = noted-elsewhere b.ids (group n) at (group i) (λ e. other i lt' old (sym e)) ∙ x.id_is;
+                    within = omega (arith, x.within, group-within b.built next later.built after);
+                    index = ap (λ (r : Span). r.start + (i - (home all i).start)) (span-old b.built next later.built after x.at x.within) ∙ x.index;
+                  }
+              | inr e ↦
+                  let same = same-group here.start (home all i).start (omega (arith, home-start all n, lt)) (omega (arith, home-start all i, lt'))
+                  (equal-same all here i e) in
+                  record {
+                    at = at;
+                    id_is = ap later.ids (first-group i lt' ∙ sym same ∙ sym (first-group n lt)) ∙ noted-here b.ids (group n) at;
+                    within = group-within b.built next later.built after;
+                    index = ap (λ (r : Span). r.start + (i - (home all i).start)) (span-new b.built next later.built after)
+                        ∙ ap (λ k. k + (i - (home all i).start)) long-types ∙ sym (number-here all n lt unmet i lt' e);
+                  }
+            ];
+        fresh = λ k apart.
+            noted-elsewhere b.ids (group n) at k (λ e. apart n lt (met-now all d here n (equal-home all here n refl)) e)
+            ∙ has.fresh k (λ i lt' met. apart i lt' (met-before all d here i met));
       }
 
-  pub next-from : (gs : List (Group ℕ ℕ)) (g : Group ℕ ℕ) (rest : List (Group ℕ ℕ)) → 0 < length g
-      → (b : Builder) (s : Taken) (start : ℕ) (done : List Home)
-      → ((i : ℕ) → number i ≡ get_or (take_groups all s start (gs ++ g ∷ rest)).declared i 0) → Taking all number s start (gs ++ g ∷ rest) done
-      → Has b s start
-      → CanComeNext (interns_declared t b start gs) (group (start + size gs))
-  next-from [] g rest some b s start done reads h has =
-      let at : start ≡ start + 0 = omega arith in
-      subst (λ n. CanComeNext b (group n)) at (comes-next b s start g rest done h some has)
-  next-from ([] ∷ gs) g rest some b s start done reads h has = next-from gs g rest some b s start done reads (taking-hollow all number s start
-      (gs ++ g ∷ rest) done h) has
-  next-from ((x ∷ xs) ∷ gs) g rest some b s start done reads h has =
-      let at : start + length (x ∷ xs) + size gs ≡ start + size ((x ∷ xs) ∷ gs) = omega (arith, size-cons (x ∷ xs) gs) in
-      step-by b s start (x ∷ xs) (gs ++ g ∷ rest) done h (omega arith) has
-      (λ c s'. CanComeNext (interns_declared t c (start + length (x ∷ xs)) gs) (group (start + size ((x ∷ xs) ∷ gs))))
-      (λ b' s' done' reads' h' has'.
-      subst (λ n. CanComeNext (interns_declared t b' (start + length (x ∷ xs)) gs) (group n)) at
-      (next-from gs g rest some b' s' (start + length (x ∷ xs)) done' reads' h' has')) (first_equal all start 0 start) refl reads
+    pub has-next : Has (interns_type t b (id n)) (done_at all (n + 1)) (state all (n + 1))
+    has-next =
+        step-by all n (Has (interns_type t b (id n))) (λ met. subst (λ c. Has c d s) (sym (none-more met)) has)
+        (λ unmet. subst (λ c. Has c (d ++ here ∷ []) (take_group all s here))
+        (sym (ap (interns_by b (group n) (interned_members t b (group n))) (unheld unmet))) (has-new unmet))
 
-  pub has-none : (validator : ℕ) → Has (new_builder validator) none_taken 0
-  has-none validator = record { built = refl; held = λ i lt. absurd (omega (arith, lt)); fresh = λ k none. refl }
+  -- ---- all of them
 
-  pub can-intern : (validator : ℕ) (gs rest : List (Group ℕ ℕ)) (g : Group ℕ ℕ) → all ≡ gs ++ g ∷ rest → 0 < length g
-      → CanIntern t (interns_declared t (new_builder validator) 0 gs) (group (size gs))
-  can-intern validator gs rest g is some =
-      let at : 0 + size gs ≡ size gs = omega arith in
-      let c = next-from gs g rest some (new_builder validator) none_taken 0 []
-      (λ i. ap (λ (l : List (Group ℕ ℕ)). get_or (take_groups all none_taken 0 l).declared i 0) is)
-      (subst (λ (l : List (Group ℕ ℕ)). Taking all number none_taken 0 l []) is (starting all near)) (has-none validator) in
-      let d = subst (λ n. CanComeNext (interns_declared t (new_builder validator) 0 gs) (group n)) at c in
-      record {
-        known = d.known;
-        filled = d.filled;
-        holds = holds-from gs (new_builder validator) 0 (λ n j e. absurd (let no : None ≡ Some j = e in cc));
-        named = d.named;
-      }
+  pub has-none : (validator : ℕ) → Has (new_builder validator) [] none_taken
+  has-none validator = record { built = refl; held = λ i lt met. absurd (let no : false ≡ true = met in cc); fresh = λ k none. refl }
 
-  pub tied : (validator : ℕ) → HasTaken t (interns_declared t (new_builder validator) 0 all) (taken all)
-  tied validator =
-      let has = tied-from all (new_builder validator) none_taken 0 [] (λ i. refl) (starting all near)
-      (has-none validator) in
-      record {
-        built = has.built;
-        declared = λ i lt.
-            let lt' : i < size all = omega (arith, lt, (whole all near).counted) in
-            index-held (interns_declared t (new_builder validator) 0 all) i lt' (has.held i lt');
-      }
+  module _ (b : Builder) (n : ℕ) (le : n ≤ size all) (has : Has b (done_at all n) (state all n)) (i : ℕ) (lt : i < n) where
+    within : i < size all
+    within = omega (arith, lt, le)
 
-  -- two declared types have one interned index exactly where they are equal
-  pub told : (validator i j : ℕ) → i < length t.declared → j < length t.declared
-      → (interned_index t (interns_declared t (new_builder validator) 0 all) (id i) ≡ interned_index t (interns_declared t
-      (new_builder validator) 0 all) (id j)) ↔ SameType all all i j
-  told validator i j lt lt' =
-      let w = whole all near in
-      let x = (tied validator).declared i (omega (arith, lt, are.each, counted, w.counted)) in
-      let y = (tied validator).declared j (omega (arith, lt', are.each, counted, w.counted)) in
-      let e = w.exact i j (omega (arith, lt, are.each, counted)) (omega (arith, lt', are.each, counted)) in
-      ((λ same. e.0 (sym x ∙ same ∙ y)), (λ same. x ∙ e.1 same ∙ sym y))
+    met : IsMet all (done_at all n) i
+    met = (reaches all n le).before i within (omega (arith, lt, home-start all i))
+
+    pub has-index : interned_index t b (id i) ≡ number i
+    has-index = index-held b i within (has.held i within met)
+
+    pub has-below : number i < length b.built.types
+    has-below =
+        omega (arith, reads all n i le within met, (reaches all n le).below i within met, ap (λ (c : Built). length c.types) has.built)
+
+  module _ (validator : ℕ) where
+    -- the first declared types were interned
+    abbrev after_first : ℕ → Builder
+    after_first n = fold (interns_type t) (new_builder validator) (take n t.declared)
+
+    -- what they are and what ids name
+    reached : (n : ℕ) → n ≤ size all → Has (after_first n) (done_at all n) (state all n) × HoldsGroups t (after_first n)
+    reached zero le = (has-none validator, λ k j e. absurd (let no : None ≡ Some j = e in cc))
+    reached (suc n) le =
+        let p = reached n (omega (arith, le)) in
+        let one : n + 1 ≡ suc n = omega arith in
+        let step = fold_more (interns_type t) (new_builder validator) t.declared n 0 (omega (arith, le, are.each, counted)) in
+        subst (λ k. Has (after_first k) (done_at all k) (state all k) × HoldsGroups t (after_first k)) one
+        (subst (λ b. Has b (done_at all (n + 1)) (state all (n + 1)) × HoldsGroups t b) (sym step) (
+          has-next (after_first n) n (omega (arith, le)) p.0,
+          holds-kept t (after_first n) (group n) (interned_members t (after_first n) (group n)) p.1
+              (length-map (members_of t (group n)) _),
+        ))
+
+    pub can-intern : (gs rest : List (Group ℕ ℕ)) (g : Group ℕ ℕ) → all ≡ gs ++ g ∷ rest → 0 < length g
+        → CanIntern t (interns_declared t (new_builder validator) 0 gs) (group (size gs))
+    can-intern gs rest g is some =
+        let joined = flat_map-append (λ (h : Group ℕ ℕ). h) gs (g ∷ rest) in
+        let lt : size gs < size all = omega (
+          arith,
+          ap size is,
+          ap length joined,
+          length-append (flat_map (λ (h : Group ℕ ℕ). h) gs)
+              (flat_map (λ (h : Group ℕ ℕ). h) (g ∷ rest)),
+          size-cons g rest,
+          some,
+        ) in
+        let p = reached (size gs) (omega (arith, lt)) in
+        let c = comes-next (after_first (size gs)) (size gs) lt p.0 in
+        record { known = c.known; filled = c.filled; holds = p.1; named = c.named }
+
+    pub tied : HasTaken t (interns_declared t (new_builder validator) 0 all) (taken all)
+    tied =
+        let has = (reached (size all) (omega arith)).0 in
+        record {
+          built = has.built;
+          declared = λ i lt.
+              has-index (after_first (size all)) (size all) (omega arith) has i (omega (arith, lt, (whole all near).counted));
+        }
+
+    -- two declared types have one interned index exactly where they are equal
+    pub told : (i j : ℕ) → i < length t.declared → j < length t.declared
+        → (interned_index t (interns_declared t (new_builder validator) 0 all) (id i) ≡ interned_index t (interns_declared t
+        (new_builder validator) 0 all) (id j)) ↔ SameType all all i j
+    told i j lt lt' =
+        let w = whole all near in
+        let x = tied.declared i (omega (arith, lt, are.each, counted, w.counted)) in
+        let y = tied.declared j (omega (arith, lt', are.each, counted, w.counted)) in
+        let e = w.exact i j (omega (arith, lt, are.each, counted)) (omega (arith, lt', are.each, counted)) in
+        ((λ same. e.0 (sym x ∙ same ∙ y)), (λ same. x ∙ e.1 same ∙ sym y))

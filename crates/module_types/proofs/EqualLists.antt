@@ -1,14 +1,16 @@
 -- Two lists of groups have equal interned lists exactly where they take equal groups in turn, and what is built tells the groups that it was built of.
 use Rattle.std.proofs.Common.{◌≡◌, ◌∙◌, ◌↔◌, ◌<◌, ℕ, List, [], ◌∷◌, length, map, sym, ap, arith, ◌++◌, refl, inl, inr, ◌+◌, ◌-◌, ◌≤◌, subst}
+use Rattle.std.proofs.lemmas.Bool.{false≢true}
 use Rattle.std.proofs.lemmas.List.{length-map}
 use Rattle.std.proofs.lemmas.List.Elements.{All-nil, All-cons, All-head, All-tail}
 use Rattle.wasm_spec.specs.TypeData.{Group, map_sub_type}
 use Rattle.type_spec.specs.Equality.{Home, SameType, home, SameGroup}
 use Rattle.type_spec.specs.Interned.{Interned, Built, empty, with_group, kind_at, taken, Span, next_span}
-use Rattle.type_spec.specs.Taken.{NameEarlier, taken_groups, TakeEqual, SameLists}
+use Rattle.type_spec.specs.Firsts.{taken_groups}
+use Rattle.type_spec.specs.Taken.{NameEarlier, TakeEqual, SameLists}
 use Rattle.type_spec.proofs.ByNames.{name_by, same-kind}
 use Rattle.module_types.specs.Runs.{with_groups, AllFilled}
-use Rattle.module_types.proofs.Taking.{form, Stand, number_in, whole, IsCopy, Covers, Next, IsExactBelow}
+use Rattle.module_types.proofs.Taking.{IsMet, Covers, form, Next, Stand, IsExactBelow, next-copy, number_in, whole}
 use Rattle.type_data.specs.ListLaws.{front-same, back-same}
 use Rattle.module_types.proofs.GroupMembers.{types-apart, groups-apart, first-group, longer}
 use Rattle.std.specs.List.{AllZip}
@@ -76,12 +78,12 @@ module _ (ms ns : List (Group ℕ ℕ)) (number number' : ℕ
     pub forms-told : (form ms number h ≡ form ns number' k) ↔ SameGroup Same h k
     forms-told = told ms ns h k (h.start + length h.members) (k.start + length k.members) (kind_at ms) (kind_at ns) number number' tells
 
-    module _ (groups : SameGroup Same h k) (done : List Home) (bridged : (i : ℕ) → i < size ms → IsCopy ms done i → Bridge i) where
-      bridge-more : (i : ℕ) → i < size ms → IsCopy ms (h ∷ done) i → Bridge i
-      bridge-more i lt copy =
-          elim copy [
-            | inl c ↦
-                let p = c.member in
+    module _ (groups : SameGroup Same h k) (done : List Home) (bridged : (i : ℕ) → i < size ms → IsMet ms done i → Bridge i) where
+      bridge-more : (i : ℕ) → i < size ms → IsMet ms (done ++ h ∷ []) i → Bridge i
+      bridge-more i lt met =
+          elim (next-copy ms number b h x done i lt met) [
+            | inr c ↦
+                let p = i - (home ms i).start in
                 let long = groups-long Same h k groups in
                 let at : h.start + p - h.start ≡ k.start + p - k.start = omega arith in
                 record {
@@ -93,11 +95,11 @@ module _ (ms ns : List (Group ℕ ℕ)) (number number' : ℕ
                   number_is = (exact i (h.start + p) lt (omega (arith, c.lt, x.inside))).1 c.same ∙ x.numbers p c.lt
                       ∙ sym (y.numbers p (omega (arith, c.lt, long)));
                 }
-            | inr old ↦ bridged i lt old
+            | inl old ↦ bridged i lt old
           ]
 
   pub all-told : (hs ks : List Home) (b : Built) (done : List Home) → Stand ms number b hs → Covers ms done hs → Stand ns number' b ks
-      → ((i : ℕ) → i < size ms → IsCopy ms done i → Bridge i)
+      → ((i : ℕ) → i < size ms → IsMet ms done i → Bridge i)
       → (map (form ms number) hs ≡ map (form ns number') ks) ↔ AllZip (SameGroup Same) hs ks
   all-told [] [] b done x covers y bridged = (λ same. tt, λ same. refl)
   all-told [] (k ∷ ks) b done x covers y bridged =
@@ -109,7 +111,7 @@ module _ (ms ns : List (Group ℕ ℕ)) (number number' : ℕ
       let one = forms-told b h k x.0 y.0 bridges in
       let rest : (same : form ms number h ≡ form ns number' k) (groups : SameGroup Same h k)
       → (map (form ms number) hs ≡ map (form ns number') ks) ↔ AllZip (SameGroup Same) hs ks = λ same groups.
-      all-told hs ks (with_group b (form ms number h)) (h ∷ done) x.1 covers.1
+      all-told hs ks (with_group b (form ms number h)) (done ++ h ∷ []) x.1 covers.1
       (subst (λ ts. Stand ns number' (with_group b ts) ks) (sym same) y.1)
       (bridge-more b h k x.0 y.0 bridges groups done bridged) in (
         (λ same.
@@ -162,7 +164,7 @@ equal-lists ms ns near near' =
     let groups' = map (form ns (number_in ns)) ks in
     let is : (taken ms).built ≡ with_groups empty groups = w.built in
     let is' : (taken ns).built ≡ with_groups empty groups' = w'.built in
-    let both = all-told ms ns (number_in ms) (number_in ns) w.exact w'.exact hs ks empty [] w.stand w.covers w'.stand (λ i lt none. absurd none) in (
+    let both = all-told ms ns (number_in ms) (number_in ns) w.exact w'.exact hs ks empty [] w.stand w.covers w'.stand (λ i lt none. absurd (false≢true none)) in (
       (λ same. both.0 (groups_determined empty groups groups' (filled ms (number_in ms) hs empty w.stand) (filled ns (number_in ns) ks empty w'.stand)
           (sym (ap (λ (b : Built). b.types) is) ∙ same.types ∙ ap (λ (b : Built). b.types) is')
           (sym (ap (λ (b : Built). b.groups) is) ∙ same.groups ∙ ap (λ (b : Built). b.groups) is'))),

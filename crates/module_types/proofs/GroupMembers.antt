@@ -4,12 +4,14 @@ use Rattle.std.specs.Prelude.{if◌then◌else◌}
 use Rattle.std.proofs.lemmas.List.{append_assoc, append-nil, length-append, drop_all, get_or_at, get_or_append_left, drop_at, take_at}
 use Rattle.wasm_spec.specs.TypeData.{Composite, Func, Group}
 use Rattle.type_data.specs.Names.{Named}
-use Rattle.type_spec.specs.Interned.{Interned, Called, Built, Span, mapped, same_mapped, plain, alone, now_known, knows, with_trampoline, assign_at, assign_trampoline, assign_trampolines, composite_at, opened, with_group, next_span, exception_for, startup_type, with_exception, with_startup, Taken, empty, is_among, with_exceptions, first_equal, interned_group, take_group, take_groups, none_taken, taken, interned}
+use Rattle.type_spec.specs.Interned.{Interned, Called, Built, Span, mapped, same_mapped, plain, alone, now_known, knows, with_trampoline, assign_at, assign_trampoline, assign_trampolines, composite_at, opened, with_group, next_span, exception_for, startup_type, with_exception, with_startup, Taking, empty, is_among, with_exceptions, numbered, interned_group, take_group, none_taken, taken, interned}
+use Rattle.type_spec.specs.Equality.{Home}
+use Rattle.type_spec.specs.Firsts.{taken_groups}
 use Rattle.module_types.specs.Orderly.{IsOrderly, LieBetween}
 use Rattle.module_types.specs.Conversion.{no_span}
 use Rattle.module_types.specs.ListGroups.{types_in}
 use Rattle.module_types.specs.Runs.{with_groups}
-use Rattle.std.specs.List.{All}
+use Rattle.std.specs.List.{All, fold}
 use Rattle.std.proofs.lemmas.List.Elements.{All-nil, All-cons, All-head, All-tail}
 
 -- ---- spans one after another
@@ -253,20 +255,14 @@ longer b ts tss filled same =
 -- ---- what each group keeps holds of what is taken of a module
 
 module _ (P : Built → Type 0) (group : (b : Built) → P b → (ts : List Interned) → P (with_group b ts)) where
-  module _ (all : List (Group ℕ ℕ)) where
-    through-group : (s : Taken) (start : ℕ) (g : Group ℕ ℕ) (o : Option ℕ) → P s.built → P (take_group all s start g o).built
-    through-group s start g (Some j) p = p
-    through-group s start g None p = group s.built p (interned_group all s.declared start (length s.built.types) g)
-
-    through-groups : (gs : List (Group ℕ ℕ)) (s : Taken) (start : ℕ) → P s.built → P (take_groups all s start gs).built
-    through-groups [] s start p = p
-    through-groups ([] ∷ gs) s start p = through-groups gs s start p
-    through-groups ((t ∷ ts) ∷ gs) s start p =
-        let o = first_equal all start 0 start in
-        through-groups gs (take_group all s start (t ∷ ts) o) (start + length (t ∷ ts)) (through-group s start (t ∷ ts) o p)
+  through-groups : (all : List (Group ℕ ℕ)) (hs : List Home) (t : Taking) → P t.built → P (fold (take_group all) t hs).built
+  through-groups all [] t p = p
+  through-groups all (h ∷ hs) t p =
+      let number = numbered all t.number h (length t.built.types) in
+      through-groups all hs (take_group all t h) (group t.built p (interned_group all number h.members))
 
   pub through-taken : P empty → (ms : List (Group ℕ ℕ)) → P (taken ms).built
-  through-taken p ms = through-groups ms ms none_taken 0 p
+  through-taken p ms = through-groups ms (taken_groups ms) none_taken p
 
 -- ---- what exception types and the startup type keep holds of the whole list
 
@@ -302,3 +298,8 @@ pub through-alone : (P : Built → Type 0) → ((b : Built) (t : Interned) → P
 through-alone P more ms tags startup p =
     through-interned P (λ i. Unit {0}) (λ b i all p. more b (plain (exception_for i (composite_at b.types i))) p) (λ b p. more b startup_type p) ms tags startup
     (λ i. tt) p
+
+pub extends-interned : (ms : List (Group ℕ ℕ)) (tags : List ℕ) (startup : Bool) → Extends (taken ms).built (interned ms tags startup)
+extends-interned ms tags startup =
+    let b = (taken ms).built in
+    through-alone (Extends b) (λ c t x. extends-both b c (alone c t None) x (extends-alone c t None)) ms tags startup (extends-none b)

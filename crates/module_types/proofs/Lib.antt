@@ -8,6 +8,7 @@ pub mod Convertible
 pub mod Holding
 pub mod Called
 pub mod Taking
+pub mod FewTypes
 pub mod Telling
 pub mod EqualLists
 pub mod WellNamed

@@ -2,20 +2,21 @@
 use Rattle.std.proofs.Common.{◌≡◌, ◌∙◌, ◌<◌, ◌≤◌, inl, inr, ℕ, zero, suc, ◌+◌, ◌-◌, Bool, true, false, None, List, [], ◌∷◌, ◌++◌, length, get_or, refl, sym, ap, subst, arith, length-append, Option, map}
 use Rattle.std.specs.List.{All, flat_map}
 use Rattle.std.specs.Prelude.{◌⊎◌}
-use Rattle.std.proofs.lemmas.Bool.{cases_lt}
+use Rattle.std.proofs.lemmas.Bool.{cases_lt, false≢true}
 use Rattle.std.proofs.lemmas.List.{length-map, length_push, get_or_past}
 use Rattle.std.proofs.lemmas.List.Elements.{All-nil, All-map, All-weaker, All-cons, All-append}
 use Rattle.wasm_spec.specs.TypeData.{Struct, SubType, Group, map_sub_type, map_group, group_edges, Value, I32, Composite, Func, Exn, map_value, map_field, map_function, map_composite, value_edges, field_edges, composite_edges, sub_type_edges}
 use Rattle.type_data.specs.Shapes.{erased}
 use Rattle.type_data.specs.TypeShapes.{group_shape}
 use Rattle.type_data.specs.Names.{NameKind, plainly, Named, index_of}
-use Rattle.type_spec.specs.Equality.{Home}
+use Rattle.type_spec.specs.Equality.{Home, home}
 use Rattle.type_spec.specs.Interned.{Interned, Built, empty, with_group, plain, exception_for, composite_at, startup_type, kind_of_type, kind_at, taken, interned, Called, passed, mapped, opened, field_for, with_exception, with_startup}
-use Rattle.type_spec.specs.Taken.{NameEarlier, taken_groups}
+use Rattle.type_spec.specs.Firsts.{taken_groups}
+use Rattle.type_spec.specs.Taken.{NameEarlier}
 use Rattle.type_spec.proofs.Homes.{size}
 use Rattle.type_spec.proofs.ByNames.{name_by, by_names, names-same, names-plain, zip-known-itself, home-kind, same-kind}
 use Rattle.module_types.specs.ListGroups.{unkinded, kind_in, IsWellNamed}
-use Rattle.module_types.proofs.Taking.{IsCopy, Covers, form, Next, Stand, IsExactBelow, with_forms, number_in, whole}
+use Rattle.module_types.proofs.Taking.{IsMet, Covers, form, Next, Stand, IsExactBelow, with_forms, next-copy, number_in, whole}
 use Rattle.module_types.proofs.EqualLists.{next-home, next-place, next-number}
 use Rattle.module_types.proofs.GroupMembers.{composite-behind, extends-group, trampoline_next, all-steps, through-interned}
 use Rattle.module_types.proofs.WellNamed.{kind-mapped, AllBelow, Well, kind-before, well-next, named-before}
@@ -215,25 +216,26 @@ module _ (all : List (Group ℕ ℕ)) (number : ℕ → ℕ) (exact : IsExactBel
                 (group_edges (λ r. r) h.members) x.near;
           })
 
-      module _ (done : List Home) (found : (i : ℕ) → i < size all → IsCopy all done i → IsThere b i) where
-        there-more : (i : ℕ) → i < size all → IsCopy all (h ∷ done) i → IsThere (with_group b next) i
-        there-more i lt copy =
+      module _ (done : List Home) (found : (i : ℕ) → i < size all → IsMet all done i → IsThere b i) where
+        there-more : (i : ℕ) → i < size all → IsMet all (done ++ h ∷ []) i → IsThere (with_group b next) i
+        there-more i lt met =
             let s = extends-group b next in
             let whole = ap length s.types ∙ length-append (b.types ++ next) s.types_more in
-            elim copy [
-              | inl c ↦
-                  let r = h.start + c.member in
+            elim (next-copy all number b h x done i lt met) [
+              | inr c ↦
+                  let p = i - (home all i).start in
+                  let r = h.start + p in
                   let inside : r < size all = omega (arith, c.lt, x.inside) in
                   let same = (exact i r lt inside).1 c.same in
                   let at : number i < length (b.types ++ next) = omega
-                  (arith, same, x.numbers c.member c.lt, c.lt, long, length-append b.types next) in
+                  (arith, same, x.numbers p c.lt, c.lt, long, length-append b.types next) in
                   record {
                     lt = omega (arith, at, whole);
                     kind = ap (λ ts. kind_in ts (number i)) s.types ∙ kind-before (b.types ++ next) s.types_more (number i) at
                         ∙ ap (kind_in (b.types ++ next)) same ∙ member-kind r (omega arith) (omega (arith, c.lt))
                         ∙ sym (same-kind all all i r lt inside c.same);
                   }
-              | inr old ↦
+              | inl old ↦
                   let is = found i lt old in
                   let at : number i < length (b.types ++ next) = omega (arith, is.lt, length-append b.types next) in
                   record {
@@ -244,12 +246,12 @@ module _ (all : List (Group ℕ ℕ)) (number : ℕ → ℕ) (exact : IsExactBel
             ]
 
   well-forms : (hs : List Home) (b : Built) (done : List Home) → Stand all number b hs → Covers all done hs
-      → ((i : ℕ) → i < size all → IsCopy all done i → IsThere b i) → Well b.types b.groups
+      → ((i : ℕ) → i < size all → IsMet all done i → IsThere b i) → Well b.types b.groups
       → Well (with_forms all number b hs).types (with_forms all number b hs).groups
   well-forms [] b done x covers found w = w
   well-forms (h ∷ hs) b done x covers found w =
       let there : (i : ℕ) → i < size all → i < h.start → IsThere b i = λ i lt before. found i lt (covers.0 i before) in
-      well-forms hs (with_group b (form all number h)) (h ∷ done) x.1 covers.1 (there-more b h x.0 there done found)
+      well-forms hs (with_group b (form all number h)) (done ++ h ∷ []) x.1 covers.1 (there-more b h x.0 there done found)
       (well-group b (form all number h) (omega (arith, x.0.some, long b h x.0)) w (next-below b h x.0 there) (next-kinds b h x.0 there))
 
 well-empty : Well [] []
@@ -258,7 +260,7 @@ well-empty = record { orderly = refl; earlier = tt; below = All-nil (λ r. r < 0
 pub well-named : (ms : List (Group ℕ ℕ)) → NameEarlier 0 ms → (tags : List ℕ) (startup : Bool) → IsWellNamed (interned ms tags startup)
 well-named ms near tags startup =
     let w = whole ms near in
-    let first = well-forms ms (number_in ms) w.exact (taken_groups ms) empty [] w.stand w.covers (λ i lt none. absurd none) well-empty in
+    let first = well-forms ms (number_in ms) w.exact (taken_groups ms) empty [] w.stand w.covers (λ i lt none. absurd (false≢true none)) well-empty in
     let built : Well (taken ms).built.types (taken ms).built.groups = coe 0 1 (t. Well (sym w.built t).types (sym w.built t).groups) first in
     let n = length (taken ms).built.types in
     let end = through-interned (λ b. Well b.types b.groups × (n ≤ length b.types)) (λ i. i ≤ n)

@@ -1,12 +1,13 @@
 -- The group of an id, the id of its first member, and the index of its type.
-use Rattle.std.proofs.Common.{◌≡◌, ◌≤◌, ◌<◌, ℕ, zero, suc, ◌+◌, ◌-◌, List, [], ◌∷◌, ◌++◌, length, get_or, replicate, Some, sym, ap, ◌∙◌, inl, inr, arith, Option, None}
+use Rattle.std.proofs.Common.{◌≡◌, ◌≤◌, ◌<◌, ℕ, zero, suc, ◌+◌, ◌-◌, List, [], ◌∷◌, ◌++◌, length, get_or, take, replicate, Some, sym, ap, ◌∙◌, inl, inr, arith, Option, None}
 use Rattle.std.specs.Prelude.{slice_get, ◌⊎◌}
 use Rattle.std.proofs.lemmas.List.{length-append}
 use Rattle.std.proofs.lemmas.Option.{get_or_from_slice_get}
 use Rattle.wasm_spec.specs.declared.types.CoreTypeId.{CoreTypeId}
 use Rattle.form_types.specs.Ids.{ids_from}
 use Rattle.form_types.specs.Types.{NamedGroup, TypesData, types_by_id, group_numbers, member_ids}
-use Rattle.module_types.specs.Conversion.{first_id, group_of_id, members_of, start_by, index_by_id, StandsInterned, HasIndex, no_span}
+use Rattle.form_types.specs.Numbered.{first_id}
+use Rattle.module_types.specs.Conversion.{group_of_id, members_of, start_by, index_by_id, StandsInterned, HasIndex, no_span}
 use Rattle.type_spec.specs.Interned.{Span}
 
 in-parts : (m v : ℕ) (rest : List ℕ) (n k : ℕ) → slice_get (replicate m v ++ rest) n ≡ Some k
@@ -35,7 +36,8 @@ is-in base (g ∷ gs) n k e =
       | inl p ↦ record { place = 0; number = omega (arith, p.1); starts = omega arith; within = omega (arith, p.0) }
       | inr p ↦
           let r = is-in (base + 1) gs (n - length g) k p.1 in
-          record { place = suc r.place; number = omega (arith, r.number); starts = omega (arith, r.starts, p.0); within = omega (arith, r.within, p.0) }
+          let long = length-append g (types_by_id (take r.place gs)) in
+          record { place = suc r.place; number = omega (arith, r.number); starts = omega (arith, r.starts, p.0, long); within = omega (arith, r.within, p.0, long) }
     ]
 
 module _ (t : TypesData) (n k : ℕ) (e : slice_get (group_numbers 0 t.groups) n ≡ Some k) where
@@ -62,7 +64,7 @@ ids-of : (first : ℕ) (gs : List NamedGroup) (k : ℕ) → k < length gs
 ids-of first [] k h = absurd (omega arith)
 ids-of first (g ∷ gs) zero h = let same : first ≡ first + 0 = omega arith in ap (λ f. Some (ids_from f (length g))) same
 ids-of first (g ∷ gs) (suc k) h =
-    let same : (first + length g) + first_id gs k ≡ first + (length g + first_id gs k) = omega arith in
+    let same : (first + length g) + first_id gs k ≡ first + length (g ++ types_by_id (take k gs)) = omega (arith, length-append g (types_by_id (take k gs))) in
     ids-of (first + length g) gs k (omega arith) ∙ ap (λ f. Some (ids_from f (length (get_or gs k [])))) same
 
 pub ids-are : (gs : List NamedGroup) (k : ℕ) (ids : List CoreTypeId) → k < length gs → slice_get (member_ids 0 gs) k ≡ Some ids
@@ -82,9 +84,10 @@ some-ids first (suc m) h e = cc
 
 -- the ids of a group are among all
 pub group-ends : (gs : List NamedGroup) (k : ℕ) → first_id gs k + length (get_or gs k []) ≤ length (types_by_id gs)
-group-ends [] k = omega arith
+group-ends [] zero = omega arith
+group-ends [] (suc k) = omega arith
 group-ends (g ∷ gs) zero = omega (arith, length-append g (types_by_id gs))
-group-ends (g ∷ gs) (suc k) = omega (arith, group-ends gs k, length-append g (types_by_id gs))
+group-ends (g ∷ gs) (suc k) = omega (arith, group-ends gs k, length-append g (types_by_id gs), length-append g (types_by_id (take k gs)))
 
 -- ---- the index of the type of an id
 

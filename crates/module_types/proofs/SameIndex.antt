@@ -1,7 +1,7 @@
 -- Each declared type is equal to the interned type at its index.
-use Rattle.std.proofs.Common.{◌≡◌, ◌∙◌, ◌<◌, ◌≤◌, None, inl, inr, ℕ, ◌+◌, ◌-◌, Bool, true, false, nat_le, List, [], ◌∷◌, length, get_or, map, refl, sym, ap, subst, arith}
+use Rattle.std.proofs.Common.{◌≡◌, ◌∙◌, ◌<◌, ◌≤◌, None, inl, inr, ℕ, ◌+◌, ◌-◌, Bool, true, false, nat_le, List, [], ◌∷◌, ◌++◌, length, get_or, map, refl, sym, ap, subst, arith}
 use Rattle.std.specs.List.{AllZip, All}
-use Rattle.std.proofs.lemmas.Bool.{leb-true, leb-false}
+use Rattle.std.proofs.lemmas.Bool.{leb-true, leb-false, false≢true}
 use Rattle.std.proofs.lemmas.List.{length-map}
 use Rattle.std.proofs.lemmas.List.Elements.{All-head, All-tail}
 use Rattle.wasm_spec.specs.TypeData.{Group, map_sub_type, map_group, group_edges}
@@ -10,14 +10,15 @@ use Rattle.type_data.specs.TypeShapes.{group_shape}
 use Rattle.type_data.specs.Names.{plainly}
 use Rattle.type_spec.specs.Equality.{Home, home, target, target_by, SameTarget, SameGroup, SameType}
 use Rattle.type_spec.specs.Interned.{Interned, Span, Built, empty, with_group, next_span, opened, alone, kind_at, taken, interned}
-use Rattle.type_spec.specs.Taken.{NameEarlier, taken_groups}
+use Rattle.type_spec.specs.Firsts.{taken_groups}
+use Rattle.type_spec.specs.Taken.{NameEarlier}
 use Rattle.type_spec.proofs.Equivalence.{type-chained, groups-type}
 use Rattle.type_spec.proofs.Homes.{size, home-again}
 use Rattle.type_spec.proofs.ByNames.{name_by, names-plain}
 use Rattle.module_types.specs.Conversion.{no_span}
 use Rattle.module_types.specs.ListGroups.{unkinded, types_in, list_groups, IsWellNamed}
-use Rattle.module_types.proofs.GroupMembers.{Extends, extends-none, extends-both, extends-alone, group-within, span-new, types-new, extends-group, extends-groups, through-alone}
-use Rattle.module_types.proofs.Taking.{IsCopy, Covers, form, Next, Stand, IsExactBelow, with_forms, number_in, whole}
+use Rattle.module_types.proofs.GroupMembers.{Extends, extends-both, group-within, span-new, types-new, extends-group, extends-groups, extends-interned}
+use Rattle.module_types.proofs.Taking.{IsMet, Covers, form, Next, Stand, IsExactBelow, with_forms, next-copy, number_in, whole}
 use Rattle.module_types.proofs.EqualLists.{next-home, next-place, next-number}
 use Rattle.module_types.proofs.NamedLists.{well-named}
 use Rattle.module_types.proofs.Standing.{list-size, stands-at}
@@ -106,25 +107,26 @@ module _ (all : List (Group ℕ ℕ)) (number : ℕ → ℕ) (exact : IsExactBel
           groups-type all (list_groups l) (h.start + p) (first + p) (place ∙ sym place')
           (coe 0 1 (t. SameGroup Same (sym left t) (sym right t)) group-there)
 
-      module _ (done : List Home) (found : (i : ℕ) → i < size all → IsCopy all done i → Same i (number i)) where
-        found-more : (i : ℕ) → i < size all → IsCopy all (h ∷ done) i → Same i (number i)
-        found-more i lt copy =
-            elim copy [
-              | inl c ↦
-                  let r = h.start + c.member in
-                  let one = (exact i r lt (omega (arith, c.lt, x.inside))).1 c.same ∙ x.numbers c.member c.lt in
-                  subst (Same i) (sym one) (type-chained all all (list_groups l) i r (first + c.member) c.same (member-there c.member c.lt))
-              | inr old ↦ found i lt old
+      module _ (done : List Home) (found : (i : ℕ) → i < size all → IsMet all done i → Same i (number i)) where
+        found-more : (i : ℕ) → i < size all → IsMet all (done ++ h ∷ []) i → Same i (number i)
+        found-more i lt met =
+            elim (next-copy all number b h x done i lt met) [
+              | inr c ↦
+                  let p = i - (home all i).start in
+                  let r = h.start + p in
+                  let one = (exact i r lt (omega (arith, c.lt, x.inside))).1 c.same ∙ x.numbers p c.lt in
+                  subst (Same i) (sym one) (type-chained all all (list_groups l) i r (first + p) c.same (member-there p c.lt))
+              | inl old ↦ found i lt old
             ]
 
   all-same : (hs : List Home) (b : Built) (done : List Home) → Stand all number b hs → Covers all done hs → Extends (with_forms all number b hs) l
-      → ((i : ℕ) → i < size all → IsCopy all done i → Same i (number i)) → (i : ℕ) → i < size all → Same i (number i)
+      → ((i : ℕ) → i < size all → IsMet all done i → Same i (number i)) → (i : ℕ) → i < size all → Same i (number i)
   all-same [] b done x covers behind found i lt = found i lt (covers i lt)
   all-same (h ∷ hs) b done x covers behind found i lt =
       let ts = form all number h in
       let ext = extends-both (opened b ts) (with_group b ts) l (extends-group b ts)
       (extends-both (with_group b ts) (with_forms all number (with_group b ts) hs) l (extends-groups (with_group b ts) (map (form all number) hs)) behind) in
-      all-same hs (with_group b ts) (h ∷ done) x.1 covers.1 behind
+      all-same hs (with_group b ts) (done ++ h ∷ []) x.1 covers.1 behind
       (found-more b h x.0 ext (λ j below before. found j below (covers.0 j before)) done found) i lt
 
 pub same-index : (ms : List (Group ℕ ℕ)) → NameEarlier 0 ms → (tags : List ℕ) (startup : Bool) (i : ℕ) → i < length (taken ms).declared
@@ -133,6 +135,6 @@ same-index ms near tags startup i lt =
     let w = whole ms near in
     let l = interned ms tags startup in
     let b = (taken ms).built in
-    let behind : Extends b l = through-alone (Extends b) (λ c t x. extends-both b c (alone c t None) x (extends-alone c t None)) ms tags startup (extends-none b) in
+    let behind = extends-interned ms tags startup in
     all-same ms (number_in ms) w.exact l (well-named ms near tags startup) (taken_groups ms) empty [] w.stand w.covers
-    (subst (λ b. Extends b l) w.built behind) (λ j below none. absurd none) i (omega (arith, lt, w.counted))
+    (subst (λ b. Extends b l) w.built behind) (λ j below none. absurd (false≢true none)) i (omega (arith, lt, w.counted))

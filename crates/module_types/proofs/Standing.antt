@@ -49,7 +49,8 @@ stands-from ts (s ∷ ss) first end (suc k) lie le earlier lt =
       near = r.near;
     }
 
-joined-from : (ts : List Interned) (ss : List Span) (first : ℕ) → LieBetween first ss (length ts)
+-- the groups of a list are its types
+pub joined-from : (ts : List Interned) (ss : List Span) (first : ℕ) → LieBetween first ss (length ts)
     → joined (groups_of ts ss) ≡ unkinded (drop first ts)
 joined-from ts [] first lie = ap unkinded (sym (drop_of_length-le ts (omega (arith, lie))))
 joined-from ts (s ∷ ss) first lie =

@@ -1,16 +1,18 @@
 -- What the taking of a list's groups makes: the groups that are taken get the next indices, and each type has that of the first equal one.
-use Rattle.std.proofs.Common.{◌≡◌, ◌∙◌, ◌↔◌, ◌⊎◌, inl, inr, ℕ, zero, suc, ◌+◌, ◌-◌, ◌<◌, ◌≤◌, Bool, true, false, Option, Some, None, List, [], ◌∷◌, ◌++◌, length, get_or, take, drop, map, refl, sym, ap, subst, arith, length-append}
-use Rattle.std.specs.Prelude.{nat_lt, if◌then◌else◌}
-use Rattle.std.specs.List.{All, range_with_len}
-use Rattle.std.proofs.lemmas.Bool.{ltb-true, ltb-false, cases_lt, cases_eq}
-use Rattle.std.proofs.lemmas.List.{append_assoc, append-nil, get_or-append-add, get_or-take, get_or-drop, length-take-le, length-drop, length-map}
-use Rattle.std.proofs.lemmas.List.Prefix.{front_reads}
-use Rattle.std.proofs.lemmas.List.FromFn.{get_or-range_with_len, length-range_with_len}
-use lib.Dec.{ltb}
-use Rattle.wasm_spec.specs.TypeData.{Group, map_sub_type, group_edges}
-use Rattle.type_spec.specs.Equality.{Home, home, home_from, SameType, same_type}
-use Rattle.type_spec.specs.Interned.{Interned, Built, Taken, with_group, kind_at, name, first_equal, interned_group, take_group, take_groups, none_taken, taken, empty}
-use Rattle.type_spec.specs.Taken.{NameEarlier, unless_met, new_groups, taken_groups}
+use Rattle.std.proofs.Common.{◌≡◌, ◌∙◌, ◌↔◌, ◌⊎◌, inl, inr, ℕ, zero, suc, ◌+◌, ◌-◌, ◌<◌, ◌≤◌, Bool, true, false, ◌||◌, List, [], ◌∷◌, ◌++◌, length, get_or, map, refl, sym, ap, subst, arith}
+use Rattle.std.specs.Prelude.{if◌then◌else◌}
+use Rattle.std.specs.List.{All, fold, list_any, range_with_len}
+use Rattle.std.proofs.lemmas.Bool.{cases_lt, cases_eq, cases_Bool, or_cases, or_left, or_right}
+use Rattle.std.proofs.lemmas.Bool.Decides.{same_from_decides}
+use Rattle.std.proofs.lemmas.List.{append_assoc, append-nil, length-map}
+use Rattle.std.proofs.lemmas.List.Folds.{list_any-append}
+use Rattle.std.proofs.lemmas.List.FromFn.{length-map-range_with_len, get_or-map-range_with_len, map-range_with_len_more}
+use Rattle.std.proofs.lemmas.List.Sums.{fold_push}
+use Rattle.wasm_spec.specs.TypeData.{Group, group_edges}
+use Rattle.type_spec.specs.Equality.{Home, home, home_from, SameType}
+use Rattle.type_spec.specs.Firsts.{with_first, firsts_by, equal_groups, taken_groups}
+use Rattle.type_spec.specs.Interned.{Interned, Built, Taking, with_group, kind_at, interned_group, take_group, none_taken, taken, empty}
+use Rattle.type_spec.specs.Taken.{NameEarlier}
 use Rattle.type_spec.proofs.Decided.{down-decided}
 use Rattle.type_spec.proofs.Equivalence.{home-start, type-itself, type-turned, type-chained, type-groups, type-beside, groups-long}
 use Rattle.type_spec.proofs.Homes.{size, size-cons, in_front, behind, home-within, home-again}
@@ -18,75 +20,283 @@ use Rattle.type_spec.proofs.ByNames.{name_by, by_names, names-same, zip-known-it
 use Rattle.module_types.specs.Runs.{with_groups}
 use Rattle.module_types.proofs.GroupMembers.{group-long}
 
+-- a group's references name types of the group or before it
+pub near-from : (gs : List (Group ℕ ℕ)) (start i : ℕ) → start ≤ i → i < start + size gs → NameEarlier start gs
+    → All (λ r. r < (home_from start gs i).start + length (home_from start gs i).members) (group_edges (λ r. r) (home_from start gs i).members)
+near-from [] start i low lt near = absurd (omega (arith, low, lt))
+near-from (g ∷ gs) start i low lt near =
+    elim (cases_lt i (start + length g)) [
+      | inl here ↦ rw (in_front start g gs i here) near.0
+      | inr later ↦ rw (behind start g gs i later) (near-from gs (start + length g) i later (omega (arith, lt, size-cons g gs)) near.1)
+    ]
+
 module _ (all : List (Group ℕ ℕ)) where
-  -- ---- the search for an equal group
+  -- ---- types, and the groups that they stand in
 
-  -- what the search tells: the first such type, or that there is none
-  abbrev pub Told : ℕ → ℕ → ℕ → Option ℕ → Type 0
-  Told i from n (Some j) = (j < from + n) × SameType all all j i
-  Told i from n None = (j : ℕ) → from ≤ j → j < from + n → SameType all all j i → ⊥
+  pub first-home : (i : ℕ) → i < size all → home all (home all i).start ≡ home all i
+  first-home i lt =
+      let w = home-within all i lt in
+      home-again all i (home all i).start lt (record { from = omega arith; to = omega (arith, w.from, w.to) })
 
-  pub told : (i from n : ℕ) → Told i from n (first_equal all i from n)
-  told i from zero = λ j low high same. omega (arith, low, high)
-  told i from (suc n) = by (first_equal all i (suc from) n) (told i (suc from) n) (same_type all all from i) refl where
-    by : (o : Option ℕ) → Told i (suc from) n o → (b : Bool) → same_type all all from i ≡ b → Told i from (suc n) (if b then Some from else o)
-    by o rest true is = (omega arith, (down-decided (suc from) all all from i).0 is)
-    by (Some j) rest false is = (omega (arith, rest.0), rest.1)
-    by None rest false is = λ j low high same.
-        elim (cases_eq j from) [
-          | inl one ↦
-              let yes : same_type all all from i ≡ true = (down-decided (suc from) all all from i).1 (subst (λ k. SameType all all k i) one same) in
-              let no : true ≡ false = sym yes ∙ is in cc
-          | inr other ↦ rest j (omega (arith, low, other)) (omega (arith, high)) same
-        ]
+  pub first-place : (i : ℕ) → i < size all → (home all i).start - (home all (home all i).start).start ≡ 0
+  first-place i lt = ap (λ (h : Home). (home all i).start - h.start) (first-home i lt) ∙ omega arith
 
-  -- ---- what was declared stays
+  -- types are equal where the first types of their groups are, and they stand at one place
+  pub starts-same : (i j : ℕ) → i < size all → j < size all → SameType all all i j → SameType all all (home all i).start (home all j).start
+  starts-same i j lt lt' same =
+      type-beside all all i j (home all i).start (home all j).start same (first-home i lt) (first-home j lt') (first-place i lt ∙ sym (first-place j lt'))
 
-  abbrev Grown : List ℕ → List ℕ → Type 0
-  Grown old new = (more : List ℕ) × (new ≡ old ++ more)
+  pub same-by-starts : (i j : ℕ) → i < size all → j < size all → SameType all all (home all i).start (home all j).start
+      → i - (home all i).start ≡ j - (home all j).start → SameType all all i j
+  same-by-starts i j lt lt' starts at =
+      type-beside all all (home all i).start (home all j).start i j starts (sym (first-home i lt)) (sym (first-home j lt')) at
 
-  grown-both : (a b c : List ℕ) → Grown a b → Grown b c → Grown a c
-  grown-both a b c x y = (x.0 ++ y.0, y.1 ∙ ap (λ l. l ++ y.0) x.1 ∙ append_assoc a x.0 y.0)
+  -- the group of a type is equal to a group
+  abbrev pub IsEqual : Home → ℕ → Type 0
+  IsEqual h i = equal_groups all h (home all i) ≡ true
 
-  grown-one : (b : Taken) (start : ℕ) (g : Group ℕ ℕ) (o : Option ℕ) → Grown b.declared (take_group all b start g o).declared
-  grown-one b start g (Some j) = (take (length g) (drop j b.declared), refl)
-  grown-one b start g None = (range_with_len (length b.built.types) (length g), refl)
+  pub equal-same : (h : Home) (i : ℕ) → IsEqual h i → SameType all all h.start (home all i).start
+  equal-same h i e = (down-decided (suc h.start) all all h.start (home all i).start).0 e
 
-  grown-all : (gs : List (Group ℕ ℕ)) (b : Taken) (start : ℕ) → Grown b.declared (take_groups all b start gs).declared
-  grown-all [] b start = ([], sym (append-nil b.declared))
-  grown-all ([] ∷ gs) b start = grown-all gs b start
-  grown-all ((t ∷ ts) ∷ gs) b start =
-      let o = first_equal all start 0 start in
-      grown-both b.declared (take_group all b start (t ∷ ts) o).declared (take_groups all b start ((t ∷ ts) ∷ gs)).declared
-      (grown-one b start (t ∷ ts) o) (grown-all gs (take_group all b start (t ∷ ts) o) (start + length (t ∷ ts)))
+  pub equal-home : (h : Home) (i : ℕ) → home all i ≡ h → IsEqual h i
+  equal-home h i at =
+      subst (λ (g : Home). equal_groups all h g ≡ true) (sym at) ((down-decided (suc h.start) all all h.start h.start).1 (type-itself all h.start))
 
-  read-grown : (old new : List ℕ) → Grown old new → (i : ℕ) → i < length old → get_or new i 0 ≡ get_or old i 0
-  read-grown old new x i lt = front_reads 0 new old x.0 x.1 i lt
-
-  -- ---- copies of groups that were taken
+  equal-alike : (h g k : Home) → SameType all all g.start k.start → equal_groups all h g ≡ equal_groups all h k
+  equal-alike h g k same =
+      let d = down-decided (suc h.start) all all h.start g.start in
+      let back = type-turned all all g.start k.start same in
+      same_from_decides {P = SameType all all h.start k.start} (equal_groups all h g) (equal_groups all h k)
+      ((λ e. type-chained all all all h.start g.start k.start (d.0 e) same), (λ x. d.1 (type-chained all all all h.start k.start g.start x back)))
+      (down-decided (suc h.start) all all h.start k.start)
 
   -- the type is equal to a member of the group
   pub record Copy (h : Home) (i : ℕ) : Type 0 where
-    pub member : ℕ
-    pub lt : member < length h.members
-    pub same : SameType all all i (h.start + member)
+    pub lt : i - (home all i).start < length h.members
+    pub same : SameType all all i (h.start + (i - (home all i).start))
 
-  abbrev pub IsCopy : List Home → ℕ → Type 0
-  IsCopy [] i = ⊥
-  IsCopy (h ∷ hs) i = Copy h i ⊎ IsCopy hs i
+  pub copy : (h : Home) (i : ℕ) → h.start < size all → home all h.start ≡ h → i < size all → IsEqual h i → Copy h i
+  copy h i inside at lt e = record { lt = long; same = same } where
+    long : i - (home all i).start < length h.members
+    long =
+        let w = home-within all i lt in
+        let starts = equal-same h i e in
+        omega (
+          arith,
+          w.from,
+          w.to,
+          ap (λ (g : Home). length g.members) at,
+          ap (λ (g : Home). length g.members) (first-home i lt),
+          groups-long _ (home all h.start) (home all (home all i).start) (type-groups all all h.start (home all i).start starts),
+        )
 
-  copy-again : (hs : List Home) (i j : ℕ) → SameType all all i j → IsCopy hs j → IsCopy hs i
-  copy-again [] i j same c = absurd c
-  copy-again (h ∷ hs) i j same c =
-      elim c [
-        | inl x ↦ inl (record { member = x.member; lt = x.lt; same = type-chained all all all i j (h.start + x.member) same x.same })
-        | inr y ↦ inr (copy-again hs i j same y)
+    same : SameType all all i (h.start + (i - (home all i).start))
+    same =
+        let r = h.start + (i - (home all i).start) in
+        let w = home-within all h.start inside in
+        let from = ap (λ (g : Home). g.start) at in
+        let to = ap (λ (g : Home). length g.members) at in
+        let again : home all r ≡ h = home-again all h.start r inside (record { from = omega (arith, from); to = omega (arith, from, to, long) }) ∙ at in
+        let place : r - (home all r).start ≡ i - (home all i).start = ap (λ (g : Home). r - g.start) again ∙ omega arith in
+        same-by-starts i r lt (omega (arith, from, to, long, w.high))
+        (subst (λ (g : Home). SameType all all (home all i).start g.start) (sym again) (type-turned all all h.start (home all i).start (equal-same h i e)))
+        (sym place)
+
+  -- ---- groups that were taken
+
+  -- a group that is equal to another was taken
+  abbrev pub is_met : List Home → Home → Bool
+  is_met done h = list_any (λ g. equal_groups all g h) done
+
+  abbrev pub IsMet : List Home → ℕ → Type 0
+  IsMet done i = is_met done (home all i) ≡ true
+
+  pub met-same : (done : List Home) (g h : Home) → SameType all all g.start h.start → is_met done g ≡ is_met done h
+  met-same done g h same = ap (λ (p : Home → Bool). list_any p done) (λ t k. equal-alike k g h same t)
+
+  -- where one group more was taken, its own types are met too
+  module _ (done : List Home) (h : Home) (i : ℕ) where
+    with_one : is_met (done ++ h ∷ []) (home all i) ≡ (is_met done (home all i) || (equal_groups all h (home all i) || false))
+    with_one = list_any-append (λ g. equal_groups all g (home all i)) done (h ∷ [])
+
+    pub met-before : IsMet done i → IsMet (done ++ h ∷ []) i
+    met-before met = with_one ∙ or_left (is_met done (home all i)) (equal_groups all h (home all i) || false) met
+
+    pub met-now : IsEqual h i → IsMet (done ++ h ∷ []) i
+    met-now e =
+        with_one
+        ∙ or_right (is_met done (home all i)) (equal_groups all h (home all i) || false) (or_left (equal_groups all h (home all i)) false e)
+
+    pub met-either : IsMet (done ++ h ∷ []) i → IsMet done i ⊎ IsEqual h i
+    met-either met =
+        elim (or_cases (is_met done (home all i)) (equal_groups all h (home all i) || false) (sym with_one ∙ met)) [
+          | inl old ↦ inl old
+          | inr e ↦ elim (or_cases (equal_groups all h (home all i)) false e) [
+            | inl new ↦ inr new
+            | inr never ↦ absurd (let f : false ≡ true = never in cc)
+          ]
+        ]
+
+  -- each type before a group that is taken is met in those before it, and in the end each type is
+  abbrev pub Covers : List Home → List Home → Type 0
+  Covers done [] = (i : ℕ) → i < size all → IsMet done i
+  Covers done (h ∷ hs) = ((i : ℕ) → i < h.start → IsMet done i) × Covers (done ++ h ∷ []) hs
+
+  -- ---- one type after another
+
+  -- the groups that are taken of the types before a place, and what they become
+  abbrev pub done_at : ℕ → List Home
+  done_at n = firsts_by (equal_groups all) (map (home all) (range_with_len 0 n))
+
+  abbrev pub state : ℕ → Taking
+  state n = fold (take_group all) none_taken (done_at n)
+
+  -- a type that is met changes nothing, and the group of another is taken
+  pub step-by : (n : ℕ) (Q : List Home → Taking → Type 0) → (IsMet (done_at n) n → Q (done_at n) (state n))
+      → (is_met (done_at n) (home all n) ≡ false → Q (done_at n ++ home all n ∷ []) (take_group all (state n) (home all n)))
+      → Q (done_at (n + 1)) (state (n + 1))
+  step-by n Q old new = subst (λ d. Q d (fold (take_group all) none_taken d)) (sym next) (by (is_met (done_at n) (home all n)) refl) where
+    next : done_at (n + 1) ≡ with_first (equal_groups all) (done_at n) (home all n)
+    next =
+        ap (fold (with_first (equal_groups all)) []) (map-range_with_len_more (home all) 0 n n (omega arith))
+        ∙ fold_push (with_first (equal_groups all)) [] (map (home all) (range_with_len 0 n)) (home all n)
+
+    by : (c : Bool) → is_met (done_at n) (home all n) ≡ c → Q (if c then done_at n else done_at n ++ home all n ∷ [])
+        (fold (take_group all) none_taken (if c then done_at n else done_at n ++ home all n ∷ []))
+    by true e = old e
+    by false e = subst (Q (done_at n ++ home all n ∷ [])) (sym (fold_push (take_group all) none_taken (done_at n) (home all n))) (new e)
+
+  pub through-places : (Q : ℕ → List Home → Taking → Type 0) → Q 0 [] none_taken
+      → ((n : ℕ) → n < size all → Q n (done_at n) (state n) → IsMet (done_at n) n → Q (n + 1) (done_at n) (state n))
+      → ((n : ℕ) → n < size all → Q n (done_at n) (state n) → is_met (done_at n) (home all n) ≡ false
+      → Q (n + 1) (done_at n ++ home all n ∷ []) (take_group all (state n) (home all n)))
+      → (n : ℕ) → n ≤ size all → Q n (done_at n) (state n)
+  through-places Q none old new zero le = none
+  through-places Q none old new (suc n) le =
+      let p = through-places Q none old new n (omega (arith, le)) in
+      let lt : n < size all = omega (arith, le) in
+      let at : n + 1 ≡ suc n = omega arith in
+      subst (λ k. Q k (done_at k) (state k)) at (step-by n (Q (n + 1)) (old n lt p) (new n lt p))
+
+  -- ---- what holds once the types before a place were taken
+
+  pub record Reaches (n : ℕ) (done : List Home) (t : Taking) : Type 0 where
+    -- each type is met whose group starts before the place
+    pub before : (i : ℕ) → i < size all → (home all i).start < n → IsMet done i
+    pub below : (i : ℕ) → i < size all → IsMet done i → t.number i < length t.built.types
+    pub same : (i j : ℕ) → i < size all → j < size all → SameType all all i j → t.number i ≡ t.number j
+    pub told : (i j : ℕ) → i < size all → j < size all → IsMet done i → IsMet done j → t.number i ≡ t.number j → SameType all all i j
+
+  before-next : (n i : ℕ) → i < size all → (home all i).start < n + 1 → ((home all i).start < n) ⊎ (home all i ≡ home all n)
+  before-next n i lt start =
+      elim (cases_eq (home all i).start n) [
+        | inl e ↦ inr (sym (first-home i lt) ∙ ap (home all) e)
+        | inr other ↦ inl (omega (arith, start, other))
       ]
 
-  -- each type before a group that is taken is a copy of one in those before it, and in the end each type is
-  abbrev pub Covers : List Home → List Home → Type 0
-  Covers done [] = (i : ℕ) → i < size all → IsCopy done i
-  Covers done (h ∷ hs) = ((i : ℕ) → i < h.start → IsCopy done i) × Covers (h ∷ done) hs
+  -- the group of a type that none is equal to is taken
+  module _ (done : List Home) (t : Taking) (h : Home) (unmet : is_met done h ≡ false) where
+    abbrev pub after : Taking
+    after = take_group all t h
+
+    abbrev by_test : ℕ → Bool → ℕ
+    by_test i c = if c then length t.built.types + (i - (home all i).start) else t.number i
+
+    pub number-old : (i : ℕ) → IsMet done i → after.number i ≡ t.number i
+    number-old i met =
+        elim (cases_Bool (equal_groups all h (home all i))) [
+          | inl e ↦ absurd (let no : false ≡ true = sym unmet ∙ met-same done h (home all i) (equal-same h i e) ∙ met in cc)
+          | inr e ↦ ap (by_test i) e
+        ]
+
+    pub number-new : (i : ℕ) → IsEqual h i → after.number i ≡ length t.built.types + (i - (home all i).start)
+    number-new i e = ap (by_test i) e
+
+    module _ (n : ℕ) (inside : n < size all) (at : home all n ≡ h) (r : Reaches n done t) where
+      own : home all h.start ≡ h
+      own = ap (λ (g : Home). home all g.start) (sym at) ∙ first-home n inside ∙ at
+
+      own-inside : h.start < size all
+      own-inside = omega (arith, inside, home-start all n, ap (λ (g : Home). g.start) at)
+
+      long : length t.built.types + length h.members ≤ length after.built.types
+      long =
+          let ts = interned_group all after.number h.members in
+          let each : length ts ≡ length h.members = length-map h.members _ in
+          omega (arith, group-long t.built ts, each)
+
+      reaches-new : Reaches (n + 1) (done ++ h ∷ []) after
+      reaches-new = record {
+        before = λ i lt start.
+            elim (before-next n i lt start) [
+              | inl low ↦ met-before done h i (r.before i lt low)
+              | inr e ↦ met-now done h i (equal-home h i (e ∙ at))
+            ];
+        below = λ i lt met.
+            elim (met-either done h i met) [
+              | inl x ↦ omega (arith, number-old i x, r.below i lt x, long)
+              | inr e ↦ omega (arith, number-new i e, (copy h i own-inside own lt e).lt, long)
+            ];
+        same = λ i j lt lt' same.
+            let tests = equal-alike h (home all i) (home all j) (starts-same i j lt lt' same) in
+            λ k. if tests k then length t.built.types + same.0 k else r.same i j lt lt' same k;
+        told = λ i j lt lt' met met' same.
+            elim (met-either done h i met) [
+              | inl x ↦ elim (met-either done h j met') [
+                | inl y ↦ r.told i j lt lt' x y (sym (number-old i x) ∙ same ∙ number-old j y)
+                | inr f ↦ absurd (omega (arith, same, number-old i x, r.below i lt x, number-new j f))
+              ]
+              | inr e ↦ elim (met-either done h j met') [
+                | inl y ↦ absurd (omega (arith, same, number-old j y, r.below j lt' y, number-new i e))
+                | inr f ↦ same-by-starts i j lt lt'
+                    (type-chained all all all (home all i).start h.start (home all j).start (type-turned all all h.start (home all i).start (equal-same h i e))
+                    (equal-same h j f)) (omega (arith, same, number-new i e, number-new j f))
+              ]
+            ];
+      }
+
+  pub reaches : (n : ℕ) → n ≤ size all → Reaches n (done_at n) (state n)
+  reaches =
+      through-places Reaches (record {
+        before = λ i lt start. absurd (omega (arith, start));
+        below = λ i lt met. absurd (let no : false ≡ true = met in cc);
+        same = λ i j lt lt' same. refl;
+        told = λ i j lt lt' met. absurd (let no : false ≡ true = met in cc);
+      })
+      (λ n inside r met. record {
+        before = λ i lt start.
+            elim (before-next n i lt start) [
+              | inl low ↦ r.before i lt low
+              | inr e ↦ subst (λ h. is_met (done_at n) h ≡ true) (sym e) met
+            ];
+        below = r.below;
+        same = r.same;
+        told = r.told;
+      })
+      (λ n inside r unmet. reaches-new (done_at n) (state n) (home all n) unmet n inside refl r)
+
+  -- a type that is met stays so, at its index
+  kept : (k n i : ℕ) → IsMet (done_at n) i → IsMet (done_at (n + k)) i × ((state (n + k)).number i ≡ (state n).number i)
+  kept zero n i met =
+      let at : n ≡ n + 0 = omega arith in
+      subst (λ m. IsMet (done_at m) i × ((state m).number i ≡ (state n).number i)) at (met, refl)
+  kept (suc k) n i met =
+      let p = kept k n i met in
+      let m = n + k in
+      let at : m + 1 ≡ n + suc k = omega arith in
+      subst (λ l. IsMet (done_at l) i × ((state l).number i ≡ (state n).number i)) at
+      (step-by m (λ d t. IsMet d i × (t.number i ≡ (state n).number i)) (λ old. p)
+      (λ unmet. (met-before (done_at m) (home all m) i p.0, number-old (done_at m) (state m) (home all m) unmet i p.0 ∙ p.1)))
+
+  -- the interned index of the type at a place
+  abbrev pub number_in : ℕ → ℕ
+  number_in i = get_or (taken all).declared i 0
+
+  pub reads : (n i : ℕ) → n ≤ size all → i < size all → IsMet (done_at n) i → number_in i ≡ (state n).number i
+  reads n i le lt met =
+      let at : n + (size all - n) ≡ size all = omega (arith, le) in
+      get_or-map-range_with_len (state (size all)).number 0 (size all) i i 0 lt (omega arith)
+      ∙ ap (λ m. (state m).number i) (sym at) ∙ (kept (size all - n) n i met).1
 
   module _ (number : ℕ → ℕ) where
     -- the group as it is interned
@@ -112,357 +322,147 @@ module _ (all : List (Group ℕ ℕ)) where
     abbrev pub IsExactBelow : ℕ → Type 0
     IsExactBelow end = (i j : ℕ) → i < end → j < end → (number i ≡ number j) ↔ SameType all all i j
 
-    -- the first groups were taken, and some come next
-    pub record Taking (b : Taken) (start : ℕ) (gs : List (Group ℕ ℕ)) (done : List Home) : Type 0 where
-      pub sized : start + size gs ≡ size all
-      pub homes : (i : ℕ) → start ≤ i → home all i ≡ home_from start gs i
-      pub near : NameEarlier start gs
-      pub counted : length b.declared ≡ start
-      pub below : (i : ℕ) → i < start → number i < length b.built.types
-      pub exact : IsExactBelow start
-      pub copies : (i : ℕ) → i < start → IsCopy done i
+    -- a type equal to a member of the group that comes next
+    pub next-copy : (b : Built) (h : Home) → Next b h → (done : List Home) (i : ℕ) → i < size all → IsMet (done ++ h ∷ []) i → IsMet done i ⊎ Copy h i
+    next-copy b h x done i lt met =
+        elim (met-either done h i met) [
+          | inl old ↦ inl old
+          | inr e ↦ inr (copy h i (omega (arith, x.some, x.inside)) x.at lt e)
+        ]
 
-    -- all groups were taken
-    pub record Whole (end : Taken) (b : Built) (done hs : List Home) : Type 0 where
+    -- some groups were taken, and others follow
+    pub record Follows (b : Built) (done hs : List Home) : Type 0 where
       pub stand : Stand b hs
       pub covers : Covers done hs
-      pub built : end.built ≡ with_forms b hs
-      pub counted : length end.declared ≡ size all
-      pub below : (i : ℕ) → i < size all → number i < length end.built.types
-      pub exact : IsExactBelow (size all)
+      pub built : (taken all).built ≡ with_forms b hs
 
-    -- ---- one group more
+  -- ---- a group that is taken
 
-    module _ (b : Taken) (start : ℕ) (g : Group ℕ ℕ) (gs : List (Group ℕ ℕ)) (done : List Home) (h : Taking b start (g ∷ gs) done)
-        (some : 0 < length g) where
-      abbrev here : Home
-      here = record { start = start; members = g }
+  module _ (n : ℕ) (inside : n < size all) (unmet : is_met (done_at n) (home all n) ≡ false) where
+    abbrev d : List Home
+    d = done_at n
 
-      pub home-first : home all start ≡ here
-      home-first = h.homes start (omega arith) ∙ in_front start g gs start (omega (arith, some))
+    abbrev t : Taking
+    t = state n
 
-      pub home-member : (p : ℕ) → p < length g → home all (start + p) ≡ here
-      home-member p lt = h.homes (start + p) (omega arith) ∙ in_front start g gs (start + p) (omega (arith, lt))
+    abbrev here : Home
+    here = home all n
 
-      pub ends : start + length g ≤ size all
-      ends = omega (arith, h.sized, size-cons g gs)
+    abbrev later : Taking
+    later = take_group all t here
 
-      pub place-first : start - (home all start).start ≡ 0
-      place-first = ap (λ (x : Home). start - x.start) home-first ∙ omega arith
+    r : Reaches n d t
+    r = reaches n (omega (arith, inside))
 
-      pub place-member : (p : ℕ) → p < length g → (start + p) - (home all (start + p)).start ≡ p
-      place-member p lt = ap (λ (x : Home). (start + p) - x.start) (home-member p lt) ∙ omega arith
+    -- it starts at the place
+    pub starts-here : here.start ≡ n
+    starts-here =
+        elim (cases_lt here.start n) [
+          | inl lt ↦ absurd (let no : false ≡ true = sym unmet ∙ r.before n inside lt in cc)
+          | inr le ↦ omega (arith, le, home-start all n)
+        ]
 
-      -- a type of the group
-      pub record Member (i : ℕ) : Type 0 where
-        pub place : ℕ
-        pub lt : place < length g
-        pub is : i ≡ start + place
+    before-here : (i : ℕ) → i < here.start → (i < size all) × IsMet d i
+    before-here i lt =
+        let lt' : i < size all = omega (arith, lt, starts-here, inside) in
+        (lt', r.before i lt' (omega (arith, lt, starts-here, home-start all i)))
 
-      pub either : (i : ℕ) → i < start + length g → (i < start) ⊎ Member i
-      either i lt =
-          elim (cases_lt i start) [
-            | inl old ↦ inl old
-            | inr low ↦ inr (record { place = i - start; lt = omega (arith, lt, low); is = omega (arith, low) })
-          ]
+    member-here : (i : ℕ) → here.start ≤ i → i < here.start + length here.members → home all i ≡ here
+    member-here i low high = home-again all n i inside (record { from = low; to = high })
 
-      homes-behind : (i : ℕ) → start + length g ≤ i → home all i ≡ home_from (start + length g) gs i
-      homes-behind i le = h.homes i (omega (arith, le)) ∙ behind start g gs i le
+    pub reads-here : (i : ℕ) → i < size all → IsMet (d ++ here ∷ []) i → number_in i ≡ later.number i
+    reads-here i lt =
+        step-by n (λ e s. (IsMet e i → number_in i ≡ s.number i) → IsMet (d ++ here ∷ []) i → number_in i ≡ later.number i)
+        (λ old. absurd (let no : false ≡ true = sym unmet ∙ old in cc)) (λ new same. same) (reads (n + 1) i (omega (arith, inside)) lt)
 
-      sized-behind : start + length g + size gs ≡ size all
-      sized-behind = omega (arith, h.sized, size-cons g gs)
+    -- a type of an equal group has its index by its place
+    pub number-here : (i : ℕ) → i < size all → IsEqual here i → number_in i ≡ length t.built.types + (i - (home all i).start)
+    number-here i lt e = reads-here i lt (met-now d here i e) ∙ number-new d t here unmet i e
 
-      module _ (o : Option ℕ) (reads : (i : ℕ)
-          → number i ≡ get_or (take_groups all (take_group all b start g o) (start + length g) gs).declared i 0) where
-        read-now : (i : ℕ) → i < length (take_group all b start g o).declared → number i ≡ get_or (take_group all b start g o).declared i 0
-        read-now i lt = reads i ∙ read-grown _ _ (grown-all gs (take_group all b start g o) (start + length g)) i lt
+    module _ (near : NameEarlier 0 all) where
+      pub near-here : All (λ i. i < here.start + length here.members) (group_edges (λ i. i) here.members)
+      near-here = near-from all 0 n (omega arith) (omega (arith, inside)) near
 
-        read-before : (i : ℕ) → i < start → number i ≡ get_or b.declared i 0
-        read-before i lt =
-            let x = grown-one b start g o in
-            let long : i < length b.declared = omega (arith, lt, h.counted) in
-            read-now i (omega (arith, long, ap length x.1, length-append b.declared x.0)) ∙ read-grown _ _ x i long
+      pub form-here : interned_group all later.number here.members ≡ form number_in here
+      form-here =
+          let w = home-within all n inside in
+          names-same (kind_at all) (kind_at all) later.number number_in here.members here.members (record {
+            frames = refl;
+            edges = zip-known-itself (λ i. i < here.start + length here.members) _
+                (λ i lt. ap (λ k. name_by (kind_at all) (λ j. k) i) (sym (reads-here i (omega (arith, lt, w.high))
+                (elim (cases_lt i here.start) [
+                  | inl low ↦ met-before d here i (before-here i low).1
+                  | inr high ↦ met-now d here i (equal-home here i (member-here i high lt))
+                ]))))
+                (group_edges (λ i. i) here.members) near-here;
+          })
 
-      -- an earlier group is equal
-      module _ (j : ℕ) (found : Told start 0 start (Some j))
-          (reads : (i : ℕ) → number i ≡ get_or (take_groups all (take_group all b start g (Some j)) (start + length g) gs).declared i 0) where
-        low : j < start
-        low = omega (arith, found.0)
+      next-here : Next number_in t.built here
+      next-here =
+          let w = home-within all n inside in
+          record {
+            some = omega (arith, w.from, w.to);
+            at = first-home n inside;
+            inside = w.high;
+            near = near-here;
+            numbers = λ p lt.
+                let at = member-here (here.start + p) (omega arith) (omega (arith, lt)) in
+                number-here (here.start + p) (omega (arith, lt, w.high)) (equal-home here (here.start + p) at)
+                ∙ ap (λ (h : Home). length t.built.types + (here.start + p - h.start)) at ∙ omega arith;
+            below = λ i lt.
+                let x = before-here i lt in
+                omega (arith, reads n i (omega (arith, inside)) x.0 x.1, r.below i x.0 x.1);
+          }
 
-        inside : j < size all
-        inside = omega (arith, low, ends)
+      follows-here : (hs : List Home) → Follows number_in later.built (d ++ here ∷ []) hs → Follows number_in t.built d (here ∷ hs)
+      follows-here hs x = record {
+        stand = (next-here, subst (λ ts. Stand number_in (with_group t.built ts) hs) form-here x.stand);
+        covers = ((λ i lt. (before-here i lt).1), x.covers);
+        built = x.built ∙ ap (λ ts. with_forms number_in (with_group t.built ts) hs) form-here;
+      }
 
-        starts : (home all j).start ≡ j
-        starts = omega (arith, found.1.0, place-first, home-start all j)
+  -- ---- all groups
 
-        long : length (home all j).members ≡ length g
-        long = groups-long _ (home all j) (home all start) (type-groups all all j start found.1) ∙ ap (λ (x : Home). length x.members) home-first
+  pub record Whole : Type 0 where
+    pub stand : Stand number_in empty (taken_groups all)
+    pub covers : Covers [] (taken_groups all)
+    pub built : (taken all).built ≡ with_forms number_in empty (taken_groups all)
+    pub counted : length (taken all).declared ≡ size all
+    pub below : (i : ℕ) → i < size all → number_in i < length (taken all).built.types
+    pub exact : IsExactBelow number_in (size all)
 
-        before : j + length g ≤ start
-        before =
-            elim (cases_lt start (j + length g)) [
-              | inl lt ↦
-                  let again = home-again all j start inside (record { from = omega (arith, starts, low); to = omega (arith, starts, long, lt) }) in
-                  absurd (omega (arith, low, starts, ap (λ (x : Home). x.start) (sym home-first ∙ again)))
-              | inr le ↦ le
-            ]
+  abbrev Leads : ℕ → List Home → Taking → Type 0
+  Leads n d t = (hs : List Home) → Follows number_in t.built d hs → Follows number_in empty [] (d ++ hs)
 
-        again : (p : ℕ) → p < length g → home all (j + p) ≡ home all j
-        again p lt = home-again all j (j + p) inside (record { from = omega (arith, starts); to = omega (arith, starts, long, lt) })
+  pub whole : NameEarlier 0 all → Whole
+  whole near = record {
+    stand = first.stand;
+    covers = first.covers;
+    built = first.built;
+    counted = length-map-range_with_len (state (size all)).number 0 (size all);
+    below = λ i lt. omega (arith, at i lt, r.below i lt (met i lt));
+    exact = λ i j lt lt'. (
+      (λ e. r.told i j lt lt' (met i lt) (met j lt') (sym (at i lt) ∙ e ∙ at j lt')),
+      (λ e. at i lt ∙ r.same i j lt lt' e ∙ sym (at j lt')),
+    );
+  } where
+    r : Reaches (size all) (done_at (size all)) (state (size all))
+    r = reaches (size all) (omega arith)
 
-        pub same-at : (p : ℕ) → p < length g → SameType all all (start + p) (j + p)
-        same-at p lt =
-            let at : j + p - (home all (j + p)).start ≡ p = ap (λ (x : Home). j + p - x.start) (again p lt) ∙ omega (arith, starts) in
-            type-turned all all (j + p) (start + p)
-            (type-beside all all j start (j + p) (start + p) found.1 (again p lt) (home-member p lt ∙ sym home-first) (at
-            ∙ sym (place-member p lt)))
+    met : (i : ℕ) → i < size all → IsMet (done_at (size all)) i
+    met i lt = r.before i lt (omega (arith, lt, home-start all i))
 
-        pub earlier-member : (p : ℕ) → p < length g → j + p < start
-        earlier-member p lt = omega (arith, lt, before)
+    at : (i : ℕ) → i < size all → number_in i ≡ (state (size all)).number i
+    at i lt = reads (size all) i (omega arith) lt (met i lt)
 
-        counted-met : length (take_group all b start g (Some j)).declared ≡ start + length g
-        counted-met =
-            length-append b.declared (take (length g) (drop j b.declared))
-            ∙ omega (
-              arith,
-              h.counted,
-              before,
-              length-take-le (length g) (drop j b.declared) (omega
-                  (arith, length-drop j b.declared, h.counted, before)),
-            )
+    leads : Leads (size all) (done_at (size all)) (state (size all))
+    leads =
+        through-places Leads (λ hs x. x) (λ n lt p old. p)
+        (λ n lt p unmet hs x. subst (Follows number_in empty []) (sym (append_assoc (done_at n) (home all n ∷ []) hs))
+        (p (home all n ∷ hs) (follows-here n lt unmet near hs x)))
+        (size all) (omega arith)
 
-        pub number-met : (p : ℕ) → p < length g → number (start + p) ≡ number (j + p)
-        number-met p lt =
-            let part = take (length g) (drop j b.declared) in
-            let at : start + p ≡ length b.declared + p = omega (arith, h.counted) in
-            read-now (Some j) reads (start + p) (omega (arith, lt, counted-met))
-            ∙ ap (λ i. get_or (b.declared ++ part) i 0) at
-            ∙ get_or-append-add b.declared part p 0 ∙ get_or-take (length g) (drop j b.declared) p 0 lt ∙ get_or-drop j b.declared p 0
-            ∙ sym (read-before (Some j) reads (j + p) (omega (arith, lt, before)))
-
-        -- a type before the group, of which a type is a copy
-        pub record Earlier (i : ℕ) : Type 0 where
-          pub one : ℕ
-          pub lt : one < start
-          pub number_is : number i ≡ number one
-          pub same : SameType all all i one
-
-        earlier : (i : ℕ) → i < start + length g → Earlier i
-        earlier i lt =
-            elim (either i lt) [
-              | inl old ↦ record { one = i; lt = old; number_is = refl; same = type-itself all i }
-              | inr m ↦ record {
-                one = j + m.place;
-                lt = omega (arith, m.lt, before);
-                number_is = ap number m.is ∙ number-met m.place m.lt;
-                same = subst (λ k. SameType all all k (j + m.place)) (sym m.is) (same-at m.place m.lt);
-              }
-            ]
-
-        exact-met : IsExactBelow (start + length g)
-        exact-met i k hi hk =
-            let x = earlier i hi in
-            let y = earlier k hk in
-            let e = h.exact x.one y.one x.lt y.lt in (
-              (λ same. type-chained all all all i x.one k x.same
-                  (type-chained all all all x.one y.one k (e.0 (sym x.number_is ∙ same ∙ y.number_is)) (type-turned all all k y.one y.same))),
-              (λ same. x.number_is
-                  ∙ e.1 (type-chained all all all x.one i y.one (type-turned all all i x.one x.same) (type-chained all all all i k y.one same y.same))
-                  ∙ sym y.number_is),
-            )
-
-        pub taking-met : Taking (take_group all b start g (Some j)) (start + length g) gs done
-        taking-met = record {
-          sized = sized-behind;
-          homes = homes-behind;
-          near = h.near.1;
-          counted = counted-met;
-          below = λ i lt. let x = earlier i lt in omega (arith, x.number_is, h.below x.one x.lt);
-          exact = exact-met;
-          copies = λ i lt. let x = earlier i lt in copy-again done i x.one x.same (h.copies x.one x.lt);
-        }
-
-      -- the group is new
-      module _ (none : Told start 0 start None)
-          (reads : (i : ℕ) → number i ≡ get_or (take_groups all (take_group all b start g None) (start + length g) gs).declared i 0) where
-        abbrev first : ℕ
-        first = length b.built.types
-
-        counted-new : length (take_group all b start g None).declared ≡ start + length g
-        counted-new = length-append b.declared (range_with_len first (length g)) ∙ omega (arith, h.counted, length-range_with_len first (length g))
-
-        pub number-new : (p : ℕ) → p < length g → number (start + p) ≡ first + p
-        number-new p lt =
-            let at : start + p ≡ length b.declared + p = omega (arith, h.counted) in
-            read-now None reads (start + p) (omega (arith, lt, counted-new))
-            ∙ ap (λ i. get_or (b.declared ++ range_with_len first (length g)) i 0) at
-            ∙ get_or-append-add b.declared (range_with_len first (length g)) p 0 ∙ get_or-range_with_len first (length g) p 0 lt
-
-        pub form-new : interned_group all b.declared start first g ≡ form here
-        form-new =
-            names-same (kind_at all) (kind_at all) (name all b.declared start first) number g g (record {
-              frames = refl;
-              edges = zip-known-itself (λ r. r < start + length g) _ (λ r lt. ap (λ n. name_by (kind_at all) (λ i. n) r) (by r lt
-                  (nat_lt r start) refl))
-                  (group_edges (λ r. r) g) h.near.0;
-            }) where
-              by : (r : ℕ) → r < start + length g → (c : Bool) → nat_lt r start ≡ c
-                  → (if c then get_or b.declared r 0 else first + (r - start)) ≡ number r
-              by r lt true e = sym (read-before None reads r (ltb-true r start e))
-              by r lt false e =
-                  let low = ltb-false r start e in
-                  let at : start + (r - start) ≡ r = omega (arith, low) in
-                  sym (number-new (r - start) (omega (arith, lt, low))) ∙ ap number at
-
-        apart : (i p : ℕ) → i < start → p < length g → SameType all all i (start + p) → ⊥
-        apart i p lt lt' same =
-            let j = (home all i).start in
-            let w = home-within all i (omega (arith, lt, ends)) in
-            let again = home-again all i j (omega (arith, lt, ends)) (record { from = omega arith; to = omega (arith, w.from, w.to) }) in
-            let at : j - (home all j).start ≡ 0 = ap (λ (x : Home). j - x.start) again ∙ omega arith in
-            none j (omega arith) (omega (arith, w.from, lt))
-            (type-beside all all i (start + p) j start same again (home-first ∙ sym (home-member p lt')) (at ∙ sym place-first))
-
-        exact-new : IsExactBelow (start + length g)
-        exact-new i k hi hk =
-            elim (either i hi) [
-              | inl old ↦ elim (either k hk) [
-                | inl old' ↦ h.exact i k old old'
-                | inr m ↦ (
-                  (λ same. absurd (omega (arith, h.below i old, same, ap number m.is, number-new m.place m.lt))),
-                  (λ same. absurd (apart i m.place old m.lt (subst (λ x. SameType all all i x) m.is same))),
-                )
-              ]
-              | inr m ↦ elim (either k hk) [
-                | inl old ↦ (
-                  (λ same. absurd (omega (arith, h.below k old, same, ap number m.is, number-new m.place m.lt))),
-                  (λ same. absurd (apart k m.place old m.lt (subst (λ x. SameType all all k x) m.is (type-turned all all i k same)))),
-                )
-                | inr n ↦ (
-                  (λ same.
-                      let one : i ≡ k = omega
-                      (arith, m.is, n.is, same, ap number m.is, ap number n.is, number-new m.place m.lt, number-new n.place n.lt) in
-                      subst (λ x. SameType all all i x) one (type-itself all i)),
-                  (λ same.
-                      let moved : SameType all all (start + m.place) (start + n.place) = coe 0 1 (t. SameType all all (m.is t) (n.is t)) same in
-                      let one : m.place ≡ n.place = sym (place-member m.place m.lt) ∙ moved.0 ∙ place-member n.place n.lt in
-                      ap number (omega (arith, m.is, n.is, one))),
-                )
-              ]
-            ]
-
-        next-new : Next b.built here
-        next-new = record {
-          some = some;
-          at = home-first;
-          inside = ends;
-          near = h.near.0;
-          numbers = number-new;
-          below = h.below;
-        }
-
-        pub taking-new : Taking (take_group all b start g None) (start + length g) gs (here ∷ done)
-        taking-new = record {
-          sized = sized-behind;
-          homes = homes-behind;
-          near = h.near.1;
-          counted = counted-new;
-          below = λ i lt.
-              elim (either i lt) [
-                | inl old ↦ omega (arith, h.below i old, group-long b.built (interned_group all b.declared start first g))
-                | inr m ↦ omega (
-                  arith,
-                  ap number m.is,
-                  number-new m.place m.lt,
-                  m.lt,
-                  group-long b.built
-                      (interned_group all b.declared start first g),
-                  length-map g (map_sub_type (name_by (kind_at all)
-                      (name all b.declared start first)) (name all b.declared start first)),
-                )
-              ];
-          exact = exact-new;
-          copies = λ i lt.
-              elim (either i lt) [
-                | inl old ↦ inr (h.copies i old)
-                | inr m ↦ inl (record {
-                  member = m.place;
-                  lt = m.lt;
-                  same = subst (λ k. SameType all all k (start + m.place)) (sym m.is)
-                      (type-itself all (start + m.place));
-                })
-              ];
-        }
-
-        -- what follows the group's interned form
-        whole-new : (end : Taken) (hs : List Home) → Whole end (take_group all b start g None).built (here ∷ done) hs
-            → Whole end b.built done (here ∷ hs)
-        whole-new end hs w = record {
-          stand = (next-new, subst (λ ts. Stand (with_group b.built ts) hs) form-new w.stand);
-          covers = (h.copies, w.covers);
-          built = w.built ∙ ap (λ ts. with_forms (with_group b.built ts) hs) form-new;
-          counted = w.counted;
-          below = w.below;
-          exact = w.exact;
-        }
-
-      whole-by : ((b' : Taken) (done' : List Home) → ((i : ℕ) → number i ≡ get_or (take_groups all b' (start + length g) gs).declared i 0)
-          → Taking b' (start + length g) gs done'
-          → Whole (take_groups all b' (start + length g) gs) b'.built done' (new_groups all (start + length g) gs))
-          → (o : Option ℕ) → Told start 0 start o
-          → ((i : ℕ) → number i ≡ get_or (take_groups all (take_group all b start g o) (start + length g) gs).declared i 0)
-          → Whole (take_groups all (take_group all b start g o) (start + length g) gs) b.built done (unless_met start g o (new_groups all
-          (start + length g) gs))
-      whole-by rest (Some j) e reads = rest (take_group all b start g (Some j)) done reads (taking-met j e reads)
-      whole-by rest None e reads =
-          whole-new e reads _ _ (rest (take_group all b start g None) (here ∷ done) reads (taking-new e reads))
-
-    -- a group without types changes nothing
-    pub taking-hollow : (b : Taken) (start : ℕ) (gs : List (Group ℕ ℕ)) (done : List Home) → Taking b start ([] ∷ gs) done → Taking b start gs done
-    taking-hollow b start gs done h =
-        let same : start + 0 ≡ start = omega arith in
-        record {
-          sized = h.sized;
-          homes = λ i le. h.homes i le ∙ behind start [] gs i (omega (arith, le)) ∙ ap (λ s. home_from s gs i) same;
-          near = subst (λ s. NameEarlier s gs) same h.near.1;
-          counted = h.counted;
-          below = h.below;
-          exact = h.exact;
-          copies = h.copies;
-        }
-
-    whole-from : (gs : List (Group ℕ ℕ)) (b : Taken) (start : ℕ) (done : List Home)
-        → ((i : ℕ) → number i ≡ get_or (take_groups all b start gs).declared i 0) → Taking b start gs done
-        → Whole (take_groups all b start gs) b.built done (new_groups all start gs)
-    whole-from [] b start done reads h =
-        let end : start ≡ size all = omega (arith, h.sized) in
-        record {
-          stand = tt;
-          covers = λ i lt. h.copies i (omega (arith, lt, end));
-          built = refl;
-          counted = h.counted ∙ end;
-          below = λ i lt. h.below i (omega (arith, lt, end));
-          exact = subst (λ n. IsExactBelow n) end h.exact;
-        }
-    whole-from ([] ∷ gs) b start done reads h = whole-from gs b start done reads (taking-hollow b start gs done h)
-    whole-from ((t ∷ ts) ∷ gs) b start done reads h =
-        whole-by b start (t ∷ ts) gs done h (omega arith) (λ b' done' reads' h'. whole-from gs b' (start + length (t ∷ ts)) done' reads' h')
-        (first_equal all start 0 start) (told start 0 start) reads
-
-  -- the interned index of the type at a place
-  abbrev pub number_in : ℕ → ℕ
-  number_in i = get_or (taken all).declared i 0
-
-  pub starting : NameEarlier 0 all → Taking number_in none_taken 0 all []
-  starting near = record {
-    sized = omega arith;
-    homes = λ i le. refl;
-    near = near;
-    counted = refl;
-    below = λ i lt. absurd (omega (arith, lt));
-    exact = λ i j h k. absurd (omega (arith, h));
-    copies = λ i lt. absurd (omega (arith, lt));
-  }
-
-  pub whole : NameEarlier 0 all → Whole number_in (taken all) empty [] (taken_groups all)
-  whole near = whole-from number_in all none_taken 0 [] (λ i. refl) (starting near)
+    first : Follows number_in empty [] (taken_groups all)
+    first =
+        subst (Follows number_in empty []) (append-nil (taken_groups all))
+        (leads [] (record { stand = tt; covers = met; built = refl }))

@@ -1,12 +1,13 @@
 -- What the references of a group become that names types by ids: inside the group the next index plus the place, outside the index of an
 -- interned type.
-use Rattle.std.specs.Prelude.{◌≡◌, ◌<◌, ◌⊎◌, ℕ, zero, suc, ◌+◌, ◌-◌, get_or, List, [], ◌∷◌, All, length, slice_get, Option, Some, None, IsSome}
+use Rattle.std.specs.Prelude.{◌≡◌, ◌<◌, ◌⊎◌, ℕ, ◌+◌, ◌-◌, get_or, List, [], All, length, slice_get, Option, Some, None, IsSome}
 use Rattle.wasm_spec.specs.declared.types.UnpackedIndex.{UnpackedIndex}
 use Rattle.wasm_spec.specs.declared.types.UnpackedIndex.TheVariants as index
 use Rattle.wasm_spec.specs.TypeData.{SubType, map_group, group_edges}
 use Rattle.type_data.specs.Names.{NameKind, FuncName, Named, named}
 use Rattle.type_spec.specs.Interned.{Interned, Span, kind_of_type}
 use Rattle.form_types.specs.Types.{NamedGroup, TypesData, types_by_id, group_numbers}
+use Rattle.form_types.specs.Numbered.{first_id}
 use Rattle.wasm_types.specs.ValueViews.{Name}
 use Rattle.module_types.specs.Views.{index_at}
 use Rattle.module_types.specs.Builder.{Builder}
@@ -14,12 +15,6 @@ use Rattle.module_types.specs.Builder.{Builder}
 abbrev pub id_number : UnpackedIndex → ℕ
 id_number (index.Id i) = i.0
 id_number _ = 0
-
--- the id of the first member of a group
-abbrev pub first_id : List NamedGroup → ℕ → ℕ
-first_id [] k = 0
-first_id (g ∷ gs) zero = 0
-first_id (g ∷ gs) (suc k) = length g + first_id gs k
 
 -- the kind of a type, if there is one
 abbrev pub kind_in : Option (SubType UnpackedIndex UnpackedIndex) → NameKind

@@ -1,5 +1,6 @@
 -- The declared groups of a module, interned in turn.
-use Rattle.std.specs.Prelude.{◌≡◌, ◌<◌, ℕ, ◌+◌, List, [], ◌∷◌, length, get_or, slice_index}
+use Rattle.std.specs.Prelude.{◌≡◌, ◌<◌, ℕ, List, length, get_or, take, drop, slice_index}
+use Rattle.std.specs.List.{fold, flat_map}
 use Rattle.wasm_spec.specs.TypeData.{Group}
 use Rattle.type_spec.specs.Interned.{Taken}
 use Rattle.form_types.specs.Types.{TypesData}
@@ -10,11 +11,9 @@ use Rattle.module_types.specs.Conversion.{group_of_id, members_of, interned_memb
 abbrev pub interns_type : TypesData → Builder → ℕ → Builder
 interns_type t b n = interns b (group_of_id t n) (interned_members t b (group_of_id t n))
 
--- the groups that have types are interned in turn, where the first starts at a place
+-- the types of some groups are interned in turn, where the first of them is the declared type at a place
 abbrev pub interns_declared : TypesData → Builder → ℕ → List (Group ℕ ℕ) → Builder
-interns_declared t b start [] = b
-interns_declared t b start ([] ∷ gs) = interns_declared t b start gs
-interns_declared t b start ((x ∷ xs) ∷ gs) = interns_declared t (interns_type t b (slice_index t.declared start)) (start + length (x ∷ xs)) gs
+interns_declared t b start gs = fold (interns_type t) b (take (length (flat_map (λ g. g) gs)) (drop start t.declared))
 
 -- a builder holds what the definition takes, and each declared type at the index that the definition gives it
 pub record HasTaken (t : TypesData) (b : Builder) (s : Taken) : Type 0 where

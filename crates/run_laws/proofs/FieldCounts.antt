@@ -2,17 +2,14 @@
 use Rattle.std.proofs.Common.{◌≡◌, ◌∙◌, ◌<◌, ◌≤◌, ℕ, zero, suc, ◌+◌, ◌-◌, Bool, true, false, List, [], ◌∷◌, ◌++◌, length, take, drop, get_or, map, refl, sym, ap, arith}
 use Rattle.std.specs.Prelude.{slice_get, unwrap_or, option_and_then}
 use Rattle.std.specs.Option.{option_map}
-use Rattle.std.proofs.lemmas.List.{length-map, length_push, get_or-map, map-append, take-append-drop, drop-drop}
-use Rattle.std.proofs.Math.ListN.{drop_of_length-le}
-use Rattle.std.proofs.lemmas.Bool.{cases_Bool}
+use Rattle.std.proofs.lemmas.List.{length-map, get_or-map}
 use Rattle.wasm_spec.specs.declared.types.UnpackedIndex.{UnpackedIndex}
 use Rattle.wasm_spec.specs.TypeData.{Composite, Func, Array, Struct, Cont, Exn, SubType, Group, map_composite, map_sub_type, map_group}
 use Rattle.wasm_spec.specs.Module as plain
 use Rattle.type_data.specs.Shapes.{erased}
 use Rattle.type_data.specs.Names.{index_of}
 use Rattle.type_spec.specs.Equality.{home, SameType}
-use Rattle.type_spec.specs.Interned.{Interned, Span, Built, exception_for, composite_at, is_among, with_exception, with_exceptions, startup_type, with_startup, taken, interned}
-use Rattle.type_spec.specs.Interned.{plain as alone_type}
+use Rattle.type_spec.specs.Interned.{Interned, Built, startup_type, taken, interned}
 use Rattle.type_spec.specs.Taken.{NameEarlier}
 use Rattle.type_spec.proofs.Equivalence.{type-groups}
 use Rattle.type_spec.proofs.Homes.{joined, size, home-within, home-type}
@@ -26,14 +23,13 @@ use Rattle.wasm_types.specs.declared.composite.WasmCompositeInnerType.TheVariant
 use Rattle.wasm_types.specs.declared.sub.WasmSubType.{WasmSubType}
 use Rattle.wasm_types.specs.TypeViews.{struct_of}
 use Rattle.wasm_types.specs.Views.{struct_in}
-use Rattle.module_types.specs.ListGroups.{unkinded, types_in, list_groups}
-use Rattle.module_types.specs.Orderly.{LieBetween}
+use Rattle.module_types.specs.ListGroups.{list_groups}
 use Rattle.module_types.specs.Views.{interned_of}
-use Rattle.module_types.proofs.WellNamed.{groups_of}
+use Rattle.module_types.proofs.GroupMembers.{extends-long, extends-interned}
 use Rattle.module_types.proofs.Taking.{number_in, whole}
 use Rattle.module_types.proofs.NamedLists.{well-named}
 use Rattle.module_types.proofs.SameIndex.{same-index}
-use Rattle.module_types.proofs.Standing.{list-size}
+use Rattle.module_types.proofs.Standing.{joined-from, list-size}
 use Rattle.init_plan.specs.Agreement.{fields_of}
 use Rattle.plan_run.specs.Fields.{length_or_zero}
 
@@ -80,31 +76,6 @@ same-fields ms ns i j h k same =
 
 -- ---- an interned list
 
--- the groups of a list are its types
-joined-from : (ts : List Interned) (ss : List Span) (first : ℕ) → LieBetween first ss (length ts) → joined (groups_of ts ss) ≡ unkinded (drop first ts)
-joined-from ts [] first lie = ap unkinded (sym (drop_of_length-le ts (omega (arith, lie))))
-joined-from ts (s ∷ ss) first lie =
-    let n = s.end - s.start in
-    let at : s.start + n ≡ s.end = omega (arith, lie.1) in
-    ap (λ l. unkinded (types_in ts s) ++ l) (joined-from ts ss s.end lie.2 ∙ ap (λ k. unkinded (drop k ts)) (sym at)
-    ∙ ap unkinded (sym (drop-drop n s.start ts)))
-    ∙ sym (map-append (map_sub_type (index_of {R = ℕ}) (λ (r : ℕ). r)) (take n (drop s.start ts)) (drop n (drop s.start ts)))
-    ∙ ap unkinded (take-append-drop n (drop s.start ts)) ∙ ap (λ k. unkinded (drop k ts)) lie.0
-
--- the list holds all that was made of the groups
-grown-exceptions : (is : List ℕ) (b : Built) (done : List ℕ) → length b.types ≤ length (with_exceptions b done is).types
-grown-exceptions [] b done = omega arith
-grown-exceptions (i ∷ is) b done =
-    let had = grown-exceptions is b done in
-    let new = grown-exceptions is (with_exception b i) (i ∷ done) in
-    let more = length_push b.types (alone_type (exception_for i (composite_at b.types i))) in
-    let there = cases_Bool (is_among i done) in
-    grind arith
-
-grown-startup : (b : Built) (startup : Bool) → length b.types ≤ length (with_startup b startup).types
-grown-startup b false = omega arith
-grown-startup b true = omega (arith, length_push b.types startup_type)
-
 module _ (gs : List (Group ℕ ℕ)) (near : NameEarlier 0 gs) (tags : List ℕ) (startup : Bool) (i : ℕ) (lt : i < length (taken gs).declared) where
   abbrev list : Built
   list = interned gs tags startup
@@ -115,10 +86,7 @@ module _ (gs : List (Group ℕ ℕ)) (near : NameEarlier 0 gs) (tags : List ℕ)
   -- the index of a declared type is one of the list
   pub declared-below : number_in gs i < length list.types
   declared-below =
-      let functions = map (λ j. get_or (taken gs).declared j 0) tags in
-      let below = (whole gs near).below i inside in
-      let grown = grown-exceptions functions (taken gs).built [] in
-      omega (arith, below, grown, grown-startup (with_exceptions (taken gs).built [] functions) startup)
+      omega (arith, (whole gs near).below i inside, extends-long (taken gs).built list (extends-interned gs tags startup))
 
   -- the type at the index of a declared type has its fields
   pub declared-fields : fields_at list.types (number_in gs i) startup_type ≡ fields_at (joined gs) i some_type

@@ -1,39 +1,27 @@
 -- A well named list may be registered.
 use Rattle.std.proofs.Common.{◌≡◌, ◌∙◌, ◌<◌, ◌≤◌, ℕ, ◌+◌, ◌-◌, List, [], ◌∷◌, ◌++◌, length, take, drop, map, refl, sym, ap, subst, arith}
 use Rattle.std.specs.List.{All}
-use Rattle.std.proofs.lemmas.List.{map-append, take-append-drop, drop-drop, length-map}
+use Rattle.std.proofs.lemmas.List.{length-map}
 use Rattle.std.proofs.lemmas.List.Elements.{All-nil, All-append, All-weaker, All-head, All-tail}
 use Rattle.std.proofs.lemmas.Grind.{flat_map-append}
-use Rattle.std.proofs.Math.ListN.{drop_of_length-le}
 use Rattle.wasm_spec.specs.TypeData.{Group, map_sub_type, map_group, sub_type_edges, group_edges}
 use Rattle.type_data.specs.ListLaws.{map-twice}
 use Rattle.type_data.specs.Shapes.{erased}
 use Rattle.type_data.specs.TypeShapes.{group_shape}
 use Rattle.type_data.specs.Names.{named, named-tells, index_of as index_in}
-use Rattle.type_spec.specs.Interned.{Interned, Span}
+use Rattle.type_spec.specs.Interned.{Interned}
 use Rattle.type_spec.specs.Taken.{NameEarlier}
 use Rattle.type_spec.proofs.Homes.{joined, size, size-cons}
 use Rattle.wasm_types.specs.declared.index.EngineOrModuleTypeIndex.{EngineOrModuleTypeIndex}
 use Rattle.wasm_types.specs.declared.index.EngineOrModuleTypeIndex.TheVariants as index
 use Rattle.wasm_types.specs.ValueViews.{Name}
 use Rattle.wasm_types.specs.TypeViews.{sub_type_of, group_of}
-use Rattle.module_types.specs.Orderly.{LieBetween}
 use Rattle.module_types.specs.Views.{index_at, interned_number, interned_of}
 use Rattle.module_types.specs.TypeList.{TypeList}
-use Rattle.module_types.specs.ListGroups.{unkinded, types_in, list_groups, IsWellNamed}
-use Rattle.module_types.proofs.WellNamed.{AllBelow, groups_of}
+use Rattle.module_types.specs.ListGroups.{unkinded, list_groups, IsWellNamed}
+use Rattle.module_types.proofs.WellNamed.{AllBelow}
+use Rattle.module_types.proofs.Standing.{joined-from}
 use Rattle.type_registry.specs.Listed.{Listed, list_of}
-
--- the groups of a list are its types
-joined-from : (ts : List Interned) (ss : List Span) (first : ℕ) → LieBetween first ss (length ts) → joined (groups_of ts ss) ≡ unkinded (drop first ts)
-joined-from ts [] first lie = ap unkinded (sym (drop_of_length-le ts (omega (arith, lie))))
-joined-from ts (s ∷ ss) first lie =
-    let n = s.end - s.start in
-    let at : s.start + n ≡ s.end = omega (arith, lie.1) in
-    ap (λ l. unkinded (types_in ts s) ++ l) (joined-from ts ss s.end lie.2 ∙ ap (λ k. unkinded (drop k ts)) (sym at)
-    ∙ ap unkinded (sym (drop-drop n s.start ts)))
-    ∙ sym (map-append (map_sub_type (index_in {R = ℕ}) (λ (r : ℕ). r)) (take n (drop s.start ts)) (drop n (drop s.start ts)))
-    ∙ ap unkinded (take-append-drop n (drop s.start ts)) ∙ ap (λ k. unkinded (drop k ts)) lie.0
 
 -- references to earlier types are below the end
 earlier-below : (gs : List (Group ℕ ℕ)) (start n : ℕ) → NameEarlier start gs → start + size gs ≤ n → AllBelow n (joined gs)

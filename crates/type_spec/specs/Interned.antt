@@ -1,14 +1,15 @@
 -- The interned list of a module: each group of types (core specification, 2.3, recursive types) once with its trampolines, then the
 -- exception types and the startup type.
-use Rattle.std.specs.Prelude.{ℕ, zero, suc, ◌+◌, ◌-◌, get_or, Bool, true, false, nat_lt, List, [], ◌∷◌, ◌++◌, length, map, take, drop, replicate, set, Option, Some, None, if◌then◌else◌}
-use Rattle.std.specs.List.{range_with_len}
+use Rattle.std.specs.Prelude.{ℕ, zero, suc, ◌+◌, ◌-◌, get_or, Bool, true, false, nat_lt, List, [], ◌∷◌, ◌++◌, length, map, replicate, set, Option, Some, None, if◌then◌else◌}
+use Rattle.std.specs.List.{fold}
 use Rattle.wasm_spec.specs.declared.types.AbstractHeapType.{AbstractHeapType}
 use Rattle.wasm_spec.specs.declared.types.AbstractHeapType.TheVariants as heap
 use Rattle.wasm_spec.specs.TypeData.{Heap, Concrete, Abstract, Value, Ref, Val, Field, Function, Composite, Func, Array, Struct, Cont, Exn, SubType, Group, map_function, map_group}
 use Rattle.type_data.specs.Shapes.{erased}
 use Rattle.type_data.specs.Names.{NameKind, FuncName, ArrayName, StructName, ContName, ExnName, Named}
 use Rattle.type_spec.specs.Same.{same_function}
-use Rattle.type_spec.specs.Equality.{same_type}
+use Rattle.type_spec.specs.Equality.{Home, home}
+use Rattle.type_spec.specs.Firsts.{places, equal_groups, taken_groups}
 
 abbrev pub Interned : Type 0
 Interned = SubType (Named ℕ) ℕ
@@ -147,44 +148,34 @@ pub record Taken : Type 0 where
   pub built : Built
   pub declared : List ℕ
 
-abbrev pub none_taken : Taken
-none_taken = record { built = empty; declared = [] }
+-- while groups are taken: what was built, and the interned index of the type at each place
+pub record Taking : Type 0 where
+  pub built : Built
+  pub number : ℕ → ℕ
+
+abbrev pub none_taken : Taking
+none_taken = record { built = empty; number = λ i. 0 }
 
 module _ (all : List (Group ℕ ℕ)) where
-  -- the first of some places from `j` on whose type is equal to that at the place `i`
-  abbrev pub first_equal : ℕ → ℕ → ℕ → Option ℕ
-  first_equal i j zero = None
-  first_equal i j (suc n) = if same_type all all j i then Some j else first_equal i (suc j) n
-
-  -- the interned index of the type at a place, in a group that starts at `start` and becomes that from `first` on
-  abbrev pub name : List ℕ → ℕ → ℕ → ℕ → ℕ
-  name declared start first i = if nat_lt i start then get_or declared i 0 else first + (i - start)
+  -- the types of a group, and of each that is equal to it, get indices in a row
+  abbrev pub numbered : (ℕ → ℕ) → Home → ℕ → ℕ → ℕ
+  numbered number g first i = if equal_groups all g (home all i) then first + (i - (home all i).start) else number i
 
   -- each reference becomes the interned index of what it names
-  abbrev pub interned_group : List ℕ → ℕ → ℕ → Group ℕ ℕ → List Interned
-  interned_group declared start first g =
-      map_group (λ i. record { kind = kind_at all i; index = name declared start first i }) (name declared start first) g
+  abbrev pub interned_group : (ℕ → ℕ) → Group ℕ ℕ → List Interned
+  interned_group number g = map_group (λ i. record { kind = kind_at all i; index = number i }) number g
 
-  -- a group that starts at a place: equal to an earlier one, or new
-  abbrev pub take_group : Taken → ℕ → Group ℕ ℕ → Option ℕ → Taken
-  take_group b start g (Some j) = record b { declared = b.declared ++ take (length g) (drop j b.declared) }
-  take_group b start g None =
-      let first = length b.built.types in
-      record {
-        built = with_group b.built (interned_group b.declared start first g);
-        declared = b.declared ++ range_with_len first (length g);
-      }
-
-  -- groups in order; an empty one is left out
-  abbrev pub take_groups : Taken → ℕ → List (Group ℕ ℕ) → Taken
-  take_groups b start [] = b
-  take_groups b start ([] ∷ gs) = take_groups b start gs
-  take_groups b start ((t ∷ ts) ∷ gs) =
-      take_groups (take_group b start (t ∷ ts) (first_equal start 0 start)) (start + length (t ∷ ts)) gs
+  -- a group comes next
+  abbrev pub take_group : Taking → Home → Taking
+  take_group t g =
+      let number = numbered t.number g (length t.built.types) in
+      record { built = with_group t.built (interned_group number g.members); number = number }
 
 -- a module's groups
 abbrev pub taken : List (Group ℕ ℕ) → Taken
-taken groups = take_groups groups none_taken 0 groups
+taken groups =
+    let t = fold (take_group groups) none_taken (taken_groups groups) in
+    record { built = t.built; declared = map t.number (places groups) }
 
 -- ---- exception types, and the startup type
 
