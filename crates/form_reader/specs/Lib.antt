@@ -1,5 +1,4 @@
 pub mod Agrees
-pub mod EntryRows
 pub mod ExpressionLaws
 pub mod ExpressionRows
 pub mod Input

@@ -5,7 +5,7 @@ ghost use Rattle.wasm_spec.specs.Module as plain;
 ghost use Rattle.form_data.specs.Views.{element_kind_of, element_of};
 ghost use Rattle.form_reader.specs.Reading.{Reads};
 ghost use Rattle.form_reader.specs.Rooms.{IsEmpty};
-ghost use Rattle.form_reader.specs.EntryRows.{functions_as, expressions_as, after_function_kind, active_in, active_in_named, flagged_element, element_segment};
+ghost use Rattle.form_reader.specs.SectionRows.{functions_as, expressions_as, after_function_kind, active_in, active_in_named, flagged_element, element_segment};
 
 use crate::cursor::Cursor;
 use crate::error::ReadError;
@@ -33,7 +33,7 @@ impl<'d> Entry<'d> for Element {
 
     ghost view = { element_of };
 
-    #[tactic(auto, unfolding(crate::specs::EntryRows::element_segment))]
+    #[tactic(auto, unfolding(crate::specs::SectionRows::element_segment))]
     fn read(alloc: Global, cursor: &mut Cursor<'d>) -> Result<Element, ReadError> {
         let flag = cursor.u32()?;
         cursor.flagged_element(alloc, flag, Room::new(alloc))
@@ -91,7 +91,7 @@ pub fn no_element(alloc: Global) -> Element {
 
 impl<'d> Cursor<'d> {
     /// An element segment, in the place of one that is no longer asked for, whose lists are used again.
-    #[tactic(auto, unfolding(crate::specs::EntryRows::element_segment))]
+    #[tactic(auto, unfolding(crate::specs::SectionRows::element_segment))]
     pub(crate) fn element_into(
         &mut self,
         alloc: Global,
@@ -106,7 +106,7 @@ impl<'d> Cursor<'d> {
     }
 
     /// Items that are functions, by their indices.
-    #[tactic(auto, unfolding(crate::specs::EntryRows::functions_as))]
+    #[tactic(auto, unfolding(crate::specs::SectionRows::functions_as))]
     fn functions(
         &mut self,
         alloc: Global,
@@ -138,7 +138,7 @@ impl<'d> Cursor<'d> {
     }
 
     /// Items of a type, by expressions.
-    #[tactic(auto, unfolding(crate::specs::EntryRows::expressions_as))]
+    #[tactic(auto, unfolding(crate::specs::SectionRows::expressions_as))]
     fn typed_expressions(
         &mut self,
         alloc: Global,
@@ -153,7 +153,7 @@ impl<'d> Cursor<'d> {
     }
 
     /// The offset of a segment that is written to a table.
-    #[tactic(auto, unfolding(crate::specs::EntryRows::active_in))]
+    #[tactic(auto, unfolding(crate::specs::SectionRows::active_in))]
     fn active(
         &mut self,
         table_index: Option<u32>,
@@ -170,7 +170,7 @@ impl<'d> Cursor<'d> {
     }
 
     /// The table and the offset of a segment that is written to it.
-    #[tactic(auto, unfolding(crate::specs::EntryRows::active_in_named))]
+    #[tactic(auto, unfolding(crate::specs::SectionRows::active_in_named))]
     fn active_in_table(&mut self, ops: Vec<Operator>) -> Result<ElementKind, ReadError>
         requires { ops.items ≡ [] }
         ensures { Reads active_in_named.read element_kind_of self.old.rest.now self.new.rest.now result }
@@ -180,7 +180,7 @@ impl<'d> Cursor<'d> {
     }
 
     /// An element segment, after its flag.
-    #[tactic(auto, unfolding(crate::specs::EntryRows::flagged_element))]
+    #[tactic(auto, unfolding(crate::specs::SectionRows::flagged_element))]
     fn flagged_element(
         &mut self,
         alloc: Global,
