@@ -3,12 +3,12 @@ use Rattle.std.proofs.Common.{◌≡◌, ℕ, zero, suc, ◌≤◌, List, [], �
 use Rattle.std.specs.Prelude.{◌==◌, ◌&&◌}
 use Rattle.std.proofs.lemmas.List.{append-nil}
 use Rattle.wasm_spec.specs.Parts.{Part, ◌>>=◌, Joined, gives, choose, elements, vector, all_bytes_as, sized}
-use Rattle.wasm_spec.specs.EntryGrammar.{name}
+use Rattle.wasm_spec.specs.Grammar.{name}
 use Rattle.form_reader.specs.Reading.{whole}
 use Rattle.form_reader.specs.ReadingNumbers.{unsigned_at, counted_bytes_at, name_at}
 use Rattle.form_reader.specs.Agrees.{Agrees, gives_agrees, then_agrees, whole_fills}
 use Rattle.form_reader.specs.NumberLaws.{unsigned_agrees, counted_bytes_agree}
-use Rattle.form_reader.specs.EntryRows.{name_agrees}
+use Rattle.form_reader.specs.SectionRows.{name_agrees}
 use Rattle.custom_sections.specs.NameGrammar.{naming, name_map, local_naming, subsection_contents, SpellsSubsections, joined_all}
 use Rattle.custom_sections.specs.NameReading.{NameLists, no_names, joined, Partly, elements_before, vector_before, naming_at, naming_before, names_before, one_or_none, locals_before, locals_behind, of_function, module_named, functions_named, locals_named, subsection, sized_subsection_at, subsections_before, names_of_section}
 

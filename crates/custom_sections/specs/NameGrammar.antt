@@ -1,7 +1,7 @@
 -- The bytes that spell a name section without a fault (core specification, appendix, name section).
 use Rattle.std.specs.Prelude.{◌≡◌, ℕ, List, [], ◌∷◌, ◌++◌, Bool, ◌==◌, ◌&&◌, Some}
 use Rattle.wasm_spec.specs.Parts.{Part, ◌>>=◌, gives, unsigned, choose, first_byte, all_bytes_as, vector, sized}
-use Rattle.wasm_spec.specs.EntryGrammar.{name}
+use Rattle.wasm_spec.specs.Grammar.{name}
 use Rattle.custom_sections.specs.NameReading.{NameLists, no_names, joined}
 
 -- an index and its name

@@ -8,8 +8,7 @@ use Rattle.wasm_spec.specs.declared.entities.TypeRef.{TypeRef}
 use Rattle.wasm_spec.specs.declared.types.UnpackedIndex.{UnpackedIndex}
 use Rattle.wasm_spec.specs.TypeData.{Group}
 use Rattle.wasm_spec.specs.Module as plain
-use Rattle.wasm_spec.specs.Module.{Module, Types, Imports, imports, imports_of_section, imported_of, groups_of_section, function_types_of_section, tables_of_section, memories_of_section, tags_of_section, globals_of_section, types, functions, tables, memories, globals, tags, function_import, table_import, memory_import, global_import, tag_import}
-use Rattle.wasm_spec.specs.Sizes.{HasFewEntries}
+use Rattle.wasm_spec.specs.Module.{Module, Types, Imports, imports, imports_of_section, imported_of, groups_of_section, function_types_of_section, tables_of_section, memories_of_section, tags_of_section, globals_of_section, types, functions, tables, memories, globals, tags, function_import, table_import, memory_import, global_import, tag_import, HasFewEntries}
 use Rattle.form_data.specs.declared.form.Counts.{Counts}
 use Rattle.form_data.specs.Counted.{counts_of, HasRoom, CountsMore}
 

@@ -1,8 +1,7 @@
 //! The sizes of the index spaces of a form.
 
 ghost use Rattle.std.specs.Prelude.{◌≡◌, ◌∷◌, [], map};
-ghost use Rattle.wasm_spec.specs.Module.{Types, Imports};
-ghost use Rattle.wasm_spec.specs.Sizes.{HasFewEntries};
+ghost use Rattle.wasm_spec.specs.Module.{Types, Imports, HasFewEntries};
 ghost use Rattle.form_data.specs.Counted.{counts_of, HasRoom, CountsMore};
 ghost use Rattle.form_data.specs.Views.{module_of, payload_of, import_of, group_of};
 

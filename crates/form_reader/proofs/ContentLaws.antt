@@ -6,50 +6,19 @@ use Rattle.wasm_spec.specs.declared.operators.What.TheVariants as what
 use Rattle.wasm_spec.specs.Module.{Payload, Types, Imports, FunctionTypes, Tables, Memories, Tags, Globals, Exports, Start, Elements, DataCount, Segments, Custom}
 use Rattle.wasm_spec.specs.Parts as part
 use Rattle.wasm_spec.specs.Parts.{Part, Joined, StopsLater}
-use Rattle.wasm_spec.specs.EntryGrammar.{name}
+use Rattle.wasm_spec.specs.Grammar.{name, interface_names, order_of}
 use Rattle.wasm_spec.specs.Grammar as grammar
-use Rattle.wasm_spec.specs.Grammar.{interface_names, order_of}
 use Rattle.wasm_spec.specs.Interfaces.{IsNoInterface}
 use Rattle.form_reader.specs.Agrees.{ok_is}
 use Rattle.form_reader.specs.Rows.{all_bytes_as}
+use Rattle.form_reader.proofs.Entries.{placed_sound}
 use Rattle.form_reader.specs.SectionRows.{is_interface_name, interface_is, is_interface, custom_taken, section_by, section_of}
 
 -- ---- they hold no custom section
 
--- each value that the part spells is no section of interface types
-abbrev Plain : Part Payload → Type 0
-Plain g = (bytes : List ℕ) (p : Payload) → g.spells bytes p → IsNoInterface p
-
-choose_plain : (test : Bool) (g h : Part Payload) → Plain g → Plain h → Plain (part.choose test g h)
-choose_plain true g h a b = a
-choose_plain false g h a b = b
-
-made_plain : {A : Type 0} (g : Part A) (make : A → Payload) → ((x : A) → IsNoInterface (make x))
-    → Plain (part.sized (part.◌>>=◌ g (λ x. part.gives (make x))))
-made_plain g make plain bytes p s = let inside = s.is_second.1 in subst IsNoInterface (sym inside.is_second.1) (plain inside.value)
-
-code_plain : (place : ℕ) → Plain (grammar.code_at place)
-code_plain place bytes p s = let inside = s.is_second.1 in subst IsNoInterface (sym inside.is_second.1) tt
-
-section_contents_plain : (place id : ℕ) → Plain (grammar.section_contents place id)
-section_contents_plain place id =
-    choose_plain (id == 1) _ _ (made_plain _ Types (λ x. tt))
-    (choose_plain (id == 2) _ _ (made_plain _ Imports (λ x. tt))
-    (choose_plain (id == 3) _ _ (made_plain _ FunctionTypes (λ x. tt))
-    (choose_plain (id == 4) _ _ (made_plain _ Tables (λ x. tt))
-    (choose_plain (id == 5) _ _ (made_plain _ Memories (λ x. tt))
-    (choose_plain (id == 13) _ _ (made_plain _ Tags (λ x. tt))
-    (choose_plain (id == 6) _ _ (made_plain _ Globals (λ x. tt))
-    (choose_plain (id == 7) _ _ (made_plain _ Exports (λ x. tt))
-    (choose_plain (id == 8) _ _ (made_plain _ Start (λ x. tt))
-    (choose_plain (id == 9) _ _ (made_plain _ Elements (λ x. tt))
-    (choose_plain (id == 12) _ _ (made_plain _ DataCount (λ x. tt))
-    (choose_plain (id == 10) _ _ (code_plain place)
-    (choose_plain (id == 11) _ _ (made_plain _ Segments (λ x. tt)) (λ bytes p s. absurd s)))))))))))))
-
-placed_section_plain : (place next id : ℕ) (order : Option ℕ) → Plain (grammar.placed_section place next id order)
-placed_section_plain place next id None = λ bytes p s. absurd s
-placed_section_plain place next id (Some order) = choose_plain (nat_le next order) _ _ (section_contents_plain (place + 1) id) (λ bytes p s. absurd s)
+placed_section_plain : (place next id : ℕ) (order : Option ℕ) (bytes : List ℕ) (p : Payload) → (grammar.placed_section place next id order).spells bytes p
+    → IsNoInterface p
+placed_section_plain place next id order bytes p s = (placed_sound place next id order bytes p s).1
 
 -- ---- sections by what their custom ones are
 

@@ -10,8 +10,7 @@ use Rattle.std.proofs.lemmas.List.{append-nil, length-append}
 use Rattle.std.proofs.lemmas.List.Elements.{All-nil, All-cons, All-head, All-tail}
 use Rattle.wasm_spec.specs.Module.{Payload, Module, Custom}
 use Rattle.wasm_spec.specs.Parts as part
-use Rattle.wasm_spec.specs.EntryGrammar.{name}
-use Rattle.wasm_spec.specs.Grammar.{next_order}
+use Rattle.wasm_spec.specs.Grammar.{name, next_order}
 use Rattle.form_reader.specs.declared.error.ReadError.{ReadError}
 use Rattle.form_reader.specs.declared.customs.InputCustoms.{InputCustoms}
 use Rattle.form_reader.specs.Reading.{Fails, Fault, Bad}

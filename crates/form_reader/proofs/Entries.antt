@@ -10,11 +10,11 @@ use Rattle.wasm_spec.specs.declared.types.UnpackedIndex.{UnpackedIndex}
 use Rattle.wasm_spec.specs.Numbers.{SpellsUnsigned}
 use Rattle.wasm_spec.specs.Parts.{Part, ◌>>=◌, choose, gives, nothing, first_byte, unsigned, non_negative, elements, vector, sized}
 use Rattle.wasm_spec.specs.TypeData.{Composite, Func, Array, Struct, Cont, Exn, SubType, Group, value_of, field_of}
-use Rattle.wasm_spec.specs.Module.{Import, Payload, Types, Imports, FunctionTypes, Tables, Memories, Tags, Globals, Exports, Start, Elements, DataCount, Segments, Module, groups, groups_of_section, imports, imports_of_section, imported_of, function_types_of_section, tables_of_section, memories_of_section, tags_of_section, globals_of_section, exports_of_section, elements_of_section, bodies_of_section, segments_of_section, types, function_import, table_import, memory_import, global_import, tag_import}
+use Rattle.wasm_spec.specs.Module.{Import, Payload, Types, Imports, FunctionTypes, Tables, Memories, Tags, Globals, Exports, Start, Elements, DataCount, Segments, Module, groups, groups_of_section, imports, imports_of_section, imported_of, function_types_of_section, tables_of_section, memories_of_section, tags_of_section, globals_of_section, exports_of_section, elements_of_section, bodies_of_section, segments_of_section, types, function_import, table_import, memory_import, global_import, tag_import, HasFewEntries}
 use Rattle.wasm_spec.specs.TypeGrammar.{value_type, storage_type, field_type, function_type, composite_after, with_supertype, group, sub_type_after, memory_type, global_type, tag_type}
-use Rattle.wasm_spec.specs.EntryGrammar.{name, import_entry, export_entry, table_entry, global_entry, element_segment, body, data_segment}
-use Rattle.wasm_spec.specs.Grammar.{custom_contents, entries_as, number_as, code_at, section_contents, placed_section, order_of, section, next_order, SpellsSections, Spells, header}
-use Rattle.wasm_spec.specs.Sizes.{HasFewEntries, CompositeHasShortLists, HasShortLists, HasShortTypes}
+use Rattle.wasm_spec.specs.Grammar.{name, import_entry, export_entry, table_entry, global_entry, element_segment, body, data_segment, custom_contents, entries_as, number_as, code_at, section_contents, placed_section, order_of, section, next_order, SpellsSections, Spells, header}
+use Rattle.wasm_spec.specs.Interfaces.{IsNoInterface}
+use Rattle.wasm_spec.specs.Sizes.{CompositeHasShortLists, HasShortLists, HasShortTypes}
 
 -- ---- parts of at least one byte
 
@@ -195,50 +195,65 @@ entries p =
     + length (globals_of_section p) + length (exports_of_section p) + length (elements_of_section p) + length (bodies_of_section p)
     + length (segments_of_section p)
 
-made_few : {A : Type 0} (part : Part A) (make : List A → Payload)
-    → ((bytes : List ℕ) (xs : List A) → (vector part).spells bytes xs → entries (make xs) ≤ length bytes) → CountsBytes entries (entries_as part make)
-made_few part make few bytes p s =
+-- what the part spells has no more entries than bytes, and is no section of interface types
+abbrev IsSound : Part Payload → Type 0
+IsSound g = (bytes : List ℕ) (p : Payload) → g.spells bytes p → (entries p ≤ length bytes) × IsNoInterface p
+
+either_sound : (test : Bool) (g h : Part Payload) → IsSound g → IsSound h → IsSound (choose test g h)
+either_sound true g h a b = a
+either_sound false g h a b = b
+
+nothing_sound : IsSound nothing
+nothing_sound bytes p s = absurd s
+
+made_sound : {A : Type 0} (part : Part A) (make : List A → Payload) → ((xs : List A) → IsNoInterface (make xs))
+    → ((bytes : List ℕ) (xs : List A) → (vector part).spells bytes xs → entries (make xs) ≤ length bytes) → IsSound (entries_as part make)
+made_sound part make plain few bytes p s =
     let inside = s.is_second.1 in
     let n = few inside.front inside.value inside.is_first in
     rw inside.is_second.1
-    (omega (arith, n, ap length s.parts, length-append s.front s.back, ap length inside.parts, length-append inside.front inside.back))
+    (omega (arith, n, ap length s.parts, length-append s.front s.back, ap length inside.parts, length-append inside.front inside.back), plain inside.value)
 
 -- entries that count as one each
-entries_few : {A : Type 0} (part : Part A) (make : List A → Payload) → TakesBytes part → ((xs : List A) → entries (make xs) ≡ length xs)
-    → CountsBytes entries (entries_as part make)
-entries_few part make takes one = made_few part make (λ bytes xs s. let n = vector_few part takes bytes xs s in omega (arith, n, one xs))
+entries_sound : {A : Type 0} (part : Part A) (make : List A → Payload) → ((xs : List A) → IsNoInterface (make xs)) → TakesBytes part
+    → ((xs : List A) → entries (make xs) ≡ length xs) → IsSound (entries_as part make)
+entries_sound part make plain takes one =
+    made_sound part make plain (λ bytes xs s. let n = vector_few part takes bytes xs s in omega (arith, n, one xs))
 
-numbers_few : (k : ℕ → Payload) → ((n : ℕ) → entries (k n) ≡ 0) → CountsBytes entries (number_as k)
-numbers_few k none bytes p s = omega (arith, ap entries s.is_second.1.is_second.1, none s.is_second.1.value)
+number_sound : (k : ℕ → Payload) → ((n : ℕ) → IsNoInterface (k n)) → ((n : ℕ) → entries (k n) ≡ 0) → IsSound (number_as k)
+number_sound k plain none bytes p s =
+    let inside = s.is_second.1 in
+    rw inside.is_second.1 (omega (arith, none inside.value), plain inside.value)
 
-code_few : (place : ℕ) → CountsBytes entries (code_at place)
-code_few place bytes p s =
+code_sound : (place : ℕ) → IsSound (code_at place)
+code_sound place bytes p s =
     let inside = s.is_second.1 in
     let n = vector_few body (then_takes (unsigned 32) _ (number_takes 32)) inside.front inside.value inside.is_first in
     rw inside.is_second.1
-    (omega (arith, n, ap length s.parts, length-append s.front s.back, ap length inside.parts, length-append inside.front inside.back))
+    (omega (arith, n, ap length s.parts, length-append s.front s.back, ap length inside.parts, length-append inside.front inside.back), tt)
 
-contents_few : (place id : ℕ) → CountsBytes entries (section_contents place id)
-contents_few place id =
-    either_counts (id == 1) _ _ (made_few group Types (λ bytes gs s. let n = groups_few bytes gs s in omega (arith, n)))
-    (either_counts (id == 2) _ _ (entries_few import_entry Imports (then_takes name _ name_takes) (λ xs. omega arith))
-    (either_counts (id == 3) _ _ (entries_few (unsigned 32) FunctionTypes (number_takes 32) (λ xs. omega arith))
-    (either_counts (id == 4) _ _ (entries_few table_entry Tables (first_takes _) (λ xs. omega arith))
-    (either_counts (id == 5) _ _ (entries_few memory_type Memories (first_takes _) (λ xs. omega arith))
-    (either_counts (id == 13) _ _ (entries_few tag_type Tags (first_takes _) (λ xs. omega arith))
-    (either_counts (id == 6) _ _
-    (entries_few global_entry Globals (then_takes global_type _ (then_takes value_type _ (first_takes _))) (λ xs. omega arith))
-    (either_counts (id == 7) _ _ (entries_few export_entry Exports (then_takes name _ name_takes) (λ xs. omega arith))
-    (either_counts (id == 8) _ _ (numbers_few Start (λ n. refl))
-    (either_counts (id == 9) _ _ (entries_few element_segment Elements (then_takes (unsigned 32) _ (number_takes 32)) (λ xs. omega arith))
-    (either_counts (id == 12) _ _ (numbers_few DataCount (λ n. refl))
-    (either_counts (id == 10) _ _ (code_few place)
-    (either_counts (id == 11) _ _ (entries_few data_segment Segments (then_takes (unsigned 32) _ (number_takes 32)) (λ xs. omega arith))
-    (nothing_counts entries)))))))))))))
+contents_sound : (place id : ℕ) → IsSound (section_contents place id)
+contents_sound place id =
+    either_sound (id == 1) _ _ (made_sound group Types (λ x. tt) (λ bytes gs s. let n = groups_few bytes gs s in omega (arith, n)))
+    (either_sound (id == 2) _ _ (entries_sound import_entry Imports (λ x. tt) (then_takes name _ name_takes) (λ xs. omega arith))
+    (either_sound (id == 3) _ _ (entries_sound (unsigned 32) FunctionTypes (λ x. tt) (number_takes 32) (λ xs. omega arith))
+    (either_sound (id == 4) _ _ (entries_sound table_entry Tables (λ x. tt) (first_takes _) (λ xs. omega arith))
+    (either_sound (id == 5) _ _ (entries_sound memory_type Memories (λ x. tt) (first_takes _) (λ xs. omega arith))
+    (either_sound (id == 13) _ _ (entries_sound tag_type Tags (λ x. tt) (first_takes _) (λ xs. omega arith))
+    (either_sound (id == 6) _ _
+    (entries_sound global_entry Globals (λ x. tt) (then_takes global_type _ (then_takes value_type _ (first_takes _))) (λ xs. omega arith))
+    (either_sound (id == 7) _ _ (entries_sound export_entry Exports (λ x. tt) (then_takes name _ name_takes) (λ xs. omega arith))
+    (either_sound (id == 8) _ _ (number_sound Start (λ x. tt) (λ n. refl))
+    (either_sound (id == 9) _ _
+    (entries_sound element_segment Elements (λ x. tt) (then_takes (unsigned 32) _ (number_takes 32)) (λ xs. omega arith))
+    (either_sound (id == 12) _ _ (number_sound DataCount (λ x. tt) (λ n. refl))
+    (either_sound (id == 10) _ _ (code_sound place)
+    (either_sound (id == 11) _ _
+    (entries_sound data_segment Segments (λ x. tt) (then_takes (unsigned 32) _ (number_takes 32)) (λ xs. omega arith)) nothing_sound))))))))))))
 
-placed_few : (place next id : ℕ) (o : Option ℕ) → CountsBytes entries (placed_section place next id o)
-placed_few place next id None = nothing_counts entries
-placed_few place next id (Some order) = either_counts (nat_le next order) _ _ (contents_few (place + 1) id) (nothing_counts entries)
+pub placed_sound : (place next id : ℕ) (o : Option ℕ) → IsSound (placed_section place next id o)
+placed_sound place next id None = nothing_sound
+placed_sound place next id (Some order) = either_sound (nat_le next order) _ _ (contents_sound (place + 1) id) nothing_sound
 
 customs_few : CountsBytes entries (sized custom_contents)
 customs_few bytes p s = rw s.is_second.1.is_second (omega arith)
@@ -246,7 +261,7 @@ customs_few bytes p s = rw s.is_second.1.is_second (omega arith)
 section_few : (place next : ℕ) → CountsBytes entries (section place next)
 section_few place next [] p s = absurd s
 section_few place next (id ∷ bytes) p s =
-    let n = either_counts (id == 0) _ _ customs_few (placed_few place next id (order_of id)) bytes p s in
+    let n = either_counts (id == 0) _ _ customs_few (λ bs q t. (placed_sound place next id (order_of id) bs q t).0) bytes p s in
     omega (arith, n)
 
 -- ---- modules

@@ -5,8 +5,7 @@ use Rattle.std.specs.List.{flat_map}
 use Rattle.form_data.specs.declared.form.Custom.{Custom}
 use Rattle.form_data.specs.Views.{payload_of}
 use Rattle.form_reader.specs.Reading.{Fault, Reader}
-use Rattle.form_reader.specs.EntryRows.{element_segment}
-use Rattle.form_reader.specs.SectionRows.{custom_section}
+use Rattle.form_reader.specs.SectionRows.{element_segment, custom_section}
 use Rattle.form_reader.specs.declared.customs.InputCustoms.{InputCustoms}
 use Rattle.form_reader.specs.declared.input.InputElements.{InputElements}
 use Rattle.form_reader.specs.declared.input.InputSection.{InputSection}

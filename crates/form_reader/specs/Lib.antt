@@ -1,5 +1,4 @@
 pub mod Agrees
-pub mod EntryRows
 pub mod ExpressionLaws
 pub mod ExpressionRows
 pub mod Input
@@ -12,3 +11,4 @@ pub mod ReadingSections
 pub mod Rows
 pub mod SectionRows
 pub mod TypeRows
+pub mod TypeBytes

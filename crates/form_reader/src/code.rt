@@ -5,8 +5,7 @@ ghost use Rattle.wasm_spec.specs.declared.types.ValType as declared;
 ghost use Rattle.wasm_spec.specs.Module as plain;
 ghost use Rattle.form_data.specs.Views.{body_of, payload_of};
 ghost use Rattle.form_reader.specs.Reading.{Reads};
-ghost use Rattle.form_reader.specs.EntryRows.{locals_run, body};
-ghost use Rattle.form_reader.specs.SectionRows.{code_at};
+ghost use Rattle.form_reader.specs.SectionRows.{locals_run, body, code_at};
 
 use crate::cursor::Cursor;
 use crate::error::ReadError;
@@ -25,7 +24,7 @@ impl<'d> Entry<'d> for (u32, ValType) {
 
     ghost view = { λ x. x };
 
-    #[tactic(auto, unfolding(crate::specs::EntryRows::locals_run))]
+    #[tactic(auto, unfolding(crate::specs::SectionRows::locals_run))]
     fn read(_alloc: Global, cursor: &mut Cursor<'d>) -> Result<(u32, ValType), ReadError> {
         let count = cursor.u32()?;
         let ty = cursor.value_type()?;
@@ -43,7 +42,7 @@ impl<'d> Entry<'d> for FunctionBody<'d> {
     ghost view = { body_of };
 
     /// A size, locals, and whatever follows inside the size.
-    #[tactic(auto, unfolding(crate::specs::EntryRows::body, crate::specs::ReadingNumbers::sized_at))]
+    #[tactic(auto, unfolding(crate::specs::SectionRows::body, crate::specs::ReadingNumbers::sized_at))]
     fn read(alloc: Global, cursor: &mut Cursor<'d>) -> Result<FunctionBody<'d>, ReadError> {
         let mut body = cursor.sized()?;
         let locals = body.vector::<(u32, ValType)>(alloc)?;

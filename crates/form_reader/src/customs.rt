@@ -84,7 +84,7 @@ impl<'d> Cursor<'d> {
 
 /// The bytes that a count at the front counts, and the bytes after them.
 #[tactic(auto, unfolding(crate::specs::ReadingNumbers::counted_bytes_at, crate::specs::Reading::raw_bytes_at))]
-fn counted_at(bytes: &[u8]) -> Option<(&[u8], &[u8])>
+pub(crate) fn counted_at(bytes: &[u8]) -> Option<(&[u8], &[u8])>
     ensures { ok_or (option_map (λ x. (x.0.now, x.1.now)) result) Bad ≡ counted_bytes_at bytes.now }
 {
     let (count, rest) = u32_at(bytes)?;

@@ -4,7 +4,7 @@ ghost use Rattle.std.specs.Prelude.{◌≡◌, []};
 ghost use Rattle.wasm_spec.specs.Module as plain;
 ghost use Rattle.form_data.specs.Views.{element_kind_of, element_of};
 ghost use Rattle.form_reader.specs.Reading.{Reads};
-ghost use Rattle.form_reader.specs.EntryRows.{functions_as, expressions_as, after_function_kind, active_in, active_in_named, flagged_element, element_segment};
+ghost use Rattle.form_reader.specs.SectionRows.{functions_as, expressions_as, after_function_kind, active_in, active_in_named, flagged_element, element_segment};
 
 use crate::cursor::Cursor;
 use crate::error::ReadError;
@@ -79,7 +79,7 @@ fn cleared<T: Drop>(mut list: Vec<T>) -> Vec<T>
 // Each of these reads in the place of a segment that is no longer asked for, whose lists are used again.
 impl<'d> Cursor<'d> {
     /// An element segment.
-    #[tactic(auto, unfolding(crate::specs::EntryRows::element_segment))]
+    #[tactic(auto, unfolding(crate::specs::SectionRows::element_segment))]
     pub(crate) fn element_into(
         &mut self,
         alloc: Global,
@@ -92,7 +92,7 @@ impl<'d> Cursor<'d> {
     }
 
     /// An element segment, after its flag.
-    #[tactic(auto, unfolding(crate::specs::EntryRows::flagged_element))]
+    #[tactic(auto, unfolding(crate::specs::SectionRows::flagged_element))]
     fn flagged_element(
         &mut self,
         alloc: Global,
@@ -134,7 +134,7 @@ impl<'d> Cursor<'d> {
     }
 
     /// The offset of a segment that is written to a table.
-    #[tactic(auto, unfolding(crate::specs::EntryRows::active_in))]
+    #[tactic(auto, unfolding(crate::specs::SectionRows::active_in))]
     fn active(
         &mut self,
         alloc: Global,
@@ -152,7 +152,7 @@ impl<'d> Cursor<'d> {
     }
 
     /// The table and the offset of a segment that is written to it.
-    #[tactic(auto, unfolding(crate::specs::EntryRows::active_in_named))]
+    #[tactic(auto, unfolding(crate::specs::SectionRows::active_in_named))]
     fn active_in_table(&mut self, alloc: Global, kind: &mut ElementKind) -> Result<(), ReadError>
         ensures { Reads active_in_named.read (λ u. element_kind_of kind.new) self.old.rest.now self.new.rest.now result }
     {
@@ -161,7 +161,7 @@ impl<'d> Cursor<'d> {
     }
 
     /// Items that are functions, by their indices.
-    #[tactic(auto, unfolding(crate::specs::EntryRows::functions_as))]
+    #[tactic(auto, unfolding(crate::specs::SectionRows::functions_as))]
     fn functions(&mut self, alloc: Global, element: &mut Element) -> Result<(), ReadError>
         ensures { Reads (functions_as (element_kind_of element.old.kind)).read (λ u. element_of element.new)
             self.old.rest.now self.new.rest.now result }
@@ -198,7 +198,7 @@ impl<'d> Cursor<'d> {
     }
 
     /// Items of a type, by expressions.
-    #[tactic(auto, unfolding(crate::specs::EntryRows::expressions_as))]
+    #[tactic(auto, unfolding(crate::specs::SectionRows::expressions_as))]
     fn typed_expressions(
         &mut self,
         alloc: Global,

@@ -3,7 +3,7 @@
 ghost use Rattle.wasm_spec.specs.Module as plain;
 ghost use Rattle.form_data.specs.Views.{export_of};
 ghost use Rattle.form_reader.specs.Reading.{Reads};
-ghost use Rattle.form_reader.specs.EntryRows.{external_kind, export_entry};
+ghost use Rattle.form_reader.specs.SectionRows.{external_kind, export_entry};
 
 use crate::cursor::Cursor;
 use crate::error::ReadError;
@@ -21,7 +21,7 @@ impl<'d> Entry<'d> for Export<'d> {
 
     ghost view = { export_of };
 
-    #[tactic(auto, unfolding(crate::specs::EntryRows::export_entry))]
+    #[tactic(auto, unfolding(crate::specs::SectionRows::export_entry))]
     fn read(_alloc: Global, cursor: &mut Cursor<'d>) -> Result<Export<'d>, ReadError> {
         let name = cursor.name()?;
         let kind = cursor.external_kind()?;
@@ -32,7 +32,7 @@ impl<'d> Entry<'d> for Export<'d> {
 
 impl<'d> Cursor<'d> {
     /// The kind of what is exported.
-    #[tactic(auto, unfolding(crate::specs::EntryRows::external_kind))]
+    #[tactic(auto, unfolding(crate::specs::SectionRows::external_kind))]
     fn external_kind(&mut self) -> Result<ExternalKind, ReadError>
         ensures { Reads external_kind.read (λ x. x) self.old.rest.now self.new.rest.now result }
     {

@@ -2,7 +2,7 @@
 
 ghost use Rattle.wasm_spec.specs.Module as plain;
 ghost use Rattle.form_data.specs.Views.{global_of};
-ghost use Rattle.form_reader.specs.EntryRows.{global_entry};
+ghost use Rattle.form_reader.specs.SectionRows.{global_entry};
 
 use crate::cursor::Cursor;
 use crate::error::ReadError;
@@ -20,7 +20,7 @@ impl<'d> Entry<'d> for GlobalDef {
     ghost view = { global_of };
 
     /// A global type, and the expression of its first value.
-    #[tactic(auto, unfolding(crate::specs::EntryRows::global_entry))]
+    #[tactic(auto, unfolding(crate::specs::SectionRows::global_entry))]
     fn read(alloc: Global, cursor: &mut Cursor<'d>) -> Result<GlobalDef, ReadError> {
         let ty = cursor.global_type()?;
         let init = cursor.expression(alloc)?;

@@ -3,7 +3,7 @@
 ghost use Rattle.wasm_spec.specs.Module as plain;
 ghost use Rattle.form_data.specs.Views.{import_of};
 ghost use Rattle.form_reader.specs.Reading.{Reads};
-ghost use Rattle.form_reader.specs.EntryRows.{imported_after, import_entry};
+ghost use Rattle.form_reader.specs.SectionRows.{imported_after, import_entry};
 
 use crate::cursor::Cursor;
 use crate::error::ReadError;
@@ -22,7 +22,7 @@ impl<'d> Entry<'d> for Import<'d> {
     ghost view = { import_of };
 
     /// The names of its module and its own, and what it is.
-    #[tactic(auto, unfolding(crate::specs::EntryRows::import_entry))]
+    #[tactic(auto, unfolding(crate::specs::SectionRows::import_entry))]
     fn read(_alloc: Global, cursor: &mut Cursor<'d>) -> Result<Import<'d>, ReadError> {
         let module = cursor.name()?;
         let name = cursor.name()?;
@@ -34,7 +34,7 @@ impl<'d> Entry<'d> for Import<'d> {
 
 impl<'d> Cursor<'d> {
     /// What is imported, after the byte of its kind.
-    #[tactic(auto, unfolding(crate::specs::EntryRows::imported_after))]
+    #[tactic(auto, unfolding(crate::specs::SectionRows::imported_after))]
     fn imported(&mut self, kind: u8) -> Result<TypeRef, ReadError>
         ensures { Reads (imported_after kind).read (λ x. x) self.old.rest.now self.new.rest.now result }
     {

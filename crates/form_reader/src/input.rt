@@ -4,7 +4,7 @@ ghost use Rattle.std.specs.Prelude.{◌≡◌, ◌++◌, [], map, false, IfOk, O
 ghost use Rattle.form_data.specs.Views.{element_of, payload_of};
 ghost use Rattle.form_reader.specs.Reading.{Reads, whole};
 ghost use Rattle.form_reader.specs.ReadingNumbers.{vector_at, sized_at};
-ghost use Rattle.form_reader.specs.EntryRows.{element_segment};
+ghost use Rattle.form_reader.specs.SectionRows.{element_segment};
 ghost use Rattle.form_reader.specs.Input.{elements_in, customs_in, input_section_of, sections_of_part, Takes};
 
 use crate::cursor::Cursor;

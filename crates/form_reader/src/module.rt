@@ -3,9 +3,9 @@
 ghost use Rattle.std.specs.Prelude.{◌≡◌, ◌↔◌, ◌^◌, ◌<◌, ◌≤◌, length, map, IfOk, Err};
 ghost use Rattle.std.specs.List.{flat_map};
 ghost use Rattle.wasm_spec.specs.declared.operators.What.{What};
-ghost use Rattle.wasm_spec.specs.Module.{Module};
+ghost use Rattle.wasm_spec.specs.Module.{Module, HasFewEntries};
 ghost use Rattle.wasm_spec.specs.Grammar.{Spells, Stops};
-ghost use Rattle.wasm_spec.specs.Sizes.{HasFewEntries, HasShortTypes};
+ghost use Rattle.wasm_spec.specs.Sizes.{HasShortTypes};
 ghost use Rattle.wasm_spec.specs.Interfaces.{HasNoInterfaceTypes};
 ghost use Rattle.form_data.specs.Views.{module_of, payload_of};
 ghost use Rattle.form_reader.specs.Input.{sections_of_part, input_module_of};

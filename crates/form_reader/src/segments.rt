@@ -3,7 +3,7 @@
 ghost use Rattle.wasm_spec.specs.Module as plain;
 ghost use Rattle.form_data.specs.Views.{segment_of};
 ghost use Rattle.form_reader.specs.Reading.{Reads};
-ghost use Rattle.form_reader.specs.EntryRows.{active_segment, passive_segment, data_segment};
+ghost use Rattle.form_reader.specs.SectionRows.{active_segment, passive_segment, data_segment};
 
 use crate::cursor::Cursor;
 use crate::error::ReadError;
@@ -20,7 +20,7 @@ impl<'d> Entry<'d> for DataSegment<'d> {
 
     ghost view = { segment_of };
 
-    #[tactic(auto, unfolding(crate::specs::EntryRows::data_segment, crate::specs::EntryRows::flagged_segment))]
+    #[tactic(auto, unfolding(crate::specs::SectionRows::data_segment, crate::specs::SectionRows::flagged_segment))]
     fn read(alloc: Global, cursor: &mut Cursor<'d>) -> Result<DataSegment<'d>, ReadError> {
         match cursor.u32()? {
             0 => cursor.active_segment(alloc, 0),
@@ -36,7 +36,7 @@ impl<'d> Entry<'d> for DataSegment<'d> {
 
 impl<'d> Cursor<'d> {
     /// An offset into a memory, and bytes.
-    #[tactic(auto, unfolding(crate::specs::EntryRows::active_segment))]
+    #[tactic(auto, unfolding(crate::specs::SectionRows::active_segment))]
     fn active_segment(
         &mut self,
         alloc: Global,
@@ -54,7 +54,7 @@ impl<'d> Cursor<'d> {
     }
 
     /// Bytes that are kept for later.
-    #[tactic(auto, unfolding(crate::specs::EntryRows::passive_segment))]
+    #[tactic(auto, unfolding(crate::specs::SectionRows::passive_segment))]
     fn passive_segment(&mut self) -> Result<DataSegment<'d>, ReadError>
         ensures { Reads passive_segment.read segment_of self.old.rest.now self.new.rest.now result }
     {

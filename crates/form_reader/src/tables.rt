@@ -3,7 +3,7 @@
 ghost use Rattle.wasm_spec.specs.Module as plain;
 ghost use Rattle.form_data.specs.Views.{table_of};
 ghost use Rattle.form_reader.specs.Reading.{Reads};
-ghost use Rattle.form_reader.specs.EntryRows.{initialised_table, table_entry};
+ghost use Rattle.form_reader.specs.SectionRows.{initialised_table, table_entry};
 
 use crate::cursor::Cursor;
 use crate::error::ReadError;
@@ -26,7 +26,7 @@ impl<'d> Entry<'d> for TableDef {
     ghost view = { table_of };
 
     /// A table type alone, or with what its cells hold at first.
-    #[tactic(auto, unfolding(crate::specs::EntryRows::table_entry))]
+    #[tactic(auto, unfolding(crate::specs::SectionRows::table_entry))]
     fn read(alloc: Global, cursor: &mut Cursor<'d>) -> Result<TableDef, ReadError> {
         let first = cursor.byte()?;
         if first == INITIALISED {
@@ -40,7 +40,7 @@ impl<'d> Entry<'d> for TableDef {
 
 impl<'d> Cursor<'d> {
     /// A table and what its cells hold at first, after the first byte.
-    #[tactic(auto, unfolding(crate::specs::EntryRows::initialised_table))]
+    #[tactic(auto, unfolding(crate::specs::SectionRows::initialised_table))]
     fn initialised_table(&mut self, alloc: Global) -> Result<TableDef, ReadError>
         ensures { Reads initialised_table.read table_of self.old.rest.now self.new.rest.now result }
     {

@@ -1,29 +1,52 @@
 //! Where the types of a module are spelled.
 
-use crate::cursor::Cursor;
+ghost use Rattle.std.specs.Prelude.{◌≡◌, length, drop};
+ghost use Rattle.std.specs.Option.{option_map};
+ghost use Rattle.form_reader.specs.TypeBytes.{section_bytes_at, contents_of, type_bytes};
+
+use crate::customs::counted_at;
+use crate::numbers::first_byte;
 
 /// The id of the type section.
 const TYPES: u8 = 1;
 
-/// The bytes of the first type section of a module (core specification, 5.5, sections), after its id and its size; none where there is no such
-/// section. Digests of the module's types are taken over them. No clause says more.
-pub fn type_section_bytes<'d>(wasm: &'d [u8]) -> &'d [u8] {
-    let mut cursor = Cursor { rest: wasm };
-    // The header has as many bytes.
-    if cursor.byte_array::<8>().is_err() {
-        return &[];
+/// The bytes of a module's header.
+const HEADER_SIZE: usize = 8;
+
+/// The bytes of a module's type section after its id and its size (core specification, 5.5, type section), which spell its types; none where the
+/// bytes have no such section. Digests of a module's types are taken over them.
+pub fn type_section_bytes<'d>(wasm: &'d [u8]) -> &'d [u8]
+    ensures { result.now ≡ type_bytes wasm.now }
+{
+    match wasm.get(HEADER_SIZE..) {
+        Some(sections) => contents_of(TYPES, sections),
+        None => &[],
     }
+}
+
+/// The contents of the first section that has an id, among those that stand one after another.
+fn contents_of<'d>(id: u8, sections: &'d [u8]) -> &'d [u8]
+    ensures { result.now ≡ contents_of id (length sections.now) sections.now }
+{
+    let mut rest = sections;
     // Each section takes a byte at least.
-    for _ in 0..wasm.len() {
-        let Ok(id) = cursor.byte() else {
+    for _ in 0..sections.len() {
+        let Some((found, contents, others)) = section_at(rest) else {
             return &[];
         };
-        let Ok(body) = cursor.sized() else {
-            return &[];
-        };
-        if id == TYPES {
-            return body.rest;
+        if found == id {
+            return contents;
         }
+        rest = others;
     }
     &[]
+}
+
+/// The id and the contents of the section at the front, and the bytes after it.
+fn section_at<'d>(bytes: &'d [u8]) -> Option<(u8, &'d [u8], &'d [u8])>
+    ensures { option_map (λ x. (x.0, (x.1.now, x.2.now))) result ≡ section_bytes_at bytes.now }
+{
+    let (id, rest) = first_byte(bytes)?;
+    let (contents, others) = counted_at(rest)?;
+    Some((id, contents, others))
 }

@@ -1,7 +1,8 @@
 //! The types of a module are numbered, group by group.
 
 ghost use Rattle.std.specs.Prelude.{◌≡◌, ◌+◌, ◌<◌, ◌^◌, length, map, IfOk, OnOk};
-ghost use Rattle.wasm_spec.specs.Sizes.{HasFewEntries, HasShortTypes};
+ghost use Rattle.wasm_spec.specs.Sizes.{HasShortTypes};
+ghost use Rattle.wasm_spec.specs.Module.{HasFewEntries};
 ghost use Rattle.rule_spec.specs.Rules.{Keeps};
 ghost use Rattle.form_data.specs.Views.{group_of, module_of};
 ghost use Rattle.form_lists.specs.Source.{source_module};

@@ -1,12 +1,14 @@
 //! The groups that were met, by their keys.
 
-ghost use Rattle.std.specs.Prelude.{◌≡◌, ◌+◌, ◌<◌, ◌^◌, ◌++◌, IfOk, OnOk, MatchOption, Some, cond, length, map};
-ghost use Rattle.std.specs.List.{range_with_len};
+ghost use Rattle.std.specs.Prelude.{◌≡◌, ◌+◌, ◌<◌, ◌^◌, ◌++◌, ◌∷◌, [], IfOk, OnOk, MatchOption, Some, cond, length, map};
+ghost use Rattle.std.specs.Hash.DefaultHasher as sip;
+ghost use Rattle.std.specs.List.{range_with_len, fold};
+ghost use Rattle.form_reader.specs.TypeBytes.{type_bytes};
 ghost use Rattle.form_data.specs.Views.{sub_type_of};
 ghost use Rattle.form_types.specs.Seen.{ids_of};
 ghost use Rattle.form_types.specs.Placed.{placed};
 ghost use Rattle.form_types.specs.Keys.{key_of, targets};
-ghost use Rattle.form_types.specs.Finding.{first_of, next_key};
+ghost use Rattle.form_types.specs.Finding.{first_of, next_key, wasm_of};
 
 use crate::canonical::CanonicalGroup;
 use crate::seen::Seen;
@@ -23,7 +25,9 @@ use wasm_spec::{CoreTypeId, UnpackedIndex};
 pub type FirstIds = HashMap<CanonicalGroup, u32, Seeded>;
 
 /// A digest of the bytes that spell a module's types, from which hashes begin: groups that are chosen to collide change it as well.
-pub fn seed_of(source: Source<'_, '_>) -> u64 {
+pub fn seed_of(source: Source<'_, '_>) -> u64
+    ensures { result ≡ sip.finish (fold sip.write sip.initial (type_bytes (wasm_of source) ∷ [])) }
+{
     let wasm = match source {
         Source::Form(form) => form.wasm,
         Source::Input(form) => form.wasm,

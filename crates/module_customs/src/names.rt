@@ -3,8 +3,7 @@
 ghost use Rattle.std.specs.Prelude.{◌≡◌, ◌+◌, ◌<◌, ◌++◌, ◌∷◌, ℕ, List, [], length, map, codes, Bool, IfOk, OnOk};
 ghost use Rattle.std.specs.BTreeMap.{IsFromIterResult};
 ghost use Rattle.std.specs.Option.{option_map, option_or};
-ghost use Rattle.wasm_spec.specs.Module.{imports_of_section, function_types_of_section, function_import};
-ghost use Rattle.wasm_spec.specs.Sizes.{HasFewEntries};
+ghost use Rattle.wasm_spec.specs.Module.{imports_of_section, function_types_of_section, function_import, HasFewEntries};
 ghost use Rattle.form_data.specs.Views.{import_of};
 ghost use Rattle.form_lists.specs.Source.{source_module, section_of};
 ghost use Rattle.wasm_index.specs.Index.{number_of};

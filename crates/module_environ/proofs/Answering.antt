@@ -5,10 +5,9 @@ use Rattle.std.specs.List.{flat_map}
 use Rattle.std.proofs.lemmas.List.{length-map, length-append}
 use Rattle.wasm_spec.specs.declared.operators.What.{What}
 use Rattle.wasm_spec.specs.Module as plain
-use Rattle.wasm_spec.specs.Module.{GlobalDef, Module, bodies_of_section}
+use Rattle.wasm_spec.specs.Module.{GlobalDef, Module, bodies_of_section, HasFewEntries}
 use Rattle.wasm_spec.specs.Grammar.{Spells, Stops}
 use Rattle.wasm_spec.specs.Interfaces.{HasNoInterfaceTypes}
-use Rattle.wasm_spec.specs.Sizes.{HasFewEntries}
 use Rattle.rule_spec.specs.Lists.{lists_of_module}
 use Rattle.rule_spec.specs.Rules.{Keeps}
 use Rattle.form_reader.specs.declared.input.InputForm.{InputForm}

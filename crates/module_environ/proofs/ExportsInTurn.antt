@@ -9,9 +9,8 @@ use Rattle.indexmap.specs.IndexMap.{insert_entry}
 use Rattle.entity_map.specs.Entity.{reserved_number}
 use Rattle.entity_map.specs.Pool.{atom_number, with_text}
 use Rattle.entity_map.specs.declared.pool.Atom.{Atom}
-use Rattle.wasm_spec.specs.Module.{Export, exports_of_section}
+use Rattle.wasm_spec.specs.Module.{Export, exports_of_section, HasFewEntries}
 use Rattle.wasm_spec.specs.Module as plain
-use Rattle.wasm_spec.specs.Sizes.{HasFewEntries}
 use Rattle.wasm_spec.specs.declared.entities.ExternalKind.{ExternalKind}
 use Rattle.wasm_spec.specs.declared.entities.ExternalKind.TheVariants as kind
 use Rattle.wasm_types.specs.declared.entity.EntityIndex.{EntityIndex}

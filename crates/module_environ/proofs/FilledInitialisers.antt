@@ -3,9 +3,8 @@ use Rattle.std.proofs.Common.{◌≡◌, ◌<◌, ◌^◌, ℕ, List, [], ◌++�
 use Rattle.std.specs.Prelude.{All, OnOk}
 use Rattle.std.specs.Option.{option_map}
 use Rattle.std.proofs.lemmas.List.{length-map}
-use Rattle.wasm_spec.specs.Module.{TableDef}
+use Rattle.wasm_spec.specs.Module.{TableDef, HasFewEntries}
 use Rattle.wasm_spec.specs.Module as plain
-use Rattle.wasm_spec.specs.Sizes.{HasFewEntries}
 use Rattle.rule_spec.specs.Lists.{Lists, Declared, declared_groups, lists_of_module}
 use Rattle.form_types.proofs.Ruled.{declared-types}
 use Rattle.form_lists.specs.declared.lists.Lists.{Lists as Gathered}

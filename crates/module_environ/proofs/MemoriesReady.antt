@@ -7,8 +7,7 @@ use Rattle.std.proofs.lemmas.List.{length-map, length-append}
 use Rattle.std.proofs.lemmas.List.Elements.{All-nil, All-cons, All-head, All-tail, All-map, All-weaker, recursion_from_All}
 use Rattle.std.proofs.lemmas.Map.Keys.{IsDistinct-cons}
 use Rattle.wasm_spec.specs.declared.entities.MemoryType.{MemoryType}
-use Rattle.wasm_spec.specs.Module.{DataKind, Passive, Active, Segment, Module, imported_memories, defined_memories, memories, segments}
-use Rattle.wasm_spec.specs.Sizes.{HasFewEntries}
+use Rattle.wasm_spec.specs.Module.{DataKind, Passive, Active, Segment, Module, imported_memories, defined_memories, memories, segments, HasFewEntries}
 use Rattle.entity_map.specs.Secondary.{value_at}
 use Rattle.rule_spec.specs.declared.rules.Rule.TheVariants.{L4, L9}
 use Rattle.rule_spec.specs.Lists.{Lists, lists_of_module}

@@ -12,9 +12,8 @@ use Rattle.wasm_spec.specs.declared.entities.ExternalKind.TheVariants as kind
 use Rattle.wasm_spec.specs.declared.types.UnpackedIndex.{UnpackedIndex}
 use Rattle.wasm_spec.specs.declared.types.UnpackedIndex.TheVariants as index
 use Rattle.wasm_spec.specs.TypeData.{heap_of}
-use Rattle.wasm_spec.specs.Module.{Import, TableDef, GlobalDef, ElementKind, ActiveElement, ElementItems, Functions, Expressions, Element, DataKind, Passive, Active, Segment, table_import, global_import}
+use Rattle.wasm_spec.specs.Module.{Import, TableDef, GlobalDef, ElementKind, ActiveElement, ElementItems, Functions, Expressions, Element, DataKind, Passive, Active, Segment, table_import, global_import, HasFewEntries}
 use Rattle.wasm_spec.specs.Module as plain
-use Rattle.wasm_spec.specs.Sizes.{HasFewEntries}
 use Rattle.rule_spec.specs.declared.rules.Rule.TheVariants.{L2, L6, L7, L8, L9, L10}
 use Rattle.rule_spec.specs.declared.classes.Class.{Class}
 use Rattle.rule_spec.specs.declared.classes.Class.TheVariants as class

@@ -11,8 +11,7 @@ use Rattle.wasm_spec.specs.declared.entities.GlobalType.{GlobalType}
 use Rattle.wasm_spec.specs.declared.operators.Operator.{Operator}
 use Rattle.wasm_spec.specs.declared.operators.Operator.TheVariants as op
 use Rattle.wasm_spec.specs.Module as plain
-use Rattle.wasm_spec.specs.Module.{Expression, ElementItems, Functions, Expressions, ElementKind, PassiveElement, DeclaredElement, ActiveElement, Element, TableDef, Module}
-use Rattle.wasm_spec.specs.Sizes.{HasFewEntries}
+use Rattle.wasm_spec.specs.Module.{Expression, ElementItems, Functions, Expressions, ElementKind, PassiveElement, DeclaredElement, ActiveElement, Element, TableDef, Module, HasFewEntries}
 use Rattle.rule_spec.specs.declared.rules.Rule.TheVariants.{L6, L9}
 use Rattle.rule_spec.specs.declared.classes.Class.{Class}
 use Rattle.rule_spec.specs.declared.classes.Class.TheVariants as class

@@ -3,9 +3,8 @@ use Rattle.std.specs.Prelude.{◌≡◌, ℕ, ◌<◌, List, [], ◌++◌, lengt
 use Rattle.std.specs.List.{flat_map, list_any}
 use Rattle.wasm_spec.specs.declared.types.UnpackedIndex.{UnpackedIndex}
 use Rattle.wasm_spec.specs.declared.types.UnpackedIndex.TheVariants as index
-use Rattle.wasm_spec.specs.Module.{function_import, table_import, memory_import, global_import, tag_import}
+use Rattle.wasm_spec.specs.Module.{function_import, table_import, memory_import, global_import, tag_import, HasFewEntries}
 use Rattle.wasm_spec.specs.Module as plain
-use Rattle.wasm_spec.specs.Sizes.{HasFewEntries}
 use Rattle.rule_spec.specs.Lists.{lists_of_module}
 use Rattle.rule_spec.specs.Lists as rule
 use Rattle.rule_spec.specs.Rules.{Keeps}

@@ -2,8 +2,7 @@
 
 ghost use Rattle.std.specs.Prelude.{◌≡◌, ◌+◌, ◌<◌, ◌^◌, ◌++◌, length, map, IfOk, OnOk};
 ghost use Rattle.std.specs.List.{flat_map};
-ghost use Rattle.wasm_spec.specs.Module.{bodies_of_section};
-ghost use Rattle.wasm_spec.specs.Sizes.{HasFewEntries};
+ghost use Rattle.wasm_spec.specs.Module.{bodies_of_section, HasFewEntries};
 ghost use Rattle.std.specs.Option.{option_to_list};
 ghost use Rattle.form_data.specs.Views.{body_of};
 ghost use Rattle.form_reader.specs.Input.{input_section_of, input_module_of};

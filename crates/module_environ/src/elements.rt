@@ -3,7 +3,7 @@
 ghost use Rattle.std.specs.Prelude.{◌≡◌, ◌<◌, ◌-◌, ◌++◌, ◌∷◌, [], Some, length, IfOk, OnOk};
 ghost use Rattle.std.specs.List.{flat_map};
 ghost use Rattle.wasm_spec.specs.Module as plain;
-ghost use Rattle.wasm_spec.specs.Sizes.{HasFewEntries};
+ghost use Rattle.wasm_spec.specs.Module.{HasFewEntries};
 ghost use Rattle.form_data.specs.Views.{element_of};
 ghost use Rattle.form_lists.specs.Source.{source_module};
 ghost use Rattle.entity_map.specs.Secondary.{with_value};

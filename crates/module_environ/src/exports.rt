@@ -2,9 +2,8 @@
 
 ghost use Rattle.std.specs.Prelude.{◌≡◌, ◌-◌, ◌<◌, ◌^◌, ◌++◌, ◌∷◌, [], List, length, map, All, IfOk, OnOk};
 ghost use Rattle.std.specs.List.{flat_map};
-ghost use Rattle.wasm_spec.specs.Module.{exports_of_section};
+ghost use Rattle.wasm_spec.specs.Module.{exports_of_section, HasFewEntries};
 ghost use Rattle.wasm_spec.specs.Module as plain;
-ghost use Rattle.wasm_spec.specs.Sizes.{HasFewEntries};
 ghost use Rattle.form_data.specs.Views.{export_of};
 ghost use Rattle.form_lists.specs.Source.{source_module};
 ghost use Rattle.rule_spec.specs.Rules.{AreDistinct};

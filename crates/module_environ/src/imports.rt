@@ -4,7 +4,7 @@ ghost use Rattle.std.specs.Prelude.{◌≡◌, ◌+◌, ◌-◌, ◌<◌, [], le
 ghost use Rattle.std.specs.Hash.DefaultHasher as sip;
 ghost use Rattle.std.specs.List.{flat_map, fold};
 ghost use Rattle.wasm_spec.specs.Module as plain;
-ghost use Rattle.wasm_spec.specs.Sizes.{HasFewEntries};
+ghost use Rattle.wasm_spec.specs.Module.{HasFewEntries};
 ghost use Rattle.form_data.specs.Views.{import_of, export_of};
 ghost use Rattle.form_lists.specs.Source.{source_module};
 ghost use Rattle.wasm_index.specs.Index.{index_of};

@@ -1,8 +1,8 @@
 //! The translation of a module: its bytes are read and checked, and each section becomes a part of the record.
 
 ghost use Rattle.std.specs.Prelude.{◌≡◌, ◌≢◌, ◌⊎◌, ◌^◌, ◌≤◌, ◌&&◌, length, true, false, is_none, IfOk, IfErr, OnOk, OnErr, Err};
-ghost use Rattle.wasm_spec.specs.Module.{Module};
-ghost use Rattle.wasm_spec.specs.Sizes.{HasFewEntries, HasShortTypes};
+ghost use Rattle.wasm_spec.specs.Module.{Module, HasFewEntries};
+ghost use Rattle.wasm_spec.specs.Sizes.{HasShortTypes};
 ghost use Rattle.rule_spec.specs.Rules.{Keeps};
 ghost use Rattle.form_lists.specs.Source.{source_module};
 ghost use Rattle.module_types.specs.Builder.{builder_view, new_builder};

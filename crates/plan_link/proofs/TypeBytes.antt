@@ -8,8 +8,7 @@ use Rattle.wasm_spec.specs.Parts.{Part, ◌>>=◌, choose, gives, first_byte, un
 use Rattle.wasm_spec.specs.TypeData.{Group}
 use Rattle.wasm_spec.specs.Module.{Payload, Types, Imports, FunctionTypes, Tables, Memories, Tags, Globals, Exports, Start, Elements, DataCount, Segments, Module, groups, groups_of_section, types, imports, imports_of_section, tags_of_section}
 use Rattle.wasm_spec.specs.TypeGrammar.{group, sub_type_after, memory_type, tag_type}
-use Rattle.wasm_spec.specs.EntryGrammar.{name, import_entry, export_entry, table_entry, global_entry, element_segment, data_segment}
-use Rattle.wasm_spec.specs.Grammar.{custom_contents, entries_as, number_as, code_at, section_contents, placed_section, order_of, section, next_order, SpellsSections, Spells, header}
+use Rattle.wasm_spec.specs.Grammar.{name, import_entry, export_entry, table_entry, global_entry, element_segment, data_segment, custom_contents, entries_as, number_as, code_at, section_contents, placed_section, order_of, section, next_order, SpellsSections, Spells, header}
 use Rattle.plan_link.proofs.Counting.{TakesBytes, CountsBytes, first_takes, number_takes, then_takes, total, vector_counts, vector_few, chosen}
 
 -- ---- groups

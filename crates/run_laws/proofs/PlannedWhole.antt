@@ -3,8 +3,7 @@ use Rattle.std.proofs.Common.{◌≡◌, ℕ, ◌-◌, ◌<◌, ◌≤◌, ◌�
 use Rattle.std.specs.Prelude.{All}
 use Rattle.std.specs.Int.{IsPowerOfTwo}
 use Rattle.std.proofs.lemmas.List.{length-map, length-append}
-use Rattle.wasm_spec.specs.Module.{Module, GlobalDef, imported_of, global_import, imported_memories, defined_memories, globals}
-use Rattle.wasm_spec.specs.Sizes.{HasFewEntries}
+use Rattle.wasm_spec.specs.Module.{Module, GlobalDef, imported_of, global_import, imported_memories, defined_memories, globals, HasFewEntries}
 use Rattle.rule_spec.specs.Lists.{lists_of_module}
 use Rattle.rule_spec.specs.Rules.{Keeps}
 use Rattle.wasm_types.specs.EntityViews.{global_of}

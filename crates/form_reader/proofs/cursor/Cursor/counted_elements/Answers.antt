@@ -1,6 +1,6 @@
 use Rattle.std.proofs.lemmas.Result.{err_from_is_err_and}
 use Rattle.form_data.specs.Views.{element_of}
-use Rattle.form_reader.specs.EntryRows.{element_segment}
+use Rattle.form_reader.specs.SectionRows.{element_segment}
 use Rattle.form_reader.specs.ReadingNumbers.{vector_at}
 use Rattle.form_reader.proofs.Loop.{one_fails_all}
 use Rattle.form_reader.proofs.Listed.{none_yet, further, at_end}

@@ -1,4 +1,4 @@
-use Rattle.form_reader.specs.EntryRows.{element_segment}
+use Rattle.form_reader.specs.SectionRows.{element_segment}
 use Rattle.form_reader.proofs.Listed.{SoFar}
 use Rattle.form_reader.proofs.cursor.Cursor.counted_elements.Given as goal
 

@@ -1,5 +1,5 @@
 use Rattle.std.proofs.Common.{refl}
-use Rattle.form_reader.specs.EntryRows.{element_segment}
+use Rattle.form_reader.specs.SectionRows.{element_segment}
 use Rattle.form_reader.proofs.Listed.{none_there}
 use Rattle.form_reader.proofs.input.InputElements.end.Goals as goal
 

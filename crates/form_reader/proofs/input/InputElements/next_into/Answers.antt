@@ -1,6 +1,6 @@
 use Rattle.form_data.specs.Views.{element_of}
 use Rattle.form_reader.specs.declared.error.ReadError.TheVariants as errors
-use Rattle.form_reader.specs.EntryRows.{element_segment}
+use Rattle.form_reader.specs.SectionRows.{element_segment}
 use Rattle.form_reader.proofs.Listed.{first_taken, none_there, none_read}
 use Rattle.form_reader.proofs.input.InputElements.next_into.Goals as goal
 
