@@ -4,7 +4,7 @@ use Rattle.form_reader.specs.Reading.{Fault}
 use Rattle.form_reader.specs.ReadingNumbers.{counted_bytes_at}
 
 abbrev pub after_id : ℕ → Result (List ℕ × List ℕ) Fault → Option (ℕ × List ℕ × List ℕ)
-after_id id (Ok x) = Some (id, x)
+after_id id (Ok x) = Some (id, x.0, x.1)
 after_id id (Err fault) = None
 
 -- the id and the contents of the section at the front, and the bytes after it

@@ -15,6 +15,7 @@ const HEADER_SIZE: usize = 8;
 
 /// The bytes of a module's type section after its id and its size (core specification, 5.5, type section), which spell its types; none where the
 /// bytes have no such section. Digests of a module's types are taken over them.
+#[tactic(auto, unfolding(crate::specs::TypeBytes::contents_of))]
 pub fn type_section_bytes<'d>(wasm: &'d [u8]) -> &'d [u8]
     ensures { result.now ≡ type_bytes wasm.now }
 {
@@ -25,12 +26,14 @@ pub fn type_section_bytes<'d>(wasm: &'d [u8]) -> &'d [u8]
 }
 
 /// The contents of the first section that has an id, among those that stand one after another.
+#[tactic(auto, unfolding(crate::specs::TypeBytes::contents_of))]
 fn contents_of<'d>(id: u8, sections: &'d [u8]) -> &'d [u8]
     ensures { result.now ≡ contents_of id (length sections.now) sections.now }
 {
     let mut rest = sections;
     // Each section takes a byte at least.
-    for _ in 0..sections.len() {
+    let most = sections.len();
+    'sections: for _ in 0..most {
         let Some((found, contents, others)) = section_at(rest) else {
             return &[];
         };
@@ -44,7 +47,7 @@ fn contents_of<'d>(id: u8, sections: &'d [u8]) -> &'d [u8]
 
 /// The id and the contents of the section at the front, and the bytes after it.
 fn section_at<'d>(bytes: &'d [u8]) -> Option<(u8, &'d [u8], &'d [u8])>
-    ensures { option_map (λ x. (x.0, (x.1.now, x.2.now))) result ≡ section_bytes_at bytes.now }
+    ensures { option_map (λ x. (x.0, x.1.now, x.2.now)) result ≡ section_bytes_at bytes.now }
 {
     let (id, rest) = first_byte(bytes)?;
     let (contents, others) = counted_at(rest)?;
