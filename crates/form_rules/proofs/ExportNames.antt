@@ -113,8 +113,9 @@ pub record Gathers (names : Names) (left all : List Export) : Type 0 where
   pub has : HasNames names done
   pub whole : done ++ left ≡ all
 
-pub gathers-none : (names : Names) (left all : List Export) → HasNames names [] → left ≡ all → Gathers names left all
-gathers-none names left all has at = record { done = []; has = has; whole = at }
+pub gathers-none : (names : Names) (left all : List Export) → names.keys ≡ [] → left ≡ all → Gathers names left all
+gathers-none names left all empty at =
+    record { done = []; has = record { same = λ name. rw empty refl; distinct = λ i j d lt within. absurd (omega arith) }; whole = at }
 
 pub gathers-all : (names : Names) (left all : List Export) → Gathers names left all → left ≡ [] → AreDistinct all
 gathers-all names left all gathers at =

@@ -1,9 +1,12 @@
-use Rattle.std.proofs.Common.{◌≡◌, ◌∙◌, true, false, refl, sym}
+use Rattle.std.proofs.Common.{◌≡◌, ◌∙◌, true, false, refl, rules, sym}
 use Rattle.std.specs.HashSet.{contains}
 use Rattle.std.proofs.lemmas.Bool.{not-true, not-false}
 use Rattle.form_data.specs.Views.{export_of}
-use Rattle.form_rules.proofs.ExportNames.{same_bytes, gathers-all, gathers-more, gathers-fails}
+use Rattle.form_rules.proofs.ExportNames.{same_bytes, gathers-all, gathers-none, gathers-more, gathers-fails}
 use Rattle.form_rules.proofs.exports.names_are_distinct.Goals as goal
+
+pub loop-export-init : goal.loop-export-init
+loop-export-init c = gathers-none c.in_ok-names.names _ _ c.in_ok-names.ensures.empty (search rules)
 
 pub loop-export-preserved : goal.loop-export-preserved
 loop-export-preserved c =
