@@ -5,7 +5,7 @@ ghost use Rattle.std.specs.List.{flat_map};
 ghost use Rattle.wasm_spec.specs.Module.{bodies_of_section, data_counts_of_section, segments};
 ghost use Rattle.form_data.specs.Views.{body_of};
 ghost use Rattle.rule_spec.specs.Rules.{CountsAgree, locals};
-ghost use Rattle.form_lists.specs.Source.{source_module, section_of};
+ghost use Rattle.form_lists.specs.Source.{source_module, sections_in};
 ghost use Rattle.form_lists.specs.Views.{lists_of};
 
 use form_data::{DataSegment, FunctionBody, Payload};
@@ -62,13 +62,14 @@ fn data_counts_hold(lists: &Lists<'_, '_>) -> bool
 fn data_count_holds(lists: &Lists<'_, '_>, section: Section<'_, '_>) -> bool
     ensures { IsTrue result
         ↔ All (λ count. count ≡ length (segments (source_module lists.now.source)))
-        (data_counts_of_section (section_of section.entry)) }
+        (flat_map data_counts_of_section (sections_in section.entry)) }
 {
     match section {
         Section::Read(Payload::DataCount(count)) => {
             let count = *count as usize;
             has_entries::<DataSegment<'_>>(lists.source, count)
         }
+        Section::Customs(_) => true,
         _ => true,
     }
 }

@@ -5,7 +5,7 @@ ghost use Rattle.std.specs.List.{flat_map};
 ghost use Rattle.wasm_spec.specs.Module.{starts_of_section};
 ghost use Rattle.form_data.specs.Views.{composite_of};
 ghost use Rattle.rule_spec.specs.Indices.{TakesAndGivesNothing, CanStart};
-ghost use Rattle.form_lists.specs.Source.{source_module, section_of};
+ghost use Rattle.form_lists.specs.Source.{source_module, sections_in};
 ghost use Rattle.form_lists.specs.Views.{lists_of};
 
 use form_data::{CompositeInnerType, Payload};
@@ -24,10 +24,11 @@ pub fn starts_hold(lists: &Lists<'_, '_>) -> bool
 }
 
 fn section_can_start(lists: &Lists<'_, '_>, section: Section<'_, '_>) -> bool
-    ensures { IsTrue result ↔ All (CanStart (lists_of lists.now)) (starts_of_section (section_of section.entry)) }
+    ensures { IsTrue result ↔ All (CanStart (lists_of lists.now)) (flat_map starts_of_section (sections_in section.entry)) }
 {
     match section {
         Section::Read(Payload::Start(function)) => can_start(lists, *function),
+        Section::Customs(_) => true,
         _ => true,
     }
 }

@@ -1,6 +1,6 @@
 use Rattle.std.proofs.Common.{◌↔◌, All}
 use Rattle.std.specs.List.{flat_map}
-use Rattle.wasm_spec.specs.Module.{starts_of_section, Payload}
+use Rattle.wasm_spec.specs.Module.{starts_of_section}
 use Rattle.rule_spec.specs.Indices.{CanStart}
 use Rattle.form_lists.specs.Source.{source_module, sections_left}
 use Rattle.form_lists.specs.Views.{lists_of}
@@ -8,5 +8,5 @@ use Rattle.form_rules.proofs.start.starts_hold.Given as goal
 
 -- all hold exactly where those do that are left
 abbrev pub invariant-loop-section : goal.invariant-loop-section
-invariant-loop-section l = All (λ (section : Payload). All (CanStart (lists_of l.lists)) (starts_of_section section)) (sections_left l.section-iterator)
+invariant-loop-section l = All (CanStart (lists_of l.lists)) (flat_map starts_of_section (sections_left l.section-iterator))
     ↔ All (CanStart (lists_of l.lists)) (flat_map starts_of_section (source_module l.lists.source))
