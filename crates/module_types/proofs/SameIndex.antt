@@ -136,5 +136,5 @@ same-index ms near tags startup i lt =
     let l = interned ms tags startup in
     let b = (taken ms).built in
     let behind = extends-interned ms tags startup in
-    all-same ms (number_in ms) w.exact l (well-named ms near tags startup) (taken_groups ms) empty [] w.stand w.covers
-    (subst (λ b. Extends b l) w.built behind) (λ j below none. absurd (false≢true none)) i (omega (arith, lt, w.counted))
+    all-same ms (number_in ms) w.exact l (well-named ms near tags startup) (taken_groups ms) empty [] w.groups.stand w.groups.covers
+    (subst (λ b. Extends b l) w.groups.built behind) (λ j below none. absurd (false≢true none)) i (omega (arith, lt, w.counted))
