@@ -24,7 +24,7 @@ use Rattle.form_types.specs.Placed.{placed_groups, id_at, named}
 use Rattle.form_types.specs.Numbered.{first_id, AreNumbered}
 use Rattle.form_types.proofs.Ruled.{size-places}
 use Rattle.module_types.specs.Builder.{Builder, new_builder, interns_by}
-use Rattle.module_types.specs.Conversion.{kind_in, group_of_id, members_of, no_span, start_by, index_by_id, name_by_id, id_number, interned_members, interned_index, HoldsGroups, NamesInterned}
+use Rattle.module_types.specs.Conversion.{kind_in, group_of_id, members_of, no_span, start_by, index_by_id, name_by_id, id_number, interned_members, interned_index, HoldsGroups}
 use Rattle.module_types.specs.InTurn.{interns_type, interns_declared, HasTaken, CanIntern}
 use Rattle.module_types.proofs.GroupMembers.{Extends, extends-group, group-within, span-new, span-old}
 use Rattle.module_types.proofs.Holding.{noted-here, noted-elsewhere, holds-kept}
