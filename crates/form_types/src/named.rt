@@ -1,11 +1,11 @@
 //! Types in which each reference is the id of what it names.
 
-ghost use Rattle.std.specs.Prelude.{◌≡◌, map, IfOk};
+ghost use Rattle.std.specs.Prelude.{◌≡◌, map, All, IsTrue, IfOk};
 ghost use Rattle.std.specs.Option.{option_map};
 ghost use Rattle.wasm_spec.specs.TypeData.{heap_of, reference_of, value_of, storage_of, field_of, map_heap, map_reference, map_value, map_storage, map_field, map_function, map_composite, map_sub_type, map_group};
 ghost use Rattle.form_data.specs.Views.{function_of, composite_of, sub_type_of, group_of};
 ghost use Rattle.form_types.specs.Seen.{ids_of};
-ghost use Rattle.form_types.specs.Placed.{named_index};
+ghost use Rattle.form_types.specs.Placed.{named_index, NamesNone};
 
 use crate::seen::{id_at, place_of};
 use form_data::{CompositeInnerType, FuncType, RecGroup, SubType};
@@ -68,6 +68,23 @@ fn named_field(ids: &[CoreTypeId], field: FieldType) -> FieldType
     }
 }
 
+/// Whether a value type names no type.
+fn names_none(value: &ValType) -> bool
+    ensures { IsTrue result → NamesNone (value_of value.now) }
+{
+    match value {
+        ValType::Ref(ty) => matches!(ty.heap, HeapType::Abstract(_)),
+        _ => true,
+    }
+}
+
+/// Whether none of some value types names a type.
+fn all_name_none(values: &[ValType]) -> bool
+    ensures { IsTrue result → All (λ v. NamesNone (value_of v)) values.now }
+{
+    values.iter().all(|value| names_none(value))
+}
+
 fn named_values(
     alloc: Global,
     ids: &[CoreTypeId],
@@ -75,6 +92,11 @@ fn named_values(
 ) -> Result<Vec<ValType>, AllocError>
     ensures { IfOk result (λ v. map value_of v.items ≡ map (map_value (named_index (ids_of ids.now))) (map value_of values.now)) }
 {
+    // Most lists name no type, and are copied at once.
+    if all_name_none(values) {
+        let same = Vec::from_slice(alloc, values)?;
+        return Ok(same);
+    }
     let mut named = Vec::with_capacity(alloc, values.len())?;
     for value in values {
         named.push(named_value(ids, *value))?;
