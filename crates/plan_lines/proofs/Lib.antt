@@ -1,5 +1,8 @@
+pub mod Decimal
 pub mod Hexadecimal
+pub mod PartWritten
 pub mod Plain
 pub mod PlainTable
+pub mod Spaced
 pub mod Trampolines
 pub mod Written

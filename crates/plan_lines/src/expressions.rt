@@ -1,34 +1,38 @@
 //! Constant expressions, inside a line.
 
 ghost use Rattle.std.specs.Prelude.{◌≡◌, ◌++◌, ◌≤◌, OnOk, codes, decimal};
+ghost use Rattle.std.specs.Fmt.{signed_decimal};
 ghost use Rattle.plan_lines.specs.Expressions.{hexadecimal, operator_text, expression_text};
 
+use crate::digits::{put_signed, put_spaced};
+use crate::numbers::append_number;
+use crate::room::{make_room, put, put_byte};
 use crate::text::Text;
 use entity_map::{EntityRef, OutOfMemory};
-use itoa::Integer;
 use wasm_convert::{ConstExpr, ConstOp};
 use wasm_types::WasmHeapType;
 
-/// Appends a space and a number.
-#[inline(always)]
-pub(crate) fn append_number<I: Integer>(text: &mut Text, number: I) -> Result<(), OutOfMemory>
-    ensures { OnOk result (text.new ≡ text.old ++ (codes " " ++ I.text number)) }
-{
-    text.push_byte(b' ')?;
-    text.push_number(number)
-}
-
 // Appends a name, a space and a number.
 #[inline(always)]
-pub(crate) fn append_operand<I: Integer>(
-    text: &mut Text,
-    name: &str,
-    number: I,
-) -> Result<(), OutOfMemory>
-    ensures { OnOk result (text.new ≡ text.old ++ name.now ++ codes " " ++ I.text number) }
+fn append_operand(text: &mut Text, name: &str, number: u32) -> Result<(), OutOfMemory>
+    ensures { OnOk result (text.new ≡ text.old ++ name.now ++ codes " " ++ decimal number) }
 {
-    text.push_str(name)?;
-    append_number(text, number)
+    make_room(&mut text.room, text.used, name.len() + 21)?;
+    let end = put(&mut text.room, text.used, name.as_bytes());
+    text.used = put_spaced(&mut text.room, end, number.into());
+    Ok(())
+}
+
+// Appends a name, a space and a number with its sign.
+#[inline(always)]
+fn append_signed(text: &mut Text, name: &str, number: i64) -> Result<(), OutOfMemory>
+    ensures { OnOk result (text.new ≡ text.old ++ name.now ++ codes " " ++ signed_decimal number) }
+{
+    make_room(&mut text.room, text.used, name.len() + 22)?;
+    let end = put(&mut text.room, text.used, name.as_bytes());
+    let first = put_byte(&mut text.room, end, b' ');
+    text.used = put_signed(&mut text.room, first, number);
+    Ok(())
 }
 
 fn append_bits(text: &mut Text, name: &str, bits: u128, digits: usize) -> Result<(), OutOfMemory>
@@ -59,8 +63,8 @@ fn append_lent(text: &mut Text, operator: &ConstOp) -> Result<(), OutOfMemory>
     ensures { OnOk result (text.new ≡ text.old ++ operator_text operator.now) }
 {
     match operator {
-        ConstOp::I32Const(value) => append_operand(text, "i32.const", *value),
-        ConstOp::I64Const(value) => append_operand(text, "i64.const", *value),
+        ConstOp::I32Const(value) => append_signed(text, "i32.const", (*value).into()),
+        ConstOp::I64Const(value) => append_signed(text, "i64.const", *value),
         ConstOp::F32Const(bits) => append_bits(text, "f32.const", u128::from(*bits), 8),
         ConstOp::F64Const(bits) => append_bits(text, "f64.const", u128::from(*bits), 16),
         ConstOp::V128Const(bits) => append_bits(text, "v128.const", *bits, 32),

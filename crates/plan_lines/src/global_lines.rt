@@ -5,7 +5,7 @@ ghost use Rattle.std.specs.List.{flat_map};
 ghost use Rattle.plan_lines.specs.GlobalLines.{constant_of, global_line, global_expression_line};
 
 use crate::expressions::{append_expression, append_operator};
-use crate::numbers::append_named;
+use crate::numbers::{append_between, append_named};
 use crate::text::Text;
 use entity_map::{EntityRef, OutOfMemory};
 use wasm_convert::{ConstExpr, ConstOp, GlobalConstValue};
@@ -32,9 +32,7 @@ pub fn append_global(
 ) -> Result<(), OutOfMemory>
     ensures { OnOk result (text.new ≡ text.old ++ global_line index value) }
 {
-    text.push_str("global ")?;
-    text.push_number(index.as_u32())?;
-    text.push_byte(b' ')?;
+    append_between(text, "global ", index.as_u32().into(), " ")?;
     append_operator(text, constant_of(value))?;
     text.push_byte(b'\n')
 }

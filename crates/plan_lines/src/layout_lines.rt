@@ -5,8 +5,7 @@ ghost use Rattle.std.specs.List.{flat_map};
 ghost use Rattle.plan_lines.specs.Numbers.{keyed_lines};
 ghost use Rattle.plan_lines.specs.LayoutLines.{refs_text, array_layout_line, layout_field_text, fields_layout_line, layout_lines};
 
-use crate::expressions::append_number;
-use crate::numbers::append_named;
+use crate::numbers::{append_named, append_number};
 use crate::text::Text;
 use entity_map::{EntityRef, OutOfMemory, PrimaryMap};
 use gc_layout::{GcArrayLayout, GcLayout, GcStructLayout, GcStructLayoutField};

@@ -2,6 +2,7 @@
 #![tactic(auto)]
 
 mod context_lines;
+mod digits;
 mod expressions;
 mod global_lines;
 mod hint_lines;

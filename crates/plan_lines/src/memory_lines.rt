@@ -4,7 +4,7 @@ ghost use Rattle.std.specs.Prelude.{◌≡◌, ◌++◌, OnOk};
 ghost use Rattle.plan_lines.specs.Numbers.{keyed_lines};
 ghost use Rattle.plan_lines.specs.MemoryLines.{alignment_lines, image_lines, passive_lines, runtime_line};
 
-use crate::numbers::{append_numbers, append_pair_line, append_triple_line};
+use crate::numbers::append_numbers;
 use crate::text::Text;
 use entity_map::{EntityRef, OutOfMemory, PrimaryMap, SecondaryMap};
 use std::ops::Range;
@@ -60,7 +60,11 @@ pub fn append_passive(
     ensures { OnOk result (text.new ≡ text.old ++ passive_lines segment index) }
 {
     match index {
-        Some(index) => append_pair_line(text, "passive-data", segment.as_u32(), index.as_u32()),
+        Some(index) => append_numbers(
+            text,
+            "passive-data",
+            &[segment.as_u32().into(), index.as_u32().into()],
+        ),
         None => Ok(()),
     }
 }
@@ -86,7 +90,11 @@ pub fn append_runtime_data(
     ensures { OnOk result (text.new ≡ text.old ++ keyed_lines runtime_line ranges.now) }
 {
     for (index, range) in ranges.iter() {
-        append_triple_line(text, "runtime", index.as_u32(), range.start, range.end)?;
+        append_numbers(
+            text,
+            "runtime",
+            &[index.as_u32().into(), range.start.into(), range.end.into()],
+        )?;
     }
     Ok(())
 }

@@ -7,7 +7,7 @@ ghost use Rattle.plan_lines.specs.Numbers.{keyed_lines};
 ghost use Rattle.plan_lines.specs.ModuleLines.{HasNames, initializer_line, initializer_lines_from, count_lines, gc_heap_line, escape_lines, start_lines, startup_line};
 
 use crate::name_lines::append_import;
-use crate::numbers::{append_counts, append_numbers, append_pair_line};
+use crate::numbers::{append_counts, append_numbers};
 use crate::text::Text;
 use crate::type_lines::listed_number;
 use entity_map::{EntityRef, OutOfMemory, PrimaryMap, StringPool};
@@ -97,7 +97,11 @@ pub fn append_escape(
     if !function.is_escaping() {
         return Ok(());
     }
-    append_pair_line(text, "escape", index.as_u32(), function.func_ref.as_u32())
+    append_numbers(
+        text,
+        "escape",
+        &[index.as_u32().into(), function.func_ref.as_u32().into()],
+    )
 }
 
 /// Appends the lines of the functions that escape.

@@ -1,10 +1,10 @@
 //! The lines of names: exports, and those of the name section.
 
-ghost use Rattle.std.specs.Prelude.{◌≡◌, ◌++◌, All, OnOk};
+ghost use Rattle.std.specs.Prelude.{◌≡◌, ◌++◌, All, OnOk, codes};
 ghost use Rattle.std.specs.List.{flat_map};
 ghost use Rattle.plan_lines.specs.NameLines.{IsInPool, HasName, quoted_atom, entity_text, import_line, export_line, module_name_line, module_name_lines, function_name_line};
 
-use crate::expressions::append_operand;
+use crate::numbers::append_between;
 use crate::quoted::append_quoted;
 use crate::text::Text;
 use entity_map::{Atom, EntityRef, OutOfMemory, StringPool};
@@ -20,16 +20,18 @@ fn append_atom(text: &mut Text, pool: &StringPool, atom: Atom) -> Result<(), Out
     append_quoted(text, pool.get(atom))
 }
 
+// Appends the end of a line: an entity.
 fn append_entity(text: &mut Text, entity: EntityIndex) -> Result<(), OutOfMemory>
-    ensures { OnOk result (text.new ≡ text.old ++ entity_text entity) }
+    ensures { OnOk result (text.new ≡ text.old ++ codes " " ++ entity_text entity ++ codes "\n") }
 {
-    match entity {
-        EntityIndex::Function(index) => append_operand(text, "function", index.as_u32()),
-        EntityIndex::Table(index) => append_operand(text, "table", index.as_u32()),
-        EntityIndex::Memory(index) => append_operand(text, "memory", index.as_u32()),
-        EntityIndex::Global(index) => append_operand(text, "global", index.as_u32()),
-        EntityIndex::Tag(index) => append_operand(text, "tag", index.as_u32()),
-    }
+    let (kind, number) = match entity {
+        EntityIndex::Function(index) => (" function ", index.as_u32()),
+        EntityIndex::Table(index) => (" table ", index.as_u32()),
+        EntityIndex::Memory(index) => (" memory ", index.as_u32()),
+        EntityIndex::Global(index) => (" global ", index.as_u32()),
+        EntityIndex::Tag(index) => (" tag ", index.as_u32()),
+    };
+    append_between(text, kind, number.into(), "\n")
 }
 
 /// Appends the line of an import, with its place among the imports. The texts of its names must be in the pool.
@@ -46,15 +48,11 @@ pub fn append_import(
     requires field { IsInPool pool.now field }
     ensures { OnOk result (text.new ≡ text.old ++ import_line pool.now place name field entity) }
 {
-    text.push_str("import ")?;
-    text.push_number(place)?;
-    text.push_byte(b' ')?;
+    append_between(text, "import ", place as u64, " ")?;
     append_atom(text, pool, name)?;
     text.push_byte(b' ')?;
     append_atom(text, pool, field)?;
-    text.push_byte(b' ')?;
-    append_entity(text, entity)?;
-    text.push_byte(b'\n')
+    append_entity(text, entity)
 }
 
 /// Appends the line of an export. The text of its name must be in the pool.
@@ -70,9 +68,7 @@ pub fn append_export(
 {
     text.push_str("export ")?;
     append_atom(text, pool, name)?;
-    text.push_byte(b' ')?;
-    append_entity(text, entity)?;
-    text.push_byte(b'\n')
+    append_entity(text, entity)
 }
 
 /// Appends the lines of the exports. The texts of their names must be in the pool.
@@ -124,9 +120,7 @@ pub fn append_function_name(
 ) -> Result<(), OutOfMemory>
     ensures { OnOk result (text.new ≡ text.old ++ function_name_line index name.now) }
 {
-    text.push_str("func-name ")?;
-    text.push_number(index.as_u32())?;
-    text.push_byte(b' ')?;
+    append_between(text, "func-name ", index.as_u32().into(), " ")?;
     append_quoted(text, name)?;
     text.push_byte(b'\n')
 }

@@ -1,107 +1,76 @@
 //! Lines of numbers.
 
-ghost use Rattle.std.specs.Prelude.{◌≡◌, ◌≤◌, ◌+◌, ◌∷◌, [], ◌++◌, OnOk, codes, decimal, drop};
+ghost use Rattle.std.specs.Prelude.{◌≡◌, ◌≤◌, ◌+◌, ◌*◌, ◌∷◌, [], ◌++◌, length, OnOk, IfSome, codes, decimal};
 ghost use Rattle.wasm_types.specs.Texts.{spaced};
 ghost use Rattle.plan_lines.specs.Numbers.{numbers_line, counts_line, named_number};
 
-use crate::expressions::append_number;
+use crate::digits::{put_number, put_numbers, put_spaced};
+use crate::room::{make_room, put, put_byte};
 use crate::text::Text;
 use entity_map::OutOfMemory;
-use itoa::write_digits;
+
+// The most bytes that a line of a word and numbers takes: a number has at most twenty digits.
+#[inline(always)]
+fn most_bytes(word: &str, numbers: &[u64]) -> Option<usize>
+    ensures { IfSome result (λ n. n ≡ 21 * length numbers.now + (length word.now + 1)) }
+{
+    numbers.len().checked_mul(21)?.checked_add(word.len() + 1)
+}
 
 /// Appends a line: a word, and numbers.
+#[inline(always)]
 #[tactic(auto, unfolding(crate::specs::Numbers::numbers_line))]
 pub fn append_numbers(text: &mut Text, word: &str, numbers: &[u64]) -> Result<(), OutOfMemory>
     ensures { OnOk result (text.new ≡ text.old ++ numbers_line word.now numbers.now) }
 {
-    text.push_str(word)?;
-    for number in numbers {
-        append_number(text, *number)?;
-    }
-    text.push_byte(b'\n')
+    let Some(most) = most_bytes(word, numbers) else {
+        return Err(OutOfMemory);
+    };
+    make_room(&mut text.room, text.used, most)?;
+    let first = put(&mut text.room, text.used, word.as_bytes());
+    let end = put_numbers(&mut text.room, first, numbers);
+    text.used = put_byte(&mut text.room, end, b'\n');
+    Ok(())
 }
 
-// Writes a space and a number before the bytes from `end` on, and returns where they start.
+// Appends a space and a number.
 #[inline(always)]
-fn write_number(number: u32, bytes: &mut [u8; 40], end: usize) -> usize
-    requires { (11 ≤ end) × (end ≤ 40) }
-    ensures written { drop result bytes.new ≡ codes " " ++ decimal number ++ drop end bytes.old }
-    ensures within { (end ≤ result + 11) × (result ≤ end) }
+pub(crate) fn append_number(text: &mut Text, number: u32) -> Result<(), OutOfMemory>
+    ensures { OnOk result (text.new ≡ text.old ++ (codes " " ++ decimal number)) }
 {
-    let start = write_digits(u64::from(number), bytes, end) - 1;
-    bytes[start] = b' ';
-    start
+    make_room(&mut text.room, text.used, 21)?;
+    text.used = put_spaced(&mut text.room, text.used, number.into());
+    Ok(())
 }
 
-// Appends two numbers, with a space before each.
-#[inline(always)]
-pub(crate) fn append_pair(text: &mut Text, first: u32, second: u32) -> Result<(), OutOfMemory>
-    ensures { OnOk result (text.new ≡ text.old ++ spaced decimal (first ∷ second ∷ [])) }
-{
-    let mut bytes = [0; 40];
-    let from_second = write_number(second, &mut bytes, 40);
-    let from_first = write_number(first, &mut bytes, from_second);
-    text.push_bytes(&bytes[from_first..])
-}
-
-// Appends three numbers, with a space before each.
-#[inline(always)]
-pub(crate) fn append_triple(
-    text: &mut Text,
-    first: u32,
-    second: u32,
-    third: u32,
-) -> Result<(), OutOfMemory>
-    ensures { OnOk result (text.new ≡ text.old ++ spaced decimal (first ∷ second ∷ third ∷ [])) }
-{
-    let mut bytes = [0; 40];
-    let from_third = write_number(third, &mut bytes, 40);
-    let from_second = write_number(second, &mut bytes, from_third);
-    let from_first = write_number(first, &mut bytes, from_second);
-    text.push_bytes(&bytes[from_first..])
-}
-
-// Appends a line: a word and two numbers.
-#[inline(always)]
-#[tactic(auto, unfolding(crate::specs::Numbers::numbers_line))]
-pub(crate) fn append_pair_line(
-    text: &mut Text,
-    word: &str,
-    first: u32,
-    second: u32,
-) -> Result<(), OutOfMemory>
-    ensures { OnOk result (text.new ≡ text.old ++ numbers_line word.now (first ∷ second ∷ [])) }
-{
-    text.push_str(word)?;
-    append_pair(text, first, second)?;
-    text.push_byte(b'\n')
-}
-
-// Appends a line: a word and three numbers.
-#[inline(always)]
-#[tactic(auto, unfolding(crate::specs::Numbers::numbers_line))]
-pub(crate) fn append_triple_line(
-    text: &mut Text,
-    word: &str,
-    first: u32,
-    second: u32,
-    third: u32,
-) -> Result<(), OutOfMemory>
-    ensures { OnOk result (text.new ≡ text.old ++ numbers_line word.now (first ∷ second ∷ third ∷ [])) }
-{
-    text.push_str(word)?;
-    append_triple(text, first, second, third)?;
-    text.push_byte(b'\n')
-}
-
-/// Appends words, a space and a number.
+// Appends words, a space and a number.
 #[inline(always)]
 #[tactic(auto, unfolding(crate::specs::Numbers::named_number))]
 pub(crate) fn append_named(text: &mut Text, words: &str, number: u32) -> Result<(), OutOfMemory>
     ensures { OnOk result (text.new ≡ text.old ++ named_number words.now number) }
 {
-    text.push_str(words)?;
-    append_number(text, number)
+    make_room(&mut text.room, text.used, words.len() + 21)?;
+    let end = put(&mut text.room, text.used, words.as_bytes());
+    text.used = put_spaced(&mut text.room, end, number.into());
+    Ok(())
+}
+
+// Appends a number between words.
+#[inline(always)]
+pub(crate) fn append_between(
+    text: &mut Text,
+    before: &str,
+    number: u64,
+    after: &str,
+) -> Result<(), OutOfMemory>
+    requires { length before.now + length after.now ≤ 100 }
+    ensures { OnOk result (text.new ≡ text.old ++ before.now ++ decimal number ++ after.now) }
+{
+    make_room(&mut text.room, text.used, before.len() + 20 + after.len())?;
+    let first = put(&mut text.room, text.used, before.as_bytes());
+    let end = put_number(&mut text.room, first, number);
+    text.used = put(&mut text.room, end, after.as_bytes());
+    Ok(())
 }
 
 /// Appends how many entities are imported, and how many are defined.

@@ -1,8 +1,9 @@
 //! Names between quotes.
 
-ghost use Rattle.std.specs.Prelude.{◌≡◌, ◌↔◌, ◌++◌, All, IsTrue, OnOk};
+ghost use Rattle.std.specs.Prelude.{◌≡◌, ◌↔◌, ◌++◌, All, IsTrue, OnOk, codes};
 ghost use Rattle.plan_lines.specs.Quoted.{is_plain, quoted_byte, quoted_bytes, quoted_text};
 
+use crate::room::{make_room, put, put_byte};
 use crate::text::Text;
 use entity_map::OutOfMemory;
 
@@ -40,14 +41,20 @@ fn append_byte(text: &mut Text, byte: u8) -> Result<(), OutOfMemory>
     text.push_hexadecimal(u128::from(byte), 2)
 }
 
-#[tactic(auto, using(crate::proofs::Plain::plain_bytes))]
-fn append_bytes(text: &mut Text, words: &str) -> Result<(), OutOfMemory>
-    ensures { OnOk result (text.new ≡ text.old ++ quoted_bytes words.now) }
+// Appends words between quotes, each byte as it is.
+fn append_plain(text: &mut Text, words: &str) -> Result<(), OutOfMemory>
+    ensures { OnOk result (text.new ≡ text.old ++ codes "\"" ++ words.now ++ codes "\"") }
 {
-    let bytes = words.as_bytes();
-    if are_plain(bytes) {
-        return text.push_str(words);
-    }
+    make_room(&mut text.room, text.used, words.len() + 2)?;
+    let first = put_byte(&mut text.room, text.used, b'"');
+    let end = put(&mut text.room, first, words.as_bytes());
+    text.used = put_byte(&mut text.room, end, b'"');
+    Ok(())
+}
+
+fn append_bytes(text: &mut Text, bytes: &[u8]) -> Result<(), OutOfMemory>
+    ensures { OnOk result (text.new ≡ text.old ++ quoted_bytes bytes.now) }
+{
     for byte in bytes {
         append_byte(text, *byte)?;
     }
@@ -58,7 +65,10 @@ fn append_bytes(text: &mut Text, words: &str) -> Result<(), OutOfMemory>
 pub fn append_quoted(text: &mut Text, words: &str) -> Result<(), OutOfMemory>
     ensures { OnOk result (text.new ≡ text.old ++ quoted_text words.now) }
 {
+    if are_plain(words.as_bytes()) {
+        return append_plain(text, words);
+    }
     text.push_byte(b'"')?;
-    append_bytes(text, words)?;
+    append_bytes(text, words.as_bytes())?;
     text.push_byte(b'"')
 }

@@ -1,13 +1,11 @@
-//! Room in memory, of which the first bytes are in use.
+//! Room in memory, of which the first bytes are in use. What is written says where it ends; what is behind may be anything.
 
-ghost use Rattle.std.specs.Prelude.{◌≡◌, ◌+◌, ◌≤◌, ◌++◌, ◌∷◌, [], ℕ, length, take, vec_len, OnOk};
+ghost use Rattle.std.specs.Prelude.{◌≡◌, ◌+◌, ◌<◌, ◌≤◌, ◌++◌, ◌∷◌, [], ℕ, length, take, vec_len, OnOk};
 
 use entity_map::OutOfMemory;
 
-// What is added at least, and what is added at most where less is asked for.
-const LEAST_STEP: usize = 1 << 8;
-
-const MOST_STEP: usize = 1 << 16;
+// What is added where no more is asked for.
+static BLOCK: [u8; 1024] = [0; 1024];
 
 // Makes room for so many bytes more behind those in use, which stay.
 #[inline(always)]
@@ -35,8 +33,11 @@ fn extend(room: &mut Vec<u8>, additional: usize) -> Result<(), OutOfMemory>
     ensures longer { vec_len room.old ≤ vec_len room.new }
     ensures ok { OnOk result (vec_len room.old + additional ≤ vec_len room.new) }
 {
-    let step = room.len().max(LEAST_STEP).min(MOST_STEP).max(additional);
-    let Some(len) = room.len().checked_add(step) else {
+    if additional <= BLOCK.len() {
+        room.extend_from_slice(&BLOCK)?;
+        return Ok(());
+    }
+    let Some(len) = room.len().checked_add(additional) else {
         return Err(OutOfMemory);
     };
     room.resize(len, 0)?;
@@ -45,20 +46,34 @@ fn extend(room: &mut Vec<u8>, additional: usize) -> Result<(), OutOfMemory>
 
 // Writes bytes behind those in use.
 #[inline(always)]
-pub(crate) fn put(room: &mut Vec<u8>, used: usize, bytes: &[u8])
-    requires { used + length bytes.now ≤ vec_len room.old }
-    ensures written { take (used + length bytes.now) room.new.items ≡ take used room.old.items ++ bytes.now }
-    ensures len { vec_len room.new ≡ vec_len room.old }
+pub(crate) fn put(room: &mut [u8], used: usize, bytes: &[u8]) -> usize
+    requires { used + length bytes.now ≤ length room.old }
+    ensures written { take result room.new ≡ take used room.old ++ bytes.now }
+    ensures end { result ≡ used + length bytes.now }
 {
-    room[used..used + bytes.len()].copy_from_slice(bytes);
+    let end = used + bytes.len();
+    room[used..end].copy_from_slice(bytes);
+    end
 }
 
 // Writes a byte behind those in use.
 #[inline(always)]
-pub(crate) fn put_byte(room: &mut Vec<u8>, used: usize, byte: u8)
-    requires { used + 1 ≤ vec_len room.old }
-    ensures written { take (used + 1) room.new.items ≡ take used room.old.items ++ byte ∷ [] }
-    ensures len { vec_len room.new ≡ vec_len room.old }
+pub(crate) fn put_byte(room: &mut [u8], used: usize, byte: u8) -> usize
+    requires { used < length room.old }
+    ensures written { take result room.new ≡ take used room.old ++ byte ∷ [] }
+    ensures end { result ≡ used + 1 }
 {
     room[used] = byte;
+    used + 1
+}
+
+// Writes the first few of eight bytes. All eight are copied, which takes one step.
+#[inline(always)]
+pub(crate) fn put_part(room: &mut [u8], used: usize, bytes: &[u8; 8], len: usize) -> usize
+    requires { (len ≤ 8) × (used + 8 ≤ length room.old) }
+    ensures written { take result room.new ≡ take used room.old ++ take len bytes.now }
+    ensures end { result ≡ used + len }
+{
+    put(room, used, bytes);
+    used + len
 }

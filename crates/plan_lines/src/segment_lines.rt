@@ -17,7 +17,7 @@ ghost use Rattle.plan_lines.specs.SegmentLines.{
 
 use crate::expressions::append_expression;
 use crate::memory_lines::append_images;
-use crate::numbers::{append_named, append_pair};
+use crate::numbers::{append_between, append_named};
 use crate::text::Text;
 use entity_map::{EntityRef, OutOfMemory, PrimaryMap};
 use init_plan::{MemoryInit, MemoryInitialization, MemorySegmentOffset};
@@ -71,11 +71,8 @@ pub fn append_table_values(
 pub fn append_element(text: &mut Text, segment: &TableSegment) -> Result<(), OutOfMemory>
     ensures { OnOk result (text.new ≡ text.old ++ element_line segment.now) }
 {
-    text.push_str("element ")?;
-    text.push_number(segment.table_index.as_u32())?;
-    text.push_byte(b' ')?;
-    text.push_number(segment.elements.len())?;
-    text.push_str(" at ")?;
+    append_between(text, "element ", segment.table_index.as_u32().into(), " ")?;
+    append_between(text, "", segment.elements.len() as u64, " at ")?;
     append_expression(text, &segment.offset)?;
     text.push_byte(b'\n')
 }
@@ -119,8 +116,7 @@ pub fn append_initialization_images(
 fn append_place(text: &mut Text, place: u64) -> Result<(), OutOfMemory>
     ensures { OnOk result (text.new ≡ text.old ++ offset_text (MemorySegmentOffset.Static place)) }
 {
-    text.push_str("static ")?;
-    text.push_number(place)
+    append_between(text, "static ", place, "")
 }
 
 /// Appends the place of a planned segment.
@@ -143,9 +139,8 @@ pub fn append_segment(
 ) -> Result<(), OutOfMemory>
     ensures { OnOk result (text.new ≡ text.old ++ segment_line (number_of memory) (number_of index) offset.now) }
 {
-    text.push_str("segment")?;
-    append_pair(text, memory.as_u32(), index.as_u32())?;
-    text.push_str(" at ")?;
+    append_between(text, "segment ", memory.as_u32().into(), " ")?;
+    append_between(text, "", index.as_u32().into(), " at ")?;
     append_offset(text, offset)?;
     text.push_byte(b'\n')
 }

@@ -5,8 +5,7 @@ ghost use Rattle.std.specs.List.{flat_map};
 ghost use Rattle.plan_lines.specs.Numbers.{keyed_lines};
 ghost use Rattle.plan_lines.specs.TableLines.{cell_text, table_image_line, table_image_lines, passive_element_line};
 
-use crate::expressions::append_number;
-use crate::numbers::append_named;
+use crate::numbers::{append_named, append_number};
 use crate::text::Text;
 use entity_map::{EntityRef, OutOfMemory, PrimaryMap, ReservedValue};
 use wasm_index::{DefinedTableIndex, FuncIndex, PassiveElemIndex};

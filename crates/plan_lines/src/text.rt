@@ -15,8 +15,8 @@ use std::marker::Model;
 #[derive(Drop)]
 pub struct Text {
     // The bytes, and room behind them: so most writes are a test of its length, and a copy.
-    room: Vec<u8>,
-    used: usize,
+    pub(crate) room: Vec<u8>,
+    pub(crate) used: usize,
 }
 
 impl Model for Text {
@@ -63,8 +63,7 @@ impl Text {
         ensures { OnOk result (self.new ≡ self.old ++ bytes.now) }
     {
         make_room(&mut self.room, self.used, bytes.len())?;
-        put(&mut self.room, self.used, bytes);
-        self.used += bytes.len();
+        self.used = put(&mut self.room, self.used, bytes);
         Ok(())
     }
 
@@ -74,8 +73,7 @@ impl Text {
         ensures { OnOk result (self.new ≡ self.old ++ byte ∷ []) }
     {
         make_room(&mut self.room, self.used, 1)?;
-        put_byte(&mut self.room, self.used, byte);
-        self.used += 1;
+        self.used = put_byte(&mut self.room, self.used, byte);
         Ok(())
     }
 

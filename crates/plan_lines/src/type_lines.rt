@@ -5,7 +5,7 @@ ghost use Rattle.std.specs.List.{flat_map};
 ghost use Rattle.plan_lines.specs.Numbers.{keyed_lines};
 ghost use Rattle.plan_lines.specs.TypeLines.{trampoline_text, type_line, listed_number, declared_line, signature_line};
 
-use crate::numbers::{append_named, append_numbers, append_pair_line};
+use crate::numbers::{append_between, append_named, append_numbers};
 use crate::text::Text;
 use crate::type_words::append_subtype;
 use entity_map::{EntityRef, OutOfMemory, PrimaryMap};
@@ -34,9 +34,7 @@ pub fn append_type(
 ) -> Result<(), OutOfMemory>
     ensures { OnOk result (text.new ≡ text.old ++ type_line index ty.now trampoline) }
 {
-    text.push_str("type ")?;
-    text.push_number(index.as_u32())?;
-    text.push_byte(b' ')?;
+    append_between(text, "type ", index.as_u32().into(), " ")?;
     append_subtype(text, ty)?;
     append_trampoline(text, trampoline)?;
     text.push_byte(b'\n')
@@ -61,7 +59,11 @@ pub fn append_declared(
     ensures { OnOk result (text.new ≡ text.old ++ keyed_lines declared_line types.now) }
 {
     for (index, interned) in types.iter() {
-        append_pair_line(text, "declared", index.as_u32(), listed_number(*interned))?;
+        append_numbers(
+            text,
+            "declared",
+            &[index.as_u32().into(), listed_number(*interned).into()],
+        )?;
     }
     Ok(())
 }

@@ -6,7 +6,7 @@ ghost use Rattle.module_types.specs.TypeList.{called_from};
 ghost use Rattle.plan_lines.specs.Numbers.{numbers_line, keyed_lines};
 ghost use Rattle.plan_lines.specs.TypeListLines.{type_lines_from, group_line, type_list_lines, taken_at, left_after};
 
-use crate::numbers::{append_numbers, append_triple_line};
+use crate::numbers::append_numbers;
 use crate::text::Text;
 use crate::type_lines::append_type;
 use entity_map::{EntityRef, OutOfMemory};
@@ -71,12 +71,14 @@ fn append_groups(text: &mut Text, types: &ModuleTypes) -> Result<(), OutOfMemory
     ensures { OnOk result (text.new ≡ text.old ++ keyed_lines group_line types.now.groups) }
 {
     for (index, range) in types.rec_groups() {
-        append_triple_line(
+        append_numbers(
             text,
             "group",
-            index.as_u32(),
-            range.start.as_u32(),
-            range.end.as_u32(),
+            &[
+                index.as_u32().into(),
+                range.start.as_u32().into(),
+                range.end.as_u32().into(),
+            ],
         )?;
     }
     Ok(())
