@@ -78,7 +78,7 @@ module _ (m : plain.Module) (t : TypesData) (of : AreTypesOf m t) where
 
     module _ (n : ℕ) (is : n ≡ id) where
       pub names : NamesInterned t b (group_of_id t n)
-      names = subst (λ k. NamesInterned t b (group_of_id t k)) (sym is) (comes-next m t of.numbered of.earlier b i inside x.reached).named
+      names = subst (λ k. NamesInterned t b (group_of_id t k)) (sym is) (comes-next m t of.numbered of.earlier b i inside x.reached x.holds).named
 
       pub room : length (interns_type t b n).built.types < 4294967295
       room = subst (λ k. length (interns_type t b k).built.types < 4294967295) (sym is)

@@ -70,10 +70,6 @@ module _ (t : TypesData) (b : Builder) (k : ℕ) where
         each (index.Module n) lt = absurd lt
         each (index.RecGroup n) lt = absurd lt
 
-  pub next-sound : IsNextOrLast t b k → IsSound t
-  next-sound (inl h) = h.sound
-  next-sound (inr h) = h.sound
-
   pub next-holds : IsNextOrLast t b k → HoldsGroups t b
   next-holds (inl h) = h.holds
   next-holds (inr h) = h.holds

@@ -1,5 +1,5 @@
 -- Types that were met: chained by their digests, as the list grows and as one more is noted.
-use Rattle.std.proofs.Common.{◌≡◌, ◌<◌, ◌≤◌, ℕ, zero, suc, ◌+◌, ◌-◌, Bool, true, false, cond, List, [], ◌∷◌, ◌++◌, length, take, map, Some, None, refl, sym, ap, ◌∙◌, inl, inr, arith, Option}
+use Rattle.std.proofs.Common.{◌≡◌, ◌<◌, ◌≤◌, ℕ, zero, suc, ◌+◌, ◌-◌, Bool, true, false, cond, List, [], ◌∷◌, ◌++◌, length, take, map, Some, refl, sym, ap, ◌∙◌, inl, inr, arith, Option}
 use Rattle.std.specs.Prelude.{◌⊎◌, slice_get, nat_eq, if◌then◌else◌, option_and_then, IsSome}
 use Rattle.std.specs.Map.{lookup}
 use Rattle.std.specs.Option.{option_map, unwrap_or}
@@ -107,11 +107,6 @@ module _ (digest : WasmFuncType → ℕ) (newest : ℕ → ℕ) (rs : List Met) 
       let back : suc m - 1 ≡ m = omega arith in
       let there : slice_get rs m ≡ Some r = ap (slice_get rs) (sym back) ∙ at in
       sym (sym (whole f) ∙ leads.1 ∙ ap (λ es. known_in es f) (taken-more rs m r there) ∙ known-more (take m rs) r f ∙ ap (λ b. cond b (Some r.ty) (known_in (take m rs) f)) is)
-
-  -- the end of a chain
-  pub found-nowhere : (f : WasmFuncType) (c : ℕ) → Leads digest rs f c (length rs) → c ≤ 0 → None ≡ known_in rs f
-  found-nowhere f zero leads none = sym (sym (whole f) ∙ leads)
-  found-nowhere f (suc m) leads none = absurd (omega (arith, none))
 
   pub in-range : (f : WasmFuncType) (c : ℕ) → Leads digest rs f c (length rs) → 0 < c → c - 1 < length rs
   in-range f zero leads some = absurd (omega (arith, some))

@@ -24,7 +24,7 @@ use Rattle.form_types.specs.Placed.{placed_groups, id_at, named}
 use Rattle.form_types.specs.Numbered.{first_id, AreNumbered}
 use Rattle.form_types.proofs.Ruled.{size-places}
 use Rattle.module_types.specs.Builder.{Builder, new_builder, interns_by}
-use Rattle.module_types.specs.Conversion.{kind_in, group_of_id, members_of, no_span, start_by, index_by_id, name_by_id, id_number, interned_members, interned_index, HoldsGroups, NamesInterned}
+use Rattle.module_types.specs.Conversion.{kind_in, group_of_id, members_of, no_span, start_by, index_by_id, name_by_id, id_number, interned_members, interned_index, HoldsGroups}
 use Rattle.module_types.specs.InTurn.{interns_type, interns_declared, HasTaken, CanIntern}
 use Rattle.module_types.proofs.GroupMembers.{Extends, extends-group, group-within, span-new, span-old}
 use Rattle.module_types.proofs.Holding.{noted-here, noted-elsewhere, holds-kept}
@@ -162,12 +162,6 @@ module _ (m : plain.Module) (t : TypesData) (are : AreNumbered m t) (near : Name
       ap (λ o. start_by t (length b.built.types) b.built.groups b.ids o + (id i - first_id t.groups (group i))) x.id_is
       ∙ ap (λ p. (get_or b.built.groups x.at no_span).start + p) place ∙ x.index
 
-  -- the group names those before it, which are held, and itself
-  pub record CanComeNext (b : Builder) (k : ℕ) : Type 0 where
-    pub known : k < length t.groups
-    pub filled : 0 < length (members_of t k)
-    pub named : NamesInterned t b k
-
   -- ---- one declared type more
 
   module _ (b : Builder) (n : ℕ) (lt : n < size all) (has : Has b (done_at all n) (state all n)) where
@@ -192,13 +186,14 @@ module _ (m : plain.Module) (t : TypesData) (are : AreNumbered m t) (near : Name
         (again, first-group i (omega (arith, high, w.high)) ∙ ap (λ (h : Home). group h.start) again ∙ sym (first-group n lt))
 
     -- its group can be interned
-    pub comes-next : CanComeNext b (group n)
-    comes-next =
+    pub comes-next : HoldsGroups t b → CanIntern t b (group n)
+    comes-next holds =
         let x = id-at n lt in
         let Is : UnpackedIndex → Type 0 = λ i. (group_of_id t (id_number i) ≡ group n) ⊎ IsSome (b.ids (group_of_id t (id_number i))) in
         record {
           known = x.known;
           filled = omega (arith, x.within);
+          holds = holds;
           named = subst (λ (y : NamedGroup). All Is (group_edges (λ i. i) y)) (sym x.members)
               (subst (All Is) (sym ((plainly group_shape).edges_map (id_at t.declared) here.members))
               (All-map Is (id_at t.declared) (group_edges (λ r. r) here.members)
@@ -357,8 +352,7 @@ module _ (m : plain.Module) (t : TypesData) (are : AreNumbered m t) (near : Name
           some,
         ) in
         let p = reached (size gs) (omega (arith, lt)) in
-        let c = comes-next (after_first (size gs)) (size gs) lt p.0 in
-        record { known = c.known; filled = c.filled; holds = p.1; named = c.named }
+        comes-next (after_first (size gs)) (size gs) lt p.0 p.1
 
     pub tied : HasTaken t (interns_declared t (new_builder validator) 0 all) (taken all)
     tied =

@@ -1,11 +1,10 @@
 -- A group appends at most two types for each of its members: itself, and the mapped type of a function. So there are at most two for each declared type.
-use Rattle.std.proofs.Common.{◌≡◌, ℕ, suc, ◌+◌, ◌<◌, ◌≤◌, List, [], ◌∷◌, length, inl, inr, sym, ap, ◌∙◌, arith, length-append}
+use Rattle.std.proofs.Common.{◌≡◌, ℕ, suc, ◌+◌, ◌<◌, ◌≤◌, List, [], ◌∷◌, length, inl, inr, ap, arith, length-append}
 use Rattle.std.proofs.lemmas.Bool.{cases_lt}
 use Rattle.std.proofs.lemmas.List.{length-map}
 use Rattle.wasm_spec.specs.TypeData.{Group}
 use Rattle.type_spec.specs.Equality.{Home, home}
 use Rattle.type_spec.specs.Interned.{Interned, Built, Taking, assign_trampoline, assign_trampolines, opened, with_group, numbered, interned_group}
-use Rattle.type_spec.proofs.Equivalence.{home-start}
 use Rattle.type_spec.proofs.Homes.{size, home-within, home-again}
 use Rattle.module_types.proofs.GroupMembers.{few-more}
 use Rattle.module_types.proofs.Taking.{done_at, state, through-places, starts-here}

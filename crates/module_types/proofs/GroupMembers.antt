@@ -1,7 +1,7 @@
 -- Groups and the steps that follow them: what each step keeps, all keep, and so does a whole list.
 use Rattle.std.proofs.Common.{◌≡◌, ◌≤◌, ◌<◌, ℕ, zero, suc, ◌+◌, List, [], ◌∷◌, ◌++◌, length, set, drop, Bool, true, false, Option, Some, None, refl, sym, ap, ◌∙◌, arith, get_or, take, ◌-◌, map}
 use Rattle.std.specs.Prelude.{if◌then◌else◌}
-use Rattle.std.proofs.lemmas.List.{append_assoc, append-nil, length-append, drop_all, get_or_at, get_or_append_left, drop_at, take_at}
+use Rattle.std.proofs.lemmas.List.{append_assoc, append-nil, length-append, get_or_at, get_or_append_left, drop_at, take_at}
 use Rattle.wasm_spec.specs.TypeData.{Composite, Func, Group}
 use Rattle.type_data.specs.Names.{Named}
 use Rattle.type_spec.specs.Interned.{Interned, Called, Built, Span, mapped, same_mapped, plain, alone, now_known, knows, with_trampoline, assign_at, assign_trampoline, assign_trampolines, composite_at, opened, with_group, next_span, exception_for, startup_type, with_exception, with_startup, Taking, empty, is_among, with_exceptions, numbered, interned_group, take_group, none_taken, taken, interned}
@@ -196,12 +196,6 @@ module _ (old now : Built) (first i : ℕ) (a : Along old now first i) (h : i < 
   pub along-room : length made.types ≤ length (assign_trampolines old first (drop first old.types)).types
   along-room =
       omega (arith, extends-long made (assign_trampolines made (suc i) (drop (suc i) old.types)) (extends-steps made (suc i) (drop (suc i) old.types)), ap (λ (b : Built). length b.types) stepped)
-
-  pub along-within : i < length now.types
-  along-within = omega (arith, h, extends-long old now a.extends)
-
-pub along-all : (old now : Built) (first i : ℕ) → Along old now first i → i ≡ length old.types → now ≡ assign_trampolines old first (drop first old.types)
-along-all old now first i a e = ap (assign_trampolines now i) (sym (drop_all i old.types (omega (arith, e)))) ∙ a.rest
 
 -- ---- where groups stand
 

@@ -1,5 +1,5 @@
 -- The way back from data, mapped types with their codes, and which keys are equal.
-use Rattle.std.proofs.Common.{◌≡◌, ◌↔◌, ℕ, true, ◌&&◌, List, [], ◌∷◌, map, refl, ap, ◌∙◌, sym, ◌<◌, ◌≤◌, ◌+◌, ◌*◌, ◌^◌, Bool}
+use Rattle.std.proofs.Common.{◌≡◌, ◌↔◌, ℕ, true, ◌&&◌, List, [], ◌∷◌, map, refl, ap, ◌∙◌, sym}
 use Rattle.std.specs.Bool.{beq}
 use Rattle.std.specs.Cmp.Lexicographic.{pointwise}
 use Rattle.wasm_spec.specs.declared.types.AbstractHeapType.{AbstractHeapType}
@@ -24,15 +24,12 @@ use Rattle.wasm_types.specs.Tops.{top_of, heap_of_top}
 use Rattle.wasm_types.specs.Trampolines.{trampoline_val, trampoline_of}
 use Rattle.wasm_types.specs.ValueViews.{value_of}
 use Rattle.module_types.specs.Views.{plain_heap, plain_value, interned_number, called_of, heap_at, value_at, function_at}
-use Rattle.std.specs.Prelude.{if◌then◌else◌}
-use Rattle.std.specs.List.{fold, flat_map}
-use Rattle.std.specs.Hash as fed
+use Rattle.std.specs.List.{fold}
 use Rattle.std.specs.Hash.FoldHasher as folding
 use Rattle.std.specs.declared.hash.FoldHasher.{FoldHasher}
-use Rattle.std.proofs.lemmas.Bool.{lt-ltb, le-ltb}
 use Rattle.wasm_types.specs.declared.heap.WasmHeapTopType.TheVariants as heap_top
 use Rattle.wasm_types.specs.declared.heap.WasmHeapTopType.{WasmHeapTopType}
-use Rattle.module_types.specs.Passed.{code_of_top, code_of, packed, words_of, fed_with}
+use Rattle.module_types.specs.Passed.{code_of_top, code_of, words_of, fed_with}
 
 -- ---- the way back
 
@@ -150,20 +147,6 @@ module _ (f g : Called) where
 pub trampoline-twice : (f : WasmFuncType) → trampoline_of (trampoline_of f) ≡ trampoline_of f
 trampoline-twice f =
     mapped-is (trampoline_of f) ∙ ap function_at (ap mapped (called-mapped f) ∙ mapped-twice (called_of f)) ∙ sym (mapped-is f)
-
--- ---- codes in words
-
-abbrev fed_next : FoldHasher → ℕ → List ℕ → Bool → FoldHasher
-fed_next h more cs b = fold folding.write h (flat_map fed.u64 (if b then packed more cs else (more ∷ packed 1 cs)))
-
-pub fed-kept : (h : FoldHasher) (word c : ℕ) (cs : List ℕ) → word * 16 + c < 2 ^ 60
-    → fold folding.write h (words_of (word * 16 + c) cs) ≡ fold folding.write h (words_of word (c ∷ cs))
-fed-kept h word c cs less = ap (fed_next h (word * 16 + c) cs) (sym (lt-ltb (word * 16 + c) (2 ^ 60) less))
-
-pub fed-full : (h later : FoldHasher) (word c : ℕ) (cs : List ℕ) → 2 ^ 60 ≤ word * 16 + c → later ≡ fold folding.write h (fed.u64 (word * 16 + c))
-    → fold folding.write later (words_of 1 cs) ≡ fold folding.write h (words_of word (c ∷ cs))
-fed-full h later word c cs full is =
-    ap (λ k. fold folding.write k (words_of 1 cs)) is ∙ ap (fed_next h (word * 16 + c) cs) (sym (le-ltb (word * 16 + c) (2 ^ 60) full))
 
 -- ---- a mapped type has the codes of the type
 

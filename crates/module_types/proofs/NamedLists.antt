@@ -260,8 +260,8 @@ well-empty = record { orderly = refl; earlier = tt; below = All-nil (λ r. r < 0
 pub well-named : (ms : List (Group ℕ ℕ)) → NameEarlier 0 ms → (tags : List ℕ) (startup : Bool) → IsWellNamed (interned ms tags startup)
 well-named ms near tags startup =
     let w = whole ms near in
-    let first = well-forms ms (number_in ms) w.exact (taken_groups ms) empty [] w.stand w.covers (λ i lt none. absurd (false≢true none)) well-empty in
-    let built : Well (taken ms).built.types (taken ms).built.groups = coe 0 1 (t. Well (sym w.built t).types (sym w.built t).groups) first in
+    let first = well-forms ms (number_in ms) w.exact (taken_groups ms) empty [] w.groups.stand w.groups.covers (λ i lt none. absurd (false≢true none)) well-empty in
+    let built : Well (taken ms).built.types (taken ms).built.groups = coe 0 1 (t. Well (sym w.groups.built t).types (sym w.groups.built t).groups) first in
     let n = length (taken ms).built.types in
     let end = through-interned (λ b. Well b.types b.groups × (n ≤ length b.types)) (λ i. i ≤ n)
     (λ b i le p. (well-exception b i (omega (arith, le, p.1)) p.0, omega (arith, p.1, length_push b.types (plain (exception_for i (composite_at b.types i))))))

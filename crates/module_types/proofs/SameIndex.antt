@@ -1,5 +1,5 @@
 -- Each declared type is equal to the interned type at its index.
-use Rattle.std.proofs.Common.{◌≡◌, ◌∙◌, ◌<◌, ◌≤◌, None, inl, inr, ℕ, ◌+◌, ◌-◌, Bool, true, false, nat_le, List, [], ◌∷◌, ◌++◌, length, get_or, map, refl, sym, ap, subst, arith}
+use Rattle.std.proofs.Common.{◌≡◌, ◌∙◌, ◌<◌, ◌≤◌, inl, inr, ℕ, ◌+◌, ◌-◌, Bool, true, false, nat_le, List, [], ◌∷◌, ◌++◌, length, get_or, map, refl, sym, ap, subst, arith}
 use Rattle.std.specs.List.{AllZip, All}
 use Rattle.std.proofs.lemmas.Bool.{leb-true, leb-false, false≢true}
 use Rattle.std.proofs.lemmas.List.{length-map}
@@ -9,7 +9,7 @@ use Rattle.type_data.specs.Shapes.{erased}
 use Rattle.type_data.specs.TypeShapes.{group_shape}
 use Rattle.type_data.specs.Names.{plainly}
 use Rattle.type_spec.specs.Equality.{Home, home, target, target_by, SameTarget, SameGroup, SameType}
-use Rattle.type_spec.specs.Interned.{Interned, Span, Built, empty, with_group, next_span, opened, alone, kind_at, taken, interned}
+use Rattle.type_spec.specs.Interned.{Interned, Span, Built, empty, with_group, next_span, opened, kind_at, taken, interned}
 use Rattle.type_spec.specs.Firsts.{taken_groups}
 use Rattle.type_spec.specs.Taken.{NameEarlier}
 use Rattle.type_spec.proofs.Equivalence.{type-chained, groups-type}
@@ -136,5 +136,5 @@ same-index ms near tags startup i lt =
     let l = interned ms tags startup in
     let b = (taken ms).built in
     let behind = extends-interned ms tags startup in
-    all-same ms (number_in ms) w.exact l (well-named ms near tags startup) (taken_groups ms) empty [] w.stand w.covers
-    (subst (λ b. Extends b l) w.built behind) (λ j below none. absurd (false≢true none)) i (omega (arith, lt, w.counted))
+    all-same ms (number_in ms) w.exact l (well-named ms near tags startup) (taken_groups ms) empty [] w.groups.stand w.groups.covers
+    (subst (λ b. Extends b l) w.groups.built behind) (λ j below none. absurd (false≢true none)) i (omega (arith, lt, w.counted))

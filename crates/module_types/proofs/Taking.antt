@@ -424,9 +424,7 @@ module _ (all : List (Group ℕ ℕ)) where
   -- ---- all groups
 
   pub record Whole : Type 0 where
-    pub stand : Stand number_in empty (taken_groups all)
-    pub covers : Covers [] (taken_groups all)
-    pub built : (taken all).built ≡ with_forms number_in empty (taken_groups all)
+    pub groups : Follows number_in empty [] (taken_groups all)
     pub counted : length (taken all).declared ≡ size all
     pub below : (i : ℕ) → i < size all → number_in i < length (taken all).built.types
     pub exact : IsExactBelow number_in (size all)
@@ -436,9 +434,7 @@ module _ (all : List (Group ℕ ℕ)) where
 
   pub whole : NameEarlier 0 all → Whole
   whole near = record {
-    stand = first.stand;
-    covers = first.covers;
-    built = first.built;
+    groups = subst (Follows number_in empty []) (append-nil (taken_groups all)) (leads [] (record { stand = tt; covers = met; built = refl }));
     counted = length-map-range_with_len (state (size all)).number 0 (size all);
     below = λ i lt. omega (arith, at i lt, r.below i lt (met i lt));
     exact = λ i j lt lt'. (
@@ -461,8 +457,3 @@ module _ (all : List (Group ℕ ℕ)) where
         (λ n lt p unmet hs x. subst (Follows number_in empty []) (sym (append_assoc (done_at n) (home all n ∷ []) hs))
         (p (home all n ∷ hs) (follows-here n lt unmet near hs x)))
         (size all) (omega arith)
-
-    first : Follows number_in empty [] (taken_groups all)
-    first =
-        subst (Follows number_in empty []) (append-nil (taken_groups all))
-        (leads [] (record { stand = tt; covers = met; built = refl }))

@@ -1,5 +1,5 @@
 -- What a caller sees of a builder, and what each growing call makes of it.
-use Rattle.std.specs.Prelude.{◌≡◌, ℕ, Bool, true, false, nat_eq, List, length, Option, Some, None, if◌then◌else◌}
+use Rattle.std.specs.Prelude.{ℕ, Bool, true, false, nat_eq, List, length, Option, Some, None, if◌then◌else◌}
 use Rattle.std.specs.Option.{option_map}
 use Rattle.std.specs.Map.{lookup}
 use Rattle.wasm_spec.specs.TypeData.{Composite, Func}
@@ -107,7 +107,3 @@ starts_by b None = record b { built = with_startup b.built true; startup = Some 
 
 abbrev pub starts : Builder → Builder
 starts b = starts_by b b.startup
-
--- the builder has gained the startup type, unless it had it, and nothing else
-abbrev pub GainsStartup : BuilderState → BuilderState → Type 0
-GainsStartup old new = builder_view new ≡ starts (builder_view old)

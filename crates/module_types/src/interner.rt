@@ -209,20 +209,6 @@ impl Interner {
         Ok(())
     }
 
-    // Appends a group, and then the trampolines that are missing.
-    fn add_group(&mut self, alloc: Global, members: Vec<WasmSubType>) -> Result<(), OutOfMemory>
-        requires filled { 0 < length members.items }
-        requires orderly { IsOrderly (built self.old) }
-        requires found { FindsMet self.old }
-        requires room { length (with_group (built self.old) (map interned_of members.items)).types < u32.MAX }
-        ensures built { OnOk result (built self.new ≡ with_group (built self.old) (map interned_of members.items)) }
-        ensures found { OnOk result (FindsMet self.new) }
-    {
-        let first = self.list.len_types();
-        self.open_group(members)?;
-        self.assign_trampolines(alloc, first)
-    }
-
     /// Appends a group, and then the trampolines that are missing. Where it is the first, digests of mapped types begin from the seed.
     pub(crate) fn push_group(
         &mut self,
@@ -238,7 +224,9 @@ impl Interner {
         ensures found { OnOk result (FindsMet self.new) }
     {
         self.seed_from(alloc, seed);
-        self.add_group(alloc, members)
+        let first = self.list.len_types();
+        self.open_group(members)?;
+        self.assign_trampolines(alloc, first)
     }
 
     /// Appends the exception type of a function type.
