@@ -1,5 +1,5 @@
 -- The bytes that spell the types of a module.
-use Rattle.std.specs.Prelude.{ℕ, zero, suc, List, [], ◌∷◌, length, drop, Bool, ◌==◌, Option, Some, None, Result, Ok, Err, if◌then◌else◌}
+use Rattle.std.specs.Prelude.{ℕ, zero, suc, List, [], ◌∷◌, length, drop, ◌==◌, Option, Some, None, Result, Ok, Err, if◌then◌else◌}
 use Rattle.form_reader.specs.Reading.{Fault}
 use Rattle.form_reader.specs.ReadingNumbers.{counted_bytes_at}
 

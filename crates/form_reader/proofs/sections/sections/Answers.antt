@@ -1,11 +1,9 @@
-use Rattle.std.proofs.Common.{◌≡◌, [], ◌++◌, ◌<◌, ◌≤◌, ◌∙◌, length, sym, ap, subst, arith}
+use Rattle.std.proofs.Common.{◌≡◌, [], ◌++◌, ◌∙◌, length, sym, ap, arith}
 use Rattle.std.proofs.lemmas.Result.{err_from_is_err_and}
 use Rattle.std.specs.List.{flat_map}
 use Rattle.std.proofs.lemmas.List.{flat_map_more}
 use Rattle.std.proofs.lemmas.Bool.{eqb-true, eqb-false}
-use Rattle.wasm_spec.specs.Module.{Module}
 use Rattle.form_reader.specs.Input.{sections_of_part}
-use Rattle.form_reader.specs.ReadingSections.{Passes}
 use Rattle.form_reader.proofs.SectionList.{none_pass, then_pass, all_pass, fail_after}
 use Rattle.form_reader.proofs.sections.sections.Goals as goal
 
