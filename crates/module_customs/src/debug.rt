@@ -2,19 +2,20 @@
 
 ghost use Rattle.std.specs.Prelude.{◌≡◌};
 ghost use Rattle.std.specs.List.{list_any};
-ghost use Rattle.form_lists.specs.Source.{source_module, section_of};
+ghost use Rattle.form_lists.specs.Source.{source_module};
+ghost use Rattle.form_lists.specs.Singles.{single_of};
 ghost use Rattle.module_customs.specs.Debugged.{is_debug_section};
 
 use custom_sections::is_debug_name;
 use form_data::Payload;
-use form_lists::{Section, Source, sections_of};
+use form_lists::{Single, Source, singles_of};
 
 /// Whether a custom section of a module holds debug information, by its name (core specification, appendix, custom sections; the names are
 /// those of the DWARF sections).
 pub fn has_debug_section(source: Source<'_, '_>) -> bool
     ensures { result ≡ list_any is_debug_section (source_module source.entry) }
 {
-    for section in sections_of(source) {
+    for section in singles_of(source) {
         if is_debug_section(section) {
             return true;
         }
@@ -23,11 +24,12 @@ pub fn has_debug_section(source: Source<'_, '_>) -> bool
 }
 
 /// Whether a section holds debug information, by its name.
-fn is_debug_section(section: Section<'_, '_>) -> bool
-    ensures { result ≡ is_debug_section (section_of section.entry) }
+fn is_debug_section(section: Single<'_, '_>) -> bool
+    ensures { result ≡ is_debug_section (single_of section.entry) }
 {
     match section {
-        Section::Read(Payload::Custom(custom)) => is_debug_name(custom.name),
+        Single::Read(Payload::Custom(custom)) => is_debug_name(custom.name),
+        Single::Custom { name, .. } => is_debug_name(name),
         _ => false,
     }
 }

@@ -2,7 +2,8 @@
 
 ghost use Rattle.std.specs.Prelude.{◌≡◌, ◌++◌, ◌∷◌, [], map, unwrap_or, IfOk, OnOk};
 ghost use Rattle.std.specs.Option.{option_map};
-ghost use Rattle.form_lists.specs.Source.{source_module, section_of};
+ghost use Rattle.form_lists.specs.Source.{source_module};
+ghost use Rattle.form_lists.specs.Singles.{single_of};
 ghost use Rattle.wasm_index.specs.Index.{number_of};
 ghost use Rattle.custom_sections.specs.Views.{hint_entry_of};
 ghost use Rattle.module_customs.specs.Hints.{HintLists, HasFirst, hint_lists, module_hints, branch_hint_of};
@@ -11,7 +12,7 @@ ghost use Rattle.module_customs.specs.Names.{at_number};
 use crate::names::contents_named;
 use custom_sections::{Hint, read_hints};
 use entity_map::{EntityRef, OutOfMemory};
-use form_lists::{Section, Source, sections_of};
+use form_lists::{Single, Source, singles_of};
 use init_plan::BranchHint;
 use std::alloc::Global;
 use std::collections::BTreeMap;
@@ -33,7 +34,7 @@ fn last_hints(alloc: Global, source: Source<'_, '_>) -> Result<Vec<(u32, Vec<Hin
     ensures { IfOk result (λ last. map hint_entry_of last.items ≡ module_hints (source_module source.entry)) }
 {
     let mut last = Vec::new(alloc);
-    for section in sections_of(source) {
+    for section in singles_of(source) {
         let entries = hints_in(alloc, section)?;
         last = entries_after(last, entries);
     }
@@ -56,9 +57,9 @@ fn entries_after(
 /// The entries of a section of hints that has no fault.
 fn hints_in(
     alloc: Global,
-    section: Section<'_, '_>,
+    section: Single<'_, '_>,
 ) -> Result<Option<Vec<(u32, Vec<Hint>)>>, OutOfMemory>
-    ensures { IfOk result (λ o. option_map (λ all. map hint_entry_of all.items) o ≡ hint_lists (section_of section.entry)) }
+    ensures { IfOk result (λ o. option_map (λ all. map hint_entry_of all.items) o ≡ hint_lists (single_of section.entry)) }
 {
     match contents_named(section, "metadata.code.branch_hint") {
         Some(contents) => Ok(read_hints(alloc, contents)?),

@@ -3,9 +3,11 @@
 ghost use Rattle.std.specs.Prelude.{◌≡◌, ◌+◌, ◌<◌, ◌++◌, ◌∷◌, ℕ, List, [], length, map, codes, Bool, IfOk, OnOk};
 ghost use Rattle.std.specs.BTreeMap.{IsFromIterResult};
 ghost use Rattle.std.specs.Option.{option_map, option_or};
+ghost use Rattle.wasm_spec.specs.Module as plain;
 ghost use Rattle.wasm_spec.specs.Module.{imports_of_section, function_types_of_section, function_import, HasFewEntries};
 ghost use Rattle.form_data.specs.Views.{import_of};
-ghost use Rattle.form_lists.specs.Source.{source_module, section_of};
+ghost use Rattle.form_lists.specs.Source.{source_module};
+ghost use Rattle.form_lists.specs.Singles.{single_of};
 ghost use Rattle.wasm_index.specs.Index.{number_of};
 ghost use Rattle.custom_sections.specs.NameReading.{NameLists, joined};
 ghost use Rattle.custom_sections.specs.Views.{text_of, locals_of, names_of};
@@ -14,7 +16,7 @@ ghost use Rattle.module_customs.specs.Names.{functions_among, one_if, contents_o
 use custom_sections::{Names, read_names};
 use entity_map::{EntityRef, OutOfMemory};
 use form_data::{Import, Payload};
-use form_lists::{Section, Source, entries_in, sections_of};
+use form_lists::{Entry, Single, Source, singles_of};
 use init_plan::NameSection;
 use std::alloc::{AllocError, Global};
 use std::collections::BTreeMap;
@@ -37,7 +39,7 @@ pub fn kept_names<'d>(
         locals_names: BTreeMap::new(alloc),
     };
     let mut declared = 0;
-    for section in sections_of(source) {
+    for section in singles_of(source) {
         add_section(alloc, &mut kept, section, declared, locals)?;
         declared += declared_functions(section);
     }
@@ -48,13 +50,13 @@ pub fn kept_names<'d>(
 fn add_section<'d>(
     alloc: Global,
     kept: &mut NameSection<'d>,
-    section: Section<'_, 'd>,
+    section: Single<'_, 'd>,
     declared: usize,
     locals: bool,
 ) -> Result<(), OutOfMemory>
     requires { declared < u32.MAX }
     ensures { OnOk result ((before : NameLists) → KeepsNames before kept.old
-        → KeepsNames (joined before (names_below declared (names_in locals (contents_of (codes "name") (section_of section.entry))))) kept.new) }
+        → KeepsNames (joined before (names_below declared (names_in locals (contents_of (codes "name") (single_of section.entry))))) kept.new) }
 {
     if let Some(contents) = contents_named(section, "name") {
         let names = read_names(alloc, contents, locals)?;
@@ -64,23 +66,32 @@ fn add_section<'d>(
 }
 
 /// The contents of a custom section of this name.
-pub(crate) fn contents_named<'d>(section: Section<'_, 'd>, title: &str) -> Option<&'d [u8]>
-    ensures { option_map (λ bytes. bytes.now) result ≡ contents_of title.now (section_of section.entry) }
+pub(crate) fn contents_named<'d>(section: Single<'_, 'd>, title: &str) -> Option<&'d [u8]>
+    ensures { option_map (λ bytes. bytes.now) result ≡ contents_of title.now (single_of section.entry) }
 {
     match section {
-        Section::Read(Payload::Custom(custom)) if custom.name == title => Some(custom.bytes),
+        Single::Read(Payload::Custom(custom)) => contents_if(custom.name, custom.bytes, title),
+        Single::Custom { name, bytes } => contents_if(name, bytes, title),
         _ => None,
     }
 }
 
+/// The contents of a custom section, if it has the name that is asked for.
+fn contents_if<'d>(name: &str, bytes: &'d [u8], title: &str) -> Option<&'d [u8]>
+    ensures { option_map (λ contents. contents.now) result ≡ contents_of title.now (plain.Custom name.now bytes.now) }
+{
+    if name == title { Some(bytes) } else { None }
+}
+
 /// How many functions a section imports or declares.
-fn declared_functions(section: Section<'_, '_>) -> usize
-    ensures { let p = section_of section.entry in
+fn declared_functions(section: Single<'_, '_>) -> usize
+    ensures { let p = single_of section.entry in
         result ≡ functions_among (imports_of_section p) + length (function_types_of_section p) }
 {
     match section {
-        Section::Read(Payload::Functions(types)) => types.len(),
-        _ => imported_functions(entries_in::<Import<'_>>(section)),
+        Single::Read(Payload::Functions(types)) => types.len(),
+        Single::Read(payload) => imported_functions(Import::in_section(payload)),
+        _ => 0,
     }
 }
 

@@ -1,36 +1,40 @@
--- Function bodies and their place, taken one section after another.
-use Rattle.std.proofs.Common.{◌≡◌, ◌∙◌, ℕ, ◌+◌, ◌<◌, ◌≤◌, List, [], ◌∷◌, ◌++◌, length, map, take, get_or, Option, None, Some, refl, sym, ap, arith}
+-- Function bodies and their place, taken one part after another.
+use Rattle.std.proofs.Common.{◌≡◌, ◌∙◌, ℕ, ◌+◌, ◌≤◌, List, [], ◌∷◌, ◌++◌, length, map, Option, None, Some, refl, sym, ap, arith}
 use Rattle.std.specs.Prelude.{slice_get, unwrap_or}
 use Rattle.std.specs.Option.{option_or, option_to_list}
 use Rattle.std.specs.List.{flat_map}
-use Rattle.std.proofs.lemmas.List.{length-map}
-use Rattle.wasm_spec.specs.Module.{bodies_of_section}
-use Rattle.form_reader.specs.declared.input.InputSection.{InputSection}
-use Rattle.form_data.specs.declared.form.FunctionBody.{FunctionBody}
-use Rattle.form_data.specs.Views.{body_of}
-use Rattle.form_reader.specs.Input.{input_section_of}
+use Rattle.std.proofs.lemmas.List.{length-append, length-map}
+use Rattle.std.proofs.lemmas.List.Concat.{flat_map-append}
+use Rattle.wasm_spec.specs.Module.{Payload}
+use Rattle.form_reader.specs.declared.input.InputPart.{InputPart}
+use Rattle.form_reader.specs.Input.{sections_of_part}
 use Rattle.module_environ.specs.Translation.{first_or_zero}
-use Rattle.module_environ.proofs.BySection.{section-few}
 
-first-of : (o : Option ℕ) → o ≡ slice_get (option_to_list o) 0
-first-of None = refl
-first-of (Some n) = refl
+-- what the next part gives, and those after it
+pub next-part : {A : Type 0} (f : Payload → List A) (left : List InputPart) (p : InputPart) (rest : List InputPart) → left ≡ p ∷ rest
+    → flat_map f (flat_map sections_of_part left) ≡ flat_map f (sections_of_part p) ++ flat_map f (flat_map sections_of_part rest)
+next-part f left p rest at = ap (λ (l : List InputPart). flat_map f (flat_map sections_of_part l)) at
+    ∙ flat_map-append f (sections_of_part p) (flat_map sections_of_part rest)
 
-pub first-more : (xs ys : List ℕ) (o : Option ℕ) → option_to_list o ≡ ys → option_or (slice_get xs 0) o ≡ slice_get (xs ++ ys) 0
-first-more [] ys o e = first-of o ∙ ap (λ (l : List ℕ). slice_get l 0) e
-first-more (x ∷ xs) ys o e = refl
+-- the first of some, where one may have come before
+pub first-more : (before here : Option ℕ) (xs ys : List ℕ) → option_to_list here ≡ xs
+    → slice_get (option_to_list (option_or before here) ++ ys) 0 ≡ slice_get (option_to_list before ++ (xs ++ ys)) 0
+first-more None here xs ys e = ap (λ (l : List ℕ). slice_get (l ++ ys) 0) e
+first-more (Some x) here xs ys e = refl
 
-pub first-is : (xs : List ℕ) → unwrap_or (slice_get xs 0) 0 ≡ first_or_zero xs
-first-is [] = refl
-first-is (x ∷ xs) = refl
+pub first-is : (place : Option ℕ) (xs : List ℕ) → slice_get (option_to_list place ++ []) 0 ≡ slice_get xs 0 → unwrap_or place 0 ≡ first_or_zero xs
+first-is None [] e = refl
+first-is None (x ∷ xs) e = absurd cc
+first-is (Some p) [] e = absurd cc
+first-is (Some p) (x ∷ xs) e = cc
 
--- there is room for the bodies of the next section
-pub bodies-few : (ps done : List InputSection) (p : InputSection) (taken : ℕ) (bodies : List FunctionBody)
-    → (length done < length ps) × (p ≡ get_or ps (length done) p) → done ≡ take (length done) ps
-    → taken ≡ length (flat_map bodies_of_section (map input_section_of done)) → map body_of bodies ≡ bodies_of_section (input_section_of p)
-    → taken + length bodies ≤ length (flat_map bodies_of_section (map input_section_of ps))
-bodies-few ps done p taken bodies turn so_far count these =
-    let fits = section-few bodies_of_section input_section_of ps (length done) p turn.0 turn.1 in
-    let before = ap (λ (l : List InputSection). length (flat_map bodies_of_section (map input_section_of l))) so_far in
-    let here = sym (length-map bodies body_of) ∙ ap length these in
-    omega (arith, fits, before, here, count)
+-- there is room for some more of the bodies
+pub bodies-few : {A B : Type 0} (view : A → B) (taken : List A) (here rest all : List B) → map view taken ++ (here ++ rest) ≡ all
+    → length taken + length here ≤ length all
+bodies-few view taken here rest all whole = omega (
+  arith,
+  ap length whole,
+  length-append (map view taken) (here ++ rest),
+  length-append here rest,
+  length-map taken view,
+)

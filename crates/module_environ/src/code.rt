@@ -5,12 +5,12 @@ ghost use Rattle.std.specs.List.{flat_map};
 ghost use Rattle.wasm_spec.specs.Module.{bodies_of_section, HasFewEntries};
 ghost use Rattle.std.specs.Option.{option_to_list};
 ghost use Rattle.form_data.specs.Views.{body_of};
-ghost use Rattle.form_reader.specs.Input.{input_section_of, input_module_of};
+ghost use Rattle.form_reader.specs.Input.{sections_of_part, input_module_of};
 ghost use Rattle.module_environ.specs.Translation.{code_places, first_or_zero};
 
 use entity_map::{OutOfMemory, PrimaryMap};
 use form_data::{FunctionBody, Payload};
-use form_reader::{InputForm, InputSection};
+use form_reader::{InputForm, InputPart, InputSection};
 use init_plan::FunctionBodyData;
 use std::alloc::Global;
 use wasm_index::DefinedFuncIndex;
@@ -26,27 +26,29 @@ pub(crate) fn take_bodies<'d>(
 {
     let mut bodies = PrimaryMap::new(alloc);
     let mut place = None;
-    for section in form.sections {
-        place = place.or(code_place(&section));
-        add_bodies(&mut bodies, bodies_in(alloc, section))?;
+    for part in form.parts {
+        place = place.or(code_place(&part));
+        add_bodies(&mut bodies, bodies_in(alloc, part))?;
     }
     Ok((bodies, place.unwrap_or(0)))
 }
 
-fn code_place(section: &InputSection<'_>) -> Option<u64>
-    ensures { option_to_list result ≡ code_places (input_section_of section.now) }
+fn code_place(part: &InputPart<'_>) -> Option<u64>
+    ensures { option_to_list result ≡ flat_map code_places (sections_of_part part.now) }
 {
-    match section {
-        InputSection::Other(Payload::Code { offset, .. }) => Some(*offset),
+    match part {
+        InputPart::Section(InputSection::Other(Payload::Code { offset, .. })) => Some(*offset),
+        InputPart::Customs(_) => None,
         _ => None,
     }
 }
 
-fn bodies_in<'d>(alloc: Global, section: InputSection<'d>) -> Vec<FunctionBody<'d>>
-    ensures { map body_of result.items ≡ bodies_of_section (input_section_of section.entry) }
+fn bodies_in<'d>(alloc: Global, part: InputPart<'d>) -> Vec<FunctionBody<'d>>
+    ensures { map body_of result.items ≡ flat_map bodies_of_section (sections_of_part part.entry) }
 {
-    match section {
-        InputSection::Other(Payload::Code { bodies, .. }) => bodies,
+    match part {
+        InputPart::Section(InputSection::Other(Payload::Code { bodies, .. })) => bodies,
+        InputPart::Customs(_) => Vec::new(alloc),
         _ => Vec::new(alloc),
     }
 }

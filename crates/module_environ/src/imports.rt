@@ -6,7 +6,7 @@ ghost use Rattle.std.specs.List.{flat_map, fold};
 ghost use Rattle.wasm_spec.specs.Module as plain;
 ghost use Rattle.wasm_spec.specs.Module.{HasFewEntries};
 ghost use Rattle.form_data.specs.Views.{import_of, export_of};
-ghost use Rattle.form_lists.specs.Source.{source_module};
+ghost use Rattle.form_lists.specs.Source.{source_module, sections_in};
 ghost use Rattle.wasm_index.specs.Index.{index_of};
 ghost use Rattle.module_environ.specs.Entities.{imported_entities, resolved_import};
 ghost use Rattle.module_environ.specs.Imported.{AreCounted, HaveIndices, counted, next_entity};
@@ -15,7 +15,7 @@ ghost use Rattle.module_environ.specs.Seeds.{section_names};
 
 use entity_map::{EntityRef, NameDigest, OutOfMemory, StringPool};
 use form_data::{Export, Import};
-use form_lists::{Source, entries_in, entries_of, sections_of};
+use form_lists::{Entry, Section, Source, entries_of, sections_of};
 use std::alloc::Global;
 use wasm_index::Index;
 use wasm_module::Initializer;
@@ -79,10 +79,23 @@ pub(crate) fn name_seed(source: Source<'_, '_>) -> u64
 {
     let mut digest = NameDigest::new();
     for section in sections_of(source) {
-        add_import_names(&mut digest, entries_in::<Import<'_>>(section));
-        add_export_names(&mut digest, entries_in::<Export<'_>>(section));
+        add_section_names(&mut digest, section);
     }
     digest.finish()
+}
+
+/// Adds the names in a section of imports or of exports to a digest.
+fn add_section_names(digest: &mut NameDigest, section: Section<'_, '_>)
+    ensures { digest.new ≡ fold sip.write digest.old (flat_map section_names (sections_in section.entry)) }
+{
+    match section {
+        Section::Read(payload) => {
+            add_import_names(digest, Import::in_section(payload));
+            add_export_names(digest, Export::in_section(payload));
+        }
+        Section::Elements(_) => {}
+        Section::Customs(_) => {}
+    }
 }
 
 /// Adds the names of imports to a digest.

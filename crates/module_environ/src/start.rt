@@ -2,9 +2,9 @@
 
 ghost use Rattle.std.specs.Prelude.{◌≡◌, ◌<◌, All, slice_get};
 ghost use Rattle.std.specs.List.{flat_map};
-ghost use Rattle.std.specs.Option.{option_map};
+ghost use Rattle.std.specs.Option.{option_map, option_to_list};
 ghost use Rattle.wasm_spec.specs.Module.{starts_of_section};
-ghost use Rattle.form_lists.specs.Source.{source_module};
+ghost use Rattle.form_lists.specs.Source.{source_module, sections_in};
 ghost use Rattle.wasm_index.specs.Index.{number_of};
 
 use entity_map::EntityRef;
@@ -18,9 +18,20 @@ pub(crate) fn start_function(source: Source<'_, '_>) -> Option<FuncIndex>
     ensures { option_map number_of result ≡ slice_get (flat_map starts_of_section (source_module source.entry)) 0 }
 {
     for section in sections_of(source) {
-        if let Section::Read(Payload::Start(function)) = section {
-            return Some(FuncIndex::from_u32(*function));
+        if let Some(function) = start_in(section) {
+            return Some(FuncIndex::from_u32(function));
         }
     }
     None
+}
+
+/// The start function that a section states.
+fn start_in(section: Section<'_, '_>) -> Option<u32>
+    ensures { option_to_list result ≡ flat_map starts_of_section (sections_in section.entry) }
+{
+    match section {
+        Section::Read(Payload::Start(function)) => Some(*function),
+        Section::Customs(_) => None,
+        _ => None,
+    }
 }

@@ -1,42 +1,43 @@
-use Rattle.std.proofs.Common.{◌∙◌, ◌++◌, List, ℕ, Option, length, map, ap, sym, arith}
+use Rattle.std.proofs.Common.{◌∙◌, ◌++◌, List, ℕ, Option, length, map, ap, sym, append_assoc, arith}
 use Rattle.std.specs.Prelude.{slice_get}
-use Rattle.std.specs.Option.{option_or}
 use Rattle.std.specs.List.{flat_map}
-use Rattle.std.proofs.lemmas.List.{map-id, length-map}
-use Rattle.std.proofs.lemmas.Iterator.Adapters.{YieldsList-from_vec}
-use Rattle.std.proofs.lemmas.Iterator.Consumers.{YieldsList-so_far, YieldsList-turn}
-use Rattle.wasm_spec.specs.Module.{bodies_of_section}
+use Rattle.std.specs.Option.{option_to_list}
+use Rattle.std.specs.Vec.Iter.{into_iter_items}
+use Rattle.std.proofs.lemmas.List.{length-map}
+use Rattle.wasm_spec.specs.Module.{Body, bodies_of_section}
 use Rattle.form_data.specs.Views.{body_of}
-use Rattle.form_reader.specs.Input.{input_section_of}
+use Rattle.form_reader.specs.Input.{sections_of_part}
 use Rattle.module_environ.specs.Translation.{code_places}
-use Rattle.module_environ.proofs.BySection.{section-push}
-use Rattle.module_environ.proofs.Bodies.{first-more, bodies-few}
+use Rattle.module_environ.proofs.Bodies.{next-part, first-more, bodies-few}
 use Rattle.module_environ.proofs.code.take_bodies.Goals as goal
 
 pub add_bodies-requires : goal.add_bodies-requires
 add_bodies-requires c =
-    let ps = c.args.form.sections.items in
-    let done = c.loop-section.yielded in
-    let start = c.into_iter-section-iterator in
-    let source = YieldsList-from_vec {s = start.result} ps start.ensures.into_iter_gives.0
-    (start.ensures.into_iter_gives.1 ∙ c.args.form.sections.ok.0) in
-    let turn = YieldsList-turn source done c.loop-section.section-iterator c.loop-section.yielded_by _ c.next.new.self c.in-Some.section
-    c.in-Some.is c.next.ensures.steps in
-    let so_far = sym (map-id done) ∙ YieldsList-so_far source done c.loop-section.section-iterator c.loop-section.yielded_by in
-    let count = sym (length-map c.loop-section.bodies (λ input. body_of input.body)) ∙ ap length c.loop-section.invariant.bodies in
-    let fits = bodies-few ps done c.in-Some.section (length c.loop-section.bodies) c.bodies_in.result.items turn so_far count c.bodies_in.ensures in
-    omega (arith, fits, c.requires.few.bodies)
+    let rest = into_iter_items c.next.new.self in
+    let taken = map (λ input. body_of input.body) c.loop-part.bodies in
+    let whole = ap (λ (l : List Body). taken ++ l) (sym (next-part bodies_of_section _ c.in-Some.part rest c.in-Some.ensures.steps.0)) ∙ c.loop-part.invariant.bodies in
+    omega (
+      arith,
+      bodies-few (λ input. body_of input.body) c.loop-part.bodies (flat_map bodies_of_section (sections_of_part c.in-Some.part)) _ _ whole,
+      ap length c.bodies_in.ensures,
+      length-map c.bodies_in.result.items body_of,
+      c.requires.few.bodies,
+    )
 
-pub loop-section-preserved : goal.loop-section-preserved
-loop-section-preserved c =
-    let done = c.loop-section.yielded in
-    let p = c.in-Some.section in
-    let before = flat_map bodies_of_section (map input_section_of done) in
+pub loop-part-preserved : goal.loop-part-preserved
+loop-part-preserved c =
+    let rest = into_iter_items c.next.new.self in
+    let bodies_left = flat_map bodies_of_section (flat_map sections_of_part rest) in
+    let places_left = flat_map code_places (flat_map sections_of_part rest) in
+    let taken = map (λ input. body_of input.body) c.loop-part.bodies in
+    let at = c.in-Some.ensures.steps.0 in
     record {
-      bodies = c.in_ok-add_bodies.ensures
-          ∙ (λ i. c.loop-section.invariant.bodies i ++ c.bodies_in.ensures i)
-          ∙ sym (section-push bodies_of_section input_section_of done p);
-      place = c.or-place.ensures ∙ ap (λ (o : Option ℕ). option_or o c.code_place.result) c.loop-section.invariant.place
-          ∙ first-more (flat_map code_places (map input_section_of done)) (code_places (input_section_of p)) c.code_place.result c.code_place.ensures
-          ∙ ap (λ (l : List ℕ). slice_get l 0) (sym (section-push code_places input_section_of done p));
+      bodies = ap (λ (l : List Body). l ++ bodies_left) (c.in_ok-add_bodies.ensures ∙ ap (λ (l : List Body). taken ++ l) c.bodies_in.ensures)
+          ∙ append_assoc taken (flat_map bodies_of_section (sections_of_part c.in-Some.part)) bodies_left
+          ∙ ap (λ (l : List Body). taken ++ l) (sym (next-part bodies_of_section _ c.in-Some.part rest at))
+          ∙ c.loop-part.invariant.bodies;
+      place = ap (λ (o : Option ℕ). slice_get (option_to_list o ++ places_left) 0) c.or-place.ensures
+          ∙ first-more c.loop-part.place c.code_place.result (flat_map code_places (sections_of_part c.in-Some.part)) places_left c.code_place.ensures
+          ∙ ap (λ (l : List ℕ). slice_get (option_to_list c.loop-part.place ++ l) 0) (sym (next-part code_places _ c.in-Some.part rest at))
+          ∙ c.loop-part.invariant.place;
     }
