@@ -1,6 +1,7 @@
 -- The plan with images leaves what the segments leave.
+use Rattle.std.proofs.lemmas.Grind.{common_steps}
 use Rattle.std.proofs.Common.{◌≡◌, ◌≢◌, ℕ, zero, suc, ◌+◌, ◌-◌, ◌*◌, ◌/◌, ◌^◌, ◌<◌, ◌≤◌, Bool, true, false, List, [], ◌∷◌, ◌++◌, length, get_or, map, Option, None, Some, refl, sym, ◌∙◌, ap, subst, arith, lit<, mul_assoc, pow-add}
-use Rattle.std.specs.Prelude.{slice_get, unwrap_or, nat_lt, ◌==◌, ◌&&◌}
+use Rattle.std.specs.Prelude.{slice_get, nat_lt, ◌==◌, ◌&&◌}
 use Rattle.std.specs.List.{filter}
 use Rattle.std.specs.Int.{IsPowerOfTwo}
 use Rattle.std.proofs.Math.Logic.{⊎_elim}
@@ -14,7 +15,7 @@ use Rattle.replay_spec.specs.Phases.{Piece, fits, last_item, SamePhase, trap_of}
 use Rattle.replay_spec.specs.Values.{Value, offset_over, offset_of}
 use Rattle.replay_spec.specs.Data.{ActiveSegment, piece_of, memory_sizes, memory_base, segments_phase, minimum_size, active_segments}
 use Rattle.replay_spec.specs.Plan.{MemoryPlan, planned_piece, image_pieces, kept_segments, AgreesOver, Agrees}
-use Rattle.replay_spec.specs.Images.{ImageOptions, ImageMemory, image_memory_of, size_of, IsPlaced, bytes_on, IsStatic, MemoryImage, written_on, IsImage, ImageOf, AreImages, PlansImages, PlansSegments, IsMemoryPlan}
+use Rattle.replay_spec.specs.Images.{ImageOptions, ImageMemory, image_memory_of, size_of, IsPlaced, bytes_on, IsStatic, MemoryImage, written_on, IsImage, ImageOf, AreImages, PlansImages, IsMemoryPlan}
 use Rattle.replay_spec.proofs.Kept.{AgreesOver-kept}
 use Rattle.replay_spec.proofs.Replay.{AllFit, SamePhase-prefix, trap-fit}
 use Rattle.replay_spec.proofs.Placed.{fit-placed, start-placed, pieces-over, sizes-defined, base-defined, CoversOn, last-covered, covers-nonzero, all-at}
@@ -40,13 +41,7 @@ whole_pages n k e le = ⊎_elim
 
 -- the page of a place ends within whole pages
 pub page_end : (place page n : ℕ) → 0 < page → place < n * page → (place / page + 1) * page ≤ n * page
-page_end place page n pos lt = ⊎_elim
-    (λ (l : place / page < n). mul-le-mul_right page (let k : place / page + 1 ≤ n = omega arith in k))
-    (λ (ge : n ≤ place / page).
-    let m : n * page ≤ place / page * page = mul-le-mul_right page ge in
-    let d = div-mul-le_self place page in
-    absurd (omega arith))
-    (cases_lt (place / page) n)
+page_end place page n pos lt = grind (arith, mul-le-mul_right, div-mul-le_self, cases_lt)
 
 -- ---- segments with bytes
 
@@ -56,10 +51,7 @@ Stands xs x = (i : ℕ) × (slice_get xs i ≡ Some x)
 
 pub stands-filter : {X : Type 0} (test : X → Bool) (xs : List X) (i : ℕ) (x : X) → slice_get xs i ≡ Some x → test x ≡ true → Stands (filter test xs) x
 stands-filter test [] i x at passes = absurd (none-some x at)
-stands-filter test (y ∷ ys) zero x at passes =
-    let same = same_Some y x at in
-    let e : test y ≡ true = rw same passes in
-    rw e (0, at)
+stands-filter test (y ∷ ys) zero x at passes = grind (arith, same_Some)
 stands-filter test (y ∷ ys) (suc i) x at passes = over (stands-filter test ys i x at passes) (test y) refl where
   over : Stands (filter test ys) x → (b : Bool) → test y ≡ b → Stands (filter test (y ∷ ys)) x
   over s true e = rw e (suc s.0, s.1)
@@ -75,8 +67,7 @@ stands-covers active m place c =
     (and_from (c.segment.memory == m) (nat_lt 0 (length c.segment.bytes)) (eq-eqb c.segment.memory m c.on) (lt-ltb 0 (length c.segment.bytes) some))
 
 pub stands-some : {X : Type 0} (xs : List X) (x : X) → Stands xs x → xs ≢ []
-stands-some [] x s e = absurd (none-some x s.1)
-stands-some (y ∷ ys) x s e = cc
+stands-some xs x h1 = grind (arith, none-some)
 
 -- ---- images fit
 
@@ -153,17 +144,10 @@ module _ (options : ImageOptions) (imports : ℕ) (memories : List ImageMemory) 
         (last-covered active m place d)
 
     imported-none : (m place d : ℕ) (image : Option MemoryImage) → m < imports → ImageOf options.page (written_on active m) image → laid_over image m place d ≡ d
-    imported-none m place d None lt i = refl
-    imported-none m place d (Some image) lt i = absurd (i.is_first.nonzero (imported-same m i.first 0 lt))
+    imported-none m place d image h1 h2 = grind (arith, imported-same)
 
     past : (imported : List (List ℕ)) (m : ℕ) → length imported ≡ imports → imports + length memories ≤ m → memory_sizes imported (map size_of memories) m ≡ 0
-    past imported m count le =
-        let sizes : List ℕ = map length imported ++ map size_of memories in
-        let n = length-append (map length imported) (map size_of memories) in
-        let a = length-map imported length in
-        let b = length-map memories size_of in
-        let none = slice_get_past sizes m (omega (arith, n, a, b)) in
-        sym (unwrap_or-slice_get sizes m 0) ∙ ap (λ o. unwrap_or o 0) none
+    past imported m count le = grind (arith, common_steps, length-append, length-map, slice_get_past, unwrap_or-slice_get)
 
     -- the images leave what the segments leave
     pub same-contents : (imported : List (List ℕ)) (count : length imported ≡ imports) (m place : ℕ) → place < memory_sizes imported (map size_of memories) m
@@ -224,15 +208,7 @@ module _ (options : ImageOptions) (imports : ℕ) (memories : List ImageMemory) 
       }
 
   pub agrees : IsMemoryPlan options imports memories active passive plan → AgreesOver imports (map size_of memories) active plan
-  agrees h = ⊎_elim (λ (images : PlansImages options imports memories active passive plan). agrees-images h.sizes images)
-      (λ (segments : PlansSegments options imports memories active passive plan). AgreesOver-kept imports (map size_of memories) active plan (record {
-        sizes = h.sizes;
-        no_images = segments.in_map;
-        segments = segments.in_list;
-        passive = passive;
-        runtime = segments.runtime;
-      }))
-      h.segments
+  agrees h = grind (arith, agrees-images, AgreesOver-kept)
 
 -- under the rule no segment traps
 pub no-trap : (options : ImageOptions) (imports : ℕ) (memories : List ImageMemory) (active : List ActiveSegment) → IsStatic options imports memories active
