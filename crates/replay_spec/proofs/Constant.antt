@@ -4,15 +4,11 @@ use Rattle.std.specs.Option.{option_and_then}
 use Rattle.std.proofs.lemmas.Option.{none-some}
 use Rattle.wasm_spec.specs.declared.operators.Operator.{Operator}
 use Rattle.wasm_spec.specs.Module.{Expression}
-use Rattle.replay_spec.specs.Values.{Value, action, acted, run, eval, within_16, plain_step, const_value}
-
--- a stack that may stand is the stack
-kept : (o : Option (List Value)) (next : List Value) → option_and_then within_16 o ≡ Some next → o ≡ Some next
-kept o next h1 = grind (arith, none-some)
+use Rattle.replay_spec.specs.Values.{Value, action, acted, run, eval, plain_step, const_value}
 
 module _ (globals : List Value) (fields : ℕ → ℕ) where
   same-step : (op : Operator) (stack next : List Value) → plain_step op stack ≡ Some next → acted (action globals fields op) stack ≡ Some next
-  same-step op stack next h1 = grind (arith, kept, none-some)
+  same-step op stack next h1 = grind (arith, none-some)
 
   same-run : (e : Expression) (stack last : List Value) → run plain_step e stack ≡ Some last
       → run (λ op. acted (action globals fields op)) e stack ≡ Some last

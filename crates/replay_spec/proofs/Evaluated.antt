@@ -43,9 +43,6 @@ get-middle (b ∷ before) after x = get-middle before after x
 some-value : (o : Option Value) (P : Value → Type 0) → IsSomeAnd o P → (v : Value) × (o ≡ Some v) × P v
 some-value o P h1 = grind (arith, common_steps)
 
-value-some : (o : Option Value) (P : Value → Type 0) (v : Value) → o ≡ Some v → P v → IsSomeAnd o P
-value-some o P v e h = subst (λ (o : Option Value). IsSomeAnd o P) (sym e) h
-
 -- what holds of the classes of all globals holds of those up to a number
 have-take : (globals : List Value) (types : List GlobalType) (n : ℕ) → HaveClasses globals types → HaveClasses globals (take n types)
 have-take globals types n have g type at = have g type (get-take types n g type at)
@@ -167,11 +164,8 @@ module _ (m : Module) (keeps : Keeps m) (imported : List Value) (given : AreImpo
   value-over : (n : ℕ) (e : Expression) (c : Class) → HasClass lists (take n lists.global_types) e c → HasValue lists (all_globals lists imported) e c
   value-over n e c h = value-of-class lists (take n lists.global_types) (all_globals lists imported) (have-take (all_globals lists imported) lists.global_types n globals-of-class) e c h
 
-  value-over-all : (e : Expression) (c : Class) → HasClass lists lists.global_types e c → HasValue lists (all_globals lists imported) e c
-  value-over-all e c h = value-of-class lists lists.global_types (all_globals lists imported) globals-of-class e c h
-
   gives-global : (g : ℕ) (d : GlobalDef) → slice_get lists.globals g ≡ Some d → GivesGlobal lists (all_globals lists imported) g d
-  gives-global g d at = grind (arith, set, value-some)
+  gives-global g d at = grind (arith, set)
 
   table-value : (t : TableDef) → HasTypedInitialiser lists t → IfSome t.init (λ e. HasValue lists (all_globals lists imported) e class.Ref)
   table-value t h = grind (arith, value-over)
@@ -183,13 +177,13 @@ module _ (m : Module) (keeps : Keeps m) (imported : List Value) (given : AreImpo
   standing (x ∷ xs) (suc i) P Q l each h = standing xs i P Q (omega arith) each h
 
   table-place : (kind : ElementKind) → HasTableOffset lists kind → NamesTable lists kind → HasTablePlace lists (all_globals lists imported) kind
-  table-place kind h1 h2 = grind (arith, standing, value-over-all)
+  table-place kind h1 h2 = grind (arith, standing, value-of-class, globals-of-class)
 
   references : (items : ElementItems) → HasTypedItems lists items → HaveReferences lists (all_globals lists imported) items
-  references items h1 = grind (arith, All-weaker, value-over-all)
+  references items h1 = grind (arith, All-weaker, value-of-class, globals-of-class)
 
   memory-place : (kind : DataKind) → HasMemoryOffset lists kind → NamesMemory lists kind → HasMemoryPlace lists (all_globals lists imported) kind
-  memory-place kind h1 h2 = grind (arith, standing, value-over-all)
+  memory-place kind h1 h2 = grind (arith, standing, value-of-class, globals-of-class)
 
   pub have-values : HaveValues lists (all_globals lists imported)
   have-values = record {

@@ -8,20 +8,16 @@ use Rattle.std.proofs.lemmas.Option.{slice_get-map, get_or_from_slice_get, slice
 use Rattle.std.specs.Option.{option_map}
 use Rattle.wasm_spec.specs.Module.{Expression}
 use Rattle.replay_spec.specs.Phases.{fits, last_item}
-use Rattle.replay_spec.specs.Values.{Value, const_value, number_or_zero, offset_over, offset_of}
+use Rattle.replay_spec.specs.Values.{Value, const_value, offset_over, offset_of}
 use Rattle.replay_spec.specs.Data.{ActiveSegment, piece_of, memory_sizes, memory_base}
-use Rattle.replay_spec.specs.Images.{ImageMemory, size_of, index_of, index_of_constant, IsPlaced, start_of, end_of, written_on}
+use Rattle.replay_spec.specs.Images.{ImageMemory, size_of, index_of_constant, IsPlaced, start_of, end_of, written_on}
 use Rattle.replay_spec.proofs.Constant.{eval-const_value}
 use Rattle.replay_spec.proofs.Replay.{AllFit}
 use Rattle.replay_spec.proofs.Covering.{Covers, last-cover}
 
--- a constant of a memory's index type is the place that the offset names, over any globals
-number-index : (wide : Bool) (v : Value) (place : ℕ) → index_of wide v ≡ Some place → number_or_zero (Some v) ≡ place
-number-index wide v place h1 = grind (arith, same_Some, none-some)
-
 offset-constant : (globals : List Value) (fields : ℕ → ℕ) (wide : Bool) (e : Expression) (o : Option Value) (place : ℕ) → const_value e ≡ o
     → index_of_constant wide o ≡ Some place → offset_over globals fields e ≡ place
-offset-constant globals fields wide e o place h1 h2 = grind (arith, none-some, eval-const_value, number-index)
+offset-constant globals fields wide e o place h1 h2 = grind (arith, none-some, eval-const_value)
 
 pub all-tail : {X : Type 0} (P : X → Type 0) (x : X) (xs : List X) → All P (x ∷ xs) → All P xs
 all-tail P x xs all k d l = all (suc k) d (omega arith)

@@ -1,40 +1,33 @@
 -- The plan with table images leaves what the element segments leave.
 use Rattle.std.proofs.lemmas.Grind.{common_steps}
-use Rattle.std.proofs.Common.{◌≡◌, ℕ, zero, suc, ◌+◌, ◌-◌, ◌<◌, ◌≤◌, Bool, true, false, List, [], ◌∷◌, ◌++◌, length, get_or, map, All, Option, None, Some, ◌⊎◌, refl, sym, ◌∙◌, ap, subst, arith}
-use Rattle.std.specs.Prelude.{slice_get, unwrap_or, nat_lt, IsSome, is_some, if◌then◌else◌}
+use Rattle.std.proofs.Common.{◌≡◌, ℕ, zero, suc, ◌+◌, ◌-◌, ◌<◌, ◌≤◌, Bool, true, false, List, [], ◌∷◌, ◌++◌, length, get_or, map, All, Option, None, Some, refl, sym, ◌∙◌, ap, subst, arith}
+use Rattle.std.specs.Prelude.{slice_get, unwrap_or, nat_lt, IsSome}
 use Rattle.std.specs.Option.{option_map}
 use Rattle.std.proofs.Math.Logic.{⊎_elim}
-use Rattle.std.proofs.lemmas.Bool.{false≢true, cases_lt, le-leb, eq-eqb, lt-ltb, le-ltb, and_parts, cond-true, cond-false}
+use Rattle.std.proofs.lemmas.Bool.{false≢true, cases_lt, le-leb, eq-eqb, lt-ltb, le-ltb, cond-true, cond-false}
 use Rattle.std.proofs.lemmas.List.{length-map, get_or-append_right, length-append, map-append}
 use Rattle.std.proofs.lemmas.List.Elements.{All-head, All-tail, All-get_or}
 use Rattle.std.proofs.lemmas.Option.{slice_get-map, slice_get_within, slice_get-get_or, slice_get_past, get_or_from_slice_get, none-some, same_Some, unwrap_or-slice_get}
-use Rattle.wasm_spec.specs.declared.operators.Operator.{Operator}
-use Rattle.wasm_spec.specs.Module.{Expression, ElementItems}
+use Rattle.wasm_spec.specs.Module.{Expression}
 use Rattle.replay_spec.specs.Phases.{Piece, fits, item_at, last_item, SamePhase}
-use Rattle.replay_spec.specs.Values.{Value, Ref, Func, number_or_zero, offset_over}
-use Rattle.replay_spec.specs.Elements.{ActiveElements, DefinedTable, value_or_null, cell_of, item_cells, elements_piece, table_sizes, table_base, initial_cell, first_cell, elements_phase}
-use Rattle.replay_spec.specs.Tables.{operator_cell, expression_cell, AreCells, image_cells, image_piece, elements_end, initial_function, is_imaged_from_start, kept_initial, MayBeTaken, end_on, image_length, IsTableImage, PlannedTable, TablePlan, IsTablePlan, integer_of, constant_place, reference_of, planned_cell, planned_first, planned_elements_phase, AgreesOnTables}
+use Rattle.replay_spec.specs.Values.{Value, Ref, Func, offset_over}
+use Rattle.replay_spec.specs.Elements.{ActiveElements, DefinedTable, value_or_null, cell_of, elements_piece, table_sizes, table_base, initial_cell, first_cell, elements_phase}
+use Rattle.replay_spec.specs.Tables.{expression_cell, image_piece, elements_end, initial_function, kept_initial, MayBeTaken, end_on, image_length, IsTableImage, PlannedTable, TablePlan, IsTablePlan, constant_place, reference_of, planned_cell, planned_first, planned_elements_phase, AgreesOnTables}
 use Rattle.replay_spec.proofs.Replay.{AllFit, SamePhase-prefix}
 use Rattle.replay_spec.proofs.Covering.{CoversAt, Covers, last-cover}
 use Rattle.replay_spec.proofs.Constant.{eval-const_value}
 
 -- ---- constants
 
-integer-place : (v : Value) (n : ℕ) → integer_of v ≡ Some n → number_or_zero (Some v) ≡ n
-integer-place v n h1 = grind (arith, same_Some, none-some)
-
 -- a constant offset is the offset, over any globals
 pub offset-constant : (globals : List Value) (fields : ℕ → ℕ) (e : Expression) (n : ℕ) → constant_place e ≡ Some n → offset_over globals fields e ≡ n
-offset-constant globals fields e n h = grind (arith, none-some, eval-const_value, integer-place)
+offset-constant globals fields e n h = grind (arith, none-some, eval-const_value)
 
 -- ---- cells of items
 
 module _ (globals : List Value) (fields : ℕ → ℕ) where
-  operator-cell : (op : Operator) → IsSome (operator_cell op) → cell_of globals fields (op ∷ []) ≡ reference_of (unwrap_or (operator_cell op) None)
-  operator-cell op h1 = grind (arith, false≢true)
-
   expression-cell : (e : Expression) → IsSome (expression_cell e) → cell_of globals fields e ≡ reference_of (unwrap_or (expression_cell e) None)
-  expression-cell e h1 = grind (arith, false≢true, operator-cell)
+  expression-cell e h1 = grind (arith, false≢true)
 
   function-cells : (indices : List ℕ) → map (λ k. Ref (Func k)) indices ≡ map reference_of (map Some indices)
   function-cells [] = refl
@@ -45,27 +38,10 @@ module _ (globals : List Value) (fields : ℕ → ℕ) where
   value-cells [] all = refl
   value-cells (e ∷ es) all = grind (arith, expression-cell, All-head, All-tail, (value-cells es (All-tail (λ e. IsSome (expression_cell e)) e es all)))
 
-  item-cells : (items : ElementItems) → AreCells items → item_cells globals fields items ≡ map reference_of (image_cells items)
-  item-cells items h1 = grind (arith, function-cells, value-cells)
-
-  -- the first cell of a table that is imaged from the start, or has no initialiser
-  initial-function : (o : Option Expression) → IsSome (initial_function o) → initial_cell globals fields o ≡ reference_of (initial_function o)
-  initial-function o h1 = grind (arith, false≢true, expression-cell)
-
   -- ---- pieces whose items are mapped
-
-  mapped-option : (b : Bool) (o : Option (Option ℕ)) (p : Option Value) → p ≡ option_map reference_of o
-      → (if b then p else None) ≡ option_map reference_of (if b then o else None)
-  mapped-option b o p h1 = grind (arith, common_steps)
 
   mapped-unwrap : (o : Option (Option ℕ)) (d : Option ℕ) → unwrap_or (option_map reference_of o) (reference_of d) ≡ reference_of (unwrap_or o d)
   mapped-unwrap o d = grind (arith, common_steps)
-
-  -- a piece and its references
-  mapped-piece : (object place table offset start : ℕ) (cells : List (Option ℕ)) (values : List Value) → offset ≡ start → values ≡ map reference_of cells
-      → item_at object place (record { object = table; offset = offset; items = values })
-      ≡ option_map reference_of (item_at object place (record { object = table; offset = start; items = cells }))
-  mapped-piece object place table offset start cells values e f = grind (arith, mapped-option, slice_get-map)
 
   module _ (lazy : Bool) (imports : ℕ) (tables : List DefinedTable) where
     same-offset : (s : ActiveElements) → MayBeTaken lazy imports tables s → offset_over globals fields s.offset ≡ unwrap_or (constant_place s.offset) 0
@@ -73,7 +49,7 @@ module _ (globals : List Value) (fields : ℕ → ℕ) where
 
     mapped-item : (object place : ℕ) (s : ActiveElements) → MayBeTaken lazy imports tables s
         → item_at object place (elements_piece globals fields s) ≡ option_map reference_of (item_at object place (image_piece s))
-    mapped-item object place s h = grind (arith, mapped-piece, same-offset, item-cells)
+    mapped-item object place s h = grind (arith, slice_get-map, same-offset, function-cells, value-cells)
 
     -- cells that taken segments leave are those of the image
     taken-cells : (taken : List ActiveElements) → All (MayBeTaken lazy imports tables) taken → (object place : ℕ) (d : Option ℕ)
@@ -92,7 +68,7 @@ sizes-table imported tables i t defined at =
 
 module _ (globals : List Value) (fields : ℕ → ℕ) (lazy : Bool) (imports : ℕ) (tables : List DefinedTable) (imported : List (List Value)) (count : length imported ≡ imports) where
   fits-taken : (s : ActiveElements) → MayBeTaken lazy imports tables s → fits (table_sizes imported (map (λ t. t.minimum) tables)) (elements_piece globals fields s) ≡ true
-  fits-taken s h = grind (arith, offset-constant, sizes-table, item-cells, length-map, le-leb)
+  fits-taken s h = grind (arith, offset-constant, sizes-table, length-map, le-leb)
 
   fit-taken : (taken : List ActiveElements) → All (MayBeTaken lazy imports tables) taken
       → AllFit (table_sizes imported (map (λ t. t.minimum) tables)) (map (elements_piece globals fields) taken)
@@ -131,19 +107,10 @@ past-end taken m place le = ⊎_elim (λ e. e)
 
 -- ---- tables that keep no initialiser
 
--- one is imaged from the start, or has no initialiser
-pub keeps-none : (lazy : Bool) (t : DefinedTable) → kept_initial lazy t ≡ None
-    → ((is_imaged_from_start lazy t ≡ true) × (is_some (initial_function t.initial) ≡ true)) ⊎ ((is_imaged_from_start lazy t ≡ false) × (t.initial ≡ None))
-keeps-none lazy t h = grind (arith, and_parts)
-
--- what is kept is the initialiser
-keeps-some : (lazy : Bool) (t : DefinedTable) (x : Expression) → kept_initial lazy t ≡ Some x → t.initial ≡ Some x
-keeps-some lazy t x h = grind (arith, none-some)
-
 -- nothing is left past the end of an image
 pub past-image : (lazy : Bool) (taken : List ActiveElements) (m place : ℕ) (t : DefinedTable) → kept_initial lazy t ≡ None → place < t.minimum
     → image_length lazy taken m t ≤ place → last_item m place (initial_function t.initial) (map image_piece taken) ≡ None
-past-image lazy taken m place t keeps within le = grind (arith, cond-true, cond-false, past-end, keeps-none)
+past-image lazy taken m place t keeps within le = grind (arith, cond-true, cond-false, past-end)
 
 module _ (globals : List Value) (fields : ℕ → ℕ) (lazy : Bool) (imports : ℕ) (tables : List DefinedTable) (taken : List ActiveElements) (all : All (MayBeTaken lazy imports tables) taken) where
   -- what a taken segment on a table says of it
@@ -167,7 +134,7 @@ module _ (globals : List Value) (fields : ℕ → ℕ) (lazy : Bool) (imports : 
       (last-cover m place d (map (elements_piece globals fields) taken))
 
   first-image : (t : DefinedTable) → kept_initial lazy t ≡ None → initial_cell globals fields t.initial ≡ reference_of (initial_function t.initial)
-  first-image t keeps = grind (arith, initial-function, keeps-none)
+  first-image t keeps = grind (arith)
 
   image-same : (m place : ℕ) (t : DefinedTable) (image : List (Option ℕ)) → kept_initial lazy t ≡ None → place < t.minimum → IsTableImage lazy taken m t image
       → last_item m place (initial_cell globals fields t.initial) (map (elements_piece globals fields) taken) ≡ reference_of (unwrap_or (slice_get image place) None)
@@ -182,7 +149,7 @@ module _ (globals : List Value) (fields : ℕ → ℕ) (lazy : Bool) (imports : 
   table-same : (m place : ℕ) (t : DefinedTable) → slice_get tables (m - imports) ≡ Some t → place < t.minimum → (o : Option Expression) → o ≡ kept_initial lazy t
       → (image : List (Option ℕ)) → IsTableImage lazy taken m t image
       → last_item m place (initial_cell globals fields t.initial) (map (elements_piece globals fields) taken) ≡ planned_cell globals fields o image place
-  table-same m place t h1 h2 o h3 image h4 = grind (arith, image-same, keeps-some, none-some, begins-on, last-cover)
+  table-same m place t h1 h2 o h3 image h4 = grind (arith, image-same, none-some, begins-on, last-cover)
 
 -- ---- the plan
 

@@ -1,12 +1,11 @@
 -- The worked examples of table images.
 use Rattle.std.proofs.lemmas.Grind.{common_steps}
-use Rattle.std.proofs.Common.{◌≡◌, ℕ, zero, suc, ◌+◌, ◌<◌, true, List, [], ◌∷◌, All, None, Some, refl, arith}
-use Rattle.std.specs.Prelude.{slice_get, map}
+use Rattle.std.proofs.Common.{◌≡◌, ℕ, zero, suc, ◌+◌, true, List, [], ◌∷◌, All, None, Some, refl, arith}
+use Rattle.std.specs.Prelude.{slice_get}
 use Rattle.std.proofs.lemmas.Bool.{false≢true}
 use Rattle.std.proofs.lemmas.Option.{none-some, same_Some}
-use Rattle.replay_spec.specs.Phases.{last_item}
 use Rattle.replay_spec.specs.Elements.{ActiveElements, DefinedTable}
-use Rattle.replay_spec.specs.Tables.{AreCells, image_piece, MayBeTaken, TakesPrefix, IsTableImage, IsTablePlan, PlannedTable}
+use Rattle.replay_spec.specs.Tables.{AreCells, MayBeTaken, TakesPrefix, IsTableImage, IsTablePlan, PlannedTable}
 use Rattle.replay_spec.specs.WorkedTables.{four_cells, three_cells, from_a_global, imaged}
 
 three : AreCells three_cells.items
@@ -31,13 +30,9 @@ taken (suc k) d l = absurd (omega arith)
 no-more : (s : ActiveElements) (rest : List ActiveElements) → [] ≡ s ∷ rest → MayBeTaken true 0 (four_cells ∷ []) s → ⊥
 no-more s rest e h = cc
 
-cells : (place : ℕ) → place < 4
-    → slice_get (None ∷ Some 0 ∷ None ∷ Some 0 ∷ []) place ≡ Some (last_item 0 place None (map image_piece (three_cells ∷ [])))
-cells place h1 = grind (arith, common_steps)
-
 images : (i : ℕ) (t : DefinedTable) (planned : PlannedTable) → slice_get (four_cells ∷ []) i ≡ Some t
     → slice_get (imaged (None ∷ Some 0 ∷ None ∷ Some 0 ∷ [])).tables i ≡ Some planned → IsTableImage true (three_cells ∷ []) (0 + i) t planned.image
-images i t planned h1 h2 = grind (arith, same_Some, cells, none-some)
+images i t planned h1 h2 = grind (arith, same_Some, none-some)
 
 pub imaged-plan : IsTablePlan true 0 (four_cells ∷ []) (three_cells ∷ []) (imaged (None ∷ Some 0 ∷ None ∷ Some 0 ∷ []))
 imaged-plan = record {
