@@ -1,6 +1,6 @@
 -- The plan with images leaves what the segments leave.
 use Rattle.std.proofs.lemmas.Grind.{common_steps}
-use Rattle.std.proofs.Common.{◌≡◌, ◌≢◌, ℕ, zero, suc, ◌+◌, ◌-◌, ◌*◌, ◌/◌, ◌^◌, ◌<◌, ◌≤◌, Bool, true, false, List, [], ◌∷◌, ◌++◌, length, get_or, map, Option, None, Some, refl, sym, ◌∙◌, ap, subst, arith, lit<, mul_assoc, pow-add}
+use Rattle.std.proofs.Common.{◌≡◌, ◌≢◌, ℕ, zero, suc, ◌+◌, ◌-◌, ◌*◌, ◌/◌, ◌^◌, ◌<◌, ◌≤◌, Bool, true, false, List, [], ◌∷◌, length, get_or, map, Option, None, Some, refl, sym, ◌∙◌, ap, subst, arith, lit<, mul_assoc, pow-add}
 use Rattle.std.specs.Prelude.{slice_get, nat_lt, ◌==◌, ◌&&◌}
 use Rattle.std.specs.List.{filter}
 use Rattle.std.specs.Int.{IsPowerOfTwo}
@@ -28,16 +28,7 @@ positive-power k = pow-le-pow_right {n = 2} (lit< tt) {i = 0} {j = k} (omega ari
 
 -- a size in larger pages is one in smaller pages
 pub whole_pages : (n k e : ℕ) → 2 ^ k ≤ 2 ^ e → n * 2 ^ e ≡ (n * 2 ^ (e - k)) * 2 ^ k
-whole_pages n k e le = ⊎_elim
-    (λ (l : e < k).
-    let m : 2 ^ suc e ≤ 2 ^ k = pow-le-pow_right {n = 2} (lit< tt) {i = suc e} {j = k} l in
-    let s : 2 ^ suc e ≡ 2 * 2 ^ e = pow-succ' 2 e in
-    let p : 0 < 2 ^ e = positive-power e in
-    absurd (omega arith))
-    (λ (ge : k ≤ e).
-    let d : 2 ^ e ≡ 2 ^ (e - k) * 2 ^ k = (let h : e ≡ (e - k) + k = omega arith in ap (λ (i : ℕ). 2 ^ i) h ∙ pow-add 2 (e - k) k) in
-    ap (λ (x : ℕ). n * x) d ∙ sym (mul_assoc n (2 ^ (e - k)) (2 ^ k)))
-    (cases_lt e k)
+whole_pages n k e le = grind (arith, pow-le-pow_right, (pow-succ' 2 e), (positive-power e), (pow-add 2 (e - k) k), (mul_assoc n (2 ^ (e - k)) (2 ^ k)), (cases_lt e k))
 
 -- the page of a place ends within whole pages
 pub page_end : (place page n : ℕ) → 0 < page → place < n * page → (place / page + 1) * page ≤ n * page
@@ -109,11 +100,7 @@ module _ (options : ImageOptions) (imports : ℕ) (memories : List ImageMemory) 
 
   pub fits-image : (imported : List (List ℕ)) (m : ℕ) (image : MemoryImage) → length imported ≡ imports → IsImage options.page (written_on active m) image
       → fits (memory_sizes imported (map size_of memories)) (image_piece m image) ≡ true
-  fits-image imported m image count i =
-      let h = home m image i in
-      let w = h.within in
-      let size = sizes-defined imported memories m h.memory (rw count h.defined) (rw count h.is_memory) in
-      le-leb (image.start + length image.bytes) (memory_sizes imported (map size_of memories) m) (omega (arith, w, size))
+  fits-image imported m image count i = grind (arith, (home m image i), (sizes-defined imported memories m), (le-leb (image.start + length image.bytes) (memory_sizes imported (map size_of memories) m)))
 
   fit-from : (sizes : ℕ → ℕ) (images : List (Option MemoryImage)) (n : ℕ)
       → ((object j : ℕ) (image : MemoryImage) → n + j ≡ object → slice_get images j ≡ Some (Some image) → fits sizes (image_piece object image) ≡ true)
@@ -174,12 +161,7 @@ module _ (options : ImageOptions) (imports : ℕ) (memories : List ImageMemory) 
 SamePhase-all : {A : Type 0} (sizes : ℕ → ℕ) (b c : ℕ → ℕ → A) (ps qs : List (Piece A)) → AllFit sizes ps → AllFit sizes qs
     → ((object place : ℕ) → place < sizes object → last_item object place (b object place) ps ≡ last_item object place (c object place) qs)
     → SamePhase (record { sizes = sizes; base = b; pieces = ps }) (record { sizes = sizes; base = c; pieces = qs })
-SamePhase-all sizes b c ps qs fit_p fit_q same =
-    let one = append-nil ps in
-    let two = append-nil qs in
-    subst (λ xs. SamePhase (record { sizes = sizes; base = b; pieces = xs }) (record { sizes = sizes; base = c; pieces = qs })) one
-    (subst (λ xs. SamePhase (record { sizes = sizes; base = b; pieces = ps ++ [] }) (record { sizes = sizes; base = c; pieces = xs })) two
-    (SamePhase-prefix sizes b c ps qs [] fit_p fit_q same))
+SamePhase-all sizes b c ps qs fit_p fit_q same = grind (arith, (append-nil ps), (append-nil qs), (SamePhase-prefix sizes b c ps qs [] fit_p fit_q same))
 
 module _ (options : ImageOptions) (imports : ℕ) (memories : List ImageMemory) (active : List ActiveSegment) (passive : List (List ℕ)) (plan : MemoryPlan)
     (page : IsPowerOfTwo options.page) where

@@ -1,5 +1,5 @@
 -- Images as pieces: both readings of a plan write them, and they leave what the segments leave.
-use Rattle.std.proofs.Common.{◌≡◌, ◌≢◌, ℕ, zero, suc, ◌+◌, ◌-◌, ◌<◌, ◌≤◌, List, [], ◌∷◌, ◌++◌, length, map, Option, None, Some, refl, sym, ◌∙◌, ap, arith}
+use Rattle.std.proofs.Common.{◌≡◌, ◌≢◌, ℕ, zero, suc, ◌+◌, ◌-◌, ◌<◌, List, [], ◌∷◌, ◌++◌, length, map, Option, None, Some, refl, arith}
 use Rattle.std.specs.Prelude.{slice_get, unwrap_or}
 use Rattle.std.specs.List.{filter_map}
 use Rattle.std.proofs.Math.Logic.{⊎_elim}
@@ -72,28 +72,7 @@ last-image (Some one ∷ images) n (suc j) object place d image is at = grind (a
 module _ (page : ℕ) (positive : 0 < page) (contents : ℕ → ℕ) where
   item-image : (object place : ℕ) (image : MemoryImage) → IsImage page contents image
       → unwrap_or (item_at object place (image_piece object image)) 0 ≡ contents place
-  item-image object place image i = ⊎_elim
-      (λ (before : place < image.start).
-      let none : item_at object place (image_piece object image) ≡ None = ⊎_elim (λ e. e)
-      (λ (c : CoversAt object place (image_piece object image)). let f = c.from in absurd (omega arith)) (item-cover object place (image_piece object image)) in
-      let low = div-mul-le_self i.first page in
-      let s = i.start in
-      rw none (sym (i.is_first.before place (omega arith))))
-      (λ (from : image.start ≤ place). ⊎_elim
-      (λ (upto : place < image.start + length image.bytes).
-      let same : object ≡ object = refl in
-      let on = eq-eqb object object same in
-      let in_from = le-leb image.start place from in
-      let at = slice_get-get_or image.bytes (place - image.start) 0 (omega arith) in
-      let there : image.start + (place - image.start) ≡ place = omega arith in
-      rw (on, in_from, at) (i.bytes (place - image.start) (omega arith) ∙ ap contents there))
-      (λ (behind : image.start + length image.bytes ≤ place).
-      let none : item_at object place (image_piece object image) ≡ None = ⊎_elim (λ e. e)
-      (λ (c : CoversAt object place (image_piece object image)). let u = c.upto in absurd (omega arith)) (item-cover object place (image_piece object image)) in
-      let e = i.end in
-      rw none (sym (i.is_last.behind place (omega arith))))
-      (cases_lt place (image.start + length image.bytes)))
-      (cases_lt place image.start)
+  item-image object place image i = grind (arith, (item-cover object place (image_piece object image)), (div-mul-le_self i.first page), (eq-eqb object object), (le-leb image.start place), (slice_get-get_or image.bytes (place - image.start) 0), (cases_lt place (image.start + length image.bytes)), (cases_lt place image.start))
 
   pub laid-over : (object place : ℕ) (image : Option MemoryImage) → ImageOf page contents image → laid_over image object place 0 ≡ contents place
   laid-over object place image h1 = grind (arith, item-image)

@@ -28,10 +28,7 @@ all-head P x xs all = all 0 x (omega arith)
 -- the size of a defined memory
 pub sizes-defined : (imported : List (List ℕ)) (memories : List ImageMemory) (m : ℕ) (memory : ImageMemory) → length imported ≤ m
     → slice_get memories (m - length imported) ≡ Some memory → memory_sizes imported (map size_of memories) m ≡ size_of memory
-sizes-defined imported memories m memory defined at =
-    get_or-append_right (map length imported) (map size_of memories) (length imported) m 0 (length-map imported length) defined
-    ∙ get_or_from_slice_get (map size_of memories) (m - length imported) (size_of memory) 0
-    (slice_get-map size_of memories (m - length imported) ∙ ap (option_map size_of) at)
+sizes-defined imported memories m memory defined at = grind (arith, (get_or-append_right (map length imported) (map size_of memories) (length imported) m 0 (length-map imported length) defined), (length-map imported length), (get_or_from_slice_get (map size_of memories) (m - length imported) (size_of memory) 0 (slice_get-map size_of memories (m - length imported) ∙ ap (option_map size_of) at)), (slice_get-map size_of memories (m - length imported)))
 
 -- a defined memory holds zeros at first
 pub base-defined : (imported : List (List ℕ)) (m place : ℕ) → length imported ≤ m → memory_base imported m place ≡ 0
@@ -56,13 +53,7 @@ module _ (imports : ℕ) (memories : List ImageMemory) where
 
   pub fits-placed : (imported : List (List ℕ)) (s : ActiveSegment) → length imported ≡ imports → IsPlaced imports memories s
       → fits (memory_sizes imported (map size_of memories)) (piece_of offset_of s) ≡ true
-  fits-placed imported s count p =
-      let start = start-placed s p in
-      let w = p.within in
-      let at : slice_get memories (s.memory - length imported) ≡ Some p.memory = rw count p.is_memory in
-      let defined : length imported ≤ s.memory = rw count p.defined in
-      let size = sizes-defined imported memories s.memory p.memory defined at in
-      le-leb (start_of s + length s.bytes) (memory_sizes imported (map size_of memories) s.memory) (omega (arith, start, w, size))
+  fits-placed imported s count p = grind (arith, (start-placed s p), (sizes-defined imported memories s.memory p.memory), (le-leb (start_of s + length s.bytes) (memory_sizes imported (map size_of memories) s.memory)))
 
   pub fit-placed : (imported : List (List ℕ)) (active : List ActiveSegment) → length imported ≡ imports → All (IsPlaced imports memories) active
       → AllFit (memory_sizes imported (map size_of memories)) (map (piece_of offset_of) active)

@@ -1,7 +1,7 @@
 -- The plan with table images leaves what the element segments leave.
 use Rattle.std.proofs.lemmas.Grind.{common_steps}
-use Rattle.std.proofs.Common.{◌≡◌, ℕ, zero, suc, ◌+◌, ◌-◌, ◌<◌, ◌≤◌, Bool, true, false, List, [], ◌∷◌, ◌++◌, length, get_or, map, All, Option, None, Some, refl, sym, ◌∙◌, ap, subst, arith}
-use Rattle.std.specs.Prelude.{slice_get, unwrap_or, nat_lt, IsSome}
+use Rattle.std.proofs.Common.{◌≡◌, ℕ, zero, suc, ◌+◌, ◌-◌, ◌<◌, ◌≤◌, Bool, true, false, List, [], ◌∷◌, length, get_or, map, All, Option, None, Some, refl, sym, ◌∙◌, ap, subst, arith}
+use Rattle.std.specs.Prelude.{slice_get, unwrap_or, IsSome}
 use Rattle.std.specs.Option.{option_map}
 use Rattle.std.proofs.Math.Logic.{⊎_elim}
 use Rattle.std.proofs.lemmas.Bool.{false≢true, cases_lt, le-leb, eq-eqb, lt-ltb, le-ltb, cond-true, cond-false}
@@ -97,13 +97,7 @@ below-end (x ∷ xs) zero s m at on = grind (arith, same_Some, eq-eqb)
 below-end (x ∷ xs) (suc i) s m at on = grind (arith, (below-end xs i s m at on))
 
 past-end : (taken : List ActiveElements) (m place : ℕ) → end_on m taken ≤ place → last_item m place None (map image_piece taken) ≡ None
-past-end taken m place le = ⊎_elim (λ e. e)
-    (λ (c : Covers m place (map image_piece taken)).
-    let f = covers-from image_piece taken m place c in
-    let end = below-end taken f.index f.element m f.stands f.covers.on in
-    let u = f.covers.upto in
-    absurd (omega arith))
-    (last-cover m place None (map image_piece taken))
+past-end taken m place le = grind (arith, (covers-from image_piece taken m place), (below-end taken), (last-cover m place None (map image_piece taken)))
 
 -- ---- tables that keep no initialiser
 
@@ -138,13 +132,7 @@ module _ (globals : List Value) (fields : ℕ → ℕ) (lazy : Bool) (imports : 
 
   image-same : (m place : ℕ) (t : DefinedTable) (image : List (Option ℕ)) → kept_initial lazy t ≡ None → place < t.minimum → IsTableImage lazy taken m t image
       → last_item m place (initial_cell globals fields t.initial) (map (elements_piece globals fields) taken) ≡ reference_of (unwrap_or (slice_get image place) None)
-  image-same m place t image keeps within h =
-      ap (λ d. last_item m place d (map (elements_piece globals fields) taken)) (first-image t keeps)
-      ∙ taken-cells globals fields lazy imports tables taken all m place (initial_function t.initial)
-      ∙ ⊎_elim (λ (lt : place < length image). ap (λ o. reference_of (unwrap_or o None)) (sym (h.cells place lt)))
-      (λ (le : length image ≤ place). ap reference_of (past-image lazy taken m place t keeps within (rw h.reach at le))
-      ∙ ap (λ o. reference_of (unwrap_or o None)) (sym (slice_get_past image place le)))
-      (cases_lt place (length image))
+  image-same m place t image keeps within h = grind (arith, (first-image t keeps), (taken-cells globals fields lazy imports tables taken all m place (initial_function t.initial)), (past-image lazy taken m place t keeps within), (slice_get_past image place), (cases_lt place (length image)))
 
   table-same : (m place : ℕ) (t : DefinedTable) → slice_get tables (m - imports) ≡ Some t → place < t.minimum → (o : Option Expression) → o ≡ kept_initial lazy t
       → (image : List (Option ℕ)) → IsTableImage lazy taken m t image
@@ -194,26 +182,10 @@ module _ (globals : List Value) (fields : ℕ → ℕ) (lazy : Bool) (imports : 
 
   same-cells : (m place : ℕ) → place < table_sizes imported (minimums tables) m
       → last_item m place (first_base globals fields imported tables m place) (map (elements_piece globals fields) h.taken) ≡ planned_base globals fields imported plan m place
-  same-cells m place within = ⊎_elim
-      (λ (low : m < imports).
-      let test : nat_lt m (length imported) ≡ true = lt-ltb m (length imported) (rw count low) in
-      rw test (imported-stays globals fields lazy imports tables h.taken h.prefix.takes m place (value_or_null (slice_get (unwrap_or (slice_get imported m) []) place)) low))
-      (λ (high : imports ≤ m). ⊎_elim
-      (λ (lt : m < imports + length tables).
-      let test : nat_lt m (length imported) ≡ false = le-ltb m (length imported) (rw count high) in
-      rw (test, count) (defined-same m place high lt within))
-      (λ (ge : imports + length tables ≤ m). let none = none-past m ge in absurd (omega (arith, none)))
-      (cases_lt m (imports + length tables)))
-      (cases_lt m imports)
+  same-cells m place within = grind (arith, (lt-ltb m (length imported)), (imported-stays globals fields lazy imports tables h.taken h.prefix.takes m place (value_or_null (slice_get (unwrap_or (slice_get imported m) []) place))), (le-ltb m (length imported)), (defined-same m place), (none-past m), (cases_lt m (imports + length tables)), (cases_lt m imports))
 
   agrees-over : SamePhase (elements_phase globals fields imported tables active) (planned_elements_phase globals fields imported plan)
-  agrees-over =
-      let parts : map (elements_piece globals fields) active ≡ map (elements_piece globals fields) h.taken ++ map (elements_piece globals fields) plan.segments =
-      ap (map (elements_piece globals fields)) h.prefix.parts ∙ map-append (elements_piece globals fields) h.taken plan.segments in
-      rw (parts, h.minimums)
-      (SamePhase-prefix (table_sizes imported (minimums tables)) (first_base globals fields imported tables) (planned_base globals fields imported plan)
-      (map (elements_piece globals fields) h.taken) [] (map (elements_piece globals fields) plan.segments)
-      (fit-taken globals fields lazy imports tables imported count h.taken h.prefix.takes) tt same-cells)
+  agrees-over = grind (arith, (map-append (elements_piece globals fields) h.taken plan.segments), (SamePhase-prefix (table_sizes imported (minimums tables)) (first_base globals fields imported tables) (planned_base globals fields imported plan) (map (elements_piece globals fields) h.taken) [] (map (elements_piece globals fields) plan.segments) (fit-taken globals fields lazy imports tables imported count h.taken h.prefix.takes) tt same-cells), (fit-taken globals fields lazy imports tables imported count h.taken h.prefix.takes), same-cells)
 
 pub tables-agree : (lazy : Bool) (imports : ℕ) (tables : List DefinedTable) (active : List ActiveElements) (plan : TablePlan)
     → IsTablePlan lazy imports tables active plan → AgreesOnTables imports tables active plan

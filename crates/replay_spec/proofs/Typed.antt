@@ -1,10 +1,10 @@
 -- An expression of a class has a value of that class.
 use Rattle.std.proofs.lemmas.Grind.{common_steps}
-use Rattle.std.proofs.Common.{rules, ◌≡◌, ℕ, suc, ◌+◌, ◌-◌, ◌*◌, ◌%◌, ◌^◌, ◌<◌, ◌≤◌, List, [], ◌∷◌, ◌++◌, length, map, take, drop, Bool, refl, sym, ◌∙◌, ap, subst, Option, None, Some, arith, lit<}
-use Rattle.std.specs.Prelude.{replicate, slice_get, unwrap_or, if◌then◌else◌, IsSomeAnd}
+use Rattle.std.proofs.Common.{rules, ◌≡◌, ℕ, suc, ◌+◌, ◌-◌, ◌*◌, ◌%◌, ◌^◌, ◌<◌, List, [], ◌∷◌, ◌++◌, length, map, take, drop, Bool, refl, sym, ◌∙◌, ap, subst, Option, None, Some, arith, lit<}
+use Rattle.std.specs.Prelude.{replicate, slice_get, unwrap_or, IsSomeAnd}
 use Rattle.std.specs.Int.{cast_unsigned, w32, w64}
 use Rattle.std.specs.List.{AllZip, list_all}
-use Rattle.std.specs.Option.{option_map, option_and_then}
+use Rattle.std.specs.Option.{option_and_then}
 use Rattle.std.proofs.Math.Nat.{mod-lt}
 use Rattle.std.proofs.lemmas.Bool.{le-leb}
 use Rattle.std.proofs.lemmas.List.{length-append, length-map, length-replicate}
@@ -19,7 +19,7 @@ use Rattle.rule_spec.specs.declared.classes.Class.{Class}
 use Rattle.rule_spec.specs.declared.classes.Class.TheVariants as class
 use Rattle.rule_spec.specs.Lists.{Lists}
 use Rattle.rule_spec.specs.Typing.{Signature, field_class, has_default, struct_at, array_at, refers_to, where_true, global_signature, signature, Leads, HasClass}
-use Rattle.replay_spec.specs.Values.{Value, I32, I64, Ref, I31, Term, Action, pushes, joined_i32, joined_i64, joins_i32, joins_i64, i31_of, to_extern, to_any, converted, converts, allocates, action, acted, run, only_value, eval}
+use Rattle.replay_spec.specs.Values.{Value, I32, I64, Ref, I31, Term, Action, pushes, joined_i32, joined_i64, joins_i32, joins_i64, i31_of, to_extern, to_any, converted, converts, allocates, action, acted, run, eval}
 use Rattle.replay_spec.specs.Classes.{IsOfClass, HaveClasses, field_count}
 
 abbrev AreOfClasses : List Value → List Class → Type 0
@@ -60,17 +60,7 @@ record Does (a : Action) (s : Signature) : Type 0 where
 -- so it leads from stacks of the classes before to one of the classes after
 acts : (a : Action) (s : Signature) (rest : List Class) (vs : List Value) → Does a s → AreOfClasses vs (rest ++ s.takes)
     → (next : List Value) × (acted a vs ≡ Some next) × AreOfClasses next (rest ++ s.pushes ∷ [])
-acts a s rest vs does h =
-    let long : length vs ≡ length rest + length s.takes = same-length vs (rest ++ s.takes) h ∙ length-append rest s.takes in
-    let at : length vs - a.takes ≡ length rest = omega (arith, does.count) in
-    let enough : a.takes ≤ length vs = omega (arith, does.count) in
-    let m = does.made (drop (length rest) vs) (upper s.takes rest vs h) in (
-      take (length rest) vs ++ m.0 ∷ [],
-      ap (λ (b : Bool). if b then option_map (λ v. take (length vs - a.takes) vs ++ v ∷ []) (a.makes (drop (length vs - a.takes) vs)) else None) (le-leb a.takes (length vs) enough)
-          ∙ ap (λ (n : ℕ). option_map (λ v. take n vs ++ v ∷ []) (a.makes (drop n vs))) at
-          ∙ ap (option_map (λ v. take (length rest) vs ++ v ∷ [])) m.1,
-      one-more (take (length rest) vs) rest m.0 s.pushes (lower s.takes rest vs h) m.2,
-    )
+acts a s rest vs does h = grind (arith, (same-length vs (rest ++ s.takes) h), (length-append rest s.takes), (upper s.takes rest vs h), (le-leb a.takes (length vs)), (one-more (take (length rest) vs) rest), (lower s.takes rest vs h))
 
 known : (a : Action) (t s : Signature) → Does a t → Some t ≡ Some s → Does a s
 known a t s does e = subst (Does a) (same_Some t s e) does
@@ -214,8 +204,4 @@ module _ (l : Lists) (visible : List GlobalType) (globals : List Value) (have : 
       (more.0, ap (option_and_then (run (λ op. acted (action globals (field_count l) op)) ops)) here.1 ∙ more.1, more.2)
 
   pub value-of-class : (e : Expression) (c : Class) → HasClass l visible e c → IsSomeAnd (eval globals (field_count l) e) (λ v. IsOfClass v c)
-  value-of-class e c h =
-      let all = leads e [] (c ∷ []) [] h tt in
-      let one = one-value all.0 c all.2 in
-      let is : eval globals (field_count l) e ≡ Some one.0 = ap (option_and_then only_value) (all.1 ∙ ap Some one.1) in
-      subst (λ (o : Option Value). IsSomeAnd o (λ v. IsOfClass v c)) (sym is) one.2
+  value-of-class e c h = grind (arith, (leads e [] (c ∷ []) [] h tt), one-value)
