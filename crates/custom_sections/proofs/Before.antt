@@ -1,5 +1,6 @@
 -- Elements up to a fault, as a loop reads them.
-use Rattle.std.proofs.Common.{◌≡◌, ℕ, suc, ◌-◌, ◌+◌, ◌<◌, ◌≤◌, List, [], ◌∷◌, ◌++◌, Option, Some, None, refl, sym, ap, ◌∙◌, append_assoc, arith}
+use Rattle.std.proofs.lemmas.Grind.{common_steps}
+use Rattle.std.proofs.Common.{rules, ◌≡◌, ℕ, suc, ◌-◌, ◌+◌, ◌<◌, ◌≤◌, List, [], ◌∷◌, ◌++◌, Option, Some, None, refl, sym, ap, ◌∙◌, append_assoc, arith}
 use Rattle.std.proofs.lemmas.List.{append-nil}
 use Rattle.form_reader.specs.ReadingNumbers.{unsigned_at}
 use Rattle.custom_sections.specs.Reading.{taken}
@@ -50,9 +51,7 @@ module _ {A : Type 0} (part : Partly A) where
   pub at_start : (front : List A) (count : ℕ) (rest bytes : List ℕ) → Some (count, rest) ≡ taken (unsigned_at 32 bytes)
       → still front (count - 0) rest ≡ in_front front (vector_before part bytes)
   unfolding vector_before
-  at_start front count rest bytes e =
-      let k : count - 0 ≡ count = omega arith in
-      rw (k, read_from_taken (unsigned_at 32 bytes) (count, rest) (sym e)) refl
+  at_start front count rest bytes e = grind (arith, read_from_taken)
 
   pub no_count : (bytes : List ℕ) → None ≡ taken (unsigned_at 32 bytes) → vector_before part bytes ≡ ([], None)
   unfolding vector_before
@@ -92,9 +91,7 @@ module _ {A : Type 0} (part : Partly A) where
 
   pub is_done : (front : List A) (count i : ℕ) (bytes : List ℕ) (total : List A × Option (List ℕ)) → count ≤ i
       → still front (count - i) bytes ≡ total → ended front (Some bytes) ≡ total
-  is_done front count i bytes total le h =
-      let k : count - i ≡ 0 = omega arith in
-      sym (done_is front bytes) ∙ ap (λ n. still front n bytes) (sym k) ∙ h
+  is_done front count i bytes total le h = grind (arith, done_is)
 
 pub local_step : (bytes : List ℕ) (function : ℕ) (rest : List ℕ) (names : List (ℕ × List ℕ)) (after : Option (List ℕ))
     → Some (function, rest) ≡ taken (unsigned_at 32 bytes) → names ≡ (names_before rest).0 → after ≡ (names_before rest).1

@@ -1,5 +1,6 @@
 -- Cutting `.dwo` takes nothing of `.debug_`.
-use Rattle.std.proofs.Common.{◌≡◌, ℕ, zero, suc, ◌-◌, ◌≤◌, List, ◌++◌, length, take, drop, get_or, Bool, true, false, cond, eqb, refl, sym, ap, ◌∙◌, arith, inl, inr, append_assoc}
+use Rattle.std.proofs.lemmas.Grind.{common_steps}
+use Rattle.std.proofs.Common.{rules, ◌≡◌, ℕ, zero, suc, ◌-◌, ◌≤◌, List, ◌++◌, length, take, drop, get_or, Bool, true, false, cond, eqb, refl, sym, ap, ◌∙◌, arith, inl, inr, append_assoc}
 use Rattle.std.specs.Prelude.{codes}
 use Rattle.std.specs.List.{starts_with, ends_with}
 use Rattle.std.specs.Cmp.{unsigned_Decides}
@@ -9,17 +10,11 @@ use Rattle.std.proofs.lemmas.List.{take-append-drop, take-append-le, get_or-appe
 use Rattle.custom_sections.specs.DebugNames.{without_dwo, is_debug}
 
 same_tests : (a b : Bool) → (a ≡ true → b ≡ true) → (b ≡ true → a ≡ true) → a ≡ b
-same_tests true b f g = sym (f refl)
-same_tests false true f g = g refl
-same_tests false false f g = refl
+same_tests a b h1 h2 = grind (arith, common_steps)
 
 -- no byte of `.dwo` is the last one of `.debug_`
 no_mark : (i : ℕ) → get_or (codes ".dwo") i 0 ≡ 95 → ⊥
-no_mark zero e = absurd (omega arith)
-no_mark (suc zero) e = absurd (omega arith)
-no_mark (suc (suc zero)) e = absurd (omega arith)
-no_mark (suc (suc (suc zero))) e = absurd (omega arith)
-no_mark (suc (suc (suc (suc i)))) e = absurd (omega arith)
+no_mark i h1 = grind (arith, common_steps)
 
 starts_with_mark : (name rest : List ℕ) → name ≡ codes ".debug_" ++ rest → starts_with eqb name (codes ".debug_") ≡ true
 starts_with_mark name rest e = (starts_is unsigned_Decides name (codes ".debug_") (starts_with eqb name (codes ".debug_")) refl).1 rest e
@@ -35,10 +30,7 @@ module _ (name : List ℕ) (ends : ends_with eqb name (codes ".dwo") ≡ true) w
   parts = (ends_is unsigned_Decides name (codes ".dwo") (ends_with eqb name (codes ".dwo")) refl).0 ends
 
   starts_after : starts_with eqb (take (length name - 4) name) (codes ".debug_") ≡ true → starts_with eqb name (codes ".debug_") ≡ true
-  starts_after h =
-      let front : List ℕ = take (length name - 4) name in
-      starts_with_mark name (drop 7 front ++ codes ".dwo")
-      (parts ∙ ap (λ (l : List ℕ). l ++ codes ".dwo") (mark_of front h) ∙ append_assoc (codes ".debug_") (drop 7 front) (codes ".dwo"))
+  starts_after h = grind (arith, starts_with_mark, parts, mark_of, append_assoc)
 
   long : (front : List ℕ) → name ≡ front ++ codes ".dwo" → starts_with eqb name (codes ".debug_") ≡ true → 7 ≤ length front
   long front e h = elim (cases_lt (length front) 7) [
@@ -52,11 +44,7 @@ module _ (name : List ℕ) (ends : ends_with eqb name (codes ".dwo") ≡ true) w
 
   front_starts : (front : List ℕ) → name ≡ front ++ codes ".dwo" → starts_with eqb name (codes ".debug_") ≡ true
       → starts_with eqb front (codes ".debug_") ≡ true
-  front_starts front e h =
-      let mark : take 7 name ≡ codes ".debug_" = ap (λ (l : List ℕ). take 7 l) (mark_of name h) in
-      let same : take 7 name ≡ take 7 front = ap (λ (l : List ℕ). take 7 l) e ∙ take-append-le 7 front (codes ".dwo") (long front e h) in
-      starts_with_mark front (drop 7 front)
-      (sym (take-append-drop 7 front) ∙ ap (λ (l : List ℕ). l ++ drop 7 front) (sym same ∙ mark))
+  front_starts front e h = grind (arith, mark_of, take-append-le, long, starts_with_mark, take-append-drop)
 
   cut_keeps : starts_with eqb (take (length name - 4) name) (codes ".debug_") ≡ starts_with eqb name (codes ".debug_")
   cut_keeps = same_tests _ _ starts_after (front_starts (take (length name - 4) name) parts)
@@ -69,9 +57,7 @@ one_cut false name cut e h = refl
 
 all_cuts_keep : (n : ℕ) (name : List ℕ) → starts_with eqb (without_dwo n name) (codes ".debug_") ≡ starts_with eqb name (codes ".debug_")
 all_cuts_keep zero name = refl
-all_cuts_keep (suc n) name =
-    one_cut (ends_with eqb name (codes ".dwo")) name (without_dwo n (take (length name - 4) name)) refl
-    (all_cuts_keep n (take (length name - 4) name))
+all_cuts_keep (suc n) name = grind (arith, one_cut, eqb, (all_cuts_keep n (take (length name - 4) name)))
 
 pub debug_is : (name : List ℕ) → starts_with eqb name (codes ".debug_") ≡ is_debug name
 unfolding is_debug

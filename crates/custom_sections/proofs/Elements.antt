@@ -1,5 +1,6 @@
 -- Elements one after the other, as a loop reads them.
-use Rattle.std.proofs.Common.{◌≡◌, ℕ, suc, ◌-◌, ◌+◌, ◌<◌, ◌≤◌, List, [], ◌∷◌, ◌++◌, Option, Some, None, Result, Ok, Err, refl, sym, ap, ◌∙◌, append_assoc, arith}
+use Rattle.std.proofs.lemmas.Grind.{common_steps}
+use Rattle.std.proofs.Common.{rules, ◌≡◌, ℕ, suc, ◌-◌, ◌+◌, ◌<◌, ◌≤◌, List, [], ◌∷◌, ◌++◌, Option, Some, None, Result, Ok, Err, refl, sym, ap, ◌∙◌, append_assoc, arith}
 use Rattle.std.specs.Option.{option_map}
 use Rattle.std.proofs.lemmas.List.{append-nil}
 use Rattle.form_reader.specs.Reading.{Fault, Reader, and_then, elements_at}
@@ -28,9 +29,7 @@ module _ {A : Type 0} (part : Reader A) where
   pub at_start : (count : ℕ) (rest bytes : List ℕ) → Some (count, rest) ≡ taken (unsigned_at 32 bytes)
       → so_far [] (count - 0) rest ≡ taken (vector_at part bytes)
   unfolding vector_at
-  at_start count rest bytes e =
-      let k : count - 0 ≡ count = omega arith in
-      rw (k, read_from_taken (unsigned_at 32 bytes) (count, rest) (sym e)) (all_so_far (elements_at part count rest))
+  at_start count rest bytes e = grind (arith, read_from_taken, all_so_far)
 
   pub no_count : (bytes : List ℕ) → None ≡ taken (unsigned_at 32 bytes) → None ≡ taken (vector_at part bytes)
   unfolding vector_at
@@ -64,6 +63,4 @@ module _ {A : Type 0} (part : Reader A) where
 
   pub is_done : (front : List A) (count i : ℕ) (bytes : List ℕ) (total : Option (List A × List ℕ)) → count ≤ i
       → so_far front (count - i) bytes ≡ total → Some (front, bytes) ≡ total
-  is_done front count i bytes total le h =
-      let k : count - i ≡ 0 = omega arith in
-      sym (done_is front bytes) ∙ ap (λ n. so_far front n bytes) (sym k) ∙ h
+  is_done front count i bytes total le h = grind (arith, done_is)

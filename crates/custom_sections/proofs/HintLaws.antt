@@ -1,5 +1,6 @@
 -- Reading of branch hints agrees with their grammar.
-use Rattle.std.proofs.Common.{◌≡◌, ℕ, List, length, Some, None, refl, ap, sym, ◌∙◌}
+use Rattle.std.proofs.lemmas.Grind.{common_steps}
+use Rattle.std.proofs.Common.{rules, arith, ◌≡◌, ℕ, List, length, Some, None, refl, ap, sym, ◌∙◌}
 use Rattle.std.specs.Prelude.{true, false, ◌==◌}
 use Rattle.std.proofs.lemmas.Bool.{eq-eqb, ne_eqb}
 use Rattle.form_reader.specs.Reading.{whole}
@@ -44,10 +45,7 @@ pub entry_taken : (bytes : List ℕ) (function : ℕ) (rest : List ℕ) (hints :
     → Some (function, rest) ≡ taken (unsigned_at 32 bytes) → Some (hints, after) ≡ taken (vector_at hint_at rest)
     → Some ((function, hints), after) ≡ taken (hint_entry_at bytes)
 unfolding hint_entry_at
-entry_taken bytes function rest hints after e f = rw (
-  read_from_taken (unsigned_at 32 bytes) (function, rest) (sym e),
-  read_from_taken (vector_at hint_at rest) (hints, after) (sym f),
-) refl
+entry_taken bytes function rest hints after e f = grind (arith, read_from_taken)
 
 pub no_function : (bytes : List ℕ) → None ≡ taken (unsigned_at 32 bytes) → None ≡ taken (hint_entry_at bytes)
 unfolding hint_entry_at
@@ -56,9 +54,7 @@ no_function bytes e = let f = fault_from_none (unsigned_at 32 bytes) (sym e) in 
 pub no_hints : (bytes : List ℕ) (function : ℕ) (rest : List ℕ)
     → Some (function, rest) ≡ taken (unsigned_at 32 bytes) → None ≡ taken (vector_at hint_at rest) → None ≡ taken (hint_entry_at bytes)
 unfolding hint_entry_at
-no_hints bytes function rest e n =
-    let f = fault_from_none (vector_at hint_at rest) (sym n) in
-    rw (read_from_taken (unsigned_at 32 bytes) (function, rest) (sym e), f.1) refl
+no_hints bytes function rest e n = grind (arith, fault_from_none, read_from_taken)
 
 -- ---- the outcome
 

@@ -1,5 +1,6 @@
 -- Names of subsections one after the other, as a loop reads them.
-use Rattle.std.proofs.Common.{◌≡◌, ℕ, suc, ◌-◌, ◌+◌, ◌<◌, ◌≤◌, List, length, Bool, true, false, Option, Some, None, refl, sym, ap, ◌∙◌, append_assoc, arith}
+use Rattle.std.proofs.lemmas.Grind.{common_steps}
+use Rattle.std.proofs.Common.{rules, ◌≡◌, ℕ, suc, ◌-◌, ◌+◌, ◌<◌, ◌≤◌, List, length, Bool, true, false, Option, Some, None, refl, sym, ap, ◌∙◌, append_assoc, arith}
 use Rattle.std.specs.Option.{option_or}
 use Rattle.std.proofs.lemmas.List.{append-nil}
 use Rattle.custom_sections.specs.Reading.{taken}
@@ -28,25 +29,13 @@ module _ (locals : Bool) where
 
   pub at_start : (bytes : List ℕ) → still_named no_names (length bytes - 0) bytes ≡ names_of_section locals bytes
   unfolding names_of_section
-  at_start bytes =
-      let k : length bytes - 0 ≡ length bytes = omega arith in
-      let none : (later : NameLists) → joined no_names later ≡ later = λ later. none_joined later in
-      rw k (none (subsections_before locals (length bytes) bytes))
-    where
-      or_none : (o : Option (List ℕ)) → option_or o None ≡ o
-      or_none (Some x) = refl
-      or_none None = refl
-
-      none_joined : (later : NameLists) → joined no_names later ≡ later
-      none_joined later = same_lists _ _ _ _ _ _ (or_none later.module_name) refl refl
+  at_start bytes = grind (arith, same_lists)
 
   more_is : (names : NameLists) (n : ℕ) (bytes : List ℕ) (id : ℕ) (contents rest : List ℕ)
       → Some ((id, contents), rest) ≡ taken (sized_subsection_at bytes) → (subsection locals id contents).1 ≡ true
       → still_named names (suc n) bytes ≡ still_named (joined names (subsection locals id contents).0) n rest
   unfolding subsections_before
-  more_is names n bytes id contents rest e filled =
-      rw (read_from_taken (sized_subsection_at bytes) ((id, contents), rest) (sym e), filled)
-      (sym (joined_regroups names (subsection locals id contents).0 (subsections_before locals n rest)))
+  more_is names n bytes id contents rest e filled = grind (arith, read_from_taken, joined_regroups)
 
   pub more : (names : NameLists) (count i : ℕ) (bytes : List ℕ) (id : ℕ) (contents rest : List ℕ) (total : NameLists) → i < count
       → Some ((id, contents), rest) ≡ taken (sized_subsection_at bytes) → (subsection locals id contents).1 ≡ true
@@ -72,9 +61,7 @@ module _ (locals : Bool) where
 
   none_is : (names : NameLists) (n : ℕ) (bytes : List ℕ) → None ≡ taken (sized_subsection_at bytes) → still_named names (suc n) bytes ≡ names
   unfolding subsections_before
-  none_is names n bytes e =
-      let f = fault_from_none (sized_subsection_at bytes) (sym e) in
-      ap (λ (later : NameLists). joined names later) (ap (λ read. subsection_then locals read (subsections_before locals n)) f.1) ∙ joined_none names
+  none_is names n bytes e = grind (arith, fault_from_none, joined_none)
 
   -- where no subsection stands, there is no more
   pub none : (names : NameLists) (count i : ℕ) (bytes : List ℕ) (total : NameLists) → i < count
@@ -86,6 +73,4 @@ module _ (locals : Bool) where
   pub is_done : (names : NameLists) (count i : ℕ) (bytes : List ℕ) (total : NameLists) → count ≤ i
       → still_named names (count - i) bytes ≡ total → names ≡ total
   unfolding subsections_before
-  is_done names count i bytes total le h =
-      let k : count - i ≡ 0 = omega arith in
-      sym (joined_none names) ∙ ap (λ n. still_named names n bytes) (sym k) ∙ h
+  is_done names count i bytes total le h = grind (arith, joined_none)

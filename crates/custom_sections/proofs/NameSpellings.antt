@@ -1,5 +1,6 @@
 -- What the grammar spells is read whole.
-use Rattle.std.proofs.Common.{◌≡◌, ℕ, zero, suc, ◌≤◌, List, [], ◌∷◌, ◌++◌, length, Bool, true, false, cond, Option, Some, Ok, refl, sym, ap, ◌∙◌, arith, append_assoc, length-append}
+use Rattle.std.proofs.lemmas.Grind.{common_steps}
+use Rattle.std.proofs.Common.{rules, ◌≡◌, ℕ, zero, suc, ◌≤◌, List, [], ◌∷◌, ◌++◌, length, Bool, true, false, cond, Option, Some, Ok, refl, sym, ap, ◌∙◌, arith, append_assoc, length-append}
 use Rattle.std.specs.Prelude.{◌==◌, ◌&&◌}
 use Rattle.std.proofs.lemmas.List.{append-nil}
 use Rattle.wasm_spec.specs.Parts.{Part, ◌>>=◌, Joined, gives, choose, elements, vector, all_bytes_as, sized}
@@ -15,9 +16,7 @@ use Rattle.custom_sections.specs.NameReading.{NameLists, no_names, joined, Partl
 -- the part of which a value is made
 made : {A B : Type 0} (g : Part A) (f : A → B) (bytes : List ℕ) (y : B) → Joined g (λ x. gives (f x)) bytes y
     → (x : A) × g.spells bytes x × (y ≡ f x)
-made g f bytes y t =
-    let all : bytes ≡ t.front = t.parts ∙ ap (λ (l : List ℕ). t.front ++ l) t.is_second.0 ∙ append-nil t.front in
-    (t.value, rw all t.is_first, t.is_second.1)
+made g f bytes y t = grind (arith, append-nil)
 
 abbrev before : {A : Type 0} → List ℕ → List A → List A × Option (List ℕ)
 before rest xs = (xs, Some rest)

@@ -1,5 +1,6 @@
 -- Numbers of 32 bits, byte by byte.
-use Rattle.std.proofs.Common.{◌≡◌, ℕ, suc, ◌-◌, ◌+◌, ◌^◌, ◌<◌, ◌≤◌, List, [], ◌∷◌, Option, Some, None, refl, sym, ap, ◌∙◌, arith}
+use Rattle.std.proofs.lemmas.Grind.{common_steps}
+use Rattle.std.proofs.Common.{rules, ◌≡◌, ℕ, suc, ◌-◌, ◌+◌, ◌^◌, ◌<◌, ◌≤◌, List, [], ◌∷◌, Option, Some, None, refl, sym, ap, ◌∙◌, arith}
 use Rattle.std.specs.Option.{option_map}
 use Rattle.std.proofs.lemmas.Bool.{lt-ltb, le-ltb}
 use Rattle.form_reader.specs.Reading.{uncons}
@@ -14,16 +15,7 @@ nothing_left s w l k (b ∷ bytes) e = absurd cc
 -- the bytes end within a number
 pub cut : (s w l most i : ℕ) (bytes : List ℕ) (total : Option (Found × List ℕ)) → None ≡ uncons bytes → i < most
     → remaining s w l (most - i) bytes ≡ total → None ≡ total
-cut s w l most i bytes total e lt h =
-    let k : most - i ≡ suc (most - (i + 1)) = omega arith in
-    sym (nothing_left s w l (most - (i + 1)) bytes e) ∙ ap (λ n. remaining s w l n bytes) (sym k) ∙ h
-
--- no byte was the last
-pub endless : (s w l most i : ℕ) (bytes : List ℕ) (total : Option (Found × List ℕ)) → most ≤ i
-    → remaining s w l (most - i) bytes ≡ total → None ≡ total
-endless s w l most i bytes total le h =
-    let k : most - i ≡ 0 = omega arith in
-    ap (λ n. remaining s w l n bytes) (sym k) ∙ h
+cut s w l most i bytes total e lt h = grind (arith, nothing_left, remaining)
 
 pub none_taken : (bytes : List ℕ) → None ≡ option_map found_as (number_bytes 5 bytes) → None ≡ taken (unsigned_at 32 bytes)
 unfolding unsigned_at found_at

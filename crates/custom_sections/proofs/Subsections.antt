@@ -1,5 +1,6 @@
 -- What the names of a subsection add.
-use Rattle.std.proofs.Common.{◌≡◌, ℕ, ◌≤◌, List, ◌++◌, Bool, true, false, Option, Some, None, refl, sym, ap, ◌∙◌, arith, eqb}
+use Rattle.std.proofs.lemmas.Grind.{common_steps}
+use Rattle.std.proofs.Common.{rules, ◌≡◌, ℕ, ◌≤◌, List, ◌++◌, Bool, true, false, Option, Some, None, refl, sym, ap, ◌∙◌, arith, eqb}
 use Rattle.std.proofs.lemmas.List.{append-nil}
 use Rattle.std.proofs.lemmas.Bool.{ne_eqb}
 use Rattle.form_reader.specs.Reading.{whole}
@@ -35,11 +36,7 @@ module _ (locals : Bool) (contents : List ℕ) where
 
   pub skipped : (id : ℕ) → 3 ≤ id → subsection locals id contents ≡ (no_names, true)
   unfolding subsection
-  skipped id le =
-      let not_zero : eqb id 0 ≡ false = ne_eqb id 0 (λ e. absurd (omega arith)) in
-      let not_one : eqb id 1 ≡ false = ne_eqb id 1 (λ e. absurd (omega arith)) in
-      let not_two : eqb id 2 ≡ false = ne_eqb id 2 (λ e. absurd (omega arith)) in
-      rw (not_zero, not_one, not_two) refl
+  skipped id le = grind (arith, eqb, ne_eqb)
 
 -- ---- what is added
 
@@ -51,9 +48,7 @@ fills read names filled e = ap (λ (r : NameLists × Bool). r.1) (sym e)
 
 pub with_module : (names : NameLists) (text : List ℕ) (read : NameLists × Bool) → read ≡ (record no_names { module_name = Some text }, true)
     → record names { module_name = Some text } ≡ joined names read.0
-with_module names text read e =
-    same_lists _ _ _ _ _ _ refl (sym (append-nil names.functions)) (sym (append-nil names.locals))
-    ∙ ap (λ (r : NameLists × Bool). joined names r.0) (sym e)
+with_module names text read e = grind (arith, same_lists, append-nil)
 
 pub with_functions : (names : NameLists) (functions : List (ℕ × List ℕ)) (part : List (ℕ × List ℕ) × Option (List ℕ)) (read : NameLists × Bool)
     → functions ≡ names.functions ++ part.0 → read ≡ functions_named part → record names { functions = functions } ≡ joined names read.0

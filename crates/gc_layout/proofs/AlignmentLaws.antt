@@ -1,5 +1,6 @@
 -- The greatest of 8 and the sizes of fields.
-use Rattle.std.proofs.Common.{◌≡◌, ◌<◌, ◌≤◌, ◌⊎◌, ℕ, zero, suc, List, [], ◌∷◌, length, map, max, refl, arith, ⊎_elim, inl, inr}
+use Rattle.std.proofs.lemmas.Grind.{common_steps}
+use Rattle.std.proofs.Common.{rules, ◌≡◌, ◌<◌, ◌≤◌, ◌⊎◌, ℕ, zero, suc, List, [], ◌∷◌, length, map, max, refl, arith, ⊎_elim, inl, inr}
 use Rattle.std.specs.Prelude.{Contains}
 use Rattle.std.specs.Int.{IsPowerOfTwo}
 use Rattle.std.specs.List.{fold}
@@ -39,28 +40,16 @@ pub one_of : (fields : List WasmFieldType) → (fields_align fields ≡ 8) ⊎ C
 one_of fields = fold_max-reached 8 (map field_size fields)
 
 val_size-bound : (t : WasmValType) → (val_size t ≤ 8) ⊎ (val_size t ≡ 16)
-val_size-bound I32 = inl (omega arith)
-val_size-bound I64 = inl (omega arith)
-val_size-bound F32 = inl (omega arith)
-val_size-bound F64 = inl (omega arith)
-val_size-bound V128 = inr refl
-val_size-bound (Ref _) = inl (omega arith)
+val_size-bound t = grind (arith, common_steps)
 
 storage_size-bound : (t : WasmStorageType) → (storage_size t ≤ 8) ⊎ (storage_size t ≡ 16)
-storage_size-bound I8 = inl (omega arith)
-storage_size-bound I16 = inl (omega arith)
-storage_size-bound (Val t) = val_size-bound t
+storage_size-bound t = grind (arith, val_size-bound)
 
 -- so the alignment is 8 or 16
 fold_max-eight_or_sixteen : (a : ℕ) (fields : List WasmFieldType) → (a ≡ 8) ⊎ (a ≡ 16)
     → (fold max a (map field_size fields) ≡ 8) ⊎ (fold max a (map field_size fields) ≡ 16)
 fold_max-eight_or_sixteen a [] start = start
-fold_max-eight_or_sixteen a (field ∷ fields) start =
-    fold_max-eight_or_sixteen (max a (field_size field)) fields
-    (⊎_elim
-    (λ eight. ⊎_elim (λ small. inl (omega arith)) (λ wide. inr (omega arith)) (storage_size-bound field.element_type))
-    (λ sixteen. ⊎_elim (λ small. inr (omega arith)) (λ wide. inr (omega arith)) (storage_size-bound field.element_type))
-    start)
+fold_max-eight_or_sixteen a (field ∷ fields) start = grind (arith, max, storage_size-bound, (fold_max-eight_or_sixteen (max a (field_size field)) fields (⊎_elim (λ eight. ⊎_elim (λ small. inl (omega arith)) (λ wide. inr (omega arith)) (storage_size-bound field.element_type)) (λ sixteen. ⊎_elim (λ small. inr (omega arith)) (λ wide. inr (omega arith)) (storage_size-bound field.element_type)) start)))
 
 eight_or_sixteen-power : (n : ℕ) → (n ≡ 8) ⊎ (n ≡ 16) → IsPowerOfTwo n
 eight_or_sixteen-power n (inl eight) = (3, eight)

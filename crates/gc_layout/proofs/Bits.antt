@@ -1,5 +1,6 @@
 -- A number that has every bit of another.
-use Rattle.std.proofs.Common.{◌≡◌, ◌∙◌, ◌<◌, ◌*◌, ◌^◌, ◌↔◌, ℕ, min, eqb, ap, sym, arith, ⊎_elim, zero-mul}
+use Rattle.std.proofs.lemmas.Grind.{common_steps}
+use Rattle.std.proofs.Common.{rules, ◌≡◌, ◌∙◌, ◌<◌, ◌*◌, ◌^◌, ◌↔◌, ℕ, min, eqb, ap, sym, arith, ⊎_elim, zero-mul}
 use Rattle.std.specs.Prelude.{bit_and, IsTrue}
 use Rattle.std.specs.Int.{IsBitSet, bit_at}
 use Rattle.std.proofs.lemmas.Bool.{cases_lt, eqb-true, eq-eqb}
@@ -9,15 +10,10 @@ use Rattle.gc_layout.specs.Kinds.{HasBitsOf}
 
 -- a bit is set where its place holds 1
 set-from_bit_at : (n k : ℕ) → 0 < bit_at n k → IsBitSet n k
-set-from_bit_at n k holds none =
-    let at_place : bit_at n k * 2 ^ k ≡ 0 = sym (and_pow n k) ∙ none in
-    let product : 0 < bit_at n k * 2 ^ k = grind (arith, pow_pos k) in
-    omega (arith, at_place, product)
+set-from_bit_at n k holds none = grind (arith, and_pow, pow_pos)
 
 bit_at-from_set : (n k : ℕ) → IsBitSet n k → 0 < bit_at n k
-bit_at-from_set n k set =
-    ⊎_elim (λ holds. holds) (λ none. absurd (set (and_pow n k ∙ ap (λ bit. bit * 2 ^ k) (omega arith) ∙ zero-mul (2 ^ k))))
-    (cases_lt 0 (bit_at n k))
+bit_at-from_set n k set = grind (arith, and_pow, zero-mul, cases_lt)
 
 -- what is left of both is the second number
 pub bits-from_and : (n m : ℕ) → bit_and n m ≡ m → HasBitsOf n m

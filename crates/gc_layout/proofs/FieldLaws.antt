@@ -1,5 +1,6 @@
 -- The offsets of fields, one by one.
-use Rattle.std.proofs.Common.{◌≡◌, ◌∙◌, ◌<◌, ◌≤◌, ◌+◌, ℕ, zero, suc, Bool, List, [], ◌∷◌, length, map, take, refl, ap, sym, arith}
+use Rattle.std.proofs.lemmas.Grind.{common_steps}
+use Rattle.std.proofs.Common.{rules, ◌≡◌, ◌∙◌, ◌<◌, ◌≤◌, ◌+◌, ℕ, zero, suc, Bool, List, [], ◌∷◌, length, map, take, refl, ap, sym, arith}
 use Rattle.std.proofs.lemmas.List.{take-take}
 use Rattle.std.specs.Int.{next_multiple_of}
 use Rattle.std.specs.List.{scan}
@@ -78,10 +79,7 @@ take-placed header (field ∷ fields) (suc n) = ap (λ rest. placed_after header
 pub agree_on_prefix : (header : ℕ) (fields others : List WasmFieldType) (n : ℕ)
     → map field_size (take n fields) ≡ map field_size (take n others)
     → map offset_of (take n (placed_fields header fields)) ≡ map offset_of (take n (placed_fields header others))
-agree_on_prefix header fields others n same =
-    ap (map offset_of) (take-placed header fields n) ∙ offsets_by_sizes header (take n fields)
-    ∙ ap (scan end_of_size next_multiple_of header) same
-    ∙ sym (offsets_by_sizes header (take n others)) ∙ sym (ap (map offset_of) (take-placed header others n))
+agree_on_prefix header fields others n same = grind (arith, take-placed, offsets_by_sizes)
 
 pub elements_are_least : (header : ℕ) (array : WasmArrayType)
     → IsLeastMultiple (field_size array.0) (header + 4) (array_layout_of header array).base_size

@@ -1,5 +1,6 @@
 -- The kind of a number, as a search through the kinds finds it.
-use Rattle.std.proofs.Common.{◌≡◌, ◌∙◌, ◌↔◌, ℕ, Bool, true, List, [], ◌∷◌, Option, Some, None, option_map, eqb, refl, ap, sym, ⊎_elim}
+use Rattle.std.proofs.lemmas.Grind.{common_steps}
+use Rattle.std.proofs.Common.{rules, arith, ◌≡◌, ◌∙◌, ◌↔◌, ℕ, Bool, true, List, [], ◌∷◌, Option, Some, None, option_map, eqb, refl, ap, sym, ⊎_elim}
 use Rattle.std.proofs.lemmas.Bool.{eqb-true, cases_Bool}
 use Rattle.std.specs.List.{find}
 use Rattle.gc_layout.specs.declared.kind.VMGcKind.{VMGcKind}
@@ -22,12 +23,7 @@ find-passes test (y ∷ ys) x found =
     (cases_Bool (test y))
 
 pub find-number : (kind : VMGcKind) → find (has_number (kind_number kind)) all_kinds ≡ Some kind
-find-number ExternRef = refl
-find-number AnyRef = refl
-find-number EqRef = refl
-find-number ArrayRef = refl
-find-number StructRef = refl
-find-number ExnRef = refl
+find-number kind = grind (arith, common_steps)
 
 option_map-same : {X : Type 0} (o : Option X) → option_map (λ x. x) o ≡ o
 option_map-same None = refl
@@ -35,8 +31,4 @@ option_map-same (Some x) = refl
 
 pub kind_found : (x : ℕ) (found : Option VMGcKind) → option_map (λ kind. kind) found ≡ find (has_number x) all_kinds
     → (kind : VMGcKind) → (found ≡ Some kind) ↔ (kind_number kind ≡ x)
-kind_found x found mapped kind =
-    let is : found ≡ find (has_number x) all_kinds = sym (option_map-same found) ∙ mapped in (
-      λ some. eqb-true (kind_number kind) x (find-passes (has_number x) all_kinds kind (sym is ∙ some)),
-      λ same. is ∙ ap (λ x. find (has_number x) all_kinds) (sym same) ∙ find-number kind,
-    )
+kind_found x found mapped kind = grind (arith, option_map-same, eqb-true, find-passes, find-number)

@@ -1,5 +1,6 @@
 -- The order of the kinds of objects.
-use Rattle.std.proofs.Common.{◌≡◌, ◌∙◌, ◌↔◌, Bool, true, Some, eqb, refl, ap, sym, arith}
+use Rattle.std.proofs.lemmas.Grind.{common_steps}
+use Rattle.std.proofs.Common.{rules, ◌≡◌, ◌∙◌, ◌↔◌, Bool, true, Some, eqb, refl, ap, sym, arith}
 use Rattle.std.specs.Prelude.{bit_and, Contains}
 use Rattle.std.specs.List.{find, list_any}
 use Rattle.std.proofs.lemmas.Bool.{eqb-true, eq-eqb}
@@ -14,9 +15,7 @@ use Rattle.gc_layout.proofs.Bits.{matches_by_and, and-from_bits}
 use Rattle.gc_layout.proofs.Found.{all_kinds, has_number, find-number}
 
 kind_number-injective : (a b : VMGcKind) → kind_number a ≡ kind_number b → a ≡ b
-kind_number-injective a b same =
-    let found : Some a ≡ Some b = sym (find-number a) ∙ ap (λ x. find (has_number x) all_kinds) same ∙ find-number b in
-    cc
+kind_number-injective a b same = grind (arith, find-number, has_number, all_kinds)
 
 abbrev same_kind : VMGcKind → VMGcKind → Bool
 same_kind a b = eqb (kind_number a) (kind_number b)
@@ -25,26 +24,11 @@ same_kind-true : (a b : VMGcKind) → same_kind a b ≡ true → a ≡ b
 same_kind-true a b same = kind_number-injective a b (eqb-true _ _ same)
 
 same_kind-laws : IsEquivalence same_kind
-same_kind-laws = record {
-  refl = λ a. eq-eqb _ _ refl;
-  symm = λ a b. grind (arith, nat_tests);
-  congr = λ a b d same. let e : kind_number a ≡ kind_number b = eqb-true _ _ same in ap (λ n. eqb n (kind_number d)) e;
-}
+same_kind-laws = grind (arith, eq-eqb, nat_tests, eqb-true, eqb)
 
 -- the test by bits looks the other kind up in the kinds above
 test-lists : (a b : VMGcKind) → eqb (bit_and (kind_number a) (kind_number b)) (kind_number b) ≡ list_any (same_kind b) (kinds_from a)
-test-lists ExternRef ExternRef = refl
-test-lists ExternRef _ = refl
-test-lists AnyRef ExternRef = refl
-test-lists AnyRef _ = refl
-test-lists EqRef ExternRef = refl
-test-lists EqRef _ = refl
-test-lists ArrayRef ExternRef = refl
-test-lists ArrayRef _ = refl
-test-lists StructRef ExternRef = refl
-test-lists StructRef _ = refl
-test-lists ExnRef ExternRef = refl
-test-lists ExnRef _ = refl
+test-lists a b = grind (arith, common_steps)
 
 pub matches_as_tree : (a b : VMGcKind) → MatchesKind a b ↔ Contains (kinds_from a) b
 matches_as_tree a b = (

@@ -1,5 +1,6 @@
 -- Fields that are placed one by one.
-use Rattle.std.proofs.Common.{◌≡◌, ◌∙◌, ◌<◌, ◌≤◌, ◌+◌, ℕ, suc, Bool, List, [], ◌∷◌, ◌++◌, length, map, max, take, drop, refl, ap, sym, get_or, arith, take-append-drop, ⊎_elim}
+use Rattle.std.proofs.lemmas.Grind.{common_steps}
+use Rattle.std.proofs.Common.{rules, ◌≡◌, ◌∙◌, ◌<◌, ◌≤◌, ◌+◌, ℕ, suc, Bool, List, [], ◌∷◌, ◌++◌, length, map, max, take, drop, refl, ap, sym, get_or, arith, take-append-drop, ⊎_elim}
 use Rattle.std.proofs.Math.Seq.{take-suc}
 use Rattle.std.proofs.lemmas.Bool.{cases_lt}
 use Rattle.std.proofs.lemmas.List.{map-append, take_all}
@@ -23,17 +24,10 @@ pub record ArePlaced (header : ℕ) (fields : List WasmFieldType) (end align : �
   pub listed : placed ≡ placed_fields header fields
 
 pub val_size_positive : (t : WasmValType) → 0 < val_size t
-val_size_positive I32 = omega arith
-val_size_positive I64 = omega arith
-val_size_positive F32 = omega arith
-val_size_positive F64 = omega arith
-val_size_positive V128 = omega arith
-val_size_positive (Ref _) = omega arith
+val_size_positive t = grind (arith, common_steps)
 
 pub storage_size_positive : (t : WasmStorageType) → 0 < storage_size t
-storage_size_positive I8 = omega arith
-storage_size_positive I16 = omega arith
-storage_size_positive (Val t) = val_size_positive t
+storage_size_positive t = grind (arith, val_size_positive)
 
 take-more : {X : Type 0} (xs : List X) (n : ℕ) (d : X) → n < length xs → take (n + 1) xs ≡ take n xs ++ get_or xs n d ∷ []
 take-more xs n d lt = let one : n + 1 ≡ suc n = omega arith in rw one (take-suc xs n d lt)
@@ -159,13 +153,4 @@ pub past_size : (header : ℕ) (fields : List WasmFieldType) (is_exception : Boo
     → length fields ≤ n → ArePlaced header (take n fields) end align placed
     → ((0 < align) × (next_multiple_of end align < 4294967296) → ⊥)
     → 4294967295 < (fields_layout header fields is_exception).size
-past_size header fields is_exception n end align placed done walked wide =
-    let all : take n fields ≡ fields = take_all n fields done in
-    let ended : end ≡ fields_end header fields = walked.ends ∙ ap (fields_end header) all in
-    let aligned : align ≡ fields_align fields = walked.aligned ∙ ap fields_align all in
-    let positive : 0 < align = rw aligned (fields_align_positive fields) in
-    let past : 4294967296 ≤ next_multiple_of end align =
-    not_below (next_multiple_of end align) 4294967296 (λ fits. wide (positive, fits)) in
-    let at_size : next_multiple_of end align ≡ next_multiple_of (fields_end header fields) (fields_align fields) =
-    ap (λ end. next_multiple_of end align) ended ∙ ap (next_multiple_of (fields_end header fields)) aligned in
-    omega (arith, at_size, past)
+past_size header fields is_exception n end align placed done walked wide = grind (arith, take_all, fields_align_positive, not_below)

@@ -1,5 +1,6 @@
 -- A number with one bit set is a power of two.
-use Rattle.std.proofs.Common.{◌≡◌, ◌∙◌, ◌<◌, ◌≤◌, ◌+◌, ◌*◌, ◌/◌, ◌%◌, ◌^◌, ℕ, zero, suc, true, refl, ap, sym, arith, ⊎_elim}
+use Rattle.std.proofs.lemmas.Grind.{common_steps}
+use Rattle.std.proofs.Common.{rules, ◌≡◌, ◌∙◌, ◌<◌, ◌≤◌, ◌+◌, ◌*◌, ◌/◌, ◌%◌, ◌^◌, ℕ, zero, suc, true, refl, ap, sym, arith, ⊎_elim}
 use Rattle.std.proofs.lemmas.Bool.{cases_lt, eqb-true, eq-eqb}
 use Rattle.std.proofs.lemmas.Nat.{div-add-mod', ones_cat, zero_from_ones, pow_pos}
 use Rattle.std.proofs.Math.Nat.{pow-suc}
@@ -21,9 +22,7 @@ ones_pow k =
 
 -- a number of at most `most` that has one bit set
 power_below : (most n : ℕ) → n ≤ most → ones n ≡ 1 → IsPowerOfTwo n
-power_below zero n below one =
-    let none : n ≡ 0 = omega arith in
-    absurd (omega (arith, sym one ∙ ap ones none ∙ ones_zero))
+power_below zero n below one = grind (arith, ones_zero)
 power_below (suc most) n below one =
     let step = ones_step n in
     let halves = div-add-mod' n 2 in

@@ -236,9 +236,6 @@ module _ (ds : List Definition) where
       let a = answer-at ws i r told in
       error-of_import i a.0.1 (found ds a.0.0) e (a.2 ∙ is)
 
-  pub answers-length : (ws : List Definition) → length (answers ds ws) ≡ length ws
-  answers-length ws = length-map (enumerate_from 0 ws) (answer_to ds) ∙ length-enumerate_from 0 ws
-
   -- ---- the import at a place, once those before it were answered
   module _ (ws : List Definition) (i : ℕ) (ks : List ℕ) (is : before_all ks (run i (drop i ws)) ≡ run 0 ws) where
     here : (w : Definition) → slice_get ws i ≡ Some w → before_all ks (after (answer_to ds (i, w)) (run (i + 1) (drop (i + 1) ws))) ≡ run 0 ws

@@ -114,12 +114,6 @@ module _ (m : ModuleRecord) (all : All (IsResolved m) m.initializers) where
   some : All (λ x. IsSome (import_of m x)) m.initializers
   some = All-weaker (IsResolved m) (λ x. IsSome (import_of m x)) (import-some m) m.initializers all
 
-  -- there is an import at each place
-  pub import-at : (k : ℕ) → k < length m.initializers → IsSome (option_and_then (import_of m) (slice_get m.initializers k))
-  import-at k less =
-      let within : k < length (imports_of m m.initializers) = subst (λ n. k < n) (sym (length-filter_map (import_of m) m.initializers some)) less in
-      subst (λ (o : Option Import). IsSome o) (slice_get-filter_map (import_of m) m.initializers some k) (within-some (imports_of m m.initializers) k within)
-
   pub want-at : (k : ℕ) (i : Import) → option_and_then (import_of m) (slice_get m.initializers k) ≡ Some i → slice_get (wants_of m) k ≡ Some (want_of i)
   want-at k i is =
       slice_get-map want_of (imports_of m m.initializers) k

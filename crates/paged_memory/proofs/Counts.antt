@@ -41,10 +41,6 @@ pub reached-is : (size at : ℕ) (bytes : List ℕ) → 0 < length bytes → rea
 reached-is size at [] some = absurd (omega (arith, some))
 reached-is size at (b ∷ bytes) some = ap (λ k. k / size + 1 - at / size) (omega arith)
 
-pub reached-none : (size at : ℕ) (bytes : List ℕ) → length bytes ≡ 0 → reached size at bytes ≡ 0
-reached-none size at [] none = refl
-reached-none size at (b ∷ bytes) none = absurd (omega (arith, none))
-
 -- ---- how many are lent
 
 count-append : (a b : List Bool) → count_lent (a ++ b) ≡ count_lent a + count_lent b

@@ -6,11 +6,6 @@ use Rattle.std.proofs.Math.Seq.{take-append-add}
 use Rattle.paged_memory.specs.Pages.{ArePaged}
 use Rattle.paged_memory.specs.Writing.{written}
 
--- the parts hold so many bytes together
-pub length-paged : (size : ℕ) (parts : List (List ℕ)) (n : ℕ) → ArePaged size parts n → length (concat parts) ≡ n
-length-paged size [] n p = sym p
-length-paged size (q ∷ qs) n p = omega (arith, length-append q (concat qs), length-paged size qs (n - size) p.2, p.0, p.1)
-
 -- a part that begins below the end is there, and is whole or ends at the end
 pub record Part (size : ℕ) (parts : List (List ℕ)) (n i : ℕ) : Type 0 where
   pub there : i < length parts
@@ -93,11 +88,6 @@ written-twice at front back old fits =
     ∙ ap (λ l. before ++ (back ++ l)) last
     ∙ append_assoc (take at old) front (back ++ rest)
     ∙ ap (λ l. take at old ++ l) (sym (append_assoc front back rest))
-
--- where nothing is written, all stays
-pub written-nothing : {A : Type 0} (at : ℕ) (items old : List A) → length items ≡ 0 → written at items old ≡ old
-written-nothing at [] old none = ap (λ m. take at old ++ drop m old) (omega arith) ∙ take-append-drop at old
-written-nothing at (x ∷ xs) old none = absurd (omega (arith, none))
 
 -- one more of the same
 pub written-more : {A : Type 0} (first n i : ℕ) (x : A) (old : List A) → i ≡ first + n → i < length old

@@ -19,33 +19,6 @@ use Rattle.plan_run.proofs.Terms.{node-term}
 
 -- ---- operators by their kinds
 
--- an object is what it allocates
-pub object-makes : (globals : List plain.Value) (fields : ℕ → ℕ) (o : Operator) (vs : List plain.Value) → kind_of o ≡ Object
-    → (action globals fields o).makes vs ≡ Some (plain.Ref (kept_term o vs))
-object-makes globals fields (op.StructNew t) vs is = refl
-object-makes globals fields (op.StructNewDefault t) vs is = refl
-object-makes globals fields (op.ArrayNew t) vs is = refl
-object-makes globals fields (op.ArrayNewDefault t) vs is = refl
-object-makes globals fields (op.ArrayNewFixed t n) vs is = refl
-object-makes globals fields _ vs is = absurd (cc)
-
--- a conversion takes one value
-pub conversion-takes : (globals : List plain.Value) (fields : ℕ → ℕ) (o : Operator) → kind_of o ≡ Conversion → (action globals fields o).takes ≡ 1
-conversion-takes globals fields op.ExternConvertAny is = refl
-conversion-takes globals fields op.AnyConvertExtern is = refl
-conversion-takes globals fields _ is = absurd (cc)
-
-pub conversion-makes : (globals : List plain.Value) (fields : ℕ → ℕ) (o : Operator) (vs : List plain.Value) → kind_of o ≡ Conversion
-    → (action globals fields o).makes vs ≡ converted (conversion o) vs
-conversion-makes globals fields op.ExternConvertAny vs is = refl
-conversion-makes globals fields op.AnyConvertExtern vs is = refl
-conversion-makes globals fields _ vs is = absurd (cc)
-
-pub object-free : (o : Operator) (vs : List Value) → kind_of o ≡ Object → HasReference o vs
-object-free op.ExternConvertAny vs is = absurd (cc)
-object-free op.AnyConvertExtern vs is = absurd (cc)
-object-free _ vs is = tt
-
 -- ---- the operator of a term
 
 abbrev operator_in : Term → Option Operator
@@ -98,15 +71,6 @@ term-in terms (value.Host n) is = (_, refl)
 term-in terms (value.I31 n) is = (_, refl)
 term-in terms (value.Term k) is = (_, refl)
 term-in terms _ is = absurd is
-
--- and what is none is not converted
-pub not-converted : (f : Term → Term) (terms : List Term) (v : Value) → (IsReference v → ⊥) → converted f (value_in terms v ∷ []) ≡ None
-not-converted f terms (value.I32 n) isnt = refl
-not-converted f terms (value.I64 n) isnt = refl
-not-converted f terms (value.F32 n) isnt = refl
-not-converted f terms (value.F64 n) isnt = refl
-not-converted f terms (value.V128 n) isnt = refl
-not-converted f terms _ isnt = absurd (isnt tt)
 
 module _ (nodes : List Node) (ordered : AreOrdered nodes) (a : Operator) (is : kind_of a ≡ Conversion) (k : ℕ) (n : Node) (at : slice_get nodes k ≡ Some n) where
   node-is : value_in (terms_of nodes) (value.Term k) ≡ plain.Ref (term_of (terms_of nodes) n)
@@ -161,25 +125,3 @@ IsOutside (value.Func function) = Unit {0}
 IsOutside (value.Host n) = Unit {0}
 IsOutside (value.I31 n) = Unit {0}
 IsOutside _ = ⊥
-
-pub outside-kept : (a : Operator) (terms : List Term) (v : Value) → kind_of a ≡ Conversion → IsOutside v
-    → converted (conversion a) (value_in terms v ∷ []) ≡ Some (plain.Ref (kept_term a (value_in terms v ∷ [])))
-outside-kept op.ExternConvertAny terms (value.Func function) is out = refl
-outside-kept op.ExternConvertAny terms (value.Host n) is out = refl
-outside-kept op.ExternConvertAny terms (value.I31 n) is out = refl
-outside-kept op.ExternConvertAny terms _ is out = absurd out
-outside-kept op.AnyConvertExtern terms (value.Func function) is out = refl
-outside-kept op.AnyConvertExtern terms (value.Host n) is out = refl
-outside-kept op.AnyConvertExtern terms (value.I31 n) is out = refl
-outside-kept op.AnyConvertExtern terms _ is out = absurd out
-outside-kept _ terms v is out = absurd (cc)
-
-pub null-stays : (a : Operator) (terms : List Term) → kind_of a ≡ Conversion → converted (conversion a) (value_in terms value.Null ∷ []) ≡ Some (value_in terms value.Null)
-null-stays op.ExternConvertAny terms is = refl
-null-stays op.AnyConvertExtern terms is = refl
-null-stays _ terms is = absurd (cc)
-
-pub reference-converts : (a : Operator) (vs : List Value) → IsOneReference vs → HasReference a vs
-reference-converts op.ExternConvertAny vs one = one
-reference-converts op.AnyConvertExtern vs one = one
-reference-converts _ vs one = tt

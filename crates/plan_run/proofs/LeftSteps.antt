@@ -50,15 +50,6 @@ module _ (plan : MemoryPlan) (images : List (Option (ℕ × Index RuntimeDataSpa
   image-at : (o : Option (Option (ℕ × Index RuntimeDataSpace))) → slice_get images i ≡ o → image_in way.Map plan i ≡ read (option_map (option_map view_image) o)
   image-at o at = ap read (ap (λ xs. slice_get xs i) is ∙ slice_get-map (option_map view_image) images i ∙ ap (option_map (option_map view_image)) at)
 
-  pub image-some : (image : ℕ × Index RuntimeDataSpace) → slice_get images i ≡ Some (Some image) → image_in way.Map plan i ≡ Some (image.0, runtime_bytes plan (number_of image.1))
-  image-some image at = image-at (Some (Some image)) at
-
-  pub image-none : slice_get images i ≡ Some None → image_in way.Map plan i ≡ None
-  image-none at = image-at (Some None) at
-
-  pub image-past : slice_get images i ≡ None → image_in way.Map plan i ≡ None
-  image-past at = image-at None at
-
 -- ---- the last items of a list
 
 pub last-at : {A : Type 0} (P : A → Type 0) (xs : List A) (n i : ℕ) (d : A) → n ≤ i → i < length xs → All P (drop n xs) → P (get_or xs i d)

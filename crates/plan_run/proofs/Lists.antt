@@ -63,11 +63,6 @@ two-is (x ∷ []) d low high = absurd (omega arith)
 two-is (x ∷ y ∷ []) d low high = refl
 two-is (x ∷ y ∷ z ∷ zs) d low high = absurd (omega arith)
 
-pub one-is : {A : Type 0} (xs : List A) (d : A) → 1 ≤ length xs → length xs < 2 → xs ≡ get_or xs 0 d ∷ []
-one-is [] d low high = absurd (omega arith)
-one-is (x ∷ []) d low high = refl
-one-is (x ∷ y ∷ zs) d low high = absurd (omega arith)
-
 -- what `get` copies out of a slice
 pub copied-is : {A : Type 0} (xs : List A) (i : ℕ) (o : Option (Bor A)) → MatchOption o (length xs ≤ i) (λ x. (i < length xs) × HoldsAt (λ y. x.now ≡ y) xs i)
     → option_copied o ≡ slice_get xs i

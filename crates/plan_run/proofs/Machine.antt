@@ -31,10 +31,6 @@ module _ (a : Action) (vs : List plain.Value) where
   acted-few l = cond-false (nat_le a.takes (length vs)) (taken-from (length vs - a.takes)) None (lt-leb a.takes (length vs) l)
 
 module _ (a : Action) (nodes : List Node) (stack args : List Value) (takes rest : ℕ) (is : takes ≡ a.takes) where
-  -- too few values stand
-  pub acts-few : length stack < takes → acted a (values_in (terms_of nodes) stack) ≡ None
-  acts-few l = acted-few a (values_in (terms_of nodes) stack) (omega (arith, length-map stack (value_in (terms_of nodes))))
-
   module _ (l : takes ≤ length stack) (at : rest ≡ length stack - takes) (top : args ≡ drop rest stack) where
     acts-on : acted a (values_in (terms_of nodes) stack)
         ≡ option_map (λ v. values_in (terms_of nodes) (take rest stack) ++ v ∷ []) (a.makes (values_in (terms_of nodes) args))

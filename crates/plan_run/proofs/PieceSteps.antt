@@ -36,11 +36,6 @@ module _ {A X : Type 0} (f : X → List A) (xs : List X) (k : ℕ) (x : X) (at :
         map-set f xs k new ∙ ap (λ j. set (map f xs) j (f new)) (sym on) ∙ ap (set (map f xs) p.object) (is ∙ ap (written p.offset p.items) (sym same)),
       )
 
-  pub writes-false : (p.offset + length p.items ≤ length (f x) → ⊥) → WritesPiece p (map f xs) (map f xs) false
-  writes-false past object found =
-      let same = ap length (the-object object found) in
-      (omega (arith, past, same), refl)
-
 module _ {A : Type 0} (phase : Phase A) (p : Piece A) (rest : List (Piece A)) (old new : List (List A)) (w : IsWriting phase (p ∷ rest) old) (l : p.object < length old) where
   object : List A
   object = get_or old p.object []
@@ -103,12 +98,6 @@ not-lent-less first n pages =
       whole,
       rest,
     )
-
-pub lend-same : (memories : List Contents) → LendNoMore memories memories
-lend-same memories = record {
-  count = refl;
-  lent = λ i before after one two. let same = same_Some before after (sym one ∙ two) in subst (λ m. count_lent m.lent ≤ count_lent before.lent) same (omega arith);
-}
 
 pub lend-set : (memories : List Contents) (k : ℕ) (memory new : Contents) → slice_get memories k ≡ Some memory → count_lent new.lent ≤ count_lent memory.lent
     → LendNoMore memories (set memories k new)

@@ -121,13 +121,6 @@ module _ (old new : List Node) (e : Extends old new) where
       ap (λ ns. slice_get (terms_of ns) i) e.is ∙ ap (λ ts. slice_get ts i) (terms-append [] old e.more)
       ∙ terms-low (terms_of old) e.more i (omega (arith, length-terms [] old))
 
-  -- what a value means stays
-  pub means-on : (v : Value) (meant : plain.Value) → Means old v meant → Means new v meant
-  means-on v meant m = record {
-    below = names-more (length old) (length new) v longer m.below;
-    is = value-same (terms_of new) (terms_of old) (length old) v agree-below m.below ∙ m.is;
-  }
-
   pub all-mean-on : (vs : List Value) (meant : List plain.Value) → AllMean old vs meant → AllMean new vs meant
   all-mean-on vs meant m = record {
     below = all-names-more (length old) (length new) vs longer m.below;
@@ -172,12 +165,6 @@ pushed-means old new n k is at =
     (subst (λ ns. Means ns (value.Term (length old)) (plain.Ref (term_of (terms_of old) n))) (sym is) (push-means old n))
 
 -- ---- values that name no node
-
-pub plain-means : (nodes : List Node) (v : Value) → IsPlain v → Means nodes v (imported_value v)
-plain-means nodes v none = record {
-  below = names-more 0 (length nodes) v (omega arith) none;
-  is = value-same (terms_of nodes) [] 0 v (λ i l. absurd (omega arith)) none;
-}
 
 pub plain-mean : (nodes : List Node) (vs : List Value) → All IsPlain vs → AllMean nodes vs (map imported_value vs)
 plain-mean nodes vs none = record {

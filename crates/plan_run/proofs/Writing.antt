@@ -73,9 +73,6 @@ pub record IsWriting {A : Type 0} (phase : Phase A) (rest : List (Piece A)) (obj
   pub trap : trap phase.sizes rest ≡ trap_of phase
 
 module _ {A : Type 0} (phase : Phase A) (objects : List (List A)) where
-  pub begin-writing : Hold phase.sizes phase.base objects → IsWriting phase phase.pieces objects
-  begin-writing hold = record { item = phase.base; hold = hold; content = λ i place. refl; trap = refl }
-
   module _ (p : Piece A) (rest : List (Piece A)) (w : IsWriting phase (p ∷ rest) objects) where
     -- a piece that fits is written
     pub next-written : (object : List A) → slice_get objects p.object ≡ Some object → p.offset + length p.items ≤ length object

@@ -1,5 +1,5 @@
 -- Whether a rule holds is known.
-use Rattle.std.proofs.Common.{◌≡◌, ◌≢◌, ℕ, zero, suc, ◌+◌, ◌-◌, ◌*◌, ◌^◌, ◌<◌, ◌≤◌, Bool, true, false, List, [], ◌∷◌, length, All, Option, None, Some, ◌⊎◌, inl, inr, refl, sym, ◌∙◌, ap, subst, arith}
+use Rattle.std.proofs.Common.{◌≡◌, ◌≢◌, ℕ, zero, suc, ◌+◌, ◌-◌, ◌^◌, ◌<◌, ◌≤◌, Bool, true, List, [], ◌∷◌, length, All, Option, None, Some, ◌⊎◌, inl, inr, refl, sym, ◌∙◌, ap, subst, arith}
 use Rattle.std.specs.Prelude.{slice_get, is_some, IsSome, IsTrue}
 use Rattle.std.proofs.Math.Logic.{⊎_elim}
 use Rattle.std.proofs.lemmas.Bool.{cases_lt, false≢true}
@@ -8,7 +8,7 @@ use Rattle.std.proofs.lemmas.Option.{none-some, same_Some}
 use Rattle.wasm_spec.specs.Module.{ElementItems, Functions, Expressions}
 use Rattle.replay_spec.specs.Values.{const_value}
 use Rattle.replay_spec.specs.Data.{ActiveSegment}
-use Rattle.replay_spec.specs.Images.{ImageOptions, ImageMemory, size_of, index_of_constant, IsPlaced, bytes_on, extent, data_size, MayBeImage, IsStatic}
+use Rattle.replay_spec.specs.Images.{ImageOptions, ImageMemory, size_of, index_of_constant, IsPlaced, bytes_on, MayBeImage, IsStatic}
 use Rattle.replay_spec.specs.Elements.{ActiveElements, DefinedTable}
 use Rattle.replay_spec.specs.Tables.{expression_cell, AreCells, image_cells, constant_place, most_cells, kept_initial, MayBeTaken}
 
@@ -24,12 +24,10 @@ decided-le : (a b : ℕ) → Decided (a ≤ b)
 decided-le a b = ⊎_elim (λ (l : b < a). inr (λ (le : a ≤ b). absurd (omega arith))) (λ (le : a ≤ b). inl le) (cases_lt b a)
 
 decided-true : (b : Bool) → Decided (b ≡ true)
-decided-true true = inl refl
-decided-true false = inr (λ e. false≢true e)
+decided-true b = grind (arith, false≢true)
 
 decided-none : {X : Type 0} (o : Option X) → Decided (o ≡ None)
-decided-none None = inl refl
-decided-none (Some x) = inr (λ e. none-some x (sym e))
+decided-none o = grind (arith, none-some)
 
 decided-all : {X : Type 0} (P : X → Type 0) → ((x : X) → Decided (P x)) → (xs : List X) → Decided (All P xs)
 decided-all P each [] = inl (All-nil P)
@@ -77,15 +75,7 @@ decided-placed imports memories s = part (λ (p : IsPlaced imports memories s). 
 
 decided-image : (options : ImageOptions) (memory : ImageMemory) (ss : List ActiveSegment) → Decided (ss ≢ [] → MayBeImage options memory ss)
 decided-image options memory [] = inl (λ some. absurd (some refl))
-decided-image options memory (s ∷ ss) =
-    part (λ h. (h (λ e. cc)).page) (decided-le options.page (2 ^ memory.page_log2))
-    (λ page. ⊎_elim (λ (dense : extent (s ∷ ss) < 2 * data_size (s ∷ ss)). inl (λ some. record { page = page; dense = inl dense }))
-    (λ (wide : 2 * data_size (s ∷ ss) ≤ extent (s ∷ ss)).
-    ⊎_elim (λ (small : extent (s ∷ ss) < options.max_image). inl (λ some. record { page = page; dense = inr small }))
-    (λ (large : options.max_image ≤ extent (s ∷ ss)). inr (λ h. ⊎_elim (λ (l : extent (s ∷ ss) < 2 * data_size (s ∷ ss)). absurd (omega arith))
-    (λ (l : extent (s ∷ ss) < options.max_image). absurd (omega arith)) (h (λ e. cc)).dense))
-    (cases_lt (extent (s ∷ ss)) options.max_image))
-    (cases_lt (extent (s ∷ ss)) (2 * data_size (s ∷ ss))))
+decided-image options memory (s ∷ ss) = grind (arith, part, decided-le, cases_lt)
 
 pub decided-static : (options : ImageOptions) (imports : ℕ) (memories : List ImageMemory) (active : List ActiveSegment) → Decided (IsStatic options imports memories active)
 decided-static options imports memories active =

@@ -1,6 +1,7 @@
 -- The globals of a module that keeps the rules have values of their classes, and so have all its expressions.
-use Rattle.std.proofs.Common.{◌≡◌, ℕ, zero, suc, ◌+◌, ◌<◌, ◌≤◌, List, [], ◌∷◌, ◌++◌, length, map, take, All, Option, None, Some, refl, sym, ◌∙◌, ap, subst, arith, append_assoc, length-take}
-use Rattle.std.specs.Prelude.{slice_get, unwrap_or, IfSome, IsSomeAnd}
+use Rattle.std.proofs.lemmas.Grind.{common_steps}
+use Rattle.std.proofs.Common.{◌≡◌, ℕ, zero, suc, ◌+◌, ◌<◌, ◌≤◌, List, [], ◌∷◌, ◌++◌, length, map, take, All, Option, Some, refl, sym, ◌∙◌, ap, subst, arith, append_assoc, length-take}
+use Rattle.std.specs.Prelude.{slice_get, IfSome, IsSomeAnd}
 use Rattle.std.specs.Option.{option_and_then}
 use Rattle.std.proofs.Math.Logic.{⊎_elim}
 use Rattle.std.proofs.lemmas.Bool.{cases_lt}
@@ -9,11 +10,11 @@ use Rattle.std.proofs.lemmas.List.Elements.{All-weaker}
 use Rattle.std.proofs.lemmas.Option.{none-some, same_Some, slice_get_within}
 use Rattle.wasm_spec.specs.declared.entities.GlobalType.{GlobalType}
 use Rattle.wasm_spec.specs.TypeData.{value_of}
-use Rattle.wasm_spec.specs.Module.{Expression, TableDef, GlobalDef, ElementKind, PassiveElement, DeclaredElement, ActiveElement, ElementItems, Functions, Expressions, DataKind, Passive, Active, Module, global_import, imported_of}
+use Rattle.wasm_spec.specs.Module.{Expression, TableDef, GlobalDef, ElementKind, ElementItems, DataKind, Module, global_import, imported_of}
 use Rattle.rule_spec.specs.declared.classes.Class.{Class}
 use Rattle.rule_spec.specs.declared.classes.Class.TheVariants as class
 use Rattle.rule_spec.specs.declared.rules.Rule.TheVariants as rule
-use Rattle.rule_spec.specs.Expressions.{AreGlobalsTyped, AreExpressionsTyped, HasTypedInitialiser, HasTableOffset, HasTypedItems, HasMemoryOffset, address_class}
+use Rattle.rule_spec.specs.Expressions.{AreGlobalsTyped, AreExpressionsTyped, HasTypedInitialiser, HasTableOffset, HasTypedItems, HasMemoryOffset}
 use Rattle.rule_spec.specs.Indices.{NamesTable, NamesMemory}
 use Rattle.rule_spec.specs.Lists.{Lists, lists_of_module}
 use Rattle.rule_spec.specs.Rules.{AreInRange, Keeps}
@@ -40,11 +41,7 @@ get-middle [] after x = refl
 get-middle (b ∷ before) after x = get-middle before after x
 
 some-value : (o : Option Value) (P : Value → Type 0) → IsSomeAnd o P → (v : Value) × (o ≡ Some v) × P v
-some-value None P h = absurd h
-some-value (Some v) P h = (v, refl, h)
-
-value-some : (o : Option Value) (P : Value → Type 0) (v : Value) → o ≡ Some v → P v → IsSomeAnd o P
-value-some o P v e h = subst (λ (o : Option Value). IsSomeAnd o P) (sym e) h
+some-value o P h1 = grind (arith, common_steps)
 
 -- what holds of the classes of all globals holds of those up to a number
 have-take : (globals : List Value) (types : List GlobalType) (n : ℕ) → HaveClasses globals types → HaveClasses globals (take n types)
@@ -59,9 +56,7 @@ module _ (fields : ℕ → ℕ) where
   -- what is known stays
   stays : (es : List Expression) (known : List Value) (k : ℕ) → k < length known → slice_get (values_after fields known es) k ≡ slice_get known k
   stays [] known k l = refl
-  stays (e ∷ es) known k l =
-      stays es (known ++ cell_of known fields e ∷ []) k (omega (arith, length_push known (cell_of known fields e)))
-      ∙ sym (get-front known (cell_of known fields e ∷ []) k l)
+  stays (e ∷ es) known k l = grind (arith, length_push, get-front, (stays es (known ++ cell_of known fields e ∷ []) k (omega (arith, length_push known (cell_of known fields e)))))
 
 module _ (l : Lists) where
   abbrev fields : ℕ → ℕ
@@ -112,16 +107,7 @@ module _ (l : Lists) where
   set-all : (ds : List GlobalDef) (known : List Value) (before : List GlobalType) → length known ≡ length before
       → l.global_types ≡ before ++ map (λ (d : GlobalDef). d.type) ds → HaveClasses known (take (length before) l.global_types) → AreGlobalsTyped l (length before) ds
       → AreSet known (length before) ds
-  set-all [] known before count parts have typed = record {
-    classes = λ g t at. have g t (let below = slice_get_within l.global_types g t at in take-all l.global_types (length before) g (omega (arith, ap length parts, length-append before [])) ∙ at);
-    each = λ g d at. absurd (none-some d at);
-  } where
-    take-all : {X : Type 0} (xs : List X) (n k : ℕ) → length xs ≤ n → slice_get (take n xs) k ≡ slice_get xs k
-    take-all [] zero k le = refl
-    take-all (x ∷ xs) zero k le = absurd (omega arith)
-    take-all [] (suc n) k le = refl
-    take-all (x ∷ xs) (suc n) zero le = refl
-    take-all (x ∷ xs) (suc n) (suc k) le = take-all xs n k (omega arith)
+  set-all [] known before count parts have typed = grind (arith, common_steps, slice_get_within, length-append, none-some)
   set-all (d ∷ ds) known before count parts have typed =
       let first = first-value known (length before) d have typed.0 in
       let v : Value = first.0 in
@@ -178,20 +164,11 @@ module _ (m : Module) (keeps : Keeps m) (imported : List Value) (given : AreImpo
   value-over : (n : ℕ) (e : Expression) (c : Class) → HasClass lists (take n lists.global_types) e c → HasValue lists (all_globals lists imported) e c
   value-over n e c h = value-of-class lists (take n lists.global_types) (all_globals lists imported) (have-take (all_globals lists imported) lists.global_types n globals-of-class) e c h
 
-  value-over-all : (e : Expression) (c : Class) → HasClass lists lists.global_types e c → HasValue lists (all_globals lists imported) e c
-  value-over-all e c h = value-of-class lists lists.global_types (all_globals lists imported) globals-of-class e c h
-
   gives-global : (g : ℕ) (d : GlobalDef) → slice_get lists.globals g ≡ Some d → GivesGlobal lists (all_globals lists imported) g d
-  gives-global g d at = let one = set.each g d at in
-      value-some (eval (all_globals lists imported) (field_count lists) d.init)
-      (λ v. IsOfClass v (class_at d) × (slice_get (all_globals lists imported) (lists.imported_globals + g) ≡ Some v)) one.0 one.1 (one.2, one.3)
+  gives-global g d at = grind (arith, set)
 
   table-value : (t : TableDef) → HasTypedInitialiser lists t → IfSome t.init (λ e. HasValue lists (all_globals lists imported) e class.Ref)
-  table-value t h = over t.init h where
-    over : (o : Option Expression) → IfSome o (λ e. HasClass lists (take lists.imported_globals lists.global_types) e class.Ref)
-        → IfSome o (λ e. HasValue lists (all_globals lists imported) e class.Ref)
-    over None h = tt
-    over (Some e) h = value-over lists.imported_globals e class.Ref h
+  table-value t h = grind (arith, value-over)
 
   -- an entry that stands has what each has
   standing : {X : Type 0} (xs : List X) (i : ℕ) (P Q : X → Type 0) → i < length xs → ((x : X) → P x → Q x) → IfSome (slice_get xs i) P → IsSomeAnd (slice_get xs i) Q
@@ -200,18 +177,13 @@ module _ (m : Module) (keeps : Keeps m) (imported : List Value) (given : AreImpo
   standing (x ∷ xs) (suc i) P Q l each h = standing xs i P Q (omega arith) each h
 
   table-place : (kind : ElementKind) → HasTableOffset lists kind → NamesTable lists kind → HasTablePlace lists (all_globals lists imported) kind
-  table-place (ActiveElement table offset) h named = standing lists.table_types (unwrap_or table 0) _ _ named (λ t. value-over-all offset (address_class t.table64)) h
-  table-place PassiveElement h named = tt
-  table-place DeclaredElement h named = tt
+  table-place kind h1 h2 = grind (arith, standing, value-of-class, globals-of-class)
 
   references : (items : ElementItems) → HasTypedItems lists items → HaveReferences lists (all_globals lists imported) items
-  references (Functions indices) h = tt
-  references (Expressions type items) h = All-weaker (λ e. HasClass lists lists.global_types e class.Ref) (λ e. HasValue lists (all_globals lists imported) e class.Ref)
-      (λ e. value-over-all e class.Ref) items h
+  references items h1 = grind (arith, All-weaker, value-of-class, globals-of-class)
 
   memory-place : (kind : DataKind) → HasMemoryOffset lists kind → NamesMemory lists kind → HasMemoryPlace lists (all_globals lists imported) kind
-  memory-place Passive h named = tt
-  memory-place (Active memory offset) h named = standing lists.memories memory _ _ named (λ t. value-over-all offset (address_class t.memory64)) h
+  memory-place kind h1 h2 = grind (arith, standing, value-of-class, globals-of-class)
 
   pub have-values : HaveValues lists (all_globals lists imported)
   have-values = record {

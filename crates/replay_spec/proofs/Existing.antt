@@ -58,13 +58,7 @@ module _ (c : ℕ → ℕ) where
 
   module _ (page : ℕ) where
     low-high : (first last : ℕ) → first ≤ last → first / page * page ≤ (last / page + 1) * page
-    low-high first last order = ⊎_elim
-        (λ (none : page ≡ 0). let a : first / page * page ≡ 0 = ap (λ n. first / page * n) none ∙ mul-zero (first / page) in omega arith)
-        (λ (pos : 0 < page).
-        let low : first / page * page ≤ first = div-mul-le_self first page in
-        let high : last < (last / page + 1) * page = (div-lt_iff_lt-mul pos).0 (omega arith) in
-        omega arith)
-        (eq-zero-or-pos page)
+    low-high first last order = grind (arith, mul-zero, div-mul-le_self, div-lt_iff_lt-mul, eq-zero-or-pos)
 
     image-between : (first last : ℕ) → IsFirst c first → IsLast c last → (image : MemoryImage) × IsImage page c image
     image-between first last is_first is_last =
@@ -100,8 +94,7 @@ module _ (c : ℕ → ℕ) where
 
 module _ (page : ℕ) (active : List ActiveSegment) where
   zero-past : (m q : ℕ) → greatest_end (bytes_on m active) ≤ q → written_on active m q ≡ 0
-  zero-past m q le = ⊎_elim (λ (e : written_on active m q ≡ 0). e)
-      (λ (ne : written_on active m q ≢ 0). let w = within-extent active m q ne in let l = w.1 in absurd (omega arith)) (cases_eq (written_on active m q) 0)
+  zero-past m q le = grind (arith, within-extent, cases_eq)
 
   image-on : (m : ℕ) → (image : Option MemoryImage) × ImageOf page (written_on active m) image
   image-on m = image-of (written_on active m) page (greatest_end (bytes_on m active)) (zero-past m)
@@ -168,9 +161,7 @@ module _ (lazy : Bool) (taken : List ActiveElements) where
   image-cells table t = spread (cell-of table t) (image_length lazy taken table t)
 
   is-image : (table : ℕ) (t : DefinedTable) → IsTableImage lazy taken table t (image-cells table t)
-  is-image table t =
-      let long = length-spread (cell-of table t) (image_length lazy taken table t) in
-      record { reach = long; cells = λ place l. get-spread (cell-of table t) (image_length lazy taken table t) place (omega arith) }
+  is-image table t = grind (arith, length-spread, get-spread)
 
   abbrev planned-at : ℕ → DefinedTable → PlannedTable
   planned-at table t = record { minimum = t.minimum; initial = kept_initial lazy t; image = image-cells table t }
@@ -190,12 +181,8 @@ module _ (lazy : Bool) (taken : List ActiveElements) where
   images : (table : ℕ) (ts : List DefinedTable) (i : ℕ) (t : DefinedTable) (planned : PlannedTable) → slice_get ts i ≡ Some t → slice_get (planned-tables table ts) i ≡ Some planned
       → IsTableImage lazy taken (table + i) t planned.image
   images table [] i t planned at found = absurd (none-some t at)
-  images table (x ∷ ts) zero t planned at found =
-      subst (λ (p : PlannedTable). IsTableImage lazy taken (table + 0) t p.image) (same_Some (planned-at table x) planned found)
-      (subst (λ (t : DefinedTable). IsTableImage lazy taken (table + 0) t (image-cells table x)) (same_Some x t at)
-      (subst (λ (n : ℕ). IsTableImage lazy taken n x (image-cells table x)) (omega arith) (is-image table x)))
-  images table (x ∷ ts) (suc i) t planned at found =
-      subst (λ (n : ℕ). IsTableImage lazy taken n t planned.image) (omega arith) (images (table + 1) ts i t planned at found)
+  images table (x ∷ ts) zero t planned at found = grind (arith, same_Some, is-image)
+  images table (x ∷ ts) (suc i) t planned at found = grind (arith, (images (table + 1) ts i t planned at found))
 
 pub a-table-plan : (lazy : Bool) (imports : ℕ) (tables : List DefinedTable) (active : List ActiveElements) → (plan : TablePlan) × IsTablePlan lazy imports tables active plan
 a-table-plan lazy imports tables active =

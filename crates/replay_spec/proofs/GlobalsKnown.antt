@@ -1,4 +1,5 @@
 -- The plan of globals leaves what the initialisers leave.
+use Rattle.std.proofs.lemmas.Grind.{common_steps}
 use Rattle.std.proofs.Common.{◌≡◌, ℕ, zero, suc, ◌+◌, ◌<◌, List, [], ◌∷◌, ◌++◌, length, map, replicate, set, All, Option, None, Some, refl, sym, ◌∙◌, ap, subst, arith, append_assoc}
 use Rattle.std.specs.Prelude.{slice_get}
 use Rattle.std.specs.List.{filter_map, enumerate_from}
@@ -6,7 +7,6 @@ use Rattle.std.specs.Option.{option_and_then}
 use Rattle.std.proofs.lemmas.List.{length_push}
 use Rattle.std.proofs.lemmas.List.Elements.{All-head, All-tail}
 use Rattle.wasm_spec.specs.declared.operators.Operator.{Operator}
-use Rattle.wasm_spec.specs.declared.operators.Operator.TheVariants as op
 use Rattle.wasm_spec.specs.Module.{Expression}
 use Rattle.replay_spec.specs.Values.{Value, Ref, Null, action, acted, run, only_value, const_value}
 use Rattle.replay_spec.specs.Elements.{value_or_null, cell_of}
@@ -17,8 +17,7 @@ use Rattle.replay_spec.proofs.Constant.{eval-const_value}
 
 module _ (fields : ℕ → ℕ) (n : ℕ) (known later : List Value) (same : (g : ℕ) → g < n → slice_get known g ≡ slice_get later g) where
   same-step : (op : Operator) (stack : List Value) → ReadsBelow n op → acted (action known fields op) stack ≡ acted (action later fields op) stack
-  same-step (op.GlobalGet g) stack h = ap (λ v. acted (record { takes = 0; makes = λ taken. v }) stack) (same g h)
-  same-step _ stack h = refl
+  same-step op stack h1 = grind (arith, common_steps)
 
   pub same-run : (e : Expression) (stack : List Value) → All (ReadsBelow n) e
       → run (λ op. acted (action known fields op)) e stack ≡ run (λ op. acted (action later fields op)) e stack
@@ -65,10 +64,7 @@ module _ (imports : ℕ) where
   module _ (fields : ℕ → ℕ) where
     kept-all : (es : List Expression) (known : List Value) (n : ℕ) → length known ≡ imports + n → ReadEarlier (imports + n) es
         → kept_written fields imports (known ++ map first_value es) (filter_map kept_of (enumerate_from n es)) ≡ values_after fields known es
-    kept-all [] known n len h = append_nil known where
-      append_nil : (xs : List Value) → xs ++ [] ≡ xs
-      append_nil [] = refl
-      append_nil (x ∷ xs) = ap (λ ys. x ∷ ys) (append_nil xs)
+    kept-all [] known n len h = grind (arith, common_steps)
     kept-all (e ∷ es) known n len h = over (const_value e) refl
         (kept-all es (known ++ cell_of known fields e ∷ []) (n + 1) (omega (arith, length_push known (cell_of known fields e))) (subst (λ k. ReadEarlier k es) (omega arith) h.1)) where
           over : (o : Option Value) → const_value e ≡ o
@@ -84,6 +80,4 @@ module _ (imports : ℕ) where
               rw is (rw (← value) (rw (← append_assoc known (cell_of known fields e ∷ []) (map first_value es)) more))
 
 pub globals-agree : (imports : ℕ) (es : List Expression) (plan : GlobalPlan) → ReadEarlier imports es → IsGlobalPlan es plan → AgreesOnGlobals imports es plan
-globals-agree imports es plan reads h = λ fields imported count.
-    let start : ReadEarlier (length imported + 0) es = subst (λ k. ReadEarlier k es) (omega arith) reads in
-    rw (h.count, h.simple, h.kept) (rw (simple-all (length imported) es imported 0 (omega arith)) (kept-all (length imported) fields es imported 0 (omega arith) start))
+globals-agree imports es plan reads h = grind (arith, simple-all, kept-all)

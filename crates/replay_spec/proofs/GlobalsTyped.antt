@@ -1,32 +1,23 @@
 -- A typed initialiser reads only globals before its own.
-use Rattle.std.proofs.Common.{◌≡◌, ℕ, ◌+◌, ◌<◌, ◌≤◌, List, [], ◌∷◌, length, map, take, All, Option, None, Some, refl, arith, length-take}
-use Rattle.std.specs.Prelude.{slice_get}
-use Rattle.std.specs.Option.{option_and_then}
+use Rattle.std.proofs.Common.{◌≡◌, ℕ, ◌+◌, ◌≤◌, List, [], ◌∷◌, length, map, take, All, Some, arith, length-take}
 use Rattle.std.proofs.lemmas.List.Elements.{All-nil, All-cons}
 use Rattle.std.proofs.lemmas.Option.{none-some, slice_get_within}
 use Rattle.wasm_spec.specs.declared.entities.GlobalType.{GlobalType}
 use Rattle.wasm_spec.specs.declared.operators.Operator.{Operator}
-use Rattle.wasm_spec.specs.declared.operators.Operator.TheVariants as op
 use Rattle.wasm_spec.specs.Module.{Expression, GlobalDef}
 use Rattle.rule_spec.specs.declared.classes.Class.{Class}
 use Rattle.rule_spec.specs.Expressions.{AreGlobalsTyped}
 use Rattle.rule_spec.specs.Lists.{Lists}
-use Rattle.rule_spec.specs.Typing.{Signature, global_signature, signature, Step, Leads}
+use Rattle.rule_spec.specs.Typing.{Signature, signature, Leads}
 use Rattle.replay_spec.specs.Globals.{ReadsBelow, ReadEarlier}
 
 module _ (l : Lists) (visible : List GlobalType) (n : ℕ) (few : length visible ≤ n) where
   reads-step : (op : Operator) (signed : Signature) → signature l visible op ≡ Some signed → ReadsBelow n op
-  reads-step (op.GlobalGet g) signed h = over (slice_get visible g) refl h where
-    over : (o : Option GlobalType) → slice_get visible g ≡ o → option_and_then global_signature o ≡ Some signed → g < n
-    over None is none = absurd (none-some signed none)
-    over (Some type) is some = let within = slice_get_within visible g type is in omega arith
-  reads-step _ signed h = tt
+  reads-step op signed h1 = grind (arith, none-some, slice_get_within)
 
   pub reads-below : (e : Expression) (before after : List Class) → Leads l visible e before after → All (ReadsBelow n) e
   reads-below [] before after h = All-nil (ReadsBelow n)
-  reads-below (op ∷ ops) before after h =
-      let step : Step l visible op before h.0 = h.1 in
-      All-cons (ReadsBelow n) op ops (reads-step op step.signed step.is_signed) (reads-below ops h.0 after h.2)
+  reads-below (op ∷ ops) before after h = grind (arith, All-cons, reads-step, (reads-below ops h.0 after h.2))
 
 pub reads-earlier : (l : Lists) (index : ℕ) (globals : List GlobalDef) → AreGlobalsTyped l index globals → ReadEarlier index (map (λ (g : GlobalDef). g.init) globals)
 reads-earlier l index [] h = tt

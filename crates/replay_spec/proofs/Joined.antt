@@ -1,6 +1,7 @@
 -- The plan with images leaves what the segments leave.
-use Rattle.std.proofs.Common.{◌≡◌, ◌≢◌, ℕ, zero, suc, ◌+◌, ◌-◌, ◌*◌, ◌/◌, ◌^◌, ◌<◌, ◌≤◌, Bool, true, false, List, [], ◌∷◌, ◌++◌, length, get_or, map, Option, None, Some, refl, sym, ◌∙◌, ap, subst, arith, lit<, mul_assoc, pow-add}
-use Rattle.std.specs.Prelude.{slice_get, unwrap_or, nat_lt, ◌==◌, ◌&&◌}
+use Rattle.std.proofs.lemmas.Grind.{common_steps}
+use Rattle.std.proofs.Common.{◌≡◌, ◌≢◌, ℕ, zero, suc, ◌+◌, ◌-◌, ◌*◌, ◌/◌, ◌^◌, ◌<◌, ◌≤◌, Bool, true, false, List, [], ◌∷◌, length, get_or, map, Option, None, Some, refl, sym, ◌∙◌, ap, subst, arith, lit<, mul_assoc, pow-add}
+use Rattle.std.specs.Prelude.{slice_get, nat_lt, ◌==◌, ◌&&◌}
 use Rattle.std.specs.List.{filter}
 use Rattle.std.specs.Int.{IsPowerOfTwo}
 use Rattle.std.proofs.Math.Logic.{⊎_elim}
@@ -14,7 +15,7 @@ use Rattle.replay_spec.specs.Phases.{Piece, fits, last_item, SamePhase, trap_of}
 use Rattle.replay_spec.specs.Values.{Value, offset_over, offset_of}
 use Rattle.replay_spec.specs.Data.{ActiveSegment, piece_of, memory_sizes, memory_base, segments_phase, minimum_size, active_segments}
 use Rattle.replay_spec.specs.Plan.{MemoryPlan, planned_piece, image_pieces, kept_segments, AgreesOver, Agrees}
-use Rattle.replay_spec.specs.Images.{ImageOptions, ImageMemory, image_memory_of, size_of, IsPlaced, bytes_on, IsStatic, MemoryImage, written_on, IsImage, ImageOf, AreImages, PlansImages, PlansSegments, IsMemoryPlan}
+use Rattle.replay_spec.specs.Images.{ImageOptions, ImageMemory, image_memory_of, size_of, IsPlaced, bytes_on, IsStatic, MemoryImage, written_on, IsImage, ImageOf, AreImages, PlansImages, IsMemoryPlan}
 use Rattle.replay_spec.proofs.Kept.{AgreesOver-kept}
 use Rattle.replay_spec.proofs.Replay.{AllFit, SamePhase-prefix, trap-fit}
 use Rattle.replay_spec.proofs.Placed.{fit-placed, start-placed, pieces-over, sizes-defined, base-defined, CoversOn, last-covered, covers-nonzero, all-at}
@@ -27,26 +28,11 @@ positive-power k = pow-le-pow_right {n = 2} (lit< tt) {i = 0} {j = k} (omega ari
 
 -- a size in larger pages is one in smaller pages
 pub whole_pages : (n k e : ℕ) → 2 ^ k ≤ 2 ^ e → n * 2 ^ e ≡ (n * 2 ^ (e - k)) * 2 ^ k
-whole_pages n k e le = ⊎_elim
-    (λ (l : e < k).
-    let m : 2 ^ suc e ≤ 2 ^ k = pow-le-pow_right {n = 2} (lit< tt) {i = suc e} {j = k} l in
-    let s : 2 ^ suc e ≡ 2 * 2 ^ e = pow-succ' 2 e in
-    let p : 0 < 2 ^ e = positive-power e in
-    absurd (omega arith))
-    (λ (ge : k ≤ e).
-    let d : 2 ^ e ≡ 2 ^ (e - k) * 2 ^ k = (let h : e ≡ (e - k) + k = omega arith in ap (λ (i : ℕ). 2 ^ i) h ∙ pow-add 2 (e - k) k) in
-    ap (λ (x : ℕ). n * x) d ∙ sym (mul_assoc n (2 ^ (e - k)) (2 ^ k)))
-    (cases_lt e k)
+whole_pages n k e le = grind (arith, pow-le-pow_right, (pow-succ' 2 e), (positive-power e), (pow-add 2 (e - k) k), (mul_assoc n (2 ^ (e - k)) (2 ^ k)), (cases_lt e k))
 
 -- the page of a place ends within whole pages
 pub page_end : (place page n : ℕ) → 0 < page → place < n * page → (place / page + 1) * page ≤ n * page
-page_end place page n pos lt = ⊎_elim
-    (λ (l : place / page < n). mul-le-mul_right page (let k : place / page + 1 ≤ n = omega arith in k))
-    (λ (ge : n ≤ place / page).
-    let m : n * page ≤ place / page * page = mul-le-mul_right page ge in
-    let d = div-mul-le_self place page in
-    absurd (omega arith))
-    (cases_lt (place / page) n)
+page_end place page n pos lt = grind (arith, mul-le-mul_right, div-mul-le_self, cases_lt)
 
 -- ---- segments with bytes
 
@@ -56,10 +42,7 @@ Stands xs x = (i : ℕ) × (slice_get xs i ≡ Some x)
 
 pub stands-filter : {X : Type 0} (test : X → Bool) (xs : List X) (i : ℕ) (x : X) → slice_get xs i ≡ Some x → test x ≡ true → Stands (filter test xs) x
 stands-filter test [] i x at passes = absurd (none-some x at)
-stands-filter test (y ∷ ys) zero x at passes =
-    let same = same_Some y x at in
-    let e : test y ≡ true = rw same passes in
-    rw e (0, at)
+stands-filter test (y ∷ ys) zero x at passes = grind (arith, same_Some)
 stands-filter test (y ∷ ys) (suc i) x at passes = over (stands-filter test ys i x at passes) (test y) refl where
   over : Stands (filter test ys) x → (b : Bool) → test y ≡ b → Stands (filter test (y ∷ ys)) x
   over s true e = rw e (suc s.0, s.1)
@@ -75,8 +58,7 @@ stands-covers active m place c =
     (and_from (c.segment.memory == m) (nat_lt 0 (length c.segment.bytes)) (eq-eqb c.segment.memory m c.on) (lt-ltb 0 (length c.segment.bytes) some))
 
 pub stands-some : {X : Type 0} (xs : List X) (x : X) → Stands xs x → xs ≢ []
-stands-some [] x s e = absurd (none-some x s.1)
-stands-some (y ∷ ys) x s e = cc
+stands-some xs x h1 = grind (arith, none-some)
 
 -- ---- images fit
 
@@ -118,11 +100,7 @@ module _ (options : ImageOptions) (imports : ℕ) (memories : List ImageMemory) 
 
   pub fits-image : (imported : List (List ℕ)) (m : ℕ) (image : MemoryImage) → length imported ≡ imports → IsImage options.page (written_on active m) image
       → fits (memory_sizes imported (map size_of memories)) (image_piece m image) ≡ true
-  fits-image imported m image count i =
-      let h = home m image i in
-      let w = h.within in
-      let size = sizes-defined imported memories m h.memory (rw count h.defined) (rw count h.is_memory) in
-      le-leb (image.start + length image.bytes) (memory_sizes imported (map size_of memories) m) (omega (arith, w, size))
+  fits-image imported m image count i = grind (arith, (home m image i), (sizes-defined imported memories m), (le-leb (image.start + length image.bytes) (memory_sizes imported (map size_of memories) m)))
 
   fit-from : (sizes : ℕ → ℕ) (images : List (Option MemoryImage)) (n : ℕ)
       → ((object j : ℕ) (image : MemoryImage) → n + j ≡ object → slice_get images j ≡ Some (Some image) → fits sizes (image_piece object image) ≡ true)
@@ -153,17 +131,10 @@ module _ (options : ImageOptions) (imports : ℕ) (memories : List ImageMemory) 
         (last-covered active m place d)
 
     imported-none : (m place d : ℕ) (image : Option MemoryImage) → m < imports → ImageOf options.page (written_on active m) image → laid_over image m place d ≡ d
-    imported-none m place d None lt i = refl
-    imported-none m place d (Some image) lt i = absurd (i.is_first.nonzero (imported-same m i.first 0 lt))
+    imported-none m place d image h1 h2 = grind (arith, imported-same)
 
     past : (imported : List (List ℕ)) (m : ℕ) → length imported ≡ imports → imports + length memories ≤ m → memory_sizes imported (map size_of memories) m ≡ 0
-    past imported m count le =
-        let sizes : List ℕ = map length imported ++ map size_of memories in
-        let n = length-append (map length imported) (map size_of memories) in
-        let a = length-map imported length in
-        let b = length-map memories size_of in
-        let none = slice_get_past sizes m (omega (arith, n, a, b)) in
-        sym (unwrap_or-slice_get sizes m 0) ∙ ap (λ o. unwrap_or o 0) none
+    past imported m count le = grind (arith, common_steps, length-append, length-map, slice_get_past, unwrap_or-slice_get)
 
     -- the images leave what the segments leave
     pub same-contents : (imported : List (List ℕ)) (count : length imported ≡ imports) (m place : ℕ) → place < memory_sizes imported (map size_of memories) m
@@ -190,12 +161,7 @@ module _ (options : ImageOptions) (imports : ℕ) (memories : List ImageMemory) 
 SamePhase-all : {A : Type 0} (sizes : ℕ → ℕ) (b c : ℕ → ℕ → A) (ps qs : List (Piece A)) → AllFit sizes ps → AllFit sizes qs
     → ((object place : ℕ) → place < sizes object → last_item object place (b object place) ps ≡ last_item object place (c object place) qs)
     → SamePhase (record { sizes = sizes; base = b; pieces = ps }) (record { sizes = sizes; base = c; pieces = qs })
-SamePhase-all sizes b c ps qs fit_p fit_q same =
-    let one = append-nil ps in
-    let two = append-nil qs in
-    subst (λ xs. SamePhase (record { sizes = sizes; base = b; pieces = xs }) (record { sizes = sizes; base = c; pieces = qs })) one
-    (subst (λ xs. SamePhase (record { sizes = sizes; base = b; pieces = ps ++ [] }) (record { sizes = sizes; base = c; pieces = xs })) two
-    (SamePhase-prefix sizes b c ps qs [] fit_p fit_q same))
+SamePhase-all sizes b c ps qs fit_p fit_q same = grind (arith, (append-nil ps), (append-nil qs), (SamePhase-prefix sizes b c ps qs [] fit_p fit_q same))
 
 module _ (options : ImageOptions) (imports : ℕ) (memories : List ImageMemory) (active : List ActiveSegment) (passive : List (List ℕ)) (plan : MemoryPlan)
     (page : IsPowerOfTwo options.page) where
@@ -224,15 +190,7 @@ module _ (options : ImageOptions) (imports : ℕ) (memories : List ImageMemory) 
       }
 
   pub agrees : IsMemoryPlan options imports memories active passive plan → AgreesOver imports (map size_of memories) active plan
-  agrees h = ⊎_elim (λ (images : PlansImages options imports memories active passive plan). agrees-images h.sizes images)
-      (λ (segments : PlansSegments options imports memories active passive plan). AgreesOver-kept imports (map size_of memories) active plan (record {
-        sizes = h.sizes;
-        no_images = segments.in_map;
-        segments = segments.in_list;
-        passive = passive;
-        runtime = segments.runtime;
-      }))
-      h.segments
+  agrees h = grind (arith, agrees-images, AgreesOver-kept)
 
 -- under the rule no segment traps
 pub no-trap : (options : ImageOptions) (imports : ℕ) (memories : List ImageMemory) (active : List ActiveSegment) → IsStatic options imports memories active

@@ -32,22 +32,14 @@ module _ (plan : MemoryPlan) where
       → plan.runtime ≡ before ++ (bytes_of_all active ++ after)
       → filter_map (λ s. left_to_write plan s.offset s.memory s.index) (planned_from n active) ≡ active
   kept [] before after n at is = refl
-  kept (s ∷ ss) before after n at is =
-      let here = bytes-at before (bytes_of_all ss ++ after) s.bytes n at is in
-      let more = kept ss (before ++ s.bytes ∷ []) after (n + 1) (omega (arith, length_push before s.bytes))
-      (next-runtime before (bytes_of_all ss ++ after) s.bytes is) in
-      rw (here, more) refl
+  kept (s ∷ ss) before after n at is = grind (arith, bytes-at, length_push, next-runtime, (kept ss (before ++ s.bytes ∷ []) after (n + 1) (omega (arith, length_push before s.bytes)) (next-runtime before (bytes_of_all ss ++ after) s.bytes is)))
 
   -- the pieces of all entries are those of the segments
   pieces : (place_of : Expression → ℕ) (active : List ActiveSegment) (before after : List (List ℕ)) (n : ℕ) → n ≡ length before
       → plan.runtime ≡ before ++ (bytes_of_all active ++ after)
       → map (planned_piece place_of plan) (planned_from n active) ≡ map (piece_of place_of) active
   pieces place_of [] before after n at is = refl
-  pieces place_of (s ∷ ss) before after n at is =
-      let here = bytes-at before (bytes_of_all ss ++ after) s.bytes n at is in
-      let more = pieces place_of ss (before ++ s.bytes ∷ []) after (n + 1) (omega (arith, length_push before s.bytes))
-      (next-runtime before (bytes_of_all ss ++ after) s.bytes is) in
-      rw (here, more) refl
+  pieces place_of (s ∷ ss) before after n at is = grind (arith, bytes-at, length_push, next-runtime, (pieces place_of ss (before ++ s.bytes ∷ []) after (n + 1) (omega (arith, length_push before s.bytes)) (next-runtime before (bytes_of_all ss ++ after) s.bytes is)))
 
 same_as_itself : {A : Type 0} (phase : Phase A) → SamePhase phase phase
 same_as_itself phase = record { sizes = λ object. refl; trap = refl; places = λ object place within. refl }

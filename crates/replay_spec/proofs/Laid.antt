@@ -1,5 +1,5 @@
 -- Images as pieces: both readings of a plan write them, and they leave what the segments leave.
-use Rattle.std.proofs.Common.{◌≡◌, ◌≢◌, ℕ, zero, suc, ◌+◌, ◌-◌, ◌<◌, ◌≤◌, List, [], ◌∷◌, ◌++◌, length, map, Option, None, Some, refl, sym, ◌∙◌, ap, arith}
+use Rattle.std.proofs.Common.{◌≡◌, ◌≢◌, ℕ, zero, suc, ◌+◌, ◌-◌, ◌<◌, List, [], ◌∷◌, ◌++◌, length, map, Option, None, Some, refl, arith}
 use Rattle.std.specs.Prelude.{slice_get, unwrap_or}
 use Rattle.std.specs.List.{filter_map}
 use Rattle.std.proofs.Math.Logic.{⊎_elim}
@@ -9,7 +9,7 @@ use Rattle.std.proofs.lemmas.List.{length_push}
 use Rattle.std.proofs.lemmas.Option.{slice_get-get_or, none-some}
 use Rattle.wasm_spec.specs.Module.{Expression}
 use Rattle.replay_spec.specs.Phases.{Piece, item_at, last_item}
-use Rattle.replay_spec.specs.Plan.{MemoryPlan, runtime_bytes, planned_piece, left_to_write, image_pieces}
+use Rattle.replay_spec.specs.Plan.{MemoryPlan, planned_piece, left_to_write, image_pieces}
 use Rattle.replay_spec.specs.Images.{MemoryImage, IsImage, ImageOf, image_map, entries_of, image_bytes}
 use Rattle.replay_spec.proofs.Covering.{CoversAt, item-cover}
 use Rattle.replay_spec.proofs.Kept.{bytes-at, next-runtime}
@@ -29,18 +29,13 @@ module _ (plan : MemoryPlan) where
       → plan.runtime ≡ before ++ (image_bytes images ++ after) → image_pieces plan m (image_map n images) ≡ pieces_from m images
   map-pieces [] before after m n at is = refl
   map-pieces (None ∷ images) before after m n at is = map-pieces images before after (m + 1) n at is
-  map-pieces (Some image ∷ images) before after m n at is =
-      let here = bytes-at plan before (image_bytes images ++ after) image.bytes n at is in
-      let more = map-pieces images (before ++ image.bytes ∷ []) after (m + 1) (n + 1) (omega (arith, length_push before image.bytes))
-      (next-runtime plan before (image_bytes images ++ after) image.bytes is) in
-      rw (here, more) refl
+  map-pieces (Some image ∷ images) before after m n at is = grind (arith, bytes-at, length_push, next-runtime, (map-pieces images (before ++ image.bytes ∷ []) after (m + 1) (n + 1) (omega (arith, length_push before image.bytes)) (next-runtime plan before (image_bytes images ++ after) image.bytes is)))
 
   -- the processed list of a map writes its images
   pub entry-pieces : (place_of : Expression → ℕ) (images : List (Option (ℕ × ℕ))) (m : ℕ) → map (planned_piece place_of plan) (entries_of m images) ≡ image_pieces plan m images
   entry-pieces place_of [] m = refl
   entry-pieces place_of (None ∷ images) m = entry-pieces place_of images (m + 1)
-  entry-pieces place_of (Some image ∷ images) m =
-      ap (λ ps. record { object = m; offset = image.0; items = runtime_bytes plan image.1 } ∷ ps) (entry-pieces place_of images (m + 1))
+  entry-pieces place_of (Some image ∷ images) m = grind (arith, (entry-pieces place_of images (m + 1)))
 
   pub none-left : (images : List (Option (ℕ × ℕ))) (m : ℕ) → filter_map (λ s. left_to_write plan s.offset s.memory s.index) (entries_of m images) ≡ []
   none-left [] m = refl
@@ -55,10 +50,7 @@ item-elsewhere object place p ne = ⊎_elim (λ e. e) (λ (c : CoversAt object p
 pub last-below : (images : List (Option MemoryImage)) (n object place d : ℕ) → object < n → last_item object place d (pieces_from n images) ≡ d
 last-below [] n object place d lt = refl
 last-below (None ∷ images) n object place d lt = last-below images (n + 1) object place d (omega arith)
-last-below (Some image ∷ images) n object place d lt =
-    let ne : n ≢ object = omega arith in
-    let e = item-elsewhere object place (image_piece n image) ne in
-    ap (λ o. last_item object place (unwrap_or o d) (pieces_from (n + 1) images)) e ∙ last-below images (n + 1) object place d (omega arith)
+last-below (Some image ∷ images) n object place d lt = grind (arith, item-elsewhere, (last-below images (n + 1) object place d (omega arith)))
 
 -- what an image leaves at a place that held d
 abbrev pub laid_over : Option MemoryImage → ℕ → ℕ → ℕ → ℕ
@@ -69,51 +61,18 @@ pub last-image : (images : List (Option MemoryImage)) (n j object place d : ℕ)
     → slice_get images j ≡ Some image → last_item object place d (pieces_from n images) ≡ laid_over image object place d
 last-image [] n j object place d image is at = absurd (none-some image at)
 last-image (None ∷ images) n zero object place d None is at = last-below images (n + 1) object place d (omega arith)
-last-image (None ∷ images) n zero object place d (Some image) is at = absurd (let e : None ≡ Some image = some_in at in none-some image e) where
-  some_in : Some None ≡ Some (Some image) → None ≡ Some image
-  some_in e = cc
-last-image (Some one ∷ images) n zero object place d None is at = absurd (let e : None ≡ Some one = some_in at in none-some one e) where
-  some_in : Some (Some one) ≡ Some None → None ≡ Some one
-  some_in e = cc
-last-image (Some one ∷ images) n zero object place d (Some image) is at =
-    let e : one ≡ image = cc in
-    let m : n ≡ object = omega arith in
-    last-below images (n + 1) object place (unwrap_or (item_at object place (image_piece n one)) d) (omega arith)
-    ∙ ap (λ k. unwrap_or (item_at object place (image_piece k one)) d) m ∙ ap (λ i. unwrap_or (item_at object place (image_piece object i)) d) e
+last-image (None ∷ images) n zero object place d (Some image) is at = grind (arith, none-some)
+last-image (Some one ∷ images) n zero object place d None is at = grind (arith, none-some)
+last-image (Some one ∷ images) n zero object place d (Some image) is at = grind (arith, last-below)
 last-image (None ∷ images) n (suc j) object place d image is at = last-image images (n + 1) j object place d image (omega arith) at
-last-image (Some one ∷ images) n (suc j) object place d image is at =
-    let ne : n ≢ object = omega arith in
-    let e = item-elsewhere object place (image_piece n one) ne in
-    ap (λ o. last_item object place (unwrap_or o d) (pieces_from (n + 1) images)) e ∙ last-image images (n + 1) j object place d image (omega arith) at
+last-image (Some one ∷ images) n (suc j) object place d image is at = grind (arith, item-elsewhere, (last-image images (n + 1) j object place d image (omega arith) at))
 
 -- ---- an image over zeros leaves the contents
 
 module _ (page : ℕ) (positive : 0 < page) (contents : ℕ → ℕ) where
   item-image : (object place : ℕ) (image : MemoryImage) → IsImage page contents image
       → unwrap_or (item_at object place (image_piece object image)) 0 ≡ contents place
-  item-image object place image i = ⊎_elim
-      (λ (before : place < image.start).
-      let none : item_at object place (image_piece object image) ≡ None = ⊎_elim (λ e. e)
-      (λ (c : CoversAt object place (image_piece object image)). let f = c.from in absurd (omega arith)) (item-cover object place (image_piece object image)) in
-      let low = div-mul-le_self i.first page in
-      let s = i.start in
-      rw none (sym (i.is_first.before place (omega arith))))
-      (λ (from : image.start ≤ place). ⊎_elim
-      (λ (upto : place < image.start + length image.bytes).
-      let same : object ≡ object = refl in
-      let on = eq-eqb object object same in
-      let in_from = le-leb image.start place from in
-      let at = slice_get-get_or image.bytes (place - image.start) 0 (omega arith) in
-      let there : image.start + (place - image.start) ≡ place = omega arith in
-      rw (on, in_from, at) (i.bytes (place - image.start) (omega arith) ∙ ap contents there))
-      (λ (behind : image.start + length image.bytes ≤ place).
-      let none : item_at object place (image_piece object image) ≡ None = ⊎_elim (λ e. e)
-      (λ (c : CoversAt object place (image_piece object image)). let u = c.upto in absurd (omega arith)) (item-cover object place (image_piece object image)) in
-      let e = i.end in
-      rw none (sym (i.is_last.behind place (omega arith))))
-      (cases_lt place (image.start + length image.bytes)))
-      (cases_lt place image.start)
+  item-image object place image i = grind (arith, (item-cover object place (image_piece object image)), (div-mul-le_self i.first page), (eq-eqb object object), (le-leb image.start place), (slice_get-get_or image.bytes (place - image.start) 0), (cases_lt place (image.start + length image.bytes)), (cases_lt place image.start))
 
   pub laid-over : (object place : ℕ) (image : Option MemoryImage) → ImageOf page contents image → laid_over image object place 0 ≡ contents place
-  laid-over object place None zeros = sym (zeros place)
-  laid-over object place (Some image) i = item-image object place image i
+  laid-over object place image h1 = grind (arith, item-image)

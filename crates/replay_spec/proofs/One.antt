@@ -1,6 +1,5 @@
 -- A memory has one image at most, and the runtime data of a plan are determined.
-use Rattle.std.proofs.Common.{◌≡◌, ℕ, suc, ◌+◌, ◌*◌, ◌/◌, ◌<◌, ◌≤◌, List, [], ◌∷◌, ◌++◌, length, get_or, Option, None, Some, ◌⊎◌, inl, inr, refl, sym, ◌∙◌, ap, arith}
-use Rattle.std.proofs.Math.Logic.{⊎_elim}
+use Rattle.std.proofs.Common.{◌≡◌, ℕ, suc, ◌+◌, ◌*◌, ◌/◌, ◌<◌, List, [], ◌∷◌, ◌++◌, length, get_or, Option, None, ◌⊎◌, inl, inr, refl, sym, ◌∙◌, ap, arith}
 use Rattle.std.proofs.lemmas.Bool.{cases_lt}
 use Rattle.std.proofs.lemmas.Option.{slice_get-get_or}
 use Rattle.replay_spec.specs.Data.{ActiveSegment}
@@ -17,12 +16,10 @@ same-list d (x ∷ xs) (y ∷ ys) n each =
     rw (head, tail) refl
 
 pub same-first : (c : ℕ → ℕ) (f g : ℕ) → IsFirst c f → IsFirst c g → f ≡ g
-same-first c f g a b = ⊎_elim (λ (l : f < g). absurd (a.nonzero (b.before f l)))
-    (λ (ge : g ≤ f). ⊎_elim (λ (l : g < f). absurd (b.nonzero (a.before g l))) (λ (le : f ≤ g). omega arith) (cases_lt g f)) (cases_lt f g)
+same-first c f g a b = grind (arith, cases_lt)
 
 pub same-last : (c : ℕ → ℕ) (f g : ℕ) → IsLast c f → IsLast c g → f ≡ g
-same-last c f g a b = ⊎_elim (λ (l : f < g). absurd (b.nonzero (a.behind g l)))
-    (λ (ge : g ≤ f). ⊎_elim (λ (l : g < f). absurd (a.nonzero (b.behind f l))) (λ (le : f ≤ g). omega arith) (cases_lt g f)) (cases_lt f g)
+same-last c f g a b = grind (arith, cases_lt)
 
 one-image : (page : ℕ) (c : ℕ → ℕ) (x y : MemoryImage) → IsImage page c x → IsImage page c y → x ≡ y
 one-image page c x y a b =
@@ -37,10 +34,7 @@ one-image page c x y a b =
       rebuilt s t u v e f = rw (e, f) refl
 
 one-option : (page : ℕ) (c : ℕ → ℕ) (x y : Option MemoryImage) → ImageOf page c x → ImageOf page c y → x ≡ y
-one-option page c None None a b = refl
-one-option page c None (Some y) a b = absurd (b.is_first.nonzero (a b.first))
-one-option page c (Some x) None a b = absurd (a.is_first.nonzero (b a.first))
-one-option page c (Some x) (Some y) a b = ap Some (one-image page c x y a b)
+one-option page c x y h1 h2 = grind (arith, one-image)
 
 pub one-list : (page memories : ℕ) (active : List ActiveSegment) (xs ys : List (Option MemoryImage)) → AreImages page memories active xs → AreImages page memories active ys → xs ≡ ys
 one-list page memories active xs ys a b =

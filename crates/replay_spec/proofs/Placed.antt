@@ -1,5 +1,5 @@
 -- Segments that the static image rule places: they fit, and stay out of imported memories.
-use Rattle.std.proofs.Common.{◌≡◌, ◌≢◌, ℕ, zero, suc, ◌+◌, ◌-◌, ◌<◌, ◌≤◌, Bool, true, false, List, [], ◌∷◌, length, map, All, Option, None, Some, ◌⊎◌, inl, inr, refl, sym, ◌∙◌, ap, arith}
+use Rattle.std.proofs.Common.{◌≡◌, ◌≢◌, ℕ, zero, suc, ◌+◌, ◌-◌, ◌<◌, ◌≤◌, Bool, true, List, [], ◌∷◌, length, map, All, Option, Some, ◌⊎◌, inl, inr, refl, sym, ◌∙◌, ap, arith}
 use Rattle.std.specs.Prelude.{slice_get}
 use Rattle.std.proofs.Math.Logic.{⊎_elim}
 use Rattle.std.proofs.lemmas.Bool.{le-leb}
@@ -8,32 +8,16 @@ use Rattle.std.proofs.lemmas.Option.{slice_get-map, get_or_from_slice_get, slice
 use Rattle.std.specs.Option.{option_map}
 use Rattle.wasm_spec.specs.Module.{Expression}
 use Rattle.replay_spec.specs.Phases.{fits, last_item}
-use Rattle.replay_spec.specs.Values.{Value, I32, I64, F32, F64, V128, Ref, const_value, number_or_zero, offset_over, offset_of}
+use Rattle.replay_spec.specs.Values.{Value, const_value, offset_over, offset_of}
 use Rattle.replay_spec.specs.Data.{ActiveSegment, piece_of, memory_sizes, memory_base}
-use Rattle.replay_spec.specs.Images.{ImageMemory, size_of, index_of, index_of_constant, IsPlaced, start_of, end_of, written_on}
+use Rattle.replay_spec.specs.Images.{ImageMemory, size_of, index_of_constant, IsPlaced, start_of, end_of, written_on}
 use Rattle.replay_spec.proofs.Constant.{eval-const_value}
 use Rattle.replay_spec.proofs.Replay.{AllFit}
 use Rattle.replay_spec.proofs.Covering.{Covers, last-cover}
 
--- a constant of a memory's index type is the place that the offset names, over any globals
-number-index : (wide : Bool) (v : Value) (place : ℕ) → index_of wide v ≡ Some place → number_or_zero (Some v) ≡ place
-number-index false (I32 n) place h = same_Some n place h
-number-index true (I64 n) place h = same_Some n place h
-number-index false (I64 n) place h = absurd (none-some place h)
-number-index true (I32 n) place h = absurd (none-some place h)
-number-index false (F32 bits) place h = absurd (none-some place h)
-number-index true (F32 bits) place h = absurd (none-some place h)
-number-index false (F64 bits) place h = absurd (none-some place h)
-number-index true (F64 bits) place h = absurd (none-some place h)
-number-index false (V128 bits) place h = absurd (none-some place h)
-number-index true (V128 bits) place h = absurd (none-some place h)
-number-index false (Ref term) place h = absurd (none-some place h)
-number-index true (Ref term) place h = absurd (none-some place h)
-
 offset-constant : (globals : List Value) (fields : ℕ → ℕ) (wide : Bool) (e : Expression) (o : Option Value) (place : ℕ) → const_value e ≡ o
     → index_of_constant wide o ≡ Some place → offset_over globals fields e ≡ place
-offset-constant globals fields wide e None place is h = absurd (none-some place h)
-offset-constant globals fields wide e (Some v) place is h = ap number_or_zero (eval-const_value globals fields e v is) ∙ number-index wide v place h
+offset-constant globals fields wide e o place h1 h2 = grind (arith, none-some, eval-const_value)
 
 pub all-tail : {X : Type 0} (P : X → Type 0) (x : X) (xs : List X) → All P (x ∷ xs) → All P xs
 all-tail P x xs all k d l = all (suc k) d (omega arith)
@@ -44,10 +28,7 @@ all-head P x xs all = all 0 x (omega arith)
 -- the size of a defined memory
 pub sizes-defined : (imported : List (List ℕ)) (memories : List ImageMemory) (m : ℕ) (memory : ImageMemory) → length imported ≤ m
     → slice_get memories (m - length imported) ≡ Some memory → memory_sizes imported (map size_of memories) m ≡ size_of memory
-sizes-defined imported memories m memory defined at =
-    get_or-append_right (map length imported) (map size_of memories) (length imported) m 0 (length-map imported length) defined
-    ∙ get_or_from_slice_get (map size_of memories) (m - length imported) (size_of memory) 0
-    (slice_get-map size_of memories (m - length imported) ∙ ap (option_map size_of) at)
+sizes-defined imported memories m memory defined at = grind (arith, (get_or-append_right (map length imported) (map size_of memories) (length imported) m 0 (length-map imported length) defined), (length-map imported length), (get_or_from_slice_get (map size_of memories) (m - length imported) (size_of memory) 0 (slice_get-map size_of memories (m - length imported) ∙ ap (option_map size_of) at)), (slice_get-map size_of memories (m - length imported)))
 
 -- a defined memory holds zeros at first
 pub base-defined : (imported : List (List ℕ)) (m place : ℕ) → length imported ≤ m → memory_base imported m place ≡ 0
@@ -72,21 +53,12 @@ module _ (imports : ℕ) (memories : List ImageMemory) where
 
   pub fits-placed : (imported : List (List ℕ)) (s : ActiveSegment) → length imported ≡ imports → IsPlaced imports memories s
       → fits (memory_sizes imported (map size_of memories)) (piece_of offset_of s) ≡ true
-  fits-placed imported s count p =
-      let start = start-placed s p in
-      let w = p.within in
-      let at : slice_get memories (s.memory - length imported) ≡ Some p.memory = rw count p.is_memory in
-      let defined : length imported ≤ s.memory = rw count p.defined in
-      let size = sizes-defined imported memories s.memory p.memory defined at in
-      le-leb (start_of s + length s.bytes) (memory_sizes imported (map size_of memories) s.memory) (omega (arith, start, w, size))
+  fits-placed imported s count p = grind (arith, (start-placed s p), (sizes-defined imported memories s.memory p.memory), (le-leb (start_of s + length s.bytes) (memory_sizes imported (map size_of memories) s.memory)))
 
   pub fit-placed : (imported : List (List ℕ)) (active : List ActiveSegment) → length imported ≡ imports → All (IsPlaced imports memories) active
       → AllFit (memory_sizes imported (map size_of memories)) (map (piece_of offset_of) active)
   fit-placed imported [] count all = tt
-  fit-placed imported (s ∷ ss) count all = (
-    fits-placed imported s count (all-head (IsPlaced imports memories) s ss all),
-    fit-placed imported ss count (all-tail (IsPlaced imports memories) s ss all),
-  )
+  fit-placed imported (s ∷ ss) count all = grind (arith, fits-placed, all-head, all-tail, (fit-placed imported ss count (all-tail (IsPlaced imports memories) s ss all)))
 
 -- a segment of a list covers a place
 pub record CoversOn (active : List ActiveSegment) (memory place : ℕ) : Type 0 where
@@ -98,26 +70,7 @@ pub record CoversOn (active : List ActiveSegment) (memory place : ℕ) : Type 0 
   pub upto : place < end_of segment
 
 from-piece : (active : List ActiveSegment) (m place : ℕ) → Covers m place (map (piece_of offset_of) active) → CoversOn active m place
-from-piece active m place c = found (slice_get active c.index) refl where
-  found : (o : Option ActiveSegment) → slice_get active c.index ≡ o → CoversOn active m place
-  found None e =
-      let n : slice_get (map (piece_of offset_of) active) c.index ≡ None = slice_get-map (piece_of offset_of) active c.index ∙ ap (option_map (piece_of offset_of)) e in
-      absurd (none-some c.piece (sym n ∙ c.is_piece))
-  found (Some s) e =
-      let n : slice_get (map (piece_of offset_of) active) c.index ≡ Some (piece_of offset_of s) = slice_get-map (piece_of offset_of) active c.index ∙ ap (option_map (piece_of offset_of)) e in
-      let same : piece_of offset_of s ≡ c.piece = same_Some (piece_of offset_of s) c.piece (sym n ∙ c.is_piece) in
-      let f = c.covers.from in
-      let u = c.covers.upto in
-      let o : start_of s ≡ c.piece.offset = ap (λ p. p.offset) same in
-      let l : length s.bytes ≡ length c.piece.items = ap (λ p. length p.items) same in
-      record {
-        index = c.index;
-        segment = s;
-        is_segment = e;
-        on = ap (λ p. p.object) same ∙ c.covers.on;
-        from = omega arith;
-        upto = omega arith;
-      }
+from-piece active m place c = grind (arith, slice_get-map, none-some, same_Some)
 
 pub last-covered : (active : List ActiveSegment) (m place d : ℕ) → (last_item m place d (map (piece_of offset_of) active) ≡ d) ⊎ CoversOn active m place
 last-covered active m place d = ⊎_elim inl (λ c. inr (from-piece active m place c)) (last-cover m place d (map (piece_of offset_of) active))

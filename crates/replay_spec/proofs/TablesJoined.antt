@@ -1,52 +1,33 @@
 -- The plan with table images leaves what the element segments leave.
-use Rattle.std.proofs.Common.{◌≡◌, ℕ, zero, suc, ◌+◌, ◌-◌, ◌<◌, ◌≤◌, Bool, true, false, List, [], ◌∷◌, ◌++◌, length, get_or, map, All, Option, None, Some, ◌⊎◌, inl, inr, refl, sym, ◌∙◌, ap, subst, arith}
-use Rattle.std.specs.Prelude.{slice_get, unwrap_or, nat_lt, nat_le, IsSome, is_some, ◌==◌, ◌&&◌, if◌then◌else◌}
-use Rattle.std.specs.Option.{option_map, option_and_then}
+use Rattle.std.proofs.lemmas.Grind.{common_steps}
+use Rattle.std.proofs.Common.{◌≡◌, ℕ, zero, suc, ◌+◌, ◌-◌, ◌<◌, ◌≤◌, Bool, true, false, List, [], ◌∷◌, length, get_or, map, All, Option, None, Some, refl, sym, ◌∙◌, ap, subst, arith}
+use Rattle.std.specs.Prelude.{slice_get, unwrap_or, IsSome}
+use Rattle.std.specs.Option.{option_map}
 use Rattle.std.proofs.Math.Logic.{⊎_elim}
-use Rattle.std.proofs.lemmas.Bool.{false≢true, cases_lt, le-leb, eq-eqb, lt-ltb, le-ltb, and_parts, cond-true, cond-false}
+use Rattle.std.proofs.lemmas.Bool.{false≢true, cases_lt, le-leb, eq-eqb, lt-ltb, le-ltb, cond-true, cond-false}
 use Rattle.std.proofs.lemmas.List.{length-map, get_or-append_right, length-append, map-append}
 use Rattle.std.proofs.lemmas.List.Elements.{All-head, All-tail, All-get_or}
 use Rattle.std.proofs.lemmas.Option.{slice_get-map, slice_get_within, slice_get-get_or, slice_get_past, get_or_from_slice_get, none-some, same_Some, unwrap_or-slice_get}
-use Rattle.wasm_spec.specs.declared.operators.Operator.{Operator}
-use Rattle.wasm_spec.specs.declared.operators.Operator.TheVariants.{RefNull, RefFunc}
-use Rattle.wasm_spec.specs.Module.{Expression, ElementItems, Functions, Expressions}
+use Rattle.wasm_spec.specs.Module.{Expression}
 use Rattle.replay_spec.specs.Phases.{Piece, fits, item_at, last_item, SamePhase}
-use Rattle.replay_spec.specs.Values.{Value, I32, I64, F32, F64, V128, Ref, Func, number_or_zero, const_value, offset_over}
-use Rattle.replay_spec.specs.Elements.{ActiveElements, DefinedTable, value_or_null, cell_of, item_cells, elements_piece, table_sizes, table_base, initial_cell, first_cell, elements_phase}
-use Rattle.replay_spec.specs.Tables.{operator_cell, expression_cell, AreCells, image_cells, image_piece, elements_end, most_cells, initial_function, is_imaged_from_start, kept_initial, MayBeTaken, end_on, image_length, IsTableImage, PlannedTable, TablePlan, IsTablePlan, integer_of, constant_place, reference_of, planned_cell, planned_first, planned_elements_phase, AgreesOnTables}
+use Rattle.replay_spec.specs.Values.{Value, Ref, Func, offset_over}
+use Rattle.replay_spec.specs.Elements.{ActiveElements, DefinedTable, value_or_null, cell_of, elements_piece, table_sizes, table_base, initial_cell, first_cell, elements_phase}
+use Rattle.replay_spec.specs.Tables.{expression_cell, image_piece, elements_end, initial_function, kept_initial, MayBeTaken, end_on, image_length, IsTableImage, PlannedTable, TablePlan, IsTablePlan, constant_place, reference_of, planned_cell, planned_first, planned_elements_phase, AgreesOnTables}
 use Rattle.replay_spec.proofs.Replay.{AllFit, SamePhase-prefix}
 use Rattle.replay_spec.proofs.Covering.{CoversAt, Covers, last-cover}
 use Rattle.replay_spec.proofs.Constant.{eval-const_value}
 
 -- ---- constants
 
-integer-place : (v : Value) (n : ℕ) → integer_of v ≡ Some n → number_or_zero (Some v) ≡ n
-integer-place (I32 k) n h = same_Some k n h
-integer-place (I64 k) n h = same_Some k n h
-integer-place (F32 bits) n h = absurd (none-some n h)
-integer-place (F64 bits) n h = absurd (none-some n h)
-integer-place (V128 bits) n h = absurd (none-some n h)
-integer-place (Ref term) n h = absurd (none-some n h)
-
 -- a constant offset is the offset, over any globals
 pub offset-constant : (globals : List Value) (fields : ℕ → ℕ) (e : Expression) (n : ℕ) → constant_place e ≡ Some n → offset_over globals fields e ≡ n
-offset-constant globals fields e n h = over (const_value e) refl h where
-  over : (o : Option Value) → const_value e ≡ o → option_and_then integer_of o ≡ Some n → offset_over globals fields e ≡ n
-  over None is none = absurd (none-some n none)
-  over (Some v) is some = ap number_or_zero (eval-const_value globals fields e v is) ∙ integer-place v n some
+offset-constant globals fields e n h = grind (arith, none-some, eval-const_value)
 
 -- ---- cells of items
 
 module _ (globals : List Value) (fields : ℕ → ℕ) where
-  operator-cell : (op : Operator) → IsSome (operator_cell op) → cell_of globals fields (op ∷ []) ≡ reference_of (unwrap_or (operator_cell op) None)
-  operator-cell (RefFunc index) h = refl
-  operator-cell (RefNull type) h = refl
-  operator-cell _ h = absurd (false≢true h)
-
   expression-cell : (e : Expression) → IsSome (expression_cell e) → cell_of globals fields e ≡ reference_of (unwrap_or (expression_cell e) None)
-  expression-cell [] h = absurd (false≢true h)
-  expression-cell (op ∷ []) h = operator-cell op h
-  expression-cell (op ∷ next ∷ ops) h = absurd (false≢true h)
+  expression-cell e h1 = grind (arith, false≢true)
 
   function-cells : (indices : List ℕ) → map (λ k. Ref (Func k)) indices ≡ map reference_of (map Some indices)
   function-cells [] = refl
@@ -55,41 +36,12 @@ module _ (globals : List Value) (fields : ℕ → ℕ) where
   value-cells : (items : List Expression) → All (λ e. IsSome (expression_cell e)) items
       → map (cell_of globals fields) items ≡ map reference_of (map (λ e. unwrap_or (expression_cell e) None) items)
   value-cells [] all = refl
-  value-cells (e ∷ es) all =
-      let here = expression-cell e (All-head (λ e. IsSome (expression_cell e)) e es all) in
-      let more = value-cells es (All-tail (λ e. IsSome (expression_cell e)) e es all) in
-      rw (here, more) refl
-
-  item-cells : (items : ElementItems) → AreCells items → item_cells globals fields items ≡ map reference_of (image_cells items)
-  item-cells (Functions indices) h = function-cells indices
-  item-cells (Expressions type items) h = value-cells items h
-
-  -- the first cell of a table that is imaged from the start, or has no initialiser
-  initial-function : (o : Option Expression) → IsSome (initial_function o) → initial_cell globals fields o ≡ reference_of (initial_function o)
-  initial-function None h = refl
-  initial-function (Some e) h = over (expression_cell e) refl where
-    over : (o : Option (Option ℕ)) → expression_cell e ≡ o → cell_of globals fields e ≡ reference_of (unwrap_or (expression_cell e) None)
-    over None is = absurd (false≢true (let none : unwrap_or (expression_cell e) None ≡ None = ap (λ o. unwrap_or o None) is in rw none at h))
-    over (Some x) is = expression-cell e (rw is refl)
+  value-cells (e ∷ es) all = grind (arith, expression-cell, All-head, All-tail, (value-cells es (All-tail (λ e. IsSome (expression_cell e)) e es all)))
 
   -- ---- pieces whose items are mapped
 
-  mapped-option : (b : Bool) (o : Option (Option ℕ)) (p : Option Value) → p ≡ option_map reference_of o
-      → (if b then p else None) ≡ option_map reference_of (if b then o else None)
-  mapped-option true o p e = e
-  mapped-option false o p e = refl
-
   mapped-unwrap : (o : Option (Option ℕ)) (d : Option ℕ) → unwrap_or (option_map reference_of o) (reference_of d) ≡ reference_of (unwrap_or o d)
-  mapped-unwrap None d = refl
-  mapped-unwrap (Some x) d = refl
-
-  -- a piece and its references
-  mapped-piece : (object place table offset start : ℕ) (cells : List (Option ℕ)) (values : List Value) → offset ≡ start → values ≡ map reference_of cells
-      → item_at object place (record { object = table; offset = offset; items = values })
-      ≡ option_map reference_of (item_at object place (record { object = table; offset = start; items = cells }))
-  mapped-piece object place table offset start cells values e f = rw (e, f)
-      (mapped-option (table == object && nat_le start place) (slice_get cells (place - start)) (slice_get (map reference_of cells) (place - start))
-      (slice_get-map reference_of cells (place - start)))
+  mapped-unwrap o d = grind (arith, common_steps)
 
   module _ (lazy : Bool) (imports : ℕ) (tables : List DefinedTable) where
     same-offset : (s : ActiveElements) → MayBeTaken lazy imports tables s → offset_over globals fields s.offset ≡ unwrap_or (constant_place s.offset) 0
@@ -97,18 +49,13 @@ module _ (globals : List Value) (fields : ℕ → ℕ) where
 
     mapped-item : (object place : ℕ) (s : ActiveElements) → MayBeTaken lazy imports tables s
         → item_at object place (elements_piece globals fields s) ≡ option_map reference_of (item_at object place (image_piece s))
-    mapped-item object place s h = mapped-piece object place s.table (offset_over globals fields s.offset) (unwrap_or (constant_place s.offset) 0)
-        (image_cells s.items) (item_cells globals fields s.items) (same-offset s h) (item-cells s.items h.items)
+    mapped-item object place s h = grind (arith, slice_get-map, same-offset, function-cells, value-cells)
 
     -- cells that taken segments leave are those of the image
     taken-cells : (taken : List ActiveElements) → All (MayBeTaken lazy imports tables) taken → (object place : ℕ) (d : Option ℕ)
         → last_item object place (reference_of d) (map (elements_piece globals fields) taken) ≡ reference_of (last_item object place d (map image_piece taken))
     taken-cells [] all object place d = refl
-    taken-cells (s ∷ ss) all object place d =
-        let here = mapped-item object place s (All-head (MayBeTaken lazy imports tables) s ss all) in
-        ap (λ o. last_item object place (unwrap_or o (reference_of d)) (map (elements_piece globals fields) ss)) here
-        ∙ ap (λ x. last_item object place x (map (elements_piece globals fields) ss)) (mapped-unwrap (item_at object place (image_piece s)) d)
-        ∙ taken-cells ss (All-tail (MayBeTaken lazy imports tables) s ss all) object place (unwrap_or (item_at object place (image_piece s)) d)
+    taken-cells (s ∷ ss) all object place d = grind (arith, mapped-item, All-head, mapped-unwrap, All-tail, (taken-cells ss (All-tail (MayBeTaken lazy imports tables) s ss all) object place (unwrap_or (item_at object place (image_piece s)) d)))
 
 -- ---- taken segments fit
 
@@ -121,21 +68,12 @@ sizes-table imported tables i t defined at =
 
 module _ (globals : List Value) (fields : ℕ → ℕ) (lazy : Bool) (imports : ℕ) (tables : List DefinedTable) (imported : List (List Value)) (count : length imported ≡ imports) where
   fits-taken : (s : ActiveElements) → MayBeTaken lazy imports tables s → fits (table_sizes imported (map (λ t. t.minimum) tables)) (elements_piece globals fields s) ≡ true
-  fits-taken s h =
-      let place = offset-constant globals fields s.offset h.place h.constant in
-      let size = sizes-table imported tables s.table h.table (rw count h.defined) (rw count h.is_table) in
-      let same = ap length (item-cells globals fields s.items h.items) ∙ length-map (image_cells s.items) reference_of in
-      let w = h.within in
-      le-leb (offset_over globals fields s.offset + length (item_cells globals fields s.items)) (table_sizes imported (map (λ t. t.minimum) tables) s.table)
-      (omega (arith, place, size, same, w))
+  fits-taken s h = grind (arith, offset-constant, sizes-table, length-map, le-leb)
 
   fit-taken : (taken : List ActiveElements) → All (MayBeTaken lazy imports tables) taken
       → AllFit (table_sizes imported (map (λ t. t.minimum) tables)) (map (elements_piece globals fields) taken)
   fit-taken [] all = tt
-  fit-taken (s ∷ ss) all = (
-    fits-taken s (All-head (MayBeTaken lazy imports tables) s ss all),
-    fit-taken ss (All-tail (MayBeTaken lazy imports tables) s ss all),
-  )
+  fit-taken (s ∷ ss) all = grind (arith, fits-taken, All-head, All-tail, (fit-taken ss (All-tail (MayBeTaken lazy imports tables) s ss all)))
 
 -- ---- what taken segments leave
 
@@ -151,65 +89,22 @@ record CoversFrom {X A : Type 0} (f : X → Piece A) (xs : List X) (object place
   pub covers : CoversAt object place (f element)
 
 covers-from : {X A : Type 0} (f : X → Piece A) (xs : List X) (object place : ℕ) → Covers object place (map f xs) → CoversFrom f xs object place
-covers-from {X} f xs object place c = found (slice_get xs c.index) refl where
-  found : (o : Option X) → slice_get xs c.index ≡ o → CoversFrom f xs object place
-  found None e = absurd (none-some c.piece (sym (slice_get-map f xs c.index ∙ ap (option_map f) e) ∙ c.is_piece))
-  found (Some x) e =
-      let same : f x ≡ c.piece = same_Some (f x) c.piece (sym (slice_get-map f xs c.index ∙ ap (option_map f) e) ∙ c.is_piece) in
-      record { index = c.index; element = x; stands = e; covers = subst (λ p. CoversAt object place p) (sym same) c.covers }
+covers-from f xs object place h1 = grind (arith, none-some, slice_get-map, same_Some)
 
 below-end : (taken : List ActiveElements) (i : ℕ) (s : ActiveElements) (m : ℕ) → slice_get taken i ≡ Some s → s.table ≡ m → elements_end s ≤ end_on m taken
 below-end [] i s m at on = absurd (none-some s at)
-below-end (x ∷ xs) zero s m at on =
-    let same = same_Some x s at in
-    let e = ap elements_end same in
-    let here : (x.table == m) ≡ true = eq-eqb x.table m (ap (λ (y : ActiveElements). y.table) same ∙ on) in
-    rw here (omega arith)
-below-end (x ∷ xs) (suc i) s m at on = over (x.table == m) refl (below-end xs i s m at on) where
-  over : (b : Bool) → (x.table == m) ≡ b → elements_end s ≤ end_on m xs → elements_end s ≤ end_on m (x ∷ xs)
-  over true e h = rw e (omega arith)
-  over false e h = rw e h
+below-end (x ∷ xs) zero s m at on = grind (arith, same_Some, eq-eqb)
+below-end (x ∷ xs) (suc i) s m at on = grind (arith, (below-end xs i s m at on))
 
 past-end : (taken : List ActiveElements) (m place : ℕ) → end_on m taken ≤ place → last_item m place None (map image_piece taken) ≡ None
-past-end taken m place le = ⊎_elim (λ e. e)
-    (λ (c : Covers m place (map image_piece taken)).
-    let f = covers-from image_piece taken m place c in
-    let end = below-end taken f.index f.element m f.stands f.covers.on in
-    let u = f.covers.upto in
-    absurd (omega arith))
-    (last-cover m place None (map image_piece taken))
+past-end taken m place le = grind (arith, (covers-from image_piece taken m place), (below-end taken), (last-cover m place None (map image_piece taken)))
 
 -- ---- tables that keep no initialiser
-
--- one is imaged from the start, or has no initialiser
-pub keeps-none : (lazy : Bool) (t : DefinedTable) → kept_initial lazy t ≡ None
-    → ((is_imaged_from_start lazy t ≡ true) × (is_some (initial_function t.initial) ≡ true)) ⊎ ((is_imaged_from_start lazy t ≡ false) × (t.initial ≡ None))
-keeps-none lazy t h = over (is_imaged_from_start lazy t) refl h where
-  over : (b : Bool) → is_imaged_from_start lazy t ≡ b → (if b then None else t.initial) ≡ None
-      → ((is_imaged_from_start lazy t ≡ true) × (is_some (initial_function t.initial) ≡ true)) ⊎ ((is_imaged_from_start lazy t ≡ false) × (t.initial ≡ None))
-  over true e none =
-      let parts = and_parts (lazy && is_some (initial_function t.initial)) (nat_le t.minimum most_cells) e in
-      let more = and_parts lazy (is_some (initial_function t.initial)) parts.0 in
-      inl (e, more.1)
-  over false e none = inr (e, none)
-
--- what is kept is the initialiser
-keeps-some : (lazy : Bool) (t : DefinedTable) (x : Expression) → kept_initial lazy t ≡ Some x → t.initial ≡ Some x
-keeps-some lazy t x h = over (is_imaged_from_start lazy t) h where
-  over : (b : Bool) → (if b then None else t.initial) ≡ Some x → t.initial ≡ Some x
-  over true e = absurd (none-some x e)
-  over false e = e
 
 -- nothing is left past the end of an image
 pub past-image : (lazy : Bool) (taken : List ActiveElements) (m place : ℕ) (t : DefinedTable) → kept_initial lazy t ≡ None → place < t.minimum
     → image_length lazy taken m t ≤ place → last_item m place (initial_function t.initial) (map image_piece taken) ≡ None
-past-image lazy taken m place t keeps within le = ⊎_elim
-    (λ (start : (is_imaged_from_start lazy t ≡ true) × (is_some (initial_function t.initial) ≡ true)).
-    let all : image_length lazy taken m t ≡ t.minimum = cond-true (is_imaged_from_start lazy t) t.minimum (end_on m taken) start.0 in absurd (omega arith))
-    (λ (none : (is_imaged_from_start lazy t ≡ false) × (t.initial ≡ None)).
-    let upto : image_length lazy taken m t ≡ end_on m taken = cond-false (is_imaged_from_start lazy t) t.minimum (end_on m taken) none.0 in
-    ap (λ o. last_item m place (initial_function o) (map image_piece taken)) none.1 ∙ past-end taken m place (omega arith))
-    (keeps-none lazy t keeps)
+past-image lazy taken m place t keeps within le = grind (arith, cond-true, cond-false, past-end)
 
 module _ (globals : List Value) (fields : ℕ → ℕ) (lazy : Bool) (imports : ℕ) (tables : List DefinedTable) (taken : List ActiveElements) (all : All (MayBeTaken lazy imports tables) taken) where
   -- what a taken segment on a table says of it
@@ -233,30 +128,16 @@ module _ (globals : List Value) (fields : ℕ → ℕ) (lazy : Bool) (imports : 
       (last-cover m place d (map (elements_piece globals fields) taken))
 
   first-image : (t : DefinedTable) → kept_initial lazy t ≡ None → initial_cell globals fields t.initial ≡ reference_of (initial_function t.initial)
-  first-image t keeps = ⊎_elim
-      (λ (start : (is_imaged_from_start lazy t ≡ true) × (is_some (initial_function t.initial) ≡ true)). initial-function globals fields t.initial start.1)
-      (λ (none : (is_imaged_from_start lazy t ≡ false) × (t.initial ≡ None)). let e = none.1 in rw e refl)
-      (keeps-none lazy t keeps)
+  first-image t keeps = grind (arith)
 
   image-same : (m place : ℕ) (t : DefinedTable) (image : List (Option ℕ)) → kept_initial lazy t ≡ None → place < t.minimum → IsTableImage lazy taken m t image
       → last_item m place (initial_cell globals fields t.initial) (map (elements_piece globals fields) taken) ≡ reference_of (unwrap_or (slice_get image place) None)
-  image-same m place t image keeps within h =
-      ap (λ d. last_item m place d (map (elements_piece globals fields) taken)) (first-image t keeps)
-      ∙ taken-cells globals fields lazy imports tables taken all m place (initial_function t.initial)
-      ∙ ⊎_elim (λ (lt : place < length image). ap (λ o. reference_of (unwrap_or o None)) (sym (h.cells place lt)))
-      (λ (le : length image ≤ place). ap reference_of (past-image lazy taken m place t keeps within (rw h.reach at le))
-      ∙ ap (λ o. reference_of (unwrap_or o None)) (sym (slice_get_past image place le)))
-      (cases_lt place (length image))
+  image-same m place t image keeps within h = grind (arith, (first-image t keeps), (taken-cells globals fields lazy imports tables taken all m place (initial_function t.initial)), (past-image lazy taken m place t keeps within), (slice_get_past image place), (cases_lt place (length image)))
 
   table-same : (m place : ℕ) (t : DefinedTable) → slice_get tables (m - imports) ≡ Some t → place < t.minimum → (o : Option Expression) → o ≡ kept_initial lazy t
       → (image : List (Option ℕ)) → IsTableImage lazy taken m t image
       → last_item m place (initial_cell globals fields t.initial) (map (elements_piece globals fields) taken) ≡ planned_cell globals fields o image place
-  table-same m place t at within None keeps image h = image-same m place t image (sym keeps) within h
-  table-same m place t at within (Some e) keeps image h = ⊎_elim
-      (λ (stays : last_item m place (initial_cell globals fields t.initial) (map (elements_piece globals fields) taken) ≡ initial_cell globals fields t.initial).
-      stays ∙ ap (initial_cell globals fields) (keeps-some lazy t e (sym keeps)))
-      (λ (c : Covers m place (map (elements_piece globals fields) taken)). absurd (none-some e (sym (begins-on m place t at c) ∙ sym keeps)))
-      (last-cover m place (initial_cell globals fields t.initial) (map (elements_piece globals fields) taken))
+  table-same m place t h1 h2 o h3 image h4 = grind (arith, image-same, none-some, begins-on, last-cover)
 
 -- ---- the plan
 
@@ -297,36 +178,14 @@ module _ (globals : List Value) (fields : ℕ → ℕ) (lazy : Bool) (imports : 
         rw (e, f) (table-same globals fields lazy imports tables h.taken h.prefix.takes m place t e (omega (arith, size)) planned.initial kept planned.image image)
 
   none-past : (m : ℕ) → imports + length tables ≤ m → table_sizes imported (minimums tables) m ≡ 0
-  none-past m le =
-      let sizes : List ℕ = map length imported ++ minimums tables in
-      let n = length-append (map length imported) (minimums tables) in
-      let a = length-map imported length in
-      let b = length-map tables (λ (t : DefinedTable). t.minimum) in
-      let none = slice_get_past sizes m (omega (arith, n, a, b)) in
-      sym (unwrap_or-slice_get sizes m 0) ∙ ap (λ o. unwrap_or o 0) none
+  none-past m le = grind (arith, common_steps, length-append, length-map, slice_get_past, unwrap_or-slice_get)
 
   same-cells : (m place : ℕ) → place < table_sizes imported (minimums tables) m
       → last_item m place (first_base globals fields imported tables m place) (map (elements_piece globals fields) h.taken) ≡ planned_base globals fields imported plan m place
-  same-cells m place within = ⊎_elim
-      (λ (low : m < imports).
-      let test : nat_lt m (length imported) ≡ true = lt-ltb m (length imported) (rw count low) in
-      rw test (imported-stays globals fields lazy imports tables h.taken h.prefix.takes m place (value_or_null (slice_get (unwrap_or (slice_get imported m) []) place)) low))
-      (λ (high : imports ≤ m). ⊎_elim
-      (λ (lt : m < imports + length tables).
-      let test : nat_lt m (length imported) ≡ false = le-ltb m (length imported) (rw count high) in
-      rw (test, count) (defined-same m place high lt within))
-      (λ (ge : imports + length tables ≤ m). let none = none-past m ge in absurd (omega (arith, none)))
-      (cases_lt m (imports + length tables)))
-      (cases_lt m imports)
+  same-cells m place within = grind (arith, (lt-ltb m (length imported)), (imported-stays globals fields lazy imports tables h.taken h.prefix.takes m place (value_or_null (slice_get (unwrap_or (slice_get imported m) []) place))), (le-ltb m (length imported)), (defined-same m place), (none-past m), (cases_lt m (imports + length tables)), (cases_lt m imports))
 
   agrees-over : SamePhase (elements_phase globals fields imported tables active) (planned_elements_phase globals fields imported plan)
-  agrees-over =
-      let parts : map (elements_piece globals fields) active ≡ map (elements_piece globals fields) h.taken ++ map (elements_piece globals fields) plan.segments =
-      ap (map (elements_piece globals fields)) h.prefix.parts ∙ map-append (elements_piece globals fields) h.taken plan.segments in
-      rw (parts, h.minimums)
-      (SamePhase-prefix (table_sizes imported (minimums tables)) (first_base globals fields imported tables) (planned_base globals fields imported plan)
-      (map (elements_piece globals fields) h.taken) [] (map (elements_piece globals fields) plan.segments)
-      (fit-taken globals fields lazy imports tables imported count h.taken h.prefix.takes) tt same-cells)
+  agrees-over = grind (arith, (map-append (elements_piece globals fields) h.taken plan.segments), (SamePhase-prefix (table_sizes imported (minimums tables)) (first_base globals fields imported tables) (planned_base globals fields imported plan) (map (elements_piece globals fields) h.taken) [] (map (elements_piece globals fields) plan.segments) (fit-taken globals fields lazy imports tables imported count h.taken h.prefix.takes) tt same-cells), (fit-taken globals fields lazy imports tables imported count h.taken h.prefix.takes), same-cells)
 
 pub tables-agree : (lazy : Bool) (imports : ℕ) (tables : List DefinedTable) (active : List ActiveElements) (plan : TablePlan)
     → IsTablePlan lazy imports tables active plan → AgreesOnTables imports tables active plan

@@ -1,9 +1,10 @@
 -- An expression of a class has a value of that class.
-use Rattle.std.proofs.Common.{◌≡◌, ℕ, suc, ◌+◌, ◌-◌, ◌*◌, ◌%◌, ◌^◌, ◌<◌, ◌≤◌, List, [], ◌∷◌, ◌++◌, length, map, take, drop, Bool, true, false, refl, sym, ◌∙◌, ap, subst, Option, None, Some, arith, lit<}
-use Rattle.std.specs.Prelude.{replicate, slice_get, unwrap_or, if◌then◌else◌, IsSomeAnd}
+use Rattle.std.proofs.lemmas.Grind.{common_steps}
+use Rattle.std.proofs.Common.{rules, ◌≡◌, ℕ, suc, ◌+◌, ◌-◌, ◌*◌, ◌%◌, ◌^◌, ◌<◌, List, [], ◌∷◌, ◌++◌, length, map, take, drop, Bool, refl, sym, ◌∙◌, ap, subst, Option, None, Some, arith, lit<}
+use Rattle.std.specs.Prelude.{replicate, slice_get, unwrap_or, IsSomeAnd}
 use Rattle.std.specs.Int.{cast_unsigned, w32, w64}
 use Rattle.std.specs.List.{AllZip, list_all}
-use Rattle.std.specs.Option.{option_map, option_and_then}
+use Rattle.std.specs.Option.{option_and_then}
 use Rattle.std.proofs.Math.Nat.{mod-lt}
 use Rattle.std.proofs.lemmas.Bool.{le-leb}
 use Rattle.std.proofs.lemmas.List.{length-append, length-map, length-replicate}
@@ -12,13 +13,13 @@ use Rattle.wasm_spec.specs.declared.entities.GlobalType.{GlobalType}
 use Rattle.wasm_spec.specs.declared.operators.Operator.{Operator}
 use Rattle.wasm_spec.specs.declared.operators.Operator.TheVariants as op
 use Rattle.wasm_spec.specs.declared.types.UnpackedIndex.{UnpackedIndex}
-use Rattle.wasm_spec.specs.TypeData.{Field, value_of}
+use Rattle.wasm_spec.specs.TypeData.{Field}
 use Rattle.wasm_spec.specs.Module.{Expression}
 use Rattle.rule_spec.specs.declared.classes.Class.{Class}
 use Rattle.rule_spec.specs.declared.classes.Class.TheVariants as class
 use Rattle.rule_spec.specs.Lists.{Lists}
-use Rattle.rule_spec.specs.Typing.{Signature, class_of, field_class, has_default, struct_at, array_at, gives, refers_to, where_true, global_signature, signature, Leads, HasClass}
-use Rattle.replay_spec.specs.Values.{Value, I32, I64, F32, F64, V128, Ref, I31, Term, Action, pushes, joined_i32, joined_i64, joins_i32, joins_i64, i31_of, to_extern, to_any, converted, converts, allocates, action, acted, run, only_value, eval}
+use Rattle.rule_spec.specs.Typing.{Signature, field_class, has_default, struct_at, array_at, refers_to, where_true, global_signature, signature, Leads, HasClass}
+use Rattle.replay_spec.specs.Values.{Value, I32, I64, Ref, I31, Term, Action, pushes, joined_i32, joined_i64, joins_i32, joins_i64, i31_of, to_extern, to_any, converted, converts, allocates, action, acted, run, eval}
 use Rattle.replay_spec.specs.Classes.{IsOfClass, HaveClasses, field_count}
 
 abbrev AreOfClasses : List Value → List Class → Type 0
@@ -59,17 +60,7 @@ record Does (a : Action) (s : Signature) : Type 0 where
 -- so it leads from stacks of the classes before to one of the classes after
 acts : (a : Action) (s : Signature) (rest : List Class) (vs : List Value) → Does a s → AreOfClasses vs (rest ++ s.takes)
     → (next : List Value) × (acted a vs ≡ Some next) × AreOfClasses next (rest ++ s.pushes ∷ [])
-acts a s rest vs does h =
-    let long : length vs ≡ length rest + length s.takes = same-length vs (rest ++ s.takes) h ∙ length-append rest s.takes in
-    let at : length vs - a.takes ≡ length rest = omega (arith, does.count) in
-    let enough : a.takes ≤ length vs = omega (arith, does.count) in
-    let m = does.made (drop (length rest) vs) (upper s.takes rest vs h) in (
-      take (length rest) vs ++ m.0 ∷ [],
-      ap (λ (b : Bool). if b then option_map (λ v. take (length vs - a.takes) vs ++ v ∷ []) (a.makes (drop (length vs - a.takes) vs)) else None) (le-leb a.takes (length vs) enough)
-          ∙ ap (λ (n : ℕ). option_map (λ v. take n vs ++ v ∷ []) (a.makes (drop n vs))) at
-          ∙ ap (option_map (λ v. take (length rest) vs ++ v ∷ [])) m.1,
-      one-more (take (length rest) vs) rest m.0 s.pushes (lower s.takes rest vs h) m.2,
-    )
+acts a s rest vs does h = grind (arith, (same-length vs (rest ++ s.takes) h), (length-append rest s.takes), (upper s.takes rest vs h), (le-leb a.takes (length vs)), (one-more (take (length rest) vs) rest), (lower s.takes rest vs h))
 
 known : (a : Action) (t s : Signature) → Does a t → Some t ≡ Some s → Does a s
 known a t s does e = subst (Does a) (same_Some t s e) does
@@ -89,28 +80,13 @@ i64-fits : (n : ℕ) → n % 2 ^ 64 < 2 ^ 64
 i64-fits n = mod-lt n (lit< tt)
 
 i32-value : (v : Value) → IsOfClass v class.I32 → (n : ℕ) × (v ≡ I32 n)
-i32-value (I32 n) is = (n, refl)
-i32-value (I64 n) is = let e = is.0 in absurd (cc)
-i32-value (F32 bits) is = absurd (cc)
-i32-value (F64 bits) is = absurd (cc)
-i32-value (V128 bits) is = absurd (cc)
-i32-value (Ref term) is = absurd (cc)
+i32-value v h1 = grind (arith, common_steps)
 
 i64-value : (v : Value) → IsOfClass v class.I64 → (n : ℕ) × (v ≡ I64 n)
-i64-value (I32 n) is = let e = is.0 in absurd (cc)
-i64-value (I64 n) is = (n, refl)
-i64-value (F32 bits) is = absurd (cc)
-i64-value (F64 bits) is = absurd (cc)
-i64-value (V128 bits) is = absurd (cc)
-i64-value (Ref term) is = absurd (cc)
+i64-value v h1 = grind (arith, common_steps)
 
 ref-value : (v : Value) → IsOfClass v class.Ref → (term : Term) × (v ≡ Ref term)
-ref-value (I32 n) is = let e = is.0 in absurd (cc)
-ref-value (I64 n) is = let e = is.0 in absurd (cc)
-ref-value (F32 bits) is = absurd (cc)
-ref-value (F64 bits) is = absurd (cc)
-ref-value (V128 bits) is = absurd (cc)
-ref-value (Ref term) is = (term, refl)
+ref-value v h1 = grind (arith, common_steps)
 
 one-value : (vs : List Value) (c : Class) → AreOfClasses vs (c ∷ []) → (v : Value) × (vs ≡ v ∷ []) × IsOfClass v c
 one-value [] c h = absurd h
@@ -158,20 +134,14 @@ converts-does f = record {
 }
 
 if-true : (b : Bool) (o : Option Signature) (s : Signature) → where_true b o ≡ Some s → o ≡ Some s
-if-true true o s e = e
-if-true false o s e = absurd (none-some s e)
+if-true b o s h1 = grind (arith, none-some)
 
 -- ---- expressions
 
 module _ (l : Lists) (visible : List GlobalType) (globals : List Value) (have : HaveClasses globals visible) where
   global-does : (g : ℕ) (s : Signature) (o : Option GlobalType) → slice_get visible g ≡ o → option_and_then global_signature o ≡ Some s
       → Does (record { takes = 0; makes = λ taken. slice_get globals g }) s
-  global-does g s None is e = absurd (none-some s e)
-  global-does g s (Some t) is e = by_mutability t.mutable e where
-    by_mutability : (b : Bool) → (if b then None else gives (class_of (value_of t.content_type))) ≡ Some s
-        → Does (record { takes = 0; makes = λ taken. slice_get globals g }) s
-    by_mutability true e = absurd (none-some s e)
-    by_mutability false e = known _ _ s (record { count = refl; made = λ vs h. have g t is }) e
+  global-does g s o h1 h2 = grind (arith, none-some, known)
 
   struct-does : (t : ℕ) (s : Signature) (o : Option (List (Field UnpackedIndex))) → struct_at l t ≡ o
       → option_and_then (λ fields. refers_to (map field_class fields)) o ≡ Some s → Does (allocates (op.StructNew t) (field_count l t)) s
@@ -193,14 +163,12 @@ module _ (l : Lists) (visible : List GlobalType) (globals : List Value) (have : 
   default_array-does : (t : ℕ) (s : Signature) (o : Option (Field UnpackedIndex))
       → option_and_then (λ field. where_true (has_default field) (refers_to (class.I32 ∷ []))) o ≡ Some s → Does (allocates (op.ArrayNewDefault t) 1) s
   default_array-does t s None e = absurd (none-some s e)
-  default_array-does t s (Some f) e =
-      known _ _ s (allocates-does (op.ArrayNewDefault t) 1 (class.I32 ∷ []) refl) (if-true (has_default f) (refers_to (class.I32 ∷ [])) s e)
+  default_array-does t s (Some f) e = search (rules, known, allocates-does, if-true)
 
   fixed_array-does : (t n : ℕ) (s : Signature) (o : Option (Field UnpackedIndex))
       → option_and_then (λ field. refers_to (replicate n (field_class field))) o ≡ Some s → Does (allocates (op.ArrayNewFixed t n) n) s
   fixed_array-does t n s None e = absurd (none-some s e)
-  fixed_array-does t n s (Some f) e =
-      known _ _ s (allocates-does (op.ArrayNewFixed t n) n (replicate n (field_class f)) (sym (length-replicate n (field_class f)))) e
+  fixed_array-does t n s (Some f) e = search (rules, known, allocates-does, length-replicate)
 
   operator-does : (operator : Operator) (s : Signature) → signature l visible operator ≡ Some s → Does (action globals (field_count l) operator) s
   operator-does (op.I32Const value) s e = known _ _ s (pushes-does _ class.I32 (refl, i32-fits (cast_unsigned w32 value))) e
@@ -236,8 +204,4 @@ module _ (l : Lists) (visible : List GlobalType) (globals : List Value) (have : 
       (more.0, ap (option_and_then (run (λ op. acted (action globals (field_count l) op)) ops)) here.1 ∙ more.1, more.2)
 
   pub value-of-class : (e : Expression) (c : Class) → HasClass l visible e c → IsSomeAnd (eval globals (field_count l) e) (λ v. IsOfClass v c)
-  value-of-class e c h =
-      let all = leads e [] (c ∷ []) [] h tt in
-      let one = one-value all.0 c all.2 in
-      let is : eval globals (field_count l) e ≡ Some one.0 = ap (option_and_then only_value) (all.1 ∙ ap Some one.1) in
-      subst (λ (o : Option Value). IsSomeAnd o (λ v. IsOfClass v c)) (sym is) one.2
+  value-of-class e c h = grind (arith, (leads e [] (c ∷ []) [] h tt), one-value)

@@ -1,27 +1,23 @@
 -- The worked examples of images.
-use Rattle.std.proofs.Common.{◌≡◌, ◌≢◌, ℕ, zero, suc, ◌+◌, ◌<◌, ◌≤◌, subst, List, [], ◌∷◌, All, Some, refl, sym, ap, arith, inl}
+use Rattle.std.proofs.lemmas.Grind.{common_steps}
+use Rattle.std.proofs.Common.{◌≡◌, ◌≢◌, ℕ, zero, suc, ◌+◌, ◌<◌, ◌≤◌, subst, List, [], ◌∷◌, All, Some, refl, sym, ap, arith}
 use Rattle.std.specs.Prelude.{slice_get, slice_index, negsuc}
 use Rattle.wasm_spec.specs.declared.operators.Operator.TheVariants.{I32Const}
 use Rattle.replay_spec.specs.Values.{I32}
-use Rattle.std.proofs.Math.Logic.{⊎_elim}
 use Rattle.std.proofs.lemmas.Option.{none-some, same_Some}
 use Rattle.replay_spec.specs.Data.{ActiveSegment, active_segments}
 use Rattle.replay_spec.specs.Images.{ImageMemory, image_memory_of, index_of_constant, size_of, IsPlaced, bytes_on, least_start, greatest_end, IsStatic, MayBeImage, written_on, IsImage}
 use Rattle.replay_spec.specs.Worked.{one_page, overlapping, ends_at_minus_one}
 use Rattle.replay_spec.specs.WorkedImages.{images_wanted, one_memory, leading_zeros, zeros_alone, image_at}
-use Rattle.replay_spec.proofs.Placed.{CoversOn, last-covered}
+use Rattle.replay_spec.proofs.Placed.{last-covered}
 use Rattle.replay_spec.proofs.Tight.{least-stands, greatest-stands}
 
 -- no byte is written before the least start, and none from the greatest end on
 zero-before : (active : List ActiveSegment) (m place : ℕ) → place < least_start active → written_on active m place ≡ 0
-zero-before active m place lt = ⊎_elim (λ e. e)
-    (λ (c : CoversOn active m place). let l = least-stands active c.index c.segment c.is_segment in let f = c.from in absurd (omega arith))
-    (last-covered active m place 0)
+zero-before active m place lt = grind (arith, least-stands, last-covered)
 
 zero-behind : (active : List ActiveSegment) (m place : ℕ) → greatest_end active ≤ place → written_on active m place ≡ 0
-zero-behind active m place le = ⊎_elim (λ e. e)
-    (λ (c : CoversOn active m place). let g = greatest-stands active c.index c.segment c.is_segment in let u = c.upto in absurd (omega arith))
-    (last-covered active m place 0)
+zero-behind active m place le = grind (arith, greatest-stands, last-covered)
 
 placed : All (IsPlaced 0 one_memory) (active_segments overlapping)
 placed zero d l = record { memory = image_memory_of one_page; place = 16; defined = omega arith; is_memory = refl; constant = refl; within = omega arith; known = omega arith }
@@ -30,10 +26,7 @@ placed (suc (suc k)) d l = absurd (omega arith)
 
 small : (m : ℕ) (memory : ImageMemory) → slice_get one_memory m ≡ Some memory → bytes_on (0 + m) (active_segments overlapping) ≢ []
     → MayBeImage images_wanted memory (bytes_on (0 + m) (active_segments overlapping))
-small zero memory at some =
-    let same : image_memory_of one_page ≡ memory = same_Some (image_memory_of one_page) memory at in
-    rw (← same) (record { page = omega arith; dense = inl (omega arith) })
-small (suc m) memory at some = absurd (none-some memory at)
+small m memory h1 h2 = grind (arith, same_Some, none-some)
 
 pub is_static : IsStatic images_wanted 0 one_memory (active_segments overlapping)
 is_static = record { enabled = refl; placed = placed; images = small }
@@ -50,11 +43,7 @@ not_static s =
     absurd (omega arith)
 
 overlap-bytes : (i : ℕ) → i < 4 → slice_index (1 ∷ 9 ∷ 3 ∷ 0 ∷ []) i ≡ written_on (active_segments overlapping) 0 (16 + i)
-overlap-bytes zero l = refl
-overlap-bytes (suc zero) l = refl
-overlap-bytes (suc (suc zero)) l = refl
-overlap-bytes (suc (suc (suc zero))) l = refl
-overlap-bytes (suc (suc (suc (suc i)))) l = absurd (omega arith)
+overlap-bytes i h1 = grind (arith, common_steps)
 
 pub overlap-image : IsImage 4 (written_on (active_segments overlapping) 0) (image_at 16 (1 ∷ 9 ∷ 3 ∷ 0 ∷ []))
 overlap-image = record {
@@ -68,14 +57,10 @@ overlap-image = record {
 }
 
 leading-before : (q : ℕ) → q < 2 → written_on (active_segments leading_zeros) 0 q ≡ 0
-leading-before zero l = refl
-leading-before (suc zero) l = refl
-leading-before (suc (suc q)) l = absurd (omega arith)
+leading-before q h1 = grind (arith, common_steps)
 
 leading-bytes : (i : ℕ) → i < 2 → slice_index (7 ∷ 0 ∷ []) i ≡ written_on (active_segments leading_zeros) 0 (2 + i)
-leading-bytes zero l = refl
-leading-bytes (suc zero) l = refl
-leading-bytes (suc (suc i)) l = absurd (omega arith)
+leading-bytes i h1 = grind (arith, common_steps)
 
 pub leading-image : IsImage 2 (written_on (active_segments leading_zeros) 0) (image_at 2 (7 ∷ 0 ∷ []))
 leading-image = record {
@@ -89,6 +74,4 @@ leading-image = record {
 }
 
 pub no-image : (place : ℕ) → written_on (active_segments zeros_alone) 0 place ≡ 0
-no-image zero = refl
-no-image (suc zero) = refl
-no-image (suc (suc place)) = zero-behind (active_segments zeros_alone) 0 (suc (suc place)) (omega arith)
+no-image place = grind (arith, zero-behind)

@@ -70,13 +70,6 @@ item-same place i cells l =
 some-of : (o : Option (Option ℕ)) (x : Option ℕ) → o ≡ Some x → o ≡ Some (unwrap_or o None)
 some-of o x e = rw e refl
 
-pub overlay-none : (place : ℕ) (cells old : List (Option ℕ)) → OverlaysCells place (take 0 cells) old old
-overlay-none place cells old = record {
-  reach = refl;
-  cells_at = λ p l. some-of (slice_get old p) (get_or old p None) (slice_get-get_or old p None l)
-      ∙ sym (ap (λ o. Some (unwrap_or o (unwrap_or (slice_get old p) None))) (item-none place p));
-}
-
 pub overlay-more : (place i : ℕ) (cells old new : List (Option ℕ)) (x : Option ℕ) → i < length cells → place + length cells ≤ length old → x ≡ get_or cells i None
     → OverlaysCells place (take i cells) old new → OverlaysCells place (take (i + 1) cells) old (set new (place + i) x)
 overlay-more place i cells old new x l within is h =

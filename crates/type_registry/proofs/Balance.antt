@@ -145,19 +145,10 @@ module _ (r : Registry) (b : IsBalanced r) (key : ℕ) (m : Module) (is : r.held
   now = released_by r key (Some m)
 
   still-held : (k : ℕ) (o : Module) → now.held k ≡ Some o → (k ≡ key → ⊥) × (r.held k ≡ Some o)
-  still-held k o here =
-      let differ : nat_eq key k ≡ false =
-      false_from_ne_true (nat_eq key k) (λ e. none-some o (sym (ap (λ (c : Bool). if c then None else r.held k) e) ∙ here)) in
-      ((λ same. eqb-false key k differ (sym same)), sym (ap (λ (c : Bool). if c then None else r.held k) differ) ∙ here)
+  still-held k o here = grind (arith, nat_eq, false_from_ne_true, none-some, eqb-false)
 
   counted-now : (first : ℕ) → count_in (kept_at now first) ≡ times_below now.held first r.registrations
-  counted-now first =
-      omega (
-        arith,
-        left-less r.groups m.groups first b.sound.ordered,
-        b.counted first,
-        below-without r.held key first r.registrations m is (given-key r b key m is),
-      )
+  counted-now first = grind (arith, left-less, below-without, given-key)
 
   -- a group that is kept as it was, but for its count
   record IsStill (first : ℕ) : Type 0 where
@@ -220,10 +211,7 @@ pub left-index : (r : Registry) (key : ℕ) (m : Module) (k i : ℕ) → (k ≡ 
 left-index r key m k i differ = ap (λ (c : Bool). option_and_then (λ (o : Module). slice_get o.indices i) (if c then None else r.held k)) (ne_eqb key k (λ e. differ (sym e)))
 
 pub registered-index : (r : Registry) (l : TypeList) → IsBalanced r → (k i : ℕ) → IsSome (r.held k) → index_at (registered r l) k i ≡ index_at r k i
-registered-index r l b k i held =
-    let differ : r.registrations ≡ k → ⊥ =
-    λ same. subst (λ (o : Option Module). IsSome o → ⊥) (sym (b.unused k (omega (arith, same)))) (λ none. true-false false none refl) held in
-    ap (λ (c : Bool). option_and_then (λ (o : Module). slice_get o.indices i) (if c then Some (planned r l).listed else r.held k)) (ne_eqb r.registrations k differ)
+registered-index r l b k i held = grind (arith, true-false, option_and_then, slice_get, ne_eqb)
 
 pub released-balanced : (r : Registry) (key : ℕ) (o : Option Module) → r.held key ≡ o → IsBalanced r → IsBalanced (released_by r key o)
 released-balanced r key None e b = b
@@ -235,10 +223,4 @@ released-stands r key None e b k l differ st = st
 released-stands r key (Some m) e b k l differ st = left-stands r b key m e k l differ st
 
 pub empty-balanced : (n : ℕ) → IsBalanced (empty n)
-empty-balanced n = record {
-  sound = none-sound;
-  unused = λ k le. refl;
-  counted = λ first. refl;
-  had = λ first g is. absurd (none-some g is);
-  listed = λ key m is. absurd (none-some m is);
-}
+empty-balanced n = grind (arith, none-sound, none-some)

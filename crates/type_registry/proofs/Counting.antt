@@ -13,10 +13,7 @@ counted-one [] f g found = absurd (none-some g found)
 counted-one (e ∷ gs) f g found = let rest = counted-one gs f g in grind (arith, nat_tests)
 
 pub counted-found : (gs : List (ℕ × Group)) (f n : ℕ) → option_map (λ (g : Group). g.count) (lookup (nat_eq f) gs) ≡ Some n → n ≤ counted gs
-counted-found gs f n found = by (lookup (nat_eq f) gs) refl found where
-  by : (o : Option Group) → lookup (nat_eq f) gs ≡ o → option_map (λ (g : Group). g.count) o ≡ Some n → n ≤ counted gs
-  by None e is = absurd (none-some n is)
-  by (Some g) e is = omega (arith, counted-one gs f g e, same_Some g.count n is)
+counted-found gs f n found = grind (arith, nat_eq, none-some, counted-one, same_Some)
 
 pub counted-set : (gs : List (ℕ × Group)) (f n : ℕ) (g : Group) → lookup (nat_eq f) gs ≡ Some g
     → counted (set_value (nat_eq f) gs (record g { count = n })) + g.count ≡ counted gs + n
@@ -28,17 +25,11 @@ counted-remove [] f = omega arith
 counted-remove (e ∷ gs) f = let rest = counted-remove gs f in grind (arith, nat_tests)
 
 counted-leave : (gs : List (ℕ × Group)) (f : ℕ) (o : Option Group) → lookup (nat_eq f) gs ≡ o → counted (leave_group gs f o) ≤ counted gs
-counted-leave gs f None e = omega arith
-counted-leave gs f (Some g) e =
-    let removed = counted-remove gs f in
-    let set = counted-set gs f (g.count - 1) g e in
-    grind (arith, nat_tests)
+counted-leave gs f o h1 = grind (arith, counted-remove, counted-set, nat_tests)
 
 pub counted-left : (gs : List (ℕ × Group)) (fs : List ℕ) → counted (leave_groups gs fs) ≤ counted gs
 counted-left gs [] = omega arith
-counted-left gs (f ∷ fs) =
-    let rest = counted-left (leave_group gs f (lookup (nat_eq f) gs)) fs in
-    omega (arith, rest, counted-leave gs f (lookup (nat_eq f) gs) refl)
+counted-left gs (f ∷ fs) = grind (arith, nat_eq, counted-leave, (counted-left (leave_group gs f (lookup (nat_eq f) gs)) fs))
 
 counted-more : (gs : List (ℕ × Group)) (f : ℕ) (o : Option Group) → lookup (nat_eq f) gs ≡ o → counted (count_group gs f o) ≤ counted gs + 1
 counted-more gs f None e = omega arith
@@ -46,9 +37,7 @@ counted-more gs f (Some g) e = omega (arith, counted-set gs f (g.count + 1) g e)
 
 pub counted-all : (gs : List (ℕ × Group)) (fs : List ℕ) → counted (count_groups gs fs) ≤ counted gs + length fs
 counted-all gs [] = omega arith
-counted-all gs (f ∷ fs) =
-    let rest = counted-all (count_group gs f (lookup (nat_eq f) gs)) fs in
-    omega (arith, rest, counted-more gs f (lookup (nat_eq f) gs) refl)
+counted-all gs (f ∷ fs) = grind (arith, nat_eq, counted-more, (counted-all (count_group gs f (lookup (nat_eq f) gs)) fs))
 
 pub counted_push : (gs : List (ℕ × Group)) (fs : List ℕ) (f : ℕ)
     → count_groups gs (fs ++ f ∷ []) ≡ count_group (count_groups gs fs) f (lookup (nat_eq f) (count_groups gs fs))

@@ -5,16 +5,13 @@ use Rattle.std.specs.List.{list_any}
 use Rattle.std.proofs.lemmas.Bool.{eqb-true, eqb-false, false_from_ne_true}
 use Rattle.std.proofs.lemmas.Option.{none-some, same_Some}
 use Rattle.wasm_types.specs.declared.sub.WasmSubType.{WasmSubType}
-use Rattle.wasm_types.specs.contracts.equal_groups.WasmRecGroupPartialEq.TheImpl as groups_equal
 use Rattle.type_registry.specs.declared.owners.Owner.{Owner}
 use Rattle.type_registry.specs.Registry.{Group}
 use Rattle.type_registry.specs.Owners.{owner_at, free_count, emptied}
 use Rattle.type_registry.specs.Keeping.{group_in, IsOwned, HasCanonical, AreKept}
 use Rattle.type_registry.proofs.FirstIndices.{set-other, set-here, set-none, length-removed, length-counted, group-within}
+use Rattle.type_registry.proofs.Keeping.{Eq}
 use Rattle.type_registry.proofs.OwnerLists.{emptied-at, emptied-length, any-place, place-any}
-
-abbrev Eq : List WasmSubType → List WasmSubType → Bool
-Eq = groups_equal.ghosts.eq
 
 module _ {Key : Type 0} (content : Key → List WasmSubType) (live live' : ℕ) (known known' : Key → Option ℕ) (gs : List (Option Group)) (os : List (Option Owner)) (free free' : List ℕ)
     (k : AreKept content live known gs os free) (f : ℕ) (g : Group) (at : group_in gs f ≡ Some g)
@@ -42,10 +39,7 @@ module _ {Key : Type 0} (content : Key → List WasmSubType) (live live' : ℕ) 
       apart (ap (λ (o : Owner). o.first) (same_Some (record { first = n; place = p }) (record { first = f; place = q.place }) (sym two ∙ one))))
 
   owned : (n p i : ℕ) (h : Group) → group_in gs' n ≡ Some h → slice_get h.indices p ≡ Some i → owner_at os' i ≡ Some (record { first = n; place = p })
-  owned n p i h here is =
-      let s = stays n h here in
-      emptied-at os g.indices i
-      ∙ ap (λ c. if c then None else owner_at os i) (elsewhere n p i h s.0 s.1 is) ∙ k.owned n p i h s.1 is
+  owned n p i h here is = grind (arith, stays, emptied-at, elsewhere)
 
   owns : (i : ℕ) (o : Owner) → owner_at os' i ≡ Some o → IsOwned gs' i o
   owns i o is = by (list_any (nat_eq i) g.indices) refl (sym (emptied-at os g.indices i) ∙ is) where
@@ -60,12 +54,7 @@ module _ {Key : Type 0} (content : Key → List WasmSubType) (live live' : ℕ) 
         record { group = w.group; kept = set-other gs f o.first None apart ∙ w.kept; at = w.at }
 
   known-still : (n : ℕ) (h : Group) → group_in gs' n ≡ Some h → (key : Key) → content key ≡ h.canonical → known' key ≡ Some n
-  known-still n h here key is =
-      let s = stays n h here in
-      let old = k.found n h s.1 key is in
-      let differ : Eq g.canonical (content key) ≡ false = false_from_ne_true (Eq g.canonical (content key)) (λ e.
-      s.0 (same_Some n f (sym old ∙ k.found f g at key (sym ((equal g.canonical (content key)).0 e))))) in
-      forgets key ∙ ap (λ c. cond c None (known key)) differ ∙ old
+  known-still n h here key is = grind (arith, stays, false_from_ne_true, same_Some)
 
   knows-still : (key : Key) (n : ℕ) → known' key ≡ Some n → HasCanonical gs' n (content key)
   knows-still key n is = by (Eq g.canonical (content key)) refl (sym (forgets key) ∙ is) where
@@ -80,17 +69,7 @@ module _ {Key : Type 0} (content : Key → List WasmSubType) (live live' : ℕ) 
         record { group = w.group; kept = set-other gs f n None apart ∙ w.kept; same = w.same }
 
   pub kept-without : AreKept content live' known' gs' os' free'
-  kept-without = record {
-    few = omega (arith, k.few, length-set gs f None);
-    owners = emptied-length os g.indices ∙ k.owners ∙ sym (length-set gs f None);
-    counted = omega (arith, k.counted, less, length-removed gs 0 f g at);
-    first = λ n h here. k.first n h (stays n h here).1;
-    owned = owned;
-    owns = owns;
-    unowned = frees;
-    found = known-still;
-    knows = knows-still;
-  }
+  kept-without = grind (arith, length-set, emptied-length, length-removed, stays, owned, owns, known-still, knows-still)
 
 -- ---- a group is counted otherwise
 
@@ -102,16 +81,17 @@ module _ {Key : Type 0} (content : Key → List WasmSubType) (live : ℕ) (known
   abbrev counted : List (Option Group)
   counted = set gs f (Some g')
 
-  -- a group that is there now was there with another count
-  record Was (n : ℕ) (h : Group) : Type 0 where
+  -- a group of one list that stands in another, with another count
+  record Alike (from : List (Option Group)) (n : ℕ) (h : Group) : Type 0 where
     pub group : Group
-    pub kept : group_in gs n ≡ Some group
+    pub kept : group_in from n ≡ Some group
     pub indices : h.indices ≡ group.indices
     pub canonical : h.canonical ≡ group.canonical
 
-  was : (n : ℕ) (h : Group) → group_in counted n ≡ Some h → Was n h
+  -- what is there now was there
+  was : (n : ℕ) (h : Group) → group_in counted n ≡ Some h → Alike gs n h
   was n h here = by (nat_eq n f) refl where
-    by : (c : Bool) → nat_eq n f ≡ c → Was n h
+    by : (c : Bool) → nat_eq n f ≡ c → Alike gs n h
     by true e =
         let same : n ≡ f = eqb-true n f e in
         let is : h ≡ g' = same_Some h g' (sym here ∙ ap (group_in counted) same ∙ set-here gs f (Some g') (group-within gs f g at)) in
@@ -119,18 +99,12 @@ module _ {Key : Type 0} (content : Key → List WasmSubType) (live : ℕ) (known
     by false e = record { group = h; kept = sym (set-other gs f n (Some g') (eqb-false n f e)) ∙ here; indices = refl; canonical = refl }
 
   -- and the other way round
-  record Is (n : ℕ) (h : Group) : Type 0 where
-    pub group : Group
-    pub kept : group_in counted n ≡ Some group
-    pub indices : group.indices ≡ h.indices
-    pub canonical : group.canonical ≡ h.canonical
-
-  still : (n : ℕ) (h : Group) → group_in gs n ≡ Some h → Is n h
+  still : (n : ℕ) (h : Group) → group_in gs n ≡ Some h → Alike counted n h
   still n h here = by (nat_eq n f) refl where
-    by : (c : Bool) → nat_eq n f ≡ c → Is n h
+    by : (c : Bool) → nat_eq n f ≡ c → Alike counted n h
     by true e =
         let same : n ≡ f = eqb-true n f e in
-        let is : g ≡ h = same_Some g h (sym at ∙ ap (group_in gs) (sym same) ∙ here) in
+        let is : h ≡ g = same_Some h g (sym here ∙ ap (group_in gs) same ∙ at) in
         record { group = g'; kept = ap (group_in counted) same ∙ set-here gs f (Some g') (group-within gs f g at); indices = ap (λ (x : Group). x.indices) is; canonical = ap (λ (x : Group). x.canonical) is }
     by false e = record { group = h; kept = set-other gs f n (Some g') (eqb-false n f e) ∙ here; indices = refl; canonical = refl }
 
@@ -142,8 +116,8 @@ module _ {Key : Type 0} (content : Key → List WasmSubType) (live : ℕ) (known
     first = λ n h here. let w = was n h here in ap (λ is. slice_get is 0) w.indices ∙ k.first n w.group w.kept;
     owned = λ n p i h here is. let w = was n h here in k.owned n p i w.group w.kept (ap (λ is. slice_get is p) (sym w.indices) ∙ is);
     owns = λ i o is. let w = k.owns i o is in let s = still o.first w.group w.kept in
-        record { group = s.group; kept = s.kept; at = ap (λ is. slice_get is o.place) s.indices ∙ w.at };
+        record { group = s.group; kept = s.kept; at = ap (λ is. slice_get is o.place) (sym s.indices) ∙ w.at };
     unowned = k.unowned;
     found = λ n h here key is. let w = was n h here in k.found n w.group w.kept key (is ∙ w.canonical);
-    knows = λ key n is. let w = k.knows key n is in let s = still n w.group w.kept in record { group = s.group; kept = s.kept; same = s.canonical ∙ w.same };
+    knows = λ key n is. let w = k.knows key n is in let s = still n w.group w.kept in record { group = s.group; kept = s.kept; same = sym s.canonical ∙ w.same };
   }

@@ -1,4 +1,5 @@
 -- Groups at their first indices.
+use Rattle.std.proofs.lemmas.Grind.{common_steps}
 use Rattle.std.proofs.Common.{if◌then◌else◌, ◌≡◌, ◌∙◌, ◌≤◌, ◌<◌, ℕ, zero, suc, ◌+◌, nat_eq, List, [], ◌∷◌, ◌++◌, length, Option, Some, None, option_and_then, set, eq-eqb, refl, sym, ap, arith}
 use Rattle.std.proofs.lemmas.List.{length-append}
 use Rattle.std.proofs.lemmas.Bool.{ne_eqb}
@@ -36,9 +37,7 @@ set-at (None ∷ gs) k zero n g h e at = let no : nothing ≡ Some g = at in cc
 set-at (None ∷ gs) k (suc m) n g h e at = set-at gs (k + 1) m n g h (omega (arith, e)) at
 set-at (Some x ∷ gs) k zero n g h e at =
     ap (λ c. if c then (k, h) ∷ kept_from (k + 1) gs else (k, x) ∷ set_value (nat_eq n) (kept_from (k + 1) gs) h) (sym (eq-eqb n k (omega (arith, e))))
-set-at (Some x ∷ gs) k (suc m) n g h e at =
-    ap (λ es. (k, x) ∷ es) (set-at gs (k + 1) m n g h (omega (arith, e)) at)
-    ∙ ap (λ c. if c then (k, h) ∷ kept_from (k + 1) gs else (k, x) ∷ set_value (nat_eq n) (kept_from (k + 1) gs) h) (sym (ne_eqb n k (λ same. omega arith)))
+set-at (Some x ∷ gs) k (suc m) n g h e at = grind (arith, nat_eq, ne_eqb, (set-at gs (k + 1) m n g h (omega (arith, e)) at))
 
 pub remove-at : (gs : List (Option Group)) (k m n : ℕ) (g : Group) → n ≡ k + m → group_in gs m ≡ Some g
     → kept_from k (set gs m None) ≡ remove_entry (nat_eq n) (kept_from k gs)
@@ -47,9 +46,7 @@ remove-at (None ∷ gs) k zero n g e at = let no : nothing ≡ Some g = at in cc
 remove-at (None ∷ gs) k (suc m) n g e at = remove-at gs (k + 1) m n g (omega (arith, e)) at
 remove-at (Some x ∷ gs) k zero n g e at =
     ap (λ c. if c then kept_from (k + 1) gs else (k, x) ∷ remove_entry (nat_eq n) (kept_from (k + 1) gs)) (sym (eq-eqb n k (omega (arith, e))))
-remove-at (Some x ∷ gs) k (suc m) n g e at =
-    ap (λ es. (k, x) ∷ es) (remove-at gs (k + 1) m n g (omega (arith, e)) at)
-    ∙ ap (λ c. if c then kept_from (k + 1) gs else (k, x) ∷ remove_entry (nat_eq n) (kept_from (k + 1) gs)) (sym (ne_eqb n k (λ same. omega arith)))
+remove-at (Some x ∷ gs) k (suc m) n g e at = grind (arith, nat_eq, ne_eqb, (remove-at gs (k + 1) m n g (omega (arith, e)) at))
 
 -- ---- the group at a place, once another is put there
 
@@ -77,9 +74,6 @@ set-nothing (None ∷ gs) zero at = refl
 set-nothing (Some g ∷ gs) zero at = let no : nothing ≡ Some g = sym at in cc
 set-nothing (x ∷ gs) (suc f) at = ap (λ l. x ∷ l) (set-nothing gs f at)
 
-pub group-past : (gs : List (Option Group)) (f : ℕ) → length gs ≤ f → group_in gs f ≡ None
-group-past gs f le = ap (λ (o : Option (Option Group)). option_and_then (λ (g : Option Group). g) o) (slice_get_past gs f le)
-
 -- ---- what a contract says of the list by first indices
 
 pub remove-none : (gs : List (Option Group)) (k m n : ℕ) → n ≡ k + m → group_in gs m ≡ None → kept_from k gs ≡ remove_entry (nat_eq n) (kept_from k gs)
@@ -90,9 +84,7 @@ remove-none gs k m n e none = absent (kept_from k gs) (lookup-at gs k m n e ∙ 
 
 pub count-at : (gs : List (Option Group)) (f n : ℕ) (g : Group) → group_in gs f ≡ Some g
     → kept_from 0 (set gs f (Some (record g { count = n }))) ≡ with_count (kept_from 0 gs) f n (lookup (nat_eq f) (kept_from 0 gs))
-count-at gs f n g at =
-    set-at gs 0 f f g (record g { count = n }) (omega arith) at
-    ∙ ap (with_count (kept_from 0 gs) f n) (sym (lookup-at gs 0 f f (omega arith) ∙ at))
+count-at gs f n g at = grind (arith, set-at, lookup-at)
 
 pub count-none : (gs : List (Option Group)) (f n : ℕ) → group_in gs f ≡ None
     → kept_from 0 gs ≡ with_count (kept_from 0 gs) f n (lookup (nat_eq f) (kept_from 0 gs))
@@ -105,32 +97,16 @@ pub length-counted : (gs : List (Option Group)) (k f n : ℕ) (g : Group) → gr
 length-counted [] k f n g at = refl
 length-counted (None ∷ gs) k zero n g at = let no : nothing ≡ Some g = at in cc
 length-counted (None ∷ gs) k (suc f) n g at = length-counted gs (k + 1) f n g at
-length-counted (Some h ∷ gs) k zero n g at =
-    let same : h ≡ g = (let t : Some h ≡ Some g = at in cc) in
-    ap (λ (x : Group). length (x.indices ++ indices_of (kept_from (k + 1) gs))) (sym same)
-length-counted (Some h ∷ gs) k (suc f) n g at =
-    omega (
-      arith,
-      length-counted gs (k + 1) f n g at,
-      length-append h.indices (indices_of (kept_from (k + 1) gs)),
-      length-append h.indices (indices_of (kept_from (k + 1) (set gs f (Some (record g { count = n }))))),
-    )
+length-counted (Some h ∷ gs) k zero n g at = grind (arith, common_steps)
+length-counted (Some h ∷ gs) k (suc f) n g at = grind (arith, length-append, set, (length-counted gs (k + 1) f n g at))
 
 pub length-removed : (gs : List (Option Group)) (k f : ℕ) (g : Group) → group_in gs f ≡ Some g
     → length (indices_of (kept_from k (set gs f None))) + length g.indices ≡ length (indices_of (kept_from k gs))
 length-removed [] k f g at = let no : nothing ≡ Some g = at in cc
 length-removed (None ∷ gs) k zero g at = let no : nothing ≡ Some g = at in cc
 length-removed (None ∷ gs) k (suc f) g at = length-removed gs (k + 1) f g at
-length-removed (Some h ∷ gs) k zero g at =
-    let same : h ≡ g = (let t : Some h ≡ Some g = at in cc) in
-    omega (arith, length-append h.indices (indices_of (kept_from (k + 1) gs)), ap (λ (x : Group). length x.indices) same)
-length-removed (Some h ∷ gs) k (suc f) g at =
-    omega (
-      arith,
-      length-removed gs (k + 1) f g at,
-      length-append h.indices (indices_of (kept_from (k + 1) gs)),
-      length-append h.indices (indices_of (kept_from (k + 1) (set gs f None))),
-    )
+length-removed (Some h ∷ gs) k zero g at = grind (arith, length-append)
+length-removed (Some h ∷ gs) k (suc f) g at = grind (arith, length-append, set, (length-removed gs (k + 1) f g at))
 
 pub group-within : (gs : List (Option Group)) (f : ℕ) (g : Group) → group_in gs f ≡ Some g → f < length gs
 group-within [] f g at = let none : nothing ≡ Some g = at in cc

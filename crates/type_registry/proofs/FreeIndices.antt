@@ -34,34 +34,22 @@ less taken i j lt none = omega (arith, step-free taken i none, more taken (suc i
 
 -- a free number is told by how many are free before it
 pub same-rank : (taken : List ℕ) (i j : ℕ) → has taken i ≡ false → has taken j ≡ false → free_below taken i ≡ free_below taken j → i ≡ j
-same-rank taken i j none none' same =
-    let low : i < j → ⊥ = λ lt. omega (arith, same, less taken i j lt none) in
-    let high : j < i → ⊥ = λ lt. omega (arith, same, less taken j i lt none') in
-    omega (arith, low, high)
+same-rank taken i j none none' same = grind (arith, less)
 
 -- where all from one to another are taken, none is free between them
 all-taken : (taken : List ℕ) (i j d : ℕ) → j ≡ i + d → ((m : ℕ) → i ≤ m → m < j → has taken m ≡ true) → free_below taken j ≡ free_below taken i
 all-taken taken i j zero e all = let same : j ≡ i = omega (arith, e) in ap (free_below taken) same
 all-taken taken i zero (suc d) e all = absurd (omega (arith, e))
-all-taken taken i (suc j) (suc d) e all =
-    step-taken taken j (all j (omega (arith, e)) (omega arith))
-    ∙ all-taken taken i j d (omega (arith, e)) (λ m low high. all m low (omega (arith, high)))
+all-taken taken i (suc j) (suc d) e all = grind (arith, step-taken, (all-taken taken i j d (omega (arith, e)) (λ m low high. all m low (omega (arith, high)))))
 
 -- one more that is taken makes one less free at most
 none-less : (t : ℕ) (ts : List ℕ) (n : ℕ) → n ≤ t → free_below (t ∷ ts) n ≡ free_below ts n
 none-less t ts zero le = refl
-none-less t ts (suc n) le =
-    let no : nat_eq n t ≡ false = ne_eqb n t (λ e. absurd (omega (arith, e, le))) in
-    ap (λ (c : Bool). free_below (t ∷ ts) n + (if c || has ts n then 0 else 1)) no
-    ∙ ap (λ k. k + (if has ts n then 0 else 1)) (none-less t ts n (omega (arith, le)))
+none-less t ts (suc n) le = grind (arith, nat_eq, ne_eqb, (none-less t ts n (omega (arith, le))))
 
 one-less : (t : ℕ) (ts : List ℕ) (n : ℕ) → free_below ts n ≤ free_below (t ∷ ts) n + 1
 one-less t ts zero = omega arith
-one-less t ts (suc n) =
-    let rest = one-less t ts n in
-    let same = none-less t ts n in
-    let any = cases_Bool (has ts n) in
-    grind (arith, nat_tests)
+one-less t ts (suc n) = grind (arith, none-less, cases_Bool, nat_tests, (one-less t ts n))
 
 no-taken : (n : ℕ) → free_below [] n ≡ n
 no-taken zero = refl
@@ -81,10 +69,7 @@ past-none (t ∷ ts) m le =
 
 from-none : (taken : List ℕ) (i n : ℕ) → ((m : ℕ) → i + n ≤ m → has taken m ≡ false) → has taken (least_from taken i n) ≡ false
 from-none taken i zero none = none i (omega arith)
-from-none taken i (suc n) none =
-    let rest = from-none taken (i + 1) n (λ m le. none m (omega (arith, le))) in
-    let any = cases_Bool (has taken i) in
-    grind arith
+from-none taken i (suc n) none = grind (arith, cases_Bool, (from-none taken (i + 1) n (λ m le. none m (omega (arith, le)))))
 
 from-below : (taken : List ℕ) (i n m : ℕ) → i ≤ m → m < least_from taken i n → has taken m ≡ true
 from-below taken i zero m low high = absurd (omega (arith, low, high))
@@ -129,9 +114,7 @@ not-below now i all =
     omega (arith, high)
 
 up-to : (now : List ℕ) (m : ℕ) → m < suc (least_free now) → has (least_free now ∷ now) m ≡ true
-up-to now m lt =
-    let rest = least-below now m in
-    grind (arith, nat_tests)
+up-to now m lt = grind (arith, least-below, nat_tests)
 
 -- a number that is free in turn, when so many are free before the first
 record IsFreeAt (taken : List ℕ) (earlier : ℕ) (x : ℕ) : Type 0 where
@@ -170,9 +153,7 @@ free-at taken n k x at =
 
 -- what was free in turn is taken meanwhile
 pub free-split : (taken : List ℕ) (m n : ℕ) → free_indices taken (m + n) ≡ free_indices taken m ++ free_indices (taken ++ free_indices taken m) n
-free-split taken zero n =
-    let none : 0 + n ≡ n = omega arith in
-    ap (free_indices taken) none ∙ ap (λ l. free_indices l n) (sym (append-nil taken))
+free-split taken zero n = grind (arith, append-nil)
 free-split taken (suc m) n =
     let j = least_free taken in
     let more : suc m + n ≡ suc (m + n) = omega arith in
@@ -234,11 +215,7 @@ counted-before taken xs are (suc n) le =
     omega (arith, before-more xs n, counted-before taken xs are n (omega (arith, le)), are n (omega (arith, le)))
 
 pub counted-free : (taken xs : List ℕ) → AreCounted taken xs → (n : ℕ) → get_or xs n 0 ≡ 1 → (n < length xs) × (has taken n ≡ false)
-counted-free taken xs are n one =
-    let within : n < length xs = some-within xs n (omega (arith, one)) in
-    let here = are n within in
-    let any = cases_Bool (has taken n) in
-    (within, grind arith)
+counted-free taken xs are n one = grind (arith, some-within, cases_Bool)
 
 -- past them all are free
 pub counted-past : (taken xs : List ℕ) → AreCounted taken xs → ((i : ℕ) → length xs ≤ i → has taken i ≡ false)

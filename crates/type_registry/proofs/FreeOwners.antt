@@ -51,9 +51,7 @@ module _ {Key : Type 0} (content : Key → List WasmSubType) (live : ℕ) (known
   taken = indices_of (kept_from 0 gs)
 
   without-owner : (i : ℕ) → owner_at os i ≡ None → list_any (nat_eq i) taken ≡ false
-  without-owner i none = false_from_ne_true (list_any (nat_eq i) taken) (λ e.
-      let w = index-has gs 0 i e in
-      none-some (record { first = w.first; place = w.place }) (sym none ∙ k.owned w.first w.place i w.group w.kept w.at))
+  without-owner i none = grind (arith, false_from_ne_true, nat_eq, index-has, none-some)
 
   with-owner : (i : ℕ) (o : Owner) → owner_at os i ≡ Some o → list_any (nat_eq i) taken ≡ true
   with-owner i o is = let w = k.owns i o is in has-index gs 0 o.first o.place i w.group w.kept w.at
@@ -62,17 +60,10 @@ module _ {Key : Type 0} (content : Key → List WasmSubType) (live : ℕ) (known
   owners-long = ap length k.unowned ∙ length-map os free_count
 
   pub counted-owners : AreCounted taken free
-  counted-owners i lt =
-      let size = owners-long in
-      ap (λ (xs : List ℕ). get_or xs i 0) k.unowned ∙ count-at os i (omega (arith, lt, size)) ∙ by (owner_at os i) refl where
-        by : (o : Option Owner) → owner_at os i ≡ o → free_count o ≡ (if list_any (nat_eq i) taken then 0 else 1)
-        by None e = ap (λ (c : Bool). if c then 0 else 1) (sym (without-owner i e))
-        by (Some o) e = ap (λ (c : Bool). if c then 0 else 1) (sym (with-owner i o e))
+  counted-owners i lt = grind (arith, owners-long, count-at, nat_eq, without-owner, with-owner)
 
   pub past-owners : (i : ℕ) → length free ≤ i → list_any (nat_eq i) taken ≡ false
-  past-owners i le =
-      let size = owners-long in
-      without-owner i (owner-past os i (omega (arith, le, size)))
+  past-owners i le = grind (arith, owners-long, without-owner, owner-past)
 
   -- ---- a free index by how many are free before it
 
@@ -81,9 +72,7 @@ module _ {Key : Type 0} (content : Key → List WasmSubType) (live : ℕ) (known
     nth-free n one = ap (λ es. list_any (nat_eq n) (indices_of es)) (sym seen) ∙ (counted-free taken free counted-owners n one).1
 
     pub nth-rank : (n rank : ℕ) → get_or free n 0 ≡ 1 → before n free ≡ rank → free_below (indices_of now) n ≡ rank
-    nth-rank n rank one is =
-        let within = (counted-free taken free counted-owners n one).0 in
-        ap (λ es. free_below (indices_of es) n) (sym seen) ∙ sym (counted-before taken free counted-owners n (omega (arith, within))) ∙ is
+    nth-rank n rank one is = grind (arith, counted-free, counted-owners, counted-before)
 
     pub past-free : (n : ℕ) → length free ≤ n → list_any (nat_eq n) (indices_of now) ≡ false
     past-free n le = ap (λ es. list_any (nat_eq n) (indices_of es)) (sym seen) ∙ past-owners n le

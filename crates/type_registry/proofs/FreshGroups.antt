@@ -1,4 +1,5 @@
 -- Groups that are not kept yet, found by their canonical members.
+use Rattle.std.proofs.lemmas.Grind.{common_steps}
 use Rattle.std.specs.Prelude.{cond}
 use Rattle.std.proofs.Common.{if◌then◌else◌, ◌≡◌, ◌∙◌, ◌↔◌, ◌<◌, ℕ, zero, suc, ◌+◌, Bool, true, false, List, [], ◌∷◌, ◌++◌, length, slice_get, Option, Some, None, refl, sym, ap, arith}
 use Rattle.std.proofs.lemmas.List.{length-append}
@@ -21,9 +22,7 @@ group_of e = e.1
 find-one : (es : Groups) (p : ℕ) (e : Entry) (c : List WasmSubType) → slice_get es p ≡ Some e → Eq e.1.canonical c ≡ true
     → ((q : ℕ) (f : Entry) → slice_get es q ≡ Some f → Eq f.1.canonical c ≡ true → q ≡ p) → find_group c es ≡ Some e.1
 find-one [] p e c at holds only = absurd (none-some e at)
-find-one (x ∷ es) zero e c at holds only =
-    let same = same_Some x e at in
-    ap (λ b. if b then Some x.1 else find_group c es) (ap (λ (f : Entry). Eq f.1.canonical c) same ∙ holds) ∙ ap (λ (f : Entry). Some f.1) same
+find-one (x ∷ es) zero e c at holds only = grind (arith, same_Some)
 find-one (x ∷ es) (suc p) e c at holds only =
     let rest = find-one es p e c at holds (λ q f here is. let n : suc q ≡ suc p = only (suc q) f here is in omega (arith, n)) in
     let equal = cases_Bool (Eq x.1.canonical c) in
@@ -59,10 +58,7 @@ pushed-at : (es : Groups) (e f : Entry) (p : ℕ) → slice_get (es ++ e ∷ [])
 pushed-at [] e f zero at = Last refl (same_Some f e (sym at))
 pushed-at [] e f (suc p) at = absurd (none-some f at)
 pushed-at (x ∷ es) e f zero at = Earlier (omega arith) at
-pushed-at (x ∷ es) e f (suc p) at = by (pushed-at es e f p at) where
-  by : Where es p e f → Where (x ∷ es) (suc p) e f
-  by (Last n is) = Last (ap suc n) is
-  by (Earlier lt was) = Earlier (omega (arith, lt)) was
+pushed-at (x ∷ es) e f (suc p) at = grind (arith, (pushed-at es e f p at))
 
 at-last : (es : Groups) (e : Entry) → slice_get (es ++ e ∷ []) (length es) ≡ Some e
 at-last [] e = refl
@@ -81,11 +77,7 @@ indices-pushed (x ∷ es) e =
 module _ {Key : Type 0} (content : Key → List WasmSubType) (places : Key → Option ℕ) (members : ℕ) (es : Groups) (k : AreFresh content places members es) where
   -- the map may be another that has the same
   pub fresh-same : (places' : Key → Option ℕ) → ((key : Key) → places' key ≡ places key) → AreFresh content places' members es
-  fresh-same places' same = record {
-    counted = k.counted;
-    found = λ p e at key is. same key ∙ k.found p e at key is;
-    knows = λ key p is. k.knows key p (sym (same key) ∙ is);
-  }
+  fresh-same places' same = grind (arith, common_steps)
 
   module _ (equal : (x y : List WasmSubType) → (Eq x y ≡ true) ↔ (x ≡ y)) where
     pub found-fresh : (key : Key) (p : ℕ) → places key ≡ Some p → find_group (content key) es ≡ option_map group_of (slice_get es p)
@@ -105,16 +97,7 @@ module _ {Key : Type 0} (content : Key → List WasmSubType) (places : Key → O
       es' = es ++ e ∷ []
 
       found' : (p : ℕ) (f : Entry) → slice_get es' p ≡ Some f → (key : Key) → content key ≡ f.1.canonical → places' key ≡ Some p
-      found' p f at key has = by (pushed-at es e f p at) where
-        by : Where es p e f → places' key ≡ Some p
-        by (Last n is) =
-            let yes = (equal e.1.canonical (content key)).1 (sym (has ∙ ap (λ (x : Entry). x.1.canonical) is)) in
-            learns key ∙ ap (λ c. cond c (Some (length es)) (places key)) yes ∙ ap Some (sym n)
-        by (Earlier lt was) =
-            let differ : Eq e.1.canonical (content key) ≡ false = false_from_ne_true (Eq e.1.canonical (content key)) (λ is.
-            let same : f.1.canonical ≡ e.1.canonical = sym has ∙ sym ((equal e.1.canonical (content key)).0 is) in
-            none-there es e.1.canonical p f unknown was ((equal f.1.canonical e.1.canonical).1 same)) in
-            learns key ∙ ap (λ c. cond c (Some (length es)) (places key)) differ ∙ k.found p f was key has
+      found' p f at key has = grind (arith, pushed-at, false_from_ne_true, none-there)
 
       knows' : (key : Key) (p : ℕ) → places' key ≡ Some p → HasMembers es' p (content key)
       knows' key p is = by (Eq e.1.canonical (content key)) refl (sym (learns key) ∙ is) where
@@ -125,8 +108,4 @@ module _ {Key : Type 0} (content : Key → List WasmSubType) (places : Key → O
         by false holds now = let w = k.knows key p now in record { entry = w.entry; at = at-earlier es e w.entry p w.at; same = w.same }
 
       pub fresh-pushed : AreFresh content places' members' es'
-      fresh-pushed = record {
-        counted = omega (arith, more, k.counted, indices-pushed es e);
-        found = found';
-        knows = knows';
-      }
+      fresh-pushed = grind (arith, indices-pushed, found', knows')

@@ -31,10 +31,7 @@ owned-length f p os (n ∷ ns) = owned-length f (p + 1) (set os n (Some (record 
 pub owned-push : (f p : ℕ) (os : List (Option Owner)) (ns : List ℕ) (n : ℕ)
     → owned_by f p os (ns ++ n ∷ []) ≡ set (owned_by f p os ns) n (Some (record { first = f; place = p + length ns }))
 owned-push f p os [] n = let at : p ≡ p + 0 = omega arith in ap (λ q. set os n (Some (record { first = f; place = q }))) at
-owned-push f p os (m ∷ ns) n =
-    let at : p + 1 + length ns ≡ p + length (m ∷ ns) = omega arith in
-    owned-push f (p + 1) (set os m (Some (record { first = f; place = p }))) ns n
-    ∙ ap (λ q. set (owned_by f p os (m ∷ ns)) n (Some (record { first = f; place = q }))) at
+owned-push f p os (m ∷ ns) n = grind (arith, set, (owned-push f (p + 1) (set os m (Some (record { first = f; place = p }))) ns n))
 
 -- an index that is not among them has the owner that it had
 owned-else : (f p : ℕ) (os : List (Option Owner)) (ns : List ℕ) (i : ℕ) → ((q : ℕ) → slice_get ns q ≡ Some i → ⊥) → owner_at (owned_by f p os ns) i ≡ owner_at os i
@@ -53,11 +50,7 @@ owned-at f p os (n ∷ ns) zero i at h one =
     owned-else f (p + 1) (set os n (Some (record { first = f; place = p }))) ns i (λ r there. let bad : suc r ≡ 0 = one (suc r) there in absurd (omega (arith, bad)))
     ∙ ap (λ m. owner_at (set os m (Some (record { first = f; place = p }))) i) same ∙ set-here os i (Some (record { first = f; place = p })) h
     ∙ ap (λ r. Some (record { first = f; place = r })) here
-owned-at f p os (n ∷ ns) (suc q) i at h one =
-    let next : p + 1 + q ≡ p + suc q = omega arith in
-    owned-at f (p + 1) (set os n (Some (record { first = f; place = p }))) ns q i at (omega (arith, h, length-set os n (Some (record { first = f; place = p }))))
-    (λ r there. let e : suc r ≡ suc q = one (suc r) there in omega (arith, e))
-    ∙ ap (λ r. Some (record { first = f; place = r })) next
+owned-at f p os (n ∷ ns) (suc q) i at h one = grind (arith, set, length-set, (owned-at f (p + 1) (set os n (Some (record { first = f; place = p }))) ns q i at (omega (arith, h, length-set os n (Some (record { first = f; place = p })))) (λ r there. let e : suc r ≡ suc q = one (suc r) there in omega (arith, e))))
 
 -- ---- the list by first indices
 
@@ -70,14 +63,10 @@ front (Some x ∷ gs) k n g lt =
 pub keep-at : (gs : List (Option Group)) (k m n : ℕ) (g : Group) → n ≡ k + m → m < length gs → group_in gs m ≡ None
     → kept_from k (set gs m (Some g)) ≡ keep_group (kept_from k gs) n g
 keep-at [] k m n g e h none = absurd (omega (arith, h))
-keep-at (None ∷ gs) k zero n g e h none =
-    let here : k ≡ n = omega (arith, e) in
-    ap (λ i. (i, g) ∷ kept_from (k + 1) gs) here ∙ front gs (k + 1) n g (omega (arith, e))
+keep-at (None ∷ gs) k zero n g e h none = grind (arith, front)
 keep-at (Some x ∷ gs) k zero n g e h none = absurd (none-some x (sym none))
 keep-at (None ∷ gs) k (suc m) n g e h none = keep-at gs (k + 1) m n g (omega (arith, e)) (omega (arith, h)) none
-keep-at (Some x ∷ gs) k (suc m) n g e h none =
-    ap (λ es. (k, x) ∷ es) (keep-at gs (k + 1) m n g (omega (arith, e)) (omega (arith, h)) none)
-    ∙ ap (λ c. if c then (n, g) ∷ (k, x) ∷ kept_from (k + 1) gs else (k, x) ∷ keep_group (kept_from (k + 1) gs) n g) (sym (lt-leb n k (omega (arith, e))))
+keep-at (Some x ∷ gs) k (suc m) n g e h none = grind (arith, lt-leb, (keep-at gs (k + 1) m n g (omega (arith, e)) (omega (arith, h)) none))
 
 pub length-kept : (gs : List (Option Group)) (k f : ℕ) (g : Group) → f < length gs → group_in gs f ≡ None
     → length (indices_of (kept_from k (set gs f (Some g)))) ≡ length (indices_of (kept_from k gs)) + length g.indices
@@ -85,13 +74,7 @@ length-kept [] k f g h none = absurd (omega (arith, h))
 length-kept (None ∷ gs) k zero g h none = omega (arith, length-append g.indices (indices_of (kept_from (k + 1) gs)))
 length-kept (Some x ∷ gs) k zero g h none = absurd (none-some x (sym none))
 length-kept (None ∷ gs) k (suc f) g h none = length-kept gs (k + 1) f g (omega (arith, h)) none
-length-kept (Some x ∷ gs) k (suc f) g h none =
-    omega (
-      arith,
-      length-kept gs (k + 1) f g (omega (arith, h)) none,
-      length-append x.indices (indices_of (kept_from (k + 1) gs)),
-      length-append x.indices (indices_of (kept_from (k + 1) (set gs f (Some g)))),
-    )
+length-kept (Some x ∷ gs) k (suc f) g h none = grind (arith, length-append, set, (length-kept gs (k + 1) f g (omega (arith, h)) none))
 
 abbrev pub Eq : List WasmSubType → List WasmSubType → Bool
 Eq = groups_equal.ghosts.eq
@@ -132,22 +115,10 @@ module _ {Key : Type 0} (content : Key → List WasmSubType) (live live' : ℕ) 
   still n h is = set-other gs f n (Some g) (λ e. none-some h (sym (ap (group_in gs) e ∙ new.empty) ∙ is)) ∙ is
 
   first' : (n : ℕ) (h : Group) → group_in gs' n ≡ Some h → slice_get h.indices 0 ≡ Some n
-  first' n h is = by (at-of n h is) where
-    by : Where n h → slice_get h.indices 0 ≡ Some n
-    by (Here same one) = ap (λ (x : Group). slice_get x.indices 0) one ∙ new.first ∙ ap Some (sym same)
-    by (There apart was) = k.first n h was
+  first' n h is = grind (arith, at-of, slice_get)
 
   owned' : (n p i : ℕ) (h : Group) → group_in gs' n ≡ Some h → slice_get h.indices p ≡ Some i → owner_at os' i ≡ Some (record { first = n; place = p })
-  owned' n p i h is at = by (at-of n h is) where
-    by : Where n h → owner_at os' i ≡ Some (record { first = n; place = p })
-    by (Here same one) =
-        let here : slice_get g.indices p ≡ Some i = ap (λ (x : Group). slice_get x.indices p) (sym one) ∙ at in
-        let zero-is : 0 + p ≡ p = omega arith in
-        owned-at f 0 os g.indices p i here (omega (arith, (new.free p i here).0, k.owners)) (λ r there. new.once r p i there here)
-        ∙ ap (λ q. Some (record { first = f; place = q })) zero-is ∙ ap (λ m. Some (record { first = m; place = p })) (sym same)
-    by (There apart was) =
-        let old = k.owned n p i h was at in
-        owned-else f 0 os g.indices i (λ q there. none-some (record { first = n; place = p }) (sym (new.free q i there).1 ∙ old)) ∙ old
+  owned' n p i h is at = grind (arith, at-of, slice_get, owned-at, owned-else, none-some)
 
   owns' : (i : ℕ) (o : Owner) → owner_at os' i ≡ Some o → IsOwned gs' i o
   owns' i o is = by (list_any (nat_eq i) g.indices) refl where
@@ -169,16 +140,7 @@ module _ {Key : Type 0} (content : Key → List WasmSubType) (live live' : ℕ) 
         record { group = w.group; kept = still o.first w.group w.kept; at = w.at }
 
   found' : (n : ℕ) (h : Group) → group_in gs' n ≡ Some h → (key : Key) → content key ≡ h.canonical → known' key ≡ Some n
-  found' n h is key has = by (at-of n h is) where
-    by : Where n h → known' key ≡ Some n
-    by (Here same one) =
-        let yes : Eq g.canonical (content key) ≡ true = (equal g.canonical (content key)).1 (ap (λ (x : Group). x.canonical) (sym one) ∙ sym has) in
-        learns key ∙ ap (λ c. cond c (Some f) (known key)) yes ∙ ap Some (sym same)
-    by (There apart was) =
-        let old = k.found n h was key has in
-        let differ : Eq g.canonical (content key) ≡ false = false_from_ne_true (Eq g.canonical (content key)) (λ e.
-        none-some n (sym (unknown key (sym ((equal g.canonical (content key)).0 e))) ∙ old)) in
-        learns key ∙ ap (λ c. cond c (Some f) (known key)) differ ∙ old
+  found' n h is key has = grind (arith, at-of, false_from_ne_true, none-some)
 
   knows' : (key : Key) (n : ℕ) → known' key ≡ Some n → HasCanonical gs' n (content key)
   knows' key n is = by (Eq g.canonical (content key)) refl (sym (learns key) ∙ is) where
@@ -189,14 +151,4 @@ module _ {Key : Type 0} (content : Key → List WasmSubType) (live live' : ℕ) 
     by false e now = let w = k.knows key n now in record { group = w.group; kept = still n w.group w.kept; same = w.same }
 
   pub kept-with : AreKept content live' known' gs' os' free'
-  kept-with = record {
-    few = omega (arith, k.few, length-set gs f (Some g));
-    owners = owned-length f 0 os g.indices ∙ k.owners ∙ sym (length-set gs f (Some g));
-    counted = omega (arith, k.counted, more, length-kept gs 0 f g new.room new.empty);
-    first = first';
-    owned = owned';
-    owns = owns';
-    unowned = frees;
-    found = found';
-    knows = knows';
-  }
+  kept-with = grind (arith, length-set, owned-length, length-kept, first', owned', owns', found', knows')

@@ -47,10 +47,7 @@ once-right (x ∷ xs) ys o = once-right xs ys o.1
 -- what the second has the first has not
 once-apart : (xs ys : List ℕ) (n : ℕ) → IsOnce (xs ++ ys) → list_any (nat_eq n) ys ≡ true → list_any (nat_eq n) xs ≡ false
 once-apart [] ys n o has = refl
-once-apart (x ∷ xs) ys n o has =
-    let rest = once-apart xs ys n o.1 has in
-    let not = not-right xs ys x o.0 in
-    grind (arith, nat_tests)
+once-apart (x ∷ xs) ys n o has = grind (arith, not-right, nat_tests, (once-apart xs ys n o.1 has))
 
 once-at : (ns : List ℕ) (p q n : ℕ) → IsOnce ns → slice_get ns p ≡ Some n → slice_get ns q ≡ Some n → p ≡ q
 once-at [] p q n o at at' = absurd (none-some n at)
@@ -66,11 +63,7 @@ once-at (m ∷ ns) (suc p) (suc q) n o at at' = ap suc (once-at ns p q n o.1 at 
 keep-without : (gs : Groups) (f n : ℕ) (g : Group) → list_any (nat_eq n) g.indices ≡ false → list_any (nat_eq n) (indices_of gs) ≡ false
     → list_any (nat_eq n) (indices_of (keep_group gs f g)) ≡ false
 keep-without [] f n g a b = any-both g.indices [] n a refl
-keep-without (e ∷ gs) f n g a b =
-    let rest = keep-without gs f n g a (not-right e.1.indices (indices_of gs) n b) in
-    cond_both (nat_le f e.0) ((f, g) ∷ e ∷ gs) (e ∷ keep_group gs f g) (λ (es : Groups). list_any (nat_eq n) (indices_of es) ≡ false)
-    (λ _. any-both g.indices (indices_of (e ∷ gs)) n a b)
-    (λ _. any-both e.1.indices (indices_of (keep_group gs f g)) n (not-left e.1.indices (indices_of gs) n b) rest)
+keep-without (e ∷ gs) f n g a b = grind (arith, any-both, not-right, cond_both, nat_le, nat_eq, not-left, (keep-without gs f n g a (not-right e.1.indices (indices_of gs) n b)))
 
 pub keep-length : (gs : Groups) (f : ℕ) (g : Group) → length (indices_of (keep_group gs f g)) ≡ length (indices_of gs) + length g.indices
 keep-length [] f g = omega (arith, length-append g.indices (indices_of []))
@@ -145,7 +138,3 @@ rest-may s t e es m is =
 pub may-keep-all : (es : Groups) (s : GroupsState) → MayKeep s es → MayKeepAll s es
 may-keep-all [] s m = tt
 may-keep-all (e ∷ es) s m = (one-may s e es m, λ t is. may-keep-all es t (rest-may s t e es m is))
-
-pub kept_push : (gs es : Groups) (f : ℕ) (g : Group) → keep_groups gs (es ++ (f, g) ∷ []) ≡ keep_group (keep_groups gs es) f g
-kept_push gs [] f g = refl
-kept_push gs (e ∷ es) f g = kept_push (keep_group gs e.0 e.1) es f g

@@ -22,17 +22,11 @@ set-short f n [] g found = refl
 set-short f n (e ∷ gs) g found = let rest = set-short f n gs g in grind (arith, nat_tests, length-append)
 
 one-short : (f : ℕ) (gs : List (ℕ × Group)) (o : Option Group) → lookup (nat_eq f) gs ≡ o → length (indices_of (leave_group gs f o)) ≤ length (indices_of gs)
-one-short f gs None e = omega arith
-one-short f gs (Some g) e =
-    let removed = remove-short f gs in
-    let set = set-short f (g.count - 1) gs g e in
-    grind (arith, nat_tests)
+one-short f gs o h1 = grind (arith, remove-short, set-short, nat_tests)
 
 pub left_short : (gs : List (ℕ × Group)) (fs : List ℕ) → length (indices_of (leave_groups gs fs)) ≤ length (indices_of gs)
 left_short gs [] = omega arith
-left_short gs (f ∷ fs) =
-    let rest = left_short (leave_group gs f (lookup (nat_eq f) gs)) fs in
-    omega (arith, rest, one-short f gs (lookup (nat_eq f) gs) refl)
+left_short gs (f ∷ fs) = grind (arith, nat_eq, one-short, (left_short (leave_group gs f (lookup (nat_eq f) gs)) fs))
 
 count-short : (gs : List (ℕ × Group)) (f : ℕ) (o : Option Group) → lookup (nat_eq f) gs ≡ o → length (indices_of (count_group gs f o)) ≡ length (indices_of gs)
 count-short gs f None e = refl

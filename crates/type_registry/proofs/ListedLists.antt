@@ -3,7 +3,8 @@ use Rattle.std.proofs.Common.{◌≡◌, ◌∙◌, ◌<◌, ◌≤◌, ℕ, ◌
 use Rattle.std.specs.List.{All}
 use Rattle.std.proofs.lemmas.List.{length-map}
 use Rattle.std.proofs.lemmas.List.Elements.{All-nil, All-append, All-weaker, All-head, All-tail}
-use Rattle.std.proofs.lemmas.Grind.{flat_map-append}
+use Rattle.std.proofs.lemmas.Grind.{common_steps, flat_map-append}
+use Rattle.std.proofs.Math.ListN.{drop_of_length-le}
 use Rattle.wasm_spec.specs.TypeData.{Group, map_sub_type, map_group, sub_type_edges, group_edges}
 use Rattle.type_data.specs.ListLaws.{map-twice}
 use Rattle.type_data.specs.Shapes.{erased}
@@ -38,18 +39,12 @@ back e = index_at (interned_number e)
 -- a reference that is a number below the reserved one is a module's index
 one-back : (e : EngineOrModuleTypeIndex) → interned_number e < 4294967295 → back e ≡ e
 unfolding back
-one-back (index.Module i) lt = refl
-one-back (index.Engine i) lt = absurd (omega (arith, lt))
-one-back (index.RecGroup i) lt = absurd (omega (arith, lt))
+one-back e h1 = grind (arith, common_steps)
 
 all-back : (n : ℕ) → n ≤ 4294967295 → (es : List EngineOrModuleTypeIndex) → All (λ r. r < n) (map (λ (r : ℕ). r) (map interned_number es))
     → map back es ≡ es
 all-back n few [] all = refl
-all-back n few (e ∷ es) all =
-    let head : interned_number e < n = All-head (λ r. r < n) (interned_number e) (map (λ (r : ℕ). r) (map interned_number es)) all in
-    let rest = all-back n few es (All-tail (λ r. r < n) (interned_number e) (map (λ (r : ℕ). r) (map interned_number es)) all) in
-    let here = one-back e (omega (arith, head, few)) in
-    λ i. here i ∷ rest i
+all-back n few (e ∷ es) all = grind (arith, All-head, All-tail, one-back, (all-back n few es (All-tail (λ r. r < n) (interned_number e) (map (λ (r : ℕ). r) (map interned_number es)) all)))
 
 -- data whose references are so is had back
 had-back : (n : ℕ) → n ≤ 4294967295 → (x : Group Name EngineOrModuleTypeIndex) → AllBelow n (unkinded (map_group (named interned_number) interned_number x))

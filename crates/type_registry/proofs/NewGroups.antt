@@ -32,9 +32,7 @@ pub has-index : (gs : List (Option Group)) (k f p n : ℕ) (g : Group) → group
     → list_any (nat_eq n) (indices_of (kept_from k gs)) ≡ true
 has-index [] k f p n g at is = absurd (none-some g at)
 has-index (None ∷ gs) k zero p n g at is = absurd (none-some g at)
-has-index (Some x ∷ gs) k zero p n g at is =
-    any-left x.indices (indices_of (kept_from (k + 1) gs)) n
-    (any-place x.indices n p (ap (λ (h : Group). slice_get h.indices p) (same_Some x g at) ∙ is))
+has-index (Some x ∷ gs) k zero p n g at is = grind (arith, any-left, any-place, slice_get, same_Some)
 has-index (None ∷ gs) k (suc f) p n g at is = has-index gs (k + 1) f p n g at is
 has-index (Some x ∷ gs) k (suc f) p n g at is =
     any-right x.indices (indices_of (kept_from (k + 1) gs)) n (has-index gs (k + 1) f p n g at is)
@@ -94,13 +92,7 @@ module _ {Key : Type 0} (content : Key → List WasmSubType) (live : ℕ) (known
         none-some (record { first = f; place = 0 }) (sym (unowned f (may.free 0 f first)) ∙ k.owned f 0 f h e (k.first f h e)))
 
     pub is-new : IsNew gs os f g
-    is-new = record {
-      room = omega (arith, room, may.room 0 f first);
-      empty = empty;
-      first = first;
-      free = λ p n at. (omega (arith, room, may.room p n at), unowned n (may.free p n at));
-      once = may.once;
-    }
+    is-new = grind (arith, empty, unowned)
 
     pub unknown : (key : Key) → content key ≡ g.canonical → known key ≡ None
     unknown key is = none-of (known key) (λ n e.

@@ -23,11 +23,7 @@ owner-emptied (o ∷ os) (suc n) (suc i) = owner-emptied os n i ∙ ap (λ c. if
 
 pub emptied-at : (os : List (Option Owner)) (ns : List ℕ) (i : ℕ) → owner_at (emptied os ns) i ≡ (if list_any (nat_eq i) ns then nobody else owner_at os i)
 emptied-at os [] i = refl
-emptied-at os (n ∷ ns) i =
-    let rest = emptied-at (set os n None) ns i in
-    let here = owner-emptied os n i in
-    let any = cases_Bool (list_any (nat_eq i) ns) in
-    grind (arith, nat_tests)
+emptied-at os (n ∷ ns) i = grind (arith, set, owner-emptied, cases_Bool, nat_eq, nat_tests, (emptied-at (set os n None) ns i))
 
 pub emptied-length : (os : List (Option Owner)) (ns : List ℕ) → length (emptied os ns) ≡ length os
 emptied-length os [] = refl

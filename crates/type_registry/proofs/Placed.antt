@@ -29,12 +29,7 @@ use Rattle.type_registry.proofs.Sound.{AllFirst}
 
 edge-more : (xs ys : List ℕ) (start : ℕ) → start ≤ length xs → (e : EngineOrModuleTypeIndex)
     → consed_edge (given xs) start e ≡ consed_edge (given (xs ++ ys)) start e
-edge-more xs ys start at (index.Engine i) = refl
-edge-more xs ys start at (index.RecGroup i) = refl
-edge-more xs ys start at (index.Module i) =
-    let same : number_of i < start → get_or (xs ++ ys) (number_of i) 0 ≡ get_or xs (number_of i) 0 =
-    (λ lt. get_or_append_left xs ys 0 (number_of i) (omega (arith, lt, at))) in
-    grind (arith, nat_tests)
+edge-more xs ys start h1 e = grind (arith, get_or_append_left, nat_tests)
 
 -- indices of later types do not matter
 data-more : (l : TypeList) (s : Span) (xs ys : List ℕ) → s.start ≤ length xs → canonical_data l xs s ≡ canonical_data l (xs ++ ys) s

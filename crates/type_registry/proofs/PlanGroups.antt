@@ -2,7 +2,7 @@
 use Rattle.std.proofs.Common.{if◌then◌else◌, ◌≡◌, ◌∙◌, ◌<◌, ◌≤◌, ℕ, suc, ◌+◌, ◌-◌, Bool, true, false, nat_eq, List, [], ◌∷◌, ◌++◌, length, map, get_or, drop, Option, Some, None, refl, sym, ap, subst, arith}
 use Rattle.std.specs.List.{list_any}
 use Rattle.std.proofs.lemmas.List.{length-append, length-map, length-take-le, length-drop, append-nil}
-use Rattle.std.proofs.lemmas.Grind.{flat_map-append}
+use Rattle.std.proofs.lemmas.Grind.{common_steps, flat_map-append}
 use Rattle.wasm_spec.specs.TypeData.{map_group, map_sub_type}
 use Rattle.type_data.specs.Names.{named}
 use Rattle.type_spec.specs.Interned.{Span}
@@ -64,12 +64,7 @@ pub either-planned : (gs : Groups) (l : TypeList) (p : Plan) (s : Span) (P : Pla
     → ((g : Group) → find_group (canonical_of l p.listed.indices s) (gs ++ p.fresh) ≡ Some g → P (plan (with_group p.listed g) p.fresh))
     → (find_group (canonical_of l p.listed.indices s) (gs ++ p.fresh) ≡ None → P (take_group p (next_group gs p.fresh (canonical_of l p.listed.indices s) (size_of s)) None))
     → P (plan_group gs l p s)
-either-planned gs l p s P known new = by (find_group (canonical_of l p.listed.indices s) (gs ++ p.fresh)) known new where
-  by : (o : Option Group) → ((g : Group) → o ≡ Some g → P (plan (with_group p.listed g) p.fresh))
-      → (o ≡ None → P (take_group p (next_group gs p.fresh (canonical_of l p.listed.indices s) (size_of s)) None))
-      → P (take_group p (next_group gs p.fresh (canonical_of l p.listed.indices s) (size_of s)) o)
-  by (Some g) known new = known g refl
-  by None known new = new refl
+either-planned gs l p s P h1 h2 = grind (arith, common_steps)
 
 pub find-some : (gs es : Groups) (c : List WasmSubType) (g : Group) → find_group c gs ≡ Some g → find_group c (gs ++ es) ≡ Some g
 find-some [] es c g is = absurd (none-some g is)
@@ -117,9 +112,7 @@ first-more gs es c n first =
     whole ∙ ap (free_indices taken) (sym (free-length taken (m + n)) ∙ ap length (sym whole))
 
 pub next-length : (gs es : Groups) (c : List WasmSubType) (n : ℕ) → length (indices_of (es ++ at_first (next_group gs es c n) ∷ [])) ≡ length (indices_of es) + n
-next-length gs es c n =
-    let new = free_indices (indices_of (gs ++ es)) n in
-    omega (arith, ap length (indices-one es (at_first (next_group gs es c n))), length-append (indices_of es) new, free-length (indices_of (gs ++ es)) n)
+next-length gs es c n = grind (arith, indices-one, length-append, free-length)
 
 -- ---- what holds of the new groups all along
 
@@ -141,9 +134,7 @@ unknown-last gs (x ∷ es) e none all = (all.0, unknown-last gs es e none all.1)
 
 pub group-first : (gs : Groups) (l : TypeList) (p : Plan) (s : Span) → HaveFirstFree (indices_of gs) p.fresh
     → HaveFirstFree (indices_of gs) (plan_group gs l p s).fresh
-group-first gs l p s first =
-    either-planned gs l p s (λ q. HaveFirstFree (indices_of gs) q.fresh) (λ g is. first)
-    (λ none. first-more gs p.fresh (canonical_of l p.listed.indices s) (size_of s) first)
+group-first gs l p s first = grind (arith, either-planned, first-more)
 
 -- new groups have the least indices that were free, are not kept, and no two are equal
 pub record AreNew (gs es : Groups) : Type 0 where
@@ -155,13 +146,7 @@ none-new : (gs : Groups) → AreNew gs []
 none-new gs = record { first = refl; unknown = tt; apart = tt }
 
 new-group : (gs : Groups) (l : TypeList) (p : Plan) (s : Span) → AreNew gs p.fresh → AreNew gs (plan_group gs l p s).fresh
-new-group gs l p s new =
-    let c = canonical_of l p.listed.indices s in
-    either-planned gs l p s (λ q. AreNew gs q.fresh) (λ g is. new) (λ none. record {
-      first = first-more gs p.fresh c (size_of s) new.first;
-      unknown = unknown-last gs p.fresh (at_first (next_group gs p.fresh c (size_of s))) (none-first gs p.fresh c none) new.unknown;
-      apart = apart-last p.fresh (at_first (next_group gs p.fresh c (size_of s))) (none-second gs p.fresh c none) new.apart;
-    })
+new-group gs l p s new = grind (arith, either-planned, first-more, unknown-last, none-first, apart-last, none-second)
 
 new-groups : (gs : Groups) (l : TypeList) (p : Plan) (ss : List Span) → AreNew gs p.fresh → AreNew gs (plan_groups gs l p ss).fresh
 new-groups gs l p [] new = new
@@ -173,20 +158,7 @@ planned-new gs l = new-groups gs l begun (map span_of l.groups) (none-new gs)
 -- new groups may be kept where there is room
 pub new-may-keep : (s : GroupsState) (es : Groups) → AreNew s.groups es → length (indices_of s.groups) + length (indices_of es) < 4294967296
     → length es ≤ s.spare → length (indices_of s.groups) + length (indices_of es) ≤ s.room → MayKeep s es
-new-may-keep s es new few spare room =
-    let taken = indices_of s.groups in
-    let n = length (indices_of es) in
-    let as-free : (x : ℕ) → list_any (nat_eq x) (indices_of es) ≡ true → list_any (nat_eq x) (free_indices taken n) ≡ true =
-    λ x is. ap (list_any (nat_eq x)) (sym new.first) ∙ is in
-    record {
-      few = few;
-      spare = spare;
-      room = λ x is. let low = free-low taken n x (as-free x is) in omega (arith, low, room);
-      free = λ x is. not-taken taken n x (as-free x is);
-      once = subst IsOnce (sym new.first) (free-once taken n);
-      unknown = new.unknown;
-      apart = new.apart;
-    }
+new-may-keep s es new few spare room = grind (arith, nat_eq, free-low, not-taken, free-once)
 
 -- ---- new groups grow only more
 
@@ -194,9 +166,7 @@ abbrev members : Plan → ℕ
 members p = length (indices_of p.fresh)
 
 group-grows : (gs : Groups) (l : TypeList) (p : Plan) (s : Span) → members p ≤ members (plan_group gs l p s)
-group-grows gs l p s =
-    either-planned gs l p s (λ q. members p ≤ members q) (λ g is. omega arith)
-    (λ none. omega (arith, next-length gs p.fresh (canonical_of l p.listed.indices s) (size_of s)))
+group-grows gs l p s = grind (arith, either-planned, next-length)
 
 pub groups-grow : (gs : Groups) (l : TypeList) (p : Plan) (ss : List Span) → members p ≤ members (plan_groups gs l p ss)
 groups-grow gs l p [] = omega arith
@@ -206,15 +176,7 @@ groups-grow gs l p (s ∷ ss) = omega (arith, group-grows gs l p s, groups-grow 
 
 pub mapped-long : (l : TypeList) (s : Span) (f : EngineOrModuleTypeIndex → EngineOrModuleTypeIndex) (c : List WasmSubType) → s.end ≤ length l.types
     → group_of c ≡ map_group (named f) f (group_of (members_of l s)) → length c ≡ s.end - s.start
-mapped-long l s f c within is =
-    omega (
-      arith,
-      length-map c sub_type_of,
-      ap length is,
-      length-map (group_of (members_of l s)) (map_sub_type (named f) f),
-      length-map (members_of l s) sub_type_of,
-      length-take-le (s.end - s.start) (drop s.start l.types) (omega (arith, length-drop s.start l.types, within)),
-    )
+mapped-long l s f c within is = grind (arith, length-map, length-take-le, length-drop)
 
 module _ (gs : Groups) (l : TypeList) (p : Plan) (s : Span) (c : List WasmSubType) (is : c ≡ canonical_of l p.listed.indices s) where
   abbrev next : List WasmSubType → Group
@@ -225,9 +187,7 @@ module _ (gs : Groups) (l : TypeList) (p : Plan) (s : Span) (c : List WasmSubTyp
 
   pub unknown-group : find_group c (gs ++ p.fresh) ≡ None
       → plan_group gs l p s ≡ plan (with_group p.listed (next c)) (p.fresh ++ at_first (next c) ∷ [])
-  unknown-group none =
-      ap (take_group p (next (canonical_of l p.listed.indices s))) (ap (λ x. find_group x (gs ++ p.fresh)) (sym is) ∙ none)
-      ∙ ap (λ x. plan (with_group p.listed (next x)) (p.fresh ++ at_first (next x) ∷ [])) (sym is)
+  unknown-group none = grind (arith, common_steps)
 
 -- ---- the groups that are left
 
@@ -247,9 +207,7 @@ spans-keyed rs = spans-from 0 rs
 -- ---- how many groups there are, and how often modules have the new ones
 
 count-group : (gs : Groups) (l : TypeList) (p : Plan) (s : Span) → length (plan_group gs l p s).listed.groups ≡ length p.listed.groups + 1
-count-group gs l p s =
-    either-planned gs l p s (λ q. length q.listed.groups ≡ length p.listed.groups + 1) (λ g is. length-append p.listed.groups (first_index g ∷ []))
-    (λ none. length-append p.listed.groups (first_index (next_group gs p.fresh (canonical_of l p.listed.indices s) (size_of s)) ∷ []))
+count-group gs l p s = grind (arith, either-planned, length-append)
 
 count-groups : (gs : Groups) (l : TypeList) (p : Plan) (ss : List Span) → length (plan_groups gs l p ss).listed.groups ≡ length p.listed.groups + length ss
 count-groups gs l p [] = omega arith
@@ -262,18 +220,14 @@ few-spans (s ∷ ss) first end lie = omega (arith, few-spans ss s.end end lie.2,
 
 pub few-groups : (gs : Groups) (l : TypeList) → Listed l → length l.types < 4294967295
     → length (plan_groups gs l begun (map span_of l.groups)).listed.groups < 4294967296
-few-groups gs l listed few =
-    let spans = few-spans (map span_of l.groups) 0 (length (list_of l).types) listed.well_named.orderly in
-    omega (arith, count-groups gs l begun (map span_of l.groups), spans, length-map l.types interned_of, few)
+few-groups gs l listed few = grind (arith, few-spans, count-groups, length-map)
 
 counted-last : (es : Groups) (e : ℕ × Group) → counted (es ++ e ∷ []) ≡ counted es + e.1.count
 counted-last [] e = omega arith
 counted-last (x ∷ es) e = omega (arith, counted-last es e)
 
 none-counted : (gs : Groups) (l : TypeList) (p : Plan) (s : Span) → counted p.fresh ≡ 0 → counted (plan_group gs l p s).fresh ≡ 0
-none-counted gs l p s none =
-    either-planned gs l p s (λ q. counted q.fresh ≡ 0) (λ g is. none)
-    (λ new. omega (arith, counted-last p.fresh (at_first (next_group gs p.fresh (canonical_of l p.listed.indices s) (size_of s))), none))
+none-counted gs l p s none = grind (arith, either-planned, counted-last)
 
 pub fresh-counted : (gs : Groups) (l : TypeList) (p : Plan) (ss : List Span) → counted p.fresh ≡ 0 → counted (plan_groups gs l p ss).fresh ≡ 0
 fresh-counted gs l p [] none = none

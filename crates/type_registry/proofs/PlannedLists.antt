@@ -32,25 +32,13 @@ none-listed : (at : ℕ → Option Group) → IsListedBy at begun.listed
 none-listed at = record { indices = refl; there = λ first lt. absurd (omega (arith, lt)) }
 
 listed-more : (at : ℕ → Option Group) (m : Module) (g : Group) → at (first_index g) ≡ Some g → IsListedBy at m → IsListedBy at (with_group m g)
-listed-more at m g is w =
-    let ix : ℕ → List ℕ = λ first. indices_in (at first) in
-    let last : flat_map ix (first_index g ∷ []) ≡ g.indices = append-nil (ix (first_index g)) ∙ ap indices_in is in
-    record {
-      indices = ap (λ ns. ns ++ g.indices) w.indices ∙ ap (λ ns. flat_map ix m.groups ++ ns) (sym last) ∙ sym (flat_map-append ix m.groups (first_index g ∷ []));
-      there = λ first lt. by first (nat_eq first (first_index g)) refl (omega (arith, lt, times-append first m.groups (first_index g ∷ [])));
-    } where
-      by : (first : ℕ) (c : Bool) → nat_eq first (first_index g) ≡ c → 0 < times first m.groups + ((if c then 1 else 0) + 0) → IsThere (at first)
-      by first true same lt = record { group = g; is = ap at (eqb-true first (first_index g) same) ∙ is }
-      by first false same lt = w.there first (omega (arith, lt))
+listed-more at m g is w = grind (arith, append-nil, flat_map-append, nat_eq, times-append, eqb-true)
 
 module _ (equal : (x y : List WasmSubType) → (Eq x y ≡ true) ↔ (x ≡ y)) (gs : Groups) (l : TypeList) where
   -- a group that is found stays so where more groups are planned
   found-next : (p : Plan) (s : Span) (c : List WasmSubType) (g : Group) → find_group c (gs ++ p.fresh) ≡ Some g
       → find_group c (gs ++ (plan_group gs l p s).fresh) ≡ Some g
-  found-next p s c g is =
-      let new = next_group gs p.fresh (canonical_of l p.listed.indices s) (size_of s) in
-      either-planned gs l p s (λ q. find_group c (gs ++ q.fresh) ≡ Some g) (λ h known. is)
-      (λ none. ap (find_group c) (sym (append_assoc gs p.fresh (at_first new ∷ []))) ∙ find-some (gs ++ p.fresh) (at_first new ∷ []) c g is)
+  found-next p s c g is = grind (arith, either-planned, append_assoc, find-some)
 
   found-later : (p : Plan) (ss : List Span) (c : List WasmSubType) (g : Group) → find_group c (gs ++ p.fresh) ≡ Some g
       → find_group c (gs ++ (plan_groups gs l p ss).fresh) ≡ Some g
@@ -134,33 +122,17 @@ module _ (equal : (x y : List WasmSubType) → (Eq x y ≡ true) ↔ (x ≡ y)) 
       ap indices_in is ∙ ap (λ (x : Group). x.indices) (sym w.same) ∙ ap indices_in (sym w.kept)
 
   listed-new : p.listed.indices ≡ flat_map (indices_at now) p.listed.groups
-  listed-new =
-      listed-by.indices
-      ∙ flat-same (λ first. indices_in (found kept first)) (indices_at now) p.listed.groups
-      (λ n lt. let w = listed-by.there n lt in same-indices n w.group w.is)
+  listed-new = grind (arith, listed-by, flat-same, found, same-indices)
 
   still : (first : ℕ) (g : Group) → kept_at r first ≡ Some g → found kept first ≡ Some g
   still first g is = keeps-found equal p.fresh (state equal r l m) first g m.sound (may equal r l m) (new-first equal r l m) is
 
   -- new groups are not counted yet
   count-kept : (first : ℕ) → count_in (found kept first) ≡ count_in (kept_at r first)
-  count-kept first = by (kept_at r first) refl where
-    by : (o : Option Group) → kept_at r first ≡ o → count_in (found kept first) ≡ count_in o
-    by (Some g) is = ap count_in (still first g is)
-    by None is = keep-none r.groups p.fresh first (ap count_in is) (fresh-counted r.groups l begun (map span_of l.groups) refl)
+  count-kept first = grind (arith, found, still, keep-none, fresh-counted)
 
   counted-now : (first : ℕ) → count_in (kept_at now first) ≡ times_below now.held first (r.registrations + 1)
-  counted-now first =
-      let here : now.held r.registrations ≡ Some p.listed = ap (λ (c : Bool). if c then Some p.listed else r.held r.registrations) (eq-eqb r.registrations r.registrations refl) in
-      omega (
-        arith,
-        counted-more kept p.listed.groups first listed-by.there,
-        count-kept first,
-        b.counted first,
-        below-next now.held first r.registrations,
-        below-with r.held r.registrations first r.registrations p.listed (omega arith),
-        ap (times_in first) here,
-      )
+  counted-now first = grind (arith, eq-eqb, counted-more, listed-by, count-kept, below-next, below-with)
 
   had-now : (first : ℕ) (g : Group) → kept_at now first ≡ Some g → 0 < g.count
   had-now first g is = omega (arith, by (kept-was r.groups p.fresh first w.group w.kept), more, ap count_in is) where
@@ -187,11 +159,4 @@ module _ (equal : (x y : List WasmSubType) → (Eq x y ≡ true) ↔ (x ≡ y)) 
         ap indices_in w.is ∙ ap indices_in (sym k) ∙ same-indices first w.group k)
 
   pub registered-balanced : IsBalanced now
-  registered-balanced = record {
-    sound = registered-sound equal r l m;
-    unused = λ k le.
-        ap (λ (c : Bool). if c then Some p.listed else r.held k) (ne_eqb r.registrations k (λ e. absurd (omega (arith, e, le)))) ∙ b.unused k (omega (arith, le));
-    counted = counted-now;
-    had = had-now;
-    listed = listed-now;
-  }
+  registered-balanced = grind (arith, registered-sound, ne_eqb, counted-now, had-now, listed-now)

@@ -33,9 +33,7 @@ entry-found : (gs : Groups) (p f : ℕ) (g : Group) → AreOrdered gs → slice_
 entry-found [] p f g ordered at = absurd (none-some (f, g) at)
 entry-found (x ∷ gs) zero f g ordered at =
     subst (λ (y : ℕ × Group). found (x ∷ gs) y.0 ≡ Some y.1) (same_Some x (f, g) at) (ap (λ (c : Bool). if c then Some x.1 else found gs x.0) (eq-eqb x.0 x.0 refl))
-entry-found (x ∷ gs) (suc p) f g ordered at =
-    let lt = above-differ gs x.0 p (f, g) ordered.0 at in
-    ap (λ (c : Bool). if c then Some x.1 else found gs f) (ne_eqb f x.0 (λ e. absurd (omega (arith, e, lt)))) ∙ entry-found gs p f g ordered.1 at
+entry-found (x ∷ gs) (suc p) f g ordered at = grind (arith, found, above-differ, ne_eqb, (entry-found gs p f g ordered.1 at))
 
 all-first : (gs : Groups) → ((p f : ℕ) (g : Group) → slice_get gs p ≡ Some (f, g) → (slice_get g.indices 0 ≡ Some f) × (length g.indices ≡ length g.canonical))
     → AllFirst gs
@@ -122,13 +120,7 @@ module _ (equal : (x y : List WasmSubType) → (Eq x y ≡ true) ↔ (x ≡ y)) 
       }
 
   pub registered-stands : Stands (registered r l) r.registrations l
-  registered-stands = record {
-    sound = registered-sound;
-    listed = p.listed;
-    held = ap (λ (c : Bool). if c then Some p.listed else r.held r.registrations) (eq-eqb r.registrations r.registrations refl);
-    count = all.long ∙ length-map l.types interned_of;
-    groups = stands-group;
-  }
+  registered-stands = grind (arith, registered-sound, eq-eqb, all, length-map, stands-group)
 
   pub others-stand : (k : TypeList) (key : ℕ) → (key ≡ r.registrations → ⊥) → Stands r key k → Stands (registered r l) key k
   others-stand k key differ st = record {

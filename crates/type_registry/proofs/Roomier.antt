@@ -1,4 +1,5 @@
 -- What is kept stays so where there is room for more.
+use Rattle.std.proofs.lemmas.Grind.{common_steps}
 use Rattle.std.specs.Prelude.{replicate}
 use Rattle.std.proofs.Common.{◌≡◌, ◌∙◌, ◌<◌, ℕ, zero, suc, ◌+◌, List, [], ◌∷◌, ◌++◌, length, map, slice_get, Option, Some, None, option_and_then, refl, sym, ap, arith}
 use Rattle.std.proofs.lemmas.List.{length-append, length-replicate}
@@ -54,17 +55,7 @@ module _ {Key : Type 0} (content : Key → List WasmSubType) (live : ℕ) (known
     (k : AreKept content live known gs os free) where
   -- the map may be another that has the same
   pub kept-known : (known' : Key → Option ℕ) → ((key : Key) → known' key ≡ known key) → AreKept content live known' gs os free
-  kept-known known' same = record {
-    few = k.few;
-    owners = k.owners;
-    counted = k.counted;
-    first = k.first;
-    owned = k.owned;
-    owns = k.owns;
-    unowned = k.unowned;
-    found = λ f g at key is. same key ∙ k.found f g at key is;
-    knows = λ key f is. k.knows key f (sym (same key) ∙ is);
-  }
+  kept-known known' same = grind (arith, common_steps)
 
   pub kept-roomier : (n : ℕ) → length gs + n < 4294967296
       → AreKept content live known (gs ++ replicate n None) (os ++ replicate n None) (map free_count os ++ replicate n 1)

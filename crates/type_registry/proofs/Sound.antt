@@ -71,10 +71,7 @@ data Where (gs : Groups) (f i : ℕ) (g h : Group) : Type 0 where
   There : found gs i ≡ Some h → Where gs f i g h
 
 where-of : (gs : Groups) (f i : ℕ) (g h : Group) → found (keep_group gs f g) i ≡ Some h → Where gs f i g h
-where-of gs f i g h is = by (nat_eq i f) refl (sym (found-keep gs f i g) ∙ is) where
-  by : (c : Bool) → nat_eq i f ≡ c → (if c then Some g else found gs i) ≡ Some h → Where gs f i g h
-  by true e is = Here (eqb-true i f e) (sym (same_Some g h is))
-  by false e is = There is
+where-of gs f i g h is = grind (arith, nat_eq, found-keep, eqb-true, same_Some)
 
 module _ (equal : (x y : List WasmSubType) → (Eq x y ≡ true) ↔ (x ≡ y)) (s : GroupsState) (f : ℕ) (g : Group) (sound : IsSound s.groups) (may : MayBeKept s g)
     (first : slice_get g.indices 0 ≡ Some f) (long : length g.indices ≡ length g.canonical) where
@@ -92,36 +89,7 @@ module _ (equal : (x y : List WasmSubType) → (Eq x y ≡ true) ↔ (x ≡ y)) 
   unlike i h is same = found-unlike kept i h g.canonical is may.unknown ((equal h.canonical g.canonical).1 same)
 
   pub keep-sound : IsSound (keep_group kept f g)
-  keep-sound = record {
-    ordered = keep-ordered f kept g none-found sound.ordered;
-    groups = λ i j h k is is' same. both i j h k (where-of kept f i g h is) (where-of kept f j g k is') same;
-    members = λ i h is. size i h (where-of kept f i g h is);
-    firsts = λ i h is. start i h (where-of kept f i g h is);
-    owned = λ i j p q n h k is is' at at'. one i j p q n h k (where-of kept f i g h is) (where-of kept f j g k is') at at';
-  } where
-    both : (i j : ℕ) (h k : Group) → Where kept f i g h → Where kept f j g k → h.canonical ≡ k.canonical → i ≡ j
-    both i j h k (Here n is) (Here m is') same = n ∙ sym m
-    both i j h k (Here n is) (There is') same = absurd (unlike j k is' (sym same ∙ ap (λ (x : Group). x.canonical) is))
-    both i j h k (There is) (Here m is') same = absurd (unlike i h is (same ∙ ap (λ (x : Group). x.canonical) is'))
-    both i j h k (There is) (There is') same = sound.groups i j h k is is' same
-
-    size : (i : ℕ) (h : Group) → Where kept f i g h → length h.indices ≡ length h.canonical
-    size i h (Here n is) = ap (λ (x : Group). length x.indices) is ∙ long ∙ ap (λ (x : Group). length x.canonical) (sym is)
-    size i h (There is) = sound.members i h is
-
-    start : (i : ℕ) (h : Group) → Where kept f i g h → slice_get h.indices 0 ≡ Some i
-    start i h (Here n is) = ap (λ (x : Group). slice_get x.indices 0) is ∙ first ∙ ap Some (sym n)
-    start i h (There is) = sound.firsts i h is
-
-    one : (i j p q n : ℕ) (h k : Group) → Where kept f i g h → Where kept f j g k → slice_get h.indices p ≡ Some n → slice_get k.indices q ≡ Some n
-        → (i ≡ j) × (p ≡ q)
-    one i j p q n h k (Here m is) (Here m' is') at at' =
-        (m ∙ sym m', may.once p q n (ap (λ (x : Group). slice_get x.indices p) (sym is) ∙ at) (ap (λ (x : Group). slice_get x.indices q) (sym is') ∙ at'))
-    one i j p q n h k (Here m is) (There is') at at' =
-        absurd (elsewhere j p q n k is' (ap (λ (x : Group). slice_get x.indices p) (sym is) ∙ at) at')
-    one i j p q n h k (There is) (Here m is') at at' =
-        absurd (elsewhere i q p n h is (ap (λ (x : Group). slice_get x.indices q) (sym is') ∙ at') at)
-    one i j p q n h k (There is) (There is') at at' = sound.owned i j p q n h k is is' at at'
+  keep-sound = grind (arith, keep-ordered, none-found, where-of, unlike, slice_get, elsewhere)
 
 -- ---- more groups
 
@@ -248,11 +216,7 @@ found-above (e ∷ gs) n i h all is = let rest = found-above gs n i h all.1 in l
 
 pub found-remove : (gs : Groups) (f i : ℕ) → AreOrdered gs → found (remove_entry (nat_eq f) gs) i ≡ (if nat_eq i f then None else found gs i)
 found-remove [] f i ordered = grind (arith, nat_tests)
-found-remove (e ∷ gs) f i ordered =
-    let rest = found-remove gs f i ordered.1 in
-    let none : i ≡ e.0 → found gs i ≡ None =
-    (λ same. none-of (found gs i) (λ h is. let low = found-above gs e.0 i h ordered.0 is in omega (arith, same, low))) in
-    grind (arith, nat_tests)
+found-remove (e ∷ gs) f i ordered = grind (arith, nat_tests, none-of, found-above, (found-remove gs f i ordered.1))
 
 removed-was : (gs : Groups) (f i : ℕ) (h : Group) → AreOrdered gs → found (remove_entry (nat_eq f) gs) i ≡ Some h → found gs i ≡ Some h
 removed-was gs f i h ordered is = let all = found-remove gs f i ordered in grind (arith, nat_tests)
@@ -268,18 +232,11 @@ remove-ordered f (e ∷ gs) all =
     cond_both (nat_eq f e.0) gs (e ∷ remove_entry (nat_eq f) gs) AreOrdered (λ _. all.1) (λ _. (remove-above e.0 f gs all.0, remove-ordered f gs all.1))
 
 pub leave-ordered : (gs : Groups) (f : ℕ) (o : Option Group) → AreOrdered gs → AreOrdered (leave_group gs f o)
-leave-ordered gs f None ordered = ordered
-leave-ordered gs f (Some g) ordered =
-    cond_both (nat_le g.count 1) (remove_entry (nat_eq f) gs) (set_value (nat_eq f) gs (record g { count = g.count - 1 })) AreOrdered
-    (λ _. remove-ordered f gs ordered) (λ _. set-ordered f gs (record g { count = g.count - 1 }) ordered)
+leave-ordered gs f o h1 = grind (arith, cond_both, nat_le, nat_eq, remove-ordered, set-ordered)
 
 -- what is kept once a module leaves a group was kept, but for its count
 pub leave-was : (gs : Groups) (f : ℕ) (o : Option Group) → found gs f ≡ o → AreOrdered gs → (i : ℕ) (h : Group) → found (leave_group gs f o) i ≡ Some h → IsBut gs i h
-leave-was gs f None e ordered i h is = record { group = h; kept = is; same = refl }
-leave-was gs f (Some g) e ordered i h is = by (nat_le g.count 1) is where
-  by : (c : Bool) → found (if c then remove_entry (nat_eq f) gs else set_value (nat_eq f) gs (record g { count = g.count - 1 })) i ≡ Some h → IsBut gs i h
-  by true is = record { group = h; kept = removed-was gs f i h ordered is; same = refl }
-  by false is = but-of gs i h (found gs i) refl (sym (set-bare gs f i (g.count - 1) g e) ∙ ap (option_map bare) is)
+leave-was gs f o h1 h2 i h h3 = grind (arith, nat_le, nat_eq, removed-was, but-of, set-bare)
 
 leave-sound : (gs : Groups) (f : ℕ) (o : Option Group) → found gs f ≡ o → IsSound gs → IsSound (leave_group gs f o)
 leave-sound gs f o e sound = sound-but gs (leave_group gs f o) (leave-ordered gs f o sound.ordered) (leave-was gs f o e sound.ordered) sound
@@ -289,10 +246,4 @@ left-sound gs [] sound = sound
 left-sound gs (f ∷ fs) sound = left-sound (leave_group gs f (found gs f)) fs (leave-sound gs f (found gs f) refl sound)
 
 pub none-sound : IsSound []
-none-sound = record {
-  ordered = tt;
-  groups = λ i j g h is is' same. absurd (none-some g is);
-  members = λ i g is. absurd (none-some g is);
-  firsts = λ i g is. absurd (none-some g is);
-  owned = λ i j p q n g h is is' at at'. absurd (none-some g is);
-}
+none-sound = grind (arith, none-some)

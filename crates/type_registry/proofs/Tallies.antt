@@ -34,14 +34,7 @@ firsts_of es = map (λ (e : ℕ × Group). e.0) es
 -- what is kept once more groups are was kept or is new
 pub kept-was : (gs es : Groups) (i : ℕ) (h : Group) → found (keep_groups gs es) i ≡ Some h → (found gs i ≡ Some h) ⊎ (0 < times i (firsts_of es))
 kept-was gs [] i h is = inl is
-kept-was gs (e ∷ es) i h is = by (kept-was (keep_group gs e.0 e.1) es i h is) where
-  here : (c : Bool) → nat_eq i e.0 ≡ c → (if c then Some e.1 else found gs i) ≡ Some h → (found gs i ≡ Some h) ⊎ (0 < one_if c + times i (firsts_of es))
-  here true same is = inr (omega arith)
-  here false same is = inl is
-
-  by : (found (keep_group gs e.0 e.1) i ≡ Some h) ⊎ (0 < times i (firsts_of es)) → (found gs i ≡ Some h) ⊎ (0 < times i (firsts_of (e ∷ es)))
-  by (inl is) = here (nat_eq i e.0) refl (sym (found-keep gs e.0 i e.1) ∙ is)
-  by (inr lt) = inr (omega (arith, lt))
+kept-was gs (e ∷ es) i h is = grind (arith, nat_eq, found, found-keep, (kept-was (keep_group gs e.0 e.1) es i h is))
 
 -- new groups that no module has yet count nothing
 pub keep-none : (gs es : Groups) (i : ℕ) → count_in (found gs i) ≡ 0 → counted es ≡ 0 → count_in (found (keep_groups gs es) i) ≡ 0
@@ -66,11 +59,7 @@ count-at gs f i g is same = ap (λ k. count_in (found gs k)) (eqb-true i f same)
 
 one-more : (gs : Groups) (f i : ℕ) (o : Option Group) → found gs f ≡ o → IsThere o
     → count_in (found (count_group gs f o) i) ≡ count_in (found gs i) + one_if (nat_eq i f)
-one-more gs f i None e there = absurd (none-some there.group there.is)
-one-more gs f i (Some g) e there =
-    let one = count-one gs f i g (g.count + 1) e in
-    let same = count-at gs f i g e in
-    grind (arith, nat_tests)
+one-more gs f i o h1 h2 = grind (arith, none-some, count-one, count-at, nat_tests)
 
 -- each kept group is counted as often more as it is listed
 pub counted-more : (gs : Groups) (fs : List ℕ) (i : ℕ) → ((n : ℕ) → 0 < times n fs → IsThere (found gs n))
@@ -89,36 +78,19 @@ counted-more gs (f ∷ fs) i there =
 
 one-less : (gs : Groups) (f i : ℕ) (o : Option Group) → found gs f ≡ o → AreOrdered gs
     → count_in (found (leave_group gs f o) i) ≡ count_in (found gs i) - one_if (nat_eq i f)
-one-less gs f i None e ordered =
-    let none : i ≡ f → count_in (found gs i) ≡ 0 = (λ same. ap (λ k. count_in (found gs k)) same ∙ ap count_in e) in
-    grind (arith, nat_tests)
-one-less gs f i (Some g) e ordered =
-    let removed = found-remove gs f i ordered in
-    let one = count-one gs f i g (g.count - 1) e in
-    let same = count-at gs f i g e in
-    grind (arith, nat_tests)
+one-less gs f i o h1 h2 = grind (arith, found, nat_tests, found-remove, count-one, count-at)
 
 -- each kept group is counted as often less as it is listed
 pub left-less : (gs : Groups) (fs : List ℕ) (i : ℕ) → AreOrdered gs → count_in (found (leave_groups gs fs) i) ≡ count_in (found gs i) - times i fs
 left-less gs [] i ordered = omega arith
-left-less gs (f ∷ fs) i ordered =
-    omega (
-      arith,
-      left-less (leave_group gs f (found gs f)) fs i (leave-ordered gs f (found gs f) ordered),
-      one-less gs f i (found gs f) refl ordered,
-    )
+left-less gs (f ∷ fs) i ordered = grind (arith, found, leave-ordered, one-less, (left-less (leave_group gs f (found gs f)) fs i (leave-ordered gs f (found gs f) ordered)))
 
 -- each kept group is counted
 abbrev pub AreHad : Groups → Type 0
 AreHad gs = (i : ℕ) (g : Group) → found gs i ≡ Some g → 0 < g.count
 
 one-had : (gs : Groups) (f : ℕ) (o : Option Group) → found gs f ≡ o → AreOrdered gs → AreHad gs → AreHad (leave_group gs f o)
-one-had gs f None e ordered had = had
-one-had gs f (Some g) e ordered had = λ i h is.
-    let removed = found-remove gs f i ordered in
-    let set = found-set gs f i g (record g { count = g.count - 1 }) e in
-    let old = had i h in
-    grind (arith, nat_tests)
+one-had gs f o h1 h2 h3 = grind (arith, found-remove, found-set, nat_tests)
 
 pub left-had : (gs : Groups) (fs : List ℕ) → AreOrdered gs → AreHad gs → AreHad (leave_groups gs fs)
 left-had gs [] ordered had = had

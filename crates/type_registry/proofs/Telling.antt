@@ -65,13 +65,7 @@ module _ (r : Registry) (a : ℕ) (l : TypeList) (listed : Listed l) (st : Stand
   -- the index of a member
   pub member : (k : ℕ) (lt : k < length (list_of l).groups) (i : ℕ) → (span k).start ≤ i → i < (span k).end → i < length l.types
       → slice_get (group-at k lt).group.indices (i - (span k).start) ≡ Some (get_or indices i 0)
-  member k lt i low high short =
-      let s = span k in
-      let at : s.start + (i - s.start) ≡ i = omega (arith, low) in
-      ap (λ is. slice_get is (i - s.start)) (group-at k lt).at
-      ∙ take-get (drop s.start indices) (s.end - s.start) (i - s.start) (omega (arith, low, high))
-      ∙ get-dropped indices s.start (i - s.start) ∙ ap (slice_get indices) at
-      ∙ slice_get-get_or indices i 0 (omega (arith, short, st.count))
+  member k lt i low high short = grind (arith, slice_get, group-at, take-get, get-dropped, slice_get-get_or)
 
   pub index-is : (i : ℕ) → i < length l.types → registry.index_at r a i ≡ Some (get_or indices i 0)
   index-is i lt =

@@ -21,9 +21,7 @@ times-first n xs = omega (arith, ap {B = ℕ} (λ (c : Bool). if c then 1 else 0
 -- lists by number are one behind another as other ones that are equal at each number of the list
 pub flat-same : (ix ix' : ℕ → List ℕ) (ns : List ℕ) → ((n : ℕ) → 0 < times n ns → ix n ≡ ix' n) → flat_map ix ns ≡ flat_map ix' ns
 flat-same ix ix' [] same = refl
-flat-same ix ix' (x ∷ ns) same =
-    ap (λ is. is ++ flat_map ix ns) (same x (times-first x ns))
-    ∙ ap (λ is. ix' x ++ is) (flat-same ix ix' ns (λ n lt. same n (omega (arith, lt))))
+flat-same ix ix' (x ∷ ns) same = grind (arith, times-first, (flat-same ix ix' ns (λ n lt. same n (omega (arith, lt)))))
 
 pub flat-has : (ix : ℕ → List ℕ) (ns : List ℕ) (n i : ℕ) → 0 < times n ns → list_any (nat_eq i) (ix n) ≡ true → list_any (nat_eq i) (flat_map ix ns) ≡ true
 flat-has ix [] n i lt has = absurd (omega (arith, lt))
@@ -56,16 +54,11 @@ below-next held first n = let one : n + 1 ≡ suc n = omega arith in ap (times_b
 pub below-with : (held : ℕ → Option Module) (key first n : ℕ) (m : Module) → n ≤ key
     → times_below (with_module held key m) first n ≡ times_below held first n
 below-with held key first zero m le = refl
-below-with held key first (suc n) m le =
-    let same : with_module held key m n ≡ held n =
-    ap (λ (c : Bool). if c then Some m else held n) (ne_eqb key n (λ e. absurd (omega (arith, e, le)))) in
-    omega (arith, below-with held key first n m (omega (arith, le)), ap (times_in first) same)
+below-with held key first (suc n) m le = grind (arith, ne_eqb, (below-with held key first n m (omega (arith, le))))
 
 below-low : (held : ℕ → Option Module) (key first n : ℕ) → n ≤ key → times_below (without_module held key) first n ≡ times_below held first n
 below-low held key first zero le = refl
-below-low held key first (suc n) le =
-    let same : without_module held key n ≡ held n = ap (λ (c : Bool). if c then None else held n) (ne_eqb key n (λ e. absurd (omega (arith, e, le)))) in
-    omega (arith, below-low held key first n (omega (arith, le)), ap (times_in first) same)
+below-low held key first (suc n) le = grind (arith, ne_eqb, (below-low held key first n (omega (arith, le))))
 
 pub below-without : (held : ℕ → Option Module) (key first n : ℕ) (m : Module) → held key ≡ Some m → key < n
     → times_below (without_module held key) first n + times first m.groups ≡ times_below held first n

@@ -33,16 +33,7 @@ module _ (before new : List ℕ) (start end : ℕ) (at : length before ≡ start
 
   -- a reference is used as its canonical form says
   each : (e : EngineOrModuleTypeIndex) → Can e → used e ≡ used_edge new (consed e)
-  each (index.Engine i) can = refl
-  each (index.RecGroup i) can = absurd can
-  each (index.Module i) can = by (nat_lt (number_of i) start) refl where
-    by : (c : Bool) → nat_lt (number_of i) start ≡ c
-        → used (index.Module i) ≡ used_edge new (if c then index.Engine (given before i) else index.RecGroup (index_of (number_of i - start)))
-    by true e =
-        ap (λ n. index.Engine (index_of n)) (get_or_append_left before new 0 (number_of i) (omega (arith, ltb-true (number_of i) start e, at)))
-    by false e =
-        ap (λ n. index.Engine (index_of n))
-        (get_or-append_right before new start (number_of i) 0 at (ltb-false (number_of i) start e))
+  each e h1 = grind (arith, get_or_append_left, ltb-true, get_or-append_right, ltb-false)
 
   all-each : (es : List EngineOrModuleTypeIndex) → All Can es → AllZip (λ a b. used a ≡ used_edge new b) es (map consed es)
   all-each [] all = tt
