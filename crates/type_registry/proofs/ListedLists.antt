@@ -4,7 +4,6 @@ use Rattle.std.specs.List.{All}
 use Rattle.std.proofs.lemmas.List.{length-map}
 use Rattle.std.proofs.lemmas.List.Elements.{All-nil, All-append, All-weaker, All-head, All-tail}
 use Rattle.std.proofs.lemmas.Grind.{common_steps, flat_map-append}
-use Rattle.std.proofs.Math.ListN.{drop_of_length-le}
 use Rattle.wasm_spec.specs.TypeData.{Group, map_sub_type, map_group, sub_type_edges, group_edges}
 use Rattle.type_data.specs.ListLaws.{map-twice}
 use Rattle.type_data.specs.Shapes.{erased}
