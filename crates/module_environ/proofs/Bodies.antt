@@ -1,6 +1,6 @@
 -- Function bodies and their place, taken one section after another.
 use Rattle.std.proofs.Common.{◌≡◌, ◌∙◌, ℕ, ◌+◌, ◌<◌, ◌≤◌, List, [], ◌∷◌, ◌++◌, length, map, take, get_or, Option, None, Some, refl, sym, ap, arith}
-use Rattle.std.specs.Prelude.{slice_get, unwrap_or}
+use Rattle.std.specs.Prelude.{slice_get}
 use Rattle.std.specs.Option.{option_or, option_to_list}
 use Rattle.std.specs.List.{flat_map}
 use Rattle.std.proofs.lemmas.List.{length-map}
@@ -9,7 +9,6 @@ use Rattle.form_reader.specs.declared.input.InputSection.{InputSection}
 use Rattle.form_data.specs.declared.form.FunctionBody.{FunctionBody}
 use Rattle.form_data.specs.Views.{body_of}
 use Rattle.form_reader.specs.Input.{input_section_of}
-use Rattle.module_environ.specs.Translation.{first_or_zero}
 use Rattle.module_environ.proofs.BySection.{section-few}
 
 first-of : (o : Option ℕ) → o ≡ slice_get (option_to_list o) 0
@@ -19,10 +18,6 @@ first-of (Some n) = refl
 pub first-more : (xs ys : List ℕ) (o : Option ℕ) → option_to_list o ≡ ys → option_or (slice_get xs 0) o ≡ slice_get (xs ++ ys) 0
 first-more [] ys o e = first-of o ∙ ap (λ (l : List ℕ). slice_get l 0) e
 first-more (x ∷ xs) ys o e = refl
-
-pub first-is : (xs : List ℕ) → unwrap_or (slice_get xs 0) 0 ≡ first_or_zero xs
-first-is [] = refl
-first-is (x ∷ xs) = refl
 
 -- there is room for the bodies of the next section
 pub bodies-few : (ps done : List InputSection) (p : InputSection) (taken : ℕ) (bodies : List FunctionBody)
