@@ -310,7 +310,7 @@ sections_few (p ∷ ps) place next bytes (front, back, parts, is, later) =
     omega (arith, one, others, all_more p ps, ap length parts, length-append front back)
 
 -- the imports of one kind are some of all imports
-imported_few : {A : Type 0} (kind : TypeRef → Option A) (is : List Import) → length (filter_map (λ i. kind i.type) is) ≤ length is
+pub imported_few : {A : Type 0} (kind : TypeRef → Option A) (is : List Import) → length (filter_map (λ i. kind i.type) is) ≤ length is
 imported_few kind [] = omega arith
 imported_few {A} kind (i ∷ is) = by_kind (kind i.type) (imported_few kind is) where
   by_kind : (o : Option A) → length (filter_map (λ j. kind j.type) is) ≤ length is
@@ -322,6 +322,13 @@ imported_few {A} kind (i ∷ is) = by_kind (kind i.type) (imported_few kind is) 
 space_few : {A : Type 0} (kind : TypeRef → Option A) (m : Module) (defined : List A)
     → length (imported_of kind m ++ defined) ≤ length (imports m) + length defined
 space_few kind m defined = let n = imported_few kind (imports m) in omega (arith, n, length-append (imported_of kind m) defined)
+
+-- types, imports and tags are no more than bytes
+pub types_few : (bytes : List ℕ) (m : Module) → Spells bytes m
+    → length (types m) + length (imports m) + length (flat_map tags_of_section m) ≤ length bytes
+types_few bytes m s =
+    let n = sections_few m 8 0 s.body s.are_sections in
+    omega (arith, n, total_members (types m), ap length s.parts, length-append header s.body)
 
 pub few_entries : (bytes : List ℕ) (m : Module) → Spells bytes m → length bytes < 2 ^ 30 → HasFewEntries m
 few_entries bytes m s short =

@@ -1,13 +1,13 @@
 -- Runtime data of passive segments, entered by the segments' numbers.
-use Rattle.std.proofs.Common.{◌≡◌, ℕ, zero, suc, ◌+◌, ◌<◌, false, List, [], ◌∷◌, ◌++◌, length, map, get_or, refl, sym, ap, ◌∙◌, subst, arith, append_assoc, Option, Some}
+use Rattle.std.proofs.Common.{◌≡◌, ℕ, suc, ◌+◌, ◌<◌, false, List, [], ◌∷◌, ◌++◌, length, map, get_or, refl, sym, ap, ◌∙◌, subst, arith, append_assoc, Option, Some}
 use Rattle.std.proofs.lemmas.Bool.{eqb-false, ne_eqb}
 use Rattle.std.proofs.lemmas.Map.Keys.{IsDistinct-head, IsDistinct-tail}
 use Rattle.std.proofs.lemmas.List.{length_push, length-map, get_or-map}
-use Rattle.std.proofs.lemmas.List.Elements.{All-from_recursion}
-use Rattle.std.specs.Prelude.{slice_get, unwrap_or, nat_eq, All, Contains}
+use Rattle.std.specs.Prelude.{slice_get, nat_eq, All, Contains}
 use Rattle.std.specs.List.{IsDistinct, AllByRecursion}
 use Rattle.std.specs.Option.{option_map}
-use Rattle.entity_map.specs.Secondary.{Defaulted, value_at, written, with_value}
+use Rattle.entity_map.specs.Secondary.{Defaulted, value_at, with_value}
+use Rattle.entity_map.proofs.SecondaryLemmas.{value_at-with_value, value_at-with_value_elsewhere}
 use Rattle.wasm_index.specs.declared.index.Index.{Index}
 use Rattle.wasm_index.specs.declared.spaces.RuntimeDataSpace.{RuntimeDataSpace}
 use Rattle.wasm_index.specs.Index.{number_of, index_of}
@@ -17,31 +17,6 @@ use Rattle.init_plan.specs.Views.{FindsInOrder}
 pub All-read_map : {X Y : Type 0} (f : X → Y) (P : Y → Type 0) (xs : List X) (i : ℕ) (d : X) → i < length xs → All P (map f xs)
     → P (f (get_or xs i d))
 All-read_map f P xs i d within h = subst P (get_or-map f xs i d (f d) within) (h i (f d) (omega (arith, length-map xs f)))
-
--- ---- a map with one place written
-
-read-written : {V : Type 0} (d : V) (xs : List V) (n : ℕ) (v : V) → slice_get (written d xs n v) n ≡ Some v
-read-written d [] zero v = refl
-read-written d [] (suc n) v = read-written d [] n v
-read-written d (x ∷ xs) zero v = refl
-read-written d (x ∷ xs) (suc n) v = read-written d xs n v
-
-other-written : {V : Type 0} (d : V) (xs : List V) (n k : ℕ) (v : V) → (k ≡ n → ⊥)
-    → unwrap_or (slice_get (written d xs n v) k) d ≡ unwrap_or (slice_get xs k) d
-other-written d [] zero zero v ne = absurd (ne refl)
-other-written d [] zero (suc k) v ne = refl
-other-written d [] (suc n) zero v ne = refl
-other-written d [] (suc n) (suc k) v ne = other-written d [] n k v (λ e. ne (ap suc e))
-other-written d (x ∷ xs) zero zero v ne = absurd (ne refl)
-other-written d (x ∷ xs) zero (suc k) v ne = refl
-other-written d (x ∷ xs) (suc n) zero v ne = refl
-other-written d (x ∷ xs) (suc n) (suc k) v ne = other-written d xs n k v (λ e. ne (ap suc e))
-
-value_at-with_value : {V : Type 0} (m : Defaulted V) (n : ℕ) (v : V) → value_at (with_value m n v) n ≡ v
-value_at-with_value m n v = rw (read-written m.default m.items n v) refl
-
-value_at-with_other : {V : Type 0} (m : Defaulted V) (n k : ℕ) (v : V) → (k ≡ n → ⊥) → value_at (with_value m n v) k ≡ value_at m k
-value_at-with_other m n k v ne = other-written m.default m.items n k v ne
 
 -- ---- a map with the numbers from n on at keys
 
@@ -59,7 +34,7 @@ entered-apart : (n : ℕ) (m : RuntimeDataMap) (ks : List ℕ) (q : ℕ) → IsA
 entered-apart n m [] q apart = refl
 entered-apart n m (k ∷ ks) q apart =
     let rest = entered-apart (n + 1) (with_value m k (Some (index_of n))) ks q apart.1 in
-    rest ∙ value_at-with_other m k q (Some (index_of n)) (eqb-false q k apart.0)
+    rest ∙ value_at-with_value_elsewhere m k (Some (index_of n)) q (eqb-false q k apart.0)
 
 IsApart-from_absent : (ks : List ℕ) (q : ℕ) → ¬ Contains ks q → IsApart q ks
 IsApart-from_absent [] q absent = tt

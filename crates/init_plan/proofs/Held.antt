@@ -4,6 +4,7 @@ use Rattle.std.specs.Prelude.{slice_get, unwrap_or, nat_lt, if◌then◌else◌}
 use Rattle.std.specs.Option.{option_map, option_and_then}
 use Rattle.std.proofs.lemmas.List.Elements.{All-map, All-weaker}
 use Rattle.std.proofs.lemmas.Option.{slice_get-map}
+use Rattle.std.proofs.lemmas.Simd.{map-map}
 use Rattle.wasm_spec.specs.declared.operators.Operator.{Operator}
 use Rattle.wasm_spec.specs.declared.operators.Operator.TheVariants as op
 use Rattle.wasm_spec.specs.Module.{Expression, ElementItems, Functions, Expressions}
@@ -16,8 +17,7 @@ use Rattle.replay_spec.specs.Globals.{GlobalPlan, values_after, ReadsBelow, Read
 use Rattle.init_plan.specs.Held.{erase_null_type, erased_items, erased_elements, erased_table}
 
 map_over : {X Y : Type 0} (f g : X → Y) (h : X → X) → ((x : X) → f (h x) ≡ g x) → (xs : List X) → map f (map h xs) ≡ map g xs
-map_over f g h same [] = refl
-map_over f g h same (x ∷ xs) = rw (same x, map_over f g h same xs) refl
+map_over f g h same xs = map-map f h xs ∙ (λ i. map (λ x. same x i) xs)
 
 -- ---- expressions
 

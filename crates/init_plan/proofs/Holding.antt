@@ -2,8 +2,9 @@
 use Rattle.std.proofs.Common.{◌≡◌, ◌≢◌, ℕ, Bool, true, false, List, [], ◌∷◌, ◌++◌, length, map, drop, All, Option, None, Some, refl, sym, ◌∙◌, ap, subst}
 use Rattle.std.specs.Prelude.{slice_get, unwrap_or, if◌then◌else◌}
 use Rattle.std.specs.Option.{option_and_then}
-use Rattle.std.proofs.lemmas.List.Elements.{All-nil, All-cons, All-head, All-tail, All-append}
+use Rattle.std.proofs.lemmas.List.Elements.{All-nil, All-cons, All-head, All-append}
 use Rattle.std.proofs.lemmas.Option.{none-some}
+use Rattle.std.proofs.lemmas.Simd.{map-map}
 use Rattle.wasm_spec.specs.declared.entities.GlobalType.{GlobalType}
 use Rattle.wasm_spec.specs.declared.entities.MemoryType.{MemoryType}
 use Rattle.wasm_spec.specs.declared.operators.Operator.{Operator}
@@ -26,6 +27,7 @@ use Rattle.replay_spec.specs.Tables.{TablePlan, AgreesOnTables}
 use Rattle.replay_spec.specs.Globals.{AgreesOnGlobals}
 use Rattle.replay_spec.proofs.GlobalsKnown.{globals-agree}
 use Rattle.replay_spec.proofs.GlobalsTyped.{reads-earlier}
+use Rattle.form_lists.proofs.AllSections.{All-joined}
 use Rattle.init_plan.specs.declared.translation.ModuleTranslation.{ModuleTranslation}
 use Rattle.init_plan.specs.Views.{initializers_of, defined_sizes}
 use Rattle.memory_images.specs.Views.{image_memory, is_wide}
@@ -104,14 +106,6 @@ module _ (l : Lists) (visible : List GlobalType) where
   whole_by op.ExternConvertAny s is = refers op.ExternConvertAny _ s is
   whole_by op.AnyConvertExtern s is = refers op.AnyConvertExtern _ s is
 
-  front : (xs ys : List Class) → All IsNumber (xs ++ ys) → All IsNumber xs
-  front [] ys h = All-nil IsNumber
-  front (x ∷ xs) ys h = All-cons IsNumber x xs (All-head IsNumber x (xs ++ ys) h) (front xs ys (All-tail IsNumber x (xs ++ ys) h))
-
-  last : (xs : List Class) (y : Class) → All IsNumber (xs ++ y ∷ []) → IsNumber y
-  last [] y h = All-head IsNumber y [] h
-  last (x ∷ xs) y h = last xs y (All-tail IsNumber x (xs ++ y ∷ []) h)
-
   -- from numbers back to numbers, an expression is held whole
   leads_whole : (e : Expression) (before after : List Class) → Leads l visible e before after → All IsNumber after → (erase_null_type e ≡ e) × All IsNumber before
   leads_whole [] before after h numbers = (refl, subst (All IsNumber) (sym h) numbers)
@@ -119,8 +113,9 @@ module _ (l : Lists) (visible : List GlobalType) where
       let behind = leads_whole e h.0 after h.2 numbers in
       let step : Step l visible o before h.0 = h.1 in
       let between : All IsNumber (step.rest ++ step.signed.pushes ∷ []) = subst (All IsNumber) step.has_pushed behind.1 in
-      let here = whole_by o step.signed step.is_signed (last step.rest step.signed.pushes between) in
-      let taken : All IsNumber before = subst (All IsNumber) (sym step.has_taken) (All-append IsNumber step.rest step.signed.takes (front step.rest _ between) here.1) in
+      let parts = (All-joined IsNumber step.rest (step.signed.pushes ∷ [])).0 between in
+      let here = whole_by o step.signed step.is_signed (All-head IsNumber step.signed.pushes [] parts.1) in
+      let taken : All IsNumber before = subst (All IsNumber) (sym step.has_taken) (All-append IsNumber step.rest step.signed.takes parts.0 here.1) in
       (ap (λ (x : Operator). x ∷ erase_null_type e) here.0 ∙ ap (λ (es : Expression). o ∷ es) behind.0, taken)
 
   pub erased_whole : (e : Expression) (c : Class) → IsNumber c → HasClass l visible e c → erase_null_type e ≡ e
@@ -139,24 +134,16 @@ image_memory_same t = by_wide t.memory64 where
   by_wide true = refl
   by_wide false = refl
 
-each_same : {X Y : Type 0} (f g : X → Y) → ((x : X) → f x ≡ g x) → (xs : List X) → map f xs ≡ map g xs
-each_same f g same [] = refl
-each_same f g same (x ∷ xs) = rw (same x, each_same f g same xs) refl
-
-map_both : {X Y Z : Type 0} (f : Y → Z) (g : X → Y) (xs : List X) → map f (map g xs) ≡ map (λ x. f (g x)) xs
-map_both f g [] = refl
-map_both f g (x ∷ xs) = rw (map_both f g xs) refl
-
 module _ (m : Module) (t : ModuleTranslation) (holds : HoldsMemories m t) where
   own : drop t.module.num_imported_memories t.module.memories ≡ map memory_of (defined_memories m)
   own = rw (holds.imports, holds.memories) (after_imports memory_of (imported_memories m) (defined_memories m))
 
   pub memories_same : image_memories t.module ≡ map image_memory_of (defined_memories m)
-  memories_same = ap (map image_memory) own ∙ map_both image_memory memory_of (defined_memories m)
-      ∙ each_same (λ x. image_memory (memory_of x)) image_memory_of image_memory_same (defined_memories m)
+  memories_same = ap (map image_memory) own ∙ map-map image_memory memory_of (defined_memories m)
+      ∙ (λ i. map (λ x. image_memory_same x i) (defined_memories m))
 
   sizes_same : defined_sizes t.module ≡ map minimum_size (defined_memories m)
-  sizes_same = ap (map minimum_bytes) own ∙ map_both minimum_bytes memory_of (defined_memories m)
+  sizes_same = ap (map minimum_bytes) own ∙ map-map minimum_bytes memory_of (defined_memories m)
 
   pub data_agree : (plan : MemoryPlan) → AgreesOver t.module.num_imported_memories (defined_sizes t.module) (initializers_of t) plan → Agrees m plan
   data_agree plan h =

@@ -3,9 +3,8 @@ use Rattle.std.proofs.Common.{◌≡◌, ℕ, ◌≤◌, false, List, [], ◌++�
 use Rattle.std.proofs.Math.Logic.{⊎_elim}
 use Rattle.std.proofs.lemmas.Bool.{false≢true}
 use Rattle.replay_spec.specs.Data.{ActiveSegment}
-use Rattle.replay_spec.specs.Plan.{MemoryPlan, kept_segments, planned_from}
+use Rattle.replay_spec.specs.Plan.{MemoryPlan, planned_from}
 use Rattle.replay_spec.specs.Images.{ImageOptions, ImageMemory, size_of, IsStatic, PlansImages, PlansSegments, IsMemoryPlan}
-use Rattle.replay_spec.proofs.Kept.{kept_segments-all}
 
 module _ (options : ImageOptions) (imports : ℕ) (memories : List ImageMemory) (active : List ActiveSegment) (passive : List (List ℕ)) (off : options.enabled ≡ false) where
   pub not_static : IsStatic options imports memories active → ⊥
@@ -13,12 +12,6 @@ module _ (options : ImageOptions) (imports : ℕ) (memories : List ImageMemory) 
 
   pub segments_alone : (plan : MemoryPlan) → IsMemoryPlan options imports memories active passive plan → PlansSegments options imports memories active passive plan
   segments_alone plan h = ⊎_elim (λ (images : PlansImages options imports memories active passive plan). absurd (not_static images.static)) (λ s. s) h.segments
-
-  pub all_kept : (plan : MemoryPlan) → IsMemoryPlan options imports memories active passive plan → kept_segments plan ≡ active
-  all_kept plan h =
-      let s = segments_alone plan h in
-      kept_segments-all (map size_of memories) active plan
-      (record { sizes = h.sizes; no_images = s.in_map; segments = s.in_list; passive = passive; runtime = s.runtime })
 
   -- what every plan's runtime data pass, those of the segments pass
   pub too_many : (n : ℕ) → ((plan : MemoryPlan) → IsMemoryPlan options imports memories active passive plan → n ≤ sum_by length plan.runtime)

@@ -6,8 +6,8 @@ pub mod Planning
 pub mod ImagesOff
 pub mod Sized
 pub mod MemoriesKept
-mod Held
-mod Holding
-mod Agreeing
+pub mod Held
+pub mod Holding
+pub mod Agreeing
 mod WholeRanges
 mod OtherHalf

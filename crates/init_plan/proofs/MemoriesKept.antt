@@ -1,6 +1,6 @@
 -- What is kept of memories, and startup that it raises.
 use Rattle.std.proofs.Common.{◌≡◌, ℕ, Bool, true, false, List, [], ◌∷◌, map, All, Option, None, Some, refl, sym, ◌∙◌, ap, subst, arith, ◌+◌, ◌-◌}
-use Rattle.std.specs.Prelude.{IsTrue, is_none, slice_get, if◌then◌else◌}
+use Rattle.std.specs.Prelude.{IsTrue, is_none, slice_get}
 use Rattle.std.specs.Option.{option_map}
 use Rattle.std.specs.List.{filter_map, list_all}
 use Rattle.std.specs.Int.{IsPowerOfTwo}
@@ -16,13 +16,13 @@ use Rattle.module_types.specs.Builder.{Builder}
 use Rattle.replay_spec.specs.Data.{ActiveSegment}
 use Rattle.replay_spec.specs.Images.{ImageOptions, ImageMemory}
 use Rattle.replay_spec.specs.Plan.{MemoryPlan, PlannedSegment, left_to_write}
-use Rattle.replay_spec.specs.Startup.{Startup, Never, Always, IfMemoriesNeedInit, is_empty, keeps_no_data, has_no_image, raised_by_images, raised_by_memories}
+use Rattle.replay_spec.specs.Startup.{is_empty}
 use Rattle.replay_spec.proofs.Tight.{tight-image}
 use Rattle.init_plan.specs.declared.translation.ModuleTranslation.{ModuleTranslation}
 use Rattle.init_plan.specs.declared.translation.MemorySegmentOffset.{MemorySegmentOffset}
 use Rattle.init_plan.specs.declared.translation.MemorySegmentOffset.TheVariants as offset
 use Rattle.init_plan.specs.Images.{HasTightImages}
-use Rattle.init_plan.specs.Startup.{startup_kind, with_images, raised, types_after, with_startup}
+use Rattle.init_plan.specs.Startup.{startup_kind, raised, types_after, with_startup}
 use Rattle.init_plan.specs.Views.{IsPlace, planned_segment_of, OnlyMemoriesChange, OnlyMemoryInitChanges}
 
 abbrev Segment : Type 0
@@ -60,9 +60,6 @@ Image = Option (ℕ × Index RuntimeDataSpace)
 abbrev seen : List Image → List (Option (ℕ × ℕ))
 seen images = map (option_map (λ image. (image.0, number_of image.1))) images
 
-IsNo : Image → Type 0
-IsNo image = image ≡ None
-
 none-seen : (images : List Image) → All (λ (image : Image). image ≡ None) images → list_all is_none (seen images) ≡ true
 none-seen [] h = refl
 none-seen (None ∷ images) h = none-seen images (All-tail (λ (image : Image). image ≡ None) None images h)
@@ -92,36 +89,6 @@ pub types-same : (s : ModuleStartup) (b : Builder) → types_after (startup_kind
 types-same startup.None b = refl
 types-same (startup.Always ty) b = refl
 types-same (startup.IfMemoriesNeedInit ty) b = refl
-
--- where segments are kept, it always runs
-pub kind-always : (plan : MemoryPlan) (kind : Startup) → keeps_no_data plan ≡ false → raised_by_memories plan kind ≡ Always
-kind-always plan kind e = ap (λ b. if b then raised_by_images plan kind else Always) e
-
-by-images : (plan : MemoryPlan) (kind : Startup) → has_no_image plan ≡ false → raised_by_images plan kind ≡ with_images kind
-by-images plan Never e = ap (λ b. if b then Never else IfMemoriesNeedInit) e
-by-images plan Always e = refl
-by-images plan IfMemoriesNeedInit e = refl
-
--- where only images stand, memories need them
-pub kind-images : (plan : MemoryPlan) (kind : Startup) → keeps_no_data plan ≡ true → has_no_image plan ≡ false
-    → raised_by_memories plan kind ≡ with_images kind
-kind-images plan kind e f = ap (λ b. if b then raised_by_images plan kind else Always) e ∙ by-images plan kind f
-
-no-images : (plan : MemoryPlan) (kind : Startup) → has_no_image plan ≡ true → raised_by_images plan kind ≡ kind
-no-images plan Never e = ap (λ b. if b then Never else IfMemoriesNeedInit) e
-no-images plan Always e = refl
-no-images plan IfMemoriesNeedInit e = refl
-
--- where nothing stands, it stays
-pub kind-stays : (plan : MemoryPlan) (kind : Startup) → keeps_no_data plan ≡ true → has_no_image plan ≡ true → raised_by_memories plan kind ≡ kind
-kind-stays plan kind e f = ap (λ b. if b then raised_by_images plan kind else Always) e ∙ no-images plan kind f
-
-pub startup-at : (t u : ModuleTranslation) (kind want : Startup) (b : Builder) → want ≡ kind
-    → u ≡ with_startup t (raised kind t.module.startup b) → u ≡ with_startup t (raised want t.module.startup b)
-startup-at t u kind want b e h = h ∙ ap (λ k. with_startup t (raised k t.module.startup b)) (sym e)
-
-pub types-at : (s : ModuleStartup) (c : Builder) (kind want : Startup) (b : Builder) → want ≡ kind → c ≡ types_after kind s b → c ≡ types_after want s b
-types-at s c kind want b e h = h ∙ ap (λ k. types_after k s b) (sym e)
 
 pub startup-stays : (t : ModuleTranslation) (b : Builder) → t ≡ with_startup t (raised (startup_kind t.module.startup) t.module.startup b)
 startup-stays t b = sym (ap (with_startup t) (raised-same t.module.startup b))

@@ -1,5 +1,5 @@
 -- What is known of the size of a plan before it is made.
-use Rattle.std.proofs.Common.{◌≡◌, ◌≢◌, ℕ, ◌^◌, ◌<◌, ◌≤◌, false, List, ◌++◌, length, map, sum_by, Option, None, Some, ◌⊎◌, inl, inr, refl, ◌∙◌, ap, subst, arith}
+use Rattle.std.proofs.Common.{◌≡◌, ℕ, ◌^◌, ◌<◌, ◌≤◌, false, List, ◌++◌, length, map, sum_by, Option, None, Some, inl, inr, ◌∙◌, ap, subst, arith}
 use Rattle.std.proofs.lemmas.List.Sums.{sum_by-append}
 use Rattle.std.specs.Global.{Vec}
 use Rattle.memory_images.specs.declared.image.Image.{Image}
@@ -7,13 +7,11 @@ use Rattle.memory_images.specs.Images.{images_of as view_images}
 use Rattle.replay_spec.specs.Plan.{MemoryPlan}
 use Rattle.replay_spec.specs.Images.{ImageOptions, MemoryImage, AreImages, image_bytes, IsMemoryPlan}
 use Rattle.replay_spec.proofs.One.{one-list}
-use Rattle.init_plan.specs.declared.error.PlanError.{PlanError}
-use Rattle.init_plan.specs.declared.error.PlanError.TheVariants as error
 use Rattle.init_plan.specs.declared.translation.ModuleTranslation.{ModuleTranslation}
 use Rattle.init_plan.specs.Images.{image_memories, AreSized}
 use Rattle.init_plan.specs.Ready.{MemoryHalfIsReady}
 use Rattle.init_plan.specs.Views.{initializers_of, passive_bytes, data_total}
-use Rattle.init_plan.proofs.ImagesOff.{not_static, too_many}
+use Rattle.init_plan.proofs.ImagesOff.{too_many}
 use Rattle.init_plan.proofs.Planning.{view_count}
 
 abbrev pub IsPlanFor : ImageOptions → ModuleTranslation → MemoryPlan → Type 0
@@ -39,20 +37,9 @@ module _ (options : ImageOptions) (t : ModuleTranslation) (ready : MemoryHalfIsR
     | inr b ↦ absurd (b.not_static sized.0)
   ]
 
-  -- where images are off, so do those of the segments
-  pub data_fits : options.enabled ≡ false → (images : Option (Vec (Option Image))) → AreSized options t images → data_total t < 2 ^ 32
-  data_fits off None sized = sized.1
-  data_fits off (Some v) sized = absurd (not_static options t.module.num_imported_memories (image_memories t.module) (initializers_of t) (passive_bytes t) off sized.0)
-
   -- what passes the runtime data of no plan passes the data of the segments
   pub data_large : options.enabled ≡ false → ((plan : MemoryPlan) → IsPlanFor options t plan → 2 ^ 32 ≤ sum_by length plan.runtime) → 2 ^ 32 ≤ data_total t
   data_large off each =
       let much = too_many options t.module.num_imported_memories (image_memories t.module) (initializers_of t) (passive_bytes t) off (2 ^ 32) each in
       let total = sum_by-append length (map (λ s. s.bytes) (initializers_of t)) (passive_bytes t) in
       omega (arith, much, total)
-
--- an error of another cause
-pub other_error : (e : PlanError) → e ≢ error.Poisoned → (e ≡ error.TooLarge) ⊎ (e ≡ error.OutOfMemory)
-other_error error.TooLarge not_poisoned = inl refl
-other_error error.OutOfMemory not_poisoned = inr refl
-other_error error.Poisoned not_poisoned = absurd (not_poisoned refl)

@@ -1,5 +1,5 @@
 -- What is kept of tables, and startup that it raises.
-use Rattle.std.proofs.Common.{◌≡◌, ℕ, ◌<◌, Bool, true, false, List, [], ◌∷◌, length, map, All, Option, None, Some, refl, sym, ◌∙◌, ap, subst, arith}
+use Rattle.std.proofs.Common.{◌≡◌, ℕ, ◌<◌, Bool, true, false, List, [], ◌∷◌, length, map, All, Option, None, Some, refl, sym, ◌∙◌, ap, arith}
 use Rattle.std.specs.Prelude.{◌&&◌, ◌==◌, IsTrue, if◌then◌else◌}
 use Rattle.std.specs.List.{filter_map}
 use Rattle.std.proofs.lemmas.Bool.{false≢true, eq-eqb, ne_eqb}
@@ -12,14 +12,14 @@ use Rattle.wasm_module.specs.declared.table_initialization.TableInitialValue.{Ta
 use Rattle.wasm_module.specs.declared.table_initialization.TableInitialValue.TheVariants as initial
 use Rattle.wasm_module.specs.declared.table_initialization.TableSegment.{TableSegment}
 use Rattle.module_types.specs.Builder.{Builder}
-use Rattle.replay_spec.specs.Elements.{ActiveElements, DefinedTable}
+use Rattle.replay_spec.specs.Elements.{DefinedTable}
 use Rattle.replay_spec.specs.Startup.{Startup, Always, is_empty, keeps_no_table, raised_by_tables}
-use Rattle.replay_spec.specs.Tables.{image_cells, initial_function, PlannedTable, TablePlan}
-use Rattle.table_images.specs.Steps.{IsCell, AreFunctions, SegmentsHoldFunctions, TablesHoldFunctions}
+use Rattle.replay_spec.specs.Tables.{initial_function, PlannedTable, TablePlan}
+use Rattle.table_images.specs.Steps.{IsCell, TablesHoldFunctions}
 use Rattle.table_images.specs.Views.{active_elements_of, initial_of, planned_tables_of, table_plan_of}
 use Rattle.init_plan.specs.declared.translation.ModuleTranslation.{ModuleTranslation}
 use Rattle.init_plan.specs.Startup.{startup_kind, raised, types_after, with_startup}
-use Rattle.init_plan.specs.Tables.{IsAmong, OnlyTableInitChanges}
+use Rattle.init_plan.specs.Tables.{IsAmong}
 
 -- ---- what is kept
 
@@ -86,18 +86,11 @@ types-stay s plan b e = sym (ap (λ k. types_after k s b) (kind-kept plan (start
 
 -- ---- frames
 
-pub tables-frame : (old mid new : ModuleTranslation) (s : ModuleStartup) → OnlyTableInitChanges old mid → new ≡ with_startup mid s → OnlyTableInitChanges old new
-tables-frame old mid new s same e = subst (OnlyTableInitChanges old) (sym e) (ap (λ t. with_startup t s) same)
-
 -- ---- functions
 
 pub cells-hold : (n : ℕ) → n < 4294967295 → (cell : Option ℕ) → IsAmong n cell → IsCell cell
 cells-hold n l None h = h
 cells-hold n l (Some k) h = omega arith
-
-pub segments-hold : (n : ℕ) (active : List ActiveElements) → n < 4294967295 → All (λ (s : ActiveElements). All (IsAmong n) (image_cells s.items)) active → SegmentsHoldFunctions active
-segments-hold n active l h = All-weaker (λ (s : ActiveElements). All (IsAmong n) (image_cells s.items)) (λ (s : ActiveElements). AreFunctions (image_cells s.items))
-    (λ s all. All-weaker (IsAmong n) IsCell (cells-hold n l) (image_cells s.items) all) active h
 
 pub tables-hold : (n : ℕ) (tables : List DefinedTable) → n < 4294967295 → All (λ (d : DefinedTable). IsAmong n (initial_function d.initial)) tables → TablesHoldFunctions tables
 tables-hold n tables l h = All-weaker (λ (d : DefinedTable). IsAmong n (initial_function d.initial)) (λ (d : DefinedTable). IsCell (initial_function d.initial))

@@ -1,14 +1,9 @@
 //! What a translation holds of a module's lists has the phases of these lists: what a plan leaves of the translation, it leaves of the module.
 
-ghost use Rattle.std.specs.Prelude.{◌≡◌, ◌≢◌, ℕ, List, length, map};
-ghost use Rattle.wasm_spec.specs.declared.entities.GlobalType.{GlobalType};
-ghost use Rattle.wasm_spec.specs.Module.{Expression, Module, table_import, imported_of, imported_memories, defined_memories};
-ghost use Rattle.rule_spec.specs.declared.classes.Class.{Class};
-ghost use Rattle.rule_spec.specs.declared.classes.Class.TheVariants as class;
+ghost use Rattle.std.specs.Prelude.{◌≡◌, map};
+ghost use Rattle.wasm_spec.specs.Module.{Module, defined_memories};
 ghost use Rattle.rule_spec.specs.Expressions.{AreGlobalsTyped};
-ghost use Rattle.rule_spec.specs.Lists.{Lists, lists_of_module};
-ghost use Rattle.rule_spec.specs.Typing.{HasClass};
-ghost use Rattle.replay_spec.specs.Values.{const_value};
+ghost use Rattle.rule_spec.specs.Lists.{lists_of_module};
 ghost use Rattle.replay_spec.specs.Plan.{MemoryPlan, AgreesOver, Agrees};
 ghost use Rattle.replay_spec.specs.Images.{image_memory_of};
 ghost use Rattle.replay_spec.specs.Tables.{TablePlan, AgreesOnTables};
@@ -17,14 +12,8 @@ ghost use Rattle.init_plan.specs.declared.translation.ModuleTranslation.{ModuleT
 ghost use Rattle.init_plan.specs.Views.{initializers_of, defined_sizes};
 ghost use Rattle.init_plan.specs.Images.{image_memories};
 ghost use Rattle.init_plan.specs.Tables.{tables_of, elements_of};
-ghost use Rattle.init_plan.specs.Held.{erase_null_type, initialisers, plan_of_globals, HoldsMemories, HoldsTables, HoldsGlobals};
+ghost use Rattle.init_plan.specs.Held.{initialisers, plan_of_globals, HoldsMemories, HoldsTables, HoldsGlobals};
 ghost use Rattle.init_plan.specs.Agreement.{AgreesOnElements, AgreesInAll};
-
-/// An expression whose null type is erased has the constant value of the expression, and an expression of a number is held whole.
-pub fn erased_expression_laws()
-    ensures constant { (e : Expression) → const_value (erase_null_type e) ≡ const_value e }
-    ensures whole { (l : Lists) (visible : List GlobalType) (e : Expression) (c : Class) → c ≢ class.Ref → HasClass l visible e c → erase_null_type e ≡ e }
-{}
 
 /// Where a translation holds a module's lists, a plan that agrees with the translation agrees with the module.
 pub fn held_agreement_laws()

@@ -15,7 +15,7 @@ mod translation;
 
 pub use debug_info::{BranchHint, DebugInfoData, FunctionMetadata, NameSection, WasmFileInfo};
 pub use error::PlanError;
-pub use laws::{agreement_law, erased_expression_laws, held_agreement_laws};
+pub use laws::{agreement_law, held_agreement_laws};
 pub use memory_images::{Written, written_ranges};
 pub use translation::{
     FunctionBodyData, MemoryInit, MemorySegmentOffset, ModuleTranslation, RuntimeBytes,

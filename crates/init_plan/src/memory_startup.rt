@@ -17,7 +17,6 @@ use crate::error::PlanError;
 use crate::translation::{MemoryInit, MemorySegmentOffset, ModuleTranslation};
 use memory_images::ImageSettings;
 use module_types::{BuildError, ModuleTypesBuilder};
-use replay_spec::memory_plan_exists_laws;
 use std::alloc::Global;
 use wasm_index::{MemoryIndex, RuntimeDataIndex};
 use wasm_module::MemoryInitialization;
@@ -96,8 +95,6 @@ impl ModuleTranslation<'_> {
         // After an error the builder is as it was, or poisoned.
         ensures refused { OnErr result ((types.new ≡ types.old) ⊎ (types.new.is_poisoned ≡ true)) }
     {
-        // What the proof rests on: it does nothing when it is run.
-        memory_plan_exists_laws();
         let settings = ImageSettings {
             enabled: tunables.memory_init_cow,
             page_size,

@@ -1,5 +1,5 @@
--- Look-ups that agree on the declared types convert alike what names only those.
-use Rattle.std.proofs.Common.{◌≡◌, ◌<◌, ℕ, List, [], ◌∷◌, Option, Some, None, map, refl, sym, ap}
+-- What a module that keeps the rule of references names is known, where each declared type is.
+use Rattle.std.proofs.Common.{◌≡◌, ◌<◌, ℕ, List, [], ◌∷◌, Option, Some, None, map, refl, sym}
 use Rattle.std.specs.List.{All, filter_map, flat_map}
 use Rattle.std.proofs.lemmas.List.Elements.{All-nil, All-cons, All-head, All-tail, All-append, All-map, All-weaker}
 use Rattle.wasm_spec.specs.declared.types.UnpackedIndex.{UnpackedIndex}
@@ -8,16 +8,14 @@ use Rattle.wasm_spec.specs.declared.entities.GlobalType.{GlobalType}
 use Rattle.wasm_spec.specs.declared.entities.TableType.{TableType}
 use Rattle.wasm_spec.specs.declared.entities.TypeRef.{TypeRef}
 use Rattle.wasm_spec.specs.declared.entities.TypeRef.TheVariants as imported
-use Rattle.wasm_spec.specs.TypeData.{Heap, Concrete, Abstract, Value, I32, I64, F32, F64, V128, Ref, map_heap, map_value, heap_of, value_of}
 use Rattle.wasm_spec.specs.Module.{Import, TableDef, GlobalDef, table_import, global_import}
 use Rattle.wasm_spec.specs.Module as plain
 use Rattle.rule_spec.specs.Lists.{lists_of_module}
 use Rattle.rule_spec.specs.References.{RefersIn, ValueRefersIn, ImportRefersIn, TableRefersIn, GlobalRefersIn, AllReferIn}
 use Rattle.rule_spec.specs.TypeRules.{IsBelow, HeapIsBelow, ValueIsBelow}
-use Rattle.wasm_types.specs.EntityData.{global_edges, table_edges, map_global, map_table}
-use Rattle.wasm_convert.specs.Conversion.{LookUp, global_type_of, table_type_of}
+use Rattle.wasm_types.specs.EntityData.{global_edges, table_edges}
+use Rattle.wasm_convert.specs.Conversion.{global_type_of, table_type_of}
 use Rattle.wasm_convert.specs.Known.{CanLookUp, Known}
-use Rattle.module_environ.specs.LookUps.{AgreeBelow}
 
 -- ---- what is known, where each declared type is
 
@@ -37,48 +35,6 @@ module _ (known : UnpackedIndex → Type 0) (count : ℕ) (each : (i : ℕ) → 
   pub known-global : (t : GlobalType) → ValueRefersIn count t.content_type → Known known (global_edges (λ i. i) (global_type_of t))
   unfolding ValueIsBelow
   known-global t refers = known-edges (global_edges (λ i. i) (global_type_of t)) refers
-
--- ---- what is converted alike
-
-module _ (look other : LookUp) (count : ℕ) (agree : AgreeBelow look other count) where
-  pub heap-alike : (h : Heap UnpackedIndex) → HeapIsBelow count h → map_heap look h ≡ map_heap other h
-  unfolding HeapIsBelow
-  heap-alike (Concrete (Module i)) below = ap Concrete (agree i (All-head (IsBelow count) (Module i) [] below))
-  heap-alike (Concrete (RecGroup i)) below = absurd (All-head (IsBelow count) (RecGroup i) [] below)
-  heap-alike (Concrete (Id i)) below = absurd (All-head (IsBelow count) (Id i) [] below)
-  heap-alike (Abstract h) below = refl
-
-  pub value-alike : (v : Value UnpackedIndex) → ValueIsBelow count v → map_value look v ≡ map_value other v
-  unfolding HeapIsBelow ValueIsBelow
-  value-alike I32 below = refl
-  value-alike I64 below = refl
-  value-alike F32 below = refl
-  value-alike F64 below = refl
-  value-alike V128 below = refl
-  value-alike (Ref r) below = ap (λ h. Ref (record { nullable = r.nullable; heap = h })) (heap-alike r.heap below)
-
-  pub table-alike : (t : TableType) → RefersIn count t.element_type → map_table look (table_type_of t) ≡ map_table other (table_type_of t)
-  table-alike t refers =
-      let d = table_type_of t in
-      ap (λ h. record { index_type = d.index_type; limits = d.limits; reference = record { nullable = d.reference.nullable; heap = h } })
-      (heap-alike (heap_of t.element_type.heap) refers)
-
-  pub global-alike : (t : GlobalType) → ValueRefersIn count t.content_type → map_global look (global_type_of t) ≡ map_global other (global_type_of t)
-  global-alike t refers = ap (λ v. record { value = v; mutable = t.mutable }) (value-alike (value_of t.content_type) refers)
-
-  pub tables-alike : (ts : List TableType) → All (λ t. RefersIn count t.element_type) ts
-      → map (λ t. map_table look (table_type_of t)) ts ≡ map (λ t. map_table other (table_type_of t)) ts
-  tables-alike [] all = refl
-  tables-alike (t ∷ ts) all =
-      let P : TableType → Type 0 = λ t. RefersIn count t.element_type in
-      λ i. table-alike t (All-head P t ts all) i ∷ tables-alike ts (All-tail P t ts all) i
-
-  pub globals-alike : (ts : List GlobalType) → All (λ t. ValueRefersIn count t.content_type) ts
-      → map (λ t. map_global look (global_type_of t)) ts ≡ map (λ t. map_global other (global_type_of t)) ts
-  globals-alike [] all = refl
-  globals-alike (t ∷ ts) all =
-      let P : GlobalType → Type 0 = λ t. ValueRefersIn count t.content_type in
-      λ i. global-alike t (All-head P t ts all) i ∷ globals-alike ts (All-tail P t ts all) i
 
 -- ---- the tables and globals of a module that keeps the rule of references
 

@@ -1,4 +1,4 @@
--- The metadata of the functions of a module, by look-ups that agree on its declared types.
+-- The metadata of the functions of a module, by what its declared types are looked up to.
 use Rattle.std.proofs.Common.{◌≡◌, ◌∙◌, ℕ, ◌+◌, ◌<◌, ◌≤◌, ◌⊎◌, List, [], ◌∷◌, ◌++◌, Option, Some, None, length, map, get_or, refl, sym, ap, subst, arith, inl, inr, length-append}
 use Rattle.std.specs.Prelude.{All, slice_get, unwrap_or}
 use Rattle.std.specs.List.{flat_map, enumerate_from}
@@ -30,9 +30,8 @@ use Rattle.init_plan.specs.declared.debug_info.FunctionMetadata.{FunctionMetadat
 use Rattle.module_environ.specs.Filling.{module_in, IsGathered, LooksUpTypes}
 use Rattle.module_environ.specs.Metadata.{FunctionData, params_of, params_at, params_of_types, function_data, view_function}
 use Rattle.module_environ.specs.Types.{look_up_in}
-use Rattle.module_environ.proofs.Agreeing.{known-edges, value-alike}
+use Rattle.module_environ.proofs.Agreeing.{known-edges}
 use Rattle.module_environ.proofs.Filling.{added_more}
-use Rattle.module_environ.proofs.LookedUp.{map_alike}
 
 -- ---- no group ends past the last type
 
@@ -187,11 +186,7 @@ module _ (lists : Lists) (gathered : IsGathered lists) where
 
       -- what they are converted to
       pub params-alike : map (λ (ty : ValType). map_value look (value_of ty)) params ≡ map (map_value (look_up_in m)) (params_of (declared_of d).type.composite.inner)
-      params-alike =
-          sym (map-map (map_value look) value_of params)
-          ∙ ap (map (map_value look)) are
-          ∙ map_alike (ValueIsBelow count) (map_value look) (map_value (look_up_in m)) (value-alike look (look_up_in m) count looks.same)
-          (params_of (declared_of d).type.composite.inner) below
+      params-alike = sym (map-map (map_value look) value_of params) ∙ (λ i. map (map_value (looks.same i)) (are i))
 
     pub locals-known : (body : Body) → BodyRefersIn count body → (runs : List (ℕ × ValType)) → runs ≡ body.locals
         → All (λ (run : ℕ × ValType). KnowsValue (value_of run.1)) runs
@@ -205,22 +200,18 @@ module _ (lists : Lists) (gathered : IsGathered lists) where
     abbrev run_of : LookUp → ℕ × ValType → ℕ × Value Name
     run_of to run = (run.0, map_value to (value_of run.1))
 
-    locals-alike : (body : Body) → BodyRefersIn count body → map (run_of look) body.locals ≡ map (run_of (look_up_in m)) body.locals
-    locals-alike body refers =
-        map_alike (λ (run : ℕ × ValType). ValueRefersIn count run.1) (run_of look) (run_of (look_up_in m))
-        (λ run below i. (run.0, value-alike look (look_up_in m) count looks.same (value_of run.1) below i)) body.locals refers
-
     -- so the metadata of a function is as the definition has it
-    pub metadata : (n f : ℕ) (body : Body) (runs : List (ℕ × ValType)) (z : FunctionMetadata) → BodyRefersIn count body
+    pub metadata : (n f : ℕ) (body : Body) (runs : List (ℕ × ValType)) (z : FunctionMetadata)
         → f ≡ lists.imported_functions + n → runs ≡ body.locals
         → map view_value z.params.value.items ≡ map (map_value (look_up_in m)) (params_at (lists_of lists) f)
         → map {B = ℕ × Value Name} (λ run. (run.0, view_value run.1)) z.locals.items ≡ map (run_of look) runs
         → view_function z ≡ function_data (look_up_in m) all (n, body)
-    metadata n f body runs z refers at listed first second =
+    metadata n f body runs z at listed first second =
         let place : f ≡ all.imported_functions + n = at ∙ ap (λ (r : rule.Lists). r.imported_functions + n) gathered.lists in
         let ps = first ∙ ap (λ (r : rule.Lists). map (map_value (look_up_in m)) (params_at r f)) gathered.lists
         ∙ ap (λ (k : ℕ). map (map_value (look_up_in m)) (params_at all k)) place in
-        let ls = second ∙ ap (map (run_of look)) listed ∙ locals-alike body refers in
+        let ls : map {B = ℕ × Value Name} (λ run. (run.0, view_value run.1)) z.locals.items ≡ map (run_of (look_up_in m)) body.locals =
+        second ∙ (λ i. map (run_of (looks.same i)) (listed i)) in
         λ i. record { params = ps i; locals = ls i }
 
 -- ---- one body more

@@ -1,7 +1,8 @@
 -- Why bytes have no translation, by what each step tells, and the translation of what was read.
-use Rattle.std.proofs.Common.{◌≡◌, ◌∙◌, ◌≤◌, ◌<◌, ◌^◌, ℕ, Bool, List, length, map, Result, Ok, Err, refl, sym, ap, subst, arith}
-use Rattle.std.specs.Prelude.{◌↔◌, ◌-◌}
+use Rattle.std.proofs.Common.{◌≡◌, ◌∙◌, ◌+◌, ◌≤◌, ◌^◌, ℕ, Bool, inl, inr, List, length, map, Result, Ok, Err, sym, ap, subst, arith}
+use Rattle.std.specs.Prelude.{◌↔◌}
 use Rattle.std.specs.List.{flat_map}
+use Rattle.std.proofs.lemmas.Bool.{cases_lt}
 use Rattle.std.proofs.lemmas.List.{length-map, length-append}
 use Rattle.wasm_spec.specs.declared.operators.What.{What}
 use Rattle.wasm_spec.specs.Module as plain
@@ -30,50 +31,34 @@ use Rattle.module_environ.specs.Readable.{IsReadable, HasTranslationCause}
 use Rattle.module_environ.specs.Translation.{HasEntities, CountsImports, HasSections, code_places, first_or_zero}
 use Rattle.module_environ.specs.Translated.{IsReady, IsTranslated}
 use Rattle.module_environ.specs.Forming.{IsFormed, FormCause}
-use Rattle.module_environ.proofs.UnchangedViews.{sections-keep, customs-keep, types-keep}
 use Rattle.module_environ.proofs.HoldsLists.{holds_memories, holds_tables, holds_globals}
 use Rattle.module_environ.proofs.MemoriesReady.{memories-ready}
 use Rattle.module_environ.proofs.TablesReady.{tables-ready}
 
 -- ---- why there is none
 
--- what reading promises of its result
-pub record ReadingTells (bytes : List ℕ) (r : Result InputForm ReadError) : Type 0 where
-  pub complete : length bytes < 2 ^ 30 → (m : Module) → Spells bytes m → HasNoInterfaceTypes m → ReadsInputAs r m
-  pub too_large : (r ≡ Err read.TooLarge) ↔ (2 ^ 30 ≤ length bytes)
-  pub unsupported : (what : What) → r ≡ Err (read.Unsupported what) → Stops bytes what
-  pub malformed : r ≡ Err read.Malformed → (m : Module) → ¬ Spells bytes m
-  pub stops_nowhere : r ≡ Err read.Malformed → (what : What) → ¬ Stops bytes what
-
-pub read_cause : (bytes : List ℕ) (poisoned : Bool) (r : Result InputForm ReadError) (e : ReadError) → ReadingTells bytes r → r ≡ Err e
-    → HasTranslationCause bytes poisoned (error_of_read e)
-read_cause bytes poisoned r read.Malformed t is = (t.malformed is, t.stops_nowhere is)
-read_cause bytes poisoned r (read.Unsupported what) t is = t.unsupported what is
-read_cause bytes poisoned r read.TooLarge t is = t.too_large.0 is
-read_cause bytes poisoned r read.OutOfMemory t is = tt
+pub read_cause : (bytes : List ℕ) (poisoned : Bool) (r : Result InputForm ReadError) (e : ReadError)
+    → ((r ≡ Err read.TooLarge) ↔ (2 ^ 30 ≤ length bytes))
+    → ((what : What) → r ≡ Err (read.Unsupported what) → Stops bytes what)
+    → (r ≡ Err read.Malformed → (m : Module) → ¬ Spells bytes m)
+    → (r ≡ Err read.Malformed → (what : What) → ¬ Stops bytes what) → r ≡ Err e → HasTranslationCause bytes poisoned (error_of_read e)
+read_cause bytes poisoned r read.Malformed too_large unsupported malformed stops_nowhere is = (malformed is, stops_nowhere is)
+read_cause bytes poisoned r (read.Unsupported what) too_large unsupported malformed stops_nowhere is = unsupported what is
+read_cause bytes poisoned r read.TooLarge too_large unsupported malformed stops_nowhere is = too_large.0 is
+read_cause bytes poisoned r read.OutOfMemory too_large unsupported malformed stops_nowhere is = tt
 
 -- input that can be read is refused only where memory runs out
-pub read_complete : (bytes : List ℕ) (r : Result InputForm ReadError) (e : ReadError) (m : Module) → ReadingTells bytes r → r ≡ Err e
-    → IsReadable bytes m → error_of_read e ≡ refusal.OutOfMemory
-read_complete bytes r e m t is can = ap error_of_read
-    (subst (λ (q : Result InputForm ReadError). ReadsInputAs q m) is (t.complete can.short m can.spelled can.no_interface_types))
+pub read_complete : (r : Result InputForm ReadError) (e : ReadError) (m : Module) → ReadsInputAs r m → r ≡ Err e → error_of_read e ≡ refusal.OutOfMemory
+read_complete r e m reads is = ap error_of_read (subst (λ (q : Result InputForm ReadError). ReadsInputAs q m) is reads)
 
--- what was read is not long
-not_long : (bytes : List ℕ) (form : InputForm) → ReadingTells bytes (Ok form) → 2 ^ 30 ≤ length bytes → ⊥
-not_long bytes form t long = no_error (t.too_large.1 long) where
-  no_error : (let r : Result InputForm ReadError = Ok form in r) ≡ Err read.TooLarge → ⊥
-  no_error e = absurd cc
-
--- it can be read
-pub was_readable : (bytes : List ℕ) (form : InputForm) → ReadingTells bytes (Ok form) → Spells bytes (input_module_of form)
-    → HasNoInterfaceTypes (input_module_of form) → IsReadable bytes (input_module_of form)
-was_readable bytes form t spelled no_interface_types =
-    let short = not_long bytes form t in
-    record { short = omega arith; spelled = spelled; no_interface_types = no_interface_types }
-
--- the module that it spells is the one that was read
-pub read_as : (bytes : List ℕ) (form : InputForm) (m : Module) → ReadingTells bytes (Ok form) → IsReadable bytes m → input_module_of form ≡ m
-read_as bytes form m t can = t.complete can.short m can.spelled can.no_interface_types
+-- what was read can be read: it is not long
+pub was_readable : (bytes : List ℕ) (form : InputForm) → ((let r : Result InputForm ReadError = Ok form in r ≡ Err read.TooLarge) ↔ (2 ^ 30 ≤ length bytes))
+    → Spells bytes (input_module_of form) → HasNoInterfaceTypes (input_module_of form) → IsReadable bytes (input_module_of form)
+was_readable bytes form too_large spelled no_interface_types = record {
+  short = elim (cases_lt (length bytes) (2 ^ 30)) [ inl lt ↦ lt | inr long ↦ absurd (let no = too_large.1 long in cc) ];
+  spelled = spelled;
+  no_interface_types = no_interface_types;
+}
 
 -- why the form becomes none is why the bytes have none
 pub form_cause : (bytes : List ℕ) (m : Module) (poisoned : Bool) (e : EnvironError) → IsReadable bytes m → FormCause m poisoned e
@@ -99,9 +84,9 @@ with_code t other = record t {
 }
 
 -- the defined globals are those after the imported ones
-globals_counted : (m : Module) (t : ModuleTranslation) → HasEntities m t → CountsImports m t
-    → length t.module.globals - t.module.num_imported_globals ≡ length (lists_of_module m).globals
-globals_counted m t entities counts =
+pub globals_split : (m : Module) (t : ModuleTranslation) → HasEntities m t → CountsImports m t.module
+    → length t.module.globals ≡ t.module.num_imported_globals + length (lists_of_module m).globals
+globals_split m t entities counts =
     let all = sym (length-map t.module.globals global_of) ∙ ap length entities.globals ∙ length-map (plain.globals m) _
     ∙ length-append (plain.imported_of plain.global_import m) (map (λ (g : GlobalDef). g.type) (lists_of_module m).globals) in
     let own = length-map (lists_of_module m).globals (λ (g : GlobalDef). g.type) in
@@ -114,7 +99,7 @@ is_ready debugged m t has keeps few = record {
   tables = tables-ready debugged m t has.elements has.entities has.counts has.escapes keeps few;
   holds_memories = holds_memories m t has.entities has.counts has.data_segments;
   holds_tables = holds_tables m t keeps has.entities has.counts has.elements;
-  holds_globals = holds_globals m t has.globals (globals_counted m t has.entities has.counts);
+  holds_globals = holds_globals m t has.globals (omega (arith, globals_split m t has.entities has.counts));
 }
 
 -- with the bytes and the code, what the form became is the translation
@@ -125,16 +110,14 @@ pub is_translated : (tunables : Tunables) (module_index : Index StaticModuleSpac
     → other.debuginfo.wasm_file.code_section_offset ≡ first_or_zero (flat_map code_places m)
     → IsTranslated tunables module_index validator bytes (with_code formed other) b
 is_translated tunables module_index validator bytes m empty formed other b readable few is_new is wasm bodies place =
-    let sections : HasSections tunables.debug_guest m (with_code formed other) =
-    sections-keep m formed (with_code formed other) refl tunables.debug_guest is.sections in
     record {
       meaning = m;
       read = readable;
       keeps = is.keeps;
       translation = record {
-        types = types-keep m formed (with_code formed other) validator refl refl refl is.types;
-        sections = sections;
-        customs = customs-keep m formed (with_code formed other) refl tunables is.customs;
+        types = is.types;
+        sections = is.sections;
+        customs = is.customs;
         strings = is.strings;
         code = record { bodies = bodies; place = place; imports = is.imports };
         startup = is.startup;
@@ -142,6 +125,6 @@ is_translated tunables module_index validator bytes m empty formed other b reada
         wasm = wasm;
         offset = is.offset ∙ is_new.at_the_beginning;
       };
-      ready = is_ready tunables.debug_guest m (with_code formed other) sections is.keeps few;
+      ready = is_ready tunables.debug_guest m (with_code formed other) is.sections is.keeps few;
       types = is.builder;
     }

@@ -34,11 +34,6 @@ module _ (m : plain.Module) (validator : ℕ) (groups tagged : Builder) (alone :
   starts-is : starts tagged ≡ starts_by tagged None
   starts-is = ap (starts_by tagged) no-startup
 
-  pub room-for-startup : length (starts tagged).built.types < 4294967295
-  room-for-startup =
-      let long = ap (λ (b : Builder). length b.built.types) starts-is in
-      omega (arith, long, length-append tagged.built.types (startup_type ∷ []), few)
-
   module _ (always : true ≡ starts_always m) (after : Builder) (gained : after ≡ types_after Always startup.None tagged) where
     after-is : after ≡ starts_by tagged None
     after-is = gained ∙ starts-is

@@ -1,17 +1,14 @@
 -- Data segments, added one after another.
-use Rattle.std.proofs.Common.{◌≡◌, ◌∙◌, ℕ, ◌+◌, List, [], ◌∷◌, ◌++◌, map, refl, sym, ap}
+use Rattle.std.proofs.Common.{◌≡◌, ◌∙◌, ℕ, ◌+◌, List, [], ◌∷◌, ◌++◌, map, sym, ap}
 use Rattle.std.specs.List.{cons_option}
 use Rattle.std.proofs.lemmas.List.{append-nil, map-append}
-use Rattle.wasm_spec.specs.declared.operators.Operator.{Operator}
-use Rattle.wasm_spec.specs.declared.operators.Operator.TheVariants as op
-use Rattle.wasm_spec.specs.Module.{Expression, Segment}
+use Rattle.wasm_spec.specs.Module.{Segment}
 use Rattle.form_data.specs.declared.form.ConstExpr.{ConstExpr}
 use Rattle.form_data.specs.declared.form.DataKind.{DataKind}
 use Rattle.form_data.specs.declared.form.DataKind.TheVariants as kinds
 use Rattle.form_data.specs.Views.{data_kind_of}
 use Rattle.wasm_index.specs.Index.{number_of}
 use Rattle.wasm_convert.specs.Conversion.{LookUp}
-use Rattle.wasm_convert.specs.Operators.{const_op_of, operator_of, with_any_null}
 use Rattle.wasm_convert.specs.Constants.{const_ops_of, expression_of}
 use Rattle.wasm_module.specs.declared.memory_initialization.MemoryInitializer.{MemoryInitializer}
 use Rattle.replay_spec.specs.Data.{ActiveSegment, active_of_kind}
@@ -19,15 +16,7 @@ use Rattle.init_plan.specs.Held.{erase_null_type}
 use Rattle.init_plan.specs.declared.translation.ModuleTranslation.{ModuleTranslation}
 use Rattle.init_plan.specs.Views.{active_segment_of, SameButPassive}
 use Rattle.module_environ.specs.Initialisers.{passive_data_in, passive_data_from}
-
--- an expression that is converted has its null type erased
-back : (look : LookUp) (o : Operator) → operator_of (const_op_of look o) ≡ with_any_null o
-back look (op.RefNull heap) = refl
-back look _ = refl
-
-pub converted-held : (look : LookUp) (e : Expression) → expression_of (const_ops_of look e) ≡ erase_null_type e
-converted-held look [] = refl
-converted-held look (o ∷ os) = (λ i. back look o i ∷ converted-held look os i)
+use Rattle.module_environ.proofs.HeldExpressions.{erased-is}
 
 -- an active segment more
 pub active-added : (look : LookUp) (old new : List MemoryInitializer) (x : MemoryInitializer) (kind : DataKind) (memory : ℕ) (offset : ConstExpr)
@@ -36,7 +25,7 @@ pub active-added : (look : LookUp) (old new : List MemoryInitializer) (x : Memor
     → map active_segment_of new ≡ map active_segment_of old ++ cons_option (active_of_kind (data_kind_of kind) bytes) []
 active-added look old new x kind memory offset bytes is grows at place whole these =
     let seen : active_segment_of x ≡ record { memory = memory; offset = offset.ops.items; bytes = bytes } =
-    λ i. record { memory = at i; offset = (ap expression_of place ∙ converted-held look offset.ops.items ∙ whole) i; bytes = these i } in
+    λ i. record { memory = at i; offset = (ap expression_of place ∙ erased-is look offset.ops.items ∙ whole) i; bytes = these i } in
     ap (map active_segment_of) grows ∙ map-append active_segment_of old (x ∷ [])
     ∙ ap (λ (s : ActiveSegment). map active_segment_of old ++ s ∷ []) seen
     ∙ ap (λ (k : DataKind). map active_segment_of old ++ cons_option (active_of_kind (data_kind_of k) bytes) []) (sym is)

@@ -35,6 +35,12 @@ declared-kind gs near i lt =
 
 -- ---- function types
 
+abbrev type_of : Declared → SubType UnpackedIndex UnpackedIndex
+type_of d = d.type
+
+pub types-long : (m : plain.Module) → length (lists_of_module m).types ≡ length (plain.types m)
+types-long m = sym (length-map (lists_of_module m).types type_of) ∙ ap length (declared-types 0 (plain.groups m))
+
 function-kind : (c : Composite UnpackedIndex UnpackedIndex) → IsFunction c → kind_of_type (map_composite place_of place_of c) ≡ FuncName
 function-kind (Func f) is = refl
 function-kind (Array f) is = absurd is
@@ -54,9 +60,6 @@ pub record IsFunctionAt (ts : List (SubType ℕ ℕ)) (i count : ℕ) : Type 0 w
   pub lt : i < count
   pub kind : kind_of_type (get_or ts i some_type).composite.inner ≡ FuncName
 
-abbrev type_of : Declared → SubType UnpackedIndex UnpackedIndex
-type_of d = d.type
-
 function-read : (ds : List Declared) (i : ℕ) → IsSomeAnd (option_map (λ (d : Declared). d.type.composite.inner) (slice_get ds i)) IsFunction
     → IsFunctionAt (map (map_sub_type place_of place_of) (map type_of ds)) i (length ds)
 function-read [] i is = absurd is
@@ -69,13 +72,7 @@ module _ (m : plain.Module) (i : ℕ) (is : NamesFunctionType (lists_of_module m
   read = function-read (declared_groups 0 (plain.groups m)) i is
 
   pub function-below : i < length (plain.types m)
-  function-below =
-      omega (
-        arith,
-        read.lt,
-        length-map (declared_groups 0 (plain.groups m)) type_of,
-        ap length (declared-types 0 (plain.groups m)),
-      )
+  function-below = omega (arith, read.lt, types-long m)
 
   pub function-declared : kind_at (placed_groups m) i ≡ FuncName
   function-declared =

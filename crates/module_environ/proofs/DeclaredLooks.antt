@@ -1,27 +1,38 @@
 -- While a module's types are interned and nothing else was made of them, each is looked up as the definition of a translation has it.
-use Rattle.std.proofs.Common.{◌≡◌, ◌∙◌, ◌<◌, ◌≤◌, ℕ, Bool, Option, Some, None, List, ◌++◌, length, map, sym, ap, subst, arith}
-use Rattle.std.specs.Prelude.{slice_get, option_and_then, IsSomeAnd}
-use Rattle.std.proofs.lemmas.List.{length-map, get_or-map}
-use Rattle.std.proofs.lemmas.Option.{slice_get-get_or}
+use Rattle.std.proofs.Common.{◌≡◌, ◌∙◌, ◌<◌, ◌≤◌, ℕ, zero, suc, Some, List, [], ◌∷◌, length, map, refl, sym, ap, subst, arith, inl, inr}
+use Rattle.std.specs.Prelude.{slice_get, option_and_then, unwrap_or, IsSome}
+use Rattle.std.proofs.lemmas.Bool.{cases_lt}
+use Rattle.std.proofs.lemmas.List.{length-map, get_or-map, get_or_past}
+use Rattle.std.proofs.lemmas.Option.{slice_get-get_or, slice_get_past}
+use Rattle.wasm_spec.specs.declared.types.UnpackedIndex.{UnpackedIndex}
+use Rattle.wasm_spec.specs.TypeData.{Group}
 use Rattle.wasm_spec.specs.Module as plain
-use Rattle.type_spec.specs.Interned.{Interned, Built, kind_of_type, composite_at, kind_at, taken}
+use Rattle.type_data.specs.Names.{FuncName}
+use Rattle.type_spec.specs.Interned.{Built, kind_of_type, composite_at, kind_at, taken}
 use Rattle.type_spec.specs.Taken.{NameEarlier}
-use Rattle.form_types.specs.Placed.{placed_groups}
+use Rattle.type_spec.proofs.Homes.{size}
+use Rattle.form_types.specs.Placed.{place_of, placed_groups}
 use Rattle.form_types.proofs.Ruled.{size-places}
-use Rattle.wasm_index.specs.Index.{number_of, index_of}
+use Rattle.wasm_index.specs.Index.{index_of}
+use Rattle.wasm_types.specs.declared.heap.WasmHeapType.{WasmHeapType}
 use Rattle.wasm_types.specs.declared.index.EngineOrModuleTypeIndex.{EngineOrModuleTypeIndex}
+use Rattle.wasm_types.specs.ValueViews.{heap_of}
 use Rattle.wasm_types.specs.Views.{module_index}
-use Rattle.wasm_convert.specs.Conversion.{LookUp}
-use Rattle.module_types.specs.Views.{TypeIndex}
 use Rattle.module_types.specs.Builder.{BuilderState, builder_view}
 use Rattle.module_types.specs.Converter.{interned_name}
-use Rattle.module_types.proofs.GroupMembers.{composite-before}
 use Rattle.module_types.proofs.Taking.{whole}
-use Rattle.module_environ.specs.Types.{declared, interned_at, type_index, look_up_in, interned_list}
-use Rattle.module_environ.specs.Environment.{interned_in, number_or_zero, AreHeld, look_type}
-use Rattle.module_environ.specs.LookUps.{AgreeBelow}
-use Rattle.module_environ.proofs.DeclaredKinds.{declared-kind}
-use Rattle.module_environ.proofs.Excepting.{interned-behind}
+use Rattle.module_environ.specs.Types.{declared, interned_at, type_index, look_up_in}
+use Rattle.module_environ.specs.Environment.{interned_in, number_or_zero, NameEach}
+use Rattle.module_environ.specs.Named.{named_by, unnamed, IsNamed, name_in}
+use Rattle.module_environ.specs.Filling.{LooksUpTypes}
+use Rattle.module_environ.proofs.DeclaredKinds.{declared-kind, types-long}
+
+-- past the last type
+kind-past : (gs : List (Group ℕ ℕ)) (i : ℕ) → size gs ≤ i → kind_at gs i ≡ FuncName
+kind-past [] i le = refl
+kind-past ([] ∷ gs) i le = kind-past gs i le
+kind-past ((t ∷ ts) ∷ gs) zero le = absurd (omega (arith, le))
+kind-past ((t ∷ ts) ∷ gs) (suc i) le = kind-past (ts ∷ gs) i (omega (arith, le))
 
 module _ (m : plain.Module) (near : NameEarlier 0 (placed_groups m)) where
   pub declared-long : length (declared m) ≡ length (plain.types m)
@@ -42,37 +53,28 @@ module _ (m : plain.Module) (near : NameEarlier 0 (placed_groups m)) where
         ∙ ap (option_and_then module_index) (slice_get-get_or (map type_index d) i (type_index 0) (omega (arith, inside, length-map d type_index))
         ∙ ap Some (get_or-map type_index d i 0 (type_index 0) inside))
 
-    -- also where more types are appended
-    pub look-declared : (b : BuilderState) (more : List Interned) → (builder_view b).built.types ≡ (taken (placed_groups m)).built.types ++ more
-        → AgreeBelow (look_type types b) (look_up_in m) (length (plain.types m))
-    look-declared b more is i lt =
-        let k = interned_at m i in
-        let ts = (taken (placed_groups m)).built.types in
-        let kind : kind_of_type (composite_at (builder_view b).built.types k) ≡ kind_at (placed_groups m) i =
-        ap (λ l. kind_of_type (composite_at l k)) is
-        ∙ ap (λ c. kind_of_type c) (composite-before ts more k (declared-held i lt))
-        ∙ declared-kind (placed_groups m) near i (omega (arith, lt, declared-long)) in
-        ap (λ o. interned_name b (number_or_zero o)) (listed-at i lt) ∙ (λ j. record { kind = kind j; index = type_index k })
+    module _ (b : BuilderState) (built : (builder_view b).built ≡ (taken (placed_groups m)).built) (names : List WasmHeapType)
+        (name : NameEach types b names) where
+      looked-up : (i : UnpackedIndex) → name_in names i ≡ look_up_in m i
+      looked-up i =
+          let k = place_of i in
+          let long : length names ≡ length (plain.types m) = name.long ∙ listed-long in
+          elim (cases_lt k (length names)) [
+            | inl lt ↦
+                let inside : k < length (plain.types m) = omega (arith, lt, long) in
+                let kind = ap (λ (x : Built). kind_of_type (composite_at x.types (interned_at m k))) built
+                ∙ declared-kind (placed_groups m) near k (omega (arith, inside, declared-long)) in
+                ap (λ o. unwrap_or o unnamed) (name.named k lt) ∙ ap (λ o. interned_name b (number_or_zero o)) (listed-at k inside)
+                ∙ (λ j. record { kind = kind j; index = type_index (interned_at m k) })
+            | inr past ↦
+                let kind = kind-past (placed_groups m) k (omega (arith, past, long, size-places (plain.groups m))) in
+                let none = get_or_past (declared m) k 0 (omega (arith, past, long, declared-long)) in
+                ap (λ o. unwrap_or (option_and_then (λ h. named_by (heap_of h)) o) unnamed) (slice_get_past names k (omega (arith, past)))
+                ∙ sym (λ j. record { kind = kind j; index = type_index (none j) })
+          ]
 
-    -- so each is held, and also where a builder made exception types and the startup type
-    pub listed-held : AreHeld types (length (taken (placed_groups m)).built.types)
-    listed-held i lt =
-        let inside : i < length (plain.types m) = omega (arith, lt, listed-long) in
-        subst (λ o. IsSomeAnd o (λ k. number_of k < length (taken (placed_groups m)).built.types)) (sym (listed-at i inside)) (declared-held i inside)
-
-    pub look-interned : (b : BuilderState) (startup : Bool) → (builder_view b).built ≡ interned_list m startup
-        → AgreeBelow (look_type types b) (look_up_in m) (length (plain.types m))
-    look-interned b startup is =
-        let r = interned-behind (placed_groups m) (plain.tags m) startup in
-        look-declared b r.more (ap (λ (c : Built). c.types) is ∙ r.is)
-
--- more types are held
-pub held-more : (types : List EngineOrModuleTypeIndex) (count more : ℕ) → count ≤ more → AreHeld types count → AreHeld types more
-held-more types count more le held i lt = by (interned_in types i) (held i lt) where
-  by : (o : Option TypeIndex) → IsSomeAnd o (λ k. number_of k < count) → IsSomeAnd o (λ k. number_of k < more)
-  by None h = absurd h
-  by (Some k) h = omega (arith, h, le)
-
--- look-ups that agree in turn
-pub agree-chained : (look other third : LookUp) (count : ℕ) → AgreeBelow look other count → AgreeBelow other third count → AgreeBelow look third count
-agree-chained look other third count a b i lt = a i lt ∙ b i lt
+      pub looks-declared : LooksUpTypes m (IsNamed names) (name_in names)
+      looks-declared = record {
+        knows = λ i lt. subst IsSome (sym (name.named i (omega (arith, lt, name.long, listed-long, types-long m)))) refl;
+        same = λ j i. looked-up i j;
+      }

@@ -1,12 +1,12 @@
 -- Exception types in turn: what a builder makes of function types is what the definition makes of them.
-use Rattle.std.proofs.Common.{◌≡◌, ◌∙◌, ◌≤◌, ℕ, ◌+◌, Bool, true, false, nat_eq, nat_lt, Some, None, List, [], ◌∷◌, ◌++◌, length, get_or, map, position, refl, sym, ap, subst, arith, length-append, append_assoc}
+use Rattle.std.proofs.Common.{◌≡◌, ◌∙◌, ◌≤◌, ℕ, ◌+◌, Bool, true, false, nat_eq, Some, None, List, [], ◌∷◌, ◌++◌, length, position, refl, sym, ap, subst, arith, length-append, append_assoc}
 use Rattle.std.specs.Prelude.{cond, ◌==◌, ◌||◌, unwrap_or, if◌then◌else◌}
 use Rattle.std.specs.List.{list_any, position_from}
-use Rattle.std.proofs.lemmas.Bool.{eqb-true, eq-eqb, ltb-true, ltb-false}
+use Rattle.std.proofs.lemmas.Bool.Decides.{nat_tests}
+use Rattle.std.proofs.lemmas.Bool.{cases_Bool, eqb-true, eq-eqb}
 use Rattle.std.proofs.lemmas.List.{append-nil}
 use Rattle.std.proofs.lemmas.List.Folds.{list_any-append}
-use Rattle.wasm_spec.specs.TypeData.{Group}
-use Rattle.type_spec.specs.Interned.{Interned, Built, plain, exception_for, composite_at, is_among, with_exception, with_exceptions, with_startup, startup_type, taken, interned}
+use Rattle.type_spec.specs.Interned.{Interned, Built, plain, exception_for, composite_at, is_among, with_exception, with_exceptions}
 use Rattle.module_types.specs.Builder.{Builder, or_next, exception_index, excepts_by, excepts}
 use Rattle.module_environ.specs.Firsts.{firsts, firsts_after}
 use Rattle.module_environ.proofs.Places.{from-behind, from-front, from-none, from-some, place-is}
@@ -27,55 +27,22 @@ longer (n ∷ ns) known = by (list_any (λ k. k == n) known) (longer ns) where
       let r = rest (known ++ n ∷ []) in
       record { more = n ∷ r.more; is = r.is ∙ append_assoc known (n ∷ []) r.more }
 
--- ---- types are appended
-
-pub record TypesBehind (b c : Built) : Type 0 where
-  pub more : List Interned
-  pub is : c.types ≡ b.types ++ more
-
-behind-exceptions : (is : List ℕ) (b : Built) (done : List ℕ) → TypesBehind b (with_exceptions b done is)
-behind-exceptions [] b done = record { more = []; is = sym (append-nil b.types) }
-behind-exceptions (i ∷ is) b done = by (is_among i done) (behind-exceptions is) where
-  by : (there : Bool) → ((c : Built) (done' : List ℕ) → TypesBehind c (with_exceptions c done' is))
-      → TypesBehind b (if there then with_exceptions b done is else with_exceptions (with_exception b i) (i ∷ done) is)
-  by true rest = rest b done
-  by false rest =
-      let r = rest (with_exception b i) (i ∷ done) in
-      let t = plain (exception_for i (composite_at b.types i)) in
-      record { more = t ∷ r.more; is = r.is ∙ append_assoc b.types (t ∷ []) r.more }
-
-pub interned-behind : (gs : List (Group ℕ ℕ)) (tags : List ℕ) (startup : Bool) → TypesBehind (taken gs).built (interned gs tags startup)
-interned-behind gs tags startup = by startup where
-  by : (startup : Bool)
-      → TypesBehind (taken gs).built (with_startup (with_exceptions (taken gs).built [] (map (λ i. get_or (taken gs).declared i 0) tags)) startup)
-  by false = behind-exceptions (map (λ i. get_or (taken gs).declared i 0) tags) (taken gs).built []
-  by true =
-      let r = behind-exceptions (map (λ i. get_or (taken gs).declared i 0) tags) (taken gs).built [] in
-      record {
-        more = r.more ++ startup_type ∷ [];
-        is = ap (λ l. l ++ startup_type ∷ []) r.is ∙ append_assoc (taken gs).built.types r.more (startup_type ∷ []);
-      }
-
 -- ---- one more is among some
 
-among-more : (m n : ℕ) (done : List ℕ) → is_among m (n ∷ done) ≡ (nat_eq n m || is_among m done)
-among-more m n done = by (nat_lt m n) (nat_lt n m) (nat_eq n m) refl refl refl where
-  by : (a b c : Bool) → nat_lt m n ≡ a → nat_lt n m ≡ b → nat_eq n m ≡ c
-      → (if a then is_among m done else (if b then is_among m done else true)) ≡ (c || is_among m done)
-  by true b true e f g = absurd (omega (arith, ltb-true m n e, eqb-true n m g))
-  by true b false e f g = refl
-  by false true true e f g = absurd (omega (arith, ltb-true n m f, eqb-true n m g))
-  by false true false e f g = refl
-  by false false true e f g = refl
-  by false false false e f g =
-      let same : n ≡ m = omega (arith, ltb-false m n e, ltb-false n m f) in
-      absurd (let no : true ≡ false = sym (eq-eqb n m same) ∙ g in cc)
+-- those that were done are those that are known
+abbrev pub AreKnown : List ℕ → List ℕ → Type 0
+AreKnown done known = (n : ℕ) → is_among n done ≡ list_any (λ k. k == n) known
 
-either-way : (a b : Bool) → (a || b) ≡ (b || (a || false))
-either-way true true = refl
-either-way true false = refl
-either-way false true = refl
-either-way false false = refl
+among-more : (m n : ℕ) (done : List ℕ) → is_among m (n ∷ done) ≡ (nat_eq n m || is_among m done)
+among-more m n done = grind (arith, nat_tests)
+
+pub known-more : (n : ℕ) (done known : List ℕ) → AreKnown done known → AreKnown (n ∷ done) (known ++ n ∷ [])
+known-more n done known same m =
+    let before = same m in
+    let here = among-more m n done in
+    let all = list_any-append (λ k. k == m) known (n ∷ []) in
+    let had = cases_Bool (list_any (λ k. k == m) known) in
+    grind (arith, nat_tests)
 
 module _ (start : Built) where
   abbrev pub base : ℕ
@@ -87,7 +54,7 @@ module _ (start : Built) where
     pub known : List ℕ
     pub rest : (is : List ℕ) → with_exceptions start [] (so_far ++ is) ≡ with_exceptions b.built done is
     pub order : (is : List ℕ) → firsts (so_far ++ is) ≡ firsts_after known is
-    pub same : (n : ℕ) → is_among n done ≡ list_any (λ k. k == n) known
+    pub same : AreKnown done known
     pub at : (n : ℕ) → b.exceptions n ≡ position_from (λ k. k == n) base known
     pub more : List Interned
     pub types : b.built.types ≡ start.types ++ more
@@ -171,9 +138,7 @@ module _ (start : Built) where
             known = x.known ++ n ∷ [];
             rest = step false e;
             order = ordered-more false e;
-            same = λ m.
-                among-more m n x.done ∙ ap (λ c. nat_eq n m || c) (x.same m) ∙ either-way (nat_eq n m) (list_any (λ k. k == m) x.known)
-                ∙ sym (list_any-append (λ k. k == m) x.known (n ∷ []));
+            same = known-more n x.done x.known x.same;
             at = λ m. noted-at e m (list_any (λ k. k == m) x.known) (nat_eq n m) refl refl;
             more = x.more ++ t ∷ [];
             types = ap (λ l. l ++ t ∷ []) x.types ∙ append_assoc start.types x.more (t ∷ []);

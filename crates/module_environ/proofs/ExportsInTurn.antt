@@ -1,26 +1,18 @@
 -- Exports, entered one after another.
-use Rattle.std.proofs.Common.{◌≡◌, ◌≢◌, ◌<◌, ℕ, Bool, true, false, cond, List, [], ◌∷◌, ◌++◌, length, map, get_or, slice_get, unwrap_or, All, IfSome, Some, nat_eq, inl, inr, refl, sym, ap, subst, ◌∙◌, arith}
-use Rattle.std.specs.List.{flat_map}
+use Rattle.std.proofs.Common.{◌≡◌, ◌≢◌, ℕ, Bool, true, false, cond, List, [], ◌∷◌, ◌++◌, length, map, get_or, slice_get, unwrap_or, All, Some, nat_eq, inl, inr, refl, sym, ap, subst, ◌∙◌, arith}
 use Rattle.std.proofs.lemmas.List.{length-append, get_or_append_left, get_or_at, map_push}
 use Rattle.std.proofs.lemmas.Bool.Decides.{eqb_tells}
 use Rattle.std.proofs.lemmas.Option.{slice_get_within}
 use Rattle.std.proofs.lemmas.List.Elements.{All-head, All-tail, All-same, All-push, All-map, All-weaker, All-from_get_or}
 use Rattle.indexmap.specs.IndexMap.{insert_entry}
-use Rattle.entity_map.specs.Entity.{reserved_number}
 use Rattle.entity_map.specs.Pool.{atom_number, with_text}
 use Rattle.entity_map.specs.declared.pool.Atom.{Atom}
-use Rattle.wasm_spec.specs.Module.{Export, exports_of_section, HasFewEntries}
-use Rattle.wasm_spec.specs.Module as plain
-use Rattle.wasm_spec.specs.declared.entities.ExternalKind.{ExternalKind}
-use Rattle.wasm_spec.specs.declared.entities.ExternalKind.TheVariants as kind
+use Rattle.wasm_spec.specs.Module.{Export}
 use Rattle.wasm_types.specs.declared.entity.EntityIndex.{EntityIndex}
-use Rattle.rule_spec.specs.Indices.{IsInSpace, space_size}
-use Rattle.rule_spec.specs.Lists.{lists_of_module}
 use Rattle.rule_spec.specs.Rules.{AreDistinct}
 use Rattle.form_lists.proofs.AllSections.{All-from_map}
 use Rattle.module_environ.specs.Entities.{text_at, entity_at, resolved_export}
-use Rattle.module_environ.specs.Escapes.{exported_function}
-use Rattle.module_environ.specs.Exported.{CanExport, AreEntered}
+use Rattle.module_environ.specs.Exported.{AreEntered}
 use Rattle.module_environ.specs.Pooled.{HasText}
 use Rattle.module_environ.proofs.GrownPool.{GrowsBy, grows-text, pooled-grown, exports-grown}
 
@@ -81,19 +73,3 @@ entered-push eq same before e old new now after k v put stands is inserted h dis
     }
 
 -- ---- in a module that keeps the rules
-
-can-convert : (m : plain.Module) → HasFewEntries m → (e : Export) → IsInSpace (lists_of_module m) e → CanExport (length (plain.functions m)) e
-can-convert m few e within = let both = by e.kind e.index within in record { index = both.0; function = both.1 } where
-  by : (k : ExternalKind) (index : ℕ) → index < space_size (lists_of_module m) k
-      → (index < reserved_number) × IfSome (exported_function k index) (λ f. f < length (plain.functions m))
-  by kind.Func index lt = (omega (arith, lt, few.functions), lt)
-  by kind.Table index lt = (omega (arith, lt, few.tables), tt)
-  by kind.Memory index lt = (omega (arith, lt, few.memories), tt)
-  by kind.Global index lt = (omega (arith, lt, few.globals), tt)
-  by kind.Tag index lt = (omega (arith, lt, few.tags), tt)
-
--- exports of entries that there are can be converted
-pub exports-can : (m : plain.Module) → HasFewEntries m → All (IsInSpace (lists_of_module m)) (flat_map exports_of_section m)
-    → All (CanExport (length (plain.functions m))) (flat_map exports_of_section m)
-exports-can m few within =
-    All-weaker (IsInSpace (lists_of_module m)) (CanExport (length (plain.functions m))) (can-convert m few) (flat_map exports_of_section m) within

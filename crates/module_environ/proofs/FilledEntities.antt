@@ -23,8 +23,7 @@ use Rattle.wasm_convert.specs.Conversion.{LookUp, global_type_of, table_type_of}
 use Rattle.wasm_convert.specs.Known.{Known}
 use Rattle.module_environ.specs.Entities.{count_of, tables_data, globals_data}
 use Rattle.module_environ.specs.Filling.{module_in, IsGathered, LooksUpTypes}
-use Rattle.module_environ.specs.Types.{look_up_in}
-use Rattle.module_environ.proofs.Agreeing.{known-table, known-global, tables-alike, globals-alike, all-tables, all-globals}
+use Rattle.module_environ.proofs.Agreeing.{known-table, known-global, all-tables, all-globals}
 
 module _ (l : Lists) (gathered : IsGathered l) where
   abbrev m : plain.Module
@@ -75,15 +74,11 @@ module _ (l : Lists) (gathered : IsGathered l) where
 
     pub tables-filled : (ts : List TableType) → ts ≡ l.spaces.table_types.items
         → map (λ t. map_table look (table_type_of t)) ts ≡ tables_data m
-    tables-filled ts are =
-        ap (map (λ (t : TableType). map_table look (table_type_of t))) (are ∙ tables-are)
-        ∙ tables-alike look (look_up_in m) count looks.same (plain.tables m) (all-tables count m (gathered.keeps L10))
+    tables-filled ts are = λ i. map (λ (t : TableType). map_table (looks.same i) (table_type_of t)) ((are ∙ tables-are) i)
 
     pub globals-filled : (ts : List GlobalType) → ts ≡ l.spaces.global_types.items
         → map (λ t. map_global look (global_type_of t)) ts ≡ globals_data m
-    globals-filled ts are =
-        ap (map (λ (t : GlobalType). map_global look (global_type_of t))) (are ∙ globals-are)
-        ∙ globals-alike look (look_up_in m) count looks.same (plain.globals m) (all-globals count m (gathered.keeps L10))
+    globals-filled ts are = λ i. map (λ (t : GlobalType). map_global (looks.same i) (global_type_of t)) ((are ∙ globals-are) i)
 
   -- ---- the imported tables come first
 

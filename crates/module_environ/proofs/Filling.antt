@@ -1,5 +1,6 @@
 -- What is gathered from the entries of a module, one after another: what was gathered, with what those that are left give, is always all.
-use Rattle.std.proofs.Common.{◌≡◌, ℕ, List, [], ◌∷◌, ◌++◌, map, All, sym, ap, subst, ◌∙◌, append_assoc}
+use Rattle.std.proofs.Common.{◌≡◌, ◌≤◌, ℕ, Option, Some, None, List, [], ◌∷◌, ◌++◌, length, map, All, sym, ap, subst, ◌∙◌, append_assoc, arith}
+use Rattle.std.specs.List.{filter_map, cons_option}
 use Rattle.std.proofs.lemmas.List.{append-nil, map_push}
 use Rattle.std.proofs.lemmas.List.Elements.{All-head, All-same}
 use Rattle.module_environ.specs.EscapeLog.{EscapeLog, after_escapes}
@@ -37,3 +38,11 @@ module _ {X : Type 0} (left rest : List X) (x : X) (at : left ≡ x ∷ rest) wh
 -- where none is left, all came
 pub came_all : {X : Type 0} (came left all : List X) → left ≡ [] → came ++ left ≡ all → came ≡ all
 came_all {X = X} came left all none whole = sym (append-nil came) ∙ ap (λ (xs : List X). came ++ xs) (sym none) ∙ whole
+
+-- no more is gathered than there are entries
+pub length-filter_map : {X Y : Type 0} (f : X → Option Y) (xs : List X) → length (filter_map f xs) ≤ length xs
+length-filter_map f [] = omega arith
+length-filter_map {X} {Y} f (x ∷ xs) = by (f x) (length-filter_map f xs) where
+  by : (o : Option Y) → length (filter_map f xs) ≤ length xs → length (cons_option o (filter_map f xs)) ≤ length (x ∷ xs)
+  by None le = omega arith
+  by (Some y) le = omega arith

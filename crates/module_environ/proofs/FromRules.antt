@@ -34,7 +34,8 @@ below-by Q xs i none q = by (slice_get_cases xs i).1 where
 -- ---- functions to which expressions refer
 
 module _ (l : Lists) where
-  sized-below : (t : ℕ) (c : Bool) (o : Option Signature) (s : Signature) → nat_lt t (length l.functions) ≡ c → where_true c o ≡ Some s → t < length l.functions
+  -- a function that an operator names is one of the functions
+  pub sized-below : (t : ℕ) (c : Bool) (o : Option Signature) (s : Signature) → nat_lt t (length l.functions) ≡ c → where_true c o ≡ Some s → t < length l.functions
   sized-below t true o s e signed = ltb-true t (length l.functions) e
   sized-below t false o s e signed = absurd (none-some _ signed)
 
@@ -63,9 +64,6 @@ module _ (l : Lists) (known : UnpackedIndex → Type 0) (knows : (i : ℕ) → i
   -- ---- operators
 
   module _ (few_types : length l.types < 2 ^ 30) (few_functions : length l.functions < 2 ^ 30) (visible : List GlobalType) (few : length visible < 2 ^ 30) where
-    Signs : {A : Type 0} → (A → Option Signature) → Option A → Type 0
-    Signs f o = (s : Signature) × (option_and_then f o ≡ Some s)
-
     abbrev Declares : {A : Type 0} → (Composite UnpackedIndex UnpackedIndex → Option A) → (A → Option Signature) → Option Declared → Type 0
     Declares g f o = (s : Signature) × (option_and_then f (option_and_then g (option_map (λ (d : Declared). d.type.composite.inner) o)) ≡ Some s)
 

@@ -13,7 +13,10 @@ use Rattle.module_environ.specs.declared.globals.FirstGlobals.{FirstGlobals}
 use Rattle.module_environ.specs.FirstGlobals.{seen_globals, view_known, view_left, known_next, left_next, AddsInitialiser}
 use Rattle.module_environ.proofs.Filling.{added_more}
 use Rattle.module_environ.proofs.HeldExpressions.{const_value_converted}
-use Rattle.module_environ.proofs.LookedUp.{converted}
+
+-- an initialiser with its number
+abbrev pub converted : LookUp → ℕ × Expression → ℕ × List ConstOp
+converted look g = (g.0, const_ops_of look g.1)
 
 -- the initialisers of globals that come next, by their numbers
 abbrev pub next_initialisers : FirstGlobals → List GlobalDef → List (ℕ × Expression)

@@ -5,6 +5,7 @@ use Rattle.std.specs.List.{filter_map, cons_option, enumerate_from}
 use Rattle.std.specs.Option.{option_map}
 use Rattle.std.proofs.lemmas.List.{drop-map, drop_at, length-map, map-append}
 use Rattle.std.proofs.lemmas.List.Elements.{All-head, All-tail}
+use Rattle.std.proofs.lemmas.Simd.{map-map}
 use Rattle.wasm_spec.specs.declared.entities.TableType.{TableType}
 use Rattle.wasm_spec.specs.declared.types.HeapType.{HeapType}
 use Rattle.wasm_spec.specs.declared.types.HeapType.TheVariants.{Abstract, Concrete}
@@ -13,9 +14,9 @@ use Rattle.wasm_spec.specs.declared.types.AbstractHeapType.TheVariants as abstra
 use Rattle.wasm_spec.specs.declared.types.UnpackedIndex.{UnpackedIndex}
 use Rattle.wasm_spec.specs.declared.types.UnpackedIndex.TheVariants as index
 use Rattle.wasm_spec.specs.TypeData as types
-use Rattle.wasm_spec.specs.TypeData.{Heap, Reference, SubType, Group, Composite, Func, Array, Struct, Cont, Exn, heap_of, map_heap, map_composite}
+use Rattle.wasm_spec.specs.TypeData.{Heap, Group, Composite, Func, Array, Struct, Cont, Exn, heap_of, map_heap, map_composite}
 use Rattle.wasm_spec.specs.Module as plain
-use Rattle.wasm_spec.specs.Module.{Expression, TableDef, GlobalDef, ElementKind, PassiveElement, DeclaredElement, ActiveElement, ElementItems, Functions, Expressions, Element, table_import, memory_import, imported_of}
+use Rattle.wasm_spec.specs.Module.{Expression, TableDef, GlobalDef, ElementKind, PassiveElement, DeclaredElement, ActiveElement, ElementItems, Functions, Expressions, Element, table_import, imported_of}
 use Rattle.rule_spec.specs.Lists.{Declared, declared_from, declared_groups, lists_of_module}
 use Rattle.rule_spec.specs.TypeRules.{IsBelow, HeapIsBelow}
 use Rattle.rule_spec.specs.References.{TableRefersIn, AllReferIn}
@@ -41,13 +42,14 @@ use Rattle.wasm_module.specs.declared.table_initialization.TableSegmentElements.
 use Rattle.wasm_module.specs.declared.table_initialization.TableSegmentElements.TheVariants as elements
 use Rattle.table_images.specs.Views.{is_func, items_of, active_elements_of, initial_of, defined_table_of, defined_tables_of}
 use Rattle.replay_spec.specs.Values.{Value, const_value}
-use Rattle.replay_spec.specs.Elements.{ActiveElements, DefinedTable, is_function_type, has_functions_on_top, defined_table, defined_tables, active_of_element}
+use Rattle.replay_spec.specs.Elements.{ActiveElements, is_function_type, has_functions_on_top, defined_table, active_of_element}
 use Rattle.replay_spec.specs.Elements as replay
 use Rattle.replay_spec.specs.Globals.{simple_of, kept_of}
 use Rattle.init_plan.specs.declared.translation.ModuleTranslation.{ModuleTranslation}
 use Rattle.init_plan.specs.Tables.{own_tables}
 use Rattle.init_plan.specs.Held.{erase_null_type, erased_items, erased_elements, erased_table, HoldsMemories, HoldsTables, HoldsGlobals}
-use Rattle.module_environ.proofs.HeldExpressions.{map_alike, map_both, erased-is, const_erased}
+use Rattle.init_plan.proofs.Held.{const_erased}
+use Rattle.module_environ.proofs.HeldExpressions.{erased-is}
 use Rattle.module_environ.specs.Types.{look_up_in}
 use Rattle.module_environ.specs.Initialisers.{view_initialiser, first_values, view_first_value, Items, FunctionItems, ExpressionItems, items_in, view_items, ActiveItems, active_in, active_elements, view_segment}
 use Rattle.module_environ.specs.Translation.{HasEntities, CountsImports, HasGlobals, HasElements, HasData}
@@ -61,10 +63,6 @@ map_gathered {Y = Y} f g (x ∷ xs) = by (filter_map g xs) (map_gathered f g xs)
       → map f (cons_option o ys) ≡ cons_option (option_map f o) (filter_map (λ x. option_map f (g x)) xs)
   by ys rest None = rest
   by ys rest (Some y) = λ i. f y ∷ rest i
-
-gathered_alike : {X Y : Type 0} (f g : X → Option Y) → ((x : X) → f x ≡ g x) → (xs : List X) → filter_map f xs ≡ filter_map g xs
-gathered_alike f g same [] = refl
-gathered_alike f g same (x ∷ xs) = λ i. cons_option (same x i) (gathered_alike f g same xs i)
 
 -- ---- globals
 
@@ -100,14 +98,14 @@ holds_globals m t has counted =
     record {
       count = counted ∙ sym (length-map globals (λ (g : GlobalDef). g.init)) ∙ sym (length-map es erase_null_type);
       simple = has.known ∙ sym (simple_held 0 es);
-      kept = sym (map_both back (view_initialiser (λ e. e)) t.global_initializers.items) ∙ ap (map back) has.left
-          ∙ map_both back (λ (g : ℕ × Expression). (g.0, const_ops_of (look_up_in m) g.1)) kept
-          ∙ map_alike _ held_at (λ g. λ i. (g.0, erased-is (look_up_in m) g.1 i)) kept ∙ sym (kept_held 0 es);
+      kept = sym (map-map back (view_initialiser (λ e. e)) t.global_initializers.items) ∙ ap (map back) has.left
+          ∙ map-map back (λ (g : ℕ × Expression). (g.0, const_ops_of (look_up_in m) g.1)) kept
+          ∙ (λ i. map (λ (g : ℕ × Expression). (g.0, erased-is (look_up_in m) g.1 i)) kept) ∙ sym (kept_held 0 es);
     }
 
 -- ---- memories
 
-pub holds_memories : (m : plain.Module) (t : ModuleTranslation) → HasEntities m t → CountsImports m t → HasData m t → HoldsMemories m t
+pub holds_memories : (m : plain.Module) (t : ModuleTranslation) → HasEntities m t → CountsImports m t.module → HasData m t → HoldsMemories m t
 holds_memories m t entities counts has = record { imports = counts.memories; memories = entities.memories; active = has.active }
 
 -- ---- active element segments
@@ -134,7 +132,7 @@ unfolding plain_items
 items_held look (Functions indices) = refl
 items_held look (Expressions type items) =
     ap (Expressions (record { nullable = type.nullable; heap = Abstract abstract.Any }))
-    (map_both expression_of (const_ops_of look) items ∙ map_alike (λ e. expression_of (const_ops_of look e)) erase_null_type (erased-is look) items)
+    (map-map expression_of (const_ops_of look) items ∙ (λ i. map (λ e. erased-is look e i) items))
 
 active_held : (look : LookUp) (kind : ElementKind) (items : ElementItems)
     → option_map plain_active (active_in look kind items) ≡ option_map erased_elements (active_of_element kind items)
@@ -147,7 +145,7 @@ active_held look (ActiveElement table offset) items =
 elements_held : (look : LookUp) (es : List Element) → map plain_active (active_elements look es) ≡ map erased_elements (replay.active_elements es)
 elements_held look es =
     map_gathered plain_active (λ (e : Element). active_in look e.kind e.items) es
-    ∙ gathered_alike _ _ (λ (e : Element). active_held look e.kind e.items) es
+    ∙ (λ i. filter_map (λ (e : Element). active_held look e.kind e.items i) es)
     ∙ sym (map_gathered erased_elements (λ (e : Element). active_of_element e.kind e.items) es)
 
 -- ---- the kinds of declared types
@@ -270,7 +268,7 @@ module _ (m : plain.Module) where
       let rest = tables_held ts vs ds (All-tail P d ds below) others others_values in
       λ i. one i ∷ rest i
 
-  pub holds_tables : (t : ModuleTranslation) → Keeps m → HasEntities m t → CountsImports m t → HasElements m t → HoldsTables m t
+  pub holds_tables : (t : ModuleTranslation) → Keeps m → HasEntities m t → CountsImports m t.module → HasElements m t → HoldsTables m t
   unfolding table_in
   holds_tables t keeps entities counts has =
       let defs = (lists_of_module m).tables in
@@ -281,11 +279,11 @@ module _ (m : plain.Module) where
       ∙ ap (drop t.module.num_imported_tables) (entities.tables ∙ map-append table_in imported (map (λ (d : TableDef). d.type) defs))
       ∙ drop_at (map table_in imported) (map table_in (map (λ (d : TableDef). d.type) defs)) t.module.num_imported_tables
       (length-map imported table_in ∙ sym counts.tables)
-      ∙ map_both table_in (λ (d : TableDef). d.type) defs in
+      ∙ map-map table_in (λ (d : TableDef). d.type) defs in
       record {
         imports = counts.tables;
         tables = tables_held (own_tables t) t.table_initialization.initial_values defs below.tables own has.first;
-        active = map_alike active_elements_of (λ s. plain_active (view_segment s)) view_plain t.table_initialization.segments.items
-            ∙ sym (map_both plain_active view_segment t.table_initialization.segments.items)
+        active = (λ i. map (λ (s : TableSegment). view_plain s i) t.table_initialization.segments.items)
+            ∙ sym (map-map plain_active view_segment t.table_initialization.segments.items)
             ∙ ap (map plain_active) has.active ∙ elements_held (look_up_in m) (lists_of_module m).elements;
       }

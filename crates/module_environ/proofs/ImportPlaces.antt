@@ -109,7 +109,7 @@ resolved_entity : (texts : List (List ℕ)) (o : Option Initializer)
 resolved_entity texts None = refl
 resolved_entity texts (Some (initializer.Import name field index)) = refl
 
-among : (m : plain.Module) (t : ModuleTranslation) → CountsImports m t → (e : EntityIndex) → IsImported (record_of t.module) e
+among : (m : plain.Module) (t : ModuleTranslation) → CountsImports m t.module → (e : EntityIndex) → IsImported (record_of t.module) e
     → IsAmong (plain.imports m) e
 among m t counts (entity.Function i) lt = omega (arith, lt, counts.functions)
 among m t counts (entity.Table i) lt = omega (arith, lt, counts.tables)
@@ -118,7 +118,7 @@ among m t counts (entity.Global i) lt = omega (arith, lt, counts.globals)
 among m t counts (entity.Tag i) lt = omega (arith, lt, counts.tags)
 
 -- an imported entity is the one that some import brings
-import-of : (m : plain.Module) (t : ModuleTranslation) (e : EntityIndex) → HasEntities m t → CountsImports m t → IsImported (record_of t.module) e
+import-of : (m : plain.Module) (t : ModuleTranslation) (e : EntityIndex) → HasEntities m t → CountsImports m t.module → IsImported (record_of t.module) e
     → (place : ℕ) × (entity_at (record_of t.module) place ≡ Some e)
 import-of m t e has counts lt =
     let is = t.module.initializers.items in
@@ -129,7 +129,7 @@ import-of m t e has counts lt =
           ∙ ap (λ (es : List NamedEntity). named_at es found.0) has.imports ∙ found.1,
     )
 
-pub import-place : (m : plain.Module) (t : ModuleTranslation) (e : EntityIndex) (answer : Option ℕ) → HasEntities m t → CountsImports m t
+pub import-place : (m : plain.Module) (t : ModuleTranslation) (e : EntityIndex) (answer : Option ℕ) → HasEntities m t → CountsImports m t.module
     → IsImported (record_of t.module) e → IsFirstImport (record_of t.module) e answer
     → (place : ℕ) × (answer ≡ Some place) × (entity_at (record_of t.module) place ≡ Some e)
 import-place m t e None has counts lt first = let found = import-of m t e has counts lt in absurd (first lt found.0 found.1)

@@ -7,12 +7,11 @@ mod FilledInitialisers
 mod FilledSections
 mod Started
 mod BuilderAfterTags
-mod UnchangedViews
 mod Named
 mod AskedHints
 mod WayPlaces
 mod WholeTranslation
-mod Answering
+pub mod Answering
 pub mod Numbering
 pub mod NotingEscapes
 pub mod Typed
@@ -27,7 +26,6 @@ mod ImportPlaces
 mod FilledEntities
 mod Filling
 pub mod GatheredTables
-pub mod LookedUp
 mod GatheredGlobals
 pub mod HeldExpressions
 pub mod HoldsLists
@@ -42,7 +40,7 @@ pub mod DeclaredKinds
 pub mod DeclaredLooks
 pub mod Naming
 mod Places
-mod Excepting
+pub mod Excepting
 pub mod Tagging
 pub mod Agreeing
 pub mod AlikeFunctions

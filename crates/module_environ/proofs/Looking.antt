@@ -10,7 +10,7 @@ use Rattle.module_types.specs.Views.{TypeIndex}
 use Rattle.module_types.specs.Builder.{BuilderState}
 use Rattle.module_types.specs.ClosureAnswers.{Answer, AnswersBelow}
 use Rattle.module_types.specs.Converter.{TypesAndGroup, interned_name, look_index, answered, answered-is}
-use Rattle.module_environ.specs.Environment.{interned_in, number_or_zero, AreHeld, look_type}
+use Rattle.module_environ.specs.Environment.{interned_in, number_or_zero, AreHeld, declared_name}
 
 module _ (types : List EngineOrModuleTypeIndex) where
   -- what the record gives at an index
@@ -39,7 +39,7 @@ module _ (types : List EngineOrModuleTypeIndex) where
     number-is i h (Some k) at held = sym (answered-is given c bound answers ids i h k (gives (index_of i) k at))
 
     pub look-is : AreHeld types (length b.list.types) → (i : ℕ) → i < length types
-        → look_index given c bound answers ids (index.Module i) ≡ look_type types b (index.Module i)
+        → look_index given c bound answers ids (index.Module i) ≡ declared_name types b i
     look-is held i below =
         let number = number-is i (subst (λ n. i < n) (sym e) below) (interned_in types i) refl (held i below) in
         ap (interned_name c) number ∙ ap (λ k. interned_name k (number_or_zero (interned_in types i))) same

@@ -21,6 +21,7 @@ use Rattle.init_plan.specs.declared.translation.ModuleTranslation.{ModuleTransla
 use Rattle.init_plan.specs.Ready.{MemoryHalfIsReady}
 use Rattle.module_environ.specs.Initialisers.{passive_data_in, passive_data_from}
 use Rattle.module_environ.specs.Translation.{HasData, HasEntities, CountsImports}
+use Rattle.module_environ.proofs.Filling.{length-filter_map}
 
 -- ---- active segments
 
@@ -37,14 +38,6 @@ active_in_range n l (s ∷ ss) is named =
           → All (λ (x : ActiveSegment). x.memory < n) (cons_option (active_of_kind kind s.bytes) (active_among ss))
       with_kind Passive named others = others
       with_kind (Active memory offset) named others = All-cons (λ (x : ActiveSegment). x.memory < n) _ (active_among ss) (omega arith) others
-
-few_active : (ss : List Segment) → length (active_among ss) ≤ length ss
-few_active [] = omega arith
-few_active (s ∷ ss) = with_kind s.kind (few_active ss) where
-  with_kind : (kind : DataKind) → length (active_among ss) ≤ length ss
-      → length (cons_option (active_of_kind kind s.bytes) (active_among ss)) ≤ length (s ∷ ss)
-  with_kind Passive few = omega arith
-  with_kind (Active memory offset) few = omega arith
 
 -- ---- passive segments
 
@@ -100,7 +93,7 @@ page_sizes types h =
 
 -- ---- the whole
 
-pub memories-ready : (m : Module) (t : ModuleTranslation) → HasData m t → HasEntities m t → CountsImports m t → Keeps m → HasFewEntries m
+pub memories-ready : (m : Module) (t : ModuleTranslation) → HasData m t → HasEntities m t → CountsImports m t.module → Keeps m → HasFewEntries m
     → MemoryHalfIsReady t
 memories-ready m t data' entities counts kept few =
     let ss = segments m in
@@ -118,7 +111,7 @@ memories-ready m t data' entities counts kept few =
       few_memories = omega (arith, count, few.memories);
       page_sizes = subst (All (λ (x : Memory). (x.page_size_log2 ≡ 0) ⊎ (x.page_size_log2 ≡ 16))) (sym entities.memories)
           (page_sizes (memories m) (kept L4).memories);
-      few_segments = let le = few_active ss in omega (arith, active, le, few.segments);
+      few_segments = let le = length-filter_map (λ (s : Segment). active_of_kind s.kind s.bytes) ss in omega (arith, active, le, few.segments);
       in_range = subst (All (λ (s : ActiveSegment). s.memory < length t.module.memories)) (sym data'.active)
           (active_in_range _ (lists_of_module m) ss (sym count) (kept L9).segments);
       few_passive = let le = few_passive 0 ss in omega (arith, passive, le, few.segments);

@@ -1,39 +1,29 @@
 -- A translation of all sections still is one when its module has a name and its custom sections are filled in.
-use Rattle.std.proofs.Common.{◌≡◌, ◌∙◌, Bool, List, refl, sym, ap, subst}
+use Rattle.std.proofs.Common.{◌≡◌, ◌∙◌, Bool, List, sym, subst}
 use Rattle.std.specs.Prelude.{IfSome, ℕ}
 use Rattle.std.proofs.lemmas.List.Elements.{All-weaker}
 use Rattle.entity_map.specs.declared.pool.Atom.{Atom}
 use Rattle.wasm_spec.specs.Module as plain
 use Rattle.wasm_types.specs.declared.entity.EntityIndex.{EntityIndex}
 use Rattle.init_plan.specs.declared.translation.ModuleTranslation.{ModuleTranslation}
-use Rattle.module_environ.specs.Filling.{LeavesRest, OnlyCustomsChange}
+use Rattle.module_environ.specs.Filling.{OnlyCustomsChange}
 use Rattle.module_environ.specs.Pooled.{with_texts, own_name, HasText, HasTexts}
 use Rattle.module_environ.specs.Translation.{HasEntities, HasSections}
-use Rattle.module_environ.proofs.UnchangedViews.{Carries, sections-carry}
 use Rattle.module_environ.proofs.GrownPool.{GrowsBy, grows-within, length-own, imports-grown, exports-grown, names-grown, pooled-grown}
 
-module _ (t u : ModuleTranslation) (same : OnlyCustomsChange t u) where
-  pub rest-named : (old : ModuleTranslation) → LeavesRest old t → LeavesRest old u
-  rest-named old rest = record {
-    index = ap (λ (x : ModuleTranslation). x.module.module_index) same ∙ rest.index;
-    startup = ap (λ (x : ModuleTranslation). x.module.startup) same ∙ rest.startup;
-    offset = ap (λ (x : ModuleTranslation). x.wasm_module_offset) same ∙ rest.offset;
-  }
-
-  pub imports-named : (count : ℕ) → t.debuginfo.wasm_file.imported_func_count ≡ count → u.debuginfo.wasm_file.imported_func_count ≡ count
-  imports-named count is = ap (λ (x : ModuleTranslation). x.debuginfo.wasm_file.imported_func_count) same ∙ is
-
-  pub sections-named : (debugged native : Bool) (m : plain.Module) → u.module.strings ≡ with_texts t.module.strings (own_name native m)
-      → IfSome u.module.name (HasText u.module.strings) → HasSections debugged m t → HasSections debugged m u
-  sections-named debugged native m put pooled s =
-      let e : HasEntities m t = s.entities in
-      let old : List (List ℕ) = t.module.strings in
-      let new : List (List ℕ) = u.module.strings in
-      let grows : GrowsBy 1 old new = grows-within 1 (own_name native m) old new put (length-own native m) in
-      let initializers = t.module.initializers.items in
-      let exports = t.module.exports.entries in
-      let Exported : List (List ℕ) → Atom × EntityIndex → Type 0 = λ texts e. HasText texts e.0 in
-      sections-carry debugged m t u (subst (Carries t) (sym same) refl) (subst (HasEntities m) (sym same) (record {
+pub sections-named : (t u : ModuleTranslation) → OnlyCustomsChange t u → (debugged native : Bool) (m : plain.Module)
+    → u.module.strings ≡ with_texts t.module.strings (own_name native m)
+    → IfSome u.module.name (HasText u.module.strings) → HasSections debugged m t → HasSections debugged m u
+sections-named t u same debugged native m put pooled s =
+    let e : HasEntities m t = s.entities in
+    let old : List (List ℕ) = t.module.strings in
+    let new : List (List ℕ) = u.module.strings in
+    let grows : GrowsBy 1 old new = grows-within 1 (own_name native m) old new put (length-own native m) in
+    let initializers = t.module.initializers.items in
+    let exports = t.module.exports.entries in
+    let Exported : List (List ℕ) → Atom × EntityIndex → Type 0 = λ texts e. HasText texts e.0 in
+    subst (HasSections debugged m) (sym same) (record {
+      entities = record {
         imports = imports-grown 1 old new grows initializers e.pooled.imports ∙ e.imports;
         exports = exports-grown 1 old new grows exports e.pooled.exports ∙ e.exports;
         tables = e.tables;
@@ -45,4 +35,11 @@ module _ (t u : ModuleTranslation) (same : OnlyCustomsChange t u) where
           exports = All-weaker (Exported old) (Exported new) (λ e. pooled-grown 1 old new grows e.0) exports e.pooled.exports;
           name = pooled;
         };
-      })) s
+      };
+      counts = s.counts;
+      escapes = s.escapes;
+      heap = s.heap;
+      globals = s.globals;
+      elements = s.elements;
+      data_segments = s.data_segments;
+    })

@@ -1,6 +1,5 @@
 -- Names that are added in turn: each declared type is named at its place.
-use Rattle.std.proofs.Common.{◌≡◌, ◌<◌, ℕ, zero, suc, Option, Some, None, refl, List, [], ◌∷◌, ◌++◌, length, ap, arith}
-use Rattle.std.specs.Prelude.{IsSome}
+use Rattle.std.proofs.Common.{◌≡◌, ◌<◌, ℕ, zero, suc, Some, List, [], ◌∷◌, ◌++◌, length, ap, arith}
 use Rattle.wasm_spec.specs.TypeData.{Concrete}
 use Rattle.wasm_types.specs.declared.heap.WasmHeapType.{WasmHeapType}
 use Rattle.wasm_types.specs.ValueViews.{Name, heap_of}
@@ -17,7 +16,3 @@ named-more [] h name each is (suc i) lt = absurd (omega (arith, lt))
 named-more (n ∷ names) h name each is zero lt = each 0 (omega arith)
 named-more (n ∷ names) h name each is (suc i) lt =
     named-more names h (λ k. name (suc k)) (λ k below. each (suc k) (omega (arith, below))) is i (omega (arith, lt))
-
-pub is-some : (o : Option Name) (n : Name) → o ≡ Some n → IsSome o
-is-some None n e = absurd cc
-is-some (Some m) n e = refl

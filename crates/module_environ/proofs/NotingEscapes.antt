@@ -4,14 +4,12 @@ use Rattle.std.specs.Prelude.{◌==◌, if◌then◌else◌}
 use Rattle.std.specs.List.{list_any, range_with_len}
 use Rattle.std.proofs.lemmas.List.{take_more, length-set, map-append, map-id}
 use Rattle.std.proofs.lemmas.List.FromFn.{map-range_with_len_more}
-use Rattle.rule_spec.specs.Lists.{Lists}
-use Rattle.module_environ.specs.Escapes.{references, escaping}
 use Rattle.module_environ.specs.Firsts.{firsts_after}
 use Rattle.module_environ.specs.EscapeLog.{EscapeLog, after_escapes}
 use Rattle.module_environ.specs.Numbers.{AreNumbers}
 use Rattle.module_environ.proofs.Numbering.{after_escapes-new, after_escapes-old}
 
-firsts-append : (known xs ys : List ℕ) → firsts_after (firsts_after known xs) ys ≡ firsts_after known (xs ++ ys)
+pub firsts-append : (known xs ys : List ℕ) → firsts_after (firsts_after known xs) ys ≡ firsts_after known (xs ++ ys)
 firsts-append known [] ys = refl
 firsts-append known (x ∷ xs) ys =
     by (list_any (λ k. k == x) known) (firsts-append known xs ys) (firsts-append (known ++ x ∷ []) xs ys)
@@ -54,8 +52,3 @@ pub seen-old : (s : EscapeLog) (numbers order : List ℕ) (f : ℕ) → AreNumbe
     → f < length numbers → (get_or numbers f 0 ≡ 4294967295 → ⊥) → s ≡ after_escapes s (f ∷ [])
 seen-old s numbers order f kept seen in' apart =
     subst (λ x. x ≡ after_escapes x (f ∷ [])) seen (λ i. record { count = length numbers; order = after_escapes-old numbers order f kept in' apart i })
-
--- all references of a module, in order
-pub after_escapes-all : (count : ℕ) (debugged : Bool) (l : Lists)
-    → (after_escapes (record { count = count; order = [] }) (references debugged l)).order ≡ escaping debugged l
-after_escapes-all count debugged l = refl

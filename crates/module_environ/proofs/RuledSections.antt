@@ -1,7 +1,6 @@
 -- What the rules say of each section: its types are known, its expressions can be converted, and its indices are in range.
-use Rattle.std.proofs.Common.{◌≡◌, ℕ, ◌+◌, ◌<◌, ◌≤◌, ◌^◌, ◌⊎◌, List, [], ◌∷◌, length, take, Option, Some, None, subst, arith, inl, inr, get_or, length-take, ◌≢◌, Bool, true, false}
-use Rattle.std.specs.Prelude.{All, IfSome, IsSomeAnd, slice_get, unwrap_or}
-use Rattle.std.specs.Option.{option_map, option_and_then}
+use Rattle.std.proofs.Common.{◌≡◌, ℕ, ◌+◌, ◌<◌, ◌≤◌, ◌^◌, ◌⊎◌, List, [], ◌∷◌, length, take, Option, Some, None, sym, subst, arith, inl, inr, get_or, length-take, ◌≢◌, Bool, true, false}
+use Rattle.std.specs.Prelude.{All, IfSome, slice_get, unwrap_or}
 use Rattle.std.proofs.lemmas.List.Elements.{All-nil, All-cons, All-head, All-tail, All-weaker}
 use Rattle.std.proofs.lemmas.Option.{slice_get_cases}
 use Rattle.wasm_spec.specs.declared.entities.GlobalType.{GlobalType}
@@ -12,28 +11,25 @@ use Rattle.wasm_spec.specs.declared.entities.ExternalKind.TheVariants as kind
 use Rattle.wasm_spec.specs.declared.types.UnpackedIndex.{UnpackedIndex}
 use Rattle.wasm_spec.specs.declared.types.UnpackedIndex.TheVariants as index
 use Rattle.wasm_spec.specs.TypeData.{heap_of}
-use Rattle.wasm_spec.specs.Module.{Import, TableDef, GlobalDef, ElementKind, ActiveElement, ElementItems, Functions, Expressions, Element, DataKind, Passive, Active, Segment, table_import, global_import, HasFewEntries}
+use Rattle.wasm_spec.specs.Module.{TableDef, GlobalDef, ElementKind, ActiveElement, ElementItems, Functions, Expressions, DataKind, Passive, Active, HasFewEntries}
 use Rattle.wasm_spec.specs.Module as plain
-use Rattle.rule_spec.specs.declared.rules.Rule.TheVariants.{L2, L6, L7, L8, L9, L10}
+use Rattle.rule_spec.specs.declared.rules.Rule.TheVariants.{L6, L7, L9, L10}
 use Rattle.rule_spec.specs.declared.classes.Class.{Class}
 use Rattle.rule_spec.specs.declared.classes.Class.TheVariants as class
-use Rattle.rule_spec.specs.Lists.{Lists, Declared, lists_of_module, kind_at}
-use Rattle.rule_spec.specs.Rules.{Keeps, AreDistinct}
-use Rattle.rule_spec.specs.TypeRules.{IsFunction, NamesFunctionType}
-use Rattle.rule_spec.specs.Indices.{space_size, TakesAndGivesNothing, CanStart, NamesTable, NamesMemory, NamesFunctions}
-use Rattle.rule_spec.specs.References.{RefersIn, ValueRefersIn, AllReferIn, ExpressionRefersIn, ElementKindRefersIn, TableRefersIn, GlobalRefersIn, ItemsReferIn, DataKindRefersIn}
+use Rattle.rule_spec.specs.Lists.{Lists, lists_of_module}
+use Rattle.rule_spec.specs.Rules.{Keeps}
+use Rattle.rule_spec.specs.Indices.{space_size, NamesTable, NamesMemory, NamesFunctions}
+use Rattle.rule_spec.specs.References.{AllReferIn, ExpressionRefersIn, ElementKindRefersIn, TableRefersIn, GlobalRefersIn, ItemsReferIn, DataKindRefersIn}
 use Rattle.rule_spec.specs.Expressions.{AreExpressionsTyped, address_class, HasTypedInitialiser, AreGlobalsTyped, HasTableOffset, HasTypedItems, HasMemoryOffset}
 use Rattle.rule_spec.specs.Typing.{HasClass}
-use Rattle.wasm_types.specs.EntityData.{global_edges, table_edges}
-use Rattle.wasm_convert.specs.Conversion.{global_type_of, table_type_of}
-use Rattle.wasm_convert.specs.Known.{Known}
 use Rattle.init_plan.specs.Held.{erase_null_type}
+use Rattle.init_plan.proofs.Holding.{erased_whole}
 use Rattle.module_environ.specs.Convertible.{IsConvertible}
 use Rattle.module_environ.specs.Escapes.{exported_function}
 use Rattle.module_environ.specs.Exported.{CanExport}
 use Rattle.module_environ.specs.Segments.{IsOffset, IsDataConvertible, AreDataConvertible, IsKindConvertible, AreItemsConvertible, AreElementsConvertible}
-use Rattle.module_environ.proofs.Agreeing.{known-table, known-global, all-tables, all-globals}
-use Rattle.module_environ.proofs.FromRules.{below-by, heap-known, convertible}
+use Rattle.module_environ.proofs.DeclaredKinds.{types-long}
+use Rattle.module_environ.proofs.FromRules.{heap-known, convertible}
 
 -- two facts of each of a list are one
 All-both : {A : Type 0} (P Q R : A → Type 0) → ((x : A) → P x → Q x → R x) → (xs : List A) → All P xs → All Q xs → All R xs
@@ -46,18 +42,15 @@ at-entry Q R xs i lt f h = by (slice_get_cases xs i).1 where
   by (inl found) = f found.0 (subst (λ o. IfSome o Q) found.2 h)
   by (inr past) = absurd (omega (arith, past.0, lt))
 
--- an expression of a number is held whole
-abbrev pub NumbersAreWhole : Type 0
-NumbersAreWhole = (l : Lists) (visible : List GlobalType) (e : plain.Expression) (c : Class) → c ≢ class.Ref → HasClass l visible e c → erase_null_type e ≡ e
-
--- a module that keeps the rules, with what is known of its declared types
+-- a module that keeps the rules, with what is known of its declared types, and the number of its functions
 module _ (m : plain.Module) (keeps : Keeps m) (few : HasFewEntries m) (known : UnpackedIndex → Type 0)
-    (knows : (i : ℕ) → i < length (lists_of_module m).types → known (index.Module i)) (few_types : length (lists_of_module m).types < 2 ^ 30) where
+    (knows : (i : ℕ) → i < length (lists_of_module m).types → known (index.Module i))
+    (functions : ℕ) (counted : functions ≡ length (lists_of_module m).functions) where
   abbrev l : Lists
   l = lists_of_module m
 
   abbrev Converts : plain.Expression → Type 0
-  Converts e = IsConvertible known (length l.functions) e
+  Converts e = IsConvertible known functions e
 
   rule-refers : AllReferIn (length l.types) l
   rule-refers = keeps L10
@@ -67,16 +60,11 @@ module _ (m : plain.Module) (keeps : Keeps m) (few : HasFewEntries m) (known : U
 
   convert : (visible : List GlobalType) → length visible < 2 ^ 30 → (e : plain.Expression) (c : Class) → HasClass l visible e c
       → ExpressionRefersIn (length l.types) e → Converts e
-  convert visible small e c = convertible l known knows few_types few.functions visible small e c
+  convert visible small e c typed refers =
+      subst (λ n. IsConvertible known n e) (sym counted)
+      (convertible l known knows (omega (arith, few.types, types-long m)) few.functions visible small e c typed refers)
 
   -- ---- tables
-
-  abbrev KnowsTable : TableType → Type 0
-  KnowsTable t = Known known (table_edges (λ i. i) (table_type_of t))
-
-  pub tables-known : All KnowsTable (plain.tables m)
-  tables-known = All-weaker (λ (t : TableType). RefersIn (length l.types) t.element_type) KnowsTable (known-table known (length l.types) knows)
-      (plain.tables m) (all-tables (length l.types) m rule-refers)
 
   few-imported : length (take l.imported_globals l.global_types) < 2 ^ 30
   few-imported = omega (arith, length-take l.imported_globals l.global_types, few.globals)
@@ -91,13 +79,6 @@ module _ (m : plain.Module) (keeps : Keeps m) (few : HasFewEntries m) (known : U
       by (Some e) a b = convert _ few-imported e class.Ref a b
 
   -- ---- globals
-
-  abbrev KnowsGlobal : GlobalType → Type 0
-  KnowsGlobal g = Known known (global_edges (λ i. i) (global_type_of g))
-
-  pub globals-known : All KnowsGlobal (plain.globals m)
-  globals-known = All-weaker (λ (g : GlobalType). ValueRefersIn (length l.types) g.content_type) KnowsGlobal (known-global known (length l.types) knows)
-      (plain.globals m) (all-globals (length l.types) m rule-refers)
 
   initialisers-from : (index : ℕ) (gs : List GlobalDef) → AreGlobalsTyped l index gs → All (GlobalRefersIn (length l.types)) gs
       → All (λ (g : GlobalDef). Converts g.init) gs
@@ -126,16 +107,17 @@ module _ (m : plain.Module) (keeps : Keeps m) (few : HasFewEntries m) (known : U
   element-kind _ named typed refers = tt
 
   element-items : (i : ElementItems) → NamesFunctions l i → HasTypedItems l i → ItemsReferIn (length l.types) i
-      → AreItemsConvertible known (length l.functions) i
+      → AreItemsConvertible known functions i
   element-items (Functions indices) named typed refers =
-      All-weaker (λ f. f < length l.functions) (λ f. (f < length l.functions) × (f < 4294967295)) (λ f lt. (lt, omega (arith, lt, few.functions))) indices named
+      All-weaker (λ f. f < length l.functions) (λ f. (f < functions) × (f < 4294967295)) (λ f lt. (omega (arith, lt, counted), omega (arith, lt, few.functions)))
+      indices named
   element-items (Expressions type items) named typed refers = (
     heap-known l known knows (heap_of type.heap) refers.0,
     All-both (λ e. HasClass l l.global_types e class.Ref) (ExpressionRefersIn (length l.types)) Converts (λ e t r. convert l.global_types few.globals e class.Ref t r)
         items typed refers.1,
   )
 
-  pub elements-convert : AreElementsConvertible known (length l.functions) l.elements
+  pub elements-convert : AreElementsConvertible known functions l.elements
   elements-convert k d lt =
       let e = get_or l.elements k d in
       let named = (keeps L9).elements k d lt in
@@ -150,55 +132,34 @@ module _ (m : plain.Module) (keeps : Keeps m) (few : HasFewEntries m) (known : U
   not-ref true e = let no : class.I64 ≡ class.Ref = e in cc
   not-ref false e = let no : class.I32 ≡ class.Ref = e in cc
 
-  segment-converts : NumbersAreWhole → (k : DataKind) → NamesMemory l k → HasMemoryOffset l k → DataKindRefersIn (length l.types) k
+  segment-converts : (k : DataKind) → NamesMemory l k → HasMemoryOffset l k → DataKindRefersIn (length l.types) k
       → IsDataConvertible known k
-  segment-converts whole Passive named typed refers = tt
-  segment-converts whole (Active memory offset) named typed refers =
+  segment-converts Passive named typed refers = tt
+  segment-converts (Active memory offset) named typed refers =
       let whole-offset = at-entry (λ (t : MemoryType). HasClass l l.global_types offset (address_class t.memory64))
       (IsOffset known offset × (erase_null_type offset ≡ offset)) l.memories memory named
       (λ t h. (
         offset-converts offset (convert l.global_types few.globals offset _ h refers),
-        whole l l.global_types offset (address_class t.memory64) (not-ref t.memory64) h,
+        erased_whole l l.global_types offset (address_class t.memory64) (not-ref t.memory64) h,
       )) typed in
       (omega (arith, named, few.memories), whole-offset.0, whole-offset.1)
 
-  pub segments-convert : NumbersAreWhole → AreDataConvertible known l.segments
-  segments-convert whole k d lt =
-      segment-converts whole (get_or l.segments k d).kind ((keeps L9).segments k d lt) (rule-typed.segments k d lt) (rule-refers.segments k d lt)
-
-  -- ---- functions and tags
-
-  pub named-below : (i : ℕ) → NamesFunctionType l i → i < length l.types
-  named-below i named = below-by (λ o. IsSomeAnd (option_map (λ (d : Declared). d.type.composite.inner) o) IsFunction) l.types i (λ q. q) named
-
-  pub functions-below : All (λ i. i < length l.types) (plain.functions m)
-  functions-below = All-weaker (NamesFunctionType l) (λ i. i < length l.types) named-below (plain.functions m) (keeps L2).functions
+  pub segments-convert : AreDataConvertible known l.segments
+  segments-convert k d lt =
+      segment-converts (get_or l.segments k d).kind ((keeps L9).segments k d lt) (rule-typed.segments k d lt) (rule-refers.segments k d lt)
 
   -- ---- exports
 
   export-in-range : (k : ExternalKind) (index : ℕ) → index < space_size l k
-      → (index < 4294967295) × IfSome (exported_function k index) (λ f. f < length l.functions)
-  export-in-range kind.Func index lt = (omega (arith, lt, few.functions), lt)
+      → (index < 4294967295) × IfSome (exported_function k index) (λ f. f < functions)
+  export-in-range kind.Func index lt = (omega (arith, lt, few.functions), omega (arith, lt, counted))
   export-in-range kind.Table index lt = (omega (arith, lt, few.tables), tt)
   export-in-range kind.Memory index lt = (omega (arith, lt, few.memories), tt)
   export-in-range kind.Global index lt = (omega (arith, lt, few.globals), tt)
   export-in-range kind.Tag index lt = (omega (arith, lt, few.tags), tt)
 
-  pub exports-in-range : All (CanExport (length l.functions)) l.exports
+  pub exports-in-range : All (CanExport functions) l.exports
   exports-in-range k d lt =
       let e = get_or l.exports k d in
       let r = export-in-range e.kind e.index ((keeps L7).in_space k d lt) in
       record { index = r.0; function = r.1 }
-
-  pub exports-distinct : AreDistinct l.exports
-  exports-distinct = (keeps L7).distinct
-
-  -- ---- the start function
-
-  pub starts-in-range : All (λ f. f < 4294967295) l.starts
-  starts-in-range = All-weaker (CanStart l) (λ f. f < 4294967295) (λ f can. omega (
-    arith,
-    below-by
-        (λ (o : Option ℕ). IsSomeAnd (option_and_then (kind_at l) o) TakesAndGivesNothing) l.functions f (λ q. q) can,
-    few.functions,
-  )) l.starts (keeps L8)

@@ -1,12 +1,13 @@
 -- The tables of a translated module may be planned.
-use Rattle.std.proofs.Common.{◌≡◌, ◌∙◌, ℕ, ◌+◌, ◌<◌, ◌≤◌, Bool, true, false, List, [], ◌∷◌, length, map, take, Option, Some, None, sym, ap, subst, arith, refl}
+use Rattle.std.proofs.Common.{◌≡◌, ◌∙◌, ℕ, ◌+◌, ◌<◌, Bool, List, [], ◌∷◌, length, map, take, Option, Some, None, sym, ap, subst, arith, refl}
 use Rattle.std.specs.Prelude.{All, IfSome, unwrap_or, nat_lt}
 use Rattle.std.specs.Option.{option_map}
 use Rattle.std.specs.List.{cons_option, enumerate_from}
 use Rattle.std.specs.Global.{Vec}
-use Rattle.std.proofs.lemmas.Bool.{ltb-true}
-use Rattle.std.proofs.lemmas.List.{length-map, length-append, get_or-map}
+use Rattle.std.proofs.lemmas.List.{length-map, length-append}
 use Rattle.std.proofs.lemmas.List.Elements.{All-nil, All-cons, All-head, All-tail, All-map, All-weaker}
+use Rattle.std.proofs.lemmas.List.FromFn.{length-enumerate_from}
+use Rattle.form_lists.proofs.AllSections.{All-from_map}
 use Rattle.wasm_spec.specs.declared.entities.GlobalType.{GlobalType}
 use Rattle.wasm_spec.specs.declared.operators.Operator.{Operator}
 use Rattle.wasm_spec.specs.declared.operators.Operator.TheVariants as op
@@ -16,7 +17,7 @@ use Rattle.rule_spec.specs.declared.rules.Rule.TheVariants.{L6, L9}
 use Rattle.rule_spec.specs.declared.classes.Class.{Class}
 use Rattle.rule_spec.specs.declared.classes.Class.TheVariants as class
 use Rattle.rule_spec.specs.Lists.{Lists, lists_of_module}
-use Rattle.rule_spec.specs.Typing.{Signature, refers_to, where_true, HasClass}
+use Rattle.rule_spec.specs.Typing.{refers_to, HasClass}
 use Rattle.rule_spec.specs.Expressions.{HasTypedInitialiser, HasTypedItems, IsElementTyped}
 use Rattle.rule_spec.specs.Indices.{NamesTable, NamesFunctions, IsElementInRange}
 use Rattle.rule_spec.specs.Rules.{Keeps}
@@ -42,24 +43,17 @@ use Rattle.init_plan.specs.Tables.{IsAmong, own_tables, TableHalfIsReady}
 use Rattle.module_environ.specs.Types.{look_up_in}
 use Rattle.module_environ.specs.Initialisers.{ActiveItems, Items, FunctionItems, ExpressionItems, active_in, active_elements, view_segment, items_in, view_items, view_first_value}
 use Rattle.module_environ.specs.Translation.{HasElements, HasEntities, CountsImports, Escapes}
-
-All-unmap : {X Y : Type 0} (P : Y → Type 0) (f : X → Y) (xs : List X) → All P (map f xs) → All (λ x. P (f x)) xs
-All-unmap P f xs h k d lt = subst P (get_or-map f xs k d (f d) lt) (h k (f d) (let long = length-map xs f in omega (arith, long)))
+use Rattle.module_environ.proofs.FromRules.{sized-below}
+use Rattle.module_environ.proofs.Filling.{length-filter_map}
 
 -- ---- functions in expressions
-
--- what one operator names is a function
-named : (l : Lists) (n : ℕ) (visible : List GlobalType) (f : ℕ) (b : Bool) (s : Signature) → nat_lt f n ≡ b → where_true b (refers_to []) ≡ Some s
-    → f < n
-named l n visible f true s is e = ltb-true f n is
-named l n visible f false s is e = let none : None ≡ Some s = e in absurd (cc)
 
 module _ (look : LookUp) (l : Lists) (visible : List GlobalType) (c : Class) where
   abbrev cell : Expression → Option ℕ
   cell e = unwrap_or (expression_cell e) None
 
   cell-one : (o : Operator) → HasClass l visible (o ∷ []) c → IsAmong (length l.functions) (cell (expression_of (const_ops_of look (o ∷ []))))
-  cell-one (op.RefFunc f) typed = named l (length l.functions) visible f (nat_lt f (length l.functions)) typed.1.signed refl typed.1.is_signed
+  cell-one (op.RefFunc f) typed = sized-below l f (nat_lt f (length l.functions)) (refers_to []) typed.1.signed refl typed.1.is_signed
   cell-one _ typed = tt
 
   cell-among : (e : Expression) → HasClass l visible e c → IsAmong (length l.functions) (cell (expression_of (const_ops_of look e)))
@@ -108,15 +102,6 @@ module _ (look : LookUp) (l : Lists) where
         with_kind (ActiveElement table offset) in' functions others =
             All-cons IsActiveReady _ (active_elements look es) (record { table = in'; functions = functions }) others
 
-few_active : (look : LookUp) (es : List Element) → length (active_elements look es) ≤ length es
-few_active look [] = omega arith
-few_active look (e ∷ es) = with_kind e.kind (few_active look es) where
-  with_kind : (k : ElementKind) → length (active_elements look es) ≤ length es
-      → length (cons_option (active_in look k e.items) (active_elements look es)) ≤ length (e ∷ es)
-  with_kind PassiveElement few = omega arith
-  with_kind DeclaredElement few = omega arith
-  with_kind (ActiveElement table offset) few = omega arith
-
 -- ---- initial values
 
 initial-seen : (v : TableInitialValue) → initial_of v ≡ option_map expression_of (view_first_value v)
@@ -144,17 +129,13 @@ no_images : {T : Type 0} (images : List (Vec (Index FuncSpace))) (tables : List 
 no_images {T} images tables none =
     All-map (λ (image : List (Option ℕ)). image ≡ []) (λ (v : Vec (Index FuncSpace)). image_of v.items) images
     (All-weaker (λ (v : Vec (Index FuncSpace)). v.items ≡ []) (λ (v : Vec (Index FuncSpace)). image_of v.items ≡ []) (λ v e. ap image_of e) images
-    (All-unmap (λ (l : List (Index FuncSpace)). l ≡ []) (λ (v : Vec (Index FuncSpace)). v.items) images
+    (All-from_map (λ (l : List (Index FuncSpace)). l ≡ []) (λ (v : Vec (Index FuncSpace)). v.items) images
     (subst (All (λ (l : List (Index FuncSpace)). l ≡ [])) (sym none)
     (All-map (λ (l : List (Index FuncSpace)). l ≡ []) (λ (t : T). []) tables (λ k d lt. refl)))))
 
-length-enumerate : {X : Type 0} (n : ℕ) (xs : List X) → length (enumerate_from n xs) ≡ length xs
-length-enumerate n [] = refl
-length-enumerate n (x ∷ xs) = let more = length-enumerate (n + 1) xs in omega arith
-
 -- ---- the whole
 
-module _ (debugged : Bool) (m : Module) (t : ModuleTranslation) (has : HasElements m t) (entities : HasEntities m t) (counts : CountsImports m t)
+module _ (debugged : Bool) (m : Module) (t : ModuleTranslation) (has : HasElements m t) (entities : HasEntities m t) (counts : CountsImports m t.module)
     (escapes : Escapes debugged m t) (kept : Keeps m) (few : HasFewEntries m) where
   abbrev l : Lists
   l = lists_of_module m
@@ -166,7 +147,7 @@ module _ (debugged : Bool) (m : Module) (t : ModuleTranslation) (has : HasElemen
   table_count = sym (length-map t.module.tables table_of) ∙ ap length entities.tables ∙ length-map (plain.tables m) _
 
   function_count : length t.module.functions ≡ length (plain.functions m)
-  function_count = ap length escapes.functions ∙ length-map (enumerate_from 0 (plain.functions m)) _ ∙ length-enumerate 0 (plain.functions m)
+  function_count = ap length escapes.functions ∙ length-map (enumerate_from 0 (plain.functions m)) _ ∙ length-enumerate_from 0 (plain.functions m)
 
   own_count : length (plain.tables m) ≡ t.module.num_imported_tables + length l.tables
   own_count = length-append (plain.imported_of plain.table_import m) (map (λ (d : TableDef). d.type) l.tables)
@@ -176,7 +157,7 @@ module _ (debugged : Bool) (m : Module) (t : ModuleTranslation) (has : HasElemen
   ready = subst (All (IsActiveReady look l)) (sym has.active) (active-ready look l l.elements (kept L9).elements (kept L6).elements)
 
   each : All (λ (s : TableSegment). IsActiveReady look l (view_segment s)) t.table_initialization.segments.items
-  each = All-unmap (IsActiveReady look l) view_segment t.table_initialization.segments.items ready
+  each = All-from_map (IsActiveReady look l) view_segment t.table_initialization.segments.items ready
 
   initials : All (λ (v : TableInitialValue). IsAmong (length t.module.functions) (initial_function (initial_of v)))
       t.table_initialization.initial_values
@@ -191,7 +172,7 @@ module _ (debugged : Bool) (m : Module) (t : ModuleTranslation) (has : HasElemen
       All-weaker (λ (v : TableInitialValue). A (view_first_value v))
       (λ (v : TableInitialValue). IsAmong (length t.module.functions) (initial_function (initial_of v)))
       (λ v h. subst (λ o. IsAmong (length t.module.functions) (initial_function o)) (sym (initial-seen v)) h) t.table_initialization.initial_values
-      (All-unmap A view_first_value t.table_initialization.initial_values seen)
+      (All-from_map A view_first_value t.table_initialization.initial_values seen)
 
   pub tables-ready : TableHalfIsReady t
   tables-ready =
@@ -210,7 +191,7 @@ module _ (debugged : Bool) (m : Module) (t : ModuleTranslation) (has : HasElemen
         few_segments =
             let count = length-map segments active_elements_of in
             let same = sym (length-map segments view_segment) ∙ ap length has.active in
-            let le = few_active look l.elements in
+            let le = length-filter_map (λ (e : Element). active_in look e.kind e.items) l.elements in
             omega (arith, count, same, le, few.elements);
         in_range = All-map (λ (s : ActiveElements). s.table < length t.module.tables) active_elements_of segments
             (All-weaker (λ (s : TableSegment). IsActiveReady look l (view_segment s))

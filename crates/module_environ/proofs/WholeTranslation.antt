@@ -1,5 +1,5 @@
 -- The parts of a translation together: all but its bytes and its code.
-use Rattle.std.proofs.Common.{◌≡◌, ℕ, ◌+◌, ◌<◌, ◌^◌, Bool, true, false, List, length, map, Some, Result, Err, refl, sym, ap, subst, ◌∙◌}
+use Rattle.std.proofs.Common.{◌≡◌, ℕ, ◌+◌, ◌<◌, ◌^◌, Bool, true, false, List, length, map, Some, Result, Err, sym, ap, subst, ◌∙◌}
 use Rattle.std.specs.Prelude.{not, ◌&&◌, is_none}
 use Rattle.wasm_spec.specs.Module.{function_import}
 use Rattle.wasm_spec.specs.Module as plain
@@ -13,6 +13,7 @@ use Rattle.form_types.specs.Types.{TypesData}
 use Rattle.wasm_types.specs.declared.index.EngineOrModuleTypeIndex.{EngineOrModuleTypeIndex}
 use Rattle.wasm_types.specs.declared.tag.Tag.{Tag}
 use Rattle.wasm_types.specs.declared.tunables.Tunables.{Tunables}
+use Rattle.wasm_module.specs.declared.startup.ModuleStartup.{ModuleStartup}
 use Rattle.wasm_module.specs.declared.startup.ModuleStartup.TheVariants as startup
 use Rattle.wasm_module.specs.Record.{ModuleRecord}
 use Rattle.module_types.specs.Builder.{Builder, BuilderState, builder_view}
@@ -26,13 +27,12 @@ use Rattle.module_environ.specs.Pooled.{pool_of}
 use Rattle.module_environ.specs.Entities.{count_of, tags_of}
 use Rattle.module_environ.specs.Types.{declared, type_index, interned_list, HoldsGroupsAlone}
 use Rattle.module_environ.specs.Tagged.{GainsExceptions}
-use Rattle.module_environ.specs.Translation.{startup_when, HasTypes, HasSections}
+use Rattle.module_environ.specs.Translation.{startup_when, HasSections}
 use Rattle.module_environ.specs.Translated.{starts_always, HoldsTypes}
 use Rattle.module_environ.specs.Filling.{LeavesRest}
 use Rattle.module_environ.specs.Forming.{IsFormed, FormCause}
 use Rattle.module_environ.proofs.Started.{starts-is}
 use Rattle.module_environ.proofs.BuilderAfterTags.{never-holds, always-holds, always-raised}
-use Rattle.module_environ.proofs.UnchangedViews.{CarriesNames, sections-keep, customs-keep, types-keep}
 
 -- ---- causes
 
@@ -55,20 +55,32 @@ module _ (tunables : Tunables) (validator : ℕ) (m : plain.Module) (old filled 
     (same : set ≡ record filled { «module» = record filled.module { types = indices; tags = tags }; private_parts = record filled.private_parts { types = set.private_parts.types } })
     (is-set : types_of set ≡ Some ids) (numbered : AreNumbered m ids) (made : ids.validator ≡ validator)
     (listed : indices ≡ map type_index (declared m)) (tagged-so : tags ≡ tags_of m) where
-  set-sections : HasSections tunables.debug_guest m set
-  set-sections = sections-keep m filled set (subst (CarriesNames filled) (sym same) refl) tunables.debug_guest sections
+  abbrev laid : ModuleStartup → ModuleTranslation
+  laid s = record filled {
+    «module» = record filled.module { types = indices; tags = tags; startup = s };
+    private_parts = record filled.private_parts { types = set.private_parts.types };
+  }
 
-  set-customs : HasCustoms tunables m set
-  set-customs = customs-keep m filled set (subst (CarriesNames filled) (sym same) refl) tunables customs
-
-  set-types : HasTypes m validator set
-  set-types = record {
-    declared = ap (λ (t : ModuleTranslation). t.module.types) same ∙ listed;
-    tags = ap (λ (t : ModuleTranslation). t.module.tags) same ∙ tagged-so;
-    types = ids;
-    set = is-set;
-    numbered = numbered;
-    made = made;
+  whole : (s : ModuleStartup) (b : BuilderState) → s ≡ startup_when m (starts_always m) → HoldsTypes m (builder_view b)
+      → IsFormed tunables validator m old (laid s) b
+  whole s b is holds = record {
+    keeps = keeps;
+    types = record {
+      declared = listed;
+      tags = tagged-so;
+      types = ids;
+      set = is-set;
+      numbered = numbered;
+      made = made;
+    };
+    sections = sections;
+    customs = customs;
+    strings = pooled;
+    imports = imports;
+    startup = is;
+    builder = holds;
+    index = rest.index;
+    offset = rest.offset;
   }
 
   set-startup : set.module.startup ≡ startup.None
@@ -77,47 +89,27 @@ module _ (tunables : Tunables) (validator : ℕ) (m : plain.Module) (old filled 
   abbrev nothing : Bool
   nothing = is_empty set.global_initializers.items && is_none set.start_func && is_empty set.passive_elements
 
+  starts : not nothing ≡ starts_always m
+  starts = starts-is tunables.debug_guest m set (subst (HasSections tunables.debug_guest m) (sym same) sections)
+
   module _ (groups tagged : Builder) (alone : HoldsGroupsAlone validator groups) (gains : GainsExceptions groups tagged)
       (built : tagged.built ≡ interned_list m false) (few : length tagged.built.types < 2 ^ 31 + 2 ^ 30) where
     -- nothing is to be run
     pub formed-never : true ≡ nothing → (b : BuilderState) → builder_view b ≡ tagged → IsFormed tunables validator m old set b
     formed-never is b shows =
-        let never : false ≡ starts_always m = ap not is ∙ starts-is tunables.debug_guest m set set-sections in
-        record {
-          keeps = keeps;
-          types = set-types;
-          sections = set-sections;
-          customs = set-customs;
-          strings = ap (λ (t : ModuleTranslation). t.module.strings) same ∙ pooled;
-          imports = ap (λ (t : ModuleTranslation). t.debuginfo.wasm_file.imported_func_count) same ∙ imports;
-          startup = set-startup ∙ ap (startup_when m) never;
-          builder = subst (HoldsTypes m) (sym shows) (never-holds m validator groups tagged alone gains built few never);
-          index = ap (λ (t : ModuleTranslation). t.module.module_index) same ∙ rest.index;
-          offset = ap (λ (t : ModuleTranslation). t.wasm_module_offset) same ∙ rest.offset;
-        }
+        let never : false ≡ starts_always m = ap not is ∙ starts in
+        subst (λ (t : ModuleTranslation). IsFormed tunables validator m old t b) (sym same)
+        (whole filled.module.startup b (rest.startup ∙ none ∙ ap (startup_when m) never)
+        (subst (HoldsTypes m) (sym shows) (never-holds m validator groups tagged alone gains built few never)))
 
     -- startup is known to run
     pub formed-always : false ≡ nothing → (u : ModuleTranslation) (b : BuilderState)
         → u ≡ with_startup set (raised Always set.module.startup tagged) → builder_view b ≡ types_after Always set.module.startup tagged
         → IsFormed tunables validator m old u b
     formed-always is u b raises gained =
-        let always : true ≡ starts_always m = ap not is ∙ starts-is tunables.debug_guest m set set-sections in
-        let after : builder_view b ≡ types_after Always startup.None tagged = gained ∙ ap (λ s. types_after Always s tagged) set-startup in
-        record {
-          keeps = keeps;
-          types = types-keep m set u validator (ap (λ (t : ModuleTranslation). t.module.types) raises)
-              (ap (λ (t : ModuleTranslation). t.module.tags) raises) (ap types_of raises) set-types;
-          sections = sections-keep m set u (subst (CarriesNames set) (sym raises) refl) tunables.debug_guest set-sections;
-          customs = customs-keep m set u (subst (CarriesNames set) (sym raises) refl) tunables set-customs;
-          strings = ap (λ (t : ModuleTranslation). t.module.strings) (raises ∙ ap (λ (t : ModuleTranslation).
-              with_startup t (raised Always set.module.startup tagged)) same) ∙ pooled;
-          imports = ap (λ (t : ModuleTranslation). t.debuginfo.wasm_file.imported_func_count) (raises ∙ ap (λ (t : ModuleTranslation).
-              with_startup t (raised Always set.module.startup tagged)) same) ∙ imports;
-          startup = ap (λ (t : ModuleTranslation). t.module.startup) raises ∙ ap (λ s. raised Always s tagged) set-startup
-              ∙ always-raised m validator groups tagged alone gains built few always;
-          builder = always-holds m validator groups tagged alone gains built few always (builder_view b) after;
-          index = ap (λ (t : ModuleTranslation). t.module.module_index) (raises ∙ ap (λ (t : ModuleTranslation).
-              with_startup t (raised Always set.module.startup tagged)) same) ∙ rest.index;
-          offset = ap (λ (t : ModuleTranslation). t.wasm_module_offset) (raises ∙ ap (λ (t : ModuleTranslation).
-              with_startup t (raised Always set.module.startup tagged)) same) ∙ rest.offset;
-        }
+        let always : true ≡ starts_always m = ap not is ∙ starts in
+        subst (λ (t : ModuleTranslation). IsFormed tunables validator m old t b)
+        (sym (raises ∙ (λ i. with_startup (same i) (raised Always (set-startup i) tagged))))
+        (whole (raised Always startup.None tagged) b (always-raised m validator groups tagged alone gains built few always)
+        (always-holds m validator groups tagged alone gains built few always (builder_view b)
+        (gained ∙ ap (λ s. types_after Always s tagged) set-startup)))

@@ -22,9 +22,11 @@ abbrev pub names_asked : Bool → plain.Module → NameLists
 names_asked native m = let names = module_names native m in record names { module_name = if native then names.module_name else None }
 
 -- the record has the name of the module in any case; names of locals are read only for a debugger
-pub record HasNames (native : Bool) (m : plain.Module) (t : ModuleTranslation) : Type 0 where
-  pub of_module : option_map (text_at t.module.strings) t.module.name ≡ (module_names native m).module_name
-  pub section : KeepsNames (names_asked native m) t.debuginfo.name_section
+abbrev pub HasNames : Bool → plain.Module → ModuleTranslation → Type 0
+HasNames native m t = record {
+  of_module : option_map (text_at t.module.strings) t.module.name ≡ (module_names native m).module_name;
+  section : KeepsNames (names_asked native m) t.debuginfo.name_section;
+}
 
 -- the hints of the last section without a fault, where they are asked for
 abbrev pub hints_asked : Bool → plain.Module → HintLists
@@ -34,10 +36,12 @@ hints_asked asked m = if asked then module_hints m else []
 abbrev pub HasHints : Bool → plain.Module → ModuleTranslation → Type 0
 HasHints asked m t = (function : ℕ) → hints_of t function ≡ option_map (map branch_hint_of) (kept_hint (hints_asked asked m) function)
 
-pub record HasCustoms (tunables : Tunables) (m : plain.Module) (t : ModuleTranslation) : Type 0 where
-  pub names : HasNames tunables.debug_native m t
-  pub hints : HasHints tunables.branch_hinting m t
+abbrev pub HasCustoms : Tunables → plain.Module → ModuleTranslation → Type 0
+HasCustoms tunables m t = record {
+  names : HasNames tunables.debug_native m t;
+  hints : HasHints tunables.branch_hinting m t;
   -- parameters and locals of the defined functions, for a debugger
-  pub functions : map view_function t.debuginfo.wasm_file.funcs.items ≡ functions_asked (look_up_in m) (lists_of_module m) tunables.debug_native
+  functions : map view_function t.debuginfo.wasm_file.funcs.items ≡ functions_asked (look_up_in m) (lists_of_module m) tunables.debug_native;
   -- whether there is debug information, which is not read
-  pub debug : t.has_unparsed_debuginfo ≡ list_any is_debug_section m
+  debug : t.has_unparsed_debuginfo ≡ list_any is_debug_section m;
+}

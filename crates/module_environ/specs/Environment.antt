@@ -1,13 +1,14 @@
 -- Which types an environment knows: those that the record of its translation holds, by their indices (core specification, 2.5, types).
-use Rattle.std.specs.Prelude.{◌<◌, ℕ, List, length, slice_get, Option, Some, None, IsSomeAnd, option_and_then}
-use Rattle.wasm_spec.specs.declared.types.UnpackedIndex.TheVariants as index
+use Rattle.std.specs.Prelude.{◌≡◌, ◌<◌, ℕ, List, length, slice_get, Option, Some, None, IsSomeAnd, option_and_then}
 use Rattle.wasm_index.specs.Index.{number_of}
 use Rattle.wasm_types.specs.declared.index.EngineOrModuleTypeIndex.{EngineOrModuleTypeIndex}
+use Rattle.wasm_types.specs.declared.heap.WasmHeapType.{WasmHeapType}
+use Rattle.wasm_types.specs.ValueViews.{Name}
 use Rattle.wasm_types.specs.Views.{module_index}
-use Rattle.wasm_convert.specs.Conversion.{LookUp}
 use Rattle.module_types.specs.Views.{TypeIndex}
 use Rattle.module_types.specs.Builder.{BuilderState}
 use Rattle.module_types.specs.Converter.{interned_name}
+use Rattle.module_environ.specs.Named.{name_at}
 
 -- the interned type of a type of a record
 abbrev pub interned_in : List EngineOrModuleTypeIndex → ℕ → Option TypeIndex
@@ -23,7 +24,11 @@ AreHeld types count = (i : ℕ) → i < length types → IsSomeAnd (interned_in 
 
 -- over the types of a record, and what a builder keeps
 module _ (types : List EngineOrModuleTypeIndex) (b : BuilderState) where
-  -- what each is named by
-  abbrev pub look_type : LookUp
-  look_type (index.Module i) = interned_name b (number_or_zero (interned_in types i))
-  look_type _ = interned_name b 0
+  -- what the type at an index is named by
+  abbrev pub declared_name : ℕ → Name
+  declared_name i = interned_name b (number_or_zero (interned_in types i))
+
+  -- these references name each type
+  pub record NameEach (names : List WasmHeapType) : Type 0 where
+    pub long : length names ≡ length types
+    pub named : (i : ℕ) → i < length names → name_at names i ≡ Some (declared_name i)

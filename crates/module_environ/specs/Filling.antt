@@ -1,9 +1,9 @@
 -- What filling a translation from the lists of a module needs, and what it makes.
-use Rattle.std.specs.Prelude.{◌≡◌, ℕ, ◌<◌, List, [], ◌++◌, length, map, drop, All}
-use Rattle.std.specs.List.{flat_map, list_any}
+use Rattle.std.specs.Prelude.{◌≡◌, ℕ, ◌<◌, List, [], ◌++◌, length, map, All}
+use Rattle.std.specs.List.{flat_map}
 use Rattle.wasm_spec.specs.declared.types.UnpackedIndex.{UnpackedIndex}
 use Rattle.wasm_spec.specs.declared.types.UnpackedIndex.TheVariants as index
-use Rattle.wasm_spec.specs.Module.{function_import, table_import, memory_import, global_import, tag_import, HasFewEntries}
+use Rattle.wasm_spec.specs.Module.{HasFewEntries}
 use Rattle.wasm_spec.specs.Module as plain
 use Rattle.rule_spec.specs.Lists.{lists_of_module}
 use Rattle.rule_spec.specs.Lists as rule
@@ -11,7 +11,6 @@ use Rattle.rule_spec.specs.Rules.{Keeps}
 use Rattle.form_lists.specs.Source.{source_module}
 use Rattle.form_lists.specs.declared.lists.Lists.{Lists}
 use Rattle.form_lists.specs.Views.{lists_of}
-use Rattle.wasm_types.specs.Collected.{heap_is_collected}
 use Rattle.wasm_types.specs.EntityViews.{global_of, table_of}
 use Rattle.wasm_types.specs.Memories.{memory_of}
 use Rattle.wasm_convert.specs.Conversion.{LookUp}
@@ -20,14 +19,13 @@ use Rattle.replay_spec.specs.Data.{active_segments}
 use Rattle.init_plan.specs.declared.translation.ModuleTranslation.{ModuleTranslation}
 use Rattle.init_plan.specs.Views.{initializers_of, passive_data_of, IsUnprocessed}
 use Rattle.module_environ.specs.Types.{look_up_in}
-use Rattle.module_environ.specs.LookUps.{AgreeBelow}
 use Rattle.module_environ.specs.EscapeLog.{EscapeLog, after_escapes}
 use Rattle.module_environ.specs.Escapes.{referred, referred_if_any, item_functions}
 use Rattle.module_environ.specs.Exported.{exported_functions}
 use Rattle.module_environ.specs.Pooled.{with_texts, imported_names, exported_names, HasText, HasTexts}
-use Rattle.module_environ.specs.Entities.{count_of, imported_entities, exported_entities, resolved_import, resolved_export, tables_data, globals_data}
+use Rattle.module_environ.specs.Entities.{imported_entities, exported_entities, resolved_import, resolved_export, tables_data, globals_data}
 use Rattle.module_environ.specs.Initialisers.{passive_data_from}
-use Rattle.module_environ.specs.Translation.{HasGlobals, HasElements}
+use Rattle.module_environ.specs.Translation.{CountsImports, NeedsHeap, HasGlobals, HasElements}
 
 -- the module whose lists these are
 abbrev pub module_in : Lists → plain.Module
@@ -39,25 +37,21 @@ pub record IsGathered (l : Lists) : Type 0 where
   pub keeps : Keeps (module_in l)
   pub few : HasFewEntries (module_in l)
 
--- the declared types are known, and each is looked up to its interned type
+-- the declared types are known, and looked up to their interned types
 pub record LooksUpTypes (m : plain.Module) (known : UnpackedIndex → Type 0) (look : LookUp) : Type 0 where
   pub knows : (i : ℕ) → i < length (lists_of_module m).types → known (index.Module i)
-  pub same : AgreeBelow look (look_up_in m) (length (lists_of_module m).types)
+  pub same : look ≡ look_up_in m
 
 -- imports and index spaces but those of functions and tags are filled in
 pub record FillsEntities (m : plain.Module) (old new : Module) : Type 0 where
   pub imports : map (resolved_import new.strings) new.initializers.items ≡ imported_entities m
   pub pooled : All (HasTexts new.strings) new.initializers.items
   pub texts : new.strings ≡ with_texts [] (imported_names m)
-  pub functions : new.num_imported_funcs ≡ count_of function_import (plain.imports m)
-  pub imported_tables : new.num_imported_tables ≡ count_of table_import (plain.imports m)
-  pub imported_memories : new.num_imported_memories ≡ count_of memory_import (plain.imports m)
-  pub imported_globals : new.num_imported_globals ≡ count_of global_import (plain.imports m)
-  pub tags : new.num_imported_tags ≡ count_of tag_import (plain.imports m)
+  pub counts : CountsImports m new
   pub tables : map table_of new.tables ≡ tables_data m
   pub memories : new.memories ≡ map memory_of (plain.memories m)
   pub globals : map global_of new.globals ≡ globals_data m
-  pub heap : new.needs_gc_heap ≡ list_any (λ table. heap_is_collected table.ref_type.heap_type) (drop new.num_imported_tables new.tables)
+  pub heap : NeedsHeap new
   pub same : new ≡ record old {
     strings = new.strings;
     initializers = new.initializers;
@@ -108,10 +102,12 @@ pub record FillsInitialisers (m : plain.Module) (before after : EscapeLog) (old 
   }
 
 -- what the sections leave of a translation
-pub record LeavesRest (old new : ModuleTranslation) : Type 0 where
-  pub index : new.module.module_index ≡ old.module.module_index
-  pub startup : new.module.startup ≡ old.module.startup
-  pub offset : new.wasm_module_offset ≡ old.wasm_module_offset
+abbrev pub LeavesRest : ModuleTranslation → ModuleTranslation → Type 0
+LeavesRest old new = record {
+  index : new.module.module_index ≡ old.module.module_index;
+  startup : new.module.startup ≡ old.module.startup;
+  offset : new.wasm_module_offset ≡ old.wasm_module_offset;
+}
 
 -- of a translation only names, hints, and the metadata of its functions and of debug information, may be others
 abbrev pub OnlyCustomsChange : ModuleTranslation → ModuleTranslation → Type 0

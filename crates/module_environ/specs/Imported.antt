@@ -14,12 +14,14 @@ use Rattle.module_environ.specs.Entities.{count_of, imports_after, resolved_impo
 use Rattle.module_environ.specs.Pooled.{with_texts, import_names, HasTexts}
 
 -- each count is that of the imports of its kind
-pub record AreCounted (is : List Import) (counts : ImportCounts) : Type 0 where
-  pub functions : counts.functions ≡ count_of function_import is
-  pub tables : counts.tables ≡ count_of table_import is
-  pub memories : counts.memories ≡ count_of memory_import is
-  pub globals : counts.globals ≡ count_of global_import is
-  pub tags : counts.tags ≡ count_of tag_import is
+abbrev pub AreCounted : List Import → ImportCounts → Type 0
+AreCounted is counts = record {
+  functions : counts.functions ≡ count_of function_import is;
+  tables : counts.tables ≡ count_of table_import is;
+  memories : counts.memories ≡ count_of memory_import is;
+  globals : counts.globals ≡ count_of global_import is;
+  tags : counts.tags ≡ count_of tag_import is;
+}
 
 -- each count is the number of an index
 pub record HaveIndices (counts : ImportCounts) : Type 0 where

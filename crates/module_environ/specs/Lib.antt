@@ -1,6 +1,5 @@
 pub mod Errors
 pub mod Environment
-pub mod LookUps
 pub mod Tagged
 pub mod Firsts
 pub mod Types

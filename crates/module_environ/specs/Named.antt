@@ -4,6 +4,7 @@ use Rattle.wasm_spec.specs.declared.types.UnpackedIndex.{UnpackedIndex}
 use Rattle.wasm_spec.specs.declared.types.UnpackedIndex.TheVariants as index
 use Rattle.wasm_spec.specs.TypeData.{Heap, Concrete, Abstract}
 use Rattle.type_data.specs.Names.{FuncName}
+use Rattle.form_types.specs.Placed.{place_of}
 use Rattle.wasm_types.specs.declared.heap.WasmHeapType.{WasmHeapType}
 use Rattle.wasm_types.specs.ValueViews.{Name, heap_of}
 use Rattle.module_environ.specs.Types.{type_index}
@@ -20,11 +21,10 @@ name_at names i = option_and_then (λ h. named_by (heap_of h)) (slice_get names 
 abbrev pub unnamed : Name
 unnamed = record { kind = FuncName; index = type_index 0 }
 
--- so an index of a declared type names one, where one is listed
+-- an index of a declared type names one, where one is listed
 abbrev pub IsNamed : List WasmHeapType → UnpackedIndex → Type 0
 IsNamed names (index.Module i) = IsSome (name_at names i)
 IsNamed names _ = ⊥
 
 abbrev pub name_in : List WasmHeapType → UnpackedIndex → Name
-name_in names (index.Module i) = unwrap_or (name_at names i) unnamed
-name_in names _ = unnamed
+name_in names i = unwrap_or (name_at names (place_of i)) unnamed

@@ -16,6 +16,7 @@ use Rattle.wasm_types.specs.declared.tunables.Tunables.{Tunables}
 use Rattle.wasm_types.specs.Collected.{heap_is_collected}
 use Rattle.wasm_types.specs.EntityViews.{global_of, table_of}
 use Rattle.wasm_types.specs.Memories.{memory_of}
+use Rattle.wasm_module.specs.declared.module.Module.{Module}
 use Rattle.wasm_module.specs.Elements.{element_type, element_count}
 use Rattle.wasm_module.specs.declared.startup.ModuleStartup.{ModuleStartup}
 use Rattle.wasm_module.specs.declared.startup.ModuleStartup.TheVariants as startup
@@ -45,90 +46,110 @@ startup_when m false = startup.None
 startup_when m true = startup.Always (type_index (length (interned_list m false).types))
 
 -- each name of the record has its text in the pool
-pub record HasPooledNames (t : ModuleTranslation) : Type 0 where
-  pub imports : All (HasTexts t.module.strings) t.module.initializers.items
-  pub exports : All (λ e. HasText t.module.strings e.0) t.module.exports.entries
-  pub name : IfSome t.module.name (HasText t.module.strings)
+abbrev pub HasPooledNames : ModuleTranslation → Type 0
+HasPooledNames t = record {
+  imports : All (HasTexts t.module.strings) t.module.initializers.items;
+  exports : All (λ e. HasText t.module.strings e.0) t.module.exports.entries;
+  name : IfSome t.module.name (HasText t.module.strings);
+}
 
 -- imports, exports and what each index space holds; types by their interned indices
-pub record HasEntities (m : plain.Module) (t : ModuleTranslation) : Type 0 where
-  pub imports : map (resolved_import t.module.strings) t.module.initializers.items ≡ imported_entities m
-  pub exports : map (resolved_export t.module.strings) t.module.exports.entries ≡ exported_entities (lists_of_module m).exports
-  pub tables : map table_of t.module.tables ≡ tables_data m
-  pub memories : t.module.memories ≡ map memory_of (plain.memories m)
-  pub globals : map global_of t.module.globals ≡ globals_data m
-  pub start : option_map number_of t.start_func ≡ slice_get (lists_of_module m).starts 0
-  pub pooled : HasPooledNames t
+abbrev pub HasEntities : plain.Module → ModuleTranslation → Type 0
+HasEntities m t = record {
+  imports : map (resolved_import t.module.strings) t.module.initializers.items ≡ imported_entities m;
+  exports : map (resolved_export t.module.strings) t.module.exports.entries ≡ exported_entities (lists_of_module m).exports;
+  tables : map table_of t.module.tables ≡ tables_data m;
+  memories : t.module.memories ≡ map memory_of (plain.memories m);
+  globals : map global_of t.module.globals ≡ globals_data m;
+  start : option_map number_of t.start_func ≡ slice_get (lists_of_module m).starts 0;
+  pooled : HasPooledNames t;
+}
 
 -- how many entities of each space are imported
-pub record CountsImports (m : plain.Module) (t : ModuleTranslation) : Type 0 where
-  pub functions : t.module.num_imported_funcs ≡ count_of function_import (plain.imports m)
-  pub tables : t.module.num_imported_tables ≡ count_of table_import (plain.imports m)
-  pub memories : t.module.num_imported_memories ≡ count_of memory_import (plain.imports m)
-  pub globals : t.module.num_imported_globals ≡ count_of global_import (plain.imports m)
-  pub tags : t.module.num_imported_tags ≡ count_of tag_import (plain.imports m)
+abbrev pub CountsImports : plain.Module → Module → Type 0
+CountsImports m r = record {
+  functions : r.num_imported_funcs ≡ count_of function_import (plain.imports m);
+  tables : r.num_imported_tables ≡ count_of table_import (plain.imports m);
+  memories : r.num_imported_memories ≡ count_of memory_import (plain.imports m);
+  globals : r.num_imported_globals ≡ count_of global_import (plain.imports m);
+  tags : r.num_imported_tags ≡ count_of tag_import (plain.imports m);
+}
 
 -- functions with their numbers among those that escape, and the types of these
-pub record Escapes (debugged : Bool) (m : plain.Module) (t : ModuleTranslation) : Type 0 where
-  pub functions : t.module.functions ≡ function_types m (escaping debugged (lists_of_module m))
-  pub count : t.module.num_escaped_funcs ≡ length (escaping debugged (lists_of_module m))
-  pub below : t.module.num_escaped_funcs ≤ length t.module.functions
-  pub signatures : AreSignatures (escaping debugged (lists_of_module m)) (map (interned_at m) (plain.functions m)) (map number_of t.exported_signatures.items)
+abbrev pub Escapes : Bool → plain.Module → ModuleTranslation → Type 0
+Escapes debugged m t = record {
+  functions : t.module.functions ≡ function_types m (escaping debugged (lists_of_module m));
+  count : t.module.num_escaped_funcs ≡ length (escaping debugged (lists_of_module m));
+  below : t.module.num_escaped_funcs ≤ length t.module.functions;
+  signatures : AreSignatures (escaping debugged (lists_of_module m)) (map (interned_at m) (plain.functions m)) (map number_of t.exported_signatures.items);
+}
 
 -- whether a table of the table section holds references that are collected
-abbrev pub NeedsHeap : ModuleTranslation → Type 0
-NeedsHeap t = t.module.needs_gc_heap ≡ list_any (λ table. heap_is_collected table.ref_type.heap_type) (drop t.module.num_imported_tables t.module.tables)
+abbrev pub NeedsHeap : Module → Type 0
+NeedsHeap r = r.needs_gc_heap ≡ list_any (λ table. heap_is_collected table.ref_type.heap_type) (drop r.num_imported_tables r.tables)
 
 -- globals whose value is known, and the initialisers of the others
-pub record HasGlobals (m : plain.Module) (t : ModuleTranslation) : Type 0 where
-  pub known : map view_value t.module.global_initializers.items ≡ known_values (lists_of_module m).globals
-  pub left : map (view_initialiser (λ e. e)) t.global_initializers.items ≡ left_initialisers (look_up_in m) (lists_of_module m).globals
+abbrev pub HasGlobals : plain.Module → ModuleTranslation → Type 0
+HasGlobals m t = record {
+  known : map view_value t.module.global_initializers.items ≡ known_values (lists_of_module m).globals;
+  left : map (view_initialiser (λ e. e)) t.global_initializers.items ≡ left_initialisers (look_up_in m) (lists_of_module m).globals;
+}
 
 -- first values of tables, and element segments: no table has an image yet
-pub record HasElements (m : plain.Module) (t : ModuleTranslation) : Type 0 where
-  pub first : map view_first_value t.table_initialization.initial_values ≡ first_values (look_up_in m) (lists_of_module m).tables
-  pub active : map view_segment t.table_initialization.segments.items ≡ active_elements (look_up_in m) (lists_of_module m).elements
-  pub no_images : map (λ image. image.items) t.module.table_initialization ≡ map (λ table. []) (lists_of_module m).tables
-  pub passive : map view_items t.passive_elements ≡ passive_items (look_up_in m) (lists_of_module m).elements
-  pub kinds : t.module.passive_elements ≡ map (λ items. (element_type items, element_count items)) t.passive_elements
-  pub numbers : (index : ℕ) → option_map number_of (value_at t.passive_elem_map index)
-      ≡ unwrap_or (slice_get (passive_numbers 0 (lists_of_module m).elements) index) None
+abbrev pub HasElements : plain.Module → ModuleTranslation → Type 0
+HasElements m t = record {
+  first : map view_first_value t.table_initialization.initial_values ≡ first_values (look_up_in m) (lists_of_module m).tables;
+  active : map view_segment t.table_initialization.segments.items ≡ active_elements (look_up_in m) (lists_of_module m).elements;
+  no_images : map (λ image. image.items) t.module.table_initialization ≡ map (λ table. []) (lists_of_module m).tables;
+  passive : map view_items t.passive_elements ≡ passive_items (look_up_in m) (lists_of_module m).elements;
+  kinds : t.module.passive_elements ≡ map (λ items. (element_type items, element_count items)) t.passive_elements;
+  numbers : (index : ℕ) → option_map number_of (value_at t.passive_elem_map index)
+      ≡ unwrap_or (slice_get (passive_numbers 0 (lists_of_module m).elements) index) None;
+}
 
 -- data segments: nothing is planned yet
-pub record HasData (m : plain.Module) (t : ModuleTranslation) : Type 0 where
-  pub unprocessed : IsUnprocessed t.memory_init
-  pub active : initializers_of t ≡ active_segments m
-  pub passive : passive_data_of t ≡ passive_data_from 0 (plain.segments m)
-  pub segmented : IsSegmented t.module.memory_initialization
-  pub no_ranges : ranges_of t.module ≡ []
-  pub no_runtime : t.runtime_data ≡ []
-  pub nothing_found : t.runtime_data_map ≡ record { default = None; items = [] }
-  pub no_alignment : t.data_align ≡ None
+abbrev pub HasData : plain.Module → ModuleTranslation → Type 0
+HasData m t = record {
+  unprocessed : IsUnprocessed t.memory_init;
+  active : initializers_of t ≡ active_segments m;
+  passive : passive_data_of t ≡ passive_data_from 0 (plain.segments m);
+  segmented : IsSegmented t.module.memory_initialization;
+  no_ranges : ranges_of t.module ≡ [];
+  no_runtime : t.runtime_data ≡ [];
+  nothing_found : t.runtime_data_map ≡ record { default = None; items = [] };
+  no_alignment : t.data_align ≡ None;
+}
 
 -- what each section but those of types, tags and code, and custom ones, becomes
-pub record HasSections (debugged : Bool) (m : plain.Module) (t : ModuleTranslation) : Type 0 where
-  pub entities : HasEntities m t
-  pub counts : CountsImports m t
-  pub escapes : Escapes debugged m t
-  pub heap : NeedsHeap t
-  pub globals : HasGlobals m t
-  pub elements : HasElements m t
-  pub data_segments : HasData m t
+abbrev pub HasSections : Bool → plain.Module → ModuleTranslation → Type 0
+HasSections debugged m t = record {
+  entities : HasEntities m t;
+  counts : CountsImports m t.module;
+  escapes : Escapes debugged m t;
+  heap : NeedsHeap t.module;
+  globals : HasGlobals m t;
+  elements : HasElements m t;
+  data_segments : HasData m t;
+}
 
 -- the bodies of the defined functions, and where the code stands
-pub record HasCode (m : plain.Module) (t : ModuleTranslation) : Type 0 where
-  pub bodies : map (λ input. body_of input.body) t.function_body_inputs ≡ (lists_of_module m).bodies
-  pub place : t.debuginfo.wasm_file.code_section_offset ≡ first_or_zero (flat_map code_places m)
-  pub imports : t.debuginfo.wasm_file.imported_func_count ≡ count_of function_import (plain.imports m)
+abbrev pub HasCode : plain.Module → ModuleTranslation → Type 0
+HasCode m t = record {
+  bodies : map (λ input. body_of input.body) t.function_body_inputs ≡ (lists_of_module m).bodies;
+  place : t.debuginfo.wasm_file.code_section_offset ≡ first_or_zero (flat_map code_places m);
+  imports : t.debuginfo.wasm_file.imported_func_count ≡ count_of function_import (plain.imports m);
+}
 
 -- declared types and tags, and the types of the module by ids, of the validator
-pub record HasTypes (m : plain.Module) (validator : ℕ) (t : ModuleTranslation) : Type 0 where
-  pub declared : t.module.types ≡ map type_index (declared m)
-  pub tags : t.module.tags ≡ tags_of m
-  pub types : TypesData
-  pub set : types_of t ≡ Some types
-  pub numbered : AreNumbered m types
-  pub made : types.validator ≡ validator
+abbrev pub HasTypes : plain.Module → ℕ → ModuleTranslation → Type 0
+HasTypes m validator t = record {
+  declared : t.module.types ≡ map type_index (declared m);
+  tags : t.module.tags ≡ tags_of m;
+  types : TypesData;
+  set : types_of t ≡ Some types;
+  numbered : AreNumbered m types;
+  made : types.validator ≡ validator;
+}
 
 -- the translation of the module that these bytes spell
 pub record IsTranslation (tunables : Tunables) (module_index : Index StaticModuleSpace) (validator : ℕ) (bytes : List ℕ) (m : plain.Module)

@@ -5,7 +5,7 @@ ghost use Rattle.wasm_spec.specs.declared.types.UnpackedIndex.TheVariants.{Modul
 ghost use Rattle.wasm_spec.specs.TypeData.{Concrete};
 ghost use Rattle.wasm_index.specs.Index.{number_of};
 ghost use Rattle.wasm_types.specs.ValueViews.{heap_of};
-ghost use Rattle.module_environ.specs.Environment.{AreHeld, look_type, interned_in};
+ghost use Rattle.module_environ.specs.Environment.{AreHeld, NameEach, declared_name, interned_in};
 ghost use Rattle.module_environ.specs.Named.{IsNamed, name_in};
 
 use entity_map::{OutOfMemory, PrimaryMap};
@@ -39,7 +39,7 @@ pub(crate) fn declared_converter<'a>(
     ensures knows { (i : ℕ) → i < length declared.now
         → ⟦<WasmparserTypeConverter<'a, RecordTypes<'a>> as TypeConvert>⟧.knows result (Module i) }
     ensures looks { (i : ℕ) → i < length declared.now
-        → ⟦<WasmparserTypeConverter<'a, RecordTypes<'a>> as TypeConvert>⟧.look_up result (Module i) ≡ look_type declared.now types.now (Module i) }
+        → ⟦<WasmparserTypeConverter<'a, RecordTypes<'a>> as TypeConvert>⟧.look_up result (Module i) ≡ declared_name declared.now types.now i }
 {
     let count = declared.len() as u32;
     WasmparserTypeConverter::new(types, count, RecordTypes(declared))
@@ -98,9 +98,7 @@ pub(crate) fn declared_types(
     indices: &PrimaryMap<TypeIndex, EngineOrModuleTypeIndex>,
 ) -> Result<DeclaredTypes, OutOfMemory>
     requires { AreHeld indices.now (length types.now.list.types) }
-    ensures knows { IfOk result (λ d. (i : ℕ) → i < length indices.now → ⟦<DeclaredTypes as TypeConvert>⟧.knows d (Module i)) }
-    ensures looks { IfOk result (λ d. (i : ℕ) → i < length indices.now
-        → ⟦<DeclaredTypes as TypeConvert>⟧.look_up d (Module i) ≡ look_type indices.now types.now (Module i)) }
+    ensures { IfOk result (λ d. NameEach indices.now types.now d.names.items) }
 {
     let converter = declared_converter(types, indices);
     let mut names = Vec::with_capacity(alloc, indices.len())?;

@@ -24,7 +24,7 @@ use crate::spaces::{convert_globals, convert_memories, convert_tables, hold_coll
 use crate::start::start_function;
 use entity_map::{OutOfMemory, PrimaryMap, StringPool};
 use form_lists::Lists;
-use init_plan::{ModuleTranslation, erased_expression_laws};
+use init_plan::ModuleTranslation;
 use std::alloc::Global;
 use wasm_convert::TypeConvert;
 use wasm_index::TypeIndex;
@@ -136,7 +136,5 @@ fn fill_initialisers<'d>(
     translation.passive_elements = passive;
     translation.module.passive_elements = kinds;
     translation.passive_elem_map = numbers;
-    // What says that an offset is held whole: it does nothing when it is run.
-    erased_expression_laws();
     add_segments(alloc, env, source, translation)
 }

@@ -1,15 +1,24 @@
 //! The translation of a module: its bytes are read and checked, and each section becomes a part of the record.
 
-ghost use Rattle.std.specs.Prelude.{◌≡◌, ◌≢◌, ◌⊎◌, ◌^◌, ◌≤◌, ◌&&◌, length, true, false, is_none, IfOk, IfErr, OnOk, OnErr, Err};
-ghost use Rattle.wasm_spec.specs.Module.{Module, HasFewEntries};
+ghost use Rattle.std.specs.Prelude.{◌≡◌, ◌≢◌, ◌⊎◌, ◌^◌, ◌≤◌, ◌&&◌, length, map, true, false, is_none, IfOk, IfErr, OnOk, OnErr, Err};
+ghost use Rattle.wasm_spec.specs.Module.{Module, imports, function_import, HasFewEntries};
 ghost use Rattle.wasm_spec.specs.Sizes.{HasShortTypes};
 ghost use Rattle.rule_spec.specs.Rules.{Keeps};
 ghost use Rattle.form_lists.specs.Source.{source_module};
+ghost use Rattle.form_types.specs.Placed.{placed_groups};
+ghost use Rattle.form_types.specs.Types.{TypesData};
+ghost use Rattle.type_spec.specs.Interned.{taken};
 ghost use Rattle.module_types.specs.Builder.{builder_view, new_builder};
 ghost use Rattle.init_plan.specs.Views.{IsNewTranslation};
 ghost use Rattle.module_environ.specs.Readable.{IsReadable, HasTranslationCause, SucceedsOrNoMemory, IsPoisonedOrNoMemory};
 ghost use Rattle.module_environ.specs.OnTheWay.{IsOnTheWay, StopsOnTheWay};
-ghost use Rattle.module_environ.specs.Filling.{module_in, IsGathered};
+ghost use Rattle.module_environ.specs.Filling.{module_in, IsGathered, LeavesRest};
+ghost use Rattle.module_environ.specs.Customs.{HasCustoms};
+ghost use Rattle.module_environ.specs.Entities.{count_of};
+ghost use Rattle.module_environ.specs.Environment.{AreHeld};
+ghost use Rattle.module_environ.specs.Pooled.{pool_of};
+ghost use Rattle.module_environ.specs.Translation.{HasSections};
+ghost use Rattle.module_environ.specs.Types.{declared, type_index, AreTypesOf};
 ghost use Rattle.replay_spec.specs.Startup.{is_empty};
 ghost use Rattle.module_environ.specs.Translated.{IsTranslated};
 ghost use Rattle.module_environ.specs.Forming.{IsFormed, FormCause};
@@ -22,6 +31,7 @@ use crate::error::EnvironError;
 use crate::sections::fill_sections;
 use crate::tags::convert_tags;
 use crate::types::intern_types;
+use entity_map::{OutOfMemory, PrimaryMap};
 use form_lists::{Lists, Source};
 use form_reader::read_input;
 use form_rules::checked_lists;
@@ -30,8 +40,8 @@ use init_plan::ModuleTranslation;
 use module_types::ModuleTypesBuilder;
 use std::alloc::Global;
 use std::mem;
-use wasm_index::StaticModuleIndex;
-use wasm_types::Tunables;
+use wasm_index::{StaticModuleIndex, TypeIndex};
+use wasm_types::{EngineOrModuleTypeIndex, Tunables};
 
 impl<'a, 'd> ModuleEnvironment<'a, 'd> {
     /// The translation of the module that the bytes spell: each section as the record holds it, with types interned by the builder, and
@@ -178,22 +188,48 @@ fn translate_lists<'d>(
     }
     let ids = Types::build_from(alloc, validator, lists.source)?;
     let indices = intern_types(alloc, &ids, types)?;
-    let env = declared_types(alloc, types, &indices)?;
-    fill_sections(
-        alloc,
-        tunables.debug_guest,
-        &env,
-        lists,
-        &indices,
-        translation,
-    )?;
-    fill_customs(alloc, tunables, &env, lists, translation)?;
+    fill_lists(alloc, tunables, types, lists, &indices, translation)?;
     translation.module.tags = convert_tags(alloc, lists.spaces.tags.as_slice(), &indices, types)?;
     translation.module.types = indices;
     translation.set_types(ids);
     if !leaves_nothing(translation) {
         translation.require_startup_func(types)?;
     }
+    Ok(())
+}
+
+/// Fills an empty translation with the sections of a module whose declared types the builder holds, and with what custom ones give.
+fn fill_lists<'d>(
+    alloc: Global,
+    tunables: &Tunables,
+    types: &ModuleTypesBuilder,
+    lists: &Lists<'_, 'd>,
+    indices: &PrimaryMap<TypeIndex, EngineOrModuleTypeIndex>,
+    translation: &mut ModuleTranslation<'d>,
+) -> Result<(), OutOfMemory>
+    requires gathered { IsGathered lists.now }
+    requires of_module { (t : TypesData) × AreTypesOf (module_in lists.now) t }
+    requires listed { indices.now ≡ map type_index (declared (module_in lists.now)) }
+    requires held { AreHeld indices.now (length types.now.list.types) }
+    requires built { (builder_view types.now).built ≡ (taken (placed_groups (module_in lists.now))).built }
+    requires new { IsNewTranslation translation.old.module.module_index translation.old }
+    ensures sections { OnOk result (HasSections tunables.now.debug_guest (module_in lists.now) translation.new) }
+    ensures customs { OnOk result (HasCustoms tunables.now (module_in lists.now) translation.new) }
+    ensures strings { OnOk result (translation.new.module.strings ≡ pool_of tunables.now.debug_native (module_in lists.now)) }
+    ensures imports { OnOk result
+        (translation.new.debuginfo.wasm_file.imported_func_count ≡ count_of function_import (imports (module_in lists.now))) }
+    ensures rest { OnOk result (LeavesRest translation.old translation.new) }
+{
+    let env = declared_types(alloc, types, indices)?;
+    fill_sections(
+        alloc,
+        tunables.debug_guest,
+        &env,
+        lists,
+        indices,
+        translation,
+    )?;
+    fill_customs(alloc, tunables, &env, lists, translation)?;
     Ok(())
 }
 

@@ -1,34 +1,17 @@
 -- The exception types of a module's tags are among its interned types.
-use Rattle.std.proofs.Common.{◌≡◌, ◌<◌, ◌≤◌, ℕ, ◌+◌, Bool, false, nat_eq, Option, Some, None, List, [], ◌∷◌, ◌++◌, length, map, position, refl, arith, length-append}
-use Rattle.std.specs.Prelude.{◌==◌, ◌||◌, unwrap_or}
-use Rattle.std.specs.List.{list_any}
+use Rattle.std.proofs.Common.{◌≡◌, ◌<◌, ◌≤◌, ℕ, ◌+◌, Bool, false, Option, Some, None, List, [], ◌∷◌, ◌++◌, length, map, position, refl, ap, arith, length-append}
+use Rattle.std.specs.Prelude.{◌==◌, unwrap_or}
 use Rattle.std.proofs.lemmas.Bool.{cases_Bool}
 use Rattle.std.proofs.lemmas.List.{length-map}
-use Rattle.std.proofs.lemmas.List.Folds.{list_any-append}
 use Rattle.std.proofs.lemmas.List.Quantifiers.{position-Some}
-use Rattle.std.proofs.lemmas.Bool.Decides.{nat_tests}
 use Rattle.wasm_spec.specs.Module as plain
 use Rattle.type_spec.specs.Interned.{Built, plain as plain_type, exception_for, composite_at, is_among, with_exception, with_exceptions, taken}
 use Rattle.form_types.specs.Placed.{placed_groups}
 use Rattle.module_environ.specs.Firsts.{firsts, firsts_after}
 use Rattle.module_environ.specs.Types.{interned_at, interned_list, exception_at, exception_functions}
+use Rattle.module_environ.proofs.Excepting.{AreKnown, known-more, longer}
 
 -- ---- one exception type for each function type
-
--- those that were done are those that are known
-abbrev AreKnown : List ℕ → List ℕ → Type 0
-AreKnown done known = (n : ℕ) → is_among n done ≡ list_any (λ k. k == n) known
-
-among-more : (m n : ℕ) (done : List ℕ) → is_among m (n ∷ done) ≡ (nat_eq n m || is_among m done)
-among-more m n done = grind (arith, nat_tests)
-
-known-more : (n : ℕ) (done known : List ℕ) → AreKnown done known → AreKnown (n ∷ done) (known ++ n ∷ [])
-known-more n done known same m =
-    let before = same m in
-    let here = among-more m n done in
-    let all = list_any-append (λ k. k == m) known (n ∷ []) in
-    let had = cases_Bool (list_any (λ k. k == m) known) in
-    grind (arith, nat_tests)
 
 long-from : (ns : List ℕ) (b : Built) (done known : List ℕ) → AreKnown done known
     → length (with_exceptions b done ns).types + length known ≡ length b.types + length (firsts_after known ns)
@@ -55,18 +38,9 @@ listed-long m = exceptions-long (taken (placed_groups m)).built (map (interned_a
 pub taken-within : (m : plain.Module) → length (taken (placed_groups m)).built.types ≤ length (interned_list m false).types
 taken-within m = omega (arith, listed-long m)
 
-first-stays : (ns known : List ℕ) → length known ≤ length (firsts_after known ns)
-first-stays [] known = omega arith
-first-stays (n ∷ ns) known =
-    let had = first-stays ns known in
-    let new = first-stays ns (known ++ n ∷ []) in
-    let one = length-append known (n ∷ []) in
-    let there = cases_Bool (list_any (λ k. k == n) known) in
-    grind arith
-
 some-first : (ns : List ℕ) → 0 < length ns → 0 < length (firsts ns)
 some-first [] some = absurd (omega arith)
-some-first (n ∷ ns) some = omega (arith, first-stays ns (n ∷ []))
+some-first (n ∷ ns) some = let l = longer ns (n ∷ []) in omega (arith, ap length l.is, length-append (n ∷ []) l.more)
 
 place-among : (t : ℕ → Bool) (ks : List ℕ) → 0 < length ks → unwrap_or (position t ks) 0 < length ks
 place-among t ks some = by (position t ks) refl where

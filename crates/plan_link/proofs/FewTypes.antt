@@ -1,14 +1,14 @@
 -- A module that is read has fewer than 2 ^ 31 interned types.
-use Rattle.std.proofs.Common.{◌≡◌, ◌≤◌, ◌<◌, ◌+◌, ◌^◌, ℕ, Bool, true, false, Option, Some, None, List, [], ◌∷◌, ◌++◌, length, map, arith, length-append}
+use Rattle.std.proofs.Common.{◌≡◌, ◌≤◌, ◌<◌, ◌+◌, ◌^◌, ℕ, Bool, true, false, Option, List, [], ◌∷◌, ◌++◌, length, map, arith, length-append}
 use Rattle.std.specs.Prelude.{◌==◌}
-use Rattle.std.specs.List.{list_any, filter_map, flat_map, cons_option}
+use Rattle.std.specs.List.{list_any, flat_map}
 use Rattle.std.proofs.lemmas.List.{length-map}
 use Rattle.std.proofs.lemmas.Bool.{cases_Bool}
-use Rattle.wasm_spec.specs.declared.entities.TypeRef.{TypeRef}
-use Rattle.wasm_spec.specs.Module.{Import, tag_import, imported_of, tags_of_section}
+use Rattle.wasm_spec.specs.Module.{tag_import, imported_of, tags_of_section}
 use Rattle.wasm_spec.specs.Module as plain
 use Rattle.type_spec.specs.Interned.{startup_type, taken}
 use Rattle.type_spec.proofs.Homes.{size}
+use Rattle.form_reader.proofs.Entries.{imported_few, types_few}
 use Rattle.form_types.specs.Placed.{placed_groups}
 use Rattle.form_types.proofs.Ruled.{size-places}
 use Rattle.module_types.proofs.FewTypes.{few as taken-few}
@@ -16,7 +16,6 @@ use Rattle.module_environ.specs.Firsts.{firsts_after}
 use Rattle.module_environ.specs.Readable.{IsReadable}
 use Rattle.module_environ.specs.Types.{interned_at, interned_list}
 use Rattle.plan_link.proofs.Excepted.{listed-long}
-use Rattle.plan_link.proofs.TypeBytes.{types-few}
 
 -- ---- exception types: at most one for each tag
 
@@ -29,14 +28,6 @@ firsts-few (n ∷ ns) known =
     let there = cases_Bool (list_any (λ k. k == n) known) in
     grind arith
 
-imported-few : {A : Type 0} (kind : TypeRef → Option A) (is : List Import) → length (filter_map (λ i. kind i.type) is) ≤ length is
-imported-few kind [] = omega arith
-imported-few {A} kind (i ∷ is) = by (kind i.type) (imported-few kind is) where
-  by : (o : Option A) → length (filter_map (λ j. kind j.type) is) ≤ length is
-      → length (cons_option o (filter_map (λ j. kind j.type) is)) ≤ length (i ∷ is)
-  by None few = omega (arith, few)
-  by (Some x) few = omega (arith, few)
-
 -- ---- of a module
 
 module _ (bytes : List ℕ) (m : plain.Module) (read : IsReadable bytes m) where
@@ -46,9 +37,9 @@ module _ (bytes : List ℕ) (m : plain.Module) (read : IsReadable bytes m) where
       let groups : length (taken gs).built.types ≤ size gs + size gs = taken-few gs (size gs) (omega arith) in
       let tags = firsts-few (map (interned_at m) (plain.tags m)) [] in
       let each = length-map (plain.tags m) (interned_at m) in
-      let imported = imported-few tag_import (plain.imports m) in
+      let imported = imported_few tag_import (plain.imports m) in
       let own = length-append (imported_of tag_import m) (flat_map tags_of_section m) in
-      let all = types-few bytes m read.spelled in
+      let all = types_few bytes m read.spelled in
       let without : length (interned_list m false).types + 1 < 2 ^ 31 =
       omega (arith, listed-long m, groups, size-places (plain.groups m), tags, each, imported, own, all, read.short) in
       by startup without where

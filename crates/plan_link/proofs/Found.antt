@@ -87,13 +87,15 @@ text-there : (texts : List (List ℕ)) (atom : Atom) → HasText texts atom → 
 text-there texts atom lt = ap is_some (slice_get-get_or texts (atom_number atom) [] lt)
 
 -- the entities of a record are those of a module; its imports and exports too, whose names are in its pool
-pub record HasEntitiesOf (m : plain.Module) (r : Module) : Type 0 where
-  pub types : HasTypesOf m r
-  pub memories : r.memories ≡ map memory_of (plain.memories m)
-  pub imports : map (resolved_import r.strings) r.initializers.items ≡ imported_entities m
-  pub exports : map (resolved_export r.strings) r.exports.entries ≡ exported_entities (lists_of_module m).exports
-  pub import_names : All (HasTexts r.strings) r.initializers.items
-  pub export_names : All (λ (e : Atom × EntityIndex). HasText r.strings e.0) r.exports.entries
+abbrev pub HasEntitiesOf : plain.Module → Module → Type 0
+HasEntitiesOf m r = record {
+  types : HasTypesOf m r;
+  memories : r.memories ≡ map memory_of (plain.memories m);
+  imports : map (resolved_import r.strings) r.initializers.items ≡ imported_entities m;
+  exports : map (resolved_export r.strings) r.exports.entries ≡ exported_entities (lists_of_module m).exports;
+  import_names : All (HasTexts r.strings) r.initializers.items;
+  export_names : All (λ (e : Atom × EntityIndex). HasText r.strings e.0) r.exports.entries;
+}
 
 module _ (m : plain.Module) (keeps : Keeps m) (r : Module) (has : HasEntitiesOf m r) where
   functions-long : length r.functions ≡ length (plain.functions m)

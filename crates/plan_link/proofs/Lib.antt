@@ -1,6 +1,5 @@
 pub mod Below
 pub mod Collected
-pub mod Counting
 pub mod Excepted
 pub mod FewTypes
 pub mod Fitting
@@ -10,5 +9,4 @@ pub mod Held
 pub mod Linkable
 pub mod Outcomes
 pub mod Planned
-pub mod TypeBytes
 pub mod TypesBelow

@@ -21,6 +21,7 @@ use Rattle.module_types.proofs.NamingEarlier.{keeps-earlier}
 use Rattle.init_plan.specs.declared.translation.ModuleTranslation.{ModuleTranslation}
 use Rattle.module_environ.specs.Escapes.{escaping}
 use Rattle.module_environ.specs.Translated.{IsTranslated, starts_always}
+use Rattle.module_environ.specs.Translation.{HasSections, HasTypes}
 use Rattle.module_environ.specs.Types.{interned_list}
 use Rattle.type_registry.specs.Listed.{Listed}
 use Rattle.type_registry.specs.Registry.{registry_of, count_of}
@@ -33,6 +34,27 @@ use Rattle.import_match.proofs.ModuleTypes.{exported-types, wanted-types}
 use Rattle.plan_link.specs.Linkable.{IsLinkable}
 use Rattle.plan_link.proofs.TypesBelow.{startup-below, all-below}
 use Rattle.plan_link.proofs.Found.{HasEntitiesOf, imports-resolved, exports-resolved}
+
+-- a translation of a module has its entities
+pub entities-of : (debugged : Bool) (m : plain.Module) (validator : ℕ) (t : ModuleTranslation) → HasTypes m validator t → HasSections debugged m t
+    → HasEntitiesOf m t.module
+entities-of debugged m validator t types sections =
+    let entities = sections.entities in
+    record {
+      types = record {
+        types = types.declared;
+        order = escaping debugged (lists_of_module m);
+        functions = sections.escapes.functions;
+        tables = entities.tables;
+        globals = entities.globals;
+        tags = types.tags;
+      };
+      memories = entities.memories;
+      imports = entities.imports;
+      exports = entities.exports;
+      import_names = entities.pooled.imports;
+      export_names = entities.pooled.exports;
+    }
 
 -- what is held under a key names only types that are below its count
 have-types : (count : ℕ) (ds : List Definition) → All (λ (d : Definition). All (IsTypeBelow count) (types_in d.1)) ds → (held : Option ℕ)
@@ -78,23 +100,7 @@ module _ (may : BuiltMayBeListed) (tunables : Tunables) (module_index : Index St
   few = omega (arith, length-map b.list.types interned_of, is.types.room)
 
   has : HasEntitiesOf m t.module
-  has =
-      let entities = is.translation.sections.entities in
-      record {
-        types = record {
-          types = is.translation.types.declared;
-          order = escaping tunables.debug_guest (lists_of_module m);
-          functions = is.translation.sections.escapes.functions;
-          tables = entities.tables;
-          globals = entities.globals;
-          tags = is.translation.types.tags;
-        };
-        memories = entities.memories;
-        imports = entities.imports;
-        exports = entities.exports;
-        import_names = entities.pooled.imports;
-        export_names = entities.pooled.exports;
-      }
+  has = entities-of tunables.debug_guest m validator t is.translation.types is.translation.sections
 
   below : All (IsTypeBelow (length b.list.types)) (types_of t.module)
   below =

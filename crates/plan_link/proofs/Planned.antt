@@ -19,7 +19,6 @@ use Rattle.init_plan.specs.declared.translation.ModuleTranslation.{ModuleTransla
 use Rattle.init_plan.specs.Tables.{plan_of_tables}
 use Rattle.init_plan.specs.Views.{memory_plan_of}
 use Rattle.module_environ.specs.Entities.{entity_at, resolved_export}
-use Rattle.module_environ.specs.Escapes.{escaping}
 use Rattle.module_environ.specs.Types.{interned_list}
 use Rattle.plan.specs.declared.plan.Plan.{Plan}
 use Rattle.translate.specs.Initialised.{IsInitialised}
@@ -34,7 +33,7 @@ use Rattle.plan_link.specs.Linkable.{IsLinkable}
 use Rattle.plan_link.proofs.FewTypes.{few-types}
 use Rattle.plan_link.proofs.TypesBelow.{raised-below, all-below}
 use Rattle.plan_link.proofs.Found.{HasEntitiesOf}
-use Rattle.plan_link.proofs.Linkable.{linkable-of}
+use Rattle.plan_link.proofs.Linkable.{entities-of, linkable-of}
 use Rattle.wasm_module.specs.declared.startup.ModuleStartup.{ModuleStartup}
 use Rattle.wasm_module.specs.ModuleData.{startup_of}
 use Rattle.wasm_module.specs.ModuleShapes.{startup_edges}
@@ -86,22 +85,8 @@ module _ (o : Options) (bytes : List ℕ) (plan : Plan) (is : IsPlanned o bytes 
   has : HasEntitiesOf m plan.translation.module
   has =
       let translated = init.rest.translation in
-      let entities = translated.sections.entities in
-      subst (λ (t : ModuleTranslation). HasEntitiesOf m t.module) (sym init.rest.same) (record {
-        types = record {
-          types = translated.types.declared;
-          order = escaping o.init.tunables.debug_guest (lists_of_module m);
-          functions = translated.sections.escapes.functions;
-          tables = entities.tables;
-          globals = entities.globals;
-          tags = translated.types.tags;
-        };
-        memories = entities.memories;
-        imports = entities.imports;
-        exports = entities.exports;
-        import_names = entities.pooled.imports;
-        export_names = entities.pooled.exports;
-      })
+      subst (λ (t : ModuleTranslation). HasEntitiesOf m t.module) (sym init.rest.same)
+      (entities-of o.init.tunables.debug_guest m _ init.rest.before translated.types translated.sections)
 
   below : All (IsTypeBelow (length plan.types.types)) (types_of plan.translation.module)
   below =

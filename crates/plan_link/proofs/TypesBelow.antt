@@ -57,13 +57,15 @@ all-numbered P n (x ∷ xs) all =
     All-cons (λ (f : ℕ × ℕ). P f.1) (n, x) (enumerate_from (n + 1) xs) (All-head P x xs all) (all-numbered P (n + 1) xs (All-tail P x xs all))
 
 -- the type section, functions, tables, globals and tags of a record are those of a module
-pub record HasTypesOf (m : plain.Module) (r : Module) : Type 0 where
-  pub types : r.types ≡ map type_index (declared m)
-  pub order : List ℕ
-  pub functions : r.functions ≡ function_types m order
-  pub tables : map table_of r.tables ≡ tables_data m
-  pub globals : map global_of r.globals ≡ globals_data m
-  pub tags : r.tags ≡ tags_of m
+abbrev pub HasTypesOf : plain.Module → Module → Type 0
+HasTypesOf m r = record {
+  types : r.types ≡ map type_index (declared m);
+  order : List ℕ;
+  functions : r.functions ≡ function_types m order;
+  tables : map table_of r.tables ≡ tables_data m;
+  globals : map global_of r.globals ≡ globals_data m;
+  tags : r.tags ≡ tags_of m;
+}
 
 module _ (m : plain.Module) (keeps : Keeps m) (startup : Bool) (count : ℕ) (counted : length (interned_list m startup).types ≡ count) where
   abbrev P : EngineOrModuleTypeIndex → Type 0

@@ -1,14 +1,12 @@
 -- A translation whose memories and then tables are planned can be laid.
-use Rattle.std.proofs.Common.{◌≡◌, ℕ, ◌<◌, ◌≤◌, ◌⊎◌, Bool, List, length, map, sym, ◌∙◌, ap, subst, arith}
+use Rattle.std.proofs.Common.{◌≡◌, ℕ, ◌<◌, ◌≤◌, ◌⊎◌, Bool, List, length, map, sym, subst, arith}
 use Rattle.std.specs.Prelude.{All, None, Some}
 use Rattle.std.specs.Int.{IsPowerOfTwo}
-use Rattle.std.proofs.lemmas.List.{length-map, length-append}
-use Rattle.wasm_spec.specs.Module.{Module, GlobalDef, imported_of, global_import, globals}
+use Rattle.wasm_spec.specs.Module.{Module, globals}
 use Rattle.rule_spec.specs.Lists.{lists_of_module}
 use Rattle.wasm_index.specs.declared.index.Index.{Index}
 use Rattle.wasm_index.specs.declared.spaces.StaticModuleSpace.{StaticModuleSpace}
 use Rattle.wasm_types.specs.declared.tunables.Tunables.{Tunables}
-use Rattle.wasm_types.specs.EntityViews.{global_of}
 use Rattle.replay_spec.specs.Globals.{IsGlobalPlan}
 use Rattle.replay_spec.specs.Images.{ImageOptions, IsMemoryPlan}
 use Rattle.replay_spec.specs.Tables.{IsTablePlan}
@@ -20,17 +18,15 @@ use Rattle.init_plan.specs.Held.{plan_of_globals, erase_null_type, initialisers}
 use Rattle.init_plan.specs.Tables.{tables_of, elements_of, plan_of_tables}
 use Rattle.module_environ.specs.Translation.{HasEntities, CountsImports}
 use Rattle.module_environ.specs.Translated.{IsTranslated}
+use Rattle.module_environ.proofs.Answering.{globals_split}
 use Rattle.plan_run.specs.Finished.{Finished}
 use Rattle.translate.proofs.Unchanged.{with_memories, with_tables, both-planned}
 use Rattle.run_laws.specs.Planned.{MemoriesArePlanned, TablesArePlanned}
 use Rattle.run_laws.proofs.Finishing.{IsPlannedSo, finished}
 
 -- imported globals are among the globals
-pub globals-among : (m : Module) (t : ModuleTranslation) → HasEntities m t → CountsImports m t → t.module.num_imported_globals ≤ length t.module.globals
-globals-among m t entities counts =
-    let all = sym (length-map t.module.globals global_of) ∙ ap length entities.globals ∙ length-map (globals m) _
-    ∙ length-append (imported_of global_import m) (map (λ (g : GlobalDef). g.type) (lists_of_module m).globals) in
-    omega (arith, all, counts.globals)
+pub globals-among : (m : Module) (t : ModuleTranslation) → HasEntities m t → CountsImports m t.module → t.module.num_imported_globals ≤ length t.module.globals
+globals-among m t entities counts = omega (arith, globals_split m t entities counts)
 
 module _ (tunables : Tunables) (index : Index StaticModuleSpace) (validator : ℕ) (bytes : List ℕ) (types : BuilderState) (options : ImageOptions) (lazy : Bool)
     (old mid new : ModuleTranslation) (told : IsTranslated tunables index validator bytes old types) (page : IsPowerOfTwo options.page)

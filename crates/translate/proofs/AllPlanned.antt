@@ -1,14 +1,13 @@
 -- A translation whose memories and then tables are planned is the planned translation of its module.
 use Rattle.std.proofs.Common.{◌≡◌, ◌<◌, ◌+◌, ℕ, false, List, length, map, sym, ap, subst, ◌∙◌}
 use Rattle.std.proofs.lemmas.List.{length-map}
-use Rattle.wasm_spec.specs.Module.{Module, defined_memories}
+use Rattle.wasm_spec.specs.Module.{Module}
 use Rattle.rule_spec.specs.Lists.{Lists, lists_of_module}
 use Rattle.wasm_index.specs.declared.index.Index.{Index}
 use Rattle.wasm_index.specs.declared.spaces.StaticModuleSpace.{StaticModuleSpace}
 use Rattle.wasm_index.specs.Index.{index_of}
 use Rattle.wasm_types.specs.declared.tunables.Tunables.{Tunables}
-use Rattle.replay_spec.specs.Globals.{GlobalPlan, AgreesOnGlobals}
-use Rattle.replay_spec.specs.Images.{image_memory_of}
+use Rattle.replay_spec.specs.Globals.{AgreesOnGlobals}
 use Rattle.replay_spec.specs.Plan.{MemoryPlan, Agrees}
 use Rattle.replay_spec.specs.Startup.{Startup, startup_of, first_startup, raised_by_tables, raised_by_memories}
 use Rattle.replay_spec.specs.Tables.{TablePlan, IsTablePlan}
@@ -18,11 +17,12 @@ use Rattle.module_types.specs.Views.{interned_of}
 use Rattle.init_plan.specs.declared.translation.ModuleTranslation.{ModuleTranslation}
 use Rattle.init_plan.specs.Agreement.{AgreesOnElements, AgreesInAll}
 use Rattle.init_plan.specs.Held.{initialisers, plan_of_globals}
-use Rattle.init_plan.specs.Images.{image_memories}
 use Rattle.init_plan.specs.Startup.{startup_kind, raised, types_after}
 use Rattle.table_images.specs.Left.{IsLeft}
 use Rattle.init_plan.specs.Tables.{tables_of, elements_of, plan_of_tables, startup_with_tables, AreCounted, OnlyTableInitChanges}
 use Rattle.init_plan.specs.Views.{memory_plan_of, OnlyMemoryInitChanges}
+use Rattle.init_plan.proofs.Holding.{memories_same}
+use Rattle.init_plan.proofs.Agreeing.{agree_in_all}
 use Rattle.module_environ.specs.Translated.{IsTranslated}
 use Rattle.module_environ.specs.Types.{interned_list}
 use Rattle.translate.specs.Options.{InitOptions, startup_by}
@@ -39,14 +39,6 @@ translated_with a b i j v w bytes t before types ab ij vw same h =
     subst (IsTranslated b j w bytes t) same (subst (λ (x : ℕ). IsTranslated b j x bytes t before) vw
     (subst (λ (x : Index StaticModuleSpace). IsTranslated b x v bytes t before) ij
     (subst (λ (x : Tunables). IsTranslated x i v bytes t before) ab h)))
-
--- the laws that are cited
-pub record Laws (m : Module) : Type 0 where
-  pub startup : (l : Lists) (tables : TablePlan) (memories : MemoryPlan)
-      → raised_by_tables tables (raised_by_memories memories (first_startup l)) ≡ startup_of l tables memories
-  pub agreement : (globals : GlobalPlan) (memories : MemoryPlan) (tables : TablePlan)
-      → AgreesOnGlobals (lists_of_module m).imported_globals (initialisers (lists_of_module m)) globals
-      → Agrees m memories → AgreesOnElements m tables → AgreesInAll m globals memories tables
 
 -- the plan of the memories of a translation, and then that of its tables
 pub record Plans (i : InitOptions) (m : Module) (old mid new : ModuleTranslation) (b mid_types new_types : BuilderState) : Type 0 where
@@ -77,8 +69,12 @@ module _ (i : InitOptions) (bytes : List ℕ) (old : ModuleTranslation) (b : Bui
   pub room : length listed.types + 1 < 4294967295
   room = first_room told.meaning (builder_view b) told.types
 
-  pub holds_data : image_memories old.module ≡ map image_memory_of (defined_memories told.meaning) → HoldsData told.meaning old
-  holds_data memories = record { holds = told.ready.holds_memories; memories = memories; passive = told.translation.sections.data_segments.passive }
+  pub holds_data : HoldsData told.meaning old
+  holds_data = record {
+    holds = told.ready.holds_memories;
+    memories = memories_same told.meaning old told.ready.holds_memories;
+    passive = told.translation.sections.data_segments.passive;
+  }
 
   -- startup, once the memories are planned
   pub started_memories : (mid : ModuleTranslation) (types : BuilderState)
@@ -89,8 +85,10 @@ module _ (i : InitOptions) (bytes : List ℕ) (old : ModuleTranslation) (b : Bui
       next listed (raised_by_memories (memory_plan_of mid)) kind old.module.startup mid.module.startup (builder_view b) (builder_view types)
       (raised-memories (memory_plan_of mid)) started startup grown
 
-  module _ (mid new : ModuleTranslation) (mid_types new_types : BuilderState) (laws : Laws told.meaning)
-      (plans : Plans i told.meaning old mid new b mid_types new_types) (memories : image_memories old.module ≡ map image_memory_of (defined_memories told.meaning)) where
+  module _ (mid new : ModuleTranslation) (mid_types new_types : BuilderState)
+      (startup_law : (l : Lists) (tables : TablePlan) (memories : MemoryPlan)
+      → raised_by_tables tables (raised_by_memories memories (first_startup l)) ≡ startup_of l tables memories)
+      (plans : Plans i told.meaning old mid new b mid_types new_types) where
     -- the plan of the tables keeps that of the memories, and both the globals
     plan_same : memory_plan_of new ≡ memory_plan_of mid
     plan_same = ap memory_plan_of plans.tables_same
@@ -103,7 +101,7 @@ module _ (i : InitOptions) (bytes : List ℕ) (old : ModuleTranslation) (b : Bui
 
     last_started : IsStarted listed last_kind new.module.startup (builder_view new_types)
     last_started =
-        let raised_to = laws.startup (lists_of_module told.meaning) (plan_of_tables new) (memory_plan_of mid)
+        let raised_to = startup_law (lists_of_module told.meaning) (plan_of_tables new) (memory_plan_of mid)
         ∙ ap (startup_of (lists_of_module told.meaning) (plan_of_tables new)) (sym plan_same) in
         subst (λ (k : Startup). IsStarted listed k new.module.startup (builder_view new_types)) raised_to
         (next listed (raised_by_tables (plan_of_tables new)) (raised_by_memories (memory_plan_of mid) kind) mid.module.startup new.module.startup
@@ -111,7 +109,7 @@ module _ (i : InitOptions) (bytes : List ℕ) (old : ModuleTranslation) (b : Bui
         (started_memories mid mid_types plans.memories_startup plans.memories_types) plans.tables_startup plans.tables_types)
 
     agreed : AgreesInAll told.meaning (plan_of_globals new) (memory_plan_of new) (plan_of_tables new)
-    agreed = laws.agreement (plan_of_globals new) (memory_plan_of new) (plan_of_tables new)
+    agreed = agree_in_all told.meaning (plan_of_globals new) (memory_plan_of new) (plan_of_tables new)
         (subst (AgreesOnGlobals (lists_of_module told.meaning).imported_globals (initialisers (lists_of_module told.meaning))) (sym globals_same) plans.agree_globals)
         (subst (Agrees told.meaning) (sym plan_same) plans.agree_memories) plans.agree_tables
 
@@ -129,7 +127,7 @@ module _ (i : InitOptions) (bytes : List ℕ) (old : ModuleTranslation) (b : Bui
           counts = plans.tables_counted;
         };
         agrees = agreed;
-        memories = initialises_memories i told.meaning old (holds_data memories) mid new plans.memories plans.tables_same;
+        memories = initialises_memories i told.meaning old holds_data mid new plans.memories plans.tables_same;
         tables = plans_tables i told.meaning mid (plan_of_tables new)
             (holds_still told.meaning old mid plans.memories_same told.ready.holds_tables) plans.tables;
         startup = last_started.startup;

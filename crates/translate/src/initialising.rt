@@ -9,9 +9,8 @@ ghost use Rattle.translate.specs.Planned.{HasCause, SucceedsOrNoMemory};
 ghost use Rattle.translate.specs.Valid.{CanBeInitialised};
 
 use entity_map::EntityRef;
-use form_reader::spelling_is_unique;
 use form_types::Validator;
-use init_plan::{ModuleTranslation, agreement_law, held_agreement_laws};
+use init_plan::ModuleTranslation;
 use module_environ::ModuleEnvironment;
 use module_types::ModuleTypesBuilder;
 use plan::TranslateError;
@@ -42,11 +41,8 @@ pub(crate) fn planned_translation<'d>(
     ensures too_long { 2 ^ 30 ≤ length bytes.now → result ≡ Err TranslateError.TooLarge }
     ensures complete { CanBeInitialised (init_options tunables.now page_size max_image) bytes.now → SucceedsOrNoMemory result }
 {
-    // What the proof rests on: they do nothing when they are run.
-    spelling_is_unique();
+    // What the proof rests on: it does nothing when it is run.
     startup_law();
-    held_agreement_laws();
-    agreement_law();
     let index = StaticModuleIndex::from_u32(0);
     let environment = ModuleEnvironment::new(alloc, tunables, validator, types, index)?;
     let mut translation = environment.translate(alloc, bytes)?;

@@ -1,17 +1,13 @@
-use Rattle.std.proofs.Common.{◌∙◌, ◌<◌, ◌∷◌, [], ℕ, length, sym, ap, subst, arith}
-use Rattle.std.specs.Prelude.{unwrap_or}
+use Rattle.std.proofs.Common.{◌∙◌, ◌<◌, ◌∷◌, [], length, sym, ap, subst, arith}
 use Rattle.std.proofs.lemmas.List.{length-append}
-use Rattle.wasm_spec.specs.declared.types.UnpackedIndex.TheVariants.{Module}
 use Rattle.wasm_spec.specs.TypeData.{Concrete}
-use Rattle.wasm_types.specs.ValueViews.{Name}
-use Rattle.module_environ.specs.Environment.{look_type}
-use Rattle.module_environ.specs.Named.{unnamed}
-use Rattle.module_environ.proofs.Naming.{AreNamed, named-more, is-some}
+use Rattle.module_environ.specs.Environment.{declared_name}
+use Rattle.module_environ.proofs.Naming.{AreNamed, named-more}
 use Rattle.module_environ.proofs.declared.declared_types.Goals as goal
 
 pub loop-number-init : goal.loop-number-init
 loop-number-init c =
-    let name : ℕ → Name = λ i. look_type c.args.indices.now c.args.types.now (Module i) in
+    let name = declared_name c.args.indices.now c.args.types.now in
     record {
       long = ap length c.in_ok-names.ensures.items;
       named = subst (λ names. AreNamed names name) (sym c.in_ok-names.ensures.items) (λ i lt. absurd (omega (arith, lt)));
@@ -23,7 +19,7 @@ lookup_heap_type-requires c =
 
 pub loop-number-preserved : goal.loop-number-preserved
 loop-number-preserved c =
-    let name : ℕ → Name = λ i. look_type c.args.indices.now c.args.types.now (Module i) in
+    let name = declared_name c.args.indices.now c.args.types.now in
     let names = c.loop-number.names.items in
     let n = c.loop-number.number in
     let lt : n < length c.args.indices.now = omega (arith, c.loop-number-test.true, c.len-number-end.ensures.length) in
@@ -34,14 +30,8 @@ loop-number-preserved c =
       named = subst (λ names. AreNamed names name) (sym c.in_ok-push.ensures.items) (named-more names h name c.loop-number.invariant.named is);
     }
 
-pub returns-clause-knows : goal.returns-clause-knows
-returns-clause-knows c = λ i lt.
-    let inside : i < length c.loop-number.names.items = omega
-    (arith, lt, c.loop-number.invariant.long, c.loop-number-test.false, c.len-number-end.ensures.length) in
-    is-some _ _ (c.loop-number.invariant.named i inside)
-
-pub returns-clause-looks : goal.returns-clause-looks
-returns-clause-looks c = λ i lt.
-    let inside : i < length c.loop-number.names.items = omega
-    (arith, lt, c.loop-number.invariant.long, c.loop-number-test.false, c.len-number-end.ensures.length) in
-    ap (λ name. unwrap_or name unnamed) (c.loop-number.invariant.named i inside)
+pub returns : goal.returns
+returns c = record {
+  long = omega (arith, c.loop-number.invariant.long, c.loop-number-test.false, c.len-number-end.ensures.length);
+  named = c.loop-number.invariant.named;
+}

@@ -1,6 +1,5 @@
 use Rattle.std.proofs.Common.{◌≡◌, length}
-use Rattle.wasm_spec.specs.declared.types.UnpackedIndex.TheVariants.{Module}
-use Rattle.module_environ.specs.Environment.{look_type}
+use Rattle.module_environ.specs.Environment.{declared_name}
 use Rattle.module_environ.proofs.Naming.{AreNamed}
 use Rattle.module_environ.proofs.declared.declared_types.Given as goal
 
@@ -8,5 +7,5 @@ use Rattle.module_environ.proofs.declared.declared_types.Given as goal
 abbrev pub invariant-loop-number : goal.invariant-loop-number
 invariant-loop-number l = record {
   long : length l.names.items ≡ l.number;
-  named : AreNamed l.names.items (λ i. look_type l.indices l.types (Module i));
+  named : AreNamed l.names.items (declared_name l.indices l.types);
 }

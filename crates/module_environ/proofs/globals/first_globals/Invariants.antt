@@ -10,8 +10,7 @@ use Rattle.module_environ.specs.Escapes.{referred}
 use Rattle.module_environ.specs.EscapeLog.{after_escapes}
 use Rattle.module_environ.specs.FirstGlobals.{seen_globals, view_known, view_left}
 use Rattle.module_environ.specs.Initialisers.{known_values, left_initialisers}
-use Rattle.module_environ.proofs.GatheredGlobals.{next_initialisers}
-use Rattle.module_environ.proofs.LookedUp.{converted}
+use Rattle.module_environ.proofs.GatheredGlobals.{converted, next_initialisers}
 use Rattle.module_environ.proofs.globals.first_globals.Given as goal
 
 -- with what the globals that are left give, all are gathered

@@ -48,7 +48,6 @@ loop-body-preserved g c =
     let z : FunctionMetadata = record { params = c.in_ok-function_params.field-0; locals = c.in_ok-convert_locals.field-0 } in
     let one = metadata lists c.requires.gathered (look.knows c.args.env.now.1) (look.look_up c.args.env.now.1) c.requires.looks
     (length all) (lists.imported_functions + c.len.result) body c.deref-in-loop-body.result.now z
-    (All-head refers body _ (All-same refers (body ∷ _) _ (sym at) had.refer))
     (omega (arith, c.len.ensures)) c.deref-in-loop-body.ensures.value c.in_ok-function_params.ensures c.in_ok-convert_locals.ensures in
     record {
       refer = All-rest refers body _ _ at had.refer;

@@ -36,16 +36,11 @@ returns g c =
     let gathered = c.requires.gathered in
     let knows = dyn.knows c.args.env.now.1 in
     let look = dyn.look_up c.args.env.now.1 in
-    let counts = c.in_ok-initializers.ensures.counts in
     record {
       imports = c.in_ok-initializers.ensures.imports;
       pooled = c.in_ok-initializers.ensures.pooled;
       texts = c.in_ok-initializers.ensures.pool;
-      functions = counts.functions;
-      imported_tables = counts.tables;
-      imported_memories = counts.memories;
-      imported_globals = counts.globals;
-      tags = counts.tags;
+      counts = c.in_ok-initializers.ensures.counts;
       tables = c.in_ok-entities.ensures
           ∙ tables-filled l gathered knows look c.requires.looks c.as_slice.result.now c.as_slice.ensures.value;
       memories = c.in_ok-entities-2.ensures ∙ memories-filled l gathered c.as_slice-2.result.now c.as_slice-2.ensures.value;

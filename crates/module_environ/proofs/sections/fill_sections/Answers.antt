@@ -67,27 +67,10 @@ returns-clause-sections g c =
     let noted : c.if-debugged.escaping.order ≡ escaping c.args.debugged (lists_of_module m) =
     ap (λ (f : EscapeLog). f.order) whole
     ∙ ap (λ (f : EscapeLog). (after_escapes f (references c.args.debugged (lists_of_module m))).order) c.in_ok-escaping.ensures in
-    let counts = counts-filled m _ _ new _ first _ _ t second in
-    let segments = data-filled m _ _ new _ first _ _ t second in
     let start = c.start_function-translation in
-    let entities = entities-filled m _ _ new _ first _ _ t second start.result start.ensures in
     record {
-      entities = record {
-        imports = entities.imports;
-        exports = entities.exports;
-        tables = entities.tables;
-        memories = entities.memories;
-        globals = entities.globals;
-        start = entities.start;
-        pooled = record { imports = entities.pooled.imports; exports = entities.pooled.exports; name = entities.pooled.name };
-      };
-      counts = record {
-        functions = counts.functions;
-        tables = counts.tables;
-        memories = counts.memories;
-        globals = counts.globals;
-        tags = counts.tags;
-      };
+      entities = entities-filled m _ _ new _ first _ _ t second start.result start.ensures;
+      counts = counts-filled m _ _ new _ first _ _ t second;
       escapes = record {
         functions = made ∙ ap (function_types m) noted;
         count = c.len-translation.ensures.len ∙ ap length noted;
@@ -105,25 +88,9 @@ returns-clause-sections g c =
             (c.in_ok-translation-2.ensures m c.requires.listed functions);
       };
       heap = heap-filled m _ _ new _ first _ _ t second;
-      globals = record { known = second.globals.known; left = second.globals.left };
-      elements = record {
-        first = second.elements.first;
-        active = second.elements.active;
-        no_images = second.elements.no_images;
-        passive = second.elements.passive;
-        kinds = second.elements.kinds;
-        numbers = second.elements.numbers;
-      };
-      data_segments = record {
-        unprocessed = segments.unprocessed;
-        active = segments.active;
-        passive = segments.passive;
-        segmented = segments.segmented;
-        no_ranges = segments.no_ranges;
-        no_runtime = segments.no_runtime;
-        nothing_found = segments.nothing_found;
-        no_alignment = segments.no_alignment;
-      };
+      globals = second.globals;
+      elements = second.elements;
+      data_segments = data-filled m _ _ new _ first _ _ t second;
     }
 
 pub returns-clause-texts : goal.returns-clause-texts

@@ -1,4 +1,4 @@
-use Rattle.std.proofs.Common.{◌≡◌, ◌+◌, ◌<◌, ◌^◌, length, Err, true, false, sym, ap, ◌∙◌, arith, inr, refl, subst}
+use Rattle.std.proofs.Common.{◌≡◌, ◌+◌, ◌<◌, ◌^◌, length, Err, true, false, sym, ap, ◌∙◌, arith, inr, subst}
 use Rattle.std.proofs.lemmas.List.{length-map}
 use Rattle.std.proofs.lemmas.Result.{err_from_is_err_and}
 use Rattle.wasm_module.specs.declared.startup.ModuleStartup.TheVariants as startup
@@ -10,12 +10,8 @@ use Rattle.init_plan.specs.declared.translation.ModuleTranslation.{ModuleTransla
 use Rattle.module_environ.specs.Filling.{module_in}
 use Rattle.module_environ.specs.Forming.{IsFormed}
 use Rattle.module_environ.specs.Types.{HoldsGroupsAlone}
-use Rattle.module_environ.proofs.FilledSections.{looks-held, carried-looks}
-use Rattle.module_environ.proofs.GrownPool.{names-pooled, pooled-all}
-use Rattle.module_environ.proofs.Named.{sections-named, imports-named, rest-named}
 use Rattle.module_environ.proofs.WayPlaces.{types-gathered, can-tag, build-memory, at-type, at-tag, at-startup}
 use Rattle.module_environ.proofs.WholeTranslation.{new-startup, formed-never, formed-always}
-use Rattle.module_environ.proofs.translating.translate_lists.OwnLists.{same-1-1}
 use Rattle.module_environ.proofs.translating.translate_lists.Goals.{then-not-leaves_nothing+in_ok-require_startup_func, else-not-leaves_nothing}
 use Rattle.module_environ.proofs.translating.translate_lists.Goals as goal
 
@@ -23,39 +19,19 @@ pub intern_types-requires-clause-of_module : goal.intern_types-requires-clause-o
 intern_types-requires-clause-of_module c =
     (module_in c.args.lists.now, types-gathered c.args.lists.now c.requires.gathered c.in_ok-ids.ids c.in_ok-ids.ensures.numbered)
 
-pub fill_sections-requires-clause-of_module : goal.fill_sections-requires-clause-of_module
-fill_sections-requires-clause-of_module c =
+pub fill_lists-requires-clause-of_module : goal.fill_lists-requires-clause-of_module
+fill_lists-requires-clause-of_module c =
     (c.in_ok-ids.ids, types-gathered c.args.lists.now c.requires.gathered c.in_ok-ids.ids c.in_ok-ids.ensures.numbered)
 
-pub fill_sections-requires-clause-listed : goal.fill_sections-requires-clause-listed
-fill_sections-requires-clause-listed c =
+pub fill_lists-requires-clause-listed : goal.fill_lists-requires-clause-listed
+fill_lists-requires-clause-listed c =
     let l = c.args.lists.now in
     c.in_ok-indices.ensures.indices (module_in l) (types-gathered l c.requires.gathered c.in_ok-ids.ids c.in_ok-ids.ensures.numbered)
 
-pub fill_sections-requires-clause-held : goal.fill_sections-requires-clause-held
-fill_sections-requires-clause-held c = (_, c.in_ok-indices.ensures.held)
-
-pub fill_sections-requires-clause-looks : goal.fill_sections-requires-clause-looks
-fill_sections-requires-clause-looks c =
+pub fill_lists-requires-clause-built : goal.fill_lists-requires-clause-built
+fill_lists-requires-clause-built c =
     let l = c.args.lists.now in
-    let m = module_in l in
-    let of = types-gathered l c.requires.gathered c.in_ok-ids.ids c.in_ok-ids.ensures.numbered in
-    carried-looks _ _ _ same-1-1 (record { ref_ptr = _; now = c.in_ok-env.env })
-    (looks-held m _ refl (c.in_ok-ids.ids, of) c.in_ok-indices.indices (c.in_ok-indices.ensures.indices m of) c.intern_types.new.builder
-    (c.in_ok-indices.ensures.built m of) _ _ c.in_ok-env.ensures.knows c.in_ok-env.ensures.looks)
-
-pub fill_customs-requires-clause-looks : goal.fill_customs-requires-clause-looks
-fill_customs-requires-clause-looks c =
-    let l = c.args.lists.now in
-    let m = module_in l in
-    let of = types-gathered l c.requires.gathered c.in_ok-ids.ids c.in_ok-ids.ensures.numbered in
-    carried-looks _ _ _ same-1-1 (record { ref_ptr = _; now = c.in_ok-env.env })
-    (looks-held m _ refl (c.in_ok-ids.ids, of) c.in_ok-indices.indices (c.in_ok-indices.ensures.indices m of) c.intern_types.new.builder
-    (c.in_ok-indices.ensures.built m of) _ _ c.in_ok-env.ensures.knows c.in_ok-env.ensures.looks)
-
-pub fill_customs-requires-clause-few_texts : goal.fill_customs-requires-clause-few_texts
-fill_customs-requires-clause-few_texts c =
-    names-pooled (module_in c.args.lists.now) c.requires.gathered.few c.fill_sections.new.translation.module.strings c.in_ok-fill_sections.ensures.texts
+    c.in_ok-indices.ensures.built (module_in l) (types-gathered l c.requires.gathered c.in_ok-ids.ids c.in_ok-ids.ensures.numbered)
 
 -- ---- tags
 
@@ -86,35 +62,29 @@ returns-clause-formed c =
     let m = module_in l in
     let of = types-gathered l c.requires.gathered c.in_ok-ids.ids c.in_ok-ids.ensures.numbered in
     let e = c.in_ok-indices.ensures in
-    let f = c.in_ok-fill_sections.ensures in
     let t = c.in_ok-translation.ensures in
     let groups = builder_view c.intern_types.new.builder in
     let tagged = builder_view c.convert_tags.new.types in
     let can = can-tag l c.requires.gathered of c.in_ok-indices.indices groups (e.indices m of) (e.built m of) _ e.alone c.as_slice.result.now
     c.as_slice.ensures.value in
-    let filled = c.fill_customs.new.translation in
-    let customs = c.in_ok-fill_customs.ensures in
+    let f = c.in_ok-fill_lists.ensures in
+    let filled = c.fill_lists.new.translation in
     let set = c.set_types.new.self in
     let tunables = c.args.tunables.now in
-    let sections = sections-named c.fill_sections.new.translation filled customs.same tunables.debug_guest tunables.debug_native m customs.texts
-    customs.pooled f.sections in
-    let pooled = pooled-all tunables.debug_native m c.fill_sections.new.translation.module.strings filled.module.strings f.texts customs.texts in
-    let imports = imports-named c.fill_sections.new.translation filled customs.same _ f.imports in
-    let rest = rest-named c.fill_sections.new.translation filled customs.same c.args.translation.now f.rest in
     let alone = subst (λ n. HoldsGroupsAlone n groups) c.in_ok-ids.ensures.made e.alone in
     let few : length tagged.built.types < 2 ^ 31 + 2 ^ 30 = omega (arith, length-map c.convert_tags.new.types.list.types interned_of, t.few) in
     elim c.if-not-leaves_nothing.branch [
       | then-not-leaves_nothing+in_ok-require_startup_func w ↦
-          formed-always tunables c.args.validator.now m c.args.translation.now filled set c.requires.gathered.keeps sections customs.customs pooled imports
-          rest (new-startup c.args.translation.now c.requires.new) c.in_ok-indices.indices c.in_ok-translation.field-0 c.in_ok-ids.ids
+          formed-always tunables c.args.validator.now m c.args.translation.now filled set c.requires.gathered.keeps f.sections f.customs f.strings f.imports
+          f.rest (new-startup c.args.translation.now c.requires.new) c.in_ok-indices.indices c.in_ok-translation.field-0 c.in_ok-ids.ids
           c.set_types.ensures.same c.set_types.ensures.set of.numbered c.in_ok-ids.ensures.made can.listed (t.tags m can) groups tagged alone t.gains
           (t.built m can) few (sym w.if-not-leaves_nothing.true ∙ c.leaves_nothing.ensures) c.if-not-leaves_nothing.translation
           c.if-not-leaves_nothing.types (w.translation-is ∙ w.in_ok-require_startup_func.ensures.ok)
           (ap builder_view w.types-is ∙ w.in_ok-require_startup_func.ensures.types)
       | else-not-leaves_nothing w ↦
           subst (λ u. IsFormed tunables c.args.validator.now m c.args.translation.now u c.if-not-leaves_nothing.types) (sym w.translation-is)
-          (formed-never tunables c.args.validator.now m c.args.translation.now filled set c.requires.gathered.keeps sections customs.customs pooled imports
-          rest (new-startup c.args.translation.now c.requires.new) c.in_ok-indices.indices c.in_ok-translation.field-0 c.in_ok-ids.ids
+          (formed-never tunables c.args.validator.now m c.args.translation.now filled set c.requires.gathered.keeps f.sections f.customs f.strings f.imports
+          f.rest (new-startup c.args.translation.now c.requires.new) c.in_ok-indices.indices c.in_ok-translation.field-0 c.in_ok-ids.ids
           c.set_types.ensures.same c.set_types.ensures.set of.numbered c.in_ok-ids.ensures.made can.listed (t.tags m can) groups tagged alone t.gains
           (t.built m can) few (sym w.if-not-leaves_nothing.false ∙ c.leaves_nothing.ensures) c.if-not-leaves_nothing.types (ap builder_view w.types-is))
     ]
@@ -126,18 +96,8 @@ returns-in_err-indices-clause-stops c = λ was sound.
     inr (at-type (module_in c.args.lists.now) c.args.validator.now c.in_ok-ids.ids c.in_ok-ids.ensures.numbered c.in_ok-ids.ensures.made
     (builder_view c.intern_types.new.builder) (c.in_err-indices.ensures.stops sound))
 
-pub returns-in_err-env-clause-stops : goal.returns-in_err-env-clause-stops
-returns-in_err-env-clause-stops c = λ was sound.
-    inr (at-type (module_in c.args.lists.now) c.args.validator.now c.in_ok-ids.ids c.in_ok-ids.ensures.numbered c.in_ok-ids.ensures.made
-    (builder_view c.intern_types.new.builder) (_, c.in_ok-indices.ensures.whole))
-
-pub returns-in_err-fill_sections-clause-stops : goal.returns-in_err-fill_sections-clause-stops
-returns-in_err-fill_sections-clause-stops c = λ was sound.
-    inr (at-type (module_in c.args.lists.now) c.args.validator.now c.in_ok-ids.ids c.in_ok-ids.ensures.numbered c.in_ok-ids.ensures.made
-    (builder_view c.intern_types.new.builder) (_, c.in_ok-indices.ensures.whole))
-
-pub returns-in_err-fill_customs-clause-stops : goal.returns-in_err-fill_customs-clause-stops
-returns-in_err-fill_customs-clause-stops c = λ was sound.
+pub returns-in_err-fill_lists-clause-stops : goal.returns-in_err-fill_lists-clause-stops
+returns-in_err-fill_lists-clause-stops c = λ was sound.
     inr (at-type (module_in c.args.lists.now) c.args.validator.now c.in_ok-ids.ids c.in_ok-ids.ensures.numbered c.in_ok-ids.ensures.made
     (builder_view c.intern_types.new.builder) (_, c.in_ok-indices.ensures.whole))
 
@@ -164,10 +124,8 @@ returns-clause-stops c = λ was sound.
     let tagged = builder_view c.convert_tags.new.types in
     let can = can-tag l c.requires.gathered of c.in_ok-indices.indices groups (e.indices m of) (e.built m of) _ e.alone c.as_slice.result.now
     c.as_slice.ensures.value in
-    let rest = rest-named c.fill_sections.new.translation c.fill_customs.new.translation c.in_ok-fill_customs.ensures.same c.args.translation.now
-    c.in_ok-fill_sections.ensures.rest in
     let none : c.set_types.new.self.module.startup ≡ startup.None = ap (λ (x : ModuleTranslation). x.module.startup) c.set_types.ensures.same
-    ∙ rest.startup ∙ new-startup c.args.translation.now c.requires.new in
+    ∙ c.in_ok-fill_lists.ensures.rest.startup ∙ new-startup c.args.translation.now c.requires.new in
     inr (elim c.if-not-leaves_nothing.branch [
       | then-not-leaves_nothing+in_ok-require_startup_func w ↦
           at-startup m c.args.validator.now c.in_ok-ids.ids of.numbered c.in_ok-ids.ensures.made groups e.whole c.as_slice.result.now can.named tagged

@@ -4,7 +4,7 @@ use Rattle.rule_spec.specs.Rules.{Keeps}
 use Rattle.form_data.specs.Views.{body_of}
 use Rattle.form_reader.specs.Input.{input_module_of}
 use Rattle.init_plan.specs.declared.translation.ModuleTranslation.{ModuleTranslation}
-use Rattle.module_environ.proofs.Answering.{ReadingTells, read_cause, read_complete, was_readable, read_as, form_cause, is_translated}
+use Rattle.module_environ.proofs.Answering.{read_cause, read_complete, was_readable, form_cause, is_translated}
 use Rattle.module_environ.proofs.WayPlaces.{stops-read}
 use Rattle.module_environ.proofs.translating.translation_of.Goals as goal
 
@@ -14,109 +14,53 @@ pub returns-in_err-form-clause-cause : goal.returns-in_err-form-clause-cause
 returns-in_err-form-clause-cause c =
     let p = err_from_is_err_and c.from_residual.result c.from_residual.ensures.1 in
     let e = c.read_input.ensures in
-    let tells : ReadingTells c.args.bytes.now c.read_input.result = record {
-      complete = e.complete;
-      too_large = e.too_large;
-      unsupported = e.unsupported;
-      malformed = e.malformed;
-      stops_nowhere = e.stops_nowhere;
-    } in
-    rw (p.1, p.2) (read_cause c.args.bytes.now _ c.read_input.result c.in_err-form.field-0.0 tells c.in_err-form.was)
+    rw (p.1, p.2) (read_cause c.args.bytes.now _ c.read_input.result c.in_err-form.field-0.0 e.too_large e.unsupported e.malformed e.stops_nowhere c.in_err-form.was)
 
 pub returns-in_err-form-clause-complete : goal.returns-in_err-form-clause-complete
 returns-in_err-form-clause-complete c = λ m can kept sound.
     let p = err_from_is_err_and c.from_residual.result c.from_residual.ensures.1 in
     let e = c.read_input.ensures in
-    let tells : ReadingTells c.args.bytes.now c.read_input.result = record {
-      complete = e.complete;
-      too_large = e.too_large;
-      unsupported = e.unsupported;
-      malformed = e.malformed;
-      stops_nowhere = e.stops_nowhere;
-    } in
-    rw p.1 (p.2 ∙ read_complete c.args.bytes.now c.read_input.result c.in_err-form.field-0.0 m tells c.in_err-form.was can)
+    rw p.1 (p.2 ∙ read_complete c.read_input.result c.in_err-form.field-0.0 m (c.read_input.ensures.complete can.short m can.spelled can.no_interface_types) c.in_err-form.was)
 
 pub returns-in_err-form-clause-poisoned : goal.returns-in_err-form-clause-poisoned
 returns-in_err-form-clause-poisoned c = λ m can kept was.
     let p = err_from_is_err_and c.from_residual.result c.from_residual.ensures.1 in
     let e = c.read_input.ensures in
-    let tells : ReadingTells c.args.bytes.now c.read_input.result = record {
-      complete = e.complete;
-      too_large = e.too_large;
-      unsupported = e.unsupported;
-      malformed = e.malformed;
-      stops_nowhere = e.stops_nowhere;
-    } in
-    rw (p.1, p.2, read_complete c.args.bytes.now c.read_input.result c.in_err-form.field-0.0 m tells c.in_err-form.was can) tt
+    rw (p.1, p.2, read_complete c.read_input.result c.in_err-form.field-0.0 m (c.read_input.ensures.complete can.short m can.spelled can.no_interface_types) c.in_err-form.was) tt
 
 -- ---- its form becomes no translation
 
 pub returns-in-Err-clause-cause : goal.returns-in-Err-clause-cause
 returns-in-Err-clause-cause c =
     let e = c.in_ok-form.ensures in
-    let tells : ReadingTells c.args.bytes.now (Ok c.in_ok-form.form) = record {
-      complete = e.complete;
-      too_large = e.too_large;
-      unsupported = e.unsupported;
-      malformed = e.malformed;
-      stops_nowhere = e.stops_nowhere;
-    } in
     form_cause c.args.bytes.now (input_module_of c.in_ok-form.form) c.args.types.now.is_poisoned _
-    (was_readable c.args.bytes.now c.in_ok-form.form tells e.read e.no_interface_types) c.in-Err.ensures.cause
+    (was_readable c.args.bytes.now c.in_ok-form.form e.too_large e.read e.no_interface_types) c.in-Err.ensures.cause
 
 pub returns-in-Err-clause-complete : goal.returns-in-Err-clause-complete
 returns-in-Err-clause-complete c = λ m can kept sound.
     let e = c.in_ok-form.ensures in
-    let tells : ReadingTells c.args.bytes.now (Ok c.in_ok-form.form) = record {
-      complete = e.complete;
-      too_large = e.too_large;
-      unsupported = e.unsupported;
-      malformed = e.malformed;
-      stops_nowhere = e.stops_nowhere;
-    } in
-    let same : input_module_of c.in_ok-form.form ≡ m = read_as c.args.bytes.now c.in_ok-form.form m tells can in
+    let same : input_module_of c.in_ok-form.form ≡ m = e.complete can.short m can.spelled can.no_interface_types in
     c.in-Err.ensures.complete (subst Keeps (sym same) kept) sound
 
 pub returns-in-Err-clause-poisoned : goal.returns-in-Err-clause-poisoned
 returns-in-Err-clause-poisoned c = λ m can kept was.
     let e = c.in_ok-form.ensures in
-    let tells : ReadingTells c.args.bytes.now (Ok c.in_ok-form.form) = record {
-      complete = e.complete;
-      too_large = e.too_large;
-      unsupported = e.unsupported;
-      malformed = e.malformed;
-      stops_nowhere = e.stops_nowhere;
-    } in
-    let same : input_module_of c.in_ok-form.form ≡ m = read_as c.args.bytes.now c.in_ok-form.form m tells can in
+    let same : input_module_of c.in_ok-form.form ≡ m = e.complete can.short m can.spelled can.no_interface_types in
     c.in-Err.ensures.poisoned (subst Keeps (sym same) kept) was
 
 pub returns-in-Err-clause-stops : goal.returns-in-Err-clause-stops
 returns-in-Err-clause-stops c =
     let e = c.in_ok-form.ensures in
-    let tells : ReadingTells c.args.bytes.now (Ok c.in_ok-form.form) = record {
-      complete = e.complete;
-      too_large = e.too_large;
-      unsupported = e.unsupported;
-      malformed = e.malformed;
-      stops_nowhere = e.stops_nowhere;
-    } in
     stops-read c.args.validator.now c.args.bytes.now (input_module_of c.in_ok-form.form) c.args.types.now c.translate_form.new.types
-    (was_readable c.args.bytes.now c.in_ok-form.form tells e.read e.no_interface_types) c.translate_form.ensures.stops
+    (was_readable c.args.bytes.now c.in_ok-form.form e.too_large e.read e.no_interface_types) c.translate_form.ensures.stops
 
 -- ---- memory runs out for its code
 
 pub returns-in-Err-take_bodies-clause-stops : goal.returns-in-Err-take_bodies-clause-stops
 returns-in-Err-take_bodies-clause-stops c =
     let e = c.in_ok-form.ensures in
-    let tells : ReadingTells c.args.bytes.now (Ok c.in_ok-form.form) = record {
-      complete = e.complete;
-      too_large = e.too_large;
-      unsupported = e.unsupported;
-      malformed = e.malformed;
-      stops_nowhere = e.stops_nowhere;
-    } in
     stops-read c.args.validator.now c.args.bytes.now (input_module_of c.in_ok-form.form) c.args.types.now c.translate_form.new.types
-    (was_readable c.args.bytes.now c.in_ok-form.form tells e.read e.no_interface_types) c.translate_form.ensures.stops
+    (was_readable c.args.bytes.now c.in_ok-form.form e.too_large e.read e.no_interface_types) c.translate_form.ensures.stops
 
 pub returns-in-Err-take_bodies-clause-cause : goal.returns-in-Err-take_bodies-clause-cause
 returns-in-Err-take_bodies-clause-cause c = rw c.into.ensures tt
@@ -132,14 +76,7 @@ returns-in-Err-take_bodies-clause-poisoned c = λ m can kept was. rw c.into.ensu
 pub returns-in-Ok-clause-poisoned : goal.returns-in-Ok-clause-poisoned
 returns-in-Ok-clause-poisoned c = λ m can kept was.
     let e = c.in_ok-form.ensures in
-    let tells : ReadingTells c.args.bytes.now (Ok c.in_ok-form.form) = record {
-      complete = e.complete;
-      too_large = e.too_large;
-      unsupported = e.unsupported;
-      malformed = e.malformed;
-      stops_nowhere = e.stops_nowhere;
-    } in
-    let same : input_module_of c.in_ok-form.form ≡ m = read_as c.args.bytes.now c.in_ok-form.form m tells can in
+    let same : input_module_of c.in_ok-form.form ≡ m = e.complete can.short m can.spelled can.no_interface_types in
     absurd (c.in_default.ensures.poisoned (subst Keeps (sym same) kept) was)
 
 pub returns-in-Ok-clause-translated : goal.returns-in-Ok-clause-translated
@@ -147,19 +84,12 @@ returns-in-Ok-clause-translated c =
     let m = input_module_of c.in_ok-form.form in
     let formed = c.translate_form.new.translation in
     let e = c.in_ok-form.ensures in
-    let tells : ReadingTells c.args.bytes.now (Ok c.in_ok-form.form) = record {
-      complete = e.complete;
-      too_large = e.too_large;
-      unsupported = e.unsupported;
-      malformed = e.malformed;
-      stops_nowhere = e.stops_nowhere;
-    } in
     let coded : ModuleTranslation = record formed {
       wasm = c.args.bytes;
       function_body_inputs = c.replace-none.new.dest;
       debuginfo = record formed.debuginfo { wasm_file = record formed.debuginfo.wasm_file { code_section_offset = c.in-Ok.place } };
     } in
     is_translated c.args.tunables.now c.args.module_index c.args.validator.now c.args.bytes.now m c.in_ok-translation.translation formed coded
-    c.translate_form.new.types (was_readable c.args.bytes.now c.in_ok-form.form tells e.read e.no_interface_types) e.few
+    c.translate_form.new.types (was_readable c.args.bytes.now c.in_ok-form.form e.too_large e.read e.no_interface_types) e.few
     c.in_ok-translation.ensures c.in_default.ensures.formed refl
     (ap (map (λ input. body_of input.body)) c.replace-none.ensures.after ∙ c.in-Ok.ensures.bodies) c.in-Ok.ensures.place

@@ -7,6 +7,8 @@ use Rattle.module_types.specs.Builder.{Builder, BuilderState}
 use Rattle.init_plan.specs.Views.{memory_plan_of}
 use Rattle.init_plan.specs.Tables.{plan_of_tables}
 use Rattle.init_plan.specs.declared.error.PlanError.TheVariants as plan
+use Rattle.form_reader.proofs.SectionLaws.{module_once}
+use Rattle.init_plan.proofs.Holding.{data_agree, elements_agree, globals_agree}
 use Rattle.plan.specs.Errors.{error_of_translation}
 use Rattle.translate.specs.Options.{init_options}
 use Rattle.translate.proofs.AllPlanned.{translated_with, started, room, started_memories, holds_data, all_planned}
@@ -46,9 +48,8 @@ returns-in-Err-clause-cause c =
     let told = translated_with _ c.args.tunables.now _ (index_of 0) _ 0 bytes old _ _
     (ap (λ (r : Bor Tunables). r.now) c.in_ok-environment.ensures.tunables) (c.in_ok-environment.ensures.index ∙ c.from_u32-index.ensures)
     (ap (λ r. r.now) c.in_ok-environment.ensures.validator ∙ c.requires.number) refl c.in_ok-translation.ensures.translated in
-    let held = c.held_agreement_laws.ensures.memories told.meaning old told.ready.holds_memories in
     let e = c.in-Err in
-    let much = λ (is : e.error ≡ plan.TooLarge). data_size i told.meaning old (holds_data i bytes old _ told held) (λ size. 2 ^ 32 ≤ size)
+    let much = λ (is : e.error ≡ plan.TooLarge). data_size i told.meaning old (holds_data i bytes old _ told) (λ size. 2 ^ 32 ≤ size)
     (c.finalize_memory_init.ensures.too_large (e.is ∙ ap Err is)) in
     rw c.into.ensures (λ o same. memories_cause i o bytes told.meaning e.error same told.read told.keeps much)
 
@@ -60,11 +61,10 @@ returns-in-Err-clause-complete c = λ can.
     let told = translated_with _ c.args.tunables.now _ (index_of 0) _ 0 bytes old _ _
     (ap (λ (r : Bor Tunables). r.now) c.in_ok-environment.ensures.tunables) (c.in_ok-environment.ensures.index ∙ c.from_u32-index.ensures)
     (ap (λ r. r.now) c.in_ok-environment.ensures.validator ∙ c.requires.number) refl c.in_ok-translation.ensures.translated in
-    let held = c.held_agreement_laws.ensures.memories told.meaning old told.ready.holds_memories in
     let e = c.in-Err in
-    let much = λ (is : e.error ≡ plan.TooLarge). data_size i told.meaning old (holds_data i bytes old _ told held) (λ size. 2 ^ 32 ≤ size)
+    let much = λ (is : e.error ≡ plan.TooLarge). data_size i told.meaning old (holds_data i bytes old _ told) (λ size. 2 ^ 32 ≤ size)
     (c.finalize_memory_init.ensures.too_large (e.is ∙ ap Err is)) in
-    let one = c.spelling_is_unique.ensures.one_module bytes can.meaning told.meaning can.read.spelled told.read.spelled in
+    let one = module_once bytes can.meaning told.meaning can.read.spelled told.read.spelled in
     c.into.ensures ∙ memories_complete i bytes told.meaning e.error can one much
 
 -- ---- the tables are planned
@@ -103,14 +103,12 @@ returns-clause-initialised c =
     let told = translated_with _ c.args.tunables.now _ (index_of 0) _ 0 bytes old _ _
     (ap (λ (r : Bor Tunables). r.now) c.in_ok-environment.ensures.tunables) (c.in_ok-environment.ensures.index ∙ c.from_u32-index.ensures)
     (ap (λ r. r.now) c.in_ok-environment.ensures.validator ∙ c.requires.number) back c.in_ok-translation.ensures.translated in
-    let held = c.held_agreement_laws.ensures.memories told.meaning old told.ready.holds_memories in
     let mid = c.finalize_memory_init.new.self in
     let new = c.finalize_table_init.new.self in
     let m = c.in_default.ensures in
     let t = c.in_default-finalize_table_init.ensures in
-    let laws = c.held_agreement_laws.ensures in
     all_planned i bytes old _ told mid new c.finalize_memory_init.new.types c.finalize_table_init.new.types
-    (record { startup = c.startup_law.ensures.memories_first; agreement = c.agreement_law.ensures told.meaning }) (record {
+    c.startup_law.ensures.memories_first (record {
       memories = record {
         planned = m.planned;
         begins = m.begins;
@@ -131,7 +129,7 @@ returns-clause-initialised c =
       tables_counted = t.counts;
       tables_startup = t.startup;
       tables_types = t.types;
-      agree_globals = laws.globals told.meaning old told.ready.holds_globals (told.keeps L6).globals;
-      agree_memories = laws.data told.meaning old (memory_plan_of mid) told.ready.holds_memories m.agrees;
-      agree_tables = laws.elements told.meaning mid (plan_of_tables new) (holds_still told.meaning old mid m.same told.ready.holds_tables) t.agrees;
-    }) held
+      agree_globals = globals_agree told.meaning old told.ready.holds_globals (told.keeps L6).globals;
+      agree_memories = data_agree told.meaning old told.ready.holds_memories (memory_plan_of mid) m.agrees;
+      agree_tables = elements_agree told.meaning mid (plan_of_tables new) (holds_still told.meaning old mid m.same told.ready.holds_tables) t.agrees;
+    })

@@ -1,6 +1,7 @@
 use Rattle.std.proofs.Common.{◌≡◌, ◌∙◌, ◌-◌, Err, length, sym, ap, subst, arith}
 use Rattle.std.proofs.lemmas.Result.{err_from_is_err_and}
 use Rattle.replay_spec.specs.Plan.{AgreesOver}
+use Rattle.replay_spec.proofs.Existing.{a-memory-plan}
 use Rattle.init_plan.specs.declared.error.PlanError.TheVariants as plan
 use Rattle.init_plan.specs.declared.translation.ModuleTranslation.{ModuleTranslation}
 use Rattle.init_plan.specs.Images.{image_options, image_memories, BeginsByRule, HasWholeRanges}
@@ -57,7 +58,7 @@ returns-clause-large c = λ much.
 pub returns-in_err-images-clause-too_large : goal.returns-in_err-images-clause-too_large
 returns-in_err-images-clause-too_large c = λ is.
     let old = c.args.self.now in
-    let some = c.memory_plan_exists_laws.ensures.plan (image_options c.args.tunables.now c.args.page_size c.args.max_image) old.module.num_imported_memories
+    let some = a-memory-plan (image_options c.args.tunables.now c.args.page_size c.args.max_image) old.module.num_imported_memories
     (image_memories old.module) (initializers_of old) (passive_bytes old) in
     let p = err_from_is_err_and c.from_residual.result c.from_residual.ensures.1 in
     let whole = sym p.1 ∙ is in
