@@ -1,4 +1,4 @@
-use Rattle.std.proofs.Common.{◌≡◌, ◌+◌, ◌<◌, ◌^◌, length, Err, true, false, sym, ap, ◌∙◌, arith, inr, subst}
+use Rattle.std.proofs.Common.{◌≡◌, ◌+◌, ◌<◌, ◌^◌, length, Err, true, false, sym, ap, ◌∙◌, arith, inr, refl, subst}
 use Rattle.std.proofs.lemmas.List.{length-map}
 use Rattle.std.proofs.lemmas.Result.{err_from_is_err_and}
 use Rattle.wasm_module.specs.declared.startup.ModuleStartup.TheVariants as startup
@@ -12,7 +12,6 @@ use Rattle.module_environ.specs.Forming.{IsFormed}
 use Rattle.module_environ.specs.Types.{HoldsGroupsAlone}
 use Rattle.module_environ.proofs.WayPlaces.{types-gathered, can-tag, build-memory, at-type, at-tag, at-startup}
 use Rattle.module_environ.proofs.WholeTranslation.{new-startup, formed-never, formed-always}
-use Rattle.module_environ.proofs.translating.translate_lists.Goals.{then-not-leaves_nothing+in_ok-require_startup_func, else-not-leaves_nothing}
 use Rattle.module_environ.proofs.translating.translate_lists.Goals as goal
 
 pub intern_types-requires-clause-of_module : goal.intern_types-requires-clause-of_module
@@ -56,8 +55,8 @@ returns-in_err-require_startup_func-clause-complete c = λ unpoisoned.
     rw (p.1, p.2) (build-memory c.in_err-require_startup_func.field-0.0
     (λ is. let no : false ≡ true = sym sound ∙ c.require_startup_func.ensures.poisoned.0 (c.in_err-require_startup_func.was ∙ ap Err is) in cc))
 
-pub returns-clause-formed : goal.returns-clause-formed
-returns-clause-formed c =
+pub returns-in_ok-require_startup_func-clause-formed : goal.returns-in_ok-require_startup_func-clause-formed
+returns-in_ok-require_startup_func-clause-formed c =
     let l = c.args.lists.now in
     let m = module_in l in
     let of = types-gathered l c.requires.gathered c.in_ok-ids.ids c.in_ok-ids.ensures.numbered in
@@ -73,21 +72,33 @@ returns-clause-formed c =
     let tunables = c.args.tunables.now in
     let alone = subst (λ n. HoldsGroupsAlone n groups) c.in_ok-ids.ensures.made e.alone in
     let few : length tagged.built.types < 2 ^ 31 + 2 ^ 30 = omega (arith, length-map c.convert_tags.new.types.list.types interned_of, t.few) in
-    elim c.if-not-leaves_nothing.branch [
-      | then-not-leaves_nothing+in_ok-require_startup_func w ↦
-          formed-always tunables c.args.validator.now m c.args.translation.now filled set c.requires.gathered.keeps f.sections f.customs f.strings f.imports
-          f.rest (new-startup c.args.translation.now c.requires.new) c.in_ok-indices.indices c.in_ok-translation.field-0 c.in_ok-ids.ids
-          c.set_types.ensures.same c.set_types.ensures.set of.numbered c.in_ok-ids.ensures.made can.listed (t.tags m can) groups tagged alone t.gains
-          (t.built m can) few (sym w.if-not-leaves_nothing.true ∙ c.leaves_nothing.ensures) c.if-not-leaves_nothing.translation
-          c.if-not-leaves_nothing.types (w.translation-is ∙ w.in_ok-require_startup_func.ensures.ok)
-          (ap builder_view w.types-is ∙ w.in_ok-require_startup_func.ensures.types)
-      | else-not-leaves_nothing w ↦
-          subst (λ u. IsFormed tunables c.args.validator.now m c.args.translation.now u c.if-not-leaves_nothing.types) (sym w.translation-is)
-          (formed-never tunables c.args.validator.now m c.args.translation.now filled set c.requires.gathered.keeps f.sections f.customs f.strings f.imports
-          f.rest (new-startup c.args.translation.now c.requires.new) c.in_ok-indices.indices c.in_ok-translation.field-0 c.in_ok-ids.ids
-          c.set_types.ensures.same c.set_types.ensures.set of.numbered c.in_ok-ids.ensures.made can.listed (t.tags m can) groups tagged alone t.gains
-          (t.built m can) few (sym w.if-not-leaves_nothing.false ∙ c.leaves_nothing.ensures) c.if-not-leaves_nothing.types (ap builder_view w.types-is))
-    ]
+    formed-always tunables c.args.validator.now m c.args.translation.now filled set c.requires.gathered.keeps f.sections f.customs f.strings f.imports
+    f.rest (new-startup c.args.translation.now c.requires.new) c.in_ok-indices.indices c.in_ok-translation.field-0 c.in_ok-ids.ids
+    c.set_types.ensures.same c.set_types.ensures.set of.numbered c.in_ok-ids.ensures.made can.listed (t.tags m can) groups tagged alone t.gains
+    (t.built m can) few (sym c.if-not-leaves_nothing.true ∙ c.leaves_nothing.ensures) c.require_startup_func.new.self
+    c.require_startup_func.new.types c.in_ok-require_startup_func.ensures.ok c.in_ok-require_startup_func.ensures.types
+
+pub returns-else-not-leaves_nothing-clause-formed : goal.returns-else-not-leaves_nothing-clause-formed
+returns-else-not-leaves_nothing-clause-formed c =
+    let l = c.args.lists.now in
+    let m = module_in l in
+    let of = types-gathered l c.requires.gathered c.in_ok-ids.ids c.in_ok-ids.ensures.numbered in
+    let e = c.in_ok-indices.ensures in
+    let t = c.in_ok-translation.ensures in
+    let groups = builder_view c.intern_types.new.builder in
+    let tagged = builder_view c.convert_tags.new.types in
+    let can = can-tag l c.requires.gathered of c.in_ok-indices.indices groups (e.indices m of) (e.built m of) _ e.alone c.as_slice.result.now
+    c.as_slice.ensures.value in
+    let f = c.in_ok-fill_lists.ensures in
+    let filled = c.fill_lists.new.translation in
+    let set = c.set_types.new.self in
+    let tunables = c.args.tunables.now in
+    let alone = subst (λ n. HoldsGroupsAlone n groups) c.in_ok-ids.ensures.made e.alone in
+    let few : length tagged.built.types < 2 ^ 31 + 2 ^ 30 = omega (arith, length-map c.convert_tags.new.types.list.types interned_of, t.few) in
+    formed-never tunables c.args.validator.now m c.args.translation.now filled set c.requires.gathered.keeps f.sections f.customs f.strings f.imports
+    f.rest (new-startup c.args.translation.now c.requires.new) c.in_ok-indices.indices c.in_ok-translation.field-0 c.in_ok-ids.ids
+    c.set_types.ensures.same c.set_types.ensures.set of.numbered c.in_ok-ids.ensures.made can.listed (t.tags m can) groups tagged alone t.gains
+    (t.built m can) few (sym c.if-not-leaves_nothing.false ∙ c.leaves_nothing.ensures) c.convert_tags.new.types refl
 
 -- ---- where the builder stands
 
@@ -113,8 +124,8 @@ returns-in_err-translation-clause-stops c = λ was sound.
     inr (at-tag m c.args.validator.now c.in_ok-ids.ids c.in_ok-ids.ensures.numbered c.in_ok-ids.ensures.made groups e.whole c.as_slice.result.now
     can.named (builder_view c.convert_tags.new.types) (c.in_err-translation.ensures.stops sound m can))
 
-pub returns-clause-stops : goal.returns-clause-stops
-returns-clause-stops c = λ was sound.
+pub returns-in_ok-require_startup_func-clause-stops : goal.returns-in_ok-require_startup_func-clause-stops
+returns-in_ok-require_startup_func-clause-stops c = λ was sound.
     let l = c.args.lists.now in
     let m = module_in l in
     let of = types-gathered l c.requires.gathered c.in_ok-ids.ids c.in_ok-ids.ensures.numbered in
@@ -126,12 +137,20 @@ returns-clause-stops c = λ was sound.
     c.as_slice.ensures.value in
     let none : c.set_types.new.self.module.startup ≡ startup.None = ap (λ (x : ModuleTranslation). x.module.startup) c.set_types.ensures.same
     ∙ c.in_ok-fill_lists.ensures.rest.startup ∙ new-startup c.args.translation.now c.requires.new in
-    inr (elim c.if-not-leaves_nothing.branch [
-      | then-not-leaves_nothing+in_ok-require_startup_func w ↦
-          at-startup m c.args.validator.now c.in_ok-ids.ids of.numbered c.in_ok-ids.ensures.made groups e.whole c.as_slice.result.now can.named tagged
-          (builder_view c.if-not-leaves_nothing.types) (t.whole m can)
-          (ap builder_view w.types-is ∙ w.in_ok-require_startup_func.ensures.types ∙ ap (λ s. types_after Always s tagged) none)
-      | else-not-leaves_nothing w ↦
-          at-tag m c.args.validator.now c.in_ok-ids.ids of.numbered c.in_ok-ids.ensures.made groups e.whole c.as_slice.result.now can.named
-          (builder_view c.if-not-leaves_nothing.types) (length c.as_slice.result.now, ap builder_view w.types-is ∙ t.whole m can)
-    ])
+    inr (at-startup m c.args.validator.now c.in_ok-ids.ids of.numbered c.in_ok-ids.ensures.made groups e.whole c.as_slice.result.now can.named tagged
+    (builder_view c.require_startup_func.new.types) (t.whole m can)
+    (c.in_ok-require_startup_func.ensures.types ∙ ap (λ s. types_after Always s tagged) none))
+
+pub returns-else-not-leaves_nothing-clause-stops : goal.returns-else-not-leaves_nothing-clause-stops
+returns-else-not-leaves_nothing-clause-stops c = λ was sound.
+    let l = c.args.lists.now in
+    let m = module_in l in
+    let of = types-gathered l c.requires.gathered c.in_ok-ids.ids c.in_ok-ids.ensures.numbered in
+    let e = c.in_ok-indices.ensures in
+    let t = c.in_ok-translation.ensures in
+    let groups = builder_view c.intern_types.new.builder in
+    let tagged = builder_view c.convert_tags.new.types in
+    let can = can-tag l c.requires.gathered of c.in_ok-indices.indices groups (e.indices m of) (e.built m of) _ e.alone c.as_slice.result.now
+    c.as_slice.ensures.value in
+    inr (at-tag m c.args.validator.now c.in_ok-ids.ids of.numbered c.in_ok-ids.ensures.made groups e.whole c.as_slice.result.now can.named tagged
+    (length c.as_slice.result.now, t.whole m can))
