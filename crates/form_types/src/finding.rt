@@ -26,7 +26,7 @@ pub type FirstIds = HashMap<CanonicalGroup, u32, Seeded>;
 
 /// A digest of the bytes that spell a module's types, from which hashes begin: groups that are chosen to collide change it as well.
 pub fn seed_of(source: Source<'_, '_>) -> u64
-    ensures { result ≡ sip.finish (fold sip.write sip.initial (type_bytes (wasm_of source) ∷ [])) }
+    ensures { result ≡ sip.finish (fold sip.write sip.initial (type_bytes (wasm_of source.entry) ∷ [])) }
 {
     let wasm = match source {
         Source::Form(form) => form.wasm,

@@ -4,7 +4,7 @@ use Rattle.std.specs.Prelude.{slice_get, unwrap_or, is_some, max, ◌==◌, if�
 use Rattle.std.specs.Option.{option_map}
 use Rattle.std.proofs.Math.Logic.{⊎_elim}
 use Rattle.std.proofs.Math.ListN.{length-replicate}
-use Rattle.std.proofs.lemmas.Bool.{cases_lt, cases_eq, eq-eqb, ne_eqb, cond-true, cond-false, false≢true}
+use Rattle.std.proofs.lemmas.Bool.{cases_Bool, cases_lt, cases_eq, eq-eqb, ne_eqb, cond-true, cond-false, false≢true}
 use Rattle.std.proofs.lemmas.List.{map-append, take_more, length-map}
 use Rattle.std.proofs.lemmas.List.Elements.{All-nil, All-push}
 use Rattle.std.proofs.lemmas.Option.{same_Some, slice_get-map, slice_get-get_or, slice_get_within, slice_get_past}
@@ -16,7 +16,7 @@ use Rattle.replay_spec.specs.Elements.{ActiveElements, DefinedTable}
 use Rattle.replay_spec.specs.Tables.{image_cells, constant_place, image_piece, elements_end, initial_function, is_imaged_from_start, kept_initial, MayBeTaken, end_on, IsTableImage, TakesPrefix}
 use Rattle.replay_spec.proofs.Replay.{last-append}
 use Rattle.replay_spec.proofs.Covering.{CoversAt, item-cover}
-use Rattle.replay_spec.proofs.TablesJoined.{keeps-none, past-image}
+use Rattle.replay_spec.proofs.TablesJoined.{past-image}
 use Rattle.table_images.specs.declared.spot.Spot.{Spot}
 use Rattle.table_images.specs.Steps.{IsSpot, LaysCells, LaysAt, first_image, AreTableImages}
 use Rattle.table_images.specs.Views.{items_of, active_elements_of, defined_tables_of}
@@ -110,15 +110,15 @@ module _ (imports : ℕ) (ds : List DefinedTable) (taken : List ActiveElements) 
       let end = end-here m taken a on in
       record {
         reach = ⊎_elim
-            (λ (from : (is_imaged_from_start true d ≡ true) × (is_some (initial_function d.initial) ≡ true)).
-            let one = cond-true (is_imaged_from_start true d) d.minimum (end_on m taken) from.0 in
-            let two = cond-true (is_imaged_from_start true d) d.minimum (end_on m (taken ++ a ∷ [])) from.0 in
+            (λ (from : is_imaged_from_start true d ≡ true).
+            let one = cond-true (is_imaged_from_start true d) d.minimum (end_on m taken) from in
+            let two = cond-true (is_imaged_from_start true d) d.minimum (end_on m (taken ++ a ∷ [])) from in
             omega (arith, one, two))
-            (λ (none : (is_imaged_from_start true d ≡ false) × (d.initial ≡ None)).
-            let one = cond-false (is_imaged_from_start true d) d.minimum (end_on m taken) none.0 in
-            let two = cond-false (is_imaged_from_start true d) d.minimum (end_on m (taken ++ a ∷ [])) none.0 in
+            (λ (none : is_imaged_from_start true d ≡ false).
+            let one = cond-false (is_imaged_from_start true d) d.minimum (end_on m taken) none in
+            let two = cond-false (is_imaged_from_start true d) d.minimum (end_on m (taken ++ a ∷ [])) none in
             omega (arith, one, two))
-            (keeps-none true d keeps);
+            (cases_Bool (is_imaged_from_start true d));
         cells = λ p l.
             let behind : unwrap_or (slice_get old p) None ≡ last_item m p (initial_function d.initial) (map image_piece taken) = ⊎_elim
             (λ (lt : p < length old). ap (λ o. unwrap_or o None) (prior.cells p lt))
