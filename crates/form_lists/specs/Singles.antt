@@ -2,7 +2,7 @@
 use Rattle.std.specs.Prelude.{List, ◌++◌}
 use Rattle.wasm_spec.specs.Module as plain
 use Rattle.form_data.specs.Views.{payload_of}
-use Rattle.form_reader.specs.Input.{elements_in, customs_in}
+use Rattle.form_reader.specs.Input.{input_payload_of, customs_in}
 use Rattle.form_lists.specs.Source.{sections_left}
 use Rattle.form_lists.specs.declared.singles.Single.{Single}
 use Rattle.form_lists.specs.declared.singles.Single.TheVariants as single
@@ -10,7 +10,7 @@ use Rattle.form_lists.specs.declared.singles.Singles.{Singles}
 
 abbrev pub single_of : Single → plain.Payload
 single_of (single.Read payload) = payload_of payload.now
-single_of (single.Elements segments) = plain.Elements (elements_in segments)
+single_of (single.Input entries) = input_payload_of entries
 single_of (single.Custom name bytes) = plain.Custom name.now bytes.now
 
 -- what a walk has left: the rest of the run in which it stands, and the sections after that

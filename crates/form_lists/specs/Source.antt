@@ -3,7 +3,7 @@ use Rattle.std.specs.Prelude.{◌≡◌, ℕ, List, [], ◌∷◌, ◌++◌, map
 use Rattle.std.specs.List.{flat_map}
 use Rattle.wasm_spec.specs.Module as plain
 use Rattle.form_data.specs.Views.{payload_of, module_of}
-use Rattle.form_reader.specs.Input.{elements_in, customs_in, sections_of_part, input_module_of}
+use Rattle.form_reader.specs.Input.{input_payload_of, customs_in, sections_of_part, input_module_of}
 use Rattle.form_lists.specs.declared.source.Source.{Source}
 use Rattle.form_lists.specs.declared.source.Source.TheVariants as sources
 use Rattle.form_lists.specs.declared.source.Section.{Section}
@@ -18,7 +18,7 @@ source_module (sources.Input form) = input_module_of form.now
 -- the section that a step gives, or the run of them
 abbrev pub sections_in : Section → List plain.Payload
 sections_in (section.Read payload) = payload_of payload.now ∷ []
-sections_in (section.Elements segments) = plain.Elements (elements_in segments) ∷ []
+sections_in (section.Input entries) = input_payload_of entries ∷ []
 sections_in (section.Customs run) = customs_in run
 
 -- the sections that a walk has left, and the steps

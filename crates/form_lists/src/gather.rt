@@ -1,18 +1,24 @@
 //! Gathers the lists of a module, once, over its sections.
 
-ghost use Rattle.std.specs.Prelude.{◌≡◌, ◌+◌, ◌++◌, ◌∷◌, [], map, length, IfOk, OnOk};
-ghost use Rattle.wasm_spec.specs.Module.{imports, groups};
-ghost use Rattle.rule_spec.specs.Lists.{declared_from, declared_groups, lists_of_module};
-ghost use Rattle.form_data.specs.Views.{import_of, table_of, global_of, group_of, payload_of};
+ghost use Rattle.std.specs.Prelude.{◌≡◌, ◌++◌, ◌∷◌, [], map, IfOk, OnOk};
+ghost use Rattle.wasm_spec.specs.Module.{imports, groups, groups_of_section};
+ghost use Rattle.std.specs.List.{flat_map};
+ghost use Rattle.rule_spec.specs.Lists.{declared_groups, lists_of_module};
+ghost use Rattle.form_data.specs.Views.{import_of, table_of, global_of, sub_type_of, group_of, payload_of};
+ghost use Rattle.form_reader.specs.TypeRows.{group};
+ghost use Rattle.form_reader.specs.SectionRows.{global_entry};
+ghost use Rattle.form_reader.specs.Input.{vector_in};
 ghost use Rattle.form_lists.specs.Source.{source_module, sections_in};
 ghost use Rattle.form_lists.specs.Views.{declared_of, lists_of};
-ghost use Rattle.form_lists.specs.Gathered.{AddsImports, AddsDefined};
+ghost use Rattle.form_lists.specs.Gathered.{AddsTypes, AddsImports, AddsDefined};
 
-use crate::lists::{Declared, Lists, Spaces};
+use crate::lists::{Declared, DeclaredType, Lists, Spaces};
 use crate::sections::entries_of;
 use crate::source::{Section, Source, sections_of};
-use form_data::{GlobalDef, Import, Payload, RecGroup, TableDef};
+use form_data::{GlobalDef, Import, Payload, RecGroup, SubType, TableDef};
+use form_reader::{InputEntries, InputEntry, InputVector};
 use std::alloc::{AllocError, Global};
+use std::mem;
 use wasm_spec::{GlobalType, TableType, TypeRef};
 
 /// The lists of a module.
@@ -34,7 +40,7 @@ pub fn gather_lists<'f, 'd>(
     add_all_imports(&mut spaces, source)?;
     let imported_functions = spaces.functions.len();
     let imported_globals = spaces.global_types.len();
-    add_all_defined(&mut spaces, source)?;
+    add_all_defined(alloc, &mut spaces, source)?;
     Ok(Lists {
         source,
         types,
@@ -52,22 +58,85 @@ fn declared_types<'f>(
     ensures { IfOk result (λ types. map declared_of types.items ≡ declared_groups 0 (groups (source_module source.entry))) }
 {
     let mut types = Vec::new(alloc);
-    for group in entries_of::<RecGroup>(source) {
-        add_group(&mut types, group)?;
+    for section in sections_of(source) {
+        add_types(alloc, &mut types, section)?;
     }
     Ok(types)
 }
 
-fn add_group<'f>(types: &mut Vec<Declared<'f>>, group: &'f RecGroup) -> Result<(), AllocError>
-    ensures { OnOk result
-        (let members = group_of group.now in let index = length types.old.items in
-        map declared_of types.new.items ≡ map declared_of types.old.items ++ declared_from (index + length members) index members) }
+fn add_types<'f>(
+    alloc: Global,
+    types: &mut Vec<Declared<'f>>,
+    section: Section<'f, '_>,
+) -> Result<(), AllocError>
+    ensures { OnOk result (AddsTypes types.old.items types.new.items (flat_map groups_of_section (sections_in section.entry))) }
 {
-    let group_end = types.len() + group.types.len();
-    for ty in &group.types {
+    match section {
+        Section::Read(payload) => add_listed_groups(types, listed_groups(payload)),
+        Section::Input(InputEntries::Types(groups)) => add_input_groups(alloc, types, groups),
+        Section::Input(_) => Ok(()),
+        Section::Customs(_) => Ok(()),
+    }
+}
+
+fn listed_groups<'f>(payload: &'f Payload<'_>) -> &'f [RecGroup]
+    ensures { map group_of result.now ≡ groups_of_section (payload_of payload.now) }
+{
+    match payload {
+        Payload::Types(groups) => groups.as_slice(),
+        _ => &[],
+    }
+}
+
+fn add_listed_groups<'f>(
+    types: &mut Vec<Declared<'f>>,
+    groups: &'f [RecGroup],
+) -> Result<(), AllocError>
+    ensures { OnOk result (AddsTypes types.old.items types.new.items (map group_of groups.now)) }
+{
+    for group in groups {
+        add_group(types, &group.types)?;
+    }
+    Ok(())
+}
+
+fn add_input_groups(
+    alloc: Global,
+    types: &mut Vec<Declared<'_>>,
+    mut groups: InputVector<'_>,
+) -> Result<(), AllocError>
+    ensures { OnOk result (AddsTypes types.old.items types.new.items (vector_in group.read groups.entry)) }
+{
+    let mut group = RecGroup::none(alloc);
+    'groups: while groups.next_into(alloc, &mut group)? {
+        add_members(types, mem::replace(&mut group.types, Vec::new(alloc)))?;
+    }
+    Ok(())
+}
+
+fn add_group<'f>(types: &mut Vec<Declared<'f>>, members: &'f [SubType]) -> Result<(), AllocError>
+    ensures { OnOk result (AddsTypes types.old.items types.new.items (map sub_type_of members.now ∷ [])) }
+{
+    let group_end = types.len() + members.len();
+    for ty in members {
         let index = types.len();
         types.push(Declared {
-            ty,
+            ty: DeclaredType::Listed(ty),
+            index,
+            group_end,
+        })?;
+    }
+    Ok(())
+}
+
+fn add_members(types: &mut Vec<Declared<'_>>, members: Vec<SubType>) -> Result<(), AllocError>
+    ensures { OnOk result (AddsTypes types.old.items types.new.items (map sub_type_of members.entry.items ∷ [])) }
+{
+    let group_end = types.len() + members.len();
+    for ty in members {
+        let index = types.len();
+        types.push(Declared {
+            ty: DeclaredType::Read(ty),
             index,
             group_end,
         })?;
@@ -97,21 +166,32 @@ fn add_import(spaces: &mut Spaces, import: &Import<'_>) -> Result<(), AllocError
     Ok(())
 }
 
-fn add_all_defined(spaces: &mut Spaces, source: Source<'_, '_>) -> Result<(), AllocError>
+fn add_all_defined(
+    alloc: Global,
+    spaces: &mut Spaces,
+    source: Source<'_, '_>,
+) -> Result<(), AllocError>
     ensures { OnOk result (AddsDefined spaces.old spaces.new (source_module source.entry)) }
 {
     for section in sections_of(source) {
-        add_section(spaces, section)?;
+        add_section(alloc, spaces, section)?;
     }
     Ok(())
 }
 
-fn add_section(spaces: &mut Spaces, section: Section<'_, '_>) -> Result<(), AllocError>
+fn add_section(
+    alloc: Global,
+    spaces: &mut Spaces,
+    section: Section<'_, '_>,
+) -> Result<(), AllocError>
     ensures { OnOk result (AddsDefined spaces.old spaces.new (sections_in section.entry)) }
 {
     match section {
         Section::Read(payload) => add_defined(spaces, payload),
-        Section::Elements(_) => Ok(()),
+        Section::Input(InputEntries::Globals(globals)) => {
+            add_input_globals(alloc, &mut spaces.global_types, globals)
+        }
+        Section::Input(_) => Ok(()),
         Section::Customs(_) => Ok(()),
     }
 }
@@ -143,6 +223,20 @@ fn add_globals(types: &mut Vec<GlobalType>, globals: &[GlobalDef]) -> Result<(),
     ensures { OnOk result (types.new.items ≡ types.old.items ++ map (λ g. g.type) (map global_of globals.now)) }
 {
     for global in globals {
+        types.push(global.ty)?;
+    }
+    Ok(())
+}
+
+fn add_input_globals(
+    alloc: Global,
+    types: &mut Vec<GlobalType>,
+    mut globals: InputVector<'_>,
+) -> Result<(), AllocError>
+    ensures { OnOk result (types.new.items ≡ types.old.items ++ map (λ g. g.type) (vector_in global_entry.read globals.entry)) }
+{
+    let mut global = GlobalDef::none(alloc);
+    'globals: while globals.next_into(alloc, &mut global)? {
         types.push(global.ty)?;
     }
     Ok(())

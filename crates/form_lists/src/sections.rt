@@ -3,19 +3,17 @@
 ghost use Rattle.std.specs.Prelude.{◌≡◌, ℕ, List, [], map, refl};
 ghost use Rattle.std.specs.List.{flat_map};
 ghost use Rattle.std.specs.Iterator.{YieldsFirstBy, item_count};
-ghost use Rattle.wasm_spec.specs.declared.types.UnpackedIndex.{UnpackedIndex};
-ghost use Rattle.wasm_spec.specs.TypeData.{Group};
 ghost use Rattle.wasm_spec.specs.Module as plain;
-ghost use Rattle.form_data.specs.Views.{payload_of, import_of, table_of, global_of, export_of, body_of, segment_of, group_of};
+ghost use Rattle.form_data.specs.Views.{payload_of, import_of, table_of, export_of, body_of, segment_of};
+ghost use Rattle.form_reader.specs.declared.input.InputEntries.{InputEntries};
+ghost use Rattle.form_reader.specs.Input.{input_payload_of};
 ghost use Rattle.form_lists.specs.Source.{source_module, sections_in, sections_left};
-ghost use Rattle.form_lists.specs.Sections.{entries_left};
+ghost use Rattle.form_lists.specs.Sections.{entries_left, none_in_input};
 
 use crate::source::{Section, Sections, Source, sections_of};
-use form_data::{
-    DataSegment, Export, FunctionBody, GlobalDef, Import, Payload, RecGroup, TableDef,
-};
+use form_data::{DataSegment, Export, FunctionBody, Import, Payload, TableDef};
 
-/// What sections of one kind list.
+/// What sections of one kind list, and never stays in the input.
 pub trait Entry<'d>: Sized {
     ghost Seen: { Type 0 };
 
@@ -27,19 +25,19 @@ pub trait Entry<'d>: Sized {
     fn in_section<'f>(payload: &'f Payload<'d>) -> &'f [Self]
         ensures { map seen result.now ≡ of_section (payload_of payload.now) };
 
-    ghost no_elements: { (segments : List plain.Element) → of_section (plain.Elements segments) ≡ [] };
+    ghost no_input: { (entries : InputEntries) → of_section (input_payload_of entries) ≡ [] };
 
     ghost no_customs: { (name bytes : List ℕ) → of_section (plain.Custom name bytes) ≡ [] };
 }
 
-/// The entries of a section, of which element segments are none; custom sections have none.
+/// The entries of a section; those that stay in the input have none, nor have custom sections.
 #[inline]
 pub fn entries_in<'f, 'd, T: Entry<'d>>(section: Section<'f, 'd>) -> &'f [T]
     ensures { map T.seen result.now ≡ flat_map T.of_section (sections_in section.entry) }
 {
     match section {
         Section::Read(payload) => T::in_section(payload),
-        Section::Elements(_) => &[],
+        Section::Input(_) => &[],
         Section::Customs(_) => &[],
     }
 }
@@ -84,26 +82,6 @@ impl<'f, 'd, T: Entry<'d>> Iterator for Entries<'f, 'd, T> {
     }
 }
 
-impl<'d> Entry<'d> for RecGroup {
-    ghost Seen = { Group UnpackedIndex UnpackedIndex };
-
-    ghost seen = { group_of };
-
-    ghost of_section = { plain.groups_of_section };
-
-    #[inline]
-    fn in_section<'f>(payload: &'f Payload<'d>) -> &'f [Self] {
-        match payload {
-            Payload::Types(groups) => groups.as_slice(),
-            _ => &[],
-        }
-    }
-
-    ghost no_elements = { λ segments. refl };
-
-    ghost no_customs = { λ name bytes. refl };
-}
-
 impl<'d> Entry<'d> for Import<'d> {
     ghost Seen = { plain.Import };
 
@@ -119,7 +97,7 @@ impl<'d> Entry<'d> for Import<'d> {
         }
     }
 
-    ghost no_elements = { λ segments. refl };
+    ghost no_input = { none_in_input plain.imports_of_section (λ groups. refl) (λ globals. refl) (λ elements. refl) };
 
     ghost no_customs = { λ name bytes. refl };
 }
@@ -139,27 +117,7 @@ impl<'d> Entry<'d> for TableDef {
         }
     }
 
-    ghost no_elements = { λ segments. refl };
-
-    ghost no_customs = { λ name bytes. refl };
-}
-
-impl<'d> Entry<'d> for GlobalDef {
-    ghost Seen = { plain.GlobalDef };
-
-    ghost seen = { global_of };
-
-    ghost of_section = { plain.globals_of_section };
-
-    #[inline]
-    fn in_section<'f>(payload: &'f Payload<'d>) -> &'f [Self] {
-        match payload {
-            Payload::Globals(globals) => globals.as_slice(),
-            _ => &[],
-        }
-    }
-
-    ghost no_elements = { λ segments. refl };
+    ghost no_input = { none_in_input plain.tables_of_section (λ groups. refl) (λ globals. refl) (λ elements. refl) };
 
     ghost no_customs = { λ name bytes. refl };
 }
@@ -179,7 +137,7 @@ impl<'d> Entry<'d> for Export<'d> {
         }
     }
 
-    ghost no_elements = { λ segments. refl };
+    ghost no_input = { none_in_input plain.exports_of_section (λ groups. refl) (λ globals. refl) (λ elements. refl) };
 
     ghost no_customs = { λ name bytes. refl };
 }
@@ -199,7 +157,7 @@ impl<'d> Entry<'d> for FunctionBody<'d> {
         }
     }
 
-    ghost no_elements = { λ segments. refl };
+    ghost no_input = { none_in_input plain.bodies_of_section (λ groups. refl) (λ globals. refl) (λ elements. refl) };
 
     ghost no_customs = { λ name bytes. refl };
 }
@@ -219,7 +177,7 @@ impl<'d> Entry<'d> for DataSegment<'d> {
         }
     }
 
-    ghost no_elements = { λ segments. refl };
+    ghost no_input = { none_in_input plain.segments_of_section (λ groups. refl) (λ globals. refl) (λ elements. refl) };
 
     ghost no_customs = { λ name bytes. refl };
 }

@@ -7,15 +7,15 @@ ghost use Rattle.form_lists.specs.Singles.{single_of, singles_left};
 
 use crate::source::{Section, Sections, Source, sections_of};
 use form_data::Payload;
-use form_reader::{InputCustoms, InputElements};
+use form_reader::{InputCustoms, InputEntries};
 
 /// One section.
 #[derive(Clone, Copy)]
 pub enum Single<'f, 'd> {
     /// Its entries, or its name and contents, were read.
     Read(&'f Payload<'d>),
-    /// Its element segments stay in the input.
-    Elements(InputElements<'d>),
+    /// Its entries stay in the input.
+    Input(InputEntries<'d>),
     /// A custom section that stays in the input.
     Custom { name: &'d str, bytes: &'d [u8] },
 }
@@ -56,7 +56,7 @@ impl<'f, 'd> Iterator for Singles<'f, 'd> {
             }
             match self.sections.next()? {
                 Section::Read(payload) => return Some(Single::Read(payload)),
-                Section::Elements(segments) => return Some(Single::Elements(segments)),
+                Section::Input(entries) => return Some(Single::Input(entries)),
                 Section::Customs(run) => self.run = run,
             }
         }

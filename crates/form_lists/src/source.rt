@@ -6,9 +6,9 @@ ghost use Rattle.form_reader.specs.Input.{sections_of_part};
 ghost use Rattle.form_lists.specs.Source.{source_module, sections_in, sections_left, steps_left, GivesFirst};
 
 use form_data::{Form, Payload};
-use form_reader::{InputCustoms, InputElements, InputForm, InputPart, InputSection};
+use form_reader::{InputCustoms, InputEntries, InputForm, InputPart, InputSection};
 
-/// A module that was read: as a form, or with element segments and custom sections that stay in the input.
+/// A module that was read: as a form, or with sections that stay in the input.
 #[derive(Clone, Copy)]
 pub enum Source<'f, 'd> {
     Form(&'f Form<'d>),
@@ -18,10 +18,10 @@ pub enum Source<'f, 'd> {
 /// A section of a source, or a run of custom sections.
 #[derive(Clone, Copy)]
 pub enum Section<'f, 'd> {
-    /// Its entries were read.
+    /// Its entries were read into lists.
     Read(&'f Payload<'d>),
-    /// Its element segments stay in the input.
-    Elements(InputElements<'d>),
+    /// Its entries stay in the input.
+    Input(InputEntries<'d>),
     /// Custom sections with no other one between them, which stay in the input.
     Customs(InputCustoms<'d>),
 }
@@ -75,7 +75,7 @@ fn section_of<'f, 'd>(part: &'f InputPart<'d>) -> Section<'f, 'd>
 {
     match part {
         InputPart::Customs(run) => Section::Customs(*run),
-        InputPart::Section(InputSection::Elements(segments)) => Section::Elements(*segments),
-        InputPart::Section(InputSection::Other(payload)) => Section::Read(payload),
+        InputPart::Section(InputSection::Input(entries)) => Section::Input(*entries),
+        InputPart::Section(InputSection::Read(payload)) => Section::Read(payload),
     }
 }

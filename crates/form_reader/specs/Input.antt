@@ -5,9 +5,12 @@ use Rattle.std.specs.List.{flat_map}
 use Rattle.form_data.specs.declared.form.Custom.{Custom}
 use Rattle.form_data.specs.Views.{payload_of}
 use Rattle.form_reader.specs.Reading.{Fault, Reader}
-use Rattle.form_reader.specs.SectionRows.{element_segment, custom_section}
+use Rattle.form_reader.specs.TypeRows.{group}
+use Rattle.form_reader.specs.SectionRows.{global_entry, element_segment, custom_section}
 use Rattle.form_reader.specs.declared.customs.InputCustoms.{InputCustoms}
-use Rattle.form_reader.specs.declared.input.InputElements.{InputElements}
+use Rattle.form_reader.specs.declared.input_vectors.InputVector.{InputVector}
+use Rattle.form_reader.specs.declared.input.InputEntries.{InputEntries}
+use Rattle.form_reader.specs.declared.input.InputEntries.TheVariants as entries
 use Rattle.form_reader.specs.declared.input.InputSection.{InputSection}
 use Rattle.form_reader.specs.declared.input.InputSection.TheVariants as sections
 use Rattle.form_reader.specs.declared.input.InputPart.{InputPart}
@@ -24,13 +27,18 @@ unfoldable pub listed : {A : Type 0} → Reader A → ℕ → List ℕ → List 
 listed read zero bytes = []
 listed read (suc n) bytes = listed_after (read bytes) (listed read n)
 
--- the segments of a section
-abbrev pub elements_in : InputElements → List plain.Element
-elements_in list = listed element_segment.read list.count list.bytes.now
+-- the entries of a section
+abbrev pub vector_in : {A : Type 0} → Reader A → InputVector → List A
+vector_in read vector = listed read vector.count vector.bytes.now
+
+abbrev pub input_payload_of : InputEntries → plain.Payload
+input_payload_of (entries.Types groups) = plain.Types (vector_in group.read groups)
+input_payload_of (entries.Globals globals) = plain.Globals (vector_in global_entry.read globals)
+input_payload_of (entries.Elements elements) = plain.Elements (vector_in element_segment.read elements)
 
 abbrev pub input_section_of : InputSection → plain.Payload
-input_section_of (sections.Elements list) = plain.Elements (elements_in list)
-input_section_of (sections.Other payload) = payload_of payload
+input_section_of (sections.Input entries) = input_payload_of entries
+input_section_of (sections.Read payload) = payload_of payload
 
 abbrev pub custom_of : Custom → plain.Payload
 custom_of custom = plain.Custom custom.name.now custom.bytes.now

@@ -3,7 +3,7 @@
 ghost use Rattle.std.specs.Prelude.{◌≡◌, ◌+◌, ◌<◌, ◌^◌, length};
 ghost use Rattle.wasm_spec.specs.Grammar.{order_of as spec_order_of, section_id as spec_section_id, next_order as spec_next_order};
 ghost use Rattle.form_data.specs.Views.{payload_of};
-ghost use Rattle.form_reader.specs.Input.{input_section_of};
+ghost use Rattle.form_reader.specs.Input.{input_payload_of, input_section_of};
 ghost use Rattle.form_reader.specs.Reading.{Reads, whole};
 ghost use Rattle.form_reader.specs.ReadingNumbers.{unsigned_at, sized_at};
 ghost use Rattle.form_reader.specs.SectionRows.{section_contents};
@@ -12,9 +12,10 @@ use crate::cursor::Cursor;
 use crate::customs::CUSTOM;
 use crate::entity_types::TagType;
 use crate::error::ReadError;
-use crate::input::InputSection::{self, Elements, Other};
+use crate::input::InputEntries::{self, Elements, Globals, Types};
+use crate::input::InputSection::{self, Input, Read};
 use crate::vectors::Index;
-use form_data::{DataSegment, Export, GlobalDef, Import, Payload, RecGroup, TableDef};
+use form_data::{DataSegment, Element, Export, GlobalDef, Import, Payload, RecGroup, TableDef};
 use std::alloc::Global;
 use wasm_spec::MemoryType;
 
@@ -33,8 +34,19 @@ fn section_id(section: &InputSection<'_>) -> u8
     ensures { result ≡ spec_section_id (input_section_of section.now) }
 {
     match section {
-        InputSection::Elements(_) => 9,
-        InputSection::Other(payload) => payload_id(payload),
+        InputSection::Input(entries) => entries_id(entries),
+        InputSection::Read(payload) => payload_id(payload),
+    }
+}
+
+/// The id of the section that lists these entries.
+fn entries_id(entries: &InputEntries<'_>) -> u8
+    ensures { result ≡ spec_section_id (input_payload_of entries.now) }
+{
+    match entries {
+        Types(_) => 1,
+        Globals(_) => 6,
+        Elements(_) => 9,
     }
 }
 
@@ -96,19 +108,19 @@ impl<'d> Cursor<'d> {
         ensures { Reads (section_contents place id).read input_section_of self.old.rest.now self.new.rest.now result }
     {
         match id {
-            1 => Ok(Other(Payload::Types(self.section_of::<RecGroup>(alloc)?))),
-            2 => Ok(Other(Payload::Imports(self.section_of::<Import<'d>>(alloc)?))),
-            3 => Ok(Other(Payload::Functions(self.section_of::<Index>(alloc)?))),
-            4 => Ok(Other(Payload::Tables(self.section_of::<TableDef>(alloc)?))),
-            5 => Ok(Other(Payload::Memories(self.section_of::<MemoryType>(alloc)?))),
-            13 => Ok(Other(Payload::Tags(self.section_of::<TagType>(alloc)?))),
-            6 => Ok(Other(Payload::Globals(self.section_of::<GlobalDef>(alloc)?))),
-            7 => Ok(Other(Payload::Exports(self.section_of::<Export<'d>>(alloc)?))),
-            8 => Ok(Other(Payload::Start(self.number()?))),
-            9 => Ok(Elements(self.input_elements(alloc)?)),
-            12 => Ok(Other(Payload::DataCount(self.number()?))),
-            10 => Ok(Other(self.code(alloc, place)?)),
-            11 => Ok(Other(Payload::Segments(self.section_of::<DataSegment<'d>>(alloc)?))),
+            1 => Ok(Input(Types(self.input_vector::<RecGroup>(alloc)?))),
+            2 => Ok(Read(Payload::Imports(self.section_of::<Import<'d>>(alloc)?))),
+            3 => Ok(Read(Payload::Functions(self.section_of::<Index>(alloc)?))),
+            4 => Ok(Read(Payload::Tables(self.section_of::<TableDef>(alloc)?))),
+            5 => Ok(Read(Payload::Memories(self.section_of::<MemoryType>(alloc)?))),
+            13 => Ok(Read(Payload::Tags(self.section_of::<TagType>(alloc)?))),
+            6 => Ok(Input(Globals(self.input_vector::<GlobalDef>(alloc)?))),
+            7 => Ok(Read(Payload::Exports(self.section_of::<Export<'d>>(alloc)?))),
+            8 => Ok(Read(Payload::Start(self.number()?))),
+            9 => Ok(Input(Elements(self.input_vector::<Element>(alloc)?))),
+            12 => Ok(Read(Payload::DataCount(self.number()?))),
+            10 => Ok(Read(self.code(alloc, place)?)),
+            11 => Ok(Read(Payload::Segments(self.section_of::<DataSegment<'d>>(alloc)?))),
             _ => Err(ReadError::Malformed),
         }
     }

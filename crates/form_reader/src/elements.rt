@@ -1,6 +1,6 @@
 //! Element segments (core specification, 5.5, element section).
 
-ghost use Rattle.std.specs.Prelude.{◌≡◌, []};
+ghost use Rattle.std.specs.Prelude.{◌≡◌, [], refl};
 ghost use Rattle.wasm_spec.specs.Module as plain;
 ghost use Rattle.form_data.specs.Views.{element_kind_of, element_of};
 ghost use Rattle.form_reader.specs.Reading.{Reads};
@@ -8,8 +8,10 @@ ghost use Rattle.form_reader.specs.SectionRows.{functions_as, expressions_as, af
 
 use crate::cursor::Cursor;
 use crate::error::ReadError;
-use crate::vectors::{Entry, Index};
-use form_data::{ConstExpr, Element, ElementItems, ElementKind};
+use crate::input::InputEntries;
+use crate::input_vectors::{InputEntry, InputVector};
+use crate::vectors::{Index, cleared};
+use form_data::{ConstExpr, Element, ElementItems, ElementKind, Payload};
 use std::alloc::Global;
 use std::mem;
 use wasm_spec::{AbstractHeapType, HeapType, Operator, RefType};
@@ -23,27 +25,43 @@ const FUNCREF: RefType = RefType {
     heap: HeapType::Abstract(AbstractHeapType::Func),
 };
 
-impl<'d> Entry<'d> for Element {
-    type Value = Element;
-
+impl<'d> InputEntry<'d> for Element {
     ghost Seen = { plain.Element };
 
     ghost form = { element_segment.read };
 
     ghost view = { element_of };
 
-    fn read(alloc: Global, cursor: &mut Cursor<'d>) -> Result<Element, ReadError> {
-        let mut element = no_element(alloc);
-        cursor.element_into(alloc, &mut element)?;
-        Ok(element)
-    }
-}
+    ghost of_section = { plain.elements_of_section };
 
-/// A segment of no kind that anything asks for, without an allocation.
-pub fn no_element(alloc: Global) -> Element {
-    Element {
-        kind: ElementKind::Declared,
-        items: ElementItems::Functions(Vec::new(alloc)),
+    ghost no_customs = { λ name bytes. refl };
+
+    fn in_payload<'f>(payload: &'f Payload<'d>) -> &'f [Self] {
+        match payload {
+            Payload::Elements(elements) => elements.as_slice(),
+            _ => &[],
+        }
+    }
+
+    #[tactic(auto, using(crate::proofs::Listed::none_there))]
+    fn in_input(entries: InputEntries<'d>) -> InputVector<'d> {
+        match entries {
+            InputEntries::Elements(elements) => elements,
+            _ => InputVector::none(),
+        }
+    }
+
+    fn none(alloc: Global) -> Element {
+        Element {
+            kind: ElementKind::Declared,
+            items: ElementItems::Functions(Vec::new(alloc)),
+        }
+    }
+
+    #[tactic(auto, unfolding(crate::specs::SectionRows::element_segment))]
+    fn read_into(&mut self, alloc: Global, cursor: &mut Cursor<'d>) -> Result<(), ReadError> {
+        let flag = cursor.u32()?;
+        cursor.flagged_element(alloc, flag, self)
     }
 }
 
@@ -69,28 +87,8 @@ fn room_for_indices(alloc: Global, items: &mut ElementItems) -> Vec<u32>
     }
 }
 
-fn cleared<T: Drop>(mut list: Vec<T>) -> Vec<T>
-    ensures { result.items ≡ [] }
-{
-    list.clear();
-    list
-}
-
 // Each of these reads in the place of a segment that is no longer asked for, whose lists are used again.
 impl<'d> Cursor<'d> {
-    /// An element segment.
-    #[tactic(auto, unfolding(crate::specs::SectionRows::element_segment))]
-    pub(crate) fn element_into(
-        &mut self,
-        alloc: Global,
-        element: &mut Element,
-    ) -> Result<(), ReadError>
-        ensures { Reads element_segment.read (λ u. element_of element.new) self.old.rest.now self.new.rest.now result }
-    {
-        let flag = self.u32()?;
-        self.flagged_element(alloc, flag, element)
-    }
-
     /// An element segment, after its flag.
     #[tactic(auto, unfolding(crate::specs::SectionRows::flagged_element))]
     fn flagged_element(

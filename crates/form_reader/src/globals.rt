@@ -1,29 +1,64 @@
 //! Globals (core specification, 5.5, global section).
 
+ghost use Rattle.std.specs.Prelude.{refl};
 ghost use Rattle.wasm_spec.specs.Module as plain;
 ghost use Rattle.form_data.specs.Views.{global_of};
 ghost use Rattle.form_reader.specs.SectionRows.{global_entry};
 
 use crate::cursor::Cursor;
 use crate::error::ReadError;
-use crate::vectors::Entry;
-use form_data::GlobalDef;
+use crate::input::InputEntries;
+use crate::input_vectors::{InputEntry, InputVector};
+use crate::vectors::cleared;
+use form_data::{ConstExpr, GlobalDef, Payload};
 use std::alloc::Global;
+use std::mem;
+use wasm_spec::{GlobalType, ValType};
 
-impl<'d> Entry<'d> for GlobalDef {
-    type Value = GlobalDef;
-
+impl<'d> InputEntry<'d> for GlobalDef {
     ghost Seen = { plain.GlobalDef };
 
     ghost form = { global_entry.read };
 
     ghost view = { global_of };
 
+    ghost of_section = { plain.globals_of_section };
+
+    ghost no_customs = { λ name bytes. refl };
+
+    fn in_payload<'f>(payload: &'f Payload<'d>) -> &'f [Self] {
+        match payload {
+            Payload::Globals(globals) => globals.as_slice(),
+            _ => &[],
+        }
+    }
+
+    #[tactic(auto, using(crate::proofs::Listed::none_there))]
+    fn in_input(entries: InputEntries<'d>) -> InputVector<'d> {
+        match entries {
+            InputEntries::Globals(globals) => globals,
+            _ => InputVector::none(),
+        }
+    }
+
+    fn none(alloc: Global) -> GlobalDef {
+        GlobalDef {
+            ty: GlobalType {
+                content_type: ValType::I32,
+                mutable: false,
+            },
+            init: ConstExpr {
+                ops: Vec::new(alloc),
+            },
+        }
+    }
+
     /// A global type, and the expression of its first value.
     #[tactic(auto, unfolding(crate::specs::SectionRows::global_entry))]
-    fn read(alloc: Global, cursor: &mut Cursor<'d>) -> Result<GlobalDef, ReadError> {
-        let ty = cursor.global_type()?;
-        let init = cursor.expression(alloc)?;
-        Ok(GlobalDef { ty, init })
+    fn read_into(&mut self, alloc: Global, cursor: &mut Cursor<'d>) -> Result<(), ReadError> {
+        self.ty = cursor.global_type()?;
+        let room = cleared(mem::replace(&mut self.init.ops, Vec::new(alloc)));
+        self.init = cursor.expression_into(room)?;
+        Ok(())
     }
 }

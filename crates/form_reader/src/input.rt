@@ -1,32 +1,27 @@
-//! Modules whose element segments and custom sections stay in the input.
+//! Modules whose types, globals, element segments and custom sections stay in the input.
 
-ghost use Rattle.std.specs.Prelude.{◌≡◌, ◌++◌, [], map, false, IfOk, OnOk};
-ghost use Rattle.form_data.specs.Views.{element_of, payload_of};
-ghost use Rattle.form_reader.specs.Reading.{Reads, whole};
-ghost use Rattle.form_reader.specs.ReadingNumbers.{vector_at, sized_at};
-ghost use Rattle.form_reader.specs.SectionRows.{element_segment};
-ghost use Rattle.form_reader.specs.Input.{elements_in, customs_in, input_section_of, sections_of_part, Takes};
+ghost use Rattle.std.specs.Prelude.{◌≡◌, ◌++◌, map, IfOk, OnOk};
+ghost use Rattle.form_data.specs.Views.{payload_of};
+ghost use Rattle.form_reader.specs.Input.{customs_in, input_payload_of, input_section_of, sections_of_part};
 
-use crate::cursor::Cursor;
 use crate::customs::InputCustoms;
-use crate::elements::no_element;
-use crate::error::ReadError;
-use form_data::{Element, Payload};
+use crate::input_vectors::InputVector;
+use form_data::{Element, GlobalDef, Payload, RecGroup};
 use std::alloc::{AllocError, Global};
-use std::mem;
 
-/// The segments of an element section, which stay in the input. They were read once, and are read again where they are walked.
+/// The entries of a section, which stay in the input, by its kind.
 #[derive(Clone, Copy)]
-pub struct InputElements<'d> {
-    count: u32,
-    bytes: &'d [u8],
+pub enum InputEntries<'d> {
+    Types(InputVector<'d>),
+    Globals(InputVector<'d>),
+    Elements(InputVector<'d>),
 }
 
-/// A section that is no custom one; its entries were read, but for element segments, which stay in the input.
+/// A section that is no custom one: its entries stay in the input, or were read into lists.
 #[derive(Drop)]
 pub enum InputSection<'d> {
-    Elements(InputElements<'d>),
-    Other(Payload<'d>),
+    Input(InputEntries<'d>),
+    Read(Payload<'d>),
 }
 
 /// Custom sections with no other one between them, which stay in the input, or one section that is no custom one.
@@ -36,7 +31,7 @@ pub enum InputPart<'d> {
     Section(InputSection<'d>),
 }
 
-/// The sections of a module in order; its element segments and custom sections stay in the input.
+/// The sections of a module in order; its types, globals, element segments and custom sections stay in the input.
 ///
 /// Of sections that are no custom ones there is at most one of each kind, and so at most 27 parts, whatever the input.
 #[derive(Drop)]
@@ -45,77 +40,20 @@ pub struct InputForm<'d> {
     pub parts: Vec<InputPart<'d>>,
 }
 
-impl<'d> Cursor<'d> {
-    /// A count, and that many element segments, which stay where they are.
-    #[tactic(auto, unfolding(crate::specs::ReadingNumbers::vector_at))]
-    fn counted_elements(&mut self, alloc: Global) -> Result<InputElements<'d>, ReadError>
-        ensures { Reads (vector_at element_segment.read) elements_in self.old.rest.now self.new.rest.now result }
+impl<'d> InputEntries<'d> {
+    /// The section with all of its entries in a list.
+    fn collected(self, alloc: Global) -> Result<Payload<'d>, AllocError>
+        ensures { IfOk result (λ payload. payload_of payload ≡ input_payload_of self.entry) }
     {
-        let count = self.u32()?;
-        let bytes = self.rest;
-        let mut element = no_element(alloc);
-        'entries: for _ in 0..count {
-            self.element_into(alloc, &mut element)?;
-        }
-        Ok(InputElements { count, bytes })
-    }
-
-    /// A size, and a count and element segments that fill it.
-    #[tactic(auto, unfolding(crate::specs::Reading::whole, crate::specs::ReadingNumbers::sized_at))]
-    pub(crate) fn input_elements(&mut self, alloc: Global) -> Result<InputElements<'d>, ReadError>
-        ensures { Reads (sized_at (whole (vector_at element_segment.read))) elements_in self.old.rest.now self.new.rest.now result }
-    {
-        let mut body = self.sized()?;
-        let elements = body.counted_elements(alloc)?;
-        if !body.rest.is_empty() {
-            return Err(ReadError::Malformed);
-        }
-        Ok(elements)
-    }
-}
-
-impl InputElements<'_> {
-    /// Takes the first segment, in the place of one that is no longer asked for, whose lists are used again; at the end there is none.
-    pub fn next_into(&mut self, alloc: Global, element: &mut Element) -> Result<bool, AllocError>
-        ensures { IfOk result (Takes (elements_in self.old) (element_of element.new) (elements_in self.new)) }
-    {
-        if self.count == 0 {
-            return Ok(false);
-        }
-        let mut cursor = Cursor { rest: self.bytes };
-        match cursor.element_into(alloc, element) {
-            Ok(()) => {
-                self.count -= 1;
-                self.bytes = cursor.rest;
-                Ok(true)
+        match self {
+            InputEntries::Types(groups) => Ok(Payload::Types(groups.collected::<RecGroup>(alloc)?)),
+            InputEntries::Globals(globals) => {
+                Ok(Payload::Globals(globals.collected::<GlobalDef>(alloc)?))
             }
-            Err(ReadError::OutOfMemory) => Err(AllocError),
-            // They were read before, so that none of these is met.
-            Err(ReadError::Malformed) => Ok(self.end()),
-            Err(ReadError::Unsupported(_)) => Ok(self.end()),
-            Err(ReadError::TooLarge) => Ok(self.end()),
+            InputEntries::Elements(elements) => {
+                Ok(Payload::Elements(elements.collected::<Element>(alloc)?))
+            }
         }
-    }
-
-    /// No more segments are listed.
-    fn end(&mut self) -> bool
-        ensures ended { result ≡ false }
-        ensures none { elements_in self.new ≡ [] }
-    {
-        self.count = 0;
-        false
-    }
-
-    /// All of the segments.
-    fn collected(mut self, alloc: Global) -> Result<Vec<Element>, AllocError>
-        ensures { IfOk result (λ all. map element_of all.items ≡ elements_in self.entry) }
-    {
-        let mut all = Vec::new(alloc);
-        let mut element = no_element(alloc);
-        'segments: while self.next_into(alloc, &mut element)? {
-            all.push(mem::replace(&mut element, no_element(alloc)))?;
-        }
-        Ok(all)
     }
 }
 
@@ -125,8 +63,8 @@ impl<'d> InputSection<'d> {
         ensures { IfOk result (λ payload. payload_of payload ≡ input_section_of self.entry) }
     {
         match self {
-            InputSection::Elements(elements) => Ok(Payload::Elements(elements.collected(alloc)?)),
-            InputSection::Other(payload) => Ok(payload),
+            InputSection::Input(entries) => entries.collected(alloc),
+            InputSection::Read(payload) => Ok(payload),
         }
     }
 }

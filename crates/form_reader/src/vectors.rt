@@ -86,3 +86,11 @@ impl<'d> Cursor<'d> {
         Ok(all)
     }
 }
+
+/// The list, of which nothing is asked any more: empty, it may have room.
+pub fn cleared<T: Drop>(mut list: Vec<T>) -> Vec<T>
+    ensures { result.items ≡ [] }
+{
+    list.clear();
+    list
+}

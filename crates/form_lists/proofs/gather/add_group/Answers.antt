@@ -9,3 +9,6 @@ loop-ty-preserved c = record {
   added = member_added c.args.types.now.items c.loop-ty.types.items c.push.new.self.items _ c.loop-ty.ty-index _ c.deref-ty-items.result.now
       c.ty-item.result _ c.loop-ty-test.true c.ty-item.is refl (omega arith) c.in_ok-push.ensures.items c.loop-ty.invariant.added;
 }
+
+pub returns : goal.returns
+returns c = one_group c.args.types.now.items c.loop-ty.types.items (map sub_type_of c.args.members.now) ?

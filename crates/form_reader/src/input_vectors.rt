@@ -1,0 +1,147 @@
+//! Vectors that stay in the input (core specification, 5.1, grammar).
+
+ghost use Rattle.std.specs.Prelude.{◌≡◌, ℕ, List, [], map, false, IfOk};
+ghost use Rattle.wasm_spec.specs.Module as plain;
+ghost use Rattle.form_data.specs.Views.{payload_of};
+ghost use Rattle.form_reader.specs.Reading.{Reader, Reads, whole};
+ghost use Rattle.form_reader.specs.ReadingNumbers.{vector_at, sized_at};
+ghost use Rattle.form_reader.specs.Input.{vector_in, input_payload_of, Takes};
+
+use crate::cursor::Cursor;
+use crate::error::ReadError;
+use crate::input::InputEntries;
+use form_data::Payload;
+use std::alloc::{AllocError, Global};
+use std::mem;
+
+/// What a section lists that stays in the input.
+pub trait InputEntry<'d>: Sized + Drop {
+    ghost Seen: { Type 0 };
+
+    ghost form: { Reader Seen };
+
+    ghost view: { Self → Seen };
+
+    ghost of_section: { plain.Payload → List Seen };
+
+    ghost no_customs: { (name bytes : List ℕ) → of_section (plain.Custom name bytes) ≡ [] };
+
+    /// The entries of a section that was read into lists; sections of other kinds have none.
+    fn in_payload<'f>(payload: &'f Payload<'d>) -> &'f [Self]
+        ensures { map view result.now ≡ of_section (payload_of payload.now) };
+
+    /// The entries of a section that stay in the input; sections of other kinds have none.
+    fn in_input(entries: InputEntries<'d>) -> InputVector<'d>
+        ensures { vector_in form result ≡ of_section (input_payload_of entries.entry) };
+
+    /// An entry that nothing asks for, without an allocation.
+    fn none(alloc: Global) -> Self;
+
+    /// Reads in the place of an entry that is no longer asked for, whose lists may be used again.
+    fn read_into(&mut self, alloc: Global, cursor: &mut Cursor<'d>) -> Result<(), ReadError>
+        ensures { Reads form (λ u. view self.new) cursor.old.rest.now cursor.new.rest.now result };
+}
+
+/// The entries of a section, which stay in the input. They were read once, and are read again where they are walked.
+#[derive(Clone, Copy)]
+pub struct InputVector<'d> {
+    count: u32,
+    bytes: &'d [u8],
+}
+
+impl<'d> Cursor<'d> {
+    /// A count, and that many entries, which stay where they are.
+    #[tactic(auto, unfolding(crate::specs::ReadingNumbers::vector_at))]
+    fn counted_entries<E: InputEntry<'d>>(
+        &mut self,
+        alloc: Global,
+    ) -> Result<InputVector<'d>, ReadError>
+        ensures { Reads (vector_at E.form) (vector_in E.form) self.old.rest.now self.new.rest.now result }
+    {
+        let count = self.u32()?;
+        let bytes = self.rest;
+        let mut entry = E::none(alloc);
+        'entries: for _ in 0..count {
+            entry.read_into(alloc, self)?;
+        }
+        Ok(InputVector { count, bytes })
+    }
+
+    /// A size, and a count and entries that fill it.
+    #[tactic(auto, unfolding(crate::specs::Reading::whole, crate::specs::ReadingNumbers::sized_at))]
+    pub(crate) fn input_vector<E: InputEntry<'d>>(
+        &mut self,
+        alloc: Global,
+    ) -> Result<InputVector<'d>, ReadError>
+        ensures { Reads (sized_at (whole (vector_at E.form))) (vector_in E.form) self.old.rest.now self.new.rest.now result }
+    {
+        let mut body = self.sized()?;
+        let vector = body.counted_entries::<E>(alloc)?;
+        if !body.rest.is_empty() {
+            return Err(ReadError::Malformed);
+        }
+        Ok(vector)
+    }
+}
+
+impl<'d> InputVector<'d> {
+    /// A vector of no entries.
+    pub fn none() -> InputVector<'d>
+        ensures { result.count ≡ 0 }
+    {
+        InputVector {
+            count: 0,
+            bytes: &[],
+        }
+    }
+
+    /// Takes the first entry, in the place of one that is no longer asked for, whose lists may be used again; at the end there is none.
+    pub fn next_into<E: InputEntry<'d>>(
+        &mut self,
+        alloc: Global,
+        entry: &mut E,
+    ) -> Result<bool, AllocError>
+        ensures { IfOk result (Takes (vector_in E.form self.old) (E.view entry.new) (vector_in E.form self.new)) }
+    {
+        if self.count == 0 {
+            return Ok(false);
+        }
+        let mut cursor = Cursor { rest: self.bytes };
+        match entry.read_into(alloc, &mut cursor) {
+            Ok(()) => {
+                self.count -= 1;
+                self.bytes = cursor.rest;
+                Ok(true)
+            }
+            Err(ReadError::OutOfMemory) => Err(AllocError),
+            // They were read before, so that none of these is met.
+            Err(ReadError::Malformed) => Ok(self.end()),
+            Err(ReadError::Unsupported(_)) => Ok(self.end()),
+            Err(ReadError::TooLarge) => Ok(self.end()),
+        }
+    }
+
+    /// No more entries are listed.
+    fn end(&mut self) -> bool
+        ensures ended { result ≡ false }
+        ensures none { self.new.count ≡ 0 }
+    {
+        self.count = 0;
+        false
+    }
+
+    /// All of the entries.
+    pub(crate) fn collected<E: InputEntry<'d>>(
+        mut self,
+        alloc: Global,
+    ) -> Result<Vec<E>, AllocError>
+        ensures { IfOk result (λ all. map E.view all.items ≡ vector_in E.form self.entry) }
+    {
+        let mut all = Vec::new(alloc);
+        let mut entry = E::none(alloc);
+        'entries: while self.next_into(alloc, &mut entry)? {
+            all.push(mem::replace(&mut entry, E::none(alloc)))?;
+        }
+        Ok(all)
+    }
+}
