@@ -72,19 +72,9 @@ fn add_types<'f>(
     ensures { OnOk result (AddsTypes types.old.items types.new.items (flat_map groups_of_section (sections_in section.entry))) }
 {
     match section {
-        Section::Read(payload) => add_listed_groups(types, listed_groups(payload)),
-        Section::Input(InputEntries::Types(groups)) => add_input_groups(alloc, types, groups),
-        Section::Input(_) => Ok(()),
+        Section::Read(payload) => add_listed_groups(types, RecGroup::in_payload(payload)),
+        Section::Input(entries) => add_input_groups(alloc, types, RecGroup::in_input(entries)),
         Section::Customs(_) => Ok(()),
-    }
-}
-
-fn listed_groups<'f>(payload: &'f Payload<'_>) -> &'f [RecGroup]
-    ensures { map group_of result.now ≡ groups_of_section (payload_of payload.now) }
-{
-    match payload {
-        Payload::Types(groups) => groups.as_slice(),
-        _ => &[],
     }
 }
 
@@ -95,7 +85,7 @@ fn add_listed_groups<'f>(
     ensures { OnOk result (AddsTypes types.old.items types.new.items (map group_of groups.now)) }
 {
     for group in groups {
-        add_group(types, &group.types)?;
+        add_group(types, group)?;
     }
     Ok(())
 }
@@ -114,11 +104,11 @@ fn add_input_groups(
     Ok(())
 }
 
-fn add_group<'f>(types: &mut Vec<Declared<'f>>, members: &'f [SubType]) -> Result<(), AllocError>
-    ensures { OnOk result (AddsTypes types.old.items types.new.items (map sub_type_of members.now ∷ [])) }
+fn add_group<'f>(types: &mut Vec<Declared<'f>>, group: &'f RecGroup) -> Result<(), AllocError>
+    ensures { OnOk result (AddsTypes types.old.items types.new.items (group_of group.now ∷ [])) }
 {
-    let group_end = types.len() + members.len();
-    for ty in members {
+    let group_end = types.len() + group.types.len();
+    for ty in &group.types {
         let index = types.len();
         types.push(Declared {
             ty: DeclaredType::Listed(ty),
@@ -130,7 +120,7 @@ fn add_group<'f>(types: &mut Vec<Declared<'f>>, members: &'f [SubType]) -> Resul
 }
 
 fn add_members(types: &mut Vec<Declared<'_>>, members: Vec<SubType>) -> Result<(), AllocError>
-    ensures { OnOk result (AddsTypes types.old.items types.new.items (map sub_type_of members.entry.items ∷ [])) }
+    ensures { OnOk result (AddsTypes types.old.items types.new.items (map sub_type_of members.items ∷ [])) }
 {
     let group_end = types.len() + members.len();
     for ty in members {

@@ -13,9 +13,9 @@ pub loop-group-preserved : goal.loop-group-preserved
 loop-group-preserved c =
     let before = map group_of (take c.loop-group.group-index c.args.groups.now) in
     subst (AddsTypes c.args.types.now.items c.add_group.new.types.items)
-    (sym (map_more group_of c.args.groups.now c.loop-group.group-index c.group-item.result.now c.loop-group-test.true
-          ∙ ap (λ (g : RecGroup). before ++ group_of g ∷ []) (sym c.group-item.is)))
-    (types_then _ _ _ before (group_of c.group-item.result.now ∷ []) c.loop-group.invariant c.in_ok-add_group.ensures)
+    (sym (map_more group_of c.args.groups.now c.loop-group.group-index c.group-item.result c.loop-group-test.true
+    ∙ ap (λ (g : RecGroup). before ++ group_of g ∷ []) (sym c.group-item.is)))
+    (types_then _ _ _ before (group_of c.group-item.result ∷ []) c.loop-group.invariant c.in_ok-add_group.ensures)
 
 pub returns : goal.returns
 returns c =

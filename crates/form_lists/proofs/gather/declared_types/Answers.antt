@@ -12,7 +12,7 @@ pub loop-section-preserved : goal.loop-section-preserved
 unfolding AddsTypes
 loop-section-preserved c =
     let here = sections_in c.in-Some.section in
-    c.in_ok-add_types.ensures (flat_map groups_of_section (sections_left c.in-Some.section-iterator))
+    c.in_ok-add_types.ensures (flat_map groups_of_section (sections_left c.next.new.self))
     ∙ ap (λ gs. map declared_of c.loop-section.types.items ++ declared_groups (length c.loop-section.types.items) gs)
     (sym (ap (flat_map groups_of_section) c.in-Some.ensures.steps ∙ flat_map-append groups_of_section here _))
     ∙ c.loop-section.invariant
