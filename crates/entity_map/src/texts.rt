@@ -43,6 +43,14 @@ impl Texts {
         }
     }
 
+    /// Makes room for the places of `n` more texts.
+    pub(crate) fn reserve(&mut self, n: usize) -> Result<(), OutOfMemory>
+        ensures { self.new ≡ self.old }
+    {
+        self.places.reserve(n)?;
+        Ok(())
+    }
+
     /// Adds a text.
     pub(crate) fn push(&mut self, text: &str) -> Result<(), OutOfMemory>
         ensures ok { OnOk result (self.new ≡ self.old ++ text.now ∷ []) }
