@@ -1,10 +1,9 @@
 -- Names of subsections one after the other, as a loop reads them.
-use Rattle.std.proofs.lemmas.Grind.{common_steps}
-use Rattle.std.proofs.Common.{rules, ◌≡◌, ℕ, suc, ◌-◌, ◌+◌, ◌<◌, ◌≤◌, List, length, Bool, true, false, Option, Some, None, refl, sym, ap, ◌∙◌, append_assoc, arith}
+use Rattle.std.proofs.Common.{◌≡◌, ℕ, suc, ◌-◌, ◌+◌, ◌<◌, ◌≤◌, List, length, Bool, true, false, Option, Some, None, refl, sym, ap, ◌∙◌, append_assoc, arith}
 use Rattle.std.specs.Option.{option_or}
 use Rattle.std.proofs.lemmas.List.{append-nil}
 use Rattle.custom_sections.specs.Reading.{taken}
-use Rattle.custom_sections.specs.NameReading.{NameLists, no_names, joined, subsection, subsection_then, sized_subsection_at, subsections_before, names_of_section}
+use Rattle.custom_sections.specs.NameReading.{NameLists, no_names, joined, subsection, sized_subsection_at, subsections_before, names_of_section}
 use Rattle.custom_sections.proofs.Takes.{read_from_taken, fault_from_none}
 
 pub same_lists : (a b : Option (List ℕ)) (f g : List (ℕ × List ℕ)) (l m : List (ℕ × List (ℕ × List ℕ))) → a ≡ b → f ≡ g → l ≡ m
