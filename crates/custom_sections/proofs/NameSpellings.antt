@@ -42,10 +42,7 @@ module _ {A : Type 0} (p : Partly A) (g : Part A) (again : ReadsAgain p g) where
 
   pub vector_again : (front : List ℕ) (xs : List A) (rest : List ℕ) → (vector g).spells front xs → vector_before p (front ++ rest) ≡ (xs, Some rest)
   unfolding vector_before
-  vector_again front xs rest t =
-      let count : unsigned_at 32 (front ++ rest) ≡ Ok (t.value, t.back ++ rest) =
-      rw (t.parts, append_assoc) ((unsigned_agrees 32).again t.front t.value (t.back ++ rest) t.is_first) in
-      rw count (elements_again t.value t.back xs rest t.is_second)
+  vector_again front xs rest t = grind (arith, unsigned_agrees 32, elements_again t.value t.back xs rest t.is_second, append_assoc)
 
   vector_fills : (bytes : List ℕ) (xs : List A) → (vector g).spells bytes xs → vector_before p bytes ≡ (xs, Some [])
   vector_fills bytes xs s = ap (vector_before p) (sym (append-nil bytes)) ∙ vector_again bytes xs [] s
