@@ -18,7 +18,6 @@ use Rattle.module_types.specs.Builder.{Builder, is_function, noted, exception_in
 use Rattle.module_types.proofs.GroupMembers.{composite-before}
 use Rattle.module_environ.specs.Types.{interned_at, type_index, declared_type, exception_at, interned_list}
 use Rattle.module_environ.specs.Environment.{interned_in, number_or_zero}
-use Rattle.module_environ.specs.Entities.{tags_of}
 use Rattle.type_spec.specs.Firsts.{firsts}
 use Rattle.module_environ.specs.OnTheWay.{after_tags}
 use Rattle.module_environ.specs.Tagged.{CanTag, GainsExceptions, function_at, tag_at}
@@ -67,9 +66,6 @@ module _ (m : plain.Module) where
 
       abbrev so_far : List ℕ
       so_far = map (interned_at m) (take k tags)
-
-      pub sound : b.is_poisoned ≡ false
-      sound = ap (λ (c : Builder). c.is_poisoned) x.gains ∙ ap (λ (c : Builder). c.is_poisoned) can.alone
 
       taken-long : length (map (interned_at m) (take k tags)) ≤ k
       taken-long = omega (arith, length-map (take k tags) (interned_at m), length-take k tags)
@@ -170,9 +166,6 @@ module _ (m : plain.Module) where
     -- ---- all were converted
 
     module _ (b : Builder) (out : List Tag) (x : IsTagging tags old b (length tags) out) where
-      pub tagged : out ≡ tags_of m
-      tagged = x.listed ∙ ap (map tag_in) (take-length tags ∙ can.named)
-
       pub built-all : b.built ≡ interned_list m false
       built-all = x.asked.built
           ∙ ap (with_exceptions (taken (placed_groups m)).built) (ap (map (interned_at m)) (take-length tags ∙ can.named))
