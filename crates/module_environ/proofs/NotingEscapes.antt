@@ -5,13 +5,16 @@ use Rattle.std.specs.List.{list_any, range_with_len}
 use Rattle.std.proofs.lemmas.List.{take_more, length-set, map-append, map-id}
 use Rattle.std.proofs.lemmas.List.Sums.{fold-append}
 use Rattle.std.proofs.lemmas.List.FromFn.{map-range_with_len_more}
-use Rattle.type_spec.specs.Firsts.{with_first}
+use Rattle.type_spec.specs.Firsts.{with_first, firsts_after}
 use Rattle.module_environ.specs.EscapeLog.{EscapeLog, after_escapes}
 use Rattle.module_environ.specs.Numbers.{AreNumbers}
 use Rattle.module_environ.proofs.Numbering.{after_escapes-new, after_escapes-old}
 
+pub firsts-append : (known xs ys : List ℕ) → firsts_after (firsts_after known xs) ys ≡ firsts_after known (xs ++ ys)
+firsts-append known xs ys = sym (fold-append (with_first (λ k n. k == n)) known xs ys)
+
 pub after_escapes-append : (s : EscapeLog) (xs ys : List ℕ) → after_escapes (after_escapes s xs) ys ≡ after_escapes s (xs ++ ys)
-after_escapes-append s xs ys = λ i. record { count = s.count; order = sym (fold-append (with_first (λ k n. k == n)) s.order xs ys) i }
+after_escapes-append s xs ys = λ i. record { count = s.count; order = firsts-append s.order xs ys i }
 
 pub after_escapes-more : {A : Type 0} (number : A → ℕ) (s t u : EscapeLog) (xs : List A) (i : ℕ) (x : A) → i < length xs → x ≡ get_or xs i x
     → t ≡ after_escapes s (map number (take i xs)) → u ≡ after_escapes t (number x ∷ []) → u ≡ after_escapes s (map number (take (i + 1) xs))
