@@ -6,9 +6,8 @@ use Rattle.std.proofs.lemmas.List.Elements.{All-nil, All-cons, All-head, All-tai
 use Rattle.wasm_spec.specs.declared.types.FieldType.{FieldType}
 use Rattle.wasm_spec.specs.declared.types.UnpackedIndex.{UnpackedIndex}
 use Rattle.wasm_spec.specs.TypeData.{Composite, Func, Array, Struct, Cont, Exn, field_of}
-use Rattle.form_data.specs.Views.{composite_of}
 use Rattle.form_lists.specs.declared.lists.Declared.{Declared as Gathered}
-use Rattle.form_lists.specs.Views.{declared_of}
+use Rattle.form_lists.specs.Views.{type_of, declared_of}
 use Rattle.rule_spec.specs.Lists.{Lists, Declared, kind_at}
 use Rattle.rule_spec.specs.Typing.{has_default, where_true, refers_to}
 use Rattle.form_typing.specs.Defaults.{defaults_of, defaults, default_signature}
@@ -75,6 +74,6 @@ noted l notes t answer are is =
     ∙ ap (λ (bs : List Bool). slice_get bs t) (sym are) ∙ is)
 
 -- of the types as they were gathered
-pub noted_all : (ds : List Gathered) → map (λ (d : Gathered). defaults_of (composite_of d.ty.now.composite)) ds ≡ map (λ (d : Declared). defaults_of d.type.composite.inner) (map declared_of ds)
+pub noted_all : (ds : List Gathered) → map (λ (d : Gathered). defaults_of (type_of d.ty).composite.inner) ds ≡ map (λ (d : Declared). defaults_of d.type.composite.inner) (map declared_of ds)
 noted_all [] = refl
-noted_all (d ∷ ds) = ap (λ (bs : List Bool). defaults_of (composite_of d.ty.now.composite) ∷ bs) (noted_all ds)
+noted_all (d ∷ ds) = ap (λ (bs : List Bool). defaults_of (type_of d.ty).composite.inner ∷ bs) (noted_all ds)
