@@ -90,7 +90,10 @@ impl<'d> InputEntry<'d> for RecGroup {
         if first == GROUP {
             return cursor.vector_into::<SubType>(alloc, &mut self.types);
         }
-        self.types.clear();
+        self.types.truncate(1);
+        if let Some(ty) = self.types.first_mut() {
+            return cursor.sub_type_into(alloc, first, ty);
+        }
         self.types.push(cursor.sub_type_after(alloc, first)?)?;
         Ok(())
     }
@@ -105,6 +108,26 @@ impl<'d> Cursor<'d> {
         let params = self.vector::<ValType>(alloc)?;
         let results = self.vector::<ValType>(alloc)?;
         Ok(CompositeInnerType::Func(FuncType { params, results }))
+    }
+
+    /// As `composite_after`, in the place of a type that is no longer asked for, whose lists are used again.
+    #[tactic(auto, unfolding(crate::specs::TypeRows::composite_after, crate::specs::TypeRows::function_type))]
+    fn composite_into(
+        &mut self,
+        alloc: Global,
+        first: u8,
+        composite: &mut CompositeInnerType,
+    ) -> Result<(), ReadError>
+        ensures { Reads (composite_after first).read (λ u. composite_of composite.new) self.old.rest.now self.new.rest.now result }
+    {
+        if let CompositeInnerType::Func(function) = composite
+            && first == FUNCTION
+        {
+            self.vector_into::<ValType>(alloc, &mut function.params)?;
+            return self.vector_into::<ValType>(alloc, &mut function.results);
+        }
+        *composite = self.composite_after(alloc, first)?;
+        Ok(())
     }
 
     /// What follows the first byte of a composite type.
@@ -150,6 +173,21 @@ impl<'d> Cursor<'d> {
             supertype,
             composite,
         })
+    }
+
+    /// As `sub_type_after`, in the place of a type that is no longer asked for, whose lists are used again.
+    #[tactic(auto, unfolding(crate::specs::TypeRows::sub_type_after, crate::specs::TypeRows::with_supertype))]
+    fn sub_type_into(&mut self, alloc: Global, first: u8, ty: &mut SubType) -> Result<(), ReadError>
+        ensures { Reads (sub_type_after first).read (λ u. sub_type_of ty.new) self.old.rest.now self.new.rest.now result }
+    {
+        ty.is_final = first != OPEN;
+        if first != OPEN && first != FINAL {
+            ty.supertype = None;
+            return self.composite_into(alloc, first, &mut ty.composite);
+        }
+        ty.supertype = self.supertype()?;
+        let inner = self.byte()?;
+        self.composite_into(alloc, inner, &mut ty.composite)
     }
 
     /// What follows the first byte of a subtype; a composite type alone is final and has no supertype.
