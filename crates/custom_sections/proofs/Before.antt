@@ -1,6 +1,5 @@
 -- Elements up to a fault, as a loop reads them.
-use Rattle.std.proofs.lemmas.Grind.{common_steps}
-use Rattle.std.proofs.Common.{rules, ◌≡◌, ℕ, suc, ◌-◌, ◌+◌, ◌<◌, ◌≤◌, List, [], ◌∷◌, ◌++◌, Option, Some, None, refl, sym, ap, ◌∙◌, append_assoc, arith}
+use Rattle.std.proofs.Common.{◌≡◌, ℕ, suc, ◌-◌, ◌+◌, ◌<◌, ◌≤◌, List, [], ◌∷◌, ◌++◌, Option, Some, None, refl, sym, ap, ◌∙◌, append_assoc, arith}
 use Rattle.std.proofs.lemmas.List.{append-nil}
 use Rattle.form_reader.specs.ReadingNumbers.{unsigned_at}
 use Rattle.custom_sections.specs.Reading.{taken}
@@ -64,9 +63,7 @@ module _ {A : Type 0} (part : Partly A) where
 
   pub more : (front : List A) (count i : ℕ) (bytes : List ℕ) (x : A) (rest : List ℕ) (total : List A × Option (List ℕ)) → i < count
       → part bytes ≡ (Some x, Some rest) → still front (count - i) bytes ≡ total → still (front ++ x ∷ []) (count - (i + 1)) rest ≡ total
-  more front count i bytes x rest total lt e h =
-      let k : count - i ≡ suc (count - (i + 1)) = omega arith in
-      sym (more_is front (count - (i + 1)) bytes x rest e) ∙ ap (λ n. still front n bytes) (sym k) ∙ h
+  more front count i bytes x rest total lt e h = grind (arith, more_is front (count - (i + 1)) bytes x rest e)
 
   ends_is : (front : List A) (n : ℕ) (bytes : List ℕ) (one : Option A) → part bytes ≡ (one, None)
       → still front (suc n) bytes ≡ (front ++ list_of one, None)
@@ -75,9 +72,7 @@ module _ {A : Type 0} (part : Partly A) where
 
   pub ends : (front : List A) (count i : ℕ) (bytes : List ℕ) (one : Option A) (total : List A × Option (List ℕ)) → i < count
       → part bytes ≡ (one, None) → still front (count - i) bytes ≡ total → ended (front ++ list_of one) None ≡ total
-  ends front count i bytes one total lt e h =
-      let k : count - i ≡ suc (count - (i + 1)) = omega arith in
-      sym (ends_is front (count - (i + 1)) bytes one e) ∙ ap (λ n. still front n bytes) (sym k) ∙ h
+  ends front count i bytes one total lt e h = grind (arith, ends_is front (count - (i + 1)) bytes one e)
 
   -- nothing is read of the element with the fault
   pub fails : (front : List A) (count i : ℕ) (bytes : List ℕ) (total : List A × Option (List ℕ)) → i < count

@@ -1,6 +1,6 @@
 -- Cutting `.dwo` takes nothing of `.debug_`.
 use Rattle.std.proofs.lemmas.Grind.{common_steps}
-use Rattle.std.proofs.Common.{rules, ◌≡◌, ℕ, zero, suc, ◌-◌, ◌≤◌, List, ◌++◌, length, take, drop, get_or, Bool, true, false, cond, eqb, refl, sym, ap, ◌∙◌, arith, inl, inr, append_assoc}
+use Rattle.std.proofs.Common.{◌≡◌, ℕ, zero, suc, ◌-◌, ◌≤◌, List, ◌++◌, length, take, drop, get_or, Bool, true, false, cond, eqb, refl, sym, ap, ◌∙◌, arith, inl, inr, append_assoc}
 use Rattle.std.specs.Prelude.{codes}
 use Rattle.std.specs.List.{starts_with, ends_with}
 use Rattle.std.specs.Cmp.{unsigned_Decides}
@@ -33,14 +33,7 @@ module _ (name : List ℕ) (ends : ends_with eqb name (codes ".dwo") ≡ true) w
   starts_after h = grind (arith, starts_with_mark, parts, mark_of, append_assoc)
 
   long : (front : List ℕ) → name ≡ front ++ codes ".dwo" → starts_with eqb name (codes ".debug_") ≡ true → 7 ≤ length front
-  long front e h = elim (cases_lt (length front) 7) [
-    | inr le ↦ le
-    | inl lt ↦
-        let short : length front ≤ 6 = omega arith in
-        absurd (no_mark (6 - length front)
-        (sym (get_or-append_right front (codes ".dwo") (length front) 6 0 refl short) ∙ ap (λ (l : List ℕ). get_or l 6 0) (sym e)
-        ∙ last_byte name (drop 7 name) (mark_of name h)))
-  ]
+  long front e h = grind (arith, mark_of name h, last_byte name (drop 7 name) (mark_of name h), get_or-append_right, no_mark)
 
   front_starts : (front : List ℕ) → name ≡ front ++ codes ".dwo" → starts_with eqb name (codes ".debug_") ≡ true
       → starts_with eqb front (codes ".debug_") ≡ true

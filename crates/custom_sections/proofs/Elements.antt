@@ -1,6 +1,5 @@
 -- Elements one after the other, as a loop reads them.
-use Rattle.std.proofs.lemmas.Grind.{common_steps}
-use Rattle.std.proofs.Common.{rules, ◌≡◌, ℕ, suc, ◌-◌, ◌+◌, ◌<◌, ◌≤◌, List, [], ◌∷◌, ◌++◌, Option, Some, None, Result, Ok, Err, refl, sym, ap, ◌∙◌, append_assoc, arith}
+use Rattle.std.proofs.Common.{◌≡◌, ℕ, suc, ◌-◌, ◌+◌, ◌<◌, ◌≤◌, List, [], ◌∷◌, ◌++◌, Option, Some, None, Result, Ok, Err, refl, sym, ap, ◌∙◌, append_assoc, arith}
 use Rattle.std.specs.Option.{option_map}
 use Rattle.std.proofs.lemmas.List.{append-nil}
 use Rattle.form_reader.specs.Reading.{Fault, Reader, and_then, elements_at}
@@ -43,9 +42,7 @@ module _ {A : Type 0} (part : Reader A) where
   pub more : (front : List A) (count i : ℕ) (bytes : List ℕ) (x : A) (rest : List ℕ) (total : Option (List A × List ℕ)) → i < count
       → Some (x, rest) ≡ taken (part bytes) → so_far front (count - i) bytes ≡ total
       → so_far (front ++ x ∷ []) (count - (i + 1)) rest ≡ total
-  more front count i bytes x rest total lt e h =
-      let k : count - i ≡ suc (count - (i + 1)) = omega arith in
-      sym (more_is front (count - (i + 1)) bytes x rest e) ∙ ap (λ n. so_far front n bytes) (sym k) ∙ h
+  more front count i bytes x rest total lt e h = grind (arith, more_is front (count - (i + 1)) bytes x rest e)
 
   fails_is : (front : List A) (n : ℕ) (bytes : List ℕ) → None ≡ taken (part bytes) → so_far front (suc n) bytes ≡ None
   unfolding elements_at
@@ -53,9 +50,7 @@ module _ {A : Type 0} (part : Reader A) where
 
   pub fails : (front : List A) (count i : ℕ) (bytes : List ℕ) (total : Option (List A × List ℕ)) → i < count
       → None ≡ taken (part bytes) → so_far front (count - i) bytes ≡ total → None ≡ total
-  fails front count i bytes total lt e h =
-      let k : count - i ≡ suc (count - (i + 1)) = omega arith in
-      sym (fails_is front (count - (i + 1)) bytes e) ∙ ap (λ n. so_far front n bytes) (sym k) ∙ h
+  fails front count i bytes total lt e h = grind (arith, fails_is front (count - (i + 1)) bytes e)
 
   done_is : (front : List A) (bytes : List ℕ) → so_far front 0 bytes ≡ Some (front, bytes)
   unfolding elements_at

@@ -1,10 +1,9 @@
 -- Names of subsections one after the other, as a loop reads them.
-use Rattle.std.proofs.lemmas.Grind.{common_steps}
-use Rattle.std.proofs.Common.{rules, ◌≡◌, ℕ, suc, ◌-◌, ◌+◌, ◌<◌, ◌≤◌, List, length, Bool, true, false, Option, Some, None, refl, sym, ap, ◌∙◌, append_assoc, arith}
+use Rattle.std.proofs.Common.{◌≡◌, ℕ, suc, ◌-◌, ◌+◌, ◌<◌, ◌≤◌, List, length, Bool, true, false, Option, Some, None, refl, sym, ap, ◌∙◌, append_assoc, arith}
 use Rattle.std.specs.Option.{option_or}
 use Rattle.std.proofs.lemmas.List.{append-nil}
 use Rattle.custom_sections.specs.Reading.{taken}
-use Rattle.custom_sections.specs.NameReading.{NameLists, no_names, joined, subsection, subsection_then, sized_subsection_at, subsections_before, names_of_section}
+use Rattle.custom_sections.specs.NameReading.{NameLists, no_names, joined, subsection, sized_subsection_at, subsections_before, names_of_section}
 use Rattle.custom_sections.proofs.Takes.{read_from_taken, fault_from_none}
 
 pub same_lists : (a b : Option (List ℕ)) (f g : List (ℕ × List ℕ)) (l m : List (ℕ × List (ℕ × List ℕ))) → a ≡ b → f ≡ g → l ≡ m
@@ -40,9 +39,7 @@ module _ (locals : Bool) where
   pub more : (names : NameLists) (count i : ℕ) (bytes : List ℕ) (id : ℕ) (contents rest : List ℕ) (total : NameLists) → i < count
       → Some ((id, contents), rest) ≡ taken (sized_subsection_at bytes) → (subsection locals id contents).1 ≡ true
       → still_named names (count - i) bytes ≡ total → still_named (joined names (subsection locals id contents).0) (count - (i + 1)) rest ≡ total
-  more names count i bytes id contents rest total lt e filled h =
-      let k : count - i ≡ suc (count - (i + 1)) = omega arith in
-      sym (more_is names (count - (i + 1)) bytes id contents rest e filled) ∙ ap (λ n. still_named names n bytes) (sym k) ∙ h
+  more names count i bytes id contents rest total lt e filled h = grind (arith, more_is names (count - (i + 1)) bytes id contents rest e filled)
 
   ends_is : (names : NameLists) (n : ℕ) (bytes : List ℕ) (id : ℕ) (contents rest : List ℕ)
       → Some ((id, contents), rest) ≡ taken (sized_subsection_at bytes) → (subsection locals id contents).1 ≡ false
@@ -55,9 +52,7 @@ module _ (locals : Bool) where
   pub ends : (names : NameLists) (count i : ℕ) (bytes : List ℕ) (id : ℕ) (contents rest : List ℕ) (total : NameLists) → i < count
       → Some ((id, contents), rest) ≡ taken (sized_subsection_at bytes) → (subsection locals id contents).1 ≡ false
       → still_named names (count - i) bytes ≡ total → joined names (subsection locals id contents).0 ≡ total
-  ends names count i bytes id contents rest total lt e filled h =
-      let k : count - i ≡ suc (count - (i + 1)) = omega arith in
-      sym (ends_is names (count - (i + 1)) bytes id contents rest e filled) ∙ ap (λ n. still_named names n bytes) (sym k) ∙ h
+  ends names count i bytes id contents rest total lt e filled h = grind (arith, ends_is names (count - (i + 1)) bytes id contents rest e filled)
 
   none_is : (names : NameLists) (n : ℕ) (bytes : List ℕ) → None ≡ taken (sized_subsection_at bytes) → still_named names (suc n) bytes ≡ names
   unfolding subsections_before
@@ -66,9 +61,7 @@ module _ (locals : Bool) where
   -- where no subsection stands, there is no more
   pub none : (names : NameLists) (count i : ℕ) (bytes : List ℕ) (total : NameLists) → i < count
       → None ≡ taken (sized_subsection_at bytes) → still_named names (count - i) bytes ≡ total → names ≡ total
-  none names count i bytes total lt e h =
-      let k : count - i ≡ suc (count - (i + 1)) = omega arith in
-      sym (none_is names (count - (i + 1)) bytes e) ∙ ap (λ n. still_named names n bytes) (sym k) ∙ h
+  none names count i bytes total lt e h = grind (arith, none_is names (count - (i + 1)) bytes e)
 
   pub is_done : (names : NameLists) (count i : ℕ) (bytes : List ℕ) (total : NameLists) → count ≤ i
       → still_named names (count - i) bytes ≡ total → names ≡ total

@@ -1,6 +1,5 @@
 -- What the grammar spells is read whole.
-use Rattle.std.proofs.lemmas.Grind.{common_steps}
-use Rattle.std.proofs.Common.{rules, ◌≡◌, ℕ, zero, suc, ◌≤◌, List, [], ◌∷◌, ◌++◌, length, Bool, true, false, cond, Option, Some, Ok, refl, sym, ap, ◌∙◌, arith, append_assoc, length-append}
+use Rattle.std.proofs.Common.{◌≡◌, ℕ, zero, suc, ◌≤◌, List, [], ◌∷◌, ◌++◌, length, Bool, true, false, cond, Option, Some, Ok, refl, sym, ap, ◌∙◌, arith, append_assoc, length-append}
 use Rattle.std.specs.Prelude.{◌==◌, ◌&&◌}
 use Rattle.std.proofs.lemmas.List.{append-nil}
 use Rattle.wasm_spec.specs.Parts.{Part, ◌>>=◌, Joined, gives, choose, elements, vector, all_bytes_as, sized}
@@ -43,10 +42,7 @@ module _ {A : Type 0} (p : Partly A) (g : Part A) (again : ReadsAgain p g) where
 
   pub vector_again : (front : List ℕ) (xs : List A) (rest : List ℕ) → (vector g).spells front xs → vector_before p (front ++ rest) ≡ (xs, Some rest)
   unfolding vector_before
-  vector_again front xs rest t =
-      let count : unsigned_at 32 (front ++ rest) ≡ Ok (t.value, t.back ++ rest) =
-      rw (t.parts, append_assoc) ((unsigned_agrees 32).again t.front t.value (t.back ++ rest) t.is_first) in
-      rw count (elements_again t.value t.back xs rest t.is_second)
+  vector_again front xs rest t = grind (arith, unsigned_agrees 32, elements_again t.value t.back xs rest t.is_second, append_assoc)
 
   vector_fills : (bytes : List ℕ) (xs : List A) → (vector g).spells bytes xs → vector_before p bytes ≡ (xs, Some [])
   vector_fills bytes xs s = ap (vector_before p) (sym (append-nil bytes)) ∙ vector_again bytes xs [] s

@@ -1,9 +1,9 @@
 -- The chains of numbers whose hashes have one slot.
-use Rattle.std.specs.Prelude.{◌≡◌, ◌≢◌, ℕ, ◌+◌, ◌-◌, ◌*◌, ◌<◌, ◌≤◌, List, length, slice_index, bit_and}
+use Rattle.std.specs.Prelude.{◌≡◌, ◌≢◌, ℕ, ◌+◌, ◌*◌, ◌/◌, ◌^◌, ◌<◌, ◌≤◌, List, length, slice_index}
 use Rattle.entity_map.specs.declared.chains.Chains.{Chains}
 
 unfoldable pub slot : ℕ → ℕ → ℕ
-slot slots hash = bit_and hash (slots - 1)
+slot slots hash = hash * slots / 2 ^ 32
 
 abbrev pub room_of : Chains → ℕ
 room_of chains = length chains.before.items

@@ -1,6 +1,6 @@
 //! Numbers that are found by hashes.
 
-ghost use Rattle.std.specs.Prelude.{◌≡◌, ◌≢◌, ℕ, List, ◌*◌, ◌<◌, ◌++◌, ◌∷◌, [], length, slice_get, slice_index, Some, OnOk, IfSome, IfNone};
+ghost use Rattle.std.specs.Prelude.{◌≡◌, ◌≢◌, ℕ, List, ◌+◌, ◌*◌, ◌<◌, ◌≤◌, ◌++◌, ◌∷◌, [], length, slice_get, slice_index, Some, OnOk, IfSome, IfNone};
 ghost use Rattle.entity_map.specs.Chains.{room_of, slot, slots_of, IsTable};
 
 use crate::memory::OutOfMemory;
@@ -26,17 +26,23 @@ impl Chains {
         }
     }
 
-    /// Makes room for one more hash: for twice as many as there are, and a power of two.
-    pub(crate) fn make_room(&mut self, alloc: Global, hashes: &[u32]) -> Result<(), OutOfMemory>
+    /// Makes room for so many hashes more, and for twice as many as there are.
+    pub(crate) fn make_room(
+        &mut self,
+        alloc: Global,
+        hashes: &[u32],
+        more: u32,
+    ) -> Result<(), OutOfMemory>
         requires few { length hashes.now < u32.MAX }
         requires table { IsTable hashes.now self.old }
-        ensures room { OnOk result (length hashes.now < room_of self.new) }
+        ensures room { OnOk result (length hashes.now + more ≤ room_of self.new) }
         ensures table { IsTable hashes.now self.new }
     {
-        if hashes.len() < self.before.len() {
+        let wanted = hashes.len() + more as usize;
+        if wanted <= self.before.len() {
             return Ok(());
         }
-        let room = (2 * hashes.len()).max(8);
+        let room = (2 * hashes.len()).max(wanted).max(8);
         let mut chains = Chains {
             last: Vec::from_elem(alloc, 0, 2 * room)?,
             before: Vec::from_elem(alloc, 0, room)?,
@@ -83,12 +89,12 @@ impl Chains {
     }
 }
 
-/// The slot of a hash.
+/// The slot of a hash, which is in proportion to it, so that there may be any number of slots.
 #[tactic(auto, unfolding(crate::specs::Chains::slot))]
 fn slot(hash: u32, slots: usize) -> usize
     requires { 0 < slots }
     ensures value { result ≡ slot slots hash }
     ensures within { result < slots }
 {
-    hash as usize & (slots - 1)
+    ((u128::from(hash) * slots as u128) >> 32) as usize
 }

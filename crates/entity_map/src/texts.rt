@@ -1,16 +1,25 @@
 //! Texts, end to end in one buffer.
 
-ghost use Rattle.std.specs.Prelude.{◌≡◌, ◌<◌, ◌++◌, ◌∷◌, [], length, slice_get, Some, OnOk, OnErr};
+ghost use Rattle.std.specs.Prelude.{◌≡◌, ◌+◌, ◌<◌, ◌++◌, ◌∷◌, [], length, slice_get, Some, IfSome, OnOk, OnErr};
 
 use crate::memory::OutOfMemory;
 use std::alloc::Global;
 use std::marker::Model;
 
-/// Where a text stands in its buffer.
+/// Where a text stands in its buffer, which has fewer than 2^32 bytes: so a place takes eight.
 #[derive(Clone, Copy)]
 pub(crate) struct Place {
-    start: usize,
-    end: usize,
+    start: u32,
+    end: u32,
+}
+
+/// The place of so many bytes behind a buffer of `start` bytes.
+fn place_of(start: usize, length: usize) -> Option<Place>
+    ensures { IfSome result (λ place. (place.start ≡ start) × (place.end ≡ start + length)) }
+{
+    let start = u32::try_from(start).ok()?;
+    let end = start.checked_add(u32::try_from(length).ok()?)?;
+    Some(Place { start, end })
 }
 
 /// A list of texts, which takes two allocations in all.
@@ -43,16 +52,25 @@ impl Texts {
         }
     }
 
+    /// Makes room for the places of `n` more texts.
+    pub(crate) fn reserve(&mut self, n: usize) -> Result<(), OutOfMemory>
+        ensures { self.new ≡ self.old }
+    {
+        self.places.reserve(n)?;
+        Ok(())
+    }
+
     /// Adds a text.
     pub(crate) fn push(&mut self, text: &str) -> Result<(), OutOfMemory>
         ensures ok { OnOk result (self.new ≡ self.old ++ text.now ∷ []) }
         ensures err { OnErr result (self.new ≡ self.old) }
     {
+        let Some(place) = place_of(self.buffer.len(), text.len()) else {
+            return Err(OutOfMemory);
+        };
         self.places.reserve(1)?;
-        let start = self.buffer.len();
         self.buffer.push_str(text)?;
-        let end = self.buffer.len();
-        self.places.push_reserved(Place { start, end });
+        self.places.push_reserved(place);
         Ok(())
     }
 
@@ -62,7 +80,7 @@ impl Texts {
         ensures { slice_get self.now number ≡ Some result.now }
     {
         let place = self.places[number];
-        &self.buffer[place.start..place.end]
+        &self.buffer[place.start as usize..place.end as usize]
     }
 
     /// How many there are.

@@ -1,16 +1,14 @@
 -- What holds of each entry, where the entries stand in sections.
-use Rattle.std.proofs.Common.{◌≡◌, ◌↔◌, ℕ, ◌+◌, ◌<◌, ◌≤◌, Bool, true, false, List, [], ◌∷◌, ◌++◌, length, map, take, drop, get_or, All, IsTrue, refl, sym, ap, subst, ◌∙◌, arith}
-use Rattle.std.proofs.lemmas.List.{map-append, map_more, take-append-drop, length-append}
+use Rattle.std.proofs.Common.{◌≡◌, ◌↔◌, ℕ, ◌+◌, ◌<◌, Bool, true, false, List, [], ◌∷◌, ◌++◌, length, map, take, get_or, All, IsTrue, refl, sym, ap, subst, ◌∙◌}
+use Rattle.std.proofs.lemmas.List.{map_more}
 use Rattle.std.proofs.lemmas.List.Concat.{flat_map-append}
 use Rattle.std.specs.List.{flat_map}
 use Rattle.std.proofs.lemmas.List.Elements.{All-nil, All-cons, All-head, All-tail, All-append, All-map, All-same, All-rest, All-get_or, All-push}
 use Rattle.wasm_spec.specs.Module as plain
 use Rattle.form_data.specs.declared.form.Payload.{Payload}
-use Rattle.form_data.specs.Views.{payload_of}
 use Rattle.form_reader.specs.declared.customs.InputCustoms.{InputCustoms}
 use Rattle.form_reader.specs.Input.{customs_in}
 use Rattle.form_reader.proofs.CustomRuns.{none_listed}
-use Rattle.form_lists.proofs.Gathering.{entries_of_more}
 
 -- ---- parts of lists
 
@@ -46,24 +44,6 @@ All-parts {Y = Y} P f (y ∷ ys) =
 pub tells_of_map : {X Y : Type 0} (P : X → Type 0) (f : Y → X) (ys : List Y) (b : Bool) → IsTrue b ↔ All (λ y. P (f y)) ys
     → IsTrue b ↔ All P (map f ys)
 tells_of_map P f ys b tells = (λ answered. All-map P f ys (tells.0 answered), λ all. tells.1 (All-from_map P f ys all))
-
--- ---- loops over sections
-
--- the entries so far and those of one section more are no more than all
-pub length_more_le : {X : Type 0} (f : plain.Payload → List X) (ps : List Payload) (k : ℕ) (p : Payload) → k < length ps → p ≡ get_or ps k p
-    → length (flat_map f (map payload_of (take k ps))) + length (f (payload_of p)) ≤ length (flat_map f (map payload_of ps))
-length_more_le f ps k p lt at =
-    let before = flat_map f (map payload_of (take k ps)) in
-    let through : flat_map f (map payload_of (take (k + 1) ps)) ≡ before ++ f (payload_of p) = entries_of_more f ps k p lt at in
-    let whole : flat_map f (map payload_of ps) ≡ flat_map f (map payload_of (take (k + 1) ps)) ++ flat_map f (map payload_of (drop (k + 1) ps)) =
-    ap (λ (qs : List Payload). flat_map f (map payload_of qs)) (sym (take-append-drop (k + 1) ps))
-    ∙ ap (flat_map f) (map-append payload_of (take (k + 1) ps) (drop (k + 1) ps))
-    ∙ flat_map-append f (map payload_of (take (k + 1) ps)) (map payload_of (drop (k + 1) ps)) in
-    omega (
-      arith,
-      ap length through ∙ length-append before (f (payload_of p)),
-      ap length whole ∙ length-append (flat_map f (map payload_of (take (k + 1) ps))) (flat_map f (map payload_of (drop (k + 1) ps))),
-    )
 
 -- ---- loops over the sections, and over the entries of all sections
 

@@ -1,7 +1,7 @@
 -- Index spaces, gathered one import and one section at a time.
-use Rattle.std.proofs.Common.{◌≡◌, ℕ, ◌+◌, ◌<◌, List, [], ◌∷◌, ◌++◌, length, map, take, get_or, refl, sym, ap, subst, ◌∙◌, append_assoc}
+use Rattle.std.proofs.Common.{◌≡◌, ℕ, ◌+◌, List, [], ◌∷◌, ◌++◌, map, refl, sym, ap, subst, ◌∙◌, append_assoc}
 use Rattle.std.specs.List.{flat_map}
-use Rattle.std.proofs.lemmas.List.{append-nil, map_more, map-append, flat_map_more}
+use Rattle.std.proofs.lemmas.List.{append-nil, map-append}
 use Rattle.std.proofs.lemmas.List.Concat.{flat_map-append}
 use Rattle.std.proofs.lemmas.List.Elements.{filter_map-append}
 use Rattle.wasm_spec.specs.Module as plain
@@ -11,7 +11,7 @@ use Rattle.wasm_spec.specs.declared.entities.GlobalType.{GlobalType}
 use Rattle.form_data.specs.declared.form.TableDef.{TableDef}
 use Rattle.form_data.specs.declared.form.GlobalDef.{GlobalDef}
 use Rattle.form_data.specs.declared.form.Payload.{Payload}
-use Rattle.form_data.specs.Views.{table_of, global_of, payload_of}
+use Rattle.form_data.specs.Views.{table_of, global_of}
 use Rattle.form_reader.specs.declared.customs.InputCustoms.{InputCustoms}
 use Rattle.form_reader.specs.Input.{customs_in}
 use Rattle.form_reader.proofs.CustomRuns.{none_listed}
@@ -24,14 +24,6 @@ use Rattle.form_lists.specs.Gathered.{AddsImports, AddsDefined}
 pub grown : {A : Type 0} (a b c xs ys zs : List A) → b ≡ a ++ xs → c ≡ b ++ ys → zs ≡ xs ++ ys → c ≡ a ++ zs
 grown {A = A} a b c xs ys zs first second both =
     second ∙ ap (λ (l : List A). l ++ ys) first ∙ append_assoc a xs ys ∙ ap (λ (l : List A). a ++ l) (sym both)
-
--- the entries of one section more
-pub entries_of_more : {A : Type 0} (f : plain.Payload → List A) (ps : List Payload) (k : ℕ) (p : Payload) → k < length ps → p ≡ get_or ps k p
-    → flat_map f (map payload_of (take (k + 1) ps)) ≡ flat_map f (map payload_of (take k ps)) ++ f (payload_of p)
-entries_of_more f ps k p lt at =
-    let before = map payload_of (take k ps) in
-    ap (flat_map f) (map_more payload_of ps k p lt ∙ ap (λ (x : Payload). before ++ payload_of x ∷ []) (sym at))
-    ∙ sym (flat_map_more f [] before (payload_of p))
 
 -- ---- imports
 

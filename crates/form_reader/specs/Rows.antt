@@ -66,9 +66,6 @@ given o p other = record { read = at.given_at o (λ x. (p x).read) other.read; a
 abbrev pub optional : {A : Type 0} {g : Part A} → (test : Bool) → Row g → Row (part.optional test g)
 optional test p = record { read = at.optional_at test p.read; agrees = law.optional_agrees test p.agrees }
 
-abbrev pub checked : {A : Type 0} {g : Part A} → (test : A → Bool) → Row g → Row (part.checked test g)
-checked test p = record { read = at.checked_at test p.read; agrees = law.checked_agrees test p.agrees }
-
 abbrev pub first_byte : {A : Type 0} {g : ℕ → Part A} → ((b : ℕ) → Row (g b)) → Row (part.first_byte g)
 first_byte p = record { read = at.first_byte_at (λ b. (p b).read); agrees = law.first_byte_agrees (λ b. (p b).agrees) }
 
@@ -84,10 +81,6 @@ abbrev pub measured : {A : Type 0} {g : Part A} → Row g → Row (part.measured
 measured p = record { read = at.measured_at p.read; agrees = made.measured_agrees p.agrees }
 
 -- ---- contents that fill a size
-
--- nothing is left
-abbrev pub whole : {A : Type 0} {g : Part A} → Row g → Contents g
-whole p = record { read = at.whole p.read; agrees = law.whole_fills p.agrees }
 
 -- a value, and then contents that fill the rest
 abbrev pub fill_after : {A B : Type 0} {g : Part A} {h : A → Part B} → Row g → ((x : A) → Contents (h x)) → Contents (part.◌>>=◌ g h)

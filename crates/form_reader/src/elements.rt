@@ -1,6 +1,6 @@
 //! Element segments (core specification, 5.5, element section).
 
-ghost use Rattle.std.specs.Prelude.{◌≡◌, [], refl};
+ghost use Rattle.std.specs.Prelude.{refl};
 ghost use Rattle.wasm_spec.specs.Module as plain;
 ghost use Rattle.form_data.specs.Views.{element_kind_of, element_of};
 ghost use Rattle.form_reader.specs.Reading.{Reads};
@@ -10,11 +10,10 @@ use crate::cursor::Cursor;
 use crate::error::ReadError;
 use crate::input::InputEntries;
 use crate::input_vectors::{InputEntry, InputVector};
-use crate::vectors::{Index, cleared};
+use crate::vectors::Index;
 use form_data::{ConstExpr, Element, ElementItems, ElementKind, Payload};
 use std::alloc::Global;
-use std::mem;
-use wasm_spec::{AbstractHeapType, HeapType, Operator, RefType};
+use wasm_spec::{AbstractHeapType, HeapType, RefType};
 
 /// The kind of elements that are functions.
 const FUNCTION_KIND: u8 = 0x00;
@@ -62,28 +61,6 @@ impl<'d> InputEntry<'d> for Element {
     fn read_into(&mut self, alloc: Global, cursor: &mut Cursor<'d>) -> Result<(), ReadError> {
         let flag = cursor.u32()?;
         cursor.flagged_element(alloc, flag, self)
-    }
-}
-
-/// The list of the operators of an offset that is no longer asked for, where there is one: empty, it may have room.
-fn room_for_offset(alloc: Global, kind: &mut ElementKind) -> Vec<Operator>
-    ensures { result.items ≡ [] }
-{
-    match kind {
-        ElementKind::Active { offset, .. } => {
-            cleared(mem::replace(&mut offset.ops, Vec::new(alloc)))
-        }
-        ElementKind::Passive | ElementKind::Declared => Vec::new(alloc),
-    }
-}
-
-/// The list of indices that are no longer asked for, where there is one: empty, it may have room.
-fn room_for_indices(alloc: Global, items: &mut ElementItems) -> Vec<u32>
-    ensures { result.items ≡ [] }
-{
-    match items {
-        ElementItems::Functions(indices) => cleared(mem::replace(indices, Vec::new(alloc))),
-        ElementItems::Expressions(..) => Vec::new(alloc),
     }
 }
 
@@ -141,7 +118,15 @@ impl<'d> Cursor<'d> {
     ) -> Result<(), ReadError>
         ensures { Reads (active_in table_index).read (λ u. element_kind_of kind.new) self.old.rest.now self.new.rest.now result }
     {
-        let offset = self.expression_into(room_for_offset(alloc, kind))?;
+        if let ElementKind::Active {
+            table_index: table,
+            offset,
+        } = kind
+        {
+            *table = table_index;
+            return self.expression_into(&mut offset.ops);
+        }
+        let offset = self.expression(alloc)?;
         *kind = ElementKind::Active {
             table_index,
             offset,
@@ -164,8 +149,11 @@ impl<'d> Cursor<'d> {
         ensures { Reads (functions_as (element_kind_of element.old.kind)).read (λ u. element_of element.new)
             self.old.rest.now self.new.rest.now result }
     {
-        let room = room_for_indices(alloc, &mut element.items);
-        let indices = self.vector_into::<Index>(alloc, room)?;
+        if let ElementItems::Functions(indices) = &mut element.items {
+            self.vector_into::<Index>(alloc, indices)?;
+            return Ok(());
+        }
+        let indices = self.vector::<Index>(alloc)?;
         element.items = ElementItems::Functions(indices);
         Ok(())
     }

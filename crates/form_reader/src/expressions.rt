@@ -1,6 +1,5 @@
 //! Constant expressions (core specification, 5.4, expressions).
 
-ghost use Rattle.std.specs.Prelude.{◌≡◌, []};
 ghost use Rattle.wasm_spec.specs.Module as plain;
 ghost use Rattle.form_data.specs.Views.{expression_of};
 ghost use Rattle.form_reader.specs.Reading.{Reads};
@@ -33,14 +32,16 @@ impl<'d> Cursor<'d> {
     pub fn expression(&mut self, alloc: Global) -> Result<ConstExpr, ReadError>
         ensures { Reads expression_at expression_of self.old.rest.now self.new.rest.now result }
     {
-        self.expression_into(Vec::new(alloc))
+        let mut ops = Vec::new(alloc);
+        self.expression_into(&mut ops)?;
+        Ok(ConstExpr { ops })
     }
 
-    /// The operators up to the end mark, in a list that is empty and may have room.
-    pub fn expression_into(&mut self, mut ops: Vec<Operator>) -> Result<ConstExpr, ReadError>
-        requires { ops.items ≡ [] }
-        ensures { Reads expression_at expression_of self.old.rest.now self.new.rest.now result }
+    /// The operators up to the end mark, in a list of which nothing is asked any more.
+    pub fn expression_into(&mut self, ops: &mut Vec<Operator>) -> Result<(), ReadError>
+        ensures { Reads expression_at (λ u. ops.new.items) self.old.rest.now self.new.rest.now result }
     {
+        ops.clear();
         // Most expressions are one operator.
         ops.reserve_exact(1)?;
         // Each operator takes a byte at least.
@@ -48,7 +49,7 @@ impl<'d> Cursor<'d> {
         'operators: for _ in 0..most {
             let first = self.byte()?;
             if first == END {
-                return Ok(ConstExpr { ops });
+                return Ok(());
             }
             let op = self.operator(first)?;
             ops.push(op)?;

@@ -9,10 +9,8 @@ use crate::cursor::Cursor;
 use crate::error::ReadError;
 use crate::input::InputEntries;
 use crate::input_vectors::{InputEntry, InputVector};
-use crate::vectors::cleared;
 use form_data::{ConstExpr, GlobalDef, Payload};
 use std::alloc::Global;
-use std::mem;
 use wasm_spec::{GlobalType, ValType};
 
 impl<'d> InputEntry<'d> for GlobalDef {
@@ -55,10 +53,8 @@ impl<'d> InputEntry<'d> for GlobalDef {
 
     /// A global type, and the expression of its first value.
     #[tactic(auto, unfolding(crate::specs::SectionRows::global_entry))]
-    fn read_into(&mut self, alloc: Global, cursor: &mut Cursor<'d>) -> Result<(), ReadError> {
+    fn read_into(&mut self, _alloc: Global, cursor: &mut Cursor<'d>) -> Result<(), ReadError> {
         self.ty = cursor.global_type()?;
-        let room = cleared(mem::replace(&mut self.init.ops, Vec::new(alloc)));
-        self.init = cursor.expression_into(room)?;
-        Ok(())
+        cursor.expression_into(&mut self.init.ops)
     }
 }

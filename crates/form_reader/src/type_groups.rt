@@ -14,10 +14,9 @@ use crate::error::ReadError;
 use crate::input::InputEntries;
 use crate::input_vectors::{InputEntry, InputVector};
 use crate::value_types::SHARED;
-use crate::vectors::{Entry, cleared};
+use crate::vectors::Entry;
 use form_data::{CompositeInnerType, FuncType, Payload, RecGroup, SubType};
 use std::alloc::Global;
-use std::mem;
 use wasm_spec::{FieldType, UnpackedIndex, ValType, What};
 
 /// The first bytes of composite types.
@@ -87,14 +86,12 @@ impl<'d> InputEntry<'d> for RecGroup {
     /// A subtype alone, or the members of a group.
     #[tactic(auto, unfolding(crate::specs::TypeRows::group))]
     fn read_into(&mut self, alloc: Global, cursor: &mut Cursor<'d>) -> Result<(), ReadError> {
-        let mut room = cleared(mem::replace(&mut self.types, Vec::new(alloc)));
         let first = cursor.byte()?;
         if first == GROUP {
-            self.types = cursor.vector_into::<SubType>(alloc, room)?;
-            return Ok(());
+            return cursor.vector_into::<SubType>(alloc, &mut self.types);
         }
-        room.push(cursor.sub_type_after(alloc, first)?)?;
-        self.types = room;
+        self.types.clear();
+        self.types.push(cursor.sub_type_after(alloc, first)?)?;
         Ok(())
     }
 }

@@ -50,19 +50,21 @@ impl<'d> Cursor<'d> {
     pub fn vector<E: Entry<'d>>(&mut self, alloc: Global) -> Result<Vec<E::Value>, ReadError>
         ensures { Reads (vector_at E.form) (λ v. map E.view v.items) self.old.rest.now self.new.rest.now result }
     {
-        self.vector_into::<E>(alloc, Vec::new(alloc))
+        let mut all = Vec::new(alloc);
+        self.vector_into::<E>(alloc, &mut all)?;
+        Ok(all)
     }
 
-    /// As `vector`, in a list that is empty and may have room.
+    /// As `vector`, in a list of which nothing is asked any more.
     #[tactic(auto, unfolding(crate::specs::ReadingNumbers::vector_at))]
     pub fn vector_into<E: Entry<'d>>(
         &mut self,
         alloc: Global,
-        mut all: Vec<E::Value>,
-    ) -> Result<Vec<E::Value>, ReadError>
-        requires { all.items ≡ [] }
-        ensures { Reads (vector_at E.form) (λ v. map E.view v.items) self.old.rest.now self.new.rest.now result }
+        all: &mut Vec<E::Value>,
+    ) -> Result<(), ReadError>
+        ensures { Reads (vector_at E.form) (λ u. map E.view all.new.items) self.old.rest.now self.new.rest.now result }
     {
+        all.clear();
         let count = self.u32()?;
         let room = (count as usize).min(self.rest.len()).min(MOST_ROOM);
         all.reserve_exact(room)?;
@@ -70,7 +72,7 @@ impl<'d> Cursor<'d> {
             let one = E::read(alloc, self)?;
             all.push(one)?;
         }
-        Ok(all)
+        Ok(())
     }
 
     /// A size, and a count and entries that fill it.
@@ -85,12 +87,4 @@ impl<'d> Cursor<'d> {
         }
         Ok(all)
     }
-}
-
-/// The list, of which nothing is asked any more: empty, it may have room.
-pub fn cleared<T: Drop>(mut list: Vec<T>) -> Vec<T>
-    ensures { result.items ≡ [] }
-{
-    list.clear();
-    list
 }

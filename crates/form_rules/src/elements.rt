@@ -4,12 +4,12 @@ ghost use Rattle.std.specs.Prelude.{◌≡◌, ◌↔◌, IsTrue, IfOk};
 ghost use Rattle.form_data.specs.Views.{element_of};
 ghost use Rattle.form_lists.specs.Views.{lists_of};
 ghost use Rattle.form_typing.specs.Defaults.{defaults as defaults_of_types};
-ghost use Rattle.form_rules.specs.Elements.{AreWalked, IsAdded};
+ghost use Rattle.form_rules.specs.Walked.{AreElementsWalked, IsElementAdded};
 
 use crate::indices::is_in_range;
 use crate::references::element_refers;
 use form_data::Element;
-use form_lists::{Lists, elements_of};
+use form_lists::{Lists, walk_of};
 use form_typing::element_is_typed;
 use rule_spec::Class;
 use std::alloc::{AllocError, Global};
@@ -32,7 +32,7 @@ pub fn walk_elements(
     defaults: &[bool],
 ) -> Result<ElementsKeep, AllocError>
     requires { defaults.now ≡ defaults_of_types (lists_of lists.now) }
-    ensures { IfOk result (λ kept. AreWalked (lists_of lists.now) kept) }
+    ensures { IfOk result (λ kept. AreElementsWalked (lists_of lists.now) kept) }
 {
     let mut stack = Vec::new(alloc);
     let mut kept = ElementsKeep {
@@ -40,9 +40,9 @@ pub fn walk_elements(
         in_range: true,
         refer: true,
     };
-    let mut elements = elements_of(alloc, lists.source);
+    let mut elements = walk_of::<Element>(alloc, lists.source);
     while elements.advance()? {
-        kept = with_element(lists, defaults, kept, elements.segment(), &mut stack)?;
+        kept = with_element(lists, defaults, kept, elements.entry(), &mut stack)?;
     }
     Ok(kept)
 }
@@ -56,7 +56,7 @@ fn with_element(
     stack: &mut Vec<Class>,
 ) -> Result<ElementsKeep, AllocError>
     requires { defaults.now ≡ defaults_of_types (lists_of lists.now) }
-    ensures { IfOk result (λ kept. IsAdded (lists_of lists.now) before (element_of element.now) kept) }
+    ensures { IfOk result (λ kept. IsElementAdded (lists_of lists.now) before (element_of element.now) kept) }
 {
     let typed = element_is_typed(lists, defaults, element, stack)?;
     Ok(ElementsKeep {

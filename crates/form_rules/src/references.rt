@@ -17,17 +17,19 @@ use form_data::{
 use form_lists::{Lists, entries_of};
 use wasm_spec::{Operator, TypeRef};
 
-/// Whether each concrete reference outside the type section names one of the declared types. `elements_refer` says it of element segments, by `element_refers` of each.
-pub fn references_hold(lists: &Lists<'_, '_>, elements_refer: bool) -> bool
-    requires { IsTrue elements_refer
+/// Whether each concrete reference outside the type section names one of the declared types. `globals_refer` says it of globals and `elements_refer` of element segments, by `global_refers` and `element_refers` of each.
+pub fn references_hold(lists: &Lists<'_, '_>, globals_refer: bool, elements_refer: bool) -> bool
+    requires globals { IsTrue globals_refer
+        ↔ All (GlobalRefersIn (length lists.now.types.items)) (flat_map globals_of_section (source_module lists.now.source)) }
+    requires elements { IsTrue elements_refer
         ↔ All (ElementRefersIn (length lists.now.types.items)) (flat_map elements_of_section (source_module lists.now.source)) }
     ensures { IsTrue result ↔ AllReferIn (length lists.now.types.items) (lists_of lists.now) }
 {
     let types = lists.types.len();
-    elements_refer
+    globals_refer
+        && elements_refer
         && imports_refer(types, lists)
         && tables_refer(types, lists)
-        && globals_refer(types, lists)
         && bodies_refer(types, lists)
         && segments_refer(types, lists)
 }
@@ -96,14 +98,8 @@ fn table_refers(types: usize, table: &TableDef) -> bool
     }
 }
 
-fn globals_refer(types: usize, lists: &Lists<'_, '_>) -> bool
-    ensures { IsTrue result
-        ↔ All (GlobalRefersIn types) (flat_map globals_of_section (source_module lists.now.source)) }
-{
-    entries_of::<GlobalDef>(lists.source).all(|global| global_refers(types, global))
-}
-
-fn global_refers(types: usize, global: &GlobalDef) -> bool
+/// Whether the concrete references of a global are below a bound.
+pub fn global_refers(types: usize, global: &GlobalDef) -> bool
     ensures { IsTrue result ↔ GlobalRefersIn types (global_of global.now) }
 {
     value_is_below(types, &global.ty.content_type) && expression_refers(types, &global.init)

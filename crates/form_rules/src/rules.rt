@@ -8,13 +8,14 @@ ghost use Rattle.rule_spec.specs.Rules.{Satisfies, Keeps, KeepsBefore};
 ghost use Rattle.form_lists.specs.Source.{source_module};
 ghost use Rattle.form_lists.specs.Views.{lists_of};
 ghost use Rattle.form_typing.specs.Defaults.{defaults as defaults_of_types};
-ghost use Rattle.form_rules.specs.Elements.{AreWalked};
+ghost use Rattle.form_rules.specs.Walked.{AreElementsWalked, AreGlobalsWalked};
 ghost use Rattle.form_rules.specs.Outcomes.{ChecksOrNoMemory, HasGlobals};
 
 use crate::counts::counts_agree;
 use crate::elements::{ElementsKeep, walk_elements};
 use crate::error::CheckError;
 use crate::exports::exports_hold;
+use crate::globals::{GlobalsKeep, walk_globals};
 use crate::indices::indices_hold;
 use crate::limits::limits_hold;
 use crate::references::references_hold;
@@ -74,26 +75,29 @@ pub fn checked_lists<'f, 'd>(
 {
     let lists = gather_lists(alloc, source)?;
     let defaults = struct_defaults(alloc, &lists)?;
+    let globals = walk_globals(alloc, &lists, &defaults)?;
     let elements = walk_elements(alloc, &lists, &defaults)?;
     for rule in RULES {
-        if !keeps(alloc, rule, &lists, &defaults, elements)? {
+        if !keeps(alloc, rule, &lists, &defaults, globals, elements)? {
             return Err(CheckError::Invalid(rule));
         }
     }
     Ok(lists)
 }
 
-/// What is asked of element segments was asked before, of all of them by one walk.
+/// What is asked of globals and of element segments was asked before, of all of them by one walk.
 fn keeps(
     alloc: Global,
     rule: Rule,
     lists: &Lists<'_, '_>,
     defaults: &[bool],
+    globals: GlobalsKeep,
     elements: ElementsKeep,
 ) -> Result<bool, AllocError>
     requires counted { HasGlobals (lists_of lists.now) }
     requires noted { defaults.now ≡ defaults_of_types (lists_of lists.now) }
-    requires walked { AreWalked (lists_of lists.now) elements }
+    requires globals { AreGlobalsWalked (lists_of lists.now) globals }
+    requires elements { AreElementsWalked (lists_of lists.now) elements }
     ensures { IfOk result (λ kept. IsTrue kept ↔ Satisfies rule (lists_of lists.now)) }
 {
     match rule {
@@ -102,10 +106,10 @@ fn keeps(
         Rule::L3 => Ok(counts_agree(lists)),
         Rule::L4 => Ok(limits_hold(lists)),
         Rule::L5 => Ok(initialisers_hold(lists)),
-        Rule::L6 => expressions_hold(alloc, lists, defaults, elements.typed),
+        Rule::L6 => expressions_hold(alloc, lists, defaults, globals.typed, elements.typed),
         Rule::L7 => exports_hold(alloc, lists),
         Rule::L8 => Ok(starts_hold(lists)),
         Rule::L9 => Ok(indices_hold(lists, elements.in_range)),
-        Rule::L10 => Ok(references_hold(lists, elements.refer)),
+        Rule::L10 => Ok(references_hold(lists, globals.refer, elements.refer)),
     }
 }

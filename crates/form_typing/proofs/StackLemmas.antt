@@ -1,24 +1,13 @@
 -- Values taken from the end of a stack.
 use Rattle.std.proofs.Common.{◌≡◌, map, ℕ, ◌+◌, ◌<◌, Bool, true, false, List, [], ◌∷◌, ◌++◌, length, take, drop, get_or, Option, None, Some, refl, sym, ap, ◌∙◌, append_assoc, arith}
 use Rattle.std.specs.Option.{option_and_then}
-use Rattle.std.proofs.lemmas.List.{append-nil, append_cancel_right, same_from_push, drop_more, take-append-drop, length-append, length-map, get_or-map}
+use Rattle.std.proofs.lemmas.List.{append-nil, append_cancel_right, drop_more, take-append-drop, length-map, get_or-map}
 use Rattle.wasm_spec.specs.declared.types.FieldType.{FieldType}
 use Rattle.wasm_spec.specs.declared.types.StorageType.TheVariants.{I8 as Packed}
 use Rattle.wasm_spec.specs.TypeData.{field_of}
 use Rattle.rule_spec.specs.declared.classes.Class.{Class}
 use Rattle.rule_spec.specs.Typing.{Signature, field_class, gives}
 use Rattle.form_typing.specs.Stack.{Popped, Taken}
-
--- the top is one value alone
-pub top_is : (old new : List Class) (top c : Class) → old ≡ new ++ top ∷ [] → (rest : List Class) → old ≡ rest ++ c ∷ [] → top ≡ c
-top_is old new top c is rest other = (same_from_push new rest top c (sym is ∙ other)).1
-
--- an empty stack has no top
-pub no_top : (old : List Class) (c : Class) → old ≡ [] → (rest : List Class) → old ≡ rest ++ c ∷ [] → ⊥
-no_top old c none rest other =
-    let counted : length old ≡ length rest + 1 = ap length other ∙ length-append rest (c ∷ []) in
-    let empty : length old ≡ 0 = ap length none in
-    absurd (omega arith)
 
 -- values taken below others
 pub below : (xs ys old mid new : List Class) → old ≡ mid ++ ys → mid ≡ new ++ xs → old ≡ new ++ (xs ++ ys)
@@ -57,16 +46,6 @@ Popped-true xs old new false is popped = absurd (cc)
 pub Popped-false : (xs old new : List Class) (b : Bool) → b ≡ false → Popped xs old new b → (rest : List Class) → old ≡ rest ++ xs → ⊥
 Popped-false xs old new true is popped = absurd (cc)
 Popped-false xs old new false is popped = popped
-
--- what is popped is taken
-pub takes_popped : (signed : Signature) (s : Option Signature) (old new : List Class) → s ≡ Some signed → old ≡ new ++ signed.takes → Taken s old new (Some signed.pushes)
-takes_popped signed s old new is popped = (signed, is, popped, refl)
-
-pub takes_none : (signed : Signature) (s : Option Signature) (old new : List Class) → s ≡ Some signed → ((rest : List Class) → old ≡ rest ++ signed.takes → ⊥) → Taken s old new None
-takes_none signed s old new is fails = λ other also rest popped.
-    let two : Some signed ≡ Some other = sym is ∙ also in
-    let same : other ≡ signed = cc in
-    fails rest (popped ∙ ap (λ (x : Signature). rest ++ x.takes) same)
 
 -- nothing is taken where there is no signature
 pub takes_unsigned : (s : Option Signature) (old new : List Class) → s ≡ None → Taken s old new None

@@ -1,6 +1,6 @@
 //! The constant expressions of a module, each of the class of its place.
 
-ghost use Rattle.std.specs.Prelude.{◌≡◌, ◌↔◌, ◌+◌, ◌≤◌, take, length, map, All, IsTrue, IfOk};
+ghost use Rattle.std.specs.Prelude.{◌≡◌, ◌↔◌, ◌≤◌, take, length, map, All, IsTrue, IfOk};
 ghost use Rattle.std.specs.List.{flat_map};
 ghost use Rattle.wasm_spec.specs.Module.{segments, tables_of_section, globals_of_section, elements_of_section};
 ghost use Rattle.form_data.specs.Views.{table_of, global_of, element_of, element_kind_of, items_of, expression_of, data_kind_of};
@@ -10,6 +10,7 @@ ghost use Rattle.rule_spec.specs.Expressions.{address_class, HasTypedInitialiser
 ghost use Rattle.form_lists.specs.Source.{source_module};
 ghost use Rattle.form_lists.specs.Views.{lists_of};
 ghost use Rattle.form_typing.specs.Defaults.{defaults as defaults_of_types};
+ghost use Rattle.form_typing.specs.Globals.{IsGlobalTyped};
 
 use crate::classes::class_of;
 use crate::typing::is_typed;
@@ -23,28 +24,27 @@ use wasm_spec::GlobalType;
 
 /// Whether each constant expression has the class of its place.
 ///
-/// Of element segments this is found where they are walked: `elements_hold` says it, by `element_is_typed` of each.
+/// Of globals and element segments this is found where they are walked: `globals_hold` and `elements_hold` say it, by `global_is_typed` and `element_is_typed` of each.
 pub fn expressions_hold(
     alloc: Global,
     lists: &Lists<'_, '_>,
     defaults: &[bool],
+    globals_hold: bool,
     elements_hold: bool,
 ) -> Result<bool, AllocError>
-    requires counted { lists.now.imported_globals + length (flat_map globals_of_section (source_module lists.now.source))
-        ≤ length lists.now.spaces.global_types.items }
+    requires imported { lists.now.imported_globals ≤ length lists.now.spaces.global_types.items }
     requires noted { defaults.now ≡ defaults_of_types (lists_of lists.now) }
+    requires globals { IsTrue globals_hold
+        ↔ AreGlobalsTyped (lists_of lists.now) lists.now.imported_globals (flat_map globals_of_section (source_module lists.now.source)) }
     requires elements { IsTrue elements_hold
         ↔ All (IsElementTyped (lists_of lists.now)) (flat_map elements_of_section (source_module lists.now.source)) }
     ensures { IfOk result (λ hold. IsTrue hold ↔ AreExpressionsTyped (lists_of lists.now)) }
 {
-    if !elements_hold {
+    if !globals_hold || !elements_hold {
         return Ok(false);
     }
     let mut stack = Vec::new(alloc);
     if !tables_hold(lists, defaults, &mut stack)? {
-        return Ok(false);
-    }
-    if !globals_hold(lists, defaults, &mut stack)? {
         return Ok(false);
     }
     segments_hold(lists, defaults, &mut stack)
@@ -251,26 +251,21 @@ fn memory_offset_holds(
 
 // ---- globals
 
-/// The initialiser of a global sees the globals of lower index.
-fn globals_hold(
+/// Whether the initialiser of the global that has this index has the class of its type. It sees the globals of lower index.
+///
+/// `defaults` are the types' `struct_defaults`. What `stack` holds does not count.
+pub fn global_is_typed(
     lists: &Lists<'_, '_>,
     defaults: &[bool],
+    index: usize,
+    global: &GlobalDef,
     stack: &mut Vec<Class>,
 ) -> Result<bool, AllocError>
     requires noted { defaults.now ≡ defaults_of_types (lists_of lists.now) }
-    requires counted { lists.now.imported_globals + length (flat_map globals_of_section (source_module lists.now.source))
-        ≤ length lists.now.spaces.global_types.items }
-    ensures { IfOk result (λ hold. IsTrue hold
-        ↔ AreGlobalsTyped (lists_of lists.now) lists.now.imported_globals (flat_map globals_of_section (source_module lists.now.source))) }
+    requires counted { index ≤ length lists.now.spaces.global_types.items }
+    ensures { IfOk result (λ typed. IsTrue typed ↔ IsGlobalTyped (lists_of lists.now) index (global_of global.now)) }
 {
-    let mut index = lists.imported_globals;
-    for global in entries_of::<GlobalDef>(lists.source) {
-        let class = class_of(&global.ty.content_type);
-        let visible = globals_below(lists, index);
-        if !is_typed(lists, defaults, visible, &global.init, class, stack)? {
-            return Ok(false);
-        }
-        index += 1;
-    }
-    Ok(true)
+    let class = class_of(&global.ty.content_type);
+    let visible = globals_below(lists, index);
+    is_typed(lists, defaults, visible, &global.init, class, stack)
 }

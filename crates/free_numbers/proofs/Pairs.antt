@@ -1,4 +1,5 @@
 -- Sums of neighbours.
+use Rattle.std.proofs.lemmas.Grind.{common_steps}
 use Rattle.std.proofs.Common.{◌≡◌, ◌∙◌, ◌≤◌, ◌<◌, ℕ, zero, suc, ◌+◌, ◌-◌, ◌*◌, ◌/◌, List, [], ◌∷◌, ◌++◌, length, get_or, set, take, drop, length-set, refl, sym, ap, subst, arith}
 use Rattle.std.specs.Global.{Vec}
 use Rattle.std.proofs.lemmas.List.{get_or_default, get_or_past}
@@ -62,15 +63,10 @@ pub first-before : (xs ys : List ℕ) (p : ℕ) → ys ≡ pair_sums xs → befo
 first-before xs ys p e = ap (before p) e ∙ pairs-before xs p ∙ ap (λ n. before n xs) (twice-is p)
 
 pub second-before : (xs ys : List ℕ) (p : ℕ) → ys ≡ pair_sums xs → before (2 * p + 1) xs ≡ before p ys + get_or xs (2 * p) 0
-second-before xs ys p e =
-    let at : 2 * p + 1 ≡ suc (2 * p) = omega arith in
-    ap (λ n. before n xs) at ∙ before-more xs (2 * p) ∙ ap (λ n. n + get_or xs (2 * p) 0) (sym (first-before xs ys p e))
+second-before xs ys p e = grind (arith, before-more, first-before)
 
 pub both-at : (xs ys : List ℕ) (p : ℕ) → ys ≡ pair_sums xs → get_or ys p 0 ≡ get_or xs (2 * p) 0 + get_or xs (2 * p + 1) 0
-both-at xs ys p e =
-    let at : suc (2 * p) ≡ 2 * p + 1 = omega arith in
-    ap (λ l. get_or l p 0) e ∙ pairs-at xs p ∙ ap (λ n. get_or xs n 0 + get_or xs (suc n) 0) (twice-is p)
-    ∙ ap (λ n. get_or xs (2 * p) 0 + get_or xs n 0) at
+both-at xs ys p e = grind (arith, pairs-at, twice-is)
 
 -- the counts of pairs are few
 pub pair-within : (xs ys : List ℕ) (p : ℕ) → ys ≡ pair_sums xs → p < length ys → 2 * p < length xs
@@ -85,16 +81,10 @@ pair-within xs ys p e h = subst (λ n. n < length xs) (twice-is p) (within xs p 
 -- ---- a level and those above it
 
 pub above-sums : (vs ws : List (Vec ℕ)) (v : Vec ℕ) → vs ≡ v ∷ ws → 0 < length ws → IsTree (lists_of vs) → counts_of (lists_of ws) ≡ pair_sums v.items
-above-sums vs ws v e some tree = by ws some (subst (λ (l : List (Vec ℕ)). IsTree (lists_of l)) e tree) where
-  by : (ws : List (Vec ℕ)) → 0 < length ws → IsTree (lists_of (v ∷ ws)) → counts_of (lists_of ws) ≡ pair_sums v.items
-  by [] some tree = absurd (omega (arith, some))
-  by (w ∷ ws) some tree = tree.0
+above-sums vs ws v e some tree = grind (arith, common_steps)
 
 pub above-tree : (vs ws : List (Vec ℕ)) (v : Vec ℕ) → vs ≡ v ∷ ws → 0 < length ws → IsTree (lists_of vs) → IsTree (lists_of ws)
-above-tree vs ws v e some tree = by ws some (subst (λ (l : List (Vec ℕ)). IsTree (lists_of l)) e tree) where
-  by : (ws : List (Vec ℕ)) → 0 < length ws → IsTree (lists_of (v ∷ ws)) → IsTree (lists_of ws)
-  by [] some tree = absurd (omega (arith, some))
-  by (w ∷ ws) some tree = tree.1
+above-tree vs ws v e some tree = grind arith
 
 pub counts-first : (vs ws : List (Vec ℕ)) (v : Vec ℕ) → vs ≡ v ∷ ws → counts_of (lists_of vs) ≡ v.items
 counts-first vs ws v e = ap (λ (l : List (Vec ℕ)). counts_of (lists_of l)) e
@@ -113,11 +103,7 @@ module _ (vs ws : List (Vec ℕ)) (v : Vec ℕ) (e : vs ≡ v ∷ ws) (some : 0 
 
   pub go-up : (rank : ℕ) → rank < total counts → length counts < 4294967296
       → IsTree (lists_of ws) × (rank < total sums) × (length sums < 4294967296)
-  go-up rank within few = (
-    above-tree vs ws v e some tree,
-    (let same : total sums ≡ total counts = ap total are-sums ∙ total-pairs counts in omega (arith, same, within)),
-    (let less : length sums ≤ length counts = subst (λ (l : List ℕ). length l ≤ length counts) (sym are-sums) (length-pairs counts) in omega (arith, less, few)),
-  )
+  go-up rank within few = grind (arith, above-tree, total-pairs, length-pairs, are-sums)
 
   module _ (place rest rank : ℕ) (free : rest < get_or sums place 0) (is : before place sums + rest ≡ rank) where
     in-sums : place < length sums
@@ -152,9 +138,7 @@ module _ (vs ws : List (Vec ℕ)) (v : Vec ℕ) (e : vs ≡ v ∷ ws) (some : 0 
 -- ---- a level more
 
 pub pairs-shorter : (xs : List ℕ) → 1 < length xs → length (pair_sums xs) < length xs
-pairs-shorter [] h = absurd (omega (arith, h))
-pairs-shorter (x ∷ []) h = absurd (omega (arith, h))
-pairs-shorter (x ∷ y ∷ xs) h = omega (arith, length-pairs xs)
+pairs-shorter h1 h = grind (arith, length-pairs)
 
 pub chain-more : (ls : List (List ℕ)) (xs ys : List ℕ) → ys ≡ pair_sums xs → IsChain (ls ++ xs ∷ []) → IsChain ((ls ++ xs ∷ []) ++ ys ∷ [])
 chain-more [] xs ys e chain = (e, tt)
@@ -206,17 +190,12 @@ half-least less (x ∷ y ∷ xs) (suc zero) lt h = let more : less ≤ x + y = o
 half-least less (x ∷ y ∷ xs) (suc (suc n)) lt h = half-least less xs n (omega (arith, lt)) h
 
 can-up : (less more n : ℕ) (xs ys : List ℕ) → ys ≡ pair_sums xs → CanChange less more n xs → CanChange less more (half n) ys
-can-up less more n xs ys e can =
-    subst (λ (l : List ℕ). CanChange less more (half n) l) (sym e)
-    (half-within xs n can.0, half-least less xs n can.0 can.1, omega (arith, total-pairs xs, can.2))
+can-up less more n xs ys e can = grind (arith, half-within, half-least, total-pairs)
 
 pub changed-tree : (less more : ℕ) (ls : List (List ℕ)) (n : ℕ) → IsTree ls → CanChangeFirst less more n ls → IsTree (changed less more n ls)
 changed-tree less more [] n tree can = tt
 changed-tree less more (xs ∷ []) n tree can = omega (arith, tree, length-set xs n (get_or xs n 0 - less + more))
-changed-tree less more (xs ∷ ys ∷ ls) n tree can = (
-  ap (change_at less more (half n)) tree.0 ∙ change-pairs less more xs n can.0 can.1,
-  changed-tree less more (ys ∷ ls) (half n) tree.1 (can-up less more n xs ys tree.0 can),
-)
+changed-tree less more (xs ∷ ys ∷ ls) n tree can = grind (arith, change-pairs, can-up, (changed-tree less more (ys ∷ ls) (half n) tree.1 (can-up less more n xs ys tree.0 can)))
 
 pub changed-first : (less more : ℕ) (ls : List (List ℕ)) (n : ℕ) → counts_of (changed less more n ls) ≡ change_at less more n (counts_of ls)
 changed-first less more [] n = refl
@@ -290,21 +269,13 @@ first-can less more n (xs ∷ ls) can = can
 
 pub value : (vs : List (Vec ℕ)) (v : Vec ℕ) (n x : ℕ) (now : List ℕ) → counts_of (lists_of vs) ≡ now → n < length now → v ≡ get_or vs 0 v → x ≡ get_or v.items n x
     → (n < length (counts_of (lists_of vs))) × (x ≡ get_or (counts_of (lists_of vs)) n 0)
-value vs v n x now seen h e f = (within, by vs e within) where
-  within : n < length (counts_of (lists_of vs))
-  within = subst (λ (l : List ℕ). n < length l) (sym seen) h
-
-  by : (vs : List (Vec ℕ)) → v ≡ get_or vs 0 v → n < length (counts_of (lists_of vs)) → x ≡ get_or (counts_of (lists_of vs)) n 0
-  by [] e h = absurd (omega (arith, h))
-  by (w ∷ vs) e h = f ∙ ap (λ (u : Vec ℕ). get_or u.items n x) e ∙ get_or_default w.items n x 0 h
+value vs v n x now seen h e f = grind (arith, common_steps, get_or_default)
 
 pub can-take : (xs : List ℕ) (n : ℕ) → IsCounts xs → length xs < 4294967296 → n < length xs → 0 < get_or xs n 0 → CanChange 1 0 n xs
 can-take xs n is few h some = (h, omega (arith, some), omega (arith, few-in-all xs is, few))
 
 pub can-give : (xs : List ℕ) (n : ℕ) → IsCounts xs → length xs < 4294967296 → n < length xs → get_or xs n 0 ≡ 0 → CanChange 0 1 n xs
-can-give xs n is few h none =
-    let full : total (set xs n 1) ≤ length (set xs n 1) = few-in-all (set xs n 1) (set-counts xs n 1 (omega arith) is) in
-    (h, omega arith, omega (arith, full, length-set xs n 1, total-set xs n 1 h, none, few))
+can-give xs n is few h none = grind (arith, set-counts xs n 1 (omega arith) is, few-in-all (set xs n 1) (set-counts xs n 1 (omega arith) is), length-set xs n 1, total-set xs n 1 h)
 
 module _ (less more : ℕ) (ls ms : List (List ℕ)) (n y free free' : ℕ) (changes : ms ≡ changed less more n ls)
     (tree : IsTree ls) (counts : IsCounts (counts_of ls)) (few : length (counts_of ls) < 4294967296) (all : free ≡ total (counts_of ls))
@@ -314,11 +285,4 @@ module _ (less more : ℕ) (ls ms : List (List ℕ)) (n y free free' : ℕ) (cha
   new-counts = ap counts_of changes ∙ changed-first less more ls n ∙ ap (set (counts_of ls) n) gives
 
   pub stays : IsTree ms × IsCounts (counts_of ms) × (length (counts_of ms) < 4294967296) × (free' ≡ total (counts_of ms))
-  stays = (
-    subst (λ (l : List (List ℕ)). IsTree l) (sym changes) (changed-tree less more ls n tree (first-can less more n ls can)),
-    subst (λ (l : List ℕ). IsCounts l) (sym new-counts) (set-counts (counts_of ls) n y one counts),
-    subst (λ (l : List ℕ). length l < 4294967296) (sym new-counts) (omega (arith, length-set (counts_of ls) n y, few)),
-    (let sums : total (set (counts_of ls) n y) + get_or (counts_of ls) n 0 ≡ total (counts_of ls) + y = total-set (counts_of ls) n y can.0 in
-        let now : total (counts_of ms) ≡ total (set (counts_of ls) n y) = ap total new-counts in
-        omega (arith, sums, now, all, gives, frees, can.1)),
-  )
+  stays = grind (arith, first-can, changed-tree, set-counts, length-set, total-set, new-counts)

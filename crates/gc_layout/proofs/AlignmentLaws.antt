@@ -1,14 +1,12 @@
 -- The greatest of 8 and the sizes of fields.
 use Rattle.std.proofs.lemmas.Grind.{common_steps}
-use Rattle.std.proofs.Common.{rules, ◌≡◌, ◌<◌, ◌≤◌, ◌⊎◌, ℕ, zero, suc, List, [], ◌∷◌, length, map, max, refl, arith, ⊎_elim, inl, inr}
+use Rattle.std.proofs.Common.{◌≡◌, ◌<◌, ◌≤◌, ◌⊎◌, ℕ, zero, suc, List, [], ◌∷◌, length, map, max, refl, arith, ⊎_elim, inl, inr}
 use Rattle.std.specs.Prelude.{Contains}
 use Rattle.std.specs.Int.{IsPowerOfTwo}
 use Rattle.std.specs.List.{fold}
 use Rattle.std.proofs.lemmas.Bool.{cases_lt}
 use Rattle.wasm_types.specs.declared.value.WasmValType.{WasmValType}
-use Rattle.wasm_types.specs.declared.value.WasmValType.TheVariants.{I32, I64, F32, F64, V128, Ref}
 use Rattle.wasm_types.specs.declared.field.WasmStorageType.{WasmStorageType}
-use Rattle.wasm_types.specs.declared.field.WasmStorageType.TheVariants.{I8, I16, Val}
 use Rattle.wasm_types.specs.declared.field.WasmFieldType.{WasmFieldType}
 use Rattle.gc_layout.specs.Sizes.{val_size, storage_size, field_size}
 use Rattle.gc_layout.specs.Fields.{fields_align, size_at}

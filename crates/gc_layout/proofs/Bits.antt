@@ -1,6 +1,5 @@
 -- A number that has every bit of another.
-use Rattle.std.proofs.lemmas.Grind.{common_steps}
-use Rattle.std.proofs.Common.{rules, ◌≡◌, ◌∙◌, ◌<◌, ◌*◌, ◌^◌, ◌↔◌, ℕ, min, eqb, ap, sym, arith, ⊎_elim, zero-mul}
+use Rattle.std.proofs.Common.{◌≡◌, ◌∙◌, ◌<◌, ◌↔◌, ℕ, min, eqb, ap, sym, arith, ⊎_elim, zero-mul}
 use Rattle.std.specs.Prelude.{bit_and, IsTrue}
 use Rattle.std.specs.Int.{IsBitSet, bit_at}
 use Rattle.std.proofs.lemmas.Bool.{cases_lt, eqb-true, eq-eqb}

@@ -1,6 +1,5 @@
 -- The offsets of fields, one by one.
-use Rattle.std.proofs.lemmas.Grind.{common_steps}
-use Rattle.std.proofs.Common.{rules, ◌≡◌, ◌∙◌, ◌<◌, ◌≤◌, ◌+◌, ℕ, zero, suc, Bool, List, [], ◌∷◌, length, map, take, refl, ap, sym, arith}
+use Rattle.std.proofs.Common.{◌≡◌, ◌<◌, ◌≤◌, ◌+◌, ℕ, zero, suc, Bool, List, [], ◌∷◌, length, map, take, refl, ap, arith}
 use Rattle.std.proofs.lemmas.List.{take-take}
 use Rattle.std.specs.Int.{next_multiple_of}
 use Rattle.std.specs.List.{scan}

@@ -1,6 +1,6 @@
 -- The kind of a number, as a search through the kinds finds it.
 use Rattle.std.proofs.lemmas.Grind.{common_steps}
-use Rattle.std.proofs.Common.{rules, arith, ◌≡◌, ◌∙◌, ◌↔◌, ℕ, Bool, true, List, [], ◌∷◌, Option, Some, None, option_map, eqb, refl, ap, sym, ⊎_elim}
+use Rattle.std.proofs.Common.{arith, ◌≡◌, ◌∙◌, ◌↔◌, ℕ, Bool, true, List, [], ◌∷◌, Option, Some, None, option_map, eqb, refl, ap, sym, ⊎_elim}
 use Rattle.std.proofs.lemmas.Bool.{eqb-true, cases_Bool}
 use Rattle.std.specs.List.{find}
 use Rattle.gc_layout.specs.declared.kind.VMGcKind.{VMGcKind}

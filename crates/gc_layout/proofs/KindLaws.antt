@@ -1,15 +1,14 @@
 -- The order of the kinds of objects.
 use Rattle.std.proofs.lemmas.Grind.{common_steps}
-use Rattle.std.proofs.Common.{rules, ◌≡◌, ◌∙◌, ◌↔◌, Bool, true, Some, eqb, refl, ap, sym, arith}
+use Rattle.std.proofs.Common.{◌≡◌, ◌∙◌, ◌↔◌, Bool, true, eqb, sym, arith}
 use Rattle.std.specs.Prelude.{bit_and, Contains}
-use Rattle.std.specs.List.{find, list_any}
+use Rattle.std.specs.List.{list_any}
 use Rattle.std.proofs.lemmas.Bool.{eqb-true, eq-eqb}
 use Rattle.std.proofs.lemmas.Bool.Decides.{nat_tests}
 use Rattle.std.specs.Cmp.{IsEquivalence}
 use Rattle.std.proofs.lemmas.Map.Views.{Contains-from_any, list_any-from_Contains}
 use Rattle.std.proofs.lemmas.Nat.{and_comm}
 use Rattle.gc_layout.specs.declared.kind.VMGcKind.{VMGcKind}
-use Rattle.gc_layout.specs.declared.kind.VMGcKind.TheVariants.{ExternRef, AnyRef, EqRef, ArrayRef, StructRef, ExnRef}
 use Rattle.gc_layout.specs.Kinds.{kind_number, MatchesKind, kinds_from}
 use Rattle.gc_layout.proofs.Bits.{matches_by_and, and-from_bits}
 use Rattle.gc_layout.proofs.Found.{all_kinds, has_number, find-number}

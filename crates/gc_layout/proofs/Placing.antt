@@ -1,6 +1,6 @@
 -- Fields that are placed one by one.
 use Rattle.std.proofs.lemmas.Grind.{common_steps}
-use Rattle.std.proofs.Common.{rules, ◌≡◌, ◌∙◌, ◌<◌, ◌≤◌, ◌+◌, ℕ, suc, Bool, List, [], ◌∷◌, ◌++◌, length, map, max, take, drop, refl, ap, sym, get_or, arith, take-append-drop, ⊎_elim}
+use Rattle.std.proofs.Common.{◌≡◌, ◌∙◌, ◌<◌, ◌≤◌, ◌+◌, ℕ, suc, Bool, List, [], ◌∷◌, ◌++◌, length, map, max, take, drop, refl, ap, sym, get_or, arith, take-append-drop, ⊎_elim}
 use Rattle.std.proofs.Math.Seq.{take-suc}
 use Rattle.std.proofs.lemmas.Bool.{cases_lt}
 use Rattle.std.proofs.lemmas.List.{map-append, take_all}
@@ -9,9 +9,7 @@ use Rattle.std.specs.Int.{next_multiple_of}
 use Rattle.std.specs.List.{fold, scan}
 use Rattle.wasm_types.specs.Collected.{storage_is_object}
 use Rattle.wasm_types.specs.declared.value.WasmValType.{WasmValType}
-use Rattle.wasm_types.specs.declared.value.WasmValType.TheVariants.{I32, I64, F32, F64, V128, Ref}
 use Rattle.wasm_types.specs.declared.field.WasmStorageType.{WasmStorageType}
-use Rattle.wasm_types.specs.declared.field.WasmStorageType.TheVariants.{I8, I16, Val}
 use Rattle.wasm_types.specs.declared.field.WasmFieldType.{WasmFieldType}
 use Rattle.gc_layout.specs.declared.fields.GcStructLayoutField.{GcStructLayoutField}
 use Rattle.gc_layout.specs.Sizes.{val_size, storage_size, field_size}

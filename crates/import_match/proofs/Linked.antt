@@ -1,5 +1,5 @@
 -- What a module exports and imports, item by item.
-use Rattle.std.proofs.Common.{◌≡◌, ◌<◌, ℕ, zero, suc, List, [], ◌∷◌, length, slice_get, All, Option, Some, None, refl, sym, ap, subst, ◌∙◌, arith, eq-eqb}
+use Rattle.std.proofs.Common.{◌≡◌, ℕ, List, length, slice_get, All, Option, Some, None, refl, sym, ap, ◌∙◌, eq-eqb}
 use Rattle.std.specs.Prelude.{IsSome, is_some, option_and_then}
 use Rattle.std.specs.List.{IsDistinct}
 use Rattle.std.specs.Borrow.{Bor}
@@ -104,11 +104,6 @@ Import = List ℕ × List ℕ × EntityType
 
 abbrev pub want_of : Import → Definition
 want_of i = ((i.0, i.1), i.2)
-
-within-some : {X : Type 0} (xs : List X) (k : ℕ) → k < length xs → IsSome (slice_get xs k)
-within-some [] k less = absurd (omega (arith, less))
-within-some (x ∷ xs) zero less = refl
-within-some (x ∷ xs) (suc k) less = within-some xs k (omega (arith, less))
 
 module _ (m : ModuleRecord) (all : All (IsResolved m) m.initializers) where
   some : All (λ x. IsSome (import_of m x)) m.initializers

@@ -1,17 +1,13 @@
 -- Where images are off, every segment is kept.
 use Rattle.std.proofs.Common.{◌≡◌, ℕ, ◌≤◌, false, List, [], ◌++◌, length, map, sum_by, None, inr, refl, sym, ◌∙◌}
-use Rattle.std.proofs.Math.Logic.{⊎_elim}
 use Rattle.std.proofs.lemmas.Bool.{false≢true}
 use Rattle.replay_spec.specs.Data.{ActiveSegment}
 use Rattle.replay_spec.specs.Plan.{MemoryPlan, planned_from}
-use Rattle.replay_spec.specs.Images.{ImageOptions, ImageMemory, size_of, IsStatic, PlansImages, PlansSegments, IsMemoryPlan}
+use Rattle.replay_spec.specs.Images.{ImageOptions, ImageMemory, size_of, IsStatic, IsMemoryPlan}
 
 module _ (options : ImageOptions) (imports : ℕ) (memories : List ImageMemory) (active : List ActiveSegment) (passive : List (List ℕ)) (off : options.enabled ≡ false) where
   pub not_static : IsStatic options imports memories active → ⊥
   not_static h = false≢true (sym off ∙ h.enabled)
-
-  pub segments_alone : (plan : MemoryPlan) → IsMemoryPlan options imports memories active passive plan → PlansSegments options imports memories active passive plan
-  segments_alone plan h = ⊎_elim (λ (images : PlansImages options imports memories active passive plan). absurd (not_static images.static)) (λ s. s) h.segments
 
   -- what every plan's runtime data pass, those of the segments pass
   pub too_many : (n : ℕ) → ((plan : MemoryPlan) → IsMemoryPlan options imports memories active passive plan → n ≤ sum_by length plan.runtime)

@@ -11,8 +11,6 @@ use Rattle.wasm_index.specs.declared.spaces.MemorySpace.{MemorySpace}
 use Rattle.wasm_index.specs.declared.spaces.RuntimeDataSpace.{RuntimeDataSpace}
 use Rattle.wasm_index.specs.Index.{number_of}
 use Rattle.wasm_module.specs.declared.startup.ModuleStartup.{ModuleStartup}
-use Rattle.wasm_module.specs.declared.startup.ModuleStartup.TheVariants as startup
-use Rattle.module_types.specs.Builder.{Builder}
 use Rattle.replay_spec.specs.Data.{ActiveSegment}
 use Rattle.replay_spec.specs.Images.{ImageOptions, ImageMemory}
 use Rattle.replay_spec.specs.Plan.{MemoryPlan, PlannedSegment, left_to_write}
@@ -22,7 +20,7 @@ use Rattle.init_plan.specs.declared.translation.ModuleTranslation.{ModuleTransla
 use Rattle.init_plan.specs.declared.translation.MemorySegmentOffset.{MemorySegmentOffset}
 use Rattle.init_plan.specs.declared.translation.MemorySegmentOffset.TheVariants as offset
 use Rattle.init_plan.specs.Images.{HasTightImages}
-use Rattle.init_plan.specs.Startup.{startup_kind, raised, types_after, with_startup}
+use Rattle.init_plan.specs.Startup.{with_startup}
 use Rattle.init_plan.specs.Views.{IsPlace, planned_segment_of, OnlyMemoriesChange, OnlyMemoryInitChanges}
 
 abbrev Segment : Type 0
@@ -77,21 +75,6 @@ nones images false h = over (list_all is_none (seen images)) refl where
   over : (x : Bool) → list_all is_none (seen images) ≡ x → false ≡ list_all is_none (seen images)
   over false e = sym e
   over true e = absurd (false≢true (h.1 (seen-none images e)))
-
--- ---- startup
-
-pub raised-same : (s : ModuleStartup) (b : Builder) → raised (startup_kind s) s b ≡ s
-raised-same startup.None b = refl
-raised-same (startup.Always ty) b = refl
-raised-same (startup.IfMemoriesNeedInit ty) b = refl
-
-pub types-same : (s : ModuleStartup) (b : Builder) → types_after (startup_kind s) s b ≡ b
-types-same startup.None b = refl
-types-same (startup.Always ty) b = refl
-types-same (startup.IfMemoriesNeedInit ty) b = refl
-
-pub startup-stays : (t : ModuleTranslation) (b : Builder) → t ≡ with_startup t (raised (startup_kind t.module.startup) t.module.startup b)
-startup-stays t b = sym (ap (with_startup t) (raised-same t.module.startup b))
 
 -- ---- frames and images
 

@@ -1,9 +1,9 @@
 -- What is kept of tables, and startup that it raises.
-use Rattle.std.proofs.Common.{◌≡◌, ℕ, ◌<◌, Bool, true, false, List, [], ◌∷◌, length, map, All, Option, None, Some, refl, sym, ◌∙◌, ap, arith}
+use Rattle.std.proofs.Common.{◌≡◌, ℕ, Bool, true, false, List, [], ◌∷◌, length, map, All, Option, None, refl, sym, ◌∙◌, ap, arith}
 use Rattle.std.specs.Prelude.{◌&&◌, ◌==◌, IsTrue, if◌then◌else◌}
 use Rattle.std.specs.List.{filter_map}
 use Rattle.std.proofs.lemmas.Bool.{false≢true, eq-eqb, ne_eqb}
-use Rattle.std.proofs.lemmas.List.Elements.{All-nil, All-cons, All-head, All-tail, All-weaker}
+use Rattle.std.proofs.lemmas.List.Elements.{All-nil, All-cons, All-head, All-tail}
 use Rattle.wasm_types.specs.declared.table.Table.{Table}
 use Rattle.wasm_convert.specs.Constants.{expression_of}
 use Rattle.wasm_module.specs.declared.startup.ModuleStartup.{ModuleStartup}
@@ -12,14 +12,11 @@ use Rattle.wasm_module.specs.declared.table_initialization.TableInitialValue.{Ta
 use Rattle.wasm_module.specs.declared.table_initialization.TableInitialValue.TheVariants as initial
 use Rattle.wasm_module.specs.declared.table_initialization.TableSegment.{TableSegment}
 use Rattle.module_types.specs.Builder.{Builder}
-use Rattle.replay_spec.specs.Elements.{DefinedTable}
 use Rattle.replay_spec.specs.Startup.{Startup, Always, is_empty, keeps_no_table, raised_by_tables}
-use Rattle.replay_spec.specs.Tables.{initial_function, PlannedTable, TablePlan}
-use Rattle.table_images.specs.Steps.{IsCell, TablesHoldFunctions}
+use Rattle.replay_spec.specs.Tables.{PlannedTable, TablePlan}
 use Rattle.table_images.specs.Views.{active_elements_of, initial_of, planned_tables_of, table_plan_of}
 use Rattle.init_plan.specs.declared.translation.ModuleTranslation.{ModuleTranslation}
 use Rattle.init_plan.specs.Startup.{startup_kind, raised, types_after, with_startup}
-use Rattle.init_plan.specs.Tables.{IsAmong}
 
 -- ---- what is kept
 
@@ -84,17 +81,7 @@ startup-stays t plan b e = sym (ap (λ k. with_startup t (raised k t.module.star
 pub types-stay : (s : ModuleStartup) (plan : TablePlan) (b : Builder) → keeps_no_table plan ≡ true → b ≡ types_after (raised_by_tables plan (startup_kind s)) s b
 types-stay s plan b e = sym (ap (λ k. types_after k s b) (kind-kept plan (startup_kind s) e) ∙ types-same s b)
 
--- ---- frames
-
 -- ---- functions
-
-pub cells-hold : (n : ℕ) → n < 4294967295 → (cell : Option ℕ) → IsAmong n cell → IsCell cell
-cells-hold n l None h = h
-cells-hold n l (Some k) h = omega arith
-
-pub tables-hold : (n : ℕ) (tables : List DefinedTable) → n < 4294967295 → All (λ (d : DefinedTable). IsAmong n (initial_function d.initial)) tables → TablesHoldFunctions tables
-tables-hold n tables l h = All-weaker (λ (d : DefinedTable). IsAmong n (initial_function d.initial)) (λ (d : DefinedTable). IsCell (initial_function d.initial))
-    (λ d among. cells-hold n l (initial_function d.initial) among) tables h
 
 pub empty-by_length : (xs : List TableSegment) (n : ℕ) (b : Bool) → n ≡ length xs → b ≡ (n == 0) → b ≡ is_empty xs
 empty-by_length [] n b e h = h ∙ eq-eqb n 0 e

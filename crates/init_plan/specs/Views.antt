@@ -1,5 +1,5 @@
 -- A translation, as the plain values of the definitions.
-use Rattle.std.specs.Prelude.{◌≡◌, ℕ, ◌+◌, ◌-◌, nat_eq, false, List, [], ◌∷◌, length, map, drop, slice_get, sum_by, Option, None, Some}
+use Rattle.std.specs.Prelude.{◌≡◌, ℕ, ◌+◌, nat_eq, false, List, [], ◌∷◌, length, map, drop, slice_get, sum_by, Option, None, Some}
 use Rattle.std.specs.Option.{option_map}
 use Rattle.std.specs.Map.{lookup}
 use Rattle.std.specs.Borrow.{Bor}
@@ -72,9 +72,6 @@ hint_entries_of t = map (λ e. (number_of e.0, e.1.items)) t.private_parts.branc
 -- the branch hints of a function
 abbrev pub hints_of : ModuleTranslation → ℕ → Option (List BranchHint)
 hints_of t function = option_map (λ hints. hints.items) (lookup (λ index. nat_eq function (number_of index)) t.private_parts.branch_hints.entries)
-
-abbrev pub active_bytes : ModuleTranslation → List (List ℕ)
-active_bytes t = map (λ s. s.bytes) (initializers_of t)
 
 abbrev pub passive_bytes : ModuleTranslation → List (List ℕ)
 passive_bytes t = map (λ p. p.1) (passive_data_of t)

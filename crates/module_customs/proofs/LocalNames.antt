@@ -21,13 +21,6 @@ locals-others : (before : Entries) (f : ℕ) (names : List (ℕ × List ℕ)) (n
 locals-others before f names n ne = locals-push before f names n
     ∙ ap (λ b. local_names before n ++ cond b names []) (ne_eqb f n ne) ∙ append-nil (local_names before n)
 
--- an entry without a name changes nothing
-pub no-locals : (before : Entries) (f n : ℕ) → local_names (before ++ (f, []) ∷ []) n ≡ local_names before n
-no-locals before f n = locals-push before f [] n ∙ by (eqb f n) where
-  by : (b : Bool) → local_names before n ++ cond b [] [] ≡ local_names before n
-  by true = append-nil (local_names before n)
-  by false = append-nil (local_names before n)
-
 -- a function's entry is replaced
 pub locals-kept : (before : Entries) (f : ℕ) (names : List (ℕ × List ℕ)) (old new : ℕ → Option (BTreeMap ℕ Text)) (kept : BTreeMap ℕ Text)
     → 0 < length names → HasLast (local_names before f ++ names) (at_number (λ n. n) kept)

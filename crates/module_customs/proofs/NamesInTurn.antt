@@ -51,10 +51,6 @@ after-push locals before (q ∷ ps) p =
     ∙ ap (λ (qs : List plain.Payload). joined first (joined rest (names_behind locals qs p))) (append_assoc before (q ∷ []) ps)
     ∙ joined-assoc first rest (names_behind locals (before ++ q ∷ ps) p)
 
--- where a section says nothing of names, the same are kept
-pub nothing-more : (names : NameLists) (kept : NameSection) → KeepsNames names kept → KeepsNames (joined names no_names) kept
-nothing-more names kept had = subst (λ (n : NameLists). KeepsNames n kept) (sym (joined-none names)) had
-
 -- ---- functions that are declared
 
 functions-append : (ps qs : List plain.Payload)

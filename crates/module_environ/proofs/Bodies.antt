@@ -1,6 +1,6 @@
 -- Function bodies and their place, taken one part after another.
-use Rattle.std.proofs.Common.{◌≡◌, ◌∙◌, ℕ, ◌+◌, ◌≤◌, List, [], ◌∷◌, ◌++◌, length, map, Option, None, Some, refl, sym, ap, arith}
-use Rattle.std.specs.Prelude.{slice_get, unwrap_or}
+use Rattle.std.proofs.Common.{◌≡◌, ◌∙◌, ℕ, ◌+◌, ◌≤◌, List, ◌∷◌, ◌++◌, length, map, Option, None, Some, refl, sym, ap, arith}
+use Rattle.std.specs.Prelude.{slice_get}
 use Rattle.std.specs.Option.{option_or, option_to_list}
 use Rattle.std.specs.List.{flat_map}
 use Rattle.std.proofs.lemmas.List.{length-append, length-map}
@@ -8,7 +8,6 @@ use Rattle.std.proofs.lemmas.List.Concat.{flat_map-append}
 use Rattle.wasm_spec.specs.Module.{Payload}
 use Rattle.form_reader.specs.declared.input.InputPart.{InputPart}
 use Rattle.form_reader.specs.Input.{sections_of_part}
-use Rattle.module_environ.specs.Translation.{first_or_zero}
 
 -- what the next part gives, and those after it
 pub next-part : {A : Type 0} (f : Payload → List A) (left : List InputPart) (p : InputPart) (rest : List InputPart) → left ≡ p ∷ rest
@@ -21,12 +20,6 @@ pub first-more : (before here : Option ℕ) (xs ys : List ℕ) → option_to_lis
     → slice_get (option_to_list (option_or before here) ++ ys) 0 ≡ slice_get (option_to_list before ++ (xs ++ ys)) 0
 first-more None here xs ys e = ap (λ (l : List ℕ). slice_get (l ++ ys) 0) e
 first-more (Some x) here xs ys e = refl
-
-pub first-is : (place : Option ℕ) (xs : List ℕ) → slice_get (option_to_list place ++ []) 0 ≡ slice_get xs 0 → unwrap_or place 0 ≡ first_or_zero xs
-first-is None [] e = refl
-first-is None (x ∷ xs) e = absurd cc
-first-is (Some p) [] e = absurd cc
-first-is (Some p) (x ∷ xs) e = cc
 
 -- there is room for some more of the bodies
 pub bodies-few : {A B : Type 0} (view : A → B) (taken : List A) (here rest all : List B) → map view taken ++ (here ++ rest) ≡ all

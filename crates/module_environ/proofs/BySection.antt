@@ -1,14 +1,9 @@
 -- The lists of a module, one section after another.
-use Rattle.std.proofs.Common.{◌≡◌, ◌∙◌, append_assoc, ℕ, ◌+◌, ◌<◌, ◌≤◌, suc, List, [], ◌∷◌, ◌++◌, length, map, take, drop, get_or, sym, ap, subst, arith, drop-cons}
+use Rattle.std.proofs.Common.{◌≡◌, ◌∙◌, ℕ, ◌+◌, ◌<◌, List, [], ◌∷◌, ◌++◌, length, map, take, get_or, sym, ap, subst, arith, append_assoc}
 use Rattle.std.specs.Prelude.{All}
 use Rattle.std.specs.List.{flat_map}
-use Rattle.std.proofs.lemmas.List.{append-nil, length-append, length-map, map-append, map_more, map_push, take_more, take-append-drop, get_or-map}
+use Rattle.std.proofs.lemmas.List.{append-nil, length-map, map_more, map_push, take_more, get_or-map}
 use Rattle.std.proofs.lemmas.List.Concat.{flat_map-append}
-
--- a list is what stands before an item, the item and what stands after it
-split : {X : Type 0} (xs : List X) (i : ℕ) (x : X) → i < length xs → x ≡ get_or xs i x → xs ≡ take i xs ++ (x ∷ drop (suc i) xs)
-split {X} xs i x lt is = sym (take-append-drop i xs)
-    ∙ ap (λ (ys : List X). take i xs ++ ys) (drop-cons xs i x lt ∙ ap (λ (y : X). y ∷ drop (suc i) xs) (sym is))
 
 -- what is true of each item as it is seen
 pub at-item : {X Y : Type 0} (P : Y → Type 0) (view : X → Y) (xs : List X) (i : ℕ) (x : X) → i < length xs → x ≡ get_or xs i x
@@ -43,16 +38,3 @@ pub section-more : {X Y A : Type 0} (f : Y → List A) (view : X → Y) (xs : Li
 section-more {X} f view xs i x lt is =
     ap (λ (l : List X). flat_map f (map view l)) (take_more xs i x lt ∙ ap (λ (y : X). take i xs ++ y ∷ []) (sym is))
     ∙ section-push f view (take i xs) x
-
--- what sections give, of which one is looked at
-module _ {X Y A : Type 0} (f : Y → List A) (view : X → Y) (xs : List X) (i : ℕ) (x : X) (lt : i < length xs) (is : x ≡ get_or xs i x) where
-  parts : flat_map f (map view xs) ≡ flat_map f (map view (take i xs)) ++ (f (view x) ++ flat_map f (map view (drop (suc i) xs)))
-  parts = ap (λ (l : List X). flat_map f (map view l)) (split xs i x lt is)
-      ∙ ap (flat_map f) (map-append view (take i xs) (x ∷ drop (suc i) xs))
-      ∙ flat_map-append f (map view (take i xs)) (view x ∷ map view (drop (suc i) xs))
-
-  pub section-few : length (flat_map f (map view (take i xs))) + length (f (view x)) ≤ length (flat_map f (map view xs))
-  section-few =
-      let before = flat_map f (map view (take i xs)) in
-      let after = flat_map f (map view (drop (suc i) xs)) in
-      omega (arith, ap length parts, length-append before (f (view x) ++ after), length-append (f (view x)) after)

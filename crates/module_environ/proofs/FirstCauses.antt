@@ -7,7 +7,7 @@ use Rattle.std.proofs.lemmas.List.Elements.{All-push, All-weaker}
 use Rattle.std.proofs.lemmas.List.Folds.{list_any_at}
 use Rattle.std.proofs.lemmas.List.Quantifiers.{all_pairs_push}
 use Rattle.std.proofs.lemmas.List.Sums.{position_or_len_is, passes_at_first}
-use Rattle.module_environ.specs.Firsts.{firsts_after, firsts}
+use Rattle.type_spec.specs.Firsts.{firsts_after, firsts}
 use Rattle.module_environ.specs.Numbers.{StandOnce}
 use Rattle.module_environ.proofs.Numbering.{place, place-le, place-new, place-old, place-other, unmet-place}
 
@@ -97,7 +97,7 @@ firsts-are ns listed (n ∷ rest) h =
     by : (c : Bool) → list_any (λ k. k == n) listed ≡ c
         → (AreFirsts (ns ++ n ∷ []) listed → AreFirsts ((ns ++ n ∷ []) ++ rest) (firsts_after listed rest))
         → (AreFirsts (ns ++ n ∷ []) (listed ++ n ∷ []) → AreFirsts ((ns ++ n ∷ []) ++ rest) (firsts_after (listed ++ n ∷ []) rest))
-        → AreFirsts ((ns ++ n ∷ []) ++ rest) (if c then firsts_after listed rest else firsts_after (listed ++ n ∷ []) rest)
+        → AreFirsts ((ns ++ n ∷ []) ++ rest) (firsts_after (if c then listed else listed ++ n ∷ []) rest)
     by true e old new = old (known-again ns listed n h (met-any listed n e))
     by false e old new = new (listed-new ns listed n h (unmet-any listed n e))
 

@@ -3,23 +3,15 @@ use Rattle.std.proofs.Common.{◌≡◌, ℕ, ◌+◌, ◌<◌, Bool, true, fals
 use Rattle.std.specs.Prelude.{◌==◌, if◌then◌else◌}
 use Rattle.std.specs.List.{list_any, range_with_len}
 use Rattle.std.proofs.lemmas.List.{take_more, length-set, map-append, map-id}
+use Rattle.std.proofs.lemmas.List.Sums.{fold-append}
 use Rattle.std.proofs.lemmas.List.FromFn.{map-range_with_len_more}
-use Rattle.module_environ.specs.Firsts.{firsts_after}
+use Rattle.type_spec.specs.Firsts.{with_first, firsts_after}
 use Rattle.module_environ.specs.EscapeLog.{EscapeLog, after_escapes}
 use Rattle.module_environ.specs.Numbers.{AreNumbers}
 use Rattle.module_environ.proofs.Numbering.{after_escapes-new, after_escapes-old}
 
 pub firsts-append : (known xs ys : List ℕ) → firsts_after (firsts_after known xs) ys ≡ firsts_after known (xs ++ ys)
-firsts-append known [] ys = refl
-firsts-append known (x ∷ xs) ys =
-    by (list_any (λ k. k == x) known) (firsts-append known xs ys) (firsts-append (known ++ x ∷ []) xs ys)
-  where
-    by : (c : Bool) → firsts_after (firsts_after known xs) ys ≡ firsts_after known (xs ++ ys)
-        → firsts_after (firsts_after (known ++ x ∷ []) xs) ys ≡ firsts_after (known ++ x ∷ []) (xs ++ ys)
-        → firsts_after (if c then firsts_after known xs else firsts_after (known ++ x ∷ []) xs) ys
-        ≡ (if c then firsts_after known (xs ++ ys) else firsts_after (known ++ x ∷ []) (xs ++ ys))
-    by true old new = old
-    by false old new = new
+firsts-append known xs ys = sym (fold-append (with_first (λ k n. k == n)) known xs ys)
 
 pub after_escapes-append : (s : EscapeLog) (xs ys : List ℕ) → after_escapes (after_escapes s xs) ys ≡ after_escapes s (xs ++ ys)
 after_escapes-append s xs ys = λ i. record { count = s.count; order = firsts-append s.order xs ys i }

@@ -18,13 +18,12 @@ use Rattle.module_types.specs.Builder.{Builder, is_function, noted, exception_in
 use Rattle.module_types.proofs.GroupMembers.{composite-before}
 use Rattle.module_environ.specs.Types.{interned_at, type_index, declared_type, exception_at, interned_list}
 use Rattle.module_environ.specs.Environment.{interned_in, number_or_zero}
-use Rattle.module_environ.specs.Entities.{tags_of}
-use Rattle.module_environ.specs.Firsts.{firsts}
+use Rattle.type_spec.specs.Firsts.{firsts}
 use Rattle.module_environ.specs.OnTheWay.{after_tags}
 use Rattle.module_environ.specs.Tagged.{CanTag, GainsExceptions, function_at, tag_at}
 use Rattle.module_environ.proofs.DeclaredKinds.{declared-kind, function-is, function-below, function-declared}
 use Rattle.module_environ.proofs.DeclaredLooks.{declared-long, declared-held, listed-long, listed-at}
-use Rattle.module_environ.proofs.Excepting.{Excepts, excepts-none, excepts-next, index-is}
+use Rattle.module_environ.proofs.Excepting.{Excepts, excepts-none, excepts-next, index-is, long, more, types-are, firsts-few}
 
 -- a builder with one more exception type is otherwise the same
 gains-by : (old b : Builder) (n : ℕ) (o : Option ℕ) → GainsExceptions old b → GainsExceptions old (excepts_by b n o)
@@ -62,8 +61,11 @@ module _ (m : plain.Module) where
     }
 
     module _ (b : Builder) (k : ℕ) (out : List Tag) (x : IsTagging tags old b k out) where
-      pub sound : b.is_poisoned ≡ false
-      sound = ap (λ (c : Builder). c.is_poisoned) x.gains ∙ ap (λ (c : Builder). c.is_poisoned) can.alone
+      abbrev start : Built
+      start = (taken (placed_groups m)).built
+
+      abbrev so_far : List ℕ
+      so_far = map (interned_at m) (take k tags)
 
       taken-long : length (map (interned_at m) (take k tags)) ≤ k
       taken-long = omega (arith, length-map (take k tags) (interned_at m), length-take k tags)
@@ -75,10 +77,8 @@ module _ (m : plain.Module) where
       types-few =
           omega (
             arith,
-            ap length x.asked.types,
-            length-append (taken (placed_groups m)).built.types x.asked.more,
-            x.asked.counted,
-            x.asked.short,
+            long start so_far b x.asked,
+            firsts-few so_far [],
             taken-long,
             ap (λ (c : Built). length c.types) can.built,
           )
@@ -119,13 +119,13 @@ module _ (m : plain.Module) where
         held-n : n < length b.built.types
         held-n =
             omega
-            (arith, held-first, ap length x.asked.types, length-append (taken (placed_groups m)).built.types x.asked.more)
+            (arith, held-first, long start so_far b x.asked)
 
         called-n : IsTrue (is_function (composite_at b.built.types n))
         called-n =
             function-is (composite_at b.built.types n)
-            (ap (λ l. kind_of_type (composite_at l n)) x.asked.types
-            ∙ ap (λ c. kind_of_type c) (composite-before (taken (placed_groups m)).built.types x.asked.more n held-first)
+            (ap (λ l. kind_of_type (composite_at l n)) (types-are start so_far b x.asked)
+            ∙ ap (λ c. kind_of_type c) (composite-before start.types (more start so_far b x.asked) n held-first)
             ∙ declared-kind (placed_groups m) can.earlier i (omega (arith, inside, declared-long m can.earlier))
             ∙ function-declared m i function)
 
@@ -141,24 +141,21 @@ module _ (m : plain.Module) where
 
         exception-is : exception_index b n ≡ exception_at m i
         exception-is =
-            let so_far = map (interned_at m) (take k tags) in
             let is = map (interned_at m) (drop (suc k) tags) in
             let all : map (interned_at m) (plain.tags m) ≡ so_far ++ n ∷ is = ap (map (interned_at m)) (sym can.named ∙ around tags k lt)
             ∙ map-append (interned_at m) (take k tags) (i ∷ drop (suc k) tags) in
-            index-is (taken (placed_groups m)).built so_far b x.asked n is
-            ∙ ap (λ l. length (taken (placed_groups m)).built.types + unwrap_or (position (λ k. k == n) (firsts l)) 0) (sym all)
+            index-is start so_far b x.asked n is
+            ∙ ap (λ l. length start.types + unwrap_or (position (λ k. k == n) (firsts l)) 0) (sym all)
 
         pub tagging-next : (c : Builder) (tag : Tag) → c ≡ excepts b (function_at types i) → tag ≡ tag_at b (function_at types i)
             → IsTagging tags old c (k + 1) (out ++ tag ∷ [])
         tagging-next c tag made' is' =
             let made : c ≡ excepts b n = made' ∙ ap (excepts b) function-at in
             let is : tag ≡ tag_at b n = is' ∙ ap (tag_at b) function-at in
-            let start = (taken (placed_groups m)).built in
             let more = take_more tags k 0 lt in
             record {
               asked = subst (λ l. Excepts start l c) (sym (ap (map (interned_at m)) more ∙ map-append (interned_at m) (take k tags) (i ∷ [])))
-                  (subst (Excepts start (map (interned_at m) (take k tags) ++ n ∷ [])) (sym made)
-                  (excepts-next start (map (interned_at m) (take k tags)) b x.asked n));
+                  (subst (Excepts start (so_far ++ n ∷ [])) (sym made) (excepts-next start so_far b x.asked n));
               listed = (λ j. x.listed j ++ (is ∙ ap (λ e. record { signature = type_index n; exception = type_index e }) exception-is) j ∷ [])
                   ∙ sym (map-append tag_in (take k tags) (i ∷ [])) ∙ ap (map tag_in) (sym more);
               gains = subst (GainsExceptions old) (sym made) (gains-by old b n (b.exceptions n) x.gains);
@@ -169,12 +166,6 @@ module _ (m : plain.Module) where
     -- ---- all were converted
 
     module _ (b : Builder) (out : List Tag) (x : IsTagging tags old b (length tags) out) where
-      pub tagged : out ≡ tags_of m
-      tagged = x.listed ∙ ap (map tag_in) (take-length tags ∙ can.named)
-
       pub built-all : b.built ≡ interned_list m false
-      built-all =
-          let start = (taken (placed_groups m)).built in
-          sym (x.asked.rest [])
-          ∙ ap (with_exceptions start []) (append-nil (map (interned_at m) (take (length tags) tags))
-          ∙ ap (map (interned_at m)) (take-length tags ∙ can.named))
+      built-all = x.asked.built
+          ∙ ap (with_exceptions (taken (placed_groups m)).built) (ap (map (interned_at m)) (take-length tags ∙ can.named))

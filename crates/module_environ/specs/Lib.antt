@@ -1,7 +1,6 @@
 pub mod Errors
 pub mod Environment
 pub mod Tagged
-pub mod Firsts
 pub mod Types
 pub mod Escapes
 pub mod EscapeLog

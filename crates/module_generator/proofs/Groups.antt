@@ -19,9 +19,6 @@ pub record Spelled (bytes : List ℕ) (top rest : ℕ) (whole : List ℕ) : Type
   pub within : rest < 64 * 128 ^ more
   pub becomes : bytes ++ groups top more rest ≡ whole
 
-pub spelled-first : (bytes : List ℕ) (top n : ℕ) → n < 2 ^ 64 → Spelled bytes top n (bytes ++ groups top 9 n)
-spelled-first bytes top n fits = record { more = 9; within = omega arith; becomes = refl }
-
 step : (bytes whole : List ℕ) (top rest byte more : ℕ) → 64 ≤ top → top ≤ rest → byte ≡ rest % 128 + 128 → rest < 64 * 128 ^ more
     → bytes ++ groups top more rest ≡ whole → Spelled (bytes ++ byte ∷ []) top (rest / 128) whole
 step bytes whole top rest byte zero low longer is within becomes = absurd (omega arith)

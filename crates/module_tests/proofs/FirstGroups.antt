@@ -7,7 +7,7 @@ use Rattle.std.proofs.lemmas.List.Elements.{All-weaker}
 use Rattle.wasm_spec.specs.declared.types.UnpackedIndex.{UnpackedIndex}
 use Rattle.wasm_spec.specs.declared.types.UnpackedIndex.TheVariants as index
 use Rattle.wasm_spec.specs.TypeData.{group_edges}
-use Rattle.type_spec.specs.Interned.{Interned, Built, with_group}
+use Rattle.type_spec.specs.Interned.{Interned}
 use Rattle.form_types.specs.Types.{NamedGroup, TypesData, types_by_id, group_numbers, IsIdBelow, IsSound}
 use Rattle.form_types.specs.Numbered.{first_id}
 use Rattle.module_types.specs.Builder.{Builder, new_builder, interns_by, interns}

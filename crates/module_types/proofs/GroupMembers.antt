@@ -1,18 +1,18 @@
 -- Groups and the steps that follow them: what each step keeps, all keep, and so does a whole list.
 use Rattle.std.proofs.Common.{◌≡◌, ◌≤◌, ◌<◌, ℕ, zero, suc, ◌+◌, List, [], ◌∷◌, ◌++◌, length, set, drop, Bool, true, false, Option, Some, None, refl, sym, ap, ◌∙◌, arith, get_or, take, ◌-◌, map}
-use Rattle.std.specs.Prelude.{if◌then◌else◌}
+use Rattle.std.specs.Prelude.{◌==◌, if◌then◌else◌}
 use Rattle.std.proofs.lemmas.List.{append_assoc, append-nil, length-append, get_or_at, get_or_append_left, drop_at, take_at}
 use Rattle.wasm_spec.specs.TypeData.{Composite, Func, Group}
 use Rattle.type_data.specs.Names.{Named}
-use Rattle.type_spec.specs.Interned.{Interned, Called, Built, Span, mapped, same_mapped, plain, alone, now_known, knows, with_trampoline, assign_at, assign_trampoline, assign_trampolines, composite_at, opened, with_group, next_span, exception_for, startup_type, with_exception, with_startup, Taking, empty, is_among, with_exceptions, numbered, interned_group, take_group, none_taken, taken, interned}
+use Rattle.type_spec.specs.Interned.{Interned, Called, Built, Span, mapped, same_mapped, plain, alone, now_known, knows, with_trampoline, assign_at, assign_trampoline, assign_trampolines, composite_at, opened, with_group, next_span, exception_for, startup_type, with_exception, with_startup, Taking, empty, with_exceptions, numbered, interned_group, take_group, none_taken, taken, interned}
 use Rattle.type_spec.specs.Equality.{Home}
-use Rattle.type_spec.specs.Firsts.{taken_groups}
+use Rattle.type_spec.specs.Firsts.{firsts, firsts_after, taken_groups}
 use Rattle.module_types.specs.Orderly.{IsOrderly, LieBetween}
 use Rattle.module_types.specs.Conversion.{no_span}
 use Rattle.module_types.specs.ListGroups.{types_in}
 use Rattle.module_types.specs.Runs.{with_groups}
-use Rattle.std.specs.List.{All, fold}
-use Rattle.std.proofs.lemmas.List.Elements.{All-nil, All-cons, All-head, All-tail}
+use Rattle.std.specs.List.{All, fold, list_any}
+use Rattle.std.proofs.lemmas.List.Elements.{All-nil, All-cons, All-head, All-tail, All-push}
 
 -- ---- spans one after another
 
@@ -267,13 +267,17 @@ all-each Q number each (x ∷ xs) = All-cons Q (number x) (map number xs) (each 
 
 module _ (P : Built → Type 0) (Q : ℕ → Type 0) (exception : (b : Built) (i : ℕ) → Q i → P b → P (with_exception b i))
     (last : (b : Built) → P b → P (alone b startup_type None)) where
-  through-exceptions : (is : List ℕ) (b : Built) (done : List ℕ) → All Q is → P b → P (with_exceptions b done is)
-  through-exceptions [] b done all p = p
-  through-exceptions (i ∷ is) b done all p = by (through-exceptions is) (is_among i done) where
-    by : ((c : Built) (done' : List ℕ) → All Q is → P c → P (with_exceptions c done' is))
-        → (there : Bool) → P (if there then with_exceptions b done is else with_exceptions (with_exception b i) (i ∷ done) is)
-    by rest true = rest b done (All-tail Q i is all) p
-    by rest false = rest (with_exception b i) (i ∷ done) (All-tail Q i is all) (exception b i (All-head Q i is all) p)
+  all-firsts : (is known : List ℕ) → All Q is → All Q known → All Q (firsts_after known is)
+  all-firsts [] known all old = old
+  all-firsts (i ∷ is) known all old = by (list_any (λ k. k == i) known) (all-firsts is) where
+    by : (there : Bool) → ((ks : List ℕ) → All Q is → All Q ks → All Q (firsts_after ks is))
+        → All Q (firsts_after (if there then known else known ++ i ∷ []) is)
+    by true rest = rest known (All-tail Q i is all) old
+    by false rest = rest (known ++ i ∷ []) (All-tail Q i is all) (All-push Q known i old (All-head Q i is all))
+
+  through-exceptions : (is : List ℕ) (b : Built) → All Q is → P b → P (fold with_exception b is)
+  through-exceptions [] b all p = p
+  through-exceptions (i ∷ is) b all p = through-exceptions is (with_exception b i) (All-tail Q i is all) (exception b i (All-head Q i is all) p)
 
   through-startup : (b : Built) (startup : Bool) → P b → P (with_startup b startup)
   through-startup b false p = p
@@ -283,8 +287,8 @@ module _ (P : Built → Type 0) (Q : ℕ → Type 0) (exception : (b : Built) (i
       → P (interned ms tags startup)
   through-interned ms tags startup each p =
       let number : ℕ → ℕ = λ i. get_or (taken ms).declared i 0 in
-      through-startup (with_exceptions (taken ms).built [] (map number tags)) startup
-      (through-exceptions (map number tags) (taken ms).built [] (all-each Q number each tags) p)
+      through-startup (with_exceptions (taken ms).built (map number tags)) startup
+      (through-exceptions (firsts (map number tags)) (taken ms).built (all-firsts (map number tags) [] (all-each Q number each tags) (All-nil Q)) p)
 
 -- what a type keeps that comes after the others
 pub through-alone : (P : Built → Type 0) → ((b : Built) (t : Interned) → P b → P (alone b t None))

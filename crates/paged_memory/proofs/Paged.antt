@@ -1,7 +1,7 @@
 -- Parts of one size, and what is written to one of them.
 use Rattle.std.proofs.Common.{◌≡◌, ℕ, zero, suc, ◌+◌, ◌-◌, ◌*◌, ◌<◌, ◌≤◌, min, List, [], ◌∷◌, ◌++◌, length, get_or, set, take, drop, replicate, refl, sym, ap, ◌∙◌, append_assoc, length-append, arith}
 use Rattle.std.specs.List.{concat}
-use Rattle.std.proofs.lemmas.List.{take-append-le, drop-append-le, get_or_append_left, length-take-le, length-drop, take-append-drop, get_or-append_right, drop-drop, drop_at, take_at, drop_more, set_at, length-replicate, replicate_more}
+use Rattle.std.proofs.lemmas.List.{take-append-le, drop-append-le, get_or_append_left, length-take-le, length-drop, get_or-append_right, drop-drop, drop_at, take_at, drop_more, set_at, length-replicate, replicate_more}
 use Rattle.std.proofs.Math.Seq.{take-append-add}
 use Rattle.paged_memory.specs.Pages.{ArePaged}
 use Rattle.paged_memory.specs.Writing.{written}

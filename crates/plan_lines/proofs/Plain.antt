@@ -1,6 +1,6 @@
 -- Bytes that stand for themselves.
-use Rattle.std.proofs.Common.{◌≡◌, true, List, [], ◌∷◌, ◌++◌, ap, ◌∙◌, refl}
-use Rattle.std.specs.Prelude.{IsTrue, All, ℕ, if◌then◌else◌, Bool}
+use Rattle.std.proofs.Common.{◌≡◌, List, [], ◌∷◌, ◌++◌, ap, ◌∙◌, refl}
+use Rattle.std.specs.Prelude.{IsTrue, All, ℕ}
 use Rattle.std.proofs.lemmas.List.Elements.{All-head, All-tail}
 use Rattle.plan_lines.specs.Quoted.{is_plain, quoted_byte, quoted_bytes}
 

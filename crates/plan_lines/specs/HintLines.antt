@@ -7,7 +7,7 @@ use Rattle.wasm_module.specs.declared.function.FunctionType.{FunctionType}
 use Rattle.init_plan.specs.declared.debug_info.BranchHint.{BranchHint}
 use Rattle.init_plan.specs.declared.translation.ModuleTranslation.{ModuleTranslation}
 use Rattle.init_plan.specs.Views.{hints_of}
-use Rattle.plan_lines.specs.Numbers.{numbers_line, keyed_lines}
+use Rattle.plan_lines.specs.Numbers.{numbers_line}
 
 -- a function that has an entry, and the number of its hints; other functions have no line
 abbrev pub hint_lines : Index FuncSpace → Option (List BranchHint) → List ℕ

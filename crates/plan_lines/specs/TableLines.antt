@@ -1,5 +1,5 @@
 -- The lines of tables: their images, and passive element segments.
-use Rattle.std.specs.Prelude.{ℕ, ◌==◌, List, [], ◌∷◌, ◌++◌, length, if◌then◌else◌, codes, decimal}
+use Rattle.std.specs.Prelude.{ℕ, ◌==◌, List, [], ◌++◌, length, if◌then◌else◌, codes, decimal}
 use Rattle.std.specs.List.{flat_map}
 use Rattle.entity_map.specs.Entity.{reserved_number}
 use Rattle.wasm_index.specs.declared.index.Index.{Index}

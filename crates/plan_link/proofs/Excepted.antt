@@ -5,28 +5,16 @@ use Rattle.std.proofs.lemmas.Bool.{cases_Bool}
 use Rattle.std.proofs.lemmas.List.{length-map}
 use Rattle.std.proofs.lemmas.List.Quantifiers.{position-Some}
 use Rattle.wasm_spec.specs.Module as plain
-use Rattle.type_spec.specs.Interned.{Built, plain as plain_type, exception_for, composite_at, is_among, with_exception, with_exceptions, taken}
+use Rattle.type_spec.specs.Interned.{Built, with_exceptions, taken}
 use Rattle.form_types.specs.Placed.{placed_groups}
-use Rattle.module_environ.specs.Firsts.{firsts, firsts_after}
+use Rattle.type_spec.specs.Firsts.{firsts}
 use Rattle.module_environ.specs.Types.{interned_at, interned_list, exception_at, exception_functions}
-use Rattle.module_environ.proofs.Excepting.{AreKnown, known-more, longer}
+use Rattle.module_environ.proofs.Excepting.{excepted, longer}
 
--- ---- one exception type for each function type
-
-long-from : (ns : List ℕ) (b : Built) (done known : List ℕ) → AreKnown done known
-    → length (with_exceptions b done ns).types + length known ≡ length b.types + length (firsts_after known ns)
-long-from [] b done known same = refl
-long-from (n ∷ ns) b done known same =
-    let had = long-from ns b done known same in
-    let new = long-from ns (with_exception b n) (n ∷ done) (known ++ n ∷ []) (known-more n done known same) in
-    let one = length-append known (n ∷ []) in
-    let more = length-append b.types (plain_type (exception_for n (composite_at b.types n)) ∷ []) in
-    let is = same n in
-    let there = cases_Bool (is_among n done) in
-    grind arith
-
-exceptions-long : (start : Built) (ns : List ℕ) → length (with_exceptions start [] ns).types ≡ length start.types + length (firsts ns)
-exceptions-long start ns = omega (arith, long-from ns start [] [] (λ n. refl))
+exceptions-long : (start : Built) (ns : List ℕ) → length (with_exceptions start ns).types ≡ length start.types + length (firsts ns)
+exceptions-long start ns =
+    let e = excepted (firsts ns) start in
+    omega (arith, ap length e.types, length-append start.types e.more, e.counted)
 
 -- ---- of a module
 

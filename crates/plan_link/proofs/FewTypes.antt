@@ -1,5 +1,5 @@
 -- A module that is read has fewer than 2 ^ 31 interned types.
-use Rattle.std.proofs.Common.{◌≡◌, ◌≤◌, ◌<◌, ◌+◌, ◌^◌, ℕ, Bool, true, false, Option, List, [], ◌∷◌, ◌++◌, length, map, arith, length-append}
+use Rattle.std.proofs.Common.{◌≤◌, ◌<◌, ◌+◌, ◌^◌, ℕ, Bool, true, false, List, [], ◌∷◌, ◌++◌, length, map, arith, length-append}
 use Rattle.std.specs.Prelude.{◌==◌}
 use Rattle.std.specs.List.{list_any, flat_map}
 use Rattle.std.proofs.lemmas.List.{length-map}
@@ -12,21 +12,10 @@ use Rattle.form_reader.proofs.Entries.{imported_few, types_few}
 use Rattle.form_types.specs.Placed.{placed_groups}
 use Rattle.form_types.proofs.Ruled.{size-places}
 use Rattle.module_types.proofs.FewTypes.{few as taken-few}
-use Rattle.module_environ.specs.Firsts.{firsts_after}
+use Rattle.module_environ.proofs.Excepting.{firsts-few}
 use Rattle.module_environ.specs.Readable.{IsReadable}
 use Rattle.module_environ.specs.Types.{interned_at, interned_list}
 use Rattle.plan_link.proofs.Excepted.{listed-long}
-
--- ---- exception types: at most one for each tag
-
-firsts-few : (ns known : List ℕ) → length (firsts_after known ns) ≤ length known + length ns
-firsts-few [] known = omega arith
-firsts-few (n ∷ ns) known =
-    let had = firsts-few ns known in
-    let new = firsts-few ns (known ++ n ∷ []) in
-    let one = length-append known (n ∷ []) in
-    let there = cases_Bool (list_any (λ k. k == n) known) in
-    grind arith
 
 -- ---- of a module
 

@@ -7,17 +7,15 @@ use Rattle.std.proofs.lemmas.Option.{none-some}
 use Rattle.wasm_spec.specs.declared.operators.Operator.{Operator}
 use Rattle.wasm_spec.specs.declared.operators.Operator.TheVariants as op
 use Rattle.replay_spec.specs.Values as plain
-use Rattle.replay_spec.specs.Values.{Term, action, converted}
+use Rattle.replay_spec.specs.Values.{Term, converted}
 use Rattle.plan_run.specs.declared.value.Value.{Value}
 use Rattle.plan_run.specs.declared.value.Value.TheVariants as value
 use Rattle.plan_run.specs.declared.value.Node.{Node}
-use Rattle.plan_run.specs.declared.kinds.Kind.TheVariants.{Object, Conversion}
+use Rattle.plan_run.specs.declared.kinds.Kind.TheVariants.{Conversion}
 use Rattle.plan_run.specs.Kinds.{kind_of, conversion, undoes}
 use Rattle.wasm_convert.specs.Operators.{operator_of}
 use Rattle.plan_run.specs.Values.{value_in, values_in, kept_term, term_of, terms_of, NamesBelow, IsReference, IsOneReference, HasReference, AreOrdered}
 use Rattle.plan_run.proofs.Terms.{node-term}
-
--- ---- operators by their kinds
 
 -- ---- the operator of a term
 
@@ -118,10 +116,3 @@ module _ (nodes : List Node) (ordered : AreOrdered nodes) (a : Operator) (is : k
       ap (λ x. converted (conversion a) (x ∷ [])) node-is
       ∙ ap (λ x. Some (plain.Ref x)) (wraps a (operator_of n.op) t is (operator-kept (operator_of n.op) (values_in (terms_of nodes) n.args.items)) isnt)
       ∙ ap (λ x. Some (plain.Ref (kept_term a (x ∷ [])))) (sym node-is)
-
--- a reference that is neither null nor of a node is kept
-abbrev pub IsOutside : Value → Type 0
-IsOutside (value.Func function) = Unit {0}
-IsOutside (value.Host n) = Unit {0}
-IsOutside (value.I31 n) = Unit {0}
-IsOutside _ = ⊥

@@ -1,10 +1,9 @@
 -- Segments one by one, and the images of a plan.
 use Rattle.std.proofs.Common.{◌≡◌, ℕ, ◌+◌, ◌-◌, ◌<◌, ◌≤◌, List, ◌∷◌, ◌++◌, length, map, get_or, drop, append_assoc, Option, None, Some, refl, sym, ◌∙◌, ap, subst, arith}
-use Rattle.std.specs.Prelude.{slice_get, unwrap_or, All}
+use Rattle.std.specs.Prelude.{All}
 use Rattle.std.specs.List.{cons_option}
 use Rattle.std.specs.Option.{option_map, option_to_list}
 use Rattle.std.proofs.lemmas.List.{drop_more, get_or-drop, length-drop}
-use Rattle.std.proofs.lemmas.Option.{slice_get-map}
 use Rattle.wasm_index.specs.declared.index.Index.{Index}
 use Rattle.wasm_index.specs.declared.spaces.MemorySpace.{MemorySpace}
 use Rattle.wasm_index.specs.declared.spaces.RuntimeDataSpace.{RuntimeDataSpace}
@@ -15,8 +14,7 @@ use Rattle.replay_spec.specs.Plan.{MemoryPlan, runtime_bytes}
 use Rattle.init_plan.specs.declared.translation.MemorySegmentOffset.{MemorySegmentOffset}
 use Rattle.init_plan.specs.Views.{planned_offset_of, planned_segment_of}
 use Rattle.plan_run.specs.declared.laid.Way.{Way}
-use Rattle.plan_run.specs.declared.laid.Way.TheVariants as way
-use Rattle.plan_run.specs.Memories.{image_in, left_place}
+use Rattle.plan_run.specs.Memories.{left_place}
 use Rattle.plan_run.specs.Segments.{left_piece, left_pieces}
 
 -- ---- segments
@@ -42,13 +40,6 @@ left-step w place_of plan segments i s d front new place l is at pushed =
 
 abbrev pub view_image : ℕ × Index RuntimeDataSpace → ℕ × ℕ
 view_image image = (image.0, number_of image.1)
-
-module _ (plan : MemoryPlan) (images : List (Option (ℕ × Index RuntimeDataSpace))) (is : plan.images ≡ map (option_map view_image) images) (i : ℕ) where
-  abbrev read : Option (Option (ℕ × ℕ)) → Option (ℕ × List ℕ)
-  read o = option_map (λ image. (image.0, runtime_bytes plan image.1)) (unwrap_or o None)
-
-  image-at : (o : Option (Option (ℕ × Index RuntimeDataSpace))) → slice_get images i ≡ o → image_in way.Map plan i ≡ read (option_map (option_map view_image) o)
-  image-at o at = ap read (ap (λ xs. slice_get xs i) is ∙ slice_get-map (option_map view_image) images i ∙ ap (option_map (option_map view_image)) at)
 
 -- ---- the last items of a list
 

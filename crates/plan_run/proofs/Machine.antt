@@ -2,7 +2,7 @@
 use Rattle.std.proofs.Common.{◌≡◌, ℕ, ◌+◌, ◌-◌, ◌<◌, ◌≤◌, true, List, [], ◌∷◌, ◌++◌, length, get_or, take, drop, Option, None, Some, sym, ◌∙◌, ap, subst, arith}
 use Rattle.std.specs.Prelude.{nat_le, All, IfSome}
 use Rattle.std.specs.Option.{option_map, option_and_then}
-use Rattle.std.proofs.lemmas.Bool.{le-leb, lt-leb, cond-true, cond-false}
+use Rattle.std.proofs.lemmas.Bool.{le-leb, cond-true}
 use Rattle.std.proofs.lemmas.List.{length-map, map-append, take-map, drop-map, drop_more}
 use Rattle.std.proofs.lemmas.List.Elements.{All-take, All-push}
 use Rattle.wasm_spec.specs.declared.operators.Operator.{Operator}
@@ -10,7 +10,7 @@ use Rattle.wasm_convert.specs.declared.operators.ConstOp.{ConstOp}
 use Rattle.wasm_convert.specs.Operators.{operator_of}
 use Rattle.wasm_convert.specs.Constants.{expression_of}
 use Rattle.replay_spec.specs.Values as plain
-use Rattle.replay_spec.specs.Values.{Term, Action, action, acted, run, only_value}
+use Rattle.replay_spec.specs.Values.{Action, acted, run, only_value}
 use Rattle.replay_spec.specs.Elements.{value_or_null}
 use Rattle.plan_run.specs.declared.value.Value.{Value}
 use Rattle.plan_run.specs.declared.value.Node.{Node}
@@ -26,9 +26,6 @@ module _ (a : Action) (vs : List plain.Value) where
 
   acted-taken : (n : ℕ) → a.takes ≤ length vs → n ≡ length vs - a.takes → acted a vs ≡ taken-from n
   acted-taken n l is = cond-true (nat_le a.takes (length vs)) (taken-from (length vs - a.takes)) None (le-leb a.takes (length vs) l) ∙ ap taken-from (sym is)
-
-  acted-few : length vs < a.takes → acted a vs ≡ None
-  acted-few l = cond-false (nat_le a.takes (length vs)) (taken-from (length vs - a.takes)) None (lt-leb a.takes (length vs) l)
 
 module _ (a : Action) (nodes : List Node) (stack args : List Value) (takes rest : ℕ) (is : takes ≡ a.takes) where
   module _ (l : takes ≤ length stack) (at : rest ≡ length stack - takes) (top : args ≡ drop rest stack) where

@@ -6,7 +6,6 @@ use Rattle.std.proofs.lemmas.List.{map_push, map_more, map-append, take_all}
 use Rattle.std.proofs.lemmas.List.Elements.{All-nil, All-cons, All-head, All-tail, All-push, All-weaker, All-replicate}
 use Rattle.replay_spec.specs.Phases.{Piece}
 use Rattle.replay_spec.specs.Values as plain
-use Rattle.replay_spec.specs.Values.{Term}
 use Rattle.plan_run.specs.declared.elements.ElementPiece.{ElementPiece}
 use Rattle.plan_run.specs.declared.value.Value.{Value}
 use Rattle.plan_run.specs.declared.value.Node.{Node}

@@ -118,11 +118,3 @@ module _ {A : Type 0} (phase : Phase A) (objects : List (List A)) where
               ∙ ap Some (sym (ap (last_item i place (w.item i place)) (cond-false (fits phase.sizes p) (p ∷ before_trap phase.sizes rest) [] fit)) ∙ w.content i place);
           trap = sym (cond-false (fits phase.sizes p) (trap phase.sizes rest) (Some (suc (length rest))) fit) ∙ w.trap;
         }
-
-  pub all-written : IsWriting phase [] objects → Lays phase (length objects) objects None
-  all-written w = record {
-    count = refl;
-    sizes = w.hold.sizes;
-    items = λ i place o is within. w.hold.items i place o is within ∙ ap Some (w.content i place);
-    trap = w.trap;
-  }

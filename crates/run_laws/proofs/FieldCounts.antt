@@ -1,5 +1,5 @@
 -- The struct types of an interned list have as many fields as those of the module.
-use Rattle.std.proofs.Common.{◌≡◌, ◌∙◌, ◌<◌, ◌≤◌, ℕ, zero, suc, ◌+◌, ◌-◌, Bool, true, false, List, [], ◌∷◌, ◌++◌, length, take, drop, get_or, map, refl, sym, ap, arith}
+use Rattle.std.proofs.Common.{◌≡◌, ◌∙◌, ◌<◌, ℕ, zero, suc, ◌-◌, Bool, List, [], ◌∷◌, length, get_or, map, refl, sym, ap, arith}
 use Rattle.std.specs.Prelude.{slice_get, unwrap_or, option_and_then}
 use Rattle.std.specs.Option.{option_map}
 use Rattle.std.proofs.lemmas.List.{length-map, get_or-map}
@@ -9,7 +9,7 @@ use Rattle.wasm_spec.specs.Module as plain
 use Rattle.type_data.specs.Shapes.{erased}
 use Rattle.type_data.specs.Names.{index_of}
 use Rattle.type_spec.specs.Equality.{home, SameType}
-use Rattle.type_spec.specs.Interned.{Interned, Built, startup_type, taken, interned}
+use Rattle.type_spec.specs.Interned.{Built, startup_type, taken, interned}
 use Rattle.type_spec.specs.Taken.{NameEarlier}
 use Rattle.type_spec.proofs.Equivalence.{type-groups}
 use Rattle.type_spec.proofs.Homes.{joined, size, home-within, home-type}

@@ -49,12 +49,6 @@ take-one-same (x ∷ xs) (suc i) l = rw (sucs i) (take-one-same xs i (omega arit
 abbrev piece : ℕ → List (Option ℕ) → Piece (Option ℕ)
 piece place cells = record { object = 0; offset = place; items = cells }
 
-item-none : (place p : ℕ) → item_at 0 p (piece place []) ≡ None
-item-none place p = over (nat_le place p) (slice_get [] (p - place)) refl where
-  over : (b : Bool) (o : Option (Option ℕ)) → o ≡ None → (if b then o else None) ≡ None
-  over true o e = e
-  over false o e = refl
-
 item-other : (place p i : ℕ) (cells : List (Option ℕ)) → p ≢ place + i → item_at 0 p (piece place (take i cells)) ≡ item_at 0 p (piece place (take (i + 1) cells))
 item-other place p i cells ne = over (nat_le place p) refl where
   over : (b : Bool) → nat_le place p ≡ b → (if b then slice_get (take i cells) (p - place) else None) ≡ (if b then slice_get (take (i + 1) cells) (p - place) else None)
@@ -66,9 +60,6 @@ item-same place i cells l =
     let here : nat_le place (place + i) ≡ true = le-leb place (place + i) (omega arith) in
     let at : place + i - place ≡ i = omega arith in
     rw (here, at) (take-one-same cells i l)
-
-some-of : (o : Option (Option ℕ)) (x : Option ℕ) → o ≡ Some x → o ≡ Some (unwrap_or o None)
-some-of o x e = rw e refl
 
 pub overlay-more : (place i : ℕ) (cells old new : List (Option ℕ)) (x : Option ℕ) → i < length cells → place + length cells ≤ length old → x ≡ get_or cells i None
     → OverlaysCells place (take i cells) old new → OverlaysCells place (take (i + 1) cells) old (set new (place + i) x)

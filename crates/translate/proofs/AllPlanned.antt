@@ -1,5 +1,5 @@
 -- A translation whose memories and then tables are planned is the planned translation of its module.
-use Rattle.std.proofs.Common.{◌≡◌, ◌<◌, ◌+◌, ℕ, false, List, length, map, sym, ap, subst, ◌∙◌}
+use Rattle.std.proofs.Common.{◌≡◌, ◌<◌, ◌+◌, ℕ, false, List, length, sym, ap, subst, ◌∙◌}
 use Rattle.std.proofs.lemmas.List.{length-map}
 use Rattle.wasm_spec.specs.Module.{Module}
 use Rattle.rule_spec.specs.Lists.{Lists, lists_of_module}

@@ -1,6 +1,6 @@
 -- What the plan of a translation's memories promises of the module whose lists the translation holds.
 use Rattle.std.proofs.Common.{◌≡◌, ◌<◌, ◌-◌, ◌^◌, ℕ, List, length, map, None, refl, sym, ap, subst}
-use Rattle.std.specs.Prelude.{All, Contains, slice_get, sum_by}
+use Rattle.std.specs.Prelude.{Contains, slice_get, sum_by}
 use Rattle.wasm_spec.specs.Module.{Module, imported_memories, defined_memories, segments}
 use Rattle.replay_spec.specs.Data.{ActiveSegment, active_segments}
 use Rattle.replay_spec.specs.Images.{ImageMemory, image_memory_of, IsStatic, IsMemoryPlan}

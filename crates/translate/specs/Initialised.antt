@@ -6,7 +6,7 @@ use Rattle.rule_spec.specs.Rules.{Keeps}
 use Rattle.wasm_index.specs.Index.{index_of}
 use Rattle.replay_spec.specs.Data.{active_segments}
 use Rattle.replay_spec.specs.Images.{image_memory_of}
-use Rattle.replay_spec.specs.Plan.{MemoryPlan, ranges_from}
+use Rattle.replay_spec.specs.Plan.{ranges_from}
 use Rattle.module_types.specs.Builder.{BuilderState, builder_view}
 use Rattle.init_plan.specs.declared.translation.ModuleTranslation.{ModuleTranslation}
 use Rattle.init_plan.specs.Views.{memory_plan_of, ranges_of, IsSegmented, IsProcessed, FindsInOrder}

@@ -11,7 +11,7 @@ use Rattle.type_spec.specs.Interned.{Span}
 use Rattle.wasm_types.specs.TypeViews.{group_of}
 use Rattle.module_types.specs.TypeList.{TypeList}
 use Rattle.type_registry.specs.Registry.{Registry, Group, Groups, Module, empty, index_at, indices_of, live}
-use Rattle.type_registry.specs.Changes.{planned, registered, released_by, size_of}
+use Rattle.type_registry.specs.Changes.{registered, released_by, size_of}
 use Rattle.type_registry.specs.Standing.{AreOrdered, GroupStands, IsHeld, LiveWhereHeld, Stands, kept_at}
 use Rattle.type_registry.specs.Balanced.{IsBalanced, count_in, indices_in, indices_at, times, times_below}
 use Rattle.type_registry.proofs.KeepingAll.{true-false, any-second}

@@ -15,9 +15,6 @@ use Rattle.type_registry.specs.Keeping.{kept_from, group_in, IsOwned, HasCanonic
 use Rattle.type_registry.proofs.FirstIndices.{set-other, set-here}
 use Rattle.type_registry.proofs.OwnerLists.{any-place, place-any}
 
-abbrev nobody : Option Owner
-nobody = None
-
 pub ok-is : {A E P : Type 0} (r : Result A E) → is_ok r ≡ true → OnOk r P → P
 ok-is (Ok x) e p = p
 ok-is (Err x) e p = let no : false ≡ true = e in cc

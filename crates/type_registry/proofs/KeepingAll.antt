@@ -9,7 +9,7 @@ use Rattle.std.proofs.lemmas.Bool.Decides.{nat_tests}
 use Rattle.std.proofs.lemmas.Option.{none-some, same_Some}
 use Rattle.wasm_types.specs.declared.sub.WasmSubType.{WasmSubType}
 use Rattle.type_registry.specs.Registry.{Group, Groups, GroupsState, indices_of}
-use Rattle.type_registry.specs.Changes.{find_group, keep_group, keep_groups}
+use Rattle.type_registry.specs.Changes.{find_group, keep_group}
 use Rattle.type_registry.specs.Fresh.{MayBeKept, IsKeptIn, MayKeepAll}
 use Rattle.type_registry.proofs.OwnerLists.{any-place}
 use Rattle.type_registry.proofs.Keeping.{Eq}

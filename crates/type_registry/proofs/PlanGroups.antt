@@ -1,9 +1,8 @@
 -- The groups of a module are planned one after another.
-use Rattle.std.proofs.Common.{if◌then◌else◌, ◌≡◌, ◌∙◌, ◌<◌, ◌≤◌, ℕ, suc, ◌+◌, ◌-◌, Bool, true, false, nat_eq, List, [], ◌∷◌, ◌++◌, length, map, get_or, drop, Option, Some, None, refl, sym, ap, subst, arith}
-use Rattle.std.specs.List.{list_any}
+use Rattle.std.proofs.Common.{if◌then◌else◌, ◌≡◌, ◌∙◌, ◌<◌, ◌≤◌, ℕ, suc, ◌+◌, ◌-◌, Bool, true, false, nat_eq, List, [], ◌∷◌, ◌++◌, length, map, get_or, Some, None, refl, sym, ap, arith}
 use Rattle.std.proofs.lemmas.List.{length-append, length-map, length-take-le, length-drop, append-nil}
 use Rattle.std.proofs.lemmas.Grind.{common_steps, flat_map-append}
-use Rattle.wasm_spec.specs.TypeData.{map_group, map_sub_type}
+use Rattle.wasm_spec.specs.TypeData.{map_group}
 use Rattle.type_data.specs.Names.{named}
 use Rattle.type_spec.specs.Interned.{Span}
 use Rattle.std.specs.declared.ops.Range.{Range}
@@ -14,7 +13,7 @@ use Rattle.wasm_index.specs.declared.index.Index.{Index}
 use Rattle.wasm_index.specs.declared.spaces.ModuleInternedRecGroupSpace.{ModuleInternedRecGroupSpace}
 use Rattle.wasm_index.specs.Index.{index_of}
 use Rattle.wasm_types.specs.declared.sub.WasmSubType.{WasmSubType}
-use Rattle.wasm_types.specs.TypeViews.{sub_type_of, group_of}
+use Rattle.wasm_types.specs.TypeViews.{group_of}
 use Rattle.wasm_types.specs.declared.index.EngineOrModuleTypeIndex.{EngineOrModuleTypeIndex}
 use Rattle.module_types.specs.Views.{TypeIndex, span_of, interned_of}
 use Rattle.module_types.specs.TypeList.{TypeList}
@@ -23,7 +22,7 @@ use Rattle.module_types.specs.Conversion.{no_span}
 use Rattle.module_types.specs.ListGroups.{span_at}
 use Rattle.module_types.proofs.Standing.{stands-at}
 use Rattle.type_registry.specs.Registry.{Group, Groups, GroupsState, indices_of}
-use Rattle.type_registry.specs.Changes.{Plan, begun, find_group, first_index, keep_group, keep_groups, members_of, at_first, free_indices, next_group, canonical_of, take_group, plan_group, plan_groups, size_of, with_group}
+use Rattle.type_registry.specs.Changes.{Plan, begun, find_group, keep_group, keep_groups, members_of, at_first, free_indices, next_group, canonical_of, take_group, plan_group, plan_groups, size_of, with_group}
 use Rattle.type_registry.specs.Listed.{Listed, list_of}
 use Rattle.type_registry.specs.Planning.{MayBePlanned, MayBePlannedFrom, HaveFirstFree, plan}
 use Rattle.type_registry.specs.Counted.{counted}
@@ -31,7 +30,7 @@ use Rattle.type_registry.proofs.Counting.{counted-keep}
 use Rattle.type_registry.proofs.Copies.{may-cons, may-use}
 use Rattle.type_registry.proofs.Keeping.{Eq}
 use Rattle.type_registry.proofs.FreeIndices.{free-split, free-length, free-low, free-once, not-taken}
-use Rattle.type_registry.proofs.KeepingAll.{keep-length, IsOnce, AllUnknown, AllUnlike, AllApart, MayKeep}
+use Rattle.type_registry.proofs.KeepingAll.{keep-length, AllUnknown, AllUnlike, AllApart, MayKeep}
 use Rattle.type_registry.proofs.NewGroups.{none-of}
 
 -- ---- the groups of a list may be planned

@@ -12,7 +12,7 @@ use Rattle.module_types.specs.TypeList.{TypeList}
 use Rattle.type_registry.specs.Registry.{Registry, Group, Groups, Module}
 use Rattle.type_registry.specs.Changes.{Plan, begun, at_first, canonical_of, find_group, first_index, keep_groups, next_group, plan_group, plan_groups, planned, registered, size_of, with_group}
 use Rattle.type_registry.specs.Standing.{MayRegister, kept_at}
-use Rattle.type_registry.specs.Balanced.{IsBalanced, count_in, indices_in, indices_at, times, times_in, times_below}
+use Rattle.type_registry.specs.Balanced.{IsBalanced, count_in, indices_in, indices_at, times, times_below}
 use Rattle.type_registry.proofs.Balance.{kept-listed}
 use Rattle.type_registry.proofs.Keeping.{Eq}
 use Rattle.type_registry.proofs.PlanGroups.{found-equal, find-some, find-none, fresh-counted, either-planned}

@@ -6,7 +6,7 @@ use Rattle.std.proofs.lemmas.Bool.{ne_eqb}
 use Rattle.type_spec.specs.Interned.{Span}
 use Rattle.wasm_types.specs.declared.sub.WasmSubType.{WasmSubType}
 use Rattle.wasm_types.specs.TypeViews.{group_of}
-use Rattle.module_types.specs.Views.{span_of, interned_of}
+use Rattle.module_types.specs.Views.{span_of}
 use Rattle.module_types.specs.TypeList.{TypeList}
 use Rattle.type_registry.specs.Registry.{Registry, Group, Groups, GroupsState, indices_of}
 use Rattle.type_registry.specs.Listed.{list_of}

@@ -1,5 +1,5 @@
 -- Canonical members as keys of maps.
-use Rattle.std.proofs.Common.{arith, ◌≡◌, ◌↔◌, Bool, true, List, refl, sym, ap}
+use Rattle.std.proofs.Common.{arith, ◌≡◌, ◌↔◌, Bool, true, List}
 use Rattle.std.specs.Cmp.{IsEquivalence}
 use Rattle.std.proofs.lemmas.Bool.Decides.{same_from_decides}
 use Rattle.wasm_types.specs.declared.sub.WasmSubType.{WasmSubType}

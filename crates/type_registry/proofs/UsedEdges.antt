@@ -1,6 +1,5 @@
 -- The types of a new group as they are used.
-use Rattle.std.proofs.Common.{if◌then◌else◌, ◌≡◌, ◌∙◌, ℕ, ◌-◌, Bool, true, false, List, [], ◌∷◌, ◌++◌, length, map, refl, sym, ap, subst, arith}
-use Rattle.std.specs.Prelude.{nat_lt}
+use Rattle.std.proofs.Common.{◌≡◌, ◌∙◌, ℕ, ◌-◌, List, [], ◌∷◌, ◌++◌, length, map, refl, sym, ap, subst, arith}
 use Rattle.std.specs.List.{All, AllZip}
 use Rattle.std.proofs.lemmas.List.Elements.{All-head, All-tail}
 use Rattle.std.proofs.lemmas.Bool.{ltb-true, ltb-false}
@@ -11,9 +10,7 @@ use Rattle.type_data.specs.Shapes.{erased}
 use Rattle.type_data.specs.ListLaws.{map-twice}
 use Rattle.type_data.specs.TypeShapes.{group_shape}
 use Rattle.type_spec.specs.Interned.{Span}
-use Rattle.wasm_index.specs.Index.{number_of, index_of}
 use Rattle.wasm_types.specs.declared.index.EngineOrModuleTypeIndex.{EngineOrModuleTypeIndex}
-use Rattle.wasm_types.specs.declared.index.EngineOrModuleTypeIndex.TheVariants as index
 use Rattle.wasm_types.specs.declared.sub.WasmSubType.{WasmSubType}
 use Rattle.wasm_types.specs.TypeViews.{sub_type_of, group_of}
 use Rattle.wasm_trace.specs.Canonical.{CanBeConsedEdge, consed_edge, runtime_edge}

@@ -12,9 +12,6 @@ use Rattle.type_registry.specs.Owners.{owner_at}
 use Rattle.type_registry.specs.Keeping.{kept_from, group_in, AreKept}
 use Rattle.type_registry.proofs.OwnerLists.{place-any}
 
-abbrev nothing : Option UsedType
-nothing = None
-
 abbrev or_else : Option UsedType → Option UsedType → Option UsedType
 or_else None o = o
 or_else (Some t) o = Some t

@@ -1,5 +1,5 @@
 -- Which groups of a list the interned list takes: each where it, or one that is equal to it, first occurs.
-use Rattle.std.specs.Prelude.{ℕ, Bool, List, [], ◌∷◌, ◌++◌, length, map, if◌then◌else◌}
+use Rattle.std.specs.Prelude.{ℕ, ◌==◌, Bool, List, [], ◌∷◌, ◌++◌, length, map, if◌then◌else◌}
 use Rattle.std.specs.List.{fold, flat_map, list_any, range_with_len}
 use Rattle.wasm_spec.specs.TypeData.{Group}
 use Rattle.type_spec.specs.Equality.{Home, home, same_type}
@@ -11,6 +11,13 @@ with_first same known x = if list_any (λ k. same k x) known then known else kno
 -- the items of a list in order, without those that are the same as an earlier one
 abbrev pub firsts_by : {A : Type 0} → (A → A → Bool) → List A → List A
 firsts_by same xs = fold (with_first same) [] xs
+
+-- the same of numbers; after those that are known already
+abbrev pub firsts : List ℕ → List ℕ
+firsts ns = firsts_by (λ k n. k == n) ns
+
+abbrev pub firsts_after : List ℕ → List ℕ → List ℕ
+firsts_after known ns = fold (with_first (λ k n. k == n)) known ns
 
 -- the places of a list's types
 abbrev pub places : List (Group ℕ ℕ) → List ℕ

@@ -9,7 +9,7 @@ use Rattle.type_data.specs.Shapes.{erased}
 use Rattle.type_data.specs.Names.{NameKind, FuncName, ArrayName, StructName, ContName, ExnName, Named}
 use Rattle.type_spec.specs.Same.{same_function}
 use Rattle.type_spec.specs.Equality.{Home, home}
-use Rattle.type_spec.specs.Firsts.{places, equal_groups, taken_groups}
+use Rattle.type_spec.specs.Firsts.{firsts, places, equal_groups, taken_groups}
 
 abbrev pub Interned : Type 0
 Interned = SubType (Named ℕ) ℕ
@@ -192,20 +192,13 @@ composite_at [] i = Struct []
 composite_at (t ∷ ts) zero = t.composite.inner
 composite_at (t ∷ ts) (suc i) = composite_at ts i
 
-abbrev pub is_among : ℕ → List ℕ → Bool
-is_among i [] = false
-is_among i (j ∷ js) = if nat_lt i j then is_among i js else (if nat_lt j i then is_among i js else true)
-
 -- the exception type of a function type
 abbrev pub with_exception : Built → ℕ → Built
 with_exception b i = alone b (plain (exception_for i (composite_at b.types i))) None
 
 -- one for each function type of the tags, which are interned indices, in order
-abbrev pub with_exceptions : Built → List ℕ → List ℕ → Built
-with_exceptions b done [] = b
-with_exceptions b done (i ∷ is) =
-    if is_among i done then with_exceptions b done is
-    else with_exceptions (with_exception b i) (i ∷ done) is
+abbrev pub with_exceptions : Built → List ℕ → Built
+with_exceptions b functions = fold with_exception b (firsts functions)
 
 -- a function type without parameters and results
 abbrev pub startup_type : Interned
@@ -219,4 +212,4 @@ with_startup b true = alone b startup_type None
 abbrev pub interned : List (Group ℕ ℕ) → List ℕ → Bool → Built
 interned groups tags startup =
     let t = taken groups in
-    with_startup (with_exceptions t.built [] (map (λ i. get_or t.declared i 0) tags)) startup
+    with_startup (with_exceptions t.built (map (λ i. get_or t.declared i 0) tags)) startup

@@ -1,6 +1,6 @@
 -- The items of two lists, one after the other, and each converted: the parts at the seam.
 use Rattle.std.proofs.Common.{◌≡◌, ◌∙◌, ◌+◌, List, ◌++◌, length, map, take, drop, refl, sym, ap}
-use Rattle.std.proofs.lemmas.List.{map-append, length-map, length-append, take-map, drop-map}
+use Rattle.std.proofs.lemmas.List.{map-append, length-map, take-map, drop-map}
 use Rattle.type_data.specs.ListLaws.{map-twice}
 use Rattle.std.proofs.Math.Seq.{take-append_seam, drop-append_seam}
 
@@ -16,9 +16,6 @@ module _ {A B : Type 0} (f : A → B) (ps rs : List A) where
 -- two lists of parts, one after the other, of which each was converted
 module _ {A B C D : Type 0} (made : D → C) (f : B → C) (view : A → B) (ps rs : List A) (ys : List D)
     (is : map made ys ≡ map (λ x. f (view x)) (ps ++ rs)) where
-  pub parts-length : length ys ≡ length ps + length rs
-  parts-length = sym (length-map ys made) ∙ ap length is ∙ length-map (ps ++ rs) (λ x. f (view x)) ∙ length-append ps rs
-
   pub first-part : map made (take (length ps) ys) ≡ map f (map view ps)
   first-part =
       sym (take-map made (length ps) ys) ∙ ap (take (length ps)) is ∙ first-converted (λ x. f (view x)) ps rs

@@ -1,5 +1,5 @@
 -- The entities of a module: functions, tables, memories, globals and tags (core specification, 2.5).
-use Rattle.std.specs.Prelude.{ℕ, ◌<◌, List, Option, length, map, not, slice_get, take, drop, Contains}
+use Rattle.std.specs.Prelude.{ℕ, ◌<◌, Option, length, map, not, slice_get, take, drop, Contains}
 use Rattle.std.specs.List.{filter}
 use Rattle.std.specs.Option.{option_map}
 use Rattle.wasm_index.specs.Index.{number_of}

@@ -1,19 +1,17 @@
 -- The laws of functions, startups and modules as data: each has a shape, and a way back from its view.
 use Rattle.std.specs.Prelude.{List, [], ◌∷◌, ◌++◌, map}
 use Rattle.std.proofs.Common.{◌≡◌, refl, ap}
-use Rattle.type_data.specs.ListLaws.{map-same}
 use Rattle.type_data.specs.Names.{alone-determined}
 use Rattle.type_data.specs.Shapes.{Shape, listed, erased}
 use Rattle.type_data.specs.TypeShapes.{both-edges, first-determined, second-determined}
 use Rattle.wasm_types.specs.declared.index.EngineOrModuleTypeIndex.{EngineOrModuleTypeIndex}
 use Rattle.wasm_types.specs.EntityShapes.{table_shape, global_shape, tag_shape}
 use Rattle.wasm_types.specs.EntityViews.{table_back, global_back, tag_back}
-use Rattle.wasm_types.specs.ValueViews.{Name}
 use Rattle.wasm_types.specs.ViewsTell.{Back, all_back}
 use Rattle.wasm_module.specs.declared.startup.ModuleStartup.{ModuleStartup}
 use Rattle.wasm_module.specs.declared.startup.ModuleStartup.TheVariants as startup
 use Rattle.wasm_module.specs.declared.module.Module.{Module}
-use Rattle.wasm_module.specs.ModuleData.{FunctionData, StartupData, NoStartup, AlwaysStarts, StartsForMemories, ModuleData, type_of_space, function_of, startup_of, rest_of, module_data_of}
+use Rattle.wasm_module.specs.ModuleData.{FunctionData, StartupData, NoStartup, AlwaysStarts, StartsForMemories, ModuleData, type_of_space, function_of, startup_of, module_data_of}
 
 -- ---- shapes
 

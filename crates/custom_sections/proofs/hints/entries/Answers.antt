@@ -1,4 +1,5 @@
-use Rattle.std.proofs.Common.{map}
+use Rattle.std.proofs.Common.{arith, map}
+use Rattle.std.proofs.lemmas.Grind.{common_steps}
 use Rattle.std.proofs.lemmas.List.{map_push}
 use Rattle.custom_sections.specs.Views.{hint_entry_of}
 use Rattle.custom_sections.specs.HintReading.{hint_entry_at}
@@ -19,11 +20,7 @@ returns-in_default-u32_at c =
     none c.entries.invariant
 
 pub returns-in_default-2 : goal.returns-in_default-2
-returns-in_default-2 c =
-    let hints = rw c.in_default-2.is at c.in_ok-hints.ensures in
-    let none = no_hints c.entries.rest.now c.in-Some-u32_at.function c.in-Some-u32_at.of_function.now c.in-Some-u32_at.ensures hints in
-    fails hint_entry_at (map hint_entry_of c.entries.all.items) c.in-Some.count c.entries.counter c.entries.rest.now _ c.entries-test.true
-    none c.entries.invariant
+returns-in_default-2 c = grind (arith, common_steps, no_hints, fails)
 
 pub entries-preserved : goal.entries-preserved
 entries-preserved c =

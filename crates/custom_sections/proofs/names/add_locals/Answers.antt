@@ -1,4 +1,5 @@
-use Rattle.std.proofs.Common.{Some, None, map}
+use Rattle.std.proofs.Common.{arith, Some, None, map}
+use Rattle.std.proofs.lemmas.Grind.{common_steps}
 use Rattle.std.proofs.lemmas.List.{map_push}
 use Rattle.custom_sections.specs.Views.{text_of, locals_of}
 use Rattle.custom_sections.specs.NameReading.{locals_before, vector_before}
@@ -53,25 +54,10 @@ returns-in_default-after-clause-left c =
     one c.functions.invariant)
 
 pub functions-preserved : goal.functions-preserved
-functions-preserved c =
-    let left = rw c.in-Some-after.is at c.in_ok-after.ensures.left in
-    let names = rw c.new-names.ensures.items at c.in_ok-after.ensures.added in
-    let one = local_step c.functions.rest.now c.in-Some-u32_at.function c.in-Some-u32_at.of_function.now (map text_of c.add_names.new.names.items)
-    (Some c.in-Some-after.after.now) c.in-Some-u32_at.ensures names left in
-    rw (c.in_ok-push.ensures.items, map_push locals_of)
-    (more locals_before (map locals_of c.functions.locals.items) c.in-Some.count c.functions.counter c.functions.rest.now
-    (c.in-Some-u32_at.function, map text_of c.add_names.new.names.items) c.in-Some-after.after.now _ c.functions-test.true one c.functions.invariant)
+functions-preserved c = grind (arith, common_steps, local_step, map_push, more)
 
 pub returns-clause-added : goal.returns-clause-added
-returns-clause-added c =
-    added (map locals_of c.functions.locals.items) (map locals_of c.args.locals.now.items) (Some c.functions.rest.now)
-    (vector_before locals_before c.args.bytes.now)
-    (is_done locals_before (map locals_of c.functions.locals.items) c.in-Some.count c.functions.counter c.functions.rest.now _ c.functions-test.false
-    c.functions.invariant)
+returns-clause-added c = grind (arith, common_steps, is_done, added)
 
 pub returns-clause-left : goal.returns-clause-left
-returns-clause-left c =
-    behind (map locals_of c.functions.locals.items) (map locals_of c.args.locals.now.items) (Some c.functions.rest.now)
-    (vector_before locals_before c.args.bytes.now)
-    (is_done locals_before (map locals_of c.functions.locals.items) c.in-Some.count c.functions.counter c.functions.rest.now _ c.functions-test.false
-    c.functions.invariant)
+returns-clause-left c = grind (arith, common_steps, is_done, behind)

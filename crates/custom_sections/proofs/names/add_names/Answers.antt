@@ -1,4 +1,5 @@
-use Rattle.std.proofs.Common.{Some, None, map}
+use Rattle.std.proofs.Common.{arith, Some, None, map}
+use Rattle.std.proofs.lemmas.Grind.{common_steps}
 use Rattle.std.proofs.lemmas.List.{map_push}
 use Rattle.custom_sections.specs.Views.{text_of}
 use Rattle.custom_sections.specs.NameReading.{naming_before, names_before}
@@ -28,11 +29,7 @@ returns-in_default-naming-clause-left c =
     (naming_none c.names.rest.now c.in_default-naming.ensures) c.names.invariant)
 
 pub names-preserved : goal.names-preserved
-names-preserved c =
-    rw (c.in_ok-push.ensures.items, map_push text_of)
-    (more naming_before (map text_of c.names.names.items) c.in-Some.count c.names.counter c.names.rest.now (text_of c.in-Some-naming.name)
-    c.in-Some-naming.after.now _ c.names-test.true
-    (naming_is c.names.rest.now (text_of c.in-Some-naming.name) c.in-Some-naming.after.now c.in-Some-naming.ensures) c.names.invariant)
+names-preserved c = grind (arith, common_steps, map_push, naming_is, more)
 
 pub returns-clause-added : goal.returns-clause-added
 returns-clause-added c =

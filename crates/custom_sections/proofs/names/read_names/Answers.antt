@@ -1,4 +1,4 @@
-use Rattle.std.proofs.Common.{◌≡◌, ◌-◌, ◌+◌, length, sym, ◌∙◌, subst}
+use Rattle.std.proofs.Common.{arith, ◌≡◌, ◌-◌, ◌+◌, length, sym, ◌∙◌, subst}
 use Rattle.custom_sections.specs.Views.{names_of}
 use Rattle.custom_sections.specs.NameReading.{NameLists, names_of_section}
 use Rattle.custom_sections.proofs.Joining.{still_named, at_start, more, ends, none, is_done}
@@ -14,10 +14,7 @@ returns-in_default c =
 
 pub returns-then-not-filled : goal.returns-then-not-filled
 returns-then-not-filled c =
-    rw c.in_ok-filled.ensures.added
-    (ends c.args.locals (names_of c.subsections.names) (length c.args.contents.now) c.subsections.counter c.subsections.rest.now c.in-Some.id
-    c.in-Some.body.now c.in-Some.after.now _ c.subsections-test.true c.in-Some.ensures (sym c.in_ok-filled.ensures.filled ∙ c.if-not-filled.true)
-    c.subsections.invariant)
+    grind (arith, ends c.args.locals (names_of c.subsections.names) (length c.args.contents.now) c.subsections.counter c.subsections.rest.now c.in-Some.id c.in-Some.body.now c.in-Some.after.now _ c.subsections-test.true c.in-Some.ensures (sym c.in_ok-filled.ensures.filled ∙ c.if-not-filled.true) c.subsections.invariant)
 
 pub subsections-preserved : goal.subsections-preserved
 subsections-preserved c =

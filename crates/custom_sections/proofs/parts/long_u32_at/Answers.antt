@@ -46,16 +46,5 @@ returns-in-Err c =
     large_taken c.args.bytes.now _ c.in_ok-byte.after.now is (omega (arith, h))
 
 pub bytes-preserved : goal.bytes-preserved
-bytes-preserved c = record {
-  weight_is = weight_next c.bytes.counter c.bytes.weight c.bytes.invariant.weight_is;
-  below =
-      let w = weight_small c.bytes.counter c.bytes.weight c.bytes.invariant.weight_is (omega arith) in
-      let d = digit_small c.from.result c.bytes.weight (omega arith) in
-      omega (arith, c.bytes.invariant.below);
-  so_far =
-      let s = c.bytes.invariant.so_far in (
-        c.in_ok-byte.byte,
-        rw c.from.ensures (step c.bytes.sum c.bytes.weight s.0 5 c.bytes.counter c.in_ok-byte.byte c.bytes.rest.now
-            c.in_ok-byte.after.now _ c.in_ok-byte.ensures (omega arith) (omega arith) s.1),
-      );
-}
+bytes-preserved c =
+    grind (arith, weight_next c.bytes.counter c.bytes.weight c.bytes.invariant.weight_is, weight_small c.bytes.counter c.bytes.weight c.bytes.invariant.weight_is (omega arith), digit_small c.from.result c.bytes.weight (omega arith), step)

@@ -1,4 +1,4 @@
-use Rattle.std.proofs.Common.{◌≡◌, ℕ, length, All, ap, ◌∙◌}
+use Rattle.std.proofs.Common.{◌≡◌, ℕ, length, ap, ◌∙◌}
 use Rattle.wasm_spec.specs.Module.{segments, data_counts_of_section}
 use Rattle.form_lists.specs.Source.{source_module, sections_in, sections_left}
 use Rattle.form_lists.proofs.AllSections.{left_parts, sections_more, sections_fail}

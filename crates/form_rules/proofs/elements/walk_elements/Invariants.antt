@@ -1,24 +1,24 @@
 use Rattle.std.proofs.Common.{◌↔◌, length, All, IsTrue}
-use Rattle.std.specs.List.{flat_map}
 use Rattle.wasm_spec.specs.Module.{elements_of_section}
+use Rattle.form_data.specs.Views.{element_of}
 use Rattle.rule_spec.specs.Expressions.{IsElementTyped}
 use Rattle.rule_spec.specs.Indices.{IsElementInRange}
 use Rattle.rule_spec.specs.References.{ElementRefersIn}
-use Rattle.form_lists.specs.Source.{source_module}
-use Rattle.form_lists.specs.Elements.{elements_left}
+use Rattle.form_reader.specs.SectionRows.{element_segment}
+use Rattle.form_lists.specs.Walk.{walk_left}
 use Rattle.form_lists.specs.Views.{lists_of}
 use Rattle.form_rules.proofs.elements.walk_elements.Given as goal
 
 -- all hold exactly where those do that were asked and those that are left
 abbrev pub invariant-loop-elements : goal.invariant-loop-elements
-invariant-loop-elements l = record {
-  typed : (IsTrue l.kept.typed × All (IsElementTyped (lists_of l.lists)) (elements_left l.elements))
-      ↔ All (IsElementTyped (lists_of l.lists)) (flat_map elements_of_section (source_module l.lists.source));
-  in_range : (IsTrue l.kept.in_range × All (IsElementInRange (lists_of l.lists)) (elements_left l.elements))
-      ↔ All (IsElementInRange (lists_of l.lists)) (flat_map elements_of_section (source_module l.lists.source));
-  refer : (IsTrue l.kept.refer × All (ElementRefersIn (length (lists_of l.lists).types)) (elements_left l.elements))
-      ↔ All (ElementRefersIn (length (lists_of l.lists).types)) (flat_map elements_of_section (source_module l.lists.source));
-}
+invariant-loop-elements l =
+    let ls = lists_of l.lists in
+    let left = walk_left element_segment.read element_of elements_of_section l.elements in
+    record {
+      typed : (IsTrue l.kept.typed × All (IsElementTyped ls) left) ↔ All (IsElementTyped ls) ls.elements;
+      in_range : (IsTrue l.kept.in_range × All (IsElementInRange ls) left) ↔ All (IsElementInRange ls) ls.elements;
+      refer : (IsTrue l.kept.refer × All (ElementRefersIn (length ls.types)) left) ↔ All (ElementRefersIn (length ls.types)) ls.elements;
+    }
 
 abbrev pub decreases-loop-elements : goal.decreases-loop-elements
-decreases-loop-elements l = length (elements_left l.elements)
+decreases-loop-elements l = length (walk_left element_segment.read element_of elements_of_section l.elements)

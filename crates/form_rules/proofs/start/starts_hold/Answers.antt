@@ -1,4 +1,4 @@
-use Rattle.std.proofs.Common.{All, ap, ◌∙◌}
+use Rattle.std.proofs.Common.{ap, ◌∙◌}
 use Rattle.wasm_spec.specs.Module.{starts_of_section}
 use Rattle.rule_spec.specs.Indices.{CanStart}
 use Rattle.form_lists.specs.Source.{sections_in, sections_left}

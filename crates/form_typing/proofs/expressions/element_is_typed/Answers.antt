@@ -1,6 +1,6 @@
 use Rattle.form_data.specs.Views.{element_of}
 use Rattle.form_lists.specs.Views.{lists_of}
-use Rattle.form_typing.proofs.GlobalsTyped.{with_offset}
+use Rattle.form_typing.proofs.ElementsTyped.{with_offset}
 use Rattle.form_typing.proofs.expressions.element_is_typed.Goals as goal
 
 pub returns : goal.returns

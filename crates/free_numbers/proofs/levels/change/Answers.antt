@@ -1,3 +1,4 @@
+use Rattle.std.proofs.lemmas.Grind.{common_steps}
 use Rattle.std.proofs.Common.{rules, arith, ◌≡◌, ◌∙◌, ◌<◌, ◌++◌, ◌+◌, ◌/◌, suc, List, ℕ, length, get_or, set, take, drop, sym, ap, subst}
 use Rattle.std.proofs.lemmas.List.{length-map, get_or-map, map-set}
 use Rattle.std.specs.Global.{Vec}
@@ -28,8 +29,7 @@ module _ (less more number place i : ℕ) (orig : List (List ℕ)) (vs : List (V
   ys = change_at less more place (get_or (lists_of vs) i no_counts)
 
   new : lists_of (set vs i w) ≡ set (lists_of vs) i ys
-  new = map-set (λ (u : Vec ℕ). u.items) vs i w ∙ ap (set (lists_of vs) i) (is ∙ ap (λ (u : Vec ℕ). change_at less more place u.items) at
-      ∙ ap (change_at less more place) (sym (get_or-map (λ (u : Vec ℕ). u.items) vs i v no_counts short)))
+  new = grind (arith, common_steps, map-set, get_or-map)
 
   Kept : ℕ → ℕ → List (List ℕ) → Type 0
   Kept j p ls = (changed less more number orig ≡ take j ls ++ changed less more p (drop j ls)) × IsTree (drop j ls) × CanChangeFirst less more p (drop j ls)

@@ -1,19 +1,14 @@
+use Rattle.std.proofs.lemmas.Grind.{common_steps}
 use Rattle.std.proofs.Common.{arith, ◌≡◌, ◌∙◌, ◌+◌, length, get_or, sym, ap}
 use Rattle.free_numbers.specs.Counts.{before}
 use Rattle.free_numbers.proofs.Pairs.{before-next, before-few, all-before}
 use Rattle.free_numbers.proofs.numbers.sum.Goals as goal
 
 pub overflow_add-sum : goal.overflow_add-sum
-overflow_add-sum c =
-    let xs = c.args.counts.now in
-    let k = c.loop-count.count-index in
-    omega (arith, before-few xs k, c.loop-count.invariant, c.requires)
+overflow_add-sum c = grind (arith, common_steps, before-few)
 
 pub loop-count-preserved : goal.loop-count-preserved
-loop-count-preserved c =
-    let xs = c.args.counts.now in
-    let k = c.loop-count.count-index in
-    ap (λ n. n + get_or xs k 0) c.loop-count.invariant ∙ sym (before-next xs k)
+loop-count-preserved c = grind (arith, common_steps, before-next)
 
 pub returns : goal.returns
 returns c =

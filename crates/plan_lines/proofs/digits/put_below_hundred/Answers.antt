@@ -1,4 +1,4 @@
-use Rattle.std.proofs.Common.{◌≡◌, refl, arith, sym}
+use Rattle.std.proofs.Common.{arith}
 use Rattle.std.proofs.lemmas.Fmt.{decimal_digit}
 use Rattle.plan_lines.proofs.Decimal.{decimal_two}
 use Rattle.plan_lines.proofs.digits.put_below_hundred.Goals as goal

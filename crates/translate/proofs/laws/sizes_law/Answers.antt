@@ -1,4 +1,4 @@
-use Rattle.std.proofs.Common.{◌≡◌, ◌≤◌, ◌^◌, ℕ, length, sym, ap, subst}
+use Rattle.std.proofs.Common.{◌≤◌, ◌^◌, ℕ, length, ap, subst}
 use Rattle.std.specs.Prelude.{sum_by}
 use Rattle.translate.proofs.OnePlan.{same-memories}
 use Rattle.translate.proofs.PlansFit.{one-startup, one-context}

@@ -11,12 +11,12 @@ one_more : (c : After-push_reserved) → All (IsCut (string_bytes c.push_str.new
     × (map (text_in (string_bytes c.push_str.new.self)) c.push_reserved.new.self.items
     ≡ map (text_in (string_bytes c.self.inside.buffer)) c.self.inside.places.items ++ c.args.text.now ∷ [])
 one_more c =
-    let p : Place = record { start = c.len-start.result; end = c.len-end.result } in
+    let p = c.in-Some.place in
     pushed (string_bytes c.self.inside.buffer) c.args.text.now (IsUtf8-string_bytes c.self.inside.buffer) c.utf8.text (string_bytes c.push_str.new.self)
     c.self.inside.places.items c.push_reserved.new.self.items p c.in_ok-push_str.ensures.bytes
     (c.push_reserved.ensures.items ∙ ap (λ (ps : List Place). ps ++ p ∷ []) c.in_ok-reserve.ensures.items)
-    (omega (arith, c.len-start.ensures, c.self.inside.buffer.bytes.ok.0))
-    (omega (arith, c.len-end.ensures, c.in_ok-push_str.ensures.len, c.self.inside.buffer.bytes.ok.0)) c.self.invariant
+    (omega (arith, c.in-Some.ensures.0, c.len.ensures, c.self.inside.buffer.bytes.ok.0))
+    (omega (arith, c.in-Some.ensures.1, c.len.ensures, c.self.inside.buffer.bytes.ok.0)) c.self.invariant
 
 pub invariant_of-self-2 : goal.invariant_of-self-2
 invariant_of-self-2 c = (one_more c).0

@@ -8,7 +8,7 @@ use Rattle.form_reader.proofs.cursor.Cursor.expression_into.Goals as goal
 pub operators-init : goal.operators-init
 operators-init c =
     let k : length c.args.self.now.rest.now - 0 ≡ length c.args.self.now.rest.now = omega arith in
-    rw (c.reserve_exact.ensures.items, c.requires, k) (all_so_far (operators_at (length c.args.self.now.rest.now) c.args.self.now.rest.now))
+    rw (c.reserve_exact.ensures.items, c.clear.ensures.items, k) (all_so_far (operators_at (length c.args.self.now.rest.now) c.args.self.now.rest.now))
 
 pub returns-in_err-first : goal.returns-in_err-first
 returns-in_err-first c =

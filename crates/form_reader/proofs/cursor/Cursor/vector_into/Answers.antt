@@ -9,7 +9,7 @@ use Rattle.form_reader.proofs.cursor.Cursor.vector_into.Goals as goal
 pub entries-init : goal.entries-init
 entries-init g c =
     let k : c.in_ok-count.count - 0 ≡ c.in_ok-count.count = omega arith in
-    rw (c.reserve_exact.ensures.items, c.requires, k) (all_so_far (elements_at g.E.Entry.form c.in_ok-count.count c.u32.new.self.rest.now))
+    rw (c.reserve_exact.ensures.items, c.clear.ensures.items, k) (all_so_far (elements_at g.E.Entry.form c.in_ok-count.count c.u32.new.self.rest.now))
 
 pub entries-preserved : goal.entries-preserved
 entries-preserved g c =

@@ -1,3 +1,4 @@
+use Rattle.std.proofs.lemmas.Grind.{common_steps}
 use Rattle.std.proofs.Common.{arith, ◌≡◌, ◌∙◌, ◌<◌, ◌+◌, ◌-◌, List, ℕ, length, get_or, set, sym, ap}
 use Rattle.std.proofs.lemmas.List.{set-get_or}
 use Rattle.free_numbers.specs.Levels.{lists_of, counts_of, CanChange}
@@ -11,9 +12,7 @@ read : (c : Then-index-eq0) → (c.args.number < length (counts_of (lists_of c.s
 read c = value c.self.inside.levels.items c.index.result.now c.args.number c.index-2.result.now c.args.self.now c.self.view_is c.requires c.index.ensures c.index-2.ensures
 
 can : (c : Then-index-eq0) → CanChange 0 1 c.args.number (counts_of (lists_of c.self.inside.levels.items))
-can c =
-    can-give (counts_of (lists_of c.self.inside.levels.items)) c.args.number c.self.invariant.1 c.self.invariant.2 (read c).0
-    (omega (arith, (read c).1, c.if-index-eq0.true))
+can c = grind (arith, common_steps, read, can-give)
 
 pub change-requires-clause-can : goal.change-requires-clause-can
 change-requires-clause-can c = first-can 0 1 c.args.number (lists_of c.self.inside.levels.items) (can (goal.at.change-requires-clause-can c).Then-index-eq0)
@@ -33,12 +32,7 @@ invariant_of-self c =
     (can then) (omega arith) (gives then) (omega arith)
 
 pub returns-then-index-eq0 : goal.returns-then-index-eq0
-returns-then-index-eq0 c =
-    let then = (goal.at.returns-then-index-eq0 c).Then-index-eq0 in
-    let s = c.self.inside in
-    let inv = c.self.invariant in
-    new-counts 0 1 (lists_of s.levels.items) (lists_of c.change.new.levels.items) c.args.number 1 s.free (s.free + 1) c.change.ensures inv.0 inv.1 inv.2 inv.3
-    (can then) (omega arith) (gives then) (omega arith) ∙ ap (λ (l : List ℕ). set l c.args.number 1) c.self.view_is
+returns-then-index-eq0 c = grind (arith, common_steps, can, gives, new-counts)
 
 pub returns-else-index-eq0 : goal.returns-else-index-eq0
 returns-else-index-eq0 c =

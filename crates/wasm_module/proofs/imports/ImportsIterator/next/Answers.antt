@@ -1,5 +1,4 @@
 use Rattle.std.proofs.lemmas.List.Elements.{All-tail}
-use Rattle.std.proofs.Common.{All, subst, ◌∷◌}
 use Rattle.wasm_module.specs.Imports.{IsResolved}
 use Rattle.wasm_module.specs.Record.{record_of}
 use Rattle.wasm_module.proofs.imports.ImportsIterator.next.Goals as goal

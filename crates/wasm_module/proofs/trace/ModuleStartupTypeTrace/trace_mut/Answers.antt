@@ -1,4 +1,3 @@
-use Rattle.wasm_trace.specs.Runs.{MayRunMut}
 use Rattle.wasm_module.proofs.trace.ModuleStartupTypeTrace.trace_mut.Goals as goal
 
 pub trace_mut-requires : goal.trace_mut-requires

@@ -1,0 +1,68 @@
+//! What the rules ask of globals, found for all of them by one walk, since a global that stays in the input is read again in each.
+
+ghost use Rattle.std.specs.Prelude.{◌≡◌, ◌↔◌, ◌≤◌, length, IsTrue, IfOk};
+ghost use Rattle.form_data.specs.Views.{global_of};
+ghost use Rattle.form_lists.specs.Views.{lists_of};
+ghost use Rattle.form_typing.specs.Defaults.{defaults as defaults_of_types};
+ghost use Rattle.form_rules.specs.Outcomes.{HasGlobals};
+ghost use Rattle.form_rules.specs.Walked.{AreGlobalsWalked, IsGlobalAdded};
+
+use crate::references::global_refers;
+use form_data::GlobalDef;
+use form_lists::{Lists, walk_of};
+use form_typing::global_is_typed;
+use rule_spec::Class;
+use std::alloc::{AllocError, Global};
+
+/// Of each rule that asks something of globals, whether all of them keep it.
+#[derive(Clone, Copy)]
+pub struct GlobalsKeep {
+    /// Their expressions have the classes of their places (L6).
+    pub typed: bool,
+    /// Their concrete references name declared types (L10).
+    pub refer: bool,
+}
+
+/// Walks through the globals that the module defines. `defaults` are the types' `struct_defaults`.
+pub fn walk_globals(
+    alloc: Global,
+    lists: &Lists<'_, '_>,
+    defaults: &[bool],
+) -> Result<GlobalsKeep, AllocError>
+    requires counted { HasGlobals (lists_of lists.now) }
+    requires noted { defaults.now ≡ defaults_of_types (lists_of lists.now) }
+    ensures { IfOk result (λ kept. AreGlobalsWalked (lists_of lists.now) kept) }
+{
+    let mut stack = Vec::new(alloc);
+    let mut kept = GlobalsKeep {
+        typed: true,
+        refer: true,
+    };
+    let mut index = lists.imported_globals;
+    let mut globals = walk_of::<GlobalDef>(alloc, lists.source);
+    while globals.advance()? {
+        kept = with_global(lists, defaults, index, kept, globals.entry(), &mut stack)?;
+        index += 1;
+    }
+    Ok(kept)
+}
+
+/// What holds of one global more, which has this index.
+fn with_global(
+    lists: &Lists<'_, '_>,
+    defaults: &[bool],
+    index: usize,
+    before: GlobalsKeep,
+    global: &GlobalDef,
+    stack: &mut Vec<Class>,
+) -> Result<GlobalsKeep, AllocError>
+    requires counted { index ≤ length lists.now.spaces.global_types.items }
+    requires noted { defaults.now ≡ defaults_of_types (lists_of lists.now) }
+    ensures { IfOk result (λ kept. IsGlobalAdded (lists_of lists.now) index before (global_of global.now) kept) }
+{
+    let typed = global_is_typed(lists, defaults, index, global, stack)?;
+    Ok(GlobalsKeep {
+        typed: before.typed && typed,
+        refer: before.refer && global_refers(lists.types.len(), global),
+    })
+}
