@@ -37,7 +37,7 @@ fn code_place(part: &InputPart<'_>) -> Option<u64>
     ensures { option_to_list result ≡ flat_map code_places (sections_of_part part.now) }
 {
     match part {
-        InputPart::Section(InputSection::Other(Payload::Code { offset, .. })) => Some(*offset),
+        InputPart::Section(InputSection::Read(Payload::Code { offset, .. })) => Some(*offset),
         InputPart::Customs(_) => None,
         _ => None,
     }
@@ -47,7 +47,7 @@ fn bodies_in<'d>(alloc: Global, part: InputPart<'d>) -> Vec<FunctionBody<'d>>
     ensures { map body_of result.items ≡ flat_map bodies_of_section (sections_of_part part.entry) }
 {
     match part {
-        InputPart::Section(InputSection::Other(Payload::Code { bodies, .. })) => bodies,
+        InputPart::Section(InputSection::Read(Payload::Code { bodies, .. })) => bodies,
         InputPart::Customs(_) => Vec::new(alloc),
         _ => Vec::new(alloc),
     }

@@ -19,7 +19,7 @@ use crate::escapes::Escaping;
 use crate::offsets::convert_offset;
 use entity_map::{EntityRef, OutOfMemory, PrimaryMap, SecondaryMap};
 use form_data::{Element, ElementKind};
-use form_lists::{Source, elements_of};
+use form_lists::{Source, walk_of};
 use std::alloc::Global;
 use wasm_convert::TypeConvert;
 use wasm_index::{ElemIndex, PassiveElemIndex, TableIndex};
@@ -56,9 +56,9 @@ pub(crate) fn convert_elements(
         (escaping.new ≡ after_escapes escaping.old (flat_map (λ e. item_functions e.items) (flat_map plain.elements_of_section (source_module source.entry)))) }
 {
     let mut segments = ElementSegments::new(alloc);
-    let mut elements = elements_of(alloc, source);
+    let mut elements = walk_of::<Element>(alloc, source);
     while elements.advance()? {
-        segments.add(alloc, env, elements.segment(), escaping)?;
+        segments.add(alloc, env, elements.entry(), escaping)?;
     }
     Ok(segments)
 }

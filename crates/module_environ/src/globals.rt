@@ -14,7 +14,7 @@ use crate::escapes::Escaping;
 use crate::expressions::convert_expression;
 use entity_map::{EntityRef, OutOfMemory};
 use form_data::GlobalDef;
-use form_lists::{Source, entries_of};
+use form_lists::{Source, walk_of};
 use std::alloc::Global;
 use wasm_convert::{ConstExpr, GlobalConstValue, TypeConvert};
 use wasm_index::DefinedGlobalIndex;
@@ -47,8 +47,9 @@ pub(crate) fn first_globals(
         known: Vec::new(alloc),
         left: Vec::new(alloc),
     };
-    for global in entries_of::<GlobalDef>(source) {
-        let initialiser = convert_expression(alloc, env, &global.init, escaping)?;
+    let mut globals = walk_of::<GlobalDef>(alloc, source);
+    while globals.advance()? {
+        let initialiser = convert_expression(alloc, env, &globals.entry().init, escaping)?;
         first.add(initialiser)?;
     }
     Ok(first)

@@ -93,7 +93,7 @@ fn add_section_names(digest: &mut NameDigest, section: Section<'_, '_>)
             add_import_names(digest, Import::in_section(payload));
             add_export_names(digest, Export::in_section(payload));
         }
-        Section::Elements(_) => {}
+        Section::Input(_) => {}
         Section::Customs(_) => {}
     }
 }

@@ -1,8 +1,10 @@
-use Rattle.std.proofs.Common.{◌≡◌, ◌++◌, List, All, length}
+use Rattle.std.proofs.Common.{◌≡◌, ◌++◌, List, length}
 use Rattle.std.specs.List.{flat_map}
 use Rattle.wasm_spec.specs.Module.{Element, elements_of_section}
+use Rattle.form_data.specs.Views.{element_of}
+use Rattle.form_reader.specs.SectionRows.{element_segment}
 use Rattle.form_lists.specs.Source.{source_module}
-use Rattle.form_lists.specs.Elements.{elements_left}
+use Rattle.form_lists.specs.Walk.{walk_left}
 use Rattle.module_environ.specs.Escapes.{item_functions}
 use Rattle.module_environ.specs.EscapeLog.{after_escapes}
 use Rattle.module_environ.specs.Segments.{AreElementsConvertible, HoldsElements}
@@ -13,7 +15,7 @@ abbrev pub invariant-loop-elements : goal.invariant-loop-elements
 invariant-loop-elements g l =
     let env = goal.TypeConvert-dyn g l.env.now in
     let all = flat_map elements_of_section (source_module l.source) in
-    let left = elements_left l.elements in
+    let left = walk_left element_segment.read element_of elements_of_section l.elements in
     record {
       convertible : AreElementsConvertible (env.knows l.env.now.1) l.initial.escaping.count left;
       holds : (came : List Element) × HoldsElements (env.look_up l.env.now.1) came l.segments × (came ++ left ≡ all);
@@ -23,4 +25,4 @@ invariant-loop-elements g l =
 
 -- the segments that are left
 abbrev pub decreases-loop-elements : goal.decreases-loop-elements
-decreases-loop-elements g l = length (elements_left l.elements)
+decreases-loop-elements g l = length (walk_left element_segment.read element_of elements_of_section l.elements)

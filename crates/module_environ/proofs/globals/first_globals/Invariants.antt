@@ -2,8 +2,9 @@ use Rattle.std.proofs.Common.{◌≡◌, ◌+◌, ◌<◌, ◌++◌, length, map
 use Rattle.std.specs.List.{flat_map, filter_map}
 use Rattle.wasm_spec.specs.Module.{globals_of_section}
 use Rattle.form_data.specs.Views.{global_of}
+use Rattle.form_reader.specs.SectionRows.{global_entry}
 use Rattle.form_lists.specs.Source.{source_module}
-use Rattle.form_lists.specs.Sections.{entries_left}
+use Rattle.form_lists.specs.Walk.{walk_left}
 use Rattle.replay_spec.specs.Globals.{simple_of, kept_of}
 use Rattle.module_environ.specs.Convertible.{IsConvertible}
 use Rattle.module_environ.specs.Escapes.{referred}
@@ -14,12 +15,12 @@ use Rattle.module_environ.proofs.GatheredGlobals.{converted, next_initialisers}
 use Rattle.module_environ.proofs.globals.first_globals.Given as goal
 
 -- with what the globals that are left give, all are gathered
-abbrev pub invariant-loop-global : goal.invariant-loop-global
-invariant-loop-global g l =
+abbrev pub invariant-loop-globals : goal.invariant-loop-globals
+invariant-loop-globals g l =
     let env = goal.TypeConvert-dyn g l.env.now in
     let look = env.look_up l.env.now.1 in
     let all = flat_map globals_of_section (source_module l.source) in
-    let globals = entries_left global_of globals_of_section l.global-iterator in
+    let globals = walk_left global_entry.read global_of globals_of_section l.globals in
     record {
       convertible : All (λ g. IsConvertible (env.knows l.env.now.1) l.initial.escaping.count g.init) globals;
       few : seen_globals l.first + length globals < 4294967295;
@@ -28,3 +29,7 @@ invariant-loop-global g l =
       noted : after_escapes l.escaping (flat_map (λ g. referred g.init) globals)
           ≡ after_escapes l.initial.escaping (flat_map (λ g. referred g.init) all);
     }
+
+-- the globals that are left
+abbrev pub decreases-loop-globals : goal.decreases-loop-globals
+decreases-loop-globals g l = length (walk_left global_entry.read global_of globals_of_section l.globals)
