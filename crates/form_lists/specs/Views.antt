@@ -1,21 +1,13 @@
 -- What was gathered, as the plain lists of the definitions.
 use Rattle.std.specs.Prelude.{map}
-use Rattle.wasm_spec.specs.declared.types.UnpackedIndex.{UnpackedIndex}
-use Rattle.wasm_spec.specs.TypeData.{SubType}
 use Rattle.form_data.specs.Views.{sub_type_of}
 use Rattle.rule_spec.specs.Lists as rule
 use Rattle.form_lists.specs.Source.{source_module}
-use Rattle.form_lists.specs.declared.lists.DeclaredType.{DeclaredType}
-use Rattle.form_lists.specs.declared.lists.DeclaredType.TheVariants as declared
 use Rattle.form_lists.specs.declared.lists.Declared.{Declared}
 use Rattle.form_lists.specs.declared.lists.Lists.{Lists}
 
-abbrev pub type_of : DeclaredType → SubType UnpackedIndex UnpackedIndex
-type_of (declared.Listed ty) = sub_type_of ty.now
-type_of (declared.Read ty) = sub_type_of ty
-
 abbrev pub declared_of : Declared → rule.Declared
-declared_of d = record { type = type_of d.ty; index = d.index; group_end = d.group_end }
+declared_of d = record { type = sub_type_of d.ty.now; index = d.index; group_end = d.group_end }
 
 -- the entries of sections stay where they are
 abbrev pub lists_of : Lists → rule.Lists

@@ -1,24 +1,21 @@
 //! Gathers the lists of a module, once, over its sections.
 
-ghost use Rattle.std.specs.Prelude.{◌≡◌, ◌++◌, ◌∷◌, [], map, IfOk, OnOk};
-ghost use Rattle.wasm_spec.specs.Module.{imports, groups, groups_of_section};
-ghost use Rattle.std.specs.List.{flat_map};
-ghost use Rattle.rule_spec.specs.Lists.{declared_groups, lists_of_module};
-ghost use Rattle.form_data.specs.Views.{import_of, table_of, global_of, sub_type_of, group_of, payload_of};
-ghost use Rattle.form_reader.specs.TypeRows.{group};
+ghost use Rattle.std.specs.Prelude.{◌≡◌, ◌+◌, ◌++◌, ◌∷◌, [], map, length, IfOk, OnOk};
+ghost use Rattle.wasm_spec.specs.Module.{imports, groups};
+ghost use Rattle.rule_spec.specs.Lists.{declared_from, declared_groups, lists_of_module};
+ghost use Rattle.form_data.specs.Views.{import_of, table_of, global_of, group_of, payload_of};
 ghost use Rattle.form_reader.specs.SectionRows.{global_entry};
 ghost use Rattle.form_reader.specs.Input.{vector_in};
 ghost use Rattle.form_lists.specs.Source.{source_module, sections_in};
 ghost use Rattle.form_lists.specs.Views.{declared_of, lists_of};
-ghost use Rattle.form_lists.specs.Gathered.{AddsTypes, AddsImports, AddsDefined};
+ghost use Rattle.form_lists.specs.Gathered.{AddsImports, AddsDefined};
 
-use crate::lists::{Declared, DeclaredType, Lists, Spaces};
+use crate::lists::{Declared, Lists, Spaces};
 use crate::sections::entries_of;
 use crate::source::{Section, Source, sections_of};
-use form_data::{GlobalDef, Import, Payload, RecGroup, SubType, TableDef};
+use form_data::{GlobalDef, Import, Payload, RecGroup, TableDef};
 use form_reader::{InputEntries, InputEntry, InputVector};
 use std::alloc::{AllocError, Global};
-use std::mem;
 use wasm_spec::{GlobalType, TableType, TypeRef};
 
 /// The lists of a module.
@@ -58,75 +55,22 @@ fn declared_types<'f>(
     ensures { IfOk result (λ types. map declared_of types.items ≡ declared_groups 0 (groups (source_module source.entry))) }
 {
     let mut types = Vec::new(alloc);
-    for section in sections_of(source) {
-        add_types(alloc, &mut types, section)?;
+    for group in entries_of::<RecGroup>(source) {
+        add_group(&mut types, group)?;
     }
     Ok(types)
 }
 
-fn add_types<'f>(
-    alloc: Global,
-    types: &mut Vec<Declared<'f>>,
-    section: Section<'f, '_>,
-) -> Result<(), AllocError>
-    ensures { OnOk result (AddsTypes types.old.items types.new.items (flat_map groups_of_section (sections_in section.entry))) }
-{
-    match section {
-        Section::Read(payload) => add_listed_groups(types, RecGroup::in_payload(payload)),
-        Section::Input(entries) => add_input_groups(alloc, types, RecGroup::in_input(entries)),
-        Section::Customs(_) => Ok(()),
-    }
-}
-
-fn add_listed_groups<'f>(
-    types: &mut Vec<Declared<'f>>,
-    groups: &'f [RecGroup],
-) -> Result<(), AllocError>
-    ensures { OnOk result (AddsTypes types.old.items types.new.items (map group_of groups.now)) }
-{
-    for group in groups {
-        add_group(types, group)?;
-    }
-    Ok(())
-}
-
-fn add_input_groups(
-    alloc: Global,
-    types: &mut Vec<Declared<'_>>,
-    mut groups: InputVector<'_>,
-) -> Result<(), AllocError>
-    ensures { OnOk result (AddsTypes types.old.items types.new.items (vector_in group.read groups.entry)) }
-{
-    let mut group = RecGroup::none(alloc);
-    'groups: while groups.next_into(alloc, &mut group)? {
-        add_members(types, mem::replace(&mut group.types, Vec::new(alloc)))?;
-    }
-    Ok(())
-}
-
 fn add_group<'f>(types: &mut Vec<Declared<'f>>, group: &'f RecGroup) -> Result<(), AllocError>
-    ensures { OnOk result (AddsTypes types.old.items types.new.items (group_of group.now ∷ [])) }
+    ensures { OnOk result
+        (let members = group_of group.now in let index = length types.old.items in
+        map declared_of types.new.items ≡ map declared_of types.old.items ++ declared_from (index + length members) index members) }
 {
     let group_end = types.len() + group.types.len();
     for ty in &group.types {
         let index = types.len();
         types.push(Declared {
-            ty: DeclaredType::Listed(ty),
-            index,
-            group_end,
-        })?;
-    }
-    Ok(())
-}
-
-fn add_members(types: &mut Vec<Declared<'_>>, members: Vec<SubType>) -> Result<(), AllocError>
-    ensures { OnOk result (AddsTypes types.old.items types.new.items (map sub_type_of members.items ∷ [])) }
-{
-    let group_end = types.len() + members.len();
-    for ty in members {
-        let index = types.len();
-        types.push(Declared {
-            ty: DeclaredType::Read(ty),
+            ty,
             index,
             group_end,
         })?;

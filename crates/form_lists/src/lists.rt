@@ -1,39 +1,19 @@
 //! The lists of a module of which the rules speak.
 
-ghost use Rattle.std.specs.Prelude.{◌≡◌, []};
+ghost use Rattle.std.specs.Prelude.{◌≡◌};
 ghost use Rattle.std.specs.Option.{option_map};
-ghost use Rattle.form_data.specs.Views.{composite_of, sub_type_of};
+ghost use Rattle.form_data.specs.Views.{composite_of};
 ghost use Rattle.rule_spec.specs.Lists.{kind_at};
-ghost use Rattle.form_lists.specs.Views.{type_of, lists_of};
+ghost use Rattle.form_lists.specs.Views.{lists_of};
 
 use crate::source::Source;
 use form_data::{CompositeInnerType, SubType};
-use std::alloc::Global;
 use wasm_spec::{GlobalType, MemoryType, TableType};
 
-/// A type of a form's, or one that was read again.
-#[derive(Drop)]
-pub enum DeclaredType<'f> {
-    Listed(&'f SubType),
-    Read(SubType),
-}
-
-impl DeclaredType<'_> {
-    /// The type.
-    pub fn sub_type(&self) -> &SubType
-        ensures { sub_type_of result.now ≡ type_of self.now }
-    {
-        match self {
-            DeclaredType::Listed(ty) => ty,
-            DeclaredType::Read(ty) => ty,
-        }
-    }
-}
-
 /// A declared type, its index, and the index after the last member of its group.
-#[derive(Drop)]
+#[derive(Clone, Copy)]
 pub struct Declared<'f> {
-    pub ty: DeclaredType<'f>,
+    pub ty: &'f SubType,
     pub index: usize,
     pub group_end: usize,
 }
@@ -61,20 +41,12 @@ pub struct Lists<'f, 'd> {
     pub imported_globals: usize,
 }
 
-impl Lists<'_, '_> {
+impl<'f> Lists<'f, '_> {
     /// The kind of the declared type that has this index.
-    pub fn kind_at(&self, index: u32) -> Option<&CompositeInnerType>
+    pub fn kind_at(&self, index: u32) -> Option<&'f CompositeInnerType>
         ensures { option_map (λ k. composite_of k.now) result ≡ kind_at (lists_of self.now) index }
     {
         let declared = self.types.get(index as usize)?;
-        Some(&declared.ty.sub_type().composite)
-    }
-
-    /// The declared types are no longer asked for.
-    pub fn forget_types(&mut self, alloc: Global)
-        ensures lists { lists_of self.new ≡ record (lists_of self.old) { types = [] } }
-        ensures of_source { self.new.source ≡ self.old.source }
-    {
-        self.types = Vec::new(alloc);
+        Some(&declared.ty.composite)
     }
 }

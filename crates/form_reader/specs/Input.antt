@@ -5,7 +5,6 @@ use Rattle.std.specs.List.{flat_map}
 use Rattle.form_data.specs.declared.form.Custom.{Custom}
 use Rattle.form_data.specs.Views.{payload_of}
 use Rattle.form_reader.specs.Reading.{Fault, Reader}
-use Rattle.form_reader.specs.TypeRows.{group}
 use Rattle.form_reader.specs.SectionRows.{global_entry, element_segment, custom_section}
 use Rattle.form_reader.specs.declared.customs.InputCustoms.{InputCustoms}
 use Rattle.form_reader.specs.declared.input_vectors.InputVector.{InputVector}
@@ -32,7 +31,6 @@ abbrev pub vector_in : {A : Type 0} → Reader A → InputVector → List A
 vector_in read vector = listed read vector.count vector.bytes.now
 
 abbrev pub input_payload_of : InputEntries → plain.Payload
-input_payload_of (entries.Types groups) = plain.Types (vector_in group.read groups)
 input_payload_of (entries.Globals globals) = plain.Globals (vector_in global_entry.read globals)
 input_payload_of (entries.Elements elements) = plain.Elements (vector_in element_segment.read elements)
 

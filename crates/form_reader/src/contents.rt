@@ -12,7 +12,7 @@ use crate::cursor::Cursor;
 use crate::customs::CUSTOM;
 use crate::entity_types::TagType;
 use crate::error::ReadError;
-use crate::input::InputEntries::{self, Elements, Globals, Types};
+use crate::input::InputEntries::{self, Elements, Globals};
 use crate::input::InputSection::{self, Input, Read};
 use crate::vectors::Index;
 use form_data::{DataSegment, Element, Export, GlobalDef, Import, Payload, RecGroup, TableDef};
@@ -44,7 +44,6 @@ fn entries_id(entries: &InputEntries<'_>) -> u8
     ensures { result ≡ spec_section_id (input_payload_of entries.now) }
 {
     match entries {
-        Types(_) => 1,
         Globals(_) => 6,
         Elements(_) => 9,
     }
@@ -108,7 +107,7 @@ impl<'d> Cursor<'d> {
         ensures { Reads (section_contents place id).read input_section_of self.old.rest.now self.new.rest.now result }
     {
         match id {
-            1 => Ok(Input(Types(self.input_vector::<RecGroup>(alloc)?))),
+            1 => Ok(Read(Payload::Types(self.section_of::<RecGroup>(alloc)?))),
             2 => Ok(Read(Payload::Imports(self.section_of::<Import<'d>>(alloc)?))),
             3 => Ok(Read(Payload::Functions(self.section_of::<Index>(alloc)?))),
             4 => Ok(Read(Payload::Tables(self.section_of::<TableDef>(alloc)?))),

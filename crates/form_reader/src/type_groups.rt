@@ -1,9 +1,7 @@
 //! Composite types, subtypes and groups (core specification, 5.3, composite and recursive types).
 
 ghost use Rattle.wasm_spec.specs.declared.types.UnpackedIndex.{UnpackedIndex};
-ghost use Rattle.std.specs.Prelude.{refl};
 ghost use Rattle.wasm_spec.specs.TypeData as data_of;
-ghost use Rattle.wasm_spec.specs.Module as plain;
 ghost use Rattle.form_data.specs.Views.{composite_of, sub_type_of, group_of};
 ghost use Rattle.form_reader.specs.Reading.{Reads, first_byte_at};
 ghost use Rattle.form_reader.specs.Rows.{first_byte};
@@ -11,11 +9,9 @@ ghost use Rattle.form_reader.specs.TypeRows.{function_type, composite_after, sup
 
 use crate::cursor::Cursor;
 use crate::error::ReadError;
-use crate::input::InputEntries;
-use crate::input_vectors::{InputEntry, InputVector};
 use crate::value_types::SHARED;
 use crate::vectors::Entry;
-use form_data::{CompositeInnerType, FuncType, Payload, RecGroup, SubType};
+use form_data::{CompositeInnerType, FuncType, RecGroup, SubType};
 use std::alloc::Global;
 use wasm_spec::{FieldType, UnpackedIndex, ValType, What};
 
@@ -51,51 +47,27 @@ impl<'d> Entry<'d> for SubType {
     }
 }
 
-impl<'d> InputEntry<'d> for RecGroup {
+impl<'d> Entry<'d> for RecGroup {
+    type Value = RecGroup;
+
     ghost Seen = { data_of.Group UnpackedIndex UnpackedIndex };
 
     ghost form = { group.read };
 
     ghost view = { group_of };
 
-    ghost of_section = { plain.groups_of_section };
-
-    ghost no_customs = { λ name bytes. refl };
-
-    fn in_payload<'f>(payload: &'f Payload<'d>) -> &'f [Self] {
-        match payload {
-            Payload::Types(groups) => groups.as_slice(),
-            _ => &[],
-        }
-    }
-
-    #[tactic(auto, using(crate::proofs::Listed::none_there))]
-    fn in_input(entries: InputEntries<'d>) -> InputVector<'d> {
-        match entries {
-            InputEntries::Types(groups) => groups,
-            _ => InputVector::none(),
-        }
-    }
-
-    fn none(alloc: Global) -> RecGroup {
-        RecGroup {
-            types: Vec::new(alloc),
-        }
-    }
-
     /// A subtype alone, or the members of a group.
     #[tactic(auto, unfolding(crate::specs::TypeRows::group))]
-    fn read_into(&mut self, alloc: Global, cursor: &mut Cursor<'d>) -> Result<(), ReadError> {
+    fn read(alloc: Global, cursor: &mut Cursor<'d>) -> Result<RecGroup, ReadError> {
         let first = cursor.byte()?;
         if first == GROUP {
-            return cursor.vector_into::<SubType>(alloc, &mut self.types);
+            let types = cursor.vector::<SubType>(alloc)?;
+            return Ok(RecGroup { types });
         }
-        self.types.truncate(1);
-        if let Some(ty) = self.types.first_mut() {
-            return cursor.sub_type_into(alloc, first, ty);
-        }
-        self.types.push(cursor.sub_type_after(alloc, first)?)?;
-        Ok(())
+        let sub_type = cursor.sub_type_after(alloc, first)?;
+        let mut types = Vec::with_capacity(alloc, 1)?;
+        types.push(sub_type)?;
+        Ok(RecGroup { types })
     }
 }
 
@@ -108,26 +80,6 @@ impl<'d> Cursor<'d> {
         let params = self.vector::<ValType>(alloc)?;
         let results = self.vector::<ValType>(alloc)?;
         Ok(CompositeInnerType::Func(FuncType { params, results }))
-    }
-
-    /// As `composite_after`, in the place of a type that is no longer asked for, whose lists are used again.
-    #[tactic(auto, unfolding(crate::specs::TypeRows::composite_after, crate::specs::TypeRows::function_type))]
-    fn composite_into(
-        &mut self,
-        alloc: Global,
-        first: u8,
-        composite: &mut CompositeInnerType,
-    ) -> Result<(), ReadError>
-        ensures { Reads (composite_after first).read (λ u. composite_of composite.new) self.old.rest.now self.new.rest.now result }
-    {
-        if let CompositeInnerType::Func(function) = composite
-            && first == FUNCTION
-        {
-            self.vector_into::<ValType>(alloc, &mut function.params)?;
-            return self.vector_into::<ValType>(alloc, &mut function.results);
-        }
-        *composite = self.composite_after(alloc, first)?;
-        Ok(())
     }
 
     /// What follows the first byte of a composite type.
@@ -173,21 +125,6 @@ impl<'d> Cursor<'d> {
             supertype,
             composite,
         })
-    }
-
-    /// As `sub_type_after`, in the place of a type that is no longer asked for, whose lists are used again.
-    #[tactic(auto, unfolding(crate::specs::TypeRows::sub_type_after, crate::specs::TypeRows::with_supertype))]
-    fn sub_type_into(&mut self, alloc: Global, first: u8, ty: &mut SubType) -> Result<(), ReadError>
-        ensures { Reads (sub_type_after first).read (λ u. sub_type_of ty.new) self.old.rest.now self.new.rest.now result }
-    {
-        ty.is_final = first != OPEN;
-        if first != OPEN && first != FINAL {
-            ty.supertype = None;
-            return self.composite_into(alloc, first, &mut ty.composite);
-        }
-        ty.supertype = self.supertype()?;
-        let inner = self.byte()?;
-        self.composite_into(alloc, inner, &mut ty.composite)
     }
 
     /// What follows the first byte of a subtype; a composite type alone is final and has no supertype.

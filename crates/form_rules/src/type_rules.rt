@@ -25,7 +25,7 @@ pub fn types_hold(lists: &Lists<'_, '_>) -> bool
 fn is_declared_well(lists: &Lists<'_, '_>, declared: &Declared<'_>) -> bool
     ensures { IsTrue result ↔ IsDeclaredWell (lists_of lists.now) (declared_of declared.now) }
 {
-    let ty = declared.ty.sub_type();
+    let ty = declared.ty;
     kind_is_below(declared.group_end, &ty.composite)
         && supertype_is_below(declared.index, ty)
         && continues_function(lists, &ty.composite)

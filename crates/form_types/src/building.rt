@@ -18,7 +18,7 @@ use crate::numbering::Types;
 use crate::validator::Validator;
 use entity_map::{OutOfMemory, Seeded};
 use form_data::{Form, RecGroup};
-use form_lists::{Source, walk_of};
+use form_lists::{Source, entries_of};
 use std::alloc::{AllocError, Global};
 use std::collections::HashMap;
 use wasm_spec::CoreTypeId;
@@ -91,7 +91,7 @@ impl Types {
         Types::build_from(alloc, validator, Source::Form(form))
     }
 
-    /// The types of a module that keeps the rules, whether they stay in the input or not.
+    /// The types of a module that keeps the rules, wherever its element segments are.
     ///
     /// # Errors
     /// `OutOfMemory`.
@@ -109,9 +109,7 @@ impl Types {
         let seed = seed_of(source);
         let mut numbering = Numbering::new(alloc, seed);
         let mut key = CanonicalGroup::new(alloc);
-        let mut groups = walk_of::<RecGroup>(alloc, source);
-        'groups: while groups.advance()? {
-            let group = groups.entry();
+        for group in entries_of::<RecGroup>(source) {
             if !group.types.is_empty() {
                 numbering.add_group(alloc, &mut key, group)?;
             }

@@ -4,8 +4,9 @@ use Rattle.std.specs.List.{list_all}
 use Rattle.std.proofs.lemmas.List.Elements.{All-nil, All-cons, All-head, All-tail}
 use Rattle.wasm_spec.specs.declared.types.FieldType.{FieldType}
 use Rattle.wasm_spec.specs.TypeData.{field_of}
+use Rattle.form_data.specs.Views.{composite_of}
 use Rattle.form_lists.specs.declared.lists.Declared.{Declared as Gathered}
-use Rattle.form_lists.specs.Views.{type_of, declared_of}
+use Rattle.form_lists.specs.Views.{declared_of}
 use Rattle.rule_spec.specs.Lists.{Declared}
 use Rattle.rule_spec.specs.Typing.{has_default}
 use Rattle.form_typing.specs.Defaults.{defaults_of}
@@ -43,6 +44,6 @@ tells_defaults false fs tells = by_cases (list_all has_default (map field_of fs)
 -- ---- the signature of `struct.new_default`
 
 -- of the types as they were gathered
-pub noted_all : (ds : List Gathered) → map (λ (d : Gathered). defaults_of (type_of d.ty).composite.inner) ds ≡ map (λ (d : Declared). defaults_of d.type.composite.inner) (map declared_of ds)
+pub noted_all : (ds : List Gathered) → map (λ (d : Gathered). defaults_of (composite_of d.ty.now.composite)) ds ≡ map (λ (d : Declared). defaults_of d.type.composite.inner) (map declared_of ds)
 noted_all [] = refl
-noted_all (d ∷ ds) = ap (λ (bs : List Bool). defaults_of (type_of d.ty).composite.inner ∷ bs) (noted_all ds)
+noted_all (d ∷ ds) = ap (λ (bs : List Bool). defaults_of (composite_of d.ty.now.composite) ∷ bs) (noted_all ds)

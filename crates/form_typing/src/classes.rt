@@ -82,7 +82,7 @@ pub fn struct_defaults(alloc: Global, lists: &Lists<'_, '_>) -> Result<Vec<bool>
 {
     let mut defaults = Vec::new(alloc);
     for declared in &lists.types {
-        defaults.push(kind_has_defaults(&declared.ty.sub_type().composite))?;
+        defaults.push(kind_has_defaults(&declared.ty.composite))?;
     }
     Ok(defaults)
 }

@@ -32,7 +32,7 @@ fn struct_fields(kind: &CompositeInnerType) -> Option<&[FieldType]>
     }
 }
 
-fn struct_at<'a>(lists: &'a Lists<'_, '_>, index: u32) -> Option<&'a [FieldType]>
+fn struct_at<'f>(lists: &Lists<'f, '_>, index: u32) -> Option<&'f [FieldType]>
     ensures { option_map (λ fields. map field_of fields.now) result ≡ struct_at (lists_of lists.now) index }
 {
     match lists.kind_at(index) {

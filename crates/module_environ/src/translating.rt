@@ -158,9 +158,7 @@ fn translate_form<'d>(
     ensures stops { types.new.is_poisoned ≡ false
         → (types.new ≡ types.old) ⊎ (Keeps (source_module source.entry) × IsOnTheWay (source_module source.entry) validator.now (builder_view types.new)) }
 {
-    let mut lists = checked_lists(alloc, source)?;
-    // The rules asked for the types, and nothing does from here on: their memory is given back before it is wanted for the types by ids.
-    lists.forget_types(alloc);
+    let lists = checked_lists(alloc, source)?;
     translate_lists(alloc, tunables, validator, types, &lists, translation)
 }
 
