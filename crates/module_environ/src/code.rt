@@ -61,6 +61,7 @@ fn add_bodies<'d>(
     ensures { OnOk result (map (λ input. body_of input.body) bodies.new
         ≡ map (λ input. body_of input.body) bodies.old ++ map body_of more.entry.items) }
 {
+    bodies.reserve(more.len())?;
     for body in more {
         bodies.push(FunctionBodyData { body })?;
     }

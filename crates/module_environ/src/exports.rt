@@ -16,7 +16,7 @@ ghost use Rattle.module_environ.specs.Pooled.{with_texts, exported_names, HasTex
 use crate::escapes::Escaping;
 use entity_map::{Atom, EntityRef, OutOfMemory, StringPool};
 use form_data::Export;
-use form_lists::{Source, entries_in, entries_of, sections_of};
+use form_lists::{Entry, Source, entries_in, entries_of, sections_of};
 use indexmap::IndexMap;
 use std::alloc::Global;
 use wasm_index::{FuncIndex, GlobalIndex, MemoryIndex, TableIndex, TagIndex};
@@ -43,7 +43,7 @@ pub(crate) fn convert_exports(
 {
     // An atom is a number of our own, which no name chooses: the map needs no seed.
     let mut exports = IndexMap::new(alloc);
-    exports.reserve(count_exports(source))?;
+    exports.reserve(count_entries::<Export<'_>>(source))?;
     for export in entries_of::<Export<'_>>(source) {
         add_export(&mut exports, strings, export)?;
         note_function(escaping, export)?;
@@ -51,11 +51,11 @@ pub(crate) fn convert_exports(
     Ok(exports)
 }
 
-/// How many exports the sections list, which is the room that their map takes.
-fn count_exports(source: Source<'_, '_>) -> usize {
+/// How many entries of one kind the sections list, which is the room that they take.
+pub(crate) fn count_entries<'d, E: Entry<'d>>(source: Source<'_, 'd>) -> usize {
     let mut count: usize = 0;
     for section in sections_of(source) {
-        count = count.saturating_add(entries_in::<Export<'_>>(section).len());
+        count = count.saturating_add(entries_in::<E>(section).len());
     }
     count
 }

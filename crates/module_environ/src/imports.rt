@@ -13,6 +13,7 @@ ghost use Rattle.module_environ.specs.Imported.{AreCounted, HaveIndices, counted
 ghost use Rattle.module_environ.specs.Pooled.{with_texts, import_names, imported_names, exported_names, HasTexts};
 ghost use Rattle.module_environ.specs.Seeds.{section_names};
 
+use crate::exports::count_entries;
 use entity_map::{EntityRef, NameDigest, OutOfMemory, StringPool};
 use form_data::{Export, Import};
 use form_lists::{Entry, Section, Source, entries_of, sections_of};
@@ -73,8 +74,22 @@ fn take_next<Space>(count: &mut u32) -> Index<Space>
     index
 }
 
+/// How many names of modules a pool has room for: most modules import from few.
+const FEW_MODULES: usize = 64;
+
+/// A pool of no text, with room for the name of each import and of each export.
+pub(crate) fn pool_for(alloc: Global, source: Source<'_, '_>) -> Result<StringPool, OutOfMemory>
+    ensures { IfOk result (λ pool. pool ≡ []) }
+{
+    let mut pool = StringPool::seeded(alloc, name_seed(source));
+    let imports = count_entries::<Import<'_>>(source);
+    let names = imports.saturating_add(count_entries::<Export<'_>>(source));
+    pool.reserve(names.saturating_add(FEW_MODULES))?;
+    Ok(pool)
+}
+
 /// The seed of the pool: a digest of all names of imports and exports. Names that are chosen to collide change it as well.
-pub(crate) fn name_seed(source: Source<'_, '_>) -> u64
+fn name_seed(source: Source<'_, '_>) -> u64
     ensures { result ≡ sip.finish (fold sip.write sip.initial (flat_map section_names (source_module source.entry))) }
 {
     let mut digest = NameDigest::new();

@@ -19,10 +19,10 @@ use crate::exports::convert_exports;
 use crate::first_values::{first_values, no_images};
 use crate::functions::{exported_signatures, function_types};
 use crate::globals::{FirstGlobals, first_globals};
-use crate::imports::{convert_imports, name_seed};
+use crate::imports::{convert_imports, pool_for};
 use crate::spaces::{convert_globals, convert_memories, convert_tables, hold_collected};
 use crate::start::start_function;
-use entity_map::{OutOfMemory, PrimaryMap, StringPool};
+use entity_map::{OutOfMemory, PrimaryMap};
 use form_lists::Lists;
 use init_plan::ModuleTranslation;
 use std::alloc::Global;
@@ -81,7 +81,7 @@ fn fill_entities(
     requires looks { LooksUpTypes (module_in lists.now) (knows env.now) (look_up env.now) }
     ensures { OnOk result (FillsEntities (module_in lists.now) entities.old entities.new) }
 {
-    entities.strings = StringPool::seeded(alloc, name_seed(lists.source));
+    entities.strings = pool_for(alloc, lists.source)?;
     let (initializers, counts) = convert_imports(alloc, lists.source, &mut entities.strings)?;
     entities.initializers = initializers;
     entities.num_imported_funcs = counts.functions as usize;

@@ -1,6 +1,6 @@
 //! A text that grows in memory.
 
-ghost use Rattle.std.specs.Prelude.{◌≡◌, ◌<◌, ◌≤◌, ◌++◌, ◌∷◌, [], false, OnOk};
+ghost use Rattle.std.specs.Prelude.{◌≡◌, ◌<◌, ◌≤◌, ◌++◌, ◌∷◌, [], false, IfOk, OnOk};
 ghost use Rattle.std.specs.Fmt.{digit_glyph, AppendsText};
 ghost use Rattle.plan_lines.specs.Expressions.{hexadecimal};
 
@@ -38,6 +38,16 @@ impl Text {
             room: Vec::new(alloc),
             used: 0,
         }
+    }
+
+    /// The empty text, with room for `n` bytes.
+    pub fn with_capacity(alloc: Global, n: usize) -> Result<Self, OutOfMemory>
+        ensures { IfOk result (λ text. text ≡ []) }
+    {
+        Ok(Text {
+            room: Vec::with_capacity(alloc, n)?,
+            used: 0,
+        })
     }
 
     /// The bytes of the text.

@@ -17,6 +17,9 @@ use plan_lines::{
 };
 use std::alloc::Global;
 
+/// The most bytes for which a text has room before it grows.
+const MOST_ROOM: usize = 64 << 20;
+
 /// The text of a plan, each line ended by a line feed.
 ///
 /// # Errors
@@ -26,7 +29,9 @@ pub fn plan_text(alloc: Global, plan: &Plan<'_>) -> Result<Vec<u8>, OutOfMemory>
     requires { IsPrintable plan.now.translation }
     ensures { IfOk result (λ text. text.items ≡ text_of_plan plan.now) }
 {
-    let mut text = Text::new(alloc);
+    // A long text that grows is moved, and memory that is not written costs nothing: so it begins with more room than most texts take.
+    let length = plan.translation.wasm.len();
+    let mut text = Text::with_capacity(alloc, 4 * length.min(MOST_ROOM / 4))?;
     append_types(&mut text, &plan.types)?;
     append_entities(&mut text, &plan.translation)?;
     append_names(&mut text, &plan.translation)?;
