@@ -62,8 +62,7 @@ told n d place (x ∷ xs) = over (last_cover_from (suc n) place (map pair_of xs)
         is = let k = t.is in omega arith;
         covering = record { part = c.part; is_part = c.is_part; from = c.from; upto = c.upto; byte = c.byte };
       }
-  over None true is t =
-      grind (arith, within_is, covers)
+  over None true is t = grind (arith, within_is, covers)
   over None false is t = t ∙ ap (λ (o : Option ℕ). unwrap_or o d) (misses x place (not_within x.start (end_of x) place is))
 
 -- the byte at a place is that of its last cover

@@ -31,8 +31,7 @@ module _ (imports : ℕ) (memories : List ImageMemory) (active : List ActiveSegm
   pub fit_on : (m : ℕ) (laid : Vec Laid) → slice_get all m ≡ Some laid → All (λ x. laid_end x < 2 ^ 64) laid.items
   fit_on m laid at = λ k d l. all_mapped piece_of Fits laid.items k d (subst (All Fits) (sym (are.each m) ∙ ap pieces_in at) segments) l where
     ends : (s : ActiveSegment) → IsPlaced imports memories s → end_of s < 2 ^ 64
-    ends s p =
-        grind (arith, start-placed imports memories s p)
+    ends s p = grind (arith, start-placed imports memories s p)
 
     segments : All Fits (map laid_piece (bytes_on m active))
     segments = All-map Fits laid_piece (bytes_on m active)
@@ -52,7 +51,6 @@ pub may_more : (options : ImageOptions) (imports : ℕ) (memories : List ImageMe
     → ((k : ℕ) (memory : ImageMemory) → k < m → slice_get memories k ≡ Some memory → bytes_on (imports + k) active ≢ [] → MayBeImage options memory (bytes_on (imports + k) active))
     → (k : ℕ) (memory : ImageMemory) → k < m + 1 → slice_get memories k ≡ Some memory → bytes_on (imports + k) active ≢ [] → MayBeImage options memory (bytes_on (imports + k) active)
 may_more options imports memories active m first at may so_far k memory l found = ⊎_elim
-    (λ (is : k ≡ m).
-    grind arith)
+    (λ (is : k ≡ m). grind arith)
     (λ (ne : k ≢ m). so_far k memory (omega arith) found)
     (cases_eq k m)

@@ -22,8 +22,7 @@ moved (s ∷ rest) m place d = ⊎_elim
     grind (arith, and_parts, (moved rest m place (unwrap_or (item_at 0 place (laid_piece s)) d))))
     (λ (test : (s.memory == m && nat_lt 0 (length s.bytes)) ≡ false).
     let none : item_at m place (piece_of offset_of s) ≡ None = ⊎_elim (λ e. e)
-    (λ (c : CoversAt m place (piece_of offset_of s)).
-    grind (arith, eq-eqb, lt-ltb, and_from, false≢true))
+    (λ (c : CoversAt m place (piece_of offset_of s)). grind (arith, eq-eqb, lt-ltb, and_from, false≢true))
     (item-cover m place (piece_of offset_of s)) in
     rw test (ap (λ o. last_item m place (unwrap_or o d) (map (piece_of offset_of) rest)) none ∙ moved rest m place d))
     (cases_Bool (s.memory == m && nat_lt 0 (length s.bytes)))

@@ -27,8 +27,7 @@ listed_more R n ys y h so_far =
           let is : get_or (ys ++ y ∷ []) m answer ≡ answer = get_or_from_slice_get (ys ++ y ∷ []) m answer answer at in
           ⊎_elim
           (λ (lt : m < length ys). so_far.each m answer (slice_get-get_or ys m answer lt ∙ ap Some (sym (get_or_append_left ys (y ∷ []) answer m lt) ∙ is)))
-          (λ (ge : length ys ≤ m).
-          grind (arith, get_or_push))
+          (λ (ge : length ys ≤ m). grind (arith, get_or_push))
           (cases_lt m (length ys));
     }
 
@@ -61,5 +60,4 @@ same_sums page contents n (s ∷ ss) (i ∷ is) z w = by_first s i (z.each 0 s r
       by_first None None a b more = let one = sum_by-cons span_size None ss in omega (arith, one, more)
       by_first None (Some i) a b more = absurd (b.is_first.nonzero (a b.first))
       by_first (Some s) None a b more = absurd (a.is_first.nonzero (b a.ends.first))
-      by_first (Some s) (Some i) a b more =
-          grind (arith, sum_by-cons span_size (Some s) ss, sum_by-cons length i.bytes (image_bytes is), size_image page (contents 0) s i a b)
+      by_first (Some s) (Some i) a b more = grind (arith, sum_by-cons span_size (Some s) ss, sum_by-cons length i.bytes (image_bytes is), size_image page (contents 0) s i a b)

@@ -223,8 +223,7 @@ IsNumber segments s = (s.1 < length segments) × (s.0 ≡ start_of segments s.1)
 module _ (segments starts : List (ℕ × ℕ)) (i : ℕ) (within : i < length segments) where
   pub each_more : ((k : ℕ) → k < i → Contains starts (start_of segments k, k)) → (k : ℕ) → k < i + 1 → Contains (starts ++ (start_of segments i, i) ∷ []) (start_of segments k, k)
   each_more each k l = ⊎_elim (λ (lt : k < i). Contains-append_left starts ((start_of segments i, i) ∷ []) (start_of segments k, k) (each k lt))
-      (λ (ge : i ≤ k).
-      grind (arith, Contains-push starts (start_of segments i, i))) (cases_lt k i)
+      (λ (ge : i ≤ k). grind (arith, Contains-push starts (start_of segments i, i))) (cases_lt k i)
 
   pub numbers_more : All (IsNumber segments) starts → All (IsNumber segments) (starts ++ (start_of segments i, i) ∷ [])
   numbers_more all = All-push (IsNumber segments) starts (start_of segments i, i) all (within, refl)

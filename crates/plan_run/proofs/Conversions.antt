@@ -67,8 +67,7 @@ module _ (nodes : List Node) (ordered : AreOrdered nodes) (a : Operator) (is : k
         → (NamesBelow k v) × (converted (conversion a) (value_in (terms_of nodes) (value.Term k) ∷ []) ≡ Some (value_in (terms_of nodes) v))
     over [] e one below first = absurd one
     over (w ∷ x ∷ xs) e one below first = absurd one
-    over (w ∷ []) e one below first =
-        grind (arith, term-in, node-is, All-head, back)
+    over (w ∷ []) e one below first = grind (arith, term-in, node-is, All-head, back)
 
   module _ (does : undoes a (operator_of n.op) ≡ true) where
     pub given-below : (o : Option Value) → o ≡ slice_get n.args.items 0 → IfSome o (NamesBelow k)

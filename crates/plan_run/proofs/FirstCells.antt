@@ -62,8 +62,7 @@ module _ (globals : List plain.Value) (fields : ℕ → ℕ) where
         let size = low-size i object low at in
         let null : plain.Value = plain.Ref plain.Null in
         let found : slice_get object place ≡ Some (get_or object place null) = slice_get-get_or object place null (omega arith) in
-        let read : base_at i place ≡ value_or_null (slice_get (unwrap_or (slice_get imported i) []) place) =
-        grind (arith, lt-ltb, cond-true) in
+        let read : base_at i place ≡ value_or_null (slice_get (unwrap_or (slice_get imported i) []) place) = grind (arith, lt-ltb, cond-true) in
         found ∙ sym (ap Some (read ∙ ap (λ o. value_or_null (slice_get (unwrap_or o []) place)) (low-at i object low at) ∙ ap value_or_null found))
 
     high-at : (j : ℕ) (object : List plain.Value) → slice_get objects (length imported + j) ≡ Some object

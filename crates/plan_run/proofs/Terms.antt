@@ -120,8 +120,7 @@ push-means nodes n =
 pub push-ordered : (nodes : List Node) (n : Node) → AreOrdered nodes → IsNodeAt (length nodes) n → AreOrdered (nodes ++ n ∷ [])
 push-ordered nodes n ordered is k m at = ⊎_elim
     (λ (low : k < length nodes). ordered k m (sym (get-append-low nodes (n ∷ []) k low) ∙ at))
-    (λ (high : length nodes ≤ k).
-    grind (arith, slice_get_within (nodes ++ n ∷ []) k m at, length_push nodes n, get-append-high nodes (n ∷ []) 0))
+    (λ (high : length nodes ≤ k). grind (arith, slice_get_within (nodes ++ n ∷ []) k m at, length_push nodes n, get-append-high nodes (n ∷ []) 0))
     (cases_lt k (length nodes))
 
 pub push-grows : (nodes : List Node) (n : Node) → AreOrdered nodes → IsNodeAt (length nodes) n → Grows nodes (nodes ++ n ∷ [])

@@ -36,8 +36,7 @@ live-in (e ∷ gs) i ordered has = by (list_any (nat_eq i) e.1.indices) refl (li
   by : (c : Bool) → list_any (nat_eq i) e.1.indices ≡ c → (list_any (nat_eq i) (indices_of gs) ≡ true → IsIn gs i) → IsIn (e ∷ gs) i
   by true is rest =
       record { first = e.0; group = e.1; kept = ap (λ (c : Bool). if c then Some e.1 else found gs e.0) (eq-eqb e.0 e.0 refl); has = is }
-  by false is rest =
-      grind (arith, any-second, found-above, ne_eqb)
+  by false is rest = grind (arith, any-second, found-above, ne_eqb)
 
 -- a kept group whose indices are those at a first index
 record IsOf (o : Option Group) (i : ℕ) : Type 0 where

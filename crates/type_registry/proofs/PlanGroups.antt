@@ -45,8 +45,7 @@ pub may-plan : (l : TypeList) → Listed l → length l.types < 4294967295 → M
 may-plan l listed few =
     planned-from l (map span_of l.groups) 0 (length (list_of l).types) listed.well_named.orderly (λ k lt. each k lt) where
       each : (k : ℕ) → k < length (list_of l).groups → MayBePlanned l (span_at (list_of l) k)
-      each k lt =
-          grind (arith, stands-at (list_of l) listed.well_named k lt, length-map l.types interned_of, may-cons l listed k lt, may-use l listed k lt)
+      each k lt = grind (arith, stands-at (list_of l) listed.well_named k lt, length-map l.types interned_of, may-cons l listed k lt, may-use l listed k lt)
 
 -- ---- groups that are found
 

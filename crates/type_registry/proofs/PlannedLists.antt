@@ -56,8 +56,7 @@ module _ (equal : (x y : List WasmSubType) → (Eq x y ≡ true) ↔ (x ≡ y)) 
       let c = canonical_of l p.listed.indices s in
       let new = next_group gs p.fresh c (size_of s) in
       either-planned gs l p s (λ q. IsTaken p.listed q.listed q.fresh)
-      (λ g is.
-      grind (arith, found-equal (gs ++ p.fresh) c g is))
+      (λ g is. grind (arith, found-equal (gs ++ p.fresh) c g is))
       (λ none. record {
         group = new;
         listed = refl;
@@ -140,8 +139,7 @@ module _ (equal : (x y : List WasmSubType) → (Eq x y ≡ true) ↔ (x ≡ y)) 
     by false is =
         b.listed key n is
         ∙ flat-same (indices_at r) (indices_at now) n.groups
-        (λ first lt.
-        grind (arith, kept-listed r b key n first is lt, still, same-indices))
+        (λ first lt. grind (arith, kept-listed r b key n first is lt, still, same-indices))
 
   pub registered-balanced : IsBalanced now
   registered-balanced = grind (arith, registered-sound, ne_eqb, counted-now, had-now, listed-now)

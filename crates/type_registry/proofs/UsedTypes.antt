@@ -80,8 +80,7 @@ module _ {Key : Type 0} (content : Key → List WasmSubType) (live : ℕ) (known
   pub no-type : owner_at os n ≡ None → lookup (nat_eq n) (used_types now) ≡ None
   no-type none = ap (λ es. lookup (nat_eq n) (used_types es)) (sym seen) ∙ miss gs 0 n absent where
     absent : (m : ℕ) (g : Group) → group_in gs m ≡ Some g → list_any (nat_eq n) g.indices ≡ false
-    absent m g at = false_from_ne_true (list_any (nat_eq n) g.indices) (λ e.
-        grind (arith, place-any g.indices n e))
+    absent m g at = false_from_ne_true (list_any (nat_eq n) g.indices) (λ e. grind (arith, place-any g.indices n e))
 
   -- an owner has a group, and its member's type is that of the index
   pub some-type : (o : Owner) (g : Group) → owner_at os n ≡ Some o → group_in gs o.first ≡ Some g
@@ -95,8 +94,7 @@ module _ {Key : Type 0} (content : Key → List WasmSubType) (live : ℕ) (known
         once q there = ap (λ (p : Owner). p.place) (same_Some (record { first = o.first; place = q }) o (sym (k.owned o.first q n g at there) ∙ is))
 
         others : (j : ℕ) (h : Group) → (j ≡ o.first → ⊥) → group_in gs j ≡ Some h → list_any (nat_eq n) h.indices ≡ false
-        others j h apart there = false_from_ne_true (list_any (nat_eq n) h.indices) (λ e.
-            grind (arith, place-any h.indices n e))
+        others j h apart there = false_from_ne_true (list_any (nat_eq n) h.indices) (λ e. grind (arith, place-any h.indices n e))
 
   -- an owner has a group
   pub no-group : (o : Owner) → owner_at os n ≡ Some o → group_in gs o.first ≡ None → ⊥
