@@ -1,6 +1,6 @@
 -- The last piece that covers a place, and the byte there.
 use Rattle.std.proofs.Common.{◌≡◌, ℕ, suc, ◌+◌, ◌-◌, ◌<◌, ◌≤◌, Bool, true, false, List, [], ◌∷◌, map, get_or, Option, Some, None, ◌⊎◌, inl, inr, refl, sym, ◌∙◌, ap, subst, arith}
-use Rattle.std.specs.Prelude.{slice_get, unwrap_or, nat_le}
+use Rattle.std.specs.Prelude.{slice_get, unwrap_or}
 use Rattle.std.proofs.Math.Logic.{⊎_elim}
 use Rattle.std.proofs.lemmas.Bool.{cases_lt, le-leb}
 use Rattle.std.proofs.lemmas.Bool.Decides.{nat_tests}
@@ -49,12 +49,7 @@ pub covers : (x : Laid) (place : ℕ) → x.start ≤ place → place < end_of x
 covers x place h l = rw (le-leb x.start place h) (slice_get-get_or x.bytes.now (place - x.start) 0 (omega arith))
 
 pub misses : (x : Laid) (place : ℕ) → (place < x.start) ⊎ (end_of x ≤ place) → item_at 0 place (piece_of x) ≡ None
-misses x place o = ⊎_elim low high o where
-  low : place < x.start → item_at 0 place (piece_of x) ≡ None
-  low l = let t : nat_le x.start place ≡ false = grind (arith, nat_tests) in rw t refl
-
-  high : end_of x ≤ place → item_at 0 place (piece_of x) ≡ None
-  high l = rw (le-leb x.start place (omega arith)) (slice_get_past x.bytes.now (place - x.start) (omega arith))
+misses x place o = grind (arith, nat_tests, le-leb, slice_get_past)
 
 told : (n d place : ℕ) (laid : List Laid) → Told n d place laid (last_cover_from n place (map pair_of laid))
 told n d place [] = refl
@@ -67,22 +62,12 @@ told n d place (x ∷ xs) = over (last_cover_from (suc n) place (map pair_of xs)
         is = let k = t.is in omega arith;
         covering = record { part = c.part; is_part = c.is_part; from = c.from; upto = c.upto; byte = c.byte };
       }
-  over None true is t =
-      let w = within_is x.start (end_of x) place is in
-      record {
-        number = 0;
-        is = omega arith;
-        covering = record { part = x; is_part = refl; from = w.0; upto = w.1; byte = t ∙ ap (λ (o : Option ℕ). unwrap_or o d) (covers x place w.0 w.1) };
-      }
+  over None true is t = grind (arith, within_is, covers)
   over None false is t = t ∙ ap (λ (o : Option ℕ). unwrap_or o d) (misses x place (not_within x.start (end_of x) place is))
 
 -- the byte at a place is that of its last cover
 pub covered : (laid : List Laid) (place s : ℕ) → last_cover_from 0 place (map pair_of laid) ≡ Some s → Covering laid s place (contents_of laid place)
-covered laid place s e =
-    let P : Option ℕ → Type 0 = λ o. Told 0 0 place laid o in
-    let t : Numbered 0 0 place laid s = subst P e (told 0 0 place laid) in
-    let k : s ≡ t.number = let i = t.is in omega arith in
-    rw k t.covering
+covered laid place s e = grind (arith, told 0 0 place laid)
 
 pub uncovered : (laid : List Laid) (place : ℕ) → last_cover_from 0 place (map pair_of laid) ≡ None → contents_of laid place ≡ 0
 uncovered laid place e = let P : Option ℕ → Type 0 = λ o. Told 0 0 place laid o in subst P e (told 0 0 place laid)

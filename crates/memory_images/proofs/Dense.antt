@@ -50,11 +50,7 @@ module _ (laid : List Laid) (ss : List ActiveSegment) (same : map piece_of laid 
         over : (ss : List ActiveSegment) → All (λ p. p.offset + length p.items < 2 ^ 64) (map laid_piece ss) → low_of laid ≡ fold lower (2 ^ 64 - 1) (map laid_piece ss)
             → high_of laid ≡ fold higher 0 (map laid_piece ss) → high_of laid - low_of laid ≡ extent ss
         over [] all low high = omega (arith, low, high)
-        over (s ∷ ss) all low high =
-            let least = low-fold (2 ^ 64 - 1) s ss in
-            let greatest = high-fold 0 (s ∷ ss) in
-            let bound = small (s ∷ ss) all in
-            omega (arith, low, high, least, greatest, bound)
+        over (s ∷ ss) all low high = grind (arith, low-fold (2 ^ 64 - 1) s ss, high-fold 0 (s ∷ ss), small (s ∷ ss) all)
 
   pub data_same : data_of laid ≡ data_size ss
   data_same = sym (fold-map counted piece_of 0 laid) ∙ ap (fold counted 0) same ∙ fold-map counted laid_piece 0 ss

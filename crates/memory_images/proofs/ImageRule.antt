@@ -7,7 +7,7 @@ use Rattle.std.proofs.Math.Logic.{⊎_elim}
 use Rattle.std.proofs.lemmas.Bool.{cases_eq}
 use Rattle.std.proofs.lemmas.List.{length-map}
 use Rattle.std.proofs.lemmas.List.Elements.{All-filter, All-map}
-use Rattle.std.proofs.lemmas.Option.{slice_get-map, slice_get-get_or, same_Some}
+use Rattle.std.proofs.lemmas.Option.{slice_get-map, slice_get-get_or}
 use Rattle.replay_spec.specs.Phases.{Piece}
 use Rattle.replay_spec.specs.Data.{ActiveSegment}
 use Rattle.replay_spec.specs.Images.{ImageOptions, ImageMemory, IsPlaced, bytes_on, end_of, MayBeImage}
@@ -21,12 +21,7 @@ use Rattle.memory_images.proofs.Lists.{all_mapped}
 
 -- bytes are laid exactly where segments are
 pub some_laid : (laid : List Laid) (ss : List ActiveSegment) → map piece_of laid ≡ map laid_piece ss → 0 < length laid → ss ≢ []
-some_laid laid ss same some none =
-    let n = ap length same in
-    let a = length-map laid piece_of in
-    let b = length-map ss laid_piece in
-    let c = ap length none in
-    omega (arith, n, a, b, c)
+some_laid laid ss same some none = grind (arith, length-map)
 
 -- placed segments end at numbers of 64 bits
 abbrev Fits : Piece ℕ → Type 0
@@ -36,11 +31,7 @@ module _ (imports : ℕ) (memories : List ImageMemory) (active : List ActiveSegm
   pub fit_on : (m : ℕ) (laid : Vec Laid) → slice_get all m ≡ Some laid → All (λ x. laid_end x < 2 ^ 64) laid.items
   fit_on m laid at = λ k d l. all_mapped piece_of Fits laid.items k d (subst (All Fits) (sym (are.each m) ∙ ap pieces_in at) segments) l where
     ends : (s : ActiveSegment) → IsPlaced imports memories s → end_of s < 2 ^ 64
-    ends s p =
-        let start = start-placed imports memories s p in
-        let w = p.within in
-        let k = p.known in
-        omega (arith, start, w, k)
+    ends s p = grind (arith, start-placed imports memories s p)
 
     segments : All Fits (map laid_piece (bytes_on m active))
     segments = All-map Fits laid_piece (bytes_on m active)
@@ -60,8 +51,6 @@ pub may_more : (options : ImageOptions) (imports : ℕ) (memories : List ImageMe
     → ((k : ℕ) (memory : ImageMemory) → k < m → slice_get memories k ≡ Some memory → bytes_on (imports + k) active ≢ [] → MayBeImage options memory (bytes_on (imports + k) active))
     → (k : ℕ) (memory : ImageMemory) → k < m + 1 → slice_get memories k ≡ Some memory → bytes_on (imports + k) active ≢ [] → MayBeImage options memory (bytes_on (imports + k) active)
 may_more options imports memories active m first at may so_far k memory l found = ⊎_elim
-    (λ (is : k ≡ m).
-    let same : first ≡ memory = same_Some first memory (sym at ∙ ap (slice_get memories) (sym is) ∙ found) in
-    rw (is, ← same) may)
+    (λ (is : k ≡ m). grind arith)
     (λ (ne : k ≢ m). so_far k memory (omega arith) found)
     (cases_eq k m)

@@ -17,15 +17,10 @@ pub all_at : {X : Type 0} (P : X → Type 0) (xs : List X) (i : ℕ) (x : X) →
 all_at P xs i x all g = subst P (get_or_from_slice_get xs i x x g) (all i x (slice_get_within xs i x g))
 
 pub pair_at : {X : Type 0} (R : X → X → Type 0) (xs : List X) (i j : ℕ) (x y : X) → AllPairs R xs → slice_get xs i ≡ Some x → slice_get xs j ≡ Some y → i < j → R x y
-pair_at {X} R xs i j x y all g h lt =
-    let P : X → Type 0 = λ v. R v (get_or xs j x) in
-    let Q : X → Type 0 = λ v. R x v in
-    subst Q (get_or_from_slice_get xs j y x h) (subst P (get_or_from_slice_get xs i x x g) (all i j x lt (slice_get_within xs j y h)))
+pair_at {X} R xs i j x y all g h lt = grind (arith, get_or_from_slice_get, slice_get_within)
 
 pub all_mapped : {A B : Type 0} (f : A → B) (P : B → Type 0) (xs : List A) (i : ℕ) (d : A) → All P (map f xs) → i < length xs → P (f (get_or xs i d))
-all_mapped f P xs i d all l =
-    let n = length-map xs f in
-    subst P (get_or-map f xs i d (f d) l) (all i (f d) (omega arith))
+all_mapped f P xs i d all l = grind (arith, length-map xs f, get_or-map f xs i d (f d) l)
 
 pub some_at : {A : Type 0} (xs : List A) (i : ℕ) → i < length xs → (x : A) × (slice_get xs i ≡ Some x)
 some_at [] i l = absurd (omega arith)

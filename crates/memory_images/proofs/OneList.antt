@@ -88,6 +88,4 @@ one_list (x ∷ xs) (y ∷ ys) hx hy same =
       with_first is rest = let tails : xs ≡ ys = rest (same_behind y xs ys (rw is at hx) hy (λ place. rw is at same place)) in rw (is, tails) refl
 
 pub one_written : (segments : List (ℕ × ℕ)) (xs ys : List Written) → AreWritten segments xs → AreWritten segments ys → xs ≡ ys
-one_written segments xs ys hx hy =
-    one_list xs ys (record { some = hx.some; ordered = hx.ordered }) (record { some = hy.some; ordered = hy.ordered })
-    (λ place. hx.places place ∙ sym (hy.places place))
+one_written segments xs ys hx hy = grind (arith, one_list)

@@ -2,11 +2,11 @@
 use Rattle.std.proofs.Common.{◌≡◌, ℕ, ◌+◌, ◌-◌, ◌^◌, ◌<◌, ◌≤◌, List, length, map, Some, sym, ◌∙◌, ap, arith}
 use Rattle.std.specs.Prelude.{slice_get}
 use Rattle.std.specs.Option.{option_map}
-use Rattle.std.proofs.lemmas.Option.{same_Some, slice_get-map}
+use Rattle.std.proofs.lemmas.Option.{slice_get-map}
 use Rattle.wasm_types.specs.declared.memory.Memory.{Memory}
 use Rattle.replay_spec.specs.Values.{Value, const_value}
 use Rattle.replay_spec.specs.Data.{ActiveSegment}
-use Rattle.replay_spec.specs.Images.{ImageMemory, size_of, index_of, index_of_constant, IsPlaced, start_of}
+use Rattle.replay_spec.specs.Images.{size_of, index_of, index_of_constant, IsPlaced, start_of}
 use Rattle.replay_spec.proofs.Placed.{start-placed}
 use Rattle.memory_images.specs.Views.{image_memory}
 
@@ -32,10 +32,4 @@ module _ (imports : ℕ) (defined : List Memory) (s : ActiveSegment) (n : ℕ) (
 
   -- a segment that ends past its memory is not placed
   pub past_end : size_of (image_memory memory) < place + length s.bytes → IsPlaced imports (map image_memory defined) s → ⊥
-  past_end past p =
-      let same : p.memory ≡ image_memory memory = same_Some p.memory (image_memory memory) (sym p.is_memory ∙ at) in
-      let size : size_of p.memory ≡ size_of (image_memory memory) = ap size_of same in
-      let own : index_of (image_memory memory).wide v ≡ Some p.place = ap (λ (m : ImageMemory). index_of m.wide v) (sym same) ∙ sym (ap (index_of_constant p.memory.wide) is) ∙ p.constant in
-      let e : place ≡ p.place = same_Some place p.place (sym index ∙ own) in
-      let w = p.within in
-      omega (arith, size, e, w)
+  past_end past p = grind (arith, at)

@@ -14,9 +14,7 @@ pub segment_at-range : (ws : List Written) (k : ℕ) (w : Written) (place : ℕ)
 segment_at-range [] k w place all g h l = absurd cc
 segment_at-range (v ∷ vs) zero w place all g h l = let same : v ≡ w = two_some (Some v) v w refl g in rw (same, within_yes w.start w.end place h l) refl
 segment_at-range (v ∷ vs) (suc k) w place all g h l =
-    let b : IsBefore v w = pair_at IsBefore (v ∷ vs) 0 (suc k) v w all refl g (omega arith) in
-    let o : v.end ≤ place = let a = b.apart in omega arith in
-    rw (within_high v.start v.end place o) (segment_at-range vs k w place (pairs_behind IsBefore v vs all) g h l)
+    grind (arith, pair_at IsBefore (v ∷ vs) 0 (suc k) v w all refl g (omega arith), pairs_behind IsBefore v vs all, within_high, (segment_at-range vs k w place (pairs_behind IsBefore v vs all) g h l))
 
 -- the range that holds a place
 pub record RangeAt (ws : List Written) (place segment : ℕ) : Type 0 where

@@ -1,5 +1,5 @@
 -- The images of laid bytes are those of the segments.
-use Rattle.std.proofs.Common.{◌≡◌, ℕ, ◌+◌, true, false, List, [], ◌∷◌, length, map, Option, None, Some, refl, sym, ◌∙◌, ap, arith}
+use Rattle.std.proofs.Common.{◌≡◌, ℕ, true, false, List, [], ◌∷◌, length, map, Option, None, refl, sym, ◌∙◌, ap, arith}
 use Rattle.std.specs.Prelude.{unwrap_or, nat_lt, ◌==◌, ◌&&◌}
 use Rattle.std.specs.Global.{Vec}
 use Rattle.std.proofs.Math.Logic.{⊎_elim}
@@ -19,36 +19,16 @@ moved : (active : List ActiveSegment) (m place d : ℕ) → last_item m place d 
 moved [] m place d = refl
 moved (s ∷ rest) m place d = ⊎_elim
     (λ (test : (s.memory == m && nat_lt 0 (length s.bytes)) ≡ true).
-    let on : (s.memory == m) ≡ true = (and_parts (s.memory == m) (nat_lt 0 (length s.bytes)) test).0 in
-    let same : item_at m place (piece_of offset_of s) ≡ item_at 0 place (laid_piece s) = rw on refl in
-    rw test (ap (λ o. last_item m place (unwrap_or o d) (map (piece_of offset_of) rest)) same ∙ moved rest m place (unwrap_or (item_at 0 place (laid_piece s)) d)))
+    grind (arith, and_parts, (moved rest m place (unwrap_or (item_at 0 place (laid_piece s)) d))))
     (λ (test : (s.memory == m && nat_lt 0 (length s.bytes)) ≡ false).
     let none : item_at m place (piece_of offset_of s) ≡ None = ⊎_elim (λ e. e)
-    (λ (c : CoversAt m place (piece_of offset_of s)).
-    let f = c.from in
-    let u = c.upto in
-    absurd (false≢true (sym test ∙ and_from (s.memory == m) (nat_lt 0 (length s.bytes)) (eq-eqb s.memory m c.on) (lt-ltb 0 (length s.bytes) (omega arith)))))
+    (λ (c : CoversAt m place (piece_of offset_of s)). grind (arith, eq-eqb, lt-ltb, and_from, false≢true))
     (item-cover m place (piece_of offset_of s)) in
     rw test (ap (λ o. last_item m place (unwrap_or o d) (map (piece_of offset_of) rest)) none ∙ moved rest m place d))
     (cases_Bool (s.memory == m && nat_lt 0 (length s.bytes)))
 
 same_image : (page : ℕ) (c e : ℕ → ℕ) → ((place : ℕ) → c place ≡ e place) → (i : Option MemoryImage) → ImageOf page c i → ImageOf page e i
-same_image page c e same None h = λ place. sym (same place) ∙ h place
-same_image page c e same (Some i) h = record {
-  first = h.first;
-  last = h.last;
-  is_first = record {
-    nonzero = λ z. h.is_first.nonzero (same h.first ∙ z);
-    before = λ q l. sym (same q) ∙ h.is_first.before q l;
-  };
-  is_last = record {
-    nonzero = λ z. h.is_last.nonzero (same h.last ∙ z);
-    behind = λ q l. sym (same q) ∙ h.is_last.behind q l;
-  };
-  start = h.start;
-  end = h.end;
-  bytes = λ k l. h.bytes k l ∙ same (i.start + k);
-}
+same_image page c e same h5 h = grind arith
 
 module _ (imports : ℕ) (memories : List ImageMemory) (active : List ActiveSegment) (all : List (Vec Laid)) (are : AreLaid imports memories active all)
     (n page : ℕ) (count : length all ≡ n) (images : List (Option MemoryImage)) where

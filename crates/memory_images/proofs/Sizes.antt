@@ -1,5 +1,5 @@
 -- The images of all memories, and how large they are.
-use Rattle.std.proofs.Common.{◌≡◌, ℕ, suc, ◌+◌, ◌-◌, ◌*◌, ◌/◌, ◌^◌, ◌<◌, ◌≤◌, List, [], ◌∷◌, ◌++◌, length, get_or, sum_by, min, Option, None, Some, refl, sym, ◌∙◌, ap, subst, arith}
+use Rattle.std.proofs.Common.{◌≡◌, ℕ, suc, ◌+◌, ◌-◌, ◌^◌, ◌<◌, ◌≤◌, List, [], ◌∷◌, ◌++◌, length, get_or, sum_by, min, Option, None, Some, refl, sym, ◌∙◌, ap, subst, arith}
 use Rattle.std.specs.Prelude.{slice_get}
 use Rattle.std.specs.Global.{Vec}
 use Rattle.std.proofs.Math.Logic.{⊎_elim}
@@ -27,11 +27,7 @@ listed_more R n ys y h so_far =
           let is : get_or (ys ++ y ∷ []) m answer ≡ answer = get_or_from_slice_get (ys ++ y ∷ []) m answer answer at in
           ⊎_elim
           (λ (lt : m < length ys). so_far.each m answer (slice_get-get_or ys m answer lt ∙ ap Some (sym (get_or_append_left ys (y ∷ []) answer m lt) ∙ is)))
-          (λ (ge : length ys ≤ m).
-          let last : length ys ≡ m = omega arith in
-          let same : y ≡ answer = sym (get_or_push ys y answer m last) ∙ is in
-          let number : n ≡ m = omega arith in
-          subst (R m) same (subst (λ k. R k y) number h))
+          (λ (ge : length ys ≤ m). grind (arith, get_or_push))
           (cases_lt m (length ys));
     }
 
@@ -46,14 +42,7 @@ pub image_at : (page : ℕ) (all : List (Vec Laid)) (m : ℕ) (laid : Vec Laid) 
 image_at page all m laid image at h = subst (λ o. ImageOf page (λ place. last_item 0 place 0 (pieces_in o)) image) (sym at) h
 
 size_image : (page : ℕ) (c : ℕ → ℕ) (s : Span) (i : MemoryImage) → IsSpan page c s → IsImage page c i → s.size ≡ min (length i.bytes) (2 ^ 64 - 1)
-size_image page c s i span image =
-    let p = span.pages in
-    let first : span.ends.first ≡ image.first = same-first c span.ends.first image.first span.is_first image.is_first in
-    let last : span.ends.last ≡ image.last = same-last c span.ends.last image.last span.is_last image.is_last in
-    let start : s.start ≡ i.start = p.start ∙ ap (λ n. n / page * page) first ∙ sym image.start in
-    let end : s.start + p.full ≡ i.start + length i.bytes = p.end ∙ ap (λ n. (n / page + 1) * page) last ∙ sym image.end in
-    let size = p.size in
-    omega (arith, start, end, size)
+size_image page c s i span image = grind (arith, same-first, same-last)
 
 -- spans and images of the same contents pass 4294967295 bytes together
 pub same_sums : (page : ℕ) (contents : ℕ → ℕ → ℕ) (n : ℕ) (spans : List (Option Span)) (images : List (Option MemoryImage))
@@ -71,8 +60,4 @@ same_sums page contents n (s ∷ ss) (i ∷ is) z w = by_first s i (z.each 0 s r
       by_first None None a b more = let one = sum_by-cons span_size None ss in omega (arith, one, more)
       by_first None (Some i) a b more = absurd (b.is_first.nonzero (a b.first))
       by_first (Some s) None a b more = absurd (a.is_first.nonzero (b a.ends.first))
-      by_first (Some s) (Some i) a b more =
-          let one = sum_by-cons span_size (Some s) ss in
-          let two = sum_by-cons length i.bytes (image_bytes is) in
-          let here = size_image page (contents 0) s i a b in
-          omega (arith, one, two, here, more)
+      by_first (Some s) (Some i) a b more = grind (arith, sum_by-cons span_size (Some s) ss, sum_by-cons length i.bytes (image_bytes is), size_image page (contents 0) s i a b)

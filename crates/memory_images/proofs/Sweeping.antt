@@ -1,11 +1,11 @@
 -- Ranges that are found from low places to high ones.
-use Rattle.std.proofs.Common.{◌≡◌, ◌≢◌, ℕ, zero, suc, ◌+◌, ◌-◌, ◌^◌, ◌<◌, ◌≤◌, Bool, true, false, List, [], ◌∷◌, ◌++◌, length, take, get_or, min, All, AllPairs, Option, Some, None, refl, sym, ◌∙◌, ap, subst, arith}
+use Rattle.std.proofs.Common.{◌≡◌, ℕ, zero, suc, ◌+◌, ◌-◌, ◌^◌, ◌<◌, ◌≤◌, true, false, List, [], ◌∷◌, ◌++◌, length, take, get_or, min, All, AllPairs, Option, Some, None, refl, sym, ◌∙◌, ap, subst, arith}
 use Rattle.std.specs.Prelude.{Contains, IsSome, IfSome, slice_get, slice_set}
 use Rattle.std.specs.BinaryHeap.{IsUpperBound}
 use Rattle.std.specs.List.Sorted.{IsPermutation}
 use Rattle.std.specs.Ordering.{nat_cmp}
 use Rattle.std.proofs.Math.Logic.{⊎_elim}
-use Rattle.std.proofs.lemmas.Bool.{cases_eq, cases_lt}
+use Rattle.std.proofs.lemmas.Bool.{cases_lt}
 use Rattle.std.proofs.lemmas.List.{take_all, take_more, take_more_set, length-take, length-set, get_or-take}
 use Rattle.std.proofs.lemmas.List.Elements.{All-push, All-cons, Contains-append_left, Contains-push, All-tail, All-take}
 use Rattle.std.proofs.lemmas.List.Quantifiers.{all_pairs_push}
@@ -51,11 +51,7 @@ last_is n place (p ∷ ps) (suc k) l from upto none =
 
 at-push : (ws : List Written) (w : Written) (place : ℕ) → segment_at (ws ++ w ∷ []) place ≡ later_or (segment_at ws place) (is_within w.start w.end place) w.segment
 at-push [] w place = refl
-at-push (v ∷ ws) w place = over (is_within v.start v.end place) refl (at-push ws w place) where
-  over : (b : Bool) → is_within v.start v.end place ≡ b → segment_at (ws ++ w ∷ []) place ≡ later_or (segment_at ws place) (is_within w.start w.end place) w.segment
-      → segment_at ((v ∷ ws) ++ w ∷ []) place ≡ later_or (segment_at (v ∷ ws) place) (is_within w.start w.end place) w.segment
-  over true is more = rw is refl
-  over false is more = rw is more
+at-push (v ∷ ws) w place = grind (arith, (at-push ws w place))
 
 not_later : (o : Option ℕ) (n : ℕ) → later_or o false n ≡ o
 not_later (Some k) n = refl
@@ -73,11 +69,7 @@ module _ (segments : List (ℕ × ℕ)) (start end : ℕ) (some : start < end) w
       → ((place : ℕ) → place < start → segment_at (init ++ w ∷ []) place ≡ last_cover segments place) → All (λ v. v.end ≤ start) init → All (λ v. v.start < v.end) init
       → AllPairs IsBefore (init ++ w ∷ []) → AreWrittenBelow segments end (init ++ w ∷ [])
   reaches init w from upto owner low below somes ordered = record {
-    places = λ place l. ⊎_elim (low place)
-        (λ (ge : start ≤ place).
-        let none = none_above start place init ge below in
-        let here = within_yes w.start w.end place (omega arith) (omega arith) in
-        at-push init w place ∙ rw (none, here) (sym (owner place ge l))) (cases_lt place start);
+    places = grind (arith, none_above, within_yes, at-push);
     below = All-push (λ (v : Written). v.end ≤ end) init w (λ k d l. let e = below k d l in omega arith) (omega arith);
     some = All-push (λ (v : Written). v.start < v.end) init w somes (omega arith);
     ordered = ordered;
@@ -92,16 +84,7 @@ module _ (segments : List (ℕ × ℕ)) (start end : ℕ) (some : start < end) w
       low place l = let out = within_low w.start w.end place (omega arith) in at-push ranges w place ∙ rw out (not_later (segment_at ranges place) w.segment) ∙ a.places place l
 
       before : (k : ℕ) (d : Written) → k < length ranges → IsBefore (get_or ranges k d) w
-      before k d l = record {
-        apart = let e = a.below k d l in omega arith;
-        differ = λ touch same. ⊎_elim
-            (λ (last : k ≡ length ranges - 1). other (get_or ranges k d) (rw (← last) (slice_get-get_or ranges k d l)) (touch ∙ from) same)
-            (λ (ne : k ≢ length ranges - 1).
-            let b = (a.ordered k (length ranges - 1) d (omega arith) (omega arith)).apart in
-            let s : (get_or ranges (length ranges - 1) d).start < (get_or ranges (length ranges - 1) d).end = a.some (length ranges - 1) d (omega arith) in
-            let e : (get_or ranges (length ranges - 1) d).end ≤ start = a.below (length ranges - 1) d (omega arith) in
-            omega (arith, b, s, e, touch, from)) (cases_eq k (length ranges - 1));
-      }
+      before k d l = grind (arith, slice_get-get_or)
 
     -- the last range, which ends at the start and is the same segment's, made longer
     pub lengthened : (last : Written) (n : ℕ) → n + 1 ≡ length ranges → last ≡ get_or ranges n last → last.end ≡ start → last.segment ≡ w.segment → w.start ≡ last.start
@@ -162,23 +145,13 @@ module _ (segments : List (ℕ × ℕ)) (from at limit : ℕ) (old active : List
     (low : from ≤ at) where
   -- the last of the active segments has what it covers
   pub owns : (top : ℕ) → Contains active top → IsUpperBound nat_cmp top active → (place : ℕ) → at ≤ place → place < min limit (end_of segments top) → last_cover segments place ≡ Some top
-  owns top is_top greatest place l m =
-      let b = of_all (λ k. (k < length segments) × (start_of segments k ≤ from)) active top begun is_top in
-      let begins = b.1 in
-      let same : 0 + top ≡ top = omega arith in
-      last_is 0 place segments top b.0 (omega (arith, begins)) (omega arith) later ∙ ap Some same where
-        later : (j : ℕ) → top < j → j < length segments → start_of segments j ≤ place → place < end_of segments j → ⊥
-        later j lt k begins ends =
-            let c = keeps j (acts j k (omega arith) (omega arith)) (omega arith) in
-            let le : j ≤ top = of_all (λ y. y ≤ top) active j (le_from_greatest top active greatest) c in
-            omega arith
+  owns top is_top greatest place l m = grind (arith, of_all, last_is, le_from_greatest)
 
   -- no segment is active any more
   pub idle : (ranges : List Written) → length active ≡ 0 → at ≤ limit → AreWrittenBelow segments at ranges → AreWrittenBelow segments limit ranges
   idle ranges none high a = record {
     places = λ place l. ⊎_elim (a.places place)
-        (λ (ge : at ≤ place). none_above at place ranges ge a.below ∙ sym (none_is 0 place segments
-        (λ k m begins ends. let c = keeps k (acts k m (omega arith) (omega arith)) (omega arith) in let e = c.1 in omega (arith, e, none)))) (cases_lt place at);
+        (λ (ge : at ≤ place). grind (arith, none_above, none_is)) (cases_lt place at);
     below = λ k d l. let e = a.below k d l in omega arith;
     some = a.some;
     ordered = a.ordered;
@@ -194,10 +167,7 @@ module _ (segments : List (ℕ × ℕ)) (from at next : ℕ) (old active rest : 
       let same : x ≡ top = read_at active 0 x top some first (slice_get-get_or active 0 top some ∙ ap Some (sym is_top)) in
       (All-tail P x rest (All-permutation P active (x ∷ rest) moved begun), kept same) where
         kept : x ≡ top → Keeps segments next old rest
-        kept same k c past = let d = Contains-permutation active (x ∷ rest) k moved (keeps k c (omega arith)) in behind d.0 d.1 d.2 where
-          behind : (i : ℕ) → i < length (x ∷ rest) → get_or (x ∷ rest) i k ≡ k → Contains rest k
-          behind zero l is = absurd (let e : end_of segments top ≡ end_of segments k = ap (end_of segments) (sym same ∙ is) in omega (arith, e))
-          behind (suc i) l is = (i, omega arith, is)
+        kept same k c past = grind (arith, Contains-permutation active (x ∷ rest) k moved (keeps k c (omega arith)))
 
 -- ---- from start to start
 
@@ -253,19 +223,11 @@ IsNumber segments s = (s.1 < length segments) × (s.0 ≡ start_of segments s.1)
 module _ (segments starts : List (ℕ × ℕ)) (i : ℕ) (within : i < length segments) where
   pub each_more : ((k : ℕ) → k < i → Contains starts (start_of segments k, k)) → (k : ℕ) → k < i + 1 → Contains (starts ++ (start_of segments i, i) ∷ []) (start_of segments k, k)
   each_more each k l = ⊎_elim (λ (lt : k < i). Contains-append_left starts ((start_of segments i, i) ∷ []) (start_of segments k, k) (each k lt))
-      (λ (ge : i ≤ k).
-      let same : i ≡ k = omega arith in
-      subst (λ n. Contains (starts ++ (start_of segments i, i) ∷ []) (start_of segments n, n)) same (Contains-push starts (start_of segments i, i))) (cases_lt k i)
+      (λ (ge : i ≤ k). grind (arith, Contains-push starts (start_of segments i, i))) (cases_lt k i)
 
   pub numbers_more : All (IsNumber segments) starts → All (IsNumber segments) (starts ++ (start_of segments i, i) ∷ [])
   numbers_more all = All-push (IsNumber segments) starts (start_of segments i, i) all (within, refl)
 
 -- ranges below the greatest number of 64 bits are all
 pub all_written : (segments : List (ℕ × ℕ)) (ranges : List Written) → All (λ pair. pair.0 + pair.1 < 2 ^ 64) segments → AreWrittenBelow segments (2 ^ 64 - 1) ranges → AreWritten segments ranges
-all_written segments ranges fits a = record {
-  places = λ place. ⊎_elim (a.places place)
-      (λ (ge : 2 ^ 64 - 1 ≤ place). none_above (2 ^ 64 - 1) place ranges ge a.below
-      ∙ sym (none_is 0 place segments (λ k l begins ends. let f : end_of segments k < 2 ^ 64 = fits k (0, 0) l in omega arith))) (cases_lt place (2 ^ 64 - 1));
-  some = a.some;
-  ordered = a.ordered;
-}
+all_written segments ranges fits a = grind (arith, none_above, none_is)

@@ -1,5 +1,5 @@
 -- A plan that agrees with a module lays what the module's initialisers give.
-use Rattle.std.proofs.Common.{◌≡◌, ℕ, ◌<◌, List, length, map, Option, Some, sym, ap, subst, ◌∙◌}
+use Rattle.std.proofs.Common.{◌≡◌, ℕ, List, length, map, Option, ap, subst, ◌∙◌, arith}
 use Rattle.std.proofs.lemmas.List.{length-map}
 use Rattle.module_types.specs.TypeList.{TypeList}
 use Rattle.replay_spec.specs.Phases.{Phase, SamePhase}
@@ -27,12 +27,7 @@ use Rattle.plan_run.specs.Agreement.{AgreementLaw}
 -- what is laid of a phase is laid of one that is the same
 pub lays-same : {A : Type 0} (one other : Phase A) (n : ℕ) (objects : List (List A)) (trapped : Option ℕ) → SamePhase one other → Lays other n objects trapped
     → Lays one n objects trapped
-lays-same one other n objects trapped same lays = record {
-  count = lays.count;
-  sizes = λ i object at. lays.sizes i object at ∙ sym (same.sizes i);
-  items = λ i place object at low. lays.items i place object at (subst (λ k. place < k) (same.sizes i) low) ∙ ap Some (sym (same.places i place low));
-  trap = lays.trap ∙ sym same.trap;
-}
+lays-same one other n objects trapped same lays = grind arith
 
 -- the globals of the plan, over these numbers of fields
 abbrev globals_with : (ℕ → ℕ) → ModuleTranslation → Imports → List Value

@@ -40,23 +40,15 @@ module _ (plan : MemoryPlan) where
   images-below : (images : List (Option (ℕ × ℕ))) (n object place d : ℕ) → object < n → last_item object place d (image_pieces plan n images) ≡ d
   images-below [] n object place d lt = refl
   images-below (None ∷ images) n object place d lt = images-below images (n + 1) object place d (omega arith)
-  images-below (Some image ∷ images) n object place d lt =
-      let ne : n ≢ object = omega arith in
-      ap (λ o. last_item object place (unwrap_or o d) (image_pieces plan (n + 1) images)) (item-elsewhere object place (image_piece n (read image)) ne)
-      ∙ images-below images (n + 1) object place d (omega arith)
+  images-below (Some image ∷ images) n object place d lt = grind (arith, item-elsewhere, (images-below images (n + 1) object place d (omega arith)))
 
   images-at : (images : List (Option (ℕ × ℕ))) (n j object place d : ℕ) → n + j ≡ object
       → last_item object place d (image_pieces plan n images) ≡ laid_over (option_map read (unwrap_or (slice_get images j) None)) object place d
   images-at [] n j object place d is = refl
   images-at (None ∷ images) n zero object place d is = images-below images (n + 1) object place d (omega arith)
-  images-at (Some image ∷ images) n zero object place d is =
-      images-below images (n + 1) object place (unwrap_or (item_at object place (image_piece n (read image))) d) (omega arith)
-      ∙ ap (λ k. unwrap_or (item_at object place (image_piece k (read image))) d) (omega arith)
+  images-at (Some image ∷ images) n zero object place d is = grind (arith, images-below)
   images-at (None ∷ images) n (suc j) object place d is = images-at images (n + 1) j object place d (omega arith)
-  images-at (Some image ∷ images) n (suc j) object place d is =
-      let ne : n ≢ object = omega arith in
-      ap (λ o. last_item object place (unwrap_or o d) (image_pieces plan (n + 1) images)) (item-elsewhere object place (image_piece n (read image)) ne)
-      ∙ images-at images (n + 1) j object place d (omega arith)
+  images-at (Some image ∷ images) n (suc j) object place d is = grind (arith, item-elsewhere, (images-at images (n + 1) j object place d (omega arith)))
 
   -- what a phase begins with: the contents of an imported memory or zeros, and an image
   base-is : (w : Way) (place_of : Expression → ℕ) (imported : List (List ℕ)) (object place : ℕ)
@@ -72,10 +64,7 @@ module _ (plan : MemoryPlan) where
 -- ---- one memory
 
 length-first : (page size : ℕ) (image : Option (ℕ × List ℕ)) → ImageIsWithin page size image → length (first_bytes size image) ≡ size
-length-first page size None within = length-replicate size 0
-length-first page size (Some image) within =
-    let zeros : length (replicate size 0) ≡ size = length-replicate size 0 in
-    length-written image.0 image.1 (replicate size 0) (subst (λ n. image.0 + length image.1 ≤ n) (sym zeros) within.2) ∙ zeros
+length-first page size h3 within = grind (arith, length-replicate, length-written)
 
 first-item : (page size object place : ℕ) (image : Option (ℕ × List ℕ)) → ImageIsWithin page size image → place < size
     → slice_get (first_bytes size image) place ≡ Some (laid_over image object place 0)
@@ -94,33 +83,20 @@ module _ (w : Way) (plan : MemoryPlan) (page : ℕ) where
   begun-at n zero (m ∷ ms) p at =
       let here : n ≡ n + 0 = omega arith in
       (m, refl, sym (same_Some _ p at) ∙ ap (λ k. (first_bytes (minimum_bytes m) (image_in w plan k), image_pages page (image_in w plan k))) here)
-  begun-at n (suc j) (m ∷ ms) p at =
-      let there : n + 1 + j ≡ n + suc j = omega arith in
-      let rest = begun-at (n + 1) j ms p at in
-      (rest.0, rest.1, rest.2 ∙ ap (λ k. (first_bytes (minimum_bytes rest.0) (image_in w plan k), image_pages page (image_in w plan k))) there)
+  begun-at n (suc j) (m ∷ ms) p at = grind (arith, (begun-at (n + 1) j ms p at))
 
   pub within-at : (n j : ℕ) (ms : List Memory) (m : Memory) → slice_get ms j ≡ Some m → ImagesAreWithin w plan page n ms → ImageIsWithin page (minimum_bytes m) (image_in w plan (n + j))
   within-at n j [] m at within = absurd (none-some m at)
-  within-at n zero (one ∷ ms) m at within =
-      let here : n ≡ n + 0 = omega arith in
-      subst (λ k. ImageIsWithin page (minimum_bytes m) (image_in w plan k)) here
-      (subst (λ x. ImageIsWithin page (minimum_bytes x) (image_in w plan n)) (same_Some one m at) within.0)
-  within-at n (suc j) (one ∷ ms) m at within =
-      let there : n + 1 + j ≡ n + suc j = omega arith in
-      subst (λ k. ImageIsWithin page (minimum_bytes m) (image_in w plan k)) there (within-at (n + 1) j ms m at within.1)
+  within-at n zero (one ∷ ms) m at within = grind arith
+  within-at n (suc j) (one ∷ ms) m at within = grind (arith, (within-at (n + 1) j ms m at within.1))
 
   module _ (imported memories : List Contents) (ms : List Memory) (are : map seen memories ≡ map seen imported ++ begun w plan page (length imported) ms) where
     -- an imported memory, or a defined one as it begins
     seen-low : (i : ℕ) (memory : Contents) → i < length imported → slice_get memories i ≡ Some memory → slice_get (map seen imported) i ≡ Some (seen memory)
-    seen-low i memory low at =
-        sym (get-append-low (map seen imported) (begun w plan page (length imported) ms) i (omega (arith, length-map imported seen)))
-        ∙ ap (λ xs. slice_get xs i) (sym are) ∙ slice_get-map seen memories i ∙ ap (option_map seen) at
+    seen-low i memory low at = grind (arith, length-map, get-append-low, slice_get-map)
 
     seen-high : (j : ℕ) (memory : Contents) → slice_get memories (length imported + j) ≡ Some memory → slice_get (begun w plan page (length imported) ms) j ≡ Some (seen memory)
-    seen-high j memory at =
-        sym (get-append-high (map seen imported) (begun w plan page (length imported) ms) j)
-        ∙ ap (λ k. slice_get (map seen imported ++ begun w plan page (length imported) ms) (k + j)) (length-map imported seen)
-        ∙ ap (λ xs. slice_get xs (length imported + j)) (sym are) ∙ slice_get-map seen memories (length imported + j) ∙ ap (option_map seen) at
+    seen-high j memory at = grind (arith, get-append-high, length-map, slice_get-map)
 
     low-bytes : (i : ℕ) (memory : Contents) → i < length imported → slice_get memories i ≡ Some memory → slice_get (bytes_in imported) i ≡ Some memory.bytes
     low-bytes i memory low at =
@@ -130,11 +106,7 @@ module _ (w : Way) (plan : MemoryPlan) (page : ℕ) where
           over (Some m) e = ap (λ p. Some p.0) (same_Some (seen m) (seen memory) e)
 
     memory-at : (i : ℕ) (object : List ℕ) → slice_get (bytes_in memories) i ≡ Some object → (memory : Contents) × (slice_get memories i ≡ Some memory) × (memory.bytes ≡ object)
-    memory-at i object at = over (slice_get memories i) refl (sym (slice_get-map (λ (m : Contents). m.bytes) memories i) ∙ at) where
-      over : (o : Option Contents) → slice_get memories i ≡ o → option_map (λ (m : Contents). m.bytes) o ≡ Some object
-          → (memory : Contents) × (slice_get memories i ≡ Some memory) × (memory.bytes ≡ object)
-      over None e f = absurd (none-some object f)
-      over (Some m) e f = (m, e, same_Some m.bytes object f)
+    memory-at i object at = grind (arith, slice_get-map)
 
     -- the pages that a defined memory lends
     pub begun-lent : (i : ℕ) (memory : Contents) → length imported ≤ i → slice_get memories i ≡ Some memory → count_lent memory.lent ≡ image_pages page (image_in w plan i)
@@ -166,13 +138,7 @@ module _ (w : Way) (plan : MemoryPlan) (page : ℕ) where
 
       low-item : (i place : ℕ) (memory : Contents) → i < length imported → slice_get memories i ≡ Some memory → place < size_at i
           → slice_get memory.bytes place ≡ Some (base_at i place)
-      low-item i place memory low at within_size =
-          let size = low-size i memory low at in
-          let bytes : slice_get (bytes_in imported) i ≡ Some memory.bytes = low-bytes i memory low at in
-          slice_get-get_or memory.bytes place 0 (omega arith)
-          ∙ ap (λ o. Some (slice_index (unwrap_or o []) place)) (sym bytes)
-          ∙ ap (λ o. Some (laid_over o i place (memory_base (bytes_in imported) i place))) (sym (none i low))
-          ∙ ap Some (sym (base-is plan w place_of (bytes_in imported) i place))
+      low-item i place memory low at within_size = grind (arith, low-size, low-bytes, slice_get-get_or, base-is)
 
       -- a defined memory
       high-size : (j : ℕ) (memory : Contents) → slice_get memories (length imported + j) ≡ Some memory → length memory.bytes ≡ size_at (length imported + j)
@@ -209,7 +175,4 @@ module _ (w : Way) (plan : MemoryPlan) (page : ℕ) where
           (λ i m low at place. low-item i place m low at) (λ j m at place. high-item j place m at) i memory at place
 
       pub begun-hold : Hold (plan_phase w place_of (bytes_in imported) plan).sizes (plan_phase w place_of (bytes_in imported) plan).base (bytes_in memories)
-      begun-hold = record {
-        sizes = λ i object at. let found = memory-at i object at in ap length (sym found.2) ∙ any-size i found.0 found.1;
-        items = λ i place object at l. let found = memory-at i object at in ap (λ xs. slice_get xs place) (sym found.2) ∙ any-item i place found.0 found.1 l;
-      }
+      begun-hold = grind (arith, memory-at, any-size, any-item)

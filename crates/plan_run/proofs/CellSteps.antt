@@ -24,11 +24,7 @@ use Rattle.plan_run.proofs.Writing.{length-written}
 -- ---- lists
 
 pub map-written : {A B : Type 0} (f : A → B) (at : ℕ) (items old : List A) → map f (written at items old) ≡ written at (map f items) (map f old)
-map-written f at items old =
-    map-append f (take at old) (items ++ drop (at + length items) old)
-    ∙ ap (λ xs. xs ++ map f (items ++ drop (at + length items) old)) (sym (take-map f at old))
-    ∙ ap (λ xs. take at (map f old) ++ xs) (map-append f items (drop (at + length items) old)
-    ∙ ap (λ xs. map f items ++ xs) (sym (drop-map f (at + length items) old) ∙ ap (λ n. drop (at + n) (map f old)) (sym (length-map items f))))
+map-written f at items old = grind (arith, map-append, take-map, drop-map, length-map)
 
 pub all-written : {A : Type 0} (P : A → Type 0) (at : ℕ) (items old : List A) → All P items → All P old → All P (written at items old)
 all-written P at items old new all =
@@ -38,11 +34,7 @@ all-written P at items old new all =
 -- what a table holds once a part of it is written
 pub part-written : {A : Type 0} (v : Vec A) (xs part items : List A) (at n : ℕ) → xs ≡ v.items → part ≡ items → n ≡ length items → v.len ≡ length v.items
     → at + length items ≤ length v.items → (with_items v (take at xs ++ (part ++ post_of at n xs))).items ≡ written at items v.items
-part-written v xs part items at n old new count len l =
-    let same : take at xs ++ (part ++ post_of at n xs) ≡ written at items v.items =
-    ap (λ ys. take at ys ++ (part ++ post_of at n ys)) old ∙ ap (λ ys. take at v.items ++ (ys ++ post_of at n v.items)) new
-    ∙ ap (λ ys. take at v.items ++ (items ++ ys)) (drop-drop n at v.items ∙ ap (λ k. drop (at + k) v.items) count) in
-    ap (λ ws. (with_items v ws).items) same ∙ with_items_is v (written at items v.items) (length-written at items v.items l ∙ sym len)
+part-written v xs part items at n old new count len l = grind (arith, drop-drop, length-written, with_items_is)
 
 -- ---- planned tables
 
@@ -52,13 +44,7 @@ pub planned-at : (ts : List Table) (vs : List TableInitialValue) (images : List 
 planned-at [] vs images i t v image a b c = absurd (none-some t a)
 planned-at (x ∷ ts) [] images i t v image a b c = absurd (none-some v b)
 planned-at (x ∷ ts) (y ∷ vs) [] i t v image a b c = absurd (none-some image c)
-planned-at (x ∷ ts) (y ∷ vs) (z ∷ images) zero t v image a b c =
-    let one : x ≡ t = cc in
-    let two : y ≡ v = cc in
-    let three : z ≡ image = cc in
-    ap (λ o. Some (record { minimum = o.limits.min; initial = initial_of y; image = z })) one
-    ∙ ap (λ o. Some (record { minimum = t.limits.min; initial = initial_of o; image = z })) two
-    ∙ ap (λ o. Some (record { minimum = t.limits.min; initial = initial_of v; image = o })) three
+planned-at (x ∷ ts) (y ∷ vs) (z ∷ images) zero t v image a b c = grind arith
 planned-at (x ∷ ts) (y ∷ vs) (z ∷ images) (suc i) t v image a b c = planned-at ts vs images i t v image a b c
 
 module _ (t : ModuleTranslation) (number : ℕ) (d : Table) (value : TableInitialValue) (image : Vec (Index FuncSpace))

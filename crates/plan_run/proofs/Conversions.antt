@@ -1,9 +1,8 @@
 -- Conversions that are undone, and those that are kept in nodes.
-use Rattle.std.proofs.Common.{◌≡◌, ℕ, true, false, List, [], ◌∷◌, Option, None, Some, refl, sym, ◌∙◌, ap, subst}
+use Rattle.std.proofs.Common.{◌≡◌, ℕ, true, false, List, [], ◌∷◌, Option, None, Some, refl, sym, ap, arith}
 use Rattle.std.specs.Prelude.{slice_get, unwrap_or, All, IfSome, IfNone}
 use Rattle.std.proofs.lemmas.Bool.{false≢true}
 use Rattle.std.proofs.lemmas.List.Elements.{All-head}
-use Rattle.std.proofs.lemmas.Option.{none-some}
 use Rattle.wasm_spec.specs.declared.operators.Operator.{Operator}
 use Rattle.wasm_spec.specs.declared.operators.Operator.TheVariants as op
 use Rattle.replay_spec.specs.Values as plain
@@ -14,7 +13,7 @@ use Rattle.plan_run.specs.declared.value.Node.{Node}
 use Rattle.plan_run.specs.declared.kinds.Kind.TheVariants.{Conversion}
 use Rattle.plan_run.specs.Kinds.{kind_of, conversion, undoes}
 use Rattle.wasm_convert.specs.Operators.{operator_of}
-use Rattle.plan_run.specs.Values.{value_in, values_in, kept_term, term_of, terms_of, NamesBelow, IsReference, IsOneReference, HasReference, AreOrdered}
+use Rattle.plan_run.specs.Values.{value_in, kept_term, term_of, terms_of, NamesBelow, IsReference, IsOneReference, HasReference, AreOrdered}
 use Rattle.plan_run.proofs.Terms.{node-term}
 
 -- ---- the operator of a term
@@ -26,38 +25,24 @@ operator_in (plain.AsAny term) = Some op.AnyConvertExtern
 operator_in _ = None
 
 operator-kept : (o : Operator) (vs : List plain.Value) → operator_in (kept_term o vs) ≡ Some o
-operator-kept op.ExternConvertAny (plain.Ref t ∷ []) = refl
-operator-kept op.ExternConvertAny _ = refl
-operator-kept op.AnyConvertExtern (plain.Ref t ∷ []) = refl
-operator-kept op.AnyConvertExtern _ = refl
-operator-kept _ vs = refl
+operator-kept h1 vs = grind arith
 
 -- a conversion wraps a term that the other did not make
 wraps-extern : (t : Term) (b : Operator) → operator_in t ≡ Some b → undoes op.ExternConvertAny b ≡ false → plain.to_extern t ≡ plain.AsExtern t
-wraps-extern plain.Null b is isnt = absurd (cc)
-wraps-extern (plain.AsAny t) b is isnt = let same : op.AnyConvertExtern ≡ b = cc in absurd (false≢true (sym isnt ∙ ap (undoes op.ExternConvertAny) (sym same)))
-wraps-extern _ b is isnt = refl
+wraps-extern h1 b is isnt = grind (arith, false≢true)
 
 wraps-any : (t : Term) (b : Operator) → operator_in t ≡ Some b → undoes op.AnyConvertExtern b ≡ false → plain.to_any t ≡ plain.AsAny t
-wraps-any plain.Null b is isnt = absurd (cc)
-wraps-any (plain.AsExtern t) b is isnt = let same : op.ExternConvertAny ≡ b = cc in absurd (false≢true (sym isnt ∙ ap (undoes op.AnyConvertExtern) (sym same)))
-wraps-any _ b is isnt = refl
+wraps-any h1 b is isnt = grind (arith, false≢true)
 
 wraps : (a b : Operator) (t : Term) → kind_of a ≡ Conversion → operator_in t ≡ Some b → undoes a b ≡ false → conversion a t ≡ kept_term a (plain.Ref t ∷ [])
-wraps op.ExternConvertAny b t is made isnt = wraps-extern t b made isnt
-wraps op.AnyConvertExtern b t is made isnt = wraps-any t b made isnt
-wraps _ b t is made isnt = absurd (cc)
+wraps h1 b t is made isnt = grind (arith, wraps-extern, wraps-any)
 
 -- and undoes what the other made
 back : (a b : Operator) (t : Term) → undoes a b ≡ true → conversion a (kept_term b (plain.Ref t ∷ [])) ≡ t
-back op.ExternConvertAny op.AnyConvertExtern t does = refl
-back op.AnyConvertExtern op.ExternConvertAny t does = refl
-back _ _ t does = absurd (false≢true does)
+back h1 h2 t does = grind (arith, false≢true)
 
 has-one : (a b : Operator) (vs : List Value) → undoes a b ≡ true → HasReference b vs → IsOneReference vs
-has-one op.ExternConvertAny op.AnyConvertExtern vs does has = has
-has-one op.AnyConvertExtern op.ExternConvertAny vs does has = has
-has-one _ _ vs does has = absurd (false≢true does)
+has-one h1 h2 vs does has = grind (arith, false≢true)
 
 -- ---- values
 
@@ -82,14 +67,7 @@ module _ (nodes : List Node) (ordered : AreOrdered nodes) (a : Operator) (is : k
         → (NamesBelow k v) × (converted (conversion a) (value_in (terms_of nodes) (value.Term k) ∷ []) ≡ Some (value_in (terms_of nodes) v))
     over [] e one below first = absurd one
     over (w ∷ x ∷ xs) e one below first = absurd one
-    over (w ∷ []) e one below first =
-        let same : w ≡ v = cc in
-        let t = term-in (terms_of nodes) w one in
-        let made : value_in (terms_of nodes) (value.Term k) ≡ plain.Ref (kept_term (operator_of n.op) (plain.Ref t.0 ∷ [])) =
-        node-is ∙ ap (λ ws. plain.Ref (kept_term (operator_of n.op) (values_in (terms_of nodes) ws))) e ∙ ap (λ x. plain.Ref (kept_term (operator_of n.op) (x ∷ []))) t.1 in (
-          subst (NamesBelow k) same (All-head (NamesBelow k) w [] below),
-          ap (λ x. converted (conversion a) (x ∷ [])) made ∙ ap (λ x. Some (plain.Ref x)) (back a (operator_of n.op) t.0 does) ∙ ap Some (sym t.1) ∙ ap (λ x. Some (value_in (terms_of nodes) x)) same,
-        )
+    over (w ∷ []) e one below first = grind (arith, term-in, node-is, All-head, back)
 
   module _ (does : undoes a (operator_of n.op) ≡ true) where
     pub given-below : (o : Option Value) → o ≡ slice_get n.args.items 0 → IfSome o (NamesBelow k)
@@ -102,17 +80,10 @@ module _ (nodes : List Node) (ordered : AreOrdered nodes) (a : Operator) (is : k
     given-some (Some v) is = (converts-back does v (sym is)).1
 
     pub given-none : (P : Type 0) (o : Option Value) → o ≡ slice_get n.args.items 0 → IfNone o P
-    given-none P None is = over n.args.items (has-one a (operator_of n.op) n.args.items does (ordered k n at).converts) is where
-      over : (vs : List Value) → IsOneReference vs → None ≡ slice_get vs 0 → P
-      over [] one e = absurd one
-      over (v ∷ vs) one e = absurd (none-some v e)
+    given-none P None is = grind (arith, has-one a (operator_of n.op) n.args.items does (ordered k n at).converts)
     given-none P (Some v) is = tt
 
   -- or it is kept in a node of its own
   pub converts-kept : undoes a (operator_of n.op) ≡ false
       → converted (conversion a) (value_in (terms_of nodes) (value.Term k) ∷ []) ≡ Some (plain.Ref (kept_term a (value_in (terms_of nodes) (value.Term k) ∷ [])))
-  converts-kept isnt =
-      let t : Term = term_of (terms_of nodes) n in
-      ap (λ x. converted (conversion a) (x ∷ [])) node-is
-      ∙ ap (λ x. Some (plain.Ref x)) (wraps a (operator_of n.op) t is (operator-kept (operator_of n.op) (values_in (terms_of nodes) n.args.items)) isnt)
-      ∙ ap (λ x. Some (plain.Ref (kept_term a (x ∷ [])))) (sym node-is)
+  converts-kept isnt = grind (arith, operator-kept, wraps, node-is)

@@ -1,10 +1,10 @@
 -- Tables as they begin hold what their phase begins with.
-use Rattle.std.proofs.Common.{◌≡◌, ℕ, zero, suc, ◌+◌, ◌-◌, ◌<◌, ◌≤◌, List, [], ◌∷◌, ◌++◌, length, map, get_or, replicate, Option, None, Some, refl, sym, ◌∙◌, ap, arith}
-use Rattle.std.specs.Prelude.{slice_get, slice_index, unwrap_or, nat_lt, All}
+use Rattle.std.proofs.Common.{◌≡◌, ℕ, zero, suc, ◌+◌, ◌-◌, ◌<◌, ◌≤◌, List, [], ◌∷◌, ◌++◌, length, map, get_or, Option, None, Some, refl, sym, ◌∙◌, ap, arith}
+use Rattle.std.specs.Prelude.{slice_get, slice_index, unwrap_or, All}
 use Rattle.std.specs.Option.{option_map}
 use Rattle.std.proofs.lemmas.Bool.{lt-ltb, le-ltb, cond-true, cond-false}
 use Rattle.std.proofs.lemmas.List.{length-map, length-append, length-replicate, get_or_append_left}
-use Rattle.std.proofs.lemmas.Option.{none-some, same_Some, slice_get-map, slice_get-get_or, get_or_from_slice_get}
+use Rattle.std.proofs.lemmas.Option.{slice_get-map, slice_get-get_or, get_or_from_slice_get}
 use Rattle.wasm_spec.specs.Module.{Expression}
 use Rattle.replay_spec.specs.Elements.{cell_of, value_or_null, table_sizes, table_base}
 use Rattle.replay_spec.specs.Tables.{PlannedTable, TablePlan, reference_of, planned_cell, planned_first, planned_elements_phase}
@@ -17,25 +17,14 @@ use Rattle.plan_run.proofs.Lists.{get-append-low, get-append-high, get-replicate
 
 image-at : (minimum : ℕ) (image : List (Option ℕ)) (place : ℕ) → place < minimum
     → slice_get (image_cells minimum image) place ≡ Some (reference_of (unwrap_or (slice_get image place) None))
-image-at minimum [] place l =
-    let all : minimum - 0 ≡ minimum = omega arith in
-    ap (λ k. slice_get (replicate k (reference_of None)) place) all ∙ get-replicate (reference_of None) minimum place l
+image-at minimum [] place l = grind (arith, get-replicate)
 image-at zero (c ∷ cs) place l = absurd (omega arith)
 image-at (suc minimum) (c ∷ cs) zero l = refl
-image-at (suc minimum) (c ∷ cs) (suc place) l =
-    let rest : suc minimum - length (c ∷ cs) ≡ minimum - length cs = omega arith in
-    ap (λ k. slice_get (map reference_of cs ++ replicate k (reference_of None)) place) rest ∙ image-at minimum cs place (omega arith)
+image-at (suc minimum) (c ∷ cs) (suc place) l = grind (arith, (image-at minimum cs place (omega arith)))
 
 module _ (globals : List plain.Value) (fields : ℕ → ℕ) where
   length-cells : (minimum : ℕ) (initial : Option Expression) (image : List (Option ℕ)) → length image ≤ minimum → length (cells_from globals fields minimum initial image) ≡ minimum
-  length-cells minimum None image l =
-      omega (
-        arith,
-        length-append (map reference_of image) (replicate (minimum - length image) (reference_of None)),
-        length-map image reference_of,
-        length-replicate (minimum - length image) (reference_of None),
-      )
-  length-cells minimum (Some e) image l = length-replicate minimum (cell_of globals fields e)
+  length-cells minimum h2 image l = grind (arith, length-append, length-map, length-replicate)
 
   cell-at : (minimum : ℕ) (initial : Option Expression) (image : List (Option ℕ)) (place : ℕ) → place < minimum
       → slice_get (cells_from globals fields minimum initial image) place ≡ Some (planned_cell globals fields initial image place)
@@ -73,20 +62,12 @@ module _ (globals : List plain.Value) (fields : ℕ → ℕ) where
         let size = low-size i object low at in
         let null : plain.Value = plain.Ref plain.Null in
         let found : slice_get object place ≡ Some (get_or object place null) = slice_get-get_or object place null (omega arith) in
-        let read : base_at i place ≡ value_or_null (slice_get (unwrap_or (slice_get imported i) []) place) =
-        cond-true (nat_lt i (length imported)) (value_or_null (slice_get (unwrap_or (slice_get imported i) []) place))
-        (planned_first globals fields (slice_get plan.tables (i - length imported)) place) (lt-ltb i (length imported) low) in
+        let read : base_at i place ≡ value_or_null (slice_get (unwrap_or (slice_get imported i) []) place) = grind (arith, lt-ltb, cond-true) in
         found ∙ sym (ap Some (read ∙ ap (λ o. value_or_null (slice_get (unwrap_or o []) place)) (low-at i object low at) ∙ ap value_or_null found))
 
     high-at : (j : ℕ) (object : List plain.Value) → slice_get objects (length imported + j) ≡ Some object
         → (t : PlannedTable) × (slice_get plan.tables j ≡ Some t) × (object ≡ first_cells globals fields t)
-    high-at j object at = over (slice_get plan.tables j) refl
-        (sym (get-append-high imported (map (first_cells globals fields) plan.tables) j ∙ slice_get-map (first_cells globals fields) plan.tables j)
-        ∙ ap (λ xs. slice_get xs (length imported + j)) (sym are) ∙ at) where
-          over : (o : Option PlannedTable) → slice_get plan.tables j ≡ o → option_map (first_cells globals fields) o ≡ Some object
-              → (t : PlannedTable) × (slice_get plan.tables j ≡ Some t) × (object ≡ first_cells globals fields t)
-          over None e f = absurd (none-some object f)
-          over (Some t) e f = (t, e, sym (same_Some (first_cells globals fields t) object f))
+    high-at j object at = grind (arith, get-append-high, slice_get-map)
 
     high-size : (j : ℕ) (object : List plain.Value) → slice_get objects (length imported + j) ≡ Some object → length object ≡ size_at (length imported + j)
     high-size j object at =
@@ -109,8 +90,7 @@ module _ (globals : List plain.Value) (fields : ℕ → ℕ) where
         let long : length object ≡ t.minimum = ap length found.2 ∙ length-cells t.minimum t.initial t.image image in
         let number : length imported + j - length imported ≡ j = omega arith in
         let read : base_at (length imported + j) place ≡ planned_first globals fields (slice_get plan.tables (length imported + j - length imported)) place =
-        cond-false (nat_lt (length imported + j) (length imported)) (value_or_null (slice_get (unwrap_or (slice_get imported (length imported + j)) []) place))
-        (planned_first globals fields (slice_get plan.tables (length imported + j - length imported)) place) (le-ltb (length imported + j) (length imported) (omega arith)) in
+        grind (arith, le-ltb, cond-false) in
         ap (λ xs. slice_get xs place) found.2 ∙ cell-at t.minimum t.initial t.image place (omega arith)
         ∙ sym (ap Some (read ∙ ap (λ k. planned_first globals fields (slice_get plan.tables k) place) number ∙ ap (λ o. planned_first globals fields o place) found.1))
 

@@ -1,11 +1,10 @@
 -- What a finished translation gives its parts.
 use Rattle.std.proofs.Common.{◌≡◌, ℕ, suc, ◌+◌, ◌-◌, ◌^◌, ◌<◌, ◌≤◌, List, [], ◌∷◌, ◌++◌, length, map, get_or, Option, None, Some, refl, sym, ◌∙◌, ap, subst, arith}
-use Rattle.std.specs.Prelude.{slice_get, unwrap_or, sum_by, All}
-use Rattle.std.specs.Option.{option_map}
+use Rattle.std.specs.Prelude.{slice_get, sum_by, All}
 use Rattle.std.proofs.lemmas.List.{length-map, length-append, length-drop}
 use Rattle.std.proofs.lemmas.List.Elements.{All-nil, All-cons, All-head, All-tail, All-same, All-map}
 use Rattle.std.proofs.lemmas.List.Sums.{get_or-le-sum_by}
-use Rattle.std.proofs.lemmas.Option.{slice_get-get_or, slice_get_within, none-some, same_Some}
+use Rattle.std.proofs.lemmas.Option.{slice_get-get_or, slice_get_within}
 use Rattle.wasm_spec.specs.Module.{Expression}
 use Rattle.wasm_types.specs.declared.memory.Memory.{Memory}
 use Rattle.wasm_types.specs.Memories.{minimum_bytes}
@@ -26,7 +25,7 @@ use Rattle.plan_run.specs.declared.elements.ElementPiece.{ElementPiece}
 use Rattle.plan_run.specs.declared.segments.DataPiece.{DataPiece}
 use Rattle.init_plan.specs.declared.translation.ModuleTranslation.{ModuleTranslation}
 use Rattle.init_plan.specs.Views.{memory_plan_of}
-use Rattle.paged_memory.specs.Memory.{Contents, count_lent}
+use Rattle.paged_memory.specs.Memory.{Contents}
 use Rattle.form_lists.proofs.AllSections.{All-from_map}
 use Rattle.plan_run.specs.declared.laid.Way.{Way}
 use Rattle.plan_run.specs.declared.laid.Way.TheVariants as way
@@ -34,7 +33,7 @@ use Rattle.plan_run.specs.Finished.{Finished, IsStatic}
 use Rattle.plan_run.specs.Laid.{LendImages}
 use Rattle.plan_run.specs.Lays.{Lays, Hold}
 use Rattle.plan_run.specs.Limits.{most_bytes, page_size_of, own_memories}
-use Rattle.plan_run.specs.Memories.{bytes_in, plan_phase, data_piece, image_in, image_pages, begun, seen, ImageIsWithin, ImagesAreWithin}
+use Rattle.plan_run.specs.Memories.{bytes_in, plan_phase, data_piece, image_in, begun, seen, ImageIsWithin, ImagesAreWithin}
 use Rattle.plan_run.specs.Segments.{left_pieces, LendNoMore}
 use Rattle.plan_run.specs.Tables.{element_piece}
 use Rattle.plan_run.proofs.Begun.{within-at, begun-hold, begun-lent}
@@ -58,18 +57,9 @@ within-each w plan page n (m ∷ ms) each =
     )
 
 module _ (t : ModuleTranslation) (f : Finished t) where
-  abbrev read : ℕ × ℕ → ℕ × List ℕ
-  read image = (image.0, runtime_bytes (memory_plan_of t) image.1)
-
   within-one : (w : Way) (i : ℕ) (m : Memory) → slice_get t.module.memories i ≡ Some m
       → ImageIsWithin (page_size_of t) (minimum_bytes m) (image_in w (memory_plan_of t) i)
-  within-one way.Copy i m at = tt
-  within-one way.Map i m at = over (slice_get (memory_plan_of t).images i) refl where
-    over : (o : Option (Option (ℕ × ℕ))) → slice_get (memory_plan_of t).images i ≡ o
-        → ImageIsWithin (page_size_of t) (minimum_bytes m) (option_map read (unwrap_or o None))
-    over None e = tt
-    over (Some None) e = tt
-    over (Some (Some image)) e = (f.memories.images i image e).within m at
+  within-one h1 i m at = grind arith
 
   pub images-within : (w : Way) → ImagesAreWithin w (memory_plan_of t) (page_size_of t) t.module.num_imported_memories (own_memories t)
   images-within w = within-each w (memory_plan_of t) (page_size_of t) t.module.num_imported_memories (own_memories t)
@@ -77,13 +67,7 @@ module _ (t : ModuleTranslation) (f : Finished t) where
 
   -- no imported memory has an image
   pub none-imported : (w : Way) (i : ℕ) → i < t.module.num_imported_memories → image_in w (memory_plan_of t) i ≡ None
-  none-imported way.Copy i l = refl
-  none-imported way.Map i l = over (slice_get (memory_plan_of t).images i) refl where
-    over : (o : Option (Option (ℕ × ℕ))) → slice_get (memory_plan_of t).images i ≡ o
-        → option_map read (unwrap_or o None) ≡ None
-    over None e = refl
-    over (Some None) e = refl
-    over (Some (Some image)) e = let d = (f.memories.images i image e).defined in absurd (omega arith)
+  none-imported h1 i l = grind arith
 
 -- the image of one of the defined memories
 pub within-of : (t : ModuleTranslation) (w : Way) (page i : ℕ) (ms : List Memory) (d : Memory) → ms ≡ t.module.memories → t.module.num_imported_memories ≤ i → i < length ms
@@ -92,8 +76,7 @@ pub within-of : (t : ModuleTranslation) (w : Way) (page i : ℕ) (ms : List Memo
 within-of t w page i ms d same low high within =
     let n : ℕ = t.module.num_imported_memories in
     let there : n + (i - n) ≡ i = omega arith in
-    let at : slice_get (own_memories t) (i - n) ≡ Some (get_or ms i d) = get-drop n t.module.memories (i - n) ∙ ap (slice_get t.module.memories) there
-    ∙ ap (λ xs. slice_get xs i) (sym same) ∙ slice_get-get_or ms i d high in
+    let at : slice_get (own_memories t) (i - n) ≡ Some (get_or ms i d) = grind (arith, get-drop, slice_get-get_or) in
     subst (λ k. ImageIsWithin page (minimum_bytes (get_or ms i d)) (image_in w (memory_plan_of t) k)) there
     (within-at w (memory_plan_of t) page n (i - n) (own_memories t) (get_or ms i d) at within)
 
@@ -105,18 +88,7 @@ begun-count w plan page n (m ∷ ms) = ap suc (begun-count w plan page (n + 1) m
 pub memory-count : (t : ModuleTranslation) (w : Way) (plan : MemoryPlan) (page n : ℕ) (imported memories : List Contents)
     → t.module.num_imported_memories ≤ length t.module.memories → length imported ≡ t.module.num_imported_memories
     → map seen memories ≡ map seen imported ++ begun w plan page n (own_memories t) → length memories ≡ length t.module.memories
-memory-count t w plan page n imported memories few many are =
-    omega (
-      arith,
-      few,
-      many,
-      length-map memories seen,
-      ap length are,
-      length-append (map seen imported) (begun w plan page n (own_memories t)),
-      length-map imported seen,
-      begun-count w plan page n (own_memories t),
-      length-drop t.module.num_imported_memories t.module.memories,
-    )
+memory-count t w plan page n imported memories few many are = grind (arith, length-map, length-append, begun-count, length-drop)
 
 -- ---- segments
 
@@ -162,12 +134,7 @@ module _ (t : ModuleTranslation) (f : Finished t) (w : Way) (place_of : Expressi
       (λ i l. none-imported t f w i (subst (λ k. i < k) many l)) (subst (λ k. ImagesAreWithin w (memory_plan_of t) (page_size_of t) k (own_memories t)) (sym many) (images-within t f w))
 
   alone-at : (i : ℕ) (image : ℕ × List ℕ) → image_in way.Map (memory_plan_of t) i ≡ Some image → All (λ s. IsStatic s.offset) (memory_plan_of t).segments
-  alone-at i image is = over (slice_get (memory_plan_of t).images i) refl is where
-    over : (o : Option (Option (ℕ × ℕ))) → slice_get (memory_plan_of t).images i ≡ o → option_map (read t f) (unwrap_or o None) ≡ Some image
-        → All (λ s. IsStatic s.offset) (memory_plan_of t).segments
-    over None e some = absurd (none-some image some)
-    over (Some None) e some = absurd (none-some image some)
-    over (Some (Some one)) e some = (f.memories.images i one e).alone
+  alone-at i image is = grind arith
 
   pub shared-after : (new : List Contents) → LendNoMore memories new → (left_pieces w place_of (memory_plan_of t) (memory_plan_of t).segments ≡ [] → new ≡ memories) → LendImages t w new
   shared-after new less still i memory at high =
@@ -176,22 +143,7 @@ module _ (t : ModuleTranslation) (f : Finished t) (w : Way) (place_of : Expressi
       let before : Contents = get_or memories i memory in
       let there : slice_get memories i ≡ Some before = slice_get-get_or memories i memory (omega arith) in
       let begun_pages = begun-lent w (memory_plan_of t) (page_size_of t) imported memories (own_memories t) are-so i before (omega arith) there in
-      over w refl (image_in w (memory_plan_of t) i) refl begun_pages (less.lent i before memory there at) at there
-    where
-      over : (v : Way) → w ≡ v → (o : Option (ℕ × List ℕ)) → image_in w (memory_plan_of t) i ≡ o
-          → count_lent (get_or memories i memory).lent ≡ image_pages (page_size_of t) (image_in w (memory_plan_of t) i)
-          → count_lent memory.lent ≤ count_lent (get_or memories i memory).lent → slice_get new i ≡ Some memory → slice_get memories i ≡ Some (get_or memories i memory)
-          → count_lent memory.lent ≡ image_pages (page_size_of t) (image_in w (memory_plan_of t) i)
-      over v is None none pages less_here new_at old_at =
-          let zero_pages = ap (image_pages (page_size_of t)) none in
-          omega arith
-      over way.Copy is (Some image) some pages less_here new_at old_at =
-          absurd (none-some image (ap (λ x. image_in x (memory_plan_of t) i) (sym is) ∙ some))
-      over way.Map is (Some image) some pages less_here new_at old_at =
-          let alone = alone-at i image (ap (λ x. image_in x (memory_plan_of t) i) (sym is) ∙ some) in
-          let same = still (ap (λ x. left_pieces x place_of (memory_plan_of t) (memory_plan_of t).segments) is ∙ none-left place_of (memory_plan_of t) (memory_plan_of t).segments alone) in
-          let one : get_or memories i memory ≡ memory = same_Some (get_or memories i memory) memory (sym old_at ∙ ap (λ xs. slice_get xs i) (sym same) ∙ new_at) in
-          ap (λ m. count_lent m.lent) (sym one) ∙ pages
+      grind (arith, alone-at, none-left)
 
 pub nil-mapped : {A B : Type 0} (f : A → B) (xs : List A) → map f xs ≡ [] → xs ≡ []
 nil-mapped f [] is = refl

@@ -1,5 +1,5 @@
 -- Segments one by one, and the images of a plan.
-use Rattle.std.proofs.Common.{◌≡◌, ℕ, ◌+◌, ◌-◌, ◌<◌, ◌≤◌, List, ◌∷◌, ◌++◌, length, map, get_or, drop, append_assoc, Option, None, Some, refl, sym, ◌∙◌, ap, subst, arith}
+use Rattle.std.proofs.Common.{◌≡◌, ℕ, ◌+◌, ◌-◌, ◌<◌, ◌≤◌, List, ◌++◌, length, map, get_or, drop, append_assoc, Option, None, Some, refl, arith}
 use Rattle.std.specs.Prelude.{All}
 use Rattle.std.specs.List.{cons_option}
 use Rattle.std.specs.Option.{option_map, option_to_list}
@@ -15,7 +15,7 @@ use Rattle.init_plan.specs.declared.translation.MemorySegmentOffset.{MemorySegme
 use Rattle.init_plan.specs.Views.{planned_offset_of, planned_segment_of}
 use Rattle.plan_run.specs.declared.laid.Way.{Way}
 use Rattle.plan_run.specs.Memories.{left_place}
-use Rattle.plan_run.specs.Segments.{left_piece, left_pieces}
+use Rattle.plan_run.specs.Segments.{left_pieces}
 
 -- ---- segments
 
@@ -28,13 +28,7 @@ pub left-step : (w : Way) (place_of : Expression → ℕ) (plan : MemoryPlan) (s
     → place ≡ left_place w place_of (planned_offset_of s.1)
     → new ≡ front ++ option_to_list (option_map (λ at. record { object = number_of s.0; offset = at; items = runtime_bytes plan (number_of s.2) }) place)
     → new ++ left_pieces w place_of plan (map planned_segment_of (drop (i + 1) segments)) ≡ front ++ left_pieces w place_of plan (map planned_segment_of (drop i segments))
-left-step w place_of plan segments i s d front new place l is at pushed =
-    let rest : List (Piece ℕ) = left_pieces w place_of plan (map planned_segment_of (drop (i + 1) segments)) in
-    let one : Option (Piece ℕ) = left_piece w place_of plan (planned_segment_of s) in
-    ap (λ xs. xs ++ rest) (pushed ∙ ap (λ o. front ++ option_to_list (option_map (λ at. record { object = number_of s.0; offset = at; items = runtime_bytes plan (number_of s.2) }) o)) at)
-    ∙ append_assoc front (option_to_list one) rest
-    ∙ ap (λ xs. front ++ xs) (sym (cons-is one rest))
-    ∙ sym (ap (λ xs. front ++ left_pieces w place_of plan (map planned_segment_of xs)) (drop_more segments i d l ∙ ap (λ x. x ∷ drop (i + 1) segments) (sym is)))
+left-step w place_of plan segments i s d front new place l is at pushed = grind (arith, append_assoc, cons-is, drop_more)
 
 -- ---- images
 
@@ -44,7 +38,4 @@ view_image image = (image.0, number_of image.1)
 -- ---- the last items of a list
 
 pub last-at : {A : Type 0} (P : A → Type 0) (xs : List A) (n i : ℕ) (d : A) → n ≤ i → i < length xs → All P (drop n xs) → P (get_or xs i d)
-last-at P xs n i d low high all =
-    let there : n + (i - n) ≡ i = omega arith in
-    let within : i - n < length (drop n xs) = omega (arith, length-drop n xs) in
-    subst P (get_or-drop n xs (i - n) d ∙ ap (λ k. get_or xs k d) there) (all (i - n) d within)
+last-at P xs n i d low high all = grind (arith, length-drop n xs, get_or-drop n xs (i - n) d)

@@ -30,9 +30,7 @@ get-append-low (x ∷ xs) ys (suc k) l = get-append-low xs ys k (omega arith)
 
 pub get-append-high : {A : Type 0} (xs ys : List A) (k : ℕ) → slice_get (xs ++ ys) (length xs + k) ≡ slice_get ys k
 get-append-high [] ys k = ap (slice_get ys) (omega arith)
-get-append-high (x ∷ xs) ys k = rw (sucs (length xs) k) (get-append-high xs ys k) where
-  sucs : (n k : ℕ) → suc n + k ≡ suc (n + k)
-  sucs n k = omega arith
+get-append-high (x ∷ xs) ys k = grind (arith, (get-append-high xs ys k))
 
 pub get-take : {A : Type 0} (n : ℕ) (xs : List A) (k : ℕ) → k < n → slice_get (take n xs) k ≡ slice_get xs k
 get-take zero xs k l = absurd (omega arith)
@@ -43,9 +41,7 @@ get-take (suc n) (x ∷ xs) (suc k) l = get-take n xs k (omega arith)
 pub get-drop : {A : Type 0} (n : ℕ) (xs : List A) (k : ℕ) → slice_get (drop n xs) k ≡ slice_get xs (n + k)
 get-drop zero xs k = ap (slice_get xs) (omega arith)
 get-drop (suc n) [] k = refl
-get-drop (suc n) (x ∷ xs) k = rw (sucs n k) (get-drop n xs k) where
-  sucs : (n k : ℕ) → suc n + k ≡ suc (n + k)
-  sucs n k = omega arith
+get-drop (suc n) (x ∷ xs) k = grind (arith, (get-drop n xs k))
 
 -- what all have, one that is found has
 pub all-at : {X : Type 0} (P : X → Type 0) (xs : List X) (i : ℕ) (x : X) → All P xs → slice_get xs i ≡ Some x → P x

@@ -31,12 +31,7 @@ module _ (a : Action) (nodes : List Node) (stack args : List Value) (takes rest 
   module _ (l : takes ≤ length stack) (at : rest ≡ length stack - takes) (top : args ≡ drop rest stack) where
     acts-on : acted a (values_in (terms_of nodes) stack)
         ≡ option_map (λ v. values_in (terms_of nodes) (take rest stack) ++ v ∷ []) (a.makes (values_in (terms_of nodes) args))
-    acts-on =
-        let long = length-map stack (value_in (terms_of nodes)) in
-        acted-taken a (values_in (terms_of nodes) stack) rest (omega arith) (omega arith)
-        ∙ ap (λ xs. option_map (λ v. xs ++ v ∷ []) (a.makes (drop rest (values_in (terms_of nodes) stack)))) (take-map (value_in (terms_of nodes)) rest stack)
-        ∙ ap (λ xs. option_map (λ v. values_in (terms_of nodes) (take rest stack) ++ v ∷ []) (a.makes xs))
-        (drop-map (value_in (terms_of nodes)) rest stack ∙ ap (values_in (terms_of nodes)) (sym top))
+    acts-on = grind (arith, length-map, acted-taken, take-map, drop-map)
 
     -- the values are not what is wanted
     pub acts-none : a.makes (values_in (terms_of nodes) args) ≡ None → acted a (values_in (terms_of nodes) stack) ≡ None

@@ -1,5 +1,5 @@
 -- One more value, table or piece.
-use Rattle.std.proofs.Common.{◌≡◌, ℕ, zero, suc, ◌+◌, ◌-◌, ◌<◌, ◌≤◌, List, [], ◌∷◌, ◌++◌, length, map, get_or, take, replicate, refl, sym, ◌∙◌, ap}
+use Rattle.std.proofs.Common.{◌≡◌, ℕ, zero, suc, ◌+◌, ◌-◌, ◌<◌, ◌≤◌, List, [], ◌∷◌, ◌++◌, length, map, get_or, take, replicate, refl, sym, ◌∙◌, ap, arith}
 use Rattle.std.specs.Prelude.{All}
 use Rattle.std.specs.Global.{Vec}
 use Rattle.std.proofs.lemmas.List.{map_push, map_more, map-append, take_all}
@@ -47,11 +47,7 @@ module _ (old new : List Node) (e : Extends old new) where
       ∙ ap (λ cs. values_in (terms_of old) t.items ∷ cs) (cells-on ts (All-tail (λ (x : Vec Value). All (NamesBelow (length old)) x.items) t ts below))
 
   pub tables-on : (tables : List (Vec Value)) (meant : List (List plain.Value)) → TablesMean old tables meant → TablesMean new tables meant
-  tables-on tables meant before = record {
-    below = All-weaker (λ (x : Vec Value). All (NamesBelow (length old)) x.items) (λ (x : Vec Value). All (NamesBelow (length new)) x.items)
-        (λ x. all-names-more (length old) (length new) x.items (longer old new e)) tables before.below;
-    are = cells-on tables before.below ∙ before.are;
-  }
+  tables-on tables meant before = grind (arith, longer, all-names-more, All-weaker, cells-on)
 
   pub tables-more : (tables : List (Vec Value)) (meant : List (List plain.Value)) (t : Vec Value) (m : List plain.Value) → TablesMean old tables meant → AllMean new t.items m
       → TablesMean new (tables ++ t ∷ []) (meant ++ m ∷ [])
@@ -59,8 +55,7 @@ module _ (old new : List Node) (e : Extends old new) where
       let on = tables-on tables meant before in
       record {
         below = All-push (λ (x : Vec Value). All (NamesBelow (length new)) x.items) tables t on.below one.below;
-        are = map_push (λ (x : Vec Value). values_in (terms_of new) x.items) tables t ∙ ap (λ l. l ++ values_in (terms_of new) t.items ∷ []) on.are
-            ∙ ap (λ z. meant ++ z ∷ []) one.are;
+        are = grind (arith, map_push);
       }
 
   -- ---- pieces
@@ -74,11 +69,7 @@ module _ (old new : List Node) (e : Extends old new) where
       ∙ ap (λ cs. element_piece (terms_of old) p ∷ cs) (pieces-same ps (All-tail (λ (x : ElementPiece). All (NamesBelow (length old)) x.items.items) p ps below))
 
   pub pieces-on : (pieces : List ElementPiece) (meant : List (Piece plain.Value)) → PiecesMean old pieces meant → PiecesMean new pieces meant
-  pieces-on pieces meant before = record {
-    below = All-weaker (λ (x : ElementPiece). All (NamesBelow (length old)) x.items.items) (λ (x : ElementPiece). All (NamesBelow (length new)) x.items.items)
-        (λ x. all-names-more (length old) (length new) x.items.items (longer old new e)) pieces before.below;
-    are = pieces-same pieces before.below ∙ before.are;
-  }
+  pieces-on pieces meant before = grind (arith, longer, all-names-more, All-weaker, pieces-same)
 
   pub pieces-more : (pieces : List ElementPiece) (meant : List (Piece plain.Value)) (p : ElementPiece) (m : Piece plain.Value) → PiecesMean old pieces meant
       → All (NamesBelow (length new)) p.items.items → element_piece (terms_of new) p ≡ m → PiecesMean new (pieces ++ p ∷ []) (meant ++ m ∷ [])
@@ -103,10 +94,7 @@ plain-tables nodes [] none = record { below = All-nil (λ (x : Vec Value). All (
 plain-tables nodes (t ∷ ts) none =
     let one = plain-mean nodes t.items (All-head (λ (x : Vec Value). All IsPlain x.items) t ts none) in
     let rest = plain-tables nodes ts (All-tail (λ (x : Vec Value). All IsPlain x.items) t ts none) in
-    record {
-      below = All-cons (λ (x : Vec Value). All (NamesBelow (length nodes)) x.items) t ts one.below rest.below;
-      are = ap (λ c. c ∷ cells_in (terms_of nodes) ts) one.are ∙ ap (λ cs. map imported_value t.items ∷ cs) rest.are;
-    }
+    grind (arith, All-cons)
 
 -- cells that are filled up to a size
 pub filled : {A B C : Type 0} (f : A → C) (h : B → C) (xs : List A) (ys : List B) (n count : ℕ) (x : A) (y : B) → f x ≡ h y → map f xs ≡ map h ys → length xs ≤ n

@@ -1,10 +1,8 @@
 -- Pieces one by one.
-use Rattle.std.proofs.Common.{◌≡◌, ◌≢◌, ℕ, zero, suc, ◌+◌, ◌-◌, ◌<◌, ◌≤◌, Bool, true, false, List, [], ◌∷◌, ◌++◌, length, map, get_or, set, take, drop, replicate, Some, refl, sym, ◌∙◌, ap, subst, arith}
+use Rattle.std.proofs.Common.{◌≡◌, ℕ, zero, suc, ◌+◌, ◌-◌, ◌<◌, ◌≤◌, Bool, true, false, List, [], ◌∷◌, ◌++◌, length, map, get_or, set, drop, replicate, Some, refl, sym, ◌∙◌, ap, subst, arith}
 use Rattle.std.specs.Prelude.{slice_get}
 use Rattle.std.specs.Option.{option_map}
-use Rattle.std.proofs.Math.Logic.{⊎_elim}
 use Rattle.std.proofs.Math.ListN.{length-set}
-use Rattle.std.proofs.lemmas.Bool.{cases_eq}
 use Rattle.std.proofs.lemmas.List.{length-map, length-drop, map-set, drop_more, drop-drop, take-append-drop, length-replicate}
 use Rattle.std.proofs.lemmas.Option.{same_Some, slice_get-map, slice_get-get_or, slice_get_within}
 use Rattle.replay_spec.specs.Phases.{Piece, Phase}
@@ -30,11 +28,7 @@ module _ {A X : Type 0} (f : X → List A) (xs : List X) (k : ℕ) (x : X) (at :
   the-object object is = same_Some object (f x) (sym is ∙ ap (slice_get (map f xs)) on ∙ slice_get-map f xs k ∙ ap (option_map f) at)
 
   pub writes-true : (new : X) → p.offset + length p.items ≤ length (f x) → f new ≡ written p.offset p.items (f x) → WritesPiece p (map f xs) (map f (set xs k new)) true
-  writes-true new l is object found =
-      let same = the-object object found in (
-        subst (λ o. p.offset + length p.items ≤ length o) (sym same) l,
-        map-set f xs k new ∙ ap (λ j. set (map f xs) j (f new)) (sym on) ∙ ap (set (map f xs) p.object) (is ∙ ap (written p.offset p.items) (sym same)),
-      )
+  writes-true new l is object found = grind (arith, the-object, map-set)
 
 module _ {A : Type 0} (phase : Phase A) (p : Piece A) (rest : List (Piece A)) (old new : List (List A)) (w : IsWriting phase (p ∷ rest) old) (l : p.object < length old) where
   object : List A
@@ -88,31 +82,11 @@ not-lent-less first n pages =
     let long = length-replicate n false in
     let whole = ap count_lent (take-append-drop first pages) in
     let rest = ap count_lent (drop-drop (length none) first pages) in
-    omega (
-      arith,
-      count-append (take first pages) (none ++ drop (first + length none) pages),
-      count-append none (drop (first + length none) pages),
-      count-none n,
-      count-append (take first pages) (drop first pages),
-      count-drop (length none) (drop first pages),
-      whole,
-      rest,
-    )
+    grind (arith, count-append, count-none, count-drop)
 
 pub lend-set : (memories : List Contents) (k : ℕ) (memory new : Contents) → slice_get memories k ≡ Some memory → count_lent new.lent ≤ count_lent memory.lent
     → LendNoMore memories (set memories k new)
-lend-set memories k memory new at less = record {
-  count = length-set memories k new;
-  lent = λ i before after one two. ⊎_elim
-      (λ (here : i ≡ k).
-      let old : memory ≡ before = same_Some memory before (sym at ∙ ap (slice_get memories) (sym here) ∙ one) in
-      let now : new ≡ after = same_Some new after (sym (ap (slice_get (set memories k new)) here ∙ get-set-same memories k new (slice_get_within memories k memory at)) ∙ two) in
-      subst (λ m. count_lent m.lent ≤ count_lent before.lent) now (subst (λ m. count_lent new.lent ≤ count_lent m.lent) old less))
-      (λ (there : i ≢ k).
-      let same = same_Some before after (sym one ∙ sym (get-set-other memories k i new there) ∙ two) in
-      subst (λ m. count_lent m.lent ≤ count_lent before.lent) same (omega arith))
-      (cases_eq i k);
-}
+lend-set memories k memory new at less = grind (arith, length-set, slice_get_within, get-set-same, get-set-other)
 
 pub lend-on : (a b c : List Contents) → LendNoMore a b → LendNoMore b c → LendNoMore a c
 lend-on a b c one two = record {

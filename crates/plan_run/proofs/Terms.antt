@@ -1,6 +1,6 @@
 -- Terms stay when nodes are appended.
 use Rattle.std.proofs.Common.{◌≡◌, ℕ, zero, suc, ◌+◌, ◌<◌, ◌≤◌, List, [], ◌∷◌, ◌++◌, length, map, Some, refl, sym, ◌∙◌, ap, subst, arith}
-use Rattle.std.specs.Prelude.{slice_get, unwrap_or, All}
+use Rattle.std.specs.Prelude.{slice_get, All}
 use Rattle.std.proofs.Math.Logic.{⊎_elim}
 use Rattle.std.proofs.lemmas.Bool.{cases_lt}
 use Rattle.std.proofs.lemmas.List.{append_assoc, append-nil, length-append, length_push}
@@ -34,35 +34,15 @@ terms-low terms (n ∷ ns) k l =
 -- ---- values over terms that agree
 
 value-same : (one other : List Term) (k : ℕ) (v : Value) → ((i : ℕ) → i < k → slice_get one i ≡ slice_get other i) → NamesBelow k v → value_in one v ≡ value_in other v
-value-same one other k (value.I32 n) same below = refl
-value-same one other k (value.I64 n) same below = refl
-value-same one other k (value.F32 bits) same below = refl
-value-same one other k (value.F64 bits) same below = refl
-value-same one other k (value.V128 bits) same below = refl
-value-same one other k value.Null same below = refl
-value-same one other k (value.Func function) same below = refl
-value-same one other k (value.Host n) same below = refl
-value-same one other k (value.I31 n) same below = refl
-value-same one other k (value.Term n) same below = ap (λ o. plain.Ref (unwrap_or o plain.Null)) (same n below)
+value-same one other k h4 same below = grind arith
 
 values-same : (one other : List Term) (k : ℕ) (vs : List Value) → ((i : ℕ) → i < k → slice_get one i ≡ slice_get other i) → All (NamesBelow k) vs
     → values_in one vs ≡ values_in other vs
 values-same one other k [] same below = refl
-values-same one other k (v ∷ vs) same below =
-    ap (λ x. x ∷ values_in one vs) (value-same one other k v same (All-head (NamesBelow k) v vs below))
-    ∙ ap (λ xs. value_in other v ∷ xs) (values-same one other k vs same (All-tail (NamesBelow k) v vs below))
+values-same one other k (v ∷ vs) same below = grind (arith, All-head, value-same, All-tail, (values-same one other k vs same (All-tail (NamesBelow k) v vs below)))
 
 pub names-more : (k m : ℕ) (v : Value) → k ≤ m → NamesBelow k v → NamesBelow m v
-names-more k m (value.I32 n) l below = tt
-names-more k m (value.I64 n) l below = tt
-names-more k m (value.F32 bits) l below = tt
-names-more k m (value.F64 bits) l below = tt
-names-more k m (value.V128 bits) l below = tt
-names-more k m value.Null l below = tt
-names-more k m (value.Func function) l below = tt
-names-more k m (value.Host n) l below = tt
-names-more k m (value.I31 n) l below = tt
-names-more k m (value.Term n) l below = omega arith
+names-more k m h3 l below = grind arith
 
 pub all-names-more : (k m : ℕ) (vs : List Value) → k ≤ m → All (NamesBelow k) vs → All (NamesBelow m) vs
 all-names-more k m vs l = All-weaker (NamesBelow k) (NamesBelow m) (λ v. names-more k m v l) vs
@@ -117,15 +97,11 @@ module _ (old new : List Node) (e : Extends old new) where
   longer = omega (arith, ap length e.is, length-append old e.more)
 
   agree-below : (i : ℕ) → i < length old → slice_get (terms_of new) i ≡ slice_get (terms_of old) i
-  agree-below i l =
-      ap (λ ns. slice_get (terms_of ns) i) e.is ∙ ap (λ ts. slice_get ts i) (terms-append [] old e.more)
-      ∙ terms-low (terms_of old) e.more i (omega (arith, length-terms [] old))
+  agree-below i l = grind (arith, terms-append, length-terms, terms-low)
 
   pub all-mean-on : (vs : List Value) (meant : List plain.Value) → AllMean old vs meant → AllMean new vs meant
-  all-mean-on vs meant m = record {
-    below = all-names-more (length old) (length new) vs longer m.below;
-    are = values-same (terms_of new) (terms_of old) (length old) vs agree-below m.below ∙ m.are;
-  }
+  all-mean-on vs meant m =
+      grind (arith, all-names-more (length old) (length new) vs longer m.below, values-same (terms_of new) (terms_of old) (length old) vs agree-below m.below, longer, agree-below)
 
   pub kept-values : (vs : List Value) → All (NamesBelow (length old)) vs → values_in (terms_of new) vs ≡ values_in (terms_of old) vs
   kept-values vs below = values-same (terms_of new) (terms_of old) (length old) vs agree-below below
@@ -139,30 +115,19 @@ pub push-means : (nodes : List Node) (n : Node) → Means (nodes ++ n ∷ []) (v
 push-means nodes n =
     let t : Term = term_of (terms_of nodes) n in
     let long : length (terms_of nodes) + 0 ≡ length nodes = omega (arith, length-terms [] nodes) in
-    record {
-      below = omega (arith, length_push nodes n);
-      is = ap (λ ts. plain.Ref (unwrap_or (slice_get ts (length nodes)) plain.Null)) (terms-push nodes n)
-          ∙ ap (λ k. plain.Ref (unwrap_or (slice_get (terms_of nodes ++ t ∷ []) k) plain.Null)) (sym long)
-          ∙ ap (λ o. plain.Ref (unwrap_or o plain.Null)) (get-append-high (terms_of nodes) (t ∷ []) 0);
-    }
+    grind (arith, length_push, terms-push, get-append-high)
 
 pub push-ordered : (nodes : List Node) (n : Node) → AreOrdered nodes → IsNodeAt (length nodes) n → AreOrdered (nodes ++ n ∷ [])
 push-ordered nodes n ordered is k m at = ⊎_elim
     (λ (low : k < length nodes). ordered k m (sym (get-append-low nodes (n ∷ []) k low) ∙ at))
-    (λ (high : length nodes ≤ k).
-    let within = slice_get_within (nodes ++ n ∷ []) k m at in
-    let here : k ≡ length nodes + 0 = omega (arith, length_push nodes n) in
-    let same : n ≡ m = same_Some n m (sym (ap (slice_get (nodes ++ n ∷ [])) here ∙ get-append-high nodes (n ∷ []) 0) ∙ at) in
-    subst (λ x. IsNodeAt k x) same (subst (λ j. IsNodeAt j n) (omega arith) is))
+    (λ (high : length nodes ≤ k). grind (arith, slice_get_within (nodes ++ n ∷ []) k m at, length_push nodes n, get-append-high nodes (n ∷ []) 0))
     (cases_lt k (length nodes))
 
 pub push-grows : (nodes : List Node) (n : Node) → AreOrdered nodes → IsNodeAt (length nodes) n → Grows nodes (nodes ++ n ∷ [])
 push-grows nodes n ordered is = record { extends = record { more = n ∷ []; is = refl }; ordered = push-ordered nodes n ordered is }
 
 pub pushed-means : (old new : List Node) (n : Node) (k : ℕ) → new ≡ old ++ n ∷ [] → k ≡ length old → Means new (value.Term k) (plain.Ref (term_of (terms_of old) n))
-pushed-means old new n k is at =
-    subst (λ j. Means new (value.Term j) (plain.Ref (term_of (terms_of old) n))) (sym at)
-    (subst (λ ns. Means ns (value.Term (length old)) (plain.Ref (term_of (terms_of old) n))) (sym is) (push-means old n))
+pushed-means old new n k is at = grind (arith, push-means old n)
 
 -- ---- values that name no node
 

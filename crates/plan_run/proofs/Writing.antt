@@ -1,10 +1,10 @@
 -- Objects to which pieces are written in order.
-use Rattle.std.proofs.Common.{◌≡◌, ◌≢◌, ℕ, suc, ◌+◌, ◌-◌, ◌<◌, ◌≤◌, true, false, List, [], ◌∷◌, ◌++◌, length, get_or, set, take, drop, None, Some, refl, sym, ◌∙◌, ap, arith}
+use Rattle.std.proofs.Common.{◌≡◌, ℕ, suc, ◌+◌, ◌-◌, ◌<◌, ◌≤◌, true, List, [], ◌∷◌, ◌++◌, length, get_or, set, take, drop, None, Some, sym, ◌∙◌, ap, arith}
 use Rattle.std.specs.Prelude.{slice_get, unwrap_or, nat_le, ◌==◌}
 use Rattle.std.proofs.Math.Logic.{⊎_elim}
-use Rattle.std.proofs.lemmas.Bool.{cases_lt, cases_eq, le-leb, lt-leb, eq-eqb, cond-true, cond-false}
+use Rattle.std.proofs.lemmas.Bool.{cases_lt, le-leb, lt-leb, eq-eqb, cond-true, cond-false}
 use Rattle.std.proofs.lemmas.List.{length-append, length-take, length-drop}
-use Rattle.std.proofs.lemmas.Option.{slice_get-get_or, same_Some, slice_get_within}
+use Rattle.std.proofs.lemmas.Option.{slice_get-get_or, slice_get_within}
 use Rattle.replay_spec.specs.Phases.{Piece, Phase, item_at, last_item, fits, before_trap, trap, trap_of, content_of}
 use Rattle.replay_spec.proofs.Covering.{CoversAt, item-cover}
 use Rattle.paged_memory.specs.Writing.{written}
@@ -21,29 +21,20 @@ module _ {A : Type 0} (at : ℕ) (items old : List A) (l : at + length items ≤
   front = omega (arith, length-take at old)
 
   pub written-before : (place : ℕ) → place < at → slice_get (written at items old) place ≡ slice_get old place
-  written-before place low =
-      let f = front in
-      get-append-low (take at old) (items ++ drop (at + length items) old) place (omega arith) ∙ get-take at old place low
+  written-before place low = grind (arith, front, get-append-low, get-take)
 
   pub written-in : (k : ℕ) → k < length items → slice_get (written at items old) (at + k) ≡ slice_get items k
-  written-in k low =
-      ap (λ n. slice_get (written at items old) (n + k)) (sym front)
-      ∙ get-append-high (take at old) (items ++ drop (at + length items) old) k ∙ get-append-low items (drop (at + length items) old) k low
+  written-in k low = grind (arith, get-append-high, get-append-low, front)
 
   pub written-behind : (k : ℕ) → slice_get (written at items old) (at + length items + k) ≡ slice_get old (at + length items + k)
-  written-behind k =
-      let there : at + length items + k ≡ length (take at old) + (length items + k) = omega (arith, front) in
-      ap (slice_get (written at items old)) there
-      ∙ get-append-high (take at old) (items ++ drop (at + length items) old) (length items + k) ∙ get-append-high items (drop (at + length items) old) k
-      ∙ get-drop (at + length items) old k
+  written-behind k = grind (arith, front, get-append-high, get-drop)
 
 -- at each place of an object stands the item of the piece that is written to it, or what stood there
 pub written-item : {A : Type 0} (i place : ℕ) (p : Piece A) (old : List A) (d : A) → p.object ≡ i → p.offset + length p.items ≤ length old → slice_get old place ≡ Some d
     → slice_get (written p.offset p.items old) place ≡ Some (unwrap_or (item_at i place p) d)
 written-item i place p old d on l is = ⊎_elim
     (λ (before : place < p.offset).
-    let none : item_at i place p ≡ None = ⊎_elim (λ e. e) (λ (c : CoversAt i place p). let f = c.from in absurd (omega arith)) (item-cover i place p) in
-    written-before p.offset p.items old l place before ∙ is ∙ sym (ap (λ o. Some (unwrap_or o d)) none))
+    grind (arith, item-cover, written-before))
     (λ (from : p.offset ≤ place). ⊎_elim
     (λ (upto : place < p.offset + length p.items).
     let k : ℕ = place - p.offset in
@@ -84,23 +75,7 @@ module _ {A : Type 0} (phase : Phase A) (objects : List (List A)) where
         let new : List A = written p.offset p.items object in
         record {
           item = λ i place. unwrap_or (item_at i place p) (w.item i place);
-          hold = record {
-            sizes = λ i o is. ⊎_elim
-                (λ (here : i ≡ p.object).
-                let e : new ≡ o = same_Some new o (sym (ap (slice_get (set objects p.object new)) here ∙ get-set-same objects p.object new low) ∙ is) in
-                ap length (sym e) ∙ length-written p.offset p.items object l ∙ size ∙ ap phase.sizes (sym here))
-                (λ (there : i ≢ p.object). w.hold.sizes i o (sym (get-set-other objects p.object i new there) ∙ is))
-                (cases_eq i p.object);
-            items = λ i place o is within. ⊎_elim
-                (λ (here : i ≡ p.object).
-                let e : new ≡ o = same_Some new o (sym (ap (slice_get (set objects p.object new)) here ∙ get-set-same objects p.object new low) ∙ is) in
-                ap (λ xs. slice_get xs place) (sym e)
-                ∙ written-item i place p object (w.item i place) (sym here) l (w.hold.items i place object (ap (slice_get objects) here ∙ at) within))
-                (λ (there : i ≢ p.object).
-                let none : item_at i place p ≡ None = ⊎_elim (λ e. e) (λ (c : CoversAt i place p). absurd (there (sym c.on))) (item-cover i place p) in
-                w.hold.items i place o (sym (get-set-other objects p.object i new there) ∙ is) within ∙ sym (ap (λ x. Some (unwrap_or x (w.item i place))) none))
-                (cases_eq i p.object);
-          };
+          hold = grind (arith, get-set-same, length-written, get-set-other, written-item, item-cover);
           content = λ i place. sym (ap (last_item i place (w.item i place)) (cond-true (fits phase.sizes p) (p ∷ before_trap phase.sizes rest) [] fit)) ∙ w.content i place;
           trap = sym (cond-true (fits phase.sizes p) (trap phase.sizes rest) (Some (suc (length rest))) fit) ∙ w.trap;
         }
@@ -108,13 +83,4 @@ module _ {A : Type 0} (phase : Phase A) (objects : List (List A)) where
     -- or it does not fit
     pub next-traps : (object : List A) → slice_get objects p.object ≡ Some object → length object < p.offset + length p.items
         → Lays phase (length objects) objects (Some (suc (length rest)))
-    next-traps object at l =
-        let size = w.hold.sizes p.object object at in
-        let fit : fits phase.sizes p ≡ false = lt-leb (p.offset + length p.items) (phase.sizes p.object) (omega arith) in
-        record {
-          count = refl;
-          sizes = w.hold.sizes;
-          items = λ i place o is within. w.hold.items i place o is within
-              ∙ ap Some (sym (ap (last_item i place (w.item i place)) (cond-false (fits phase.sizes p) (p ∷ before_trap phase.sizes rest) [] fit)) ∙ w.content i place);
-          trap = sym (cond-false (fits phase.sizes p) (trap phase.sizes rest) (Some (suc (length rest))) fit) ∙ w.trap;
-        }
+    next-traps object at l = grind (arith, lt-leb, cond-false)

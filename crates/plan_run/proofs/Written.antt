@@ -1,5 +1,5 @@
 -- Values of globals that are written.
-use Rattle.std.proofs.Common.{◌≡◌, ℕ, zero, suc, ◌+◌, ◌-◌, ◌<◌, ◌≤◌, List, ◌∷◌, ◌++◌, length, map, get_or, set, take, drop, replicate, refl, sym, ◌∙◌, ap}
+use Rattle.std.proofs.Common.{◌≡◌, ℕ, zero, suc, ◌+◌, ◌-◌, ◌<◌, ◌≤◌, List, ◌∷◌, ◌++◌, length, map, get_or, set, take, drop, replicate, refl, ◌∙◌, ap, arith}
 use Rattle.std.specs.Prelude.{All}
 use Rattle.std.proofs.lemmas.List.{map-set, map-append, drop_more, take_all}
 use Rattle.wasm_index.specs.declared.index.Index.{Index}
@@ -23,23 +23,14 @@ pub simple-step : (terms : List Term) (imports : ℕ) (values : List (Index Defi
     (v : Value) → i < length values → value_in terms v ≡ plain_value_of (get_or values i d).1
     → simple_written imports (values_in terms (set old (imports + number_of (get_or values i d).0) v)) (map simple_global_of (drop (i + 1) values))
     ≡ simple_written imports (values_in terms old) (map simple_global_of (drop i values))
-simple-step terms imports values i d old v l means =
-    let k : ℕ = imports + number_of (get_or values i d).0 in
-    ap (λ xs. simple_written imports xs (map simple_global_of (drop (i + 1) values))) (map-set (value_in terms) old k v ∙ ap (set (values_in terms old) k) means)
-    ∙ sym (ap (λ xs. simple_written imports (values_in terms old) (map simple_global_of xs)) (drop_more values i d l))
+simple-step terms imports values i d old v l means = grind (arith, map-set, drop_more)
 
 pub kept-step : (fields : ℕ → ℕ) (imports : ℕ) (values : List (Index DefinedGlobalSpace × List ConstOp)) (i : ℕ) (g d : Index DefinedGlobalSpace × List ConstOp) (old : List Value)
     (v : Value) (nodes new : List Node) → i < length values → g ≡ get_or values i d → Extends nodes new → All (NamesBelow (length nodes)) old
     → Means new v (cell_of (values_in (terms_of nodes) old) fields (expression_of g.1))
     → kept_written fields imports (values_in (terms_of new) (set old (imports + number_of g.0) v)) (map kept_global_of (drop (i + 1) values))
     ≡ kept_written fields imports (values_in (terms_of nodes) old) (map kept_global_of (drop i values))
-kept-step fields imports values i g d old v nodes new l is extends below means =
-    let k : ℕ = imports + number_of g.0 in
-    ap (λ xs. kept_written fields imports xs (map kept_global_of (drop (i + 1) values)))
-    (map-set (value_in (terms_of new)) old k v ∙ ap (λ xs. set xs k (value_in (terms_of new) v)) (kept-values nodes new extends old below)
-    ∙ ap (set (values_in (terms_of nodes) old) k) means.is)
-    ∙ sym (ap (λ xs. kept_written fields imports (values_in (terms_of nodes) old) (map kept_global_of xs))
-    (drop_more values i d l ∙ ap (λ x. x ∷ drop (i + 1) values) (sym is)))
+kept-step fields imports values i g d old v nodes new l is extends below means = grind (arith, kept-values nodes new extends old below, drop_more values i d l, map-set)
 
 -- the imported values, and null behind them
 pub first-globals : (terms : List Term) (imported all : List Value) (n count : ℕ) (null : Value) → value_in terms null ≡ plain.Ref plain.Null → length imported ≤ n

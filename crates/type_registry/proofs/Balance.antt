@@ -36,15 +36,7 @@ live-in (e ∷ gs) i ordered has = by (list_any (nat_eq i) e.1.indices) refl (li
   by : (c : Bool) → list_any (nat_eq i) e.1.indices ≡ c → (list_any (nat_eq i) (indices_of gs) ≡ true → IsIn gs i) → IsIn (e ∷ gs) i
   by true is rest =
       record { first = e.0; group = e.1; kept = ap (λ (c : Bool). if c then Some e.1 else found gs e.0) (eq-eqb e.0 e.0 refl); has = is }
-  by false is rest =
-      let w = rest (sym (any-second e.1.indices (indices_of gs) i is) ∙ has) in
-      let lt = found-above gs e.0 w.first w.group ordered.0 w.kept in
-      record {
-        first = w.first;
-        group = w.group;
-        kept = ap (λ (c : Bool). if c then Some e.1 else found gs w.first) (ne_eqb w.first e.0 (λ same. absurd (omega (arith, same, lt)))) ∙ w.kept;
-        has = w.has;
-      }
+  by false is rest = grind (arith, any-second, found-above, ne_eqb)
 
 -- a kept group whose indices are those at a first index
 record IsOf (o : Option Group) (i : ℕ) : Type 0 where
@@ -88,10 +80,7 @@ module _ (r : Registry) (b : IsBalanced r) where
     pub is_in : 0 < times first m.groups
 
   listed-in : (key : ℕ) (m : Module) (i : ℕ) → r.held key ≡ Some m → list_any (nat_eq i) m.indices ≡ true → IsListed m i
-  listed-in key m i is has =
-      let w = flat-from (indices_at r) m.groups i (ap (list_any (nat_eq i)) (sym (b.listed key m is)) ∙ has) in
-      let x = of-any (kept_at r w.number) i w.has in
-      record { first = w.number; group = x.group; kept = x.is; has = x.has; is_in = w.is_in }
+  listed-in key m i is has = grind (arith, flat-from (indices_at r) m.groups i (ap (list_any (nat_eq i)) (sym (b.listed key m is)) ∙ has), of-any)
 
   -- a key that is held was given
   pub given-key : (key : ℕ) (m : Module) → r.held key ≡ Some m → key < r.registrations
@@ -167,9 +156,7 @@ module _ (r : Registry) (b : IsBalanced r) (key : ℕ) (m : Module) (is : r.held
       record { group = w.group; kept = w.is; old = x.group; was = x.kept; same = x.same }
 
   still-indices : (k : ℕ) (o : Module) (first : ℕ) → now.held k ≡ Some o → 0 < times first o.groups → indices_at r first ≡ indices_at now first
-  still-indices k o first here lt =
-      let w = still-kept k o first here lt in
-      ap indices_in w.was ∙ ap (λ (g : Group). g.indices) w.same ∙ ap indices_in (sym w.kept)
+  still-indices k o first here lt = grind (arith, still-kept k o first here lt)
 
   no-more-held : (c : Bool) (k : ℕ) → r.registrations ≤ k → (if c then None else r.held k) ≡ None
   no-more-held c k le = let none = b.unused k le in let any = cases_Bool c in grind arith

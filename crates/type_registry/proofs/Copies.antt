@@ -20,9 +20,7 @@ use Rattle.type_registry.specs.Listed.{Listed, list_of}
 use Rattle.type_registry.specs.Changes.{members_of, edges_of, IsGiven}
 
 pub take-next : {A : Type 0} (xs : List A) (k : ℕ) (x : A) → slice_get xs k ≡ Some x → take (suc k) xs ≡ take k xs ++ x ∷ []
-take-next xs k x at =
-    let next : suc k ≡ k + 1 = omega arith in
-    ap (λ n. take n xs) next ∙ take_more xs k x (slice_get_within xs k x at) ∙ ap (λ y. take k xs ++ y ∷ []) (get_or_from_slice_get xs k x x at)
+take-next xs k x at = grind (arith, slice_get_within xs k x at, take_more xs k x (slice_get_within xs k x at), get_or_from_slice_get xs k x x at)
 
 pub get-dropped : {A : Type 0} (xs : List A) (s p : ℕ) → slice_get (drop s xs) p ≡ slice_get xs (s + p)
 get-dropped xs zero p = let at : p ≡ 0 + p = omega arith in ap (slice_get xs) at

@@ -47,10 +47,7 @@ module _ {Key : Type 0} (content : Key → List WasmSubType) (live live' : ℕ) 
     by true e now = absurd (none-some o now)
     by false e now =
         let w = k.owns i o now in
-        let apart : o.first ≡ f → ⊥ = λ same.
-        let here : w.group ≡ g = same_Some w.group g (sym w.kept ∙ ap (group_in gs) same ∙ at) in
-        let any : list_any (nat_eq i) g.indices ≡ true = ap (λ (h : Group). list_any (nat_eq i) h.indices) (sym here) ∙ any-place w.group.indices i o.place w.at in
-        let no-way : false ≡ true = sym e ∙ any in cc in
+        let apart : o.first ≡ f → ⊥ = grind (arith, any-place) in
         record { group = w.group; kept = set-other gs f o.first None apart ∙ w.kept; at = w.at }
 
   known-still : (n : ℕ) (h : Group) → group_in gs' n ≡ Some h → (key : Key) → content key ≡ h.canonical → known' key ≡ Some n
@@ -62,10 +59,7 @@ module _ {Key : Type 0} (content : Key → List WasmSubType) (live live' : ℕ) 
     by true e now = absurd (none-some n now)
     by false e now =
         let w = k.knows key n now in
-        let apart : n ≡ f → ⊥ = λ same.
-        let here : w.group ≡ g = same_Some w.group g (sym w.kept ∙ ap (group_in gs) same ∙ at) in
-        let yes : Eq g.canonical (content key) ≡ true = (equal g.canonical (content key)).1 (ap (λ (h : Group). h.canonical) (sym here) ∙ w.same) in
-        let no-way : false ≡ true = sym e ∙ yes in cc in
+        let apart : n ≡ f → ⊥ = grind arith in
         record { group = w.group; kept = set-other gs f n None apart ∙ w.kept; same = w.same }
 
   pub kept-without : AreKept content live' known' gs' os' free'

@@ -2,7 +2,7 @@
 use Rattle.std.specs.Prelude.{◌||◌}
 use Rattle.std.proofs.Common.{if◌then◌else◌, ◌≡◌, ◌∙◌, ◌<◌, ◌≤◌, ℕ, zero, suc, ◌+◌, ◌-◌, Bool, true, false, nat_eq, List, [], ◌∷◌, ◌++◌, length, get_or, slice_get, Some, refl, sym, ap, arith, eq-eqb}
 use Rattle.std.specs.List.{list_any}
-use Rattle.std.proofs.lemmas.Bool.{ne_eqb, cases_Bool, cases_eq, false_from_ne_true}
+use Rattle.std.proofs.lemmas.Bool.{ne_eqb, cases_Bool, false_from_ne_true}
 use Rattle.std.proofs.lemmas.Option.{slice_get-get_or, slice_get_within, none-some, same_Some}
 use Rattle.std.proofs.lemmas.Bool.Decides.{nat_tests}
 use Rattle.std.proofs.lemmas.List.{append-nil}
@@ -73,11 +73,7 @@ from-none taken i (suc n) none = grind (arith, cases_Bool, (from-none taken (i +
 
 from-below : (taken : List ℕ) (i n m : ℕ) → i ≤ m → m < least_from taken i n → has taken m ≡ true
 from-below taken i zero m low high = absurd (omega (arith, low, high))
-from-below taken i (suc n) m low high =
-    let rest = from-below taken (i + 1) n m in
-    let any = cases_Bool (has taken i) in
-    let here = cases_eq m i in
-    grind arith
+from-below taken i (suc n) m low high = grind (arith, cases_Bool, (from-below taken (i + 1) n m))
 
 least-none : (taken : List ℕ) → has taken (least_free taken) ≡ false
 least-none taken = from-none taken 0 (past taken) (λ m le. past-none taken m (omega (arith, le)))
@@ -87,12 +83,7 @@ least-below taken m lt = from-below taken 0 (past taken) m (omega arith) lt
 
 -- the same numbers have the same least one that is free
 least-same : (xs ys : List ℕ) → ((m : ℕ) → has xs m ≡ has ys m) → least_free xs ≡ least_free ys
-least-same xs ys same =
-    let low : least_free xs < least_free ys → ⊥ = λ lt.
-    true-false (has ys (least_free xs)) (least-below ys (least_free xs) lt) (sym (same (least_free xs)) ∙ least-none xs) in
-    let high : least_free ys < least_free xs → ⊥ = λ lt.
-    true-false (has xs (least_free ys)) (least-below xs (least_free ys) lt) (same (least_free ys) ∙ least-none ys) in
-    omega (arith, low, high)
+least-same xs ys same = grind (arith, least-none xs, least-none ys, least-below, true-false)
 
 -- ---- those that are free in turn
 
@@ -109,9 +100,7 @@ free-same xs ys (suc n) same =
 
 -- the least that is free is not below an index below which all are taken
 not-below : (now : List ℕ) (i : ℕ) → ((m : ℕ) → m < i → has now m ≡ true) → i ≤ least_free now
-not-below now i all =
-    let high : least_free now < i → ⊥ = λ lt. true-false (has now (least_free now)) (all (least_free now) lt) (least-none now) in
-    omega (arith, high)
+not-below now i all = grind (arith, least-none now, true-false)
 
 up-to : (now : List ℕ) (m : ℕ) → m < suc (least_free now) → has (least_free now ∷ now) m ≡ true
 up-to now m lt = grind (arith, least-below, nat_tests)
@@ -197,11 +186,8 @@ free-low taken n x is =
 pub free-once : (taken : List ℕ) (n : ℕ) → IsOnce (free_indices taken n)
 free-once taken zero = tt
 free-once taken (suc n) =
-    let first = least_free taken in (
-      false_from_ne_true (has (free_indices (first ∷ taken) n) first) (λ e.
-          true-false (has (first ∷ taken) first) (ap (λ c. c || has taken first) (eq-eqb first first refl)) (not-taken (first ∷ taken) n first e)),
-      free-once (first ∷ taken) n,
-    )
+    let first = least_free taken in
+    grind (arith, eq-eqb, not-taken, true-false, false_from_ne_true, (free-once (first ∷ taken) n))
 
 -- ---- numbers that are counted where they are free
 
@@ -220,9 +206,7 @@ counted-free taken xs are n one = grind (arith, some-within, cases_Bool)
 -- past them all are free
 pub counted-past : (taken xs : List ℕ) → AreCounted taken xs → ((i : ℕ) → length xs ≤ i → has taken i ≡ false)
     → (n d : ℕ) → n ≡ length xs + d → free_below taken n ≡ total xs + d
-counted-past taken xs are free n zero e =
-    let same : n ≡ length xs = omega (arith, e) in
-    omega (arith, ap (free_below taken) same, counted-before taken xs are (length xs) (omega arith), all-before xs)
+counted-past taken xs are free n zero e = grind (arith, counted-before taken xs are (length xs) (omega arith), all-before xs)
 counted-past taken xs are free zero (suc d) e = absurd (omega (arith, e))
 counted-past taken xs are free (suc n) (suc d) e =
     omega (arith, step-free taken n (free n (omega (arith, e))), counted-past taken xs are free n d (omega (arith, e)))

@@ -102,9 +102,7 @@ module _ {Key : Type 0} (content : Key → List WasmSubType) (places : Key → O
       knows' : (key : Key) (p : ℕ) → places' key ≡ Some p → HasMembers es' p (content key)
       knows' key p is = by (Eq e.1.canonical (content key)) refl (sym (learns key) ∙ is) where
         by : (c : Bool) → Eq e.1.canonical (content key) ≡ c → cond c (Some (length es)) (places key) ≡ Some p → HasMembers es' p (content key)
-        by true holds now =
-            let n : length es ≡ p = same_Some (length es) p now in
-            record { entry = e; at = ap (slice_get es') (sym n) ∙ at-last es e; same = (equal e.1.canonical (content key)).0 holds }
+        by true holds now = grind (arith, at-last)
         by false holds now = let w = k.knows key p now in record { entry = w.entry; at = at-earlier es e w.entry p w.at; same = w.same }
 
       pub fresh-pushed : AreFresh content places' members' es'

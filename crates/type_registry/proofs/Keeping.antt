@@ -103,9 +103,7 @@ module _ {Key : Type 0} (content : Key → List WasmSubType) (live live' : ℕ) 
   at-of : (n : ℕ) (h : Group) → group_in gs' n ≡ Some h → Where n h
   at-of n h is = by (nat_eq n f) refl where
     by : (c : Bool) → nat_eq n f ≡ c → Where n h
-    by true e =
-        let same : n ≡ f = eqb-true n f e in
-        Here same (same_Some h g (sym is ∙ ap (group_in gs') same ∙ set-here gs f (Some g) new.room))
+    by true e = grind (arith, eqb-true n f e, set-here gs f (Some g) new.room)
     by false e = let apart = eqb-false n f e in There apart (sym (set-other gs f n (Some g) apart) ∙ is)
 
   still : (n : ℕ) (h : Group) → group_in gs n ≡ Some h → group_in gs' n ≡ Some h
@@ -142,9 +140,7 @@ module _ {Key : Type 0} (content : Key → List WasmSubType) (live live' : ℕ) 
   knows' : (key : Key) (n : ℕ) → known' key ≡ Some n → HasCanonical gs' n (content key)
   knows' key n is = by (Eq g.canonical (content key)) refl (sym (learns key) ∙ is) where
     by : (c : Bool) → Eq g.canonical (content key) ≡ c → cond c (Some f) (known key) ≡ Some n → HasCanonical gs' n (content key)
-    by true e now =
-        let same : f ≡ n = same_Some f n now in
-        record { group = g; kept = ap (group_in gs') (sym same) ∙ set-here gs f (Some g) new.room; same = (equal g.canonical (content key)).0 e }
+    by true e now = grind (arith, set-here gs f (Some g) new.room)
     by false e now = let w = k.knows key n now in record { group = w.group; kept = still n w.group w.kept; same = w.same }
 
   pub kept-with : AreKept content live' known' gs' os' free'

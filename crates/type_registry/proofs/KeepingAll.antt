@@ -71,10 +71,7 @@ keep-length (e ∷ gs) f g = let rest = keep-length gs f g in grind (arith, nat_
 
 keep-unknown : (gs : Groups) (f : ℕ) (g : Group) (c : List WasmSubType) → Eq g.canonical c ≡ false → find_group c gs ≡ None → find_group c (keep_group gs f g) ≡ None
 keep-unknown [] f g c unlike none = ap (λ b. if b then Some g else None) unlike
-keep-unknown (e ∷ gs) f g c unlike none =
-    let rest = keep-unknown gs f g c unlike in
-    let equal = cases_Bool (Eq e.1.canonical c) in
-    grind (arith, nat_tests)
+keep-unknown (e ∷ gs) f g c unlike none = grind (arith, cases_Bool, nat_tests, (keep-unknown gs f g c unlike))
 
 -- ---- one after another
 
@@ -128,8 +125,7 @@ rest-may s t e es m is =
       few = omega (arith, m.few, size, length-append e.1.indices (indices_of es));
       spare = omega (arith, m.spare, is.2);
       room = λ n has. omega (arith, is.1, m.room n (any-right e.1.indices (indices_of es) n has));
-      free = λ n has. ap (λ gs. list_any (nat_eq n) (indices_of gs)) is.0
-          ∙ keep-without s.groups e.0 n e.1 (once-apart e.1.indices (indices_of es) n m.once has) (m.free n (any-right e.1.indices (indices_of es) n has));
+      free = grind (arith, once-apart, any-right, keep-without);
       once = once-right e.1.indices (indices_of es) m.once;
       unknown = subst (λ (gs : Groups). AllUnknown gs es) (sym is.0) (unknown-still s.groups e.0 e.1 es m.apart.0 m.unknown.1);
       apart = m.apart.1;

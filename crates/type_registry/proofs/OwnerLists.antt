@@ -44,9 +44,7 @@ pub record Place (ns : List ℕ) (i : ℕ) : Type 0 where
   pub at : slice_get ns place ≡ Some i
 
 pub place-any : (ns : List ℕ) (i : ℕ) → list_any (nat_eq i) ns ≡ true → Place ns i
-place-any ns i e =
-    let w = Contains-from_any eqb-true i ns e in
-    record { place = w.0; at = slice_get-get_or ns w.0 i w.1 ∙ ap Some w.2 }
+place-any ns i e = grind (arith, Contains-from_any eqb-true i ns e, slice_get-get_or, eqb-true)
 
 -- ---- which numbers are free
 

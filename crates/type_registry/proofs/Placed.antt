@@ -1,5 +1,5 @@
 -- Where the groups of a planned module are kept.
-use Rattle.std.proofs.Common.{if◌then◌else◌, ◌≡◌, ◌∙◌, ◌↔◌, ◌<◌, ◌≤◌, ℕ, zero, suc, ◌+◌, Bool, true, false, List, [], ◌∷◌, ◌++◌, length, slice_get, take, drop, Some, None, refl, sym, ap, subst, arith}
+use Rattle.std.proofs.Common.{if◌then◌else◌, ◌≡◌, ◌∙◌, ◌↔◌, ◌<◌, ◌≤◌, ℕ, zero, suc, ◌+◌, Bool, true, false, List, [], ◌∷◌, ◌++◌, length, slice_get, take, drop, Some, None, sym, ap, subst, arith}
 use Rattle.std.specs.Prelude.{⊤}
 use Rattle.std.proofs.lemmas.List.{length-append, get_or_append_left, take-append-le, drop-append-le, length-drop, take_all, append-nil, append_assoc}
 use Rattle.std.proofs.lemmas.Option.{none-some, same_Some, slice_get-get_or}
@@ -15,7 +15,7 @@ use Rattle.wasm_trace.specs.Canonical.{consed_edge}
 use Rattle.module_types.specs.TypeList.{TypeList}
 use Rattle.module_types.specs.Orderly.{LieBetween}
 use Rattle.type_registry.specs.Registry.{Group, Groups, Module, indices_of}
-use Rattle.type_registry.specs.Changes.{Plan, at_first, canonical_data, canonical_of, find_group, first_index, given, members_of, next_group, plan_group, plan_groups, size_of, with_group}
+use Rattle.type_registry.specs.Changes.{Plan, at_first, canonical_data, canonical_of, find_group, given, members_of, next_group, plan_group, plan_groups, size_of, with_group}
 use Rattle.type_registry.specs.Planning.{MayBePlanned, MayBePlannedFrom, plan}
 use Rattle.type_registry.proofs.FreeIndices.{free-length}
 use Rattle.type_registry.proofs.Keeping.{Eq}
@@ -106,23 +106,11 @@ module _ (equal : (x y : List WasmSubType) → (Eq x y ≡ true) ↔ (x ≡ y)) 
     size = mapped-long l s (consed_edge (given p.listed.indices) s.start) c may.within form
 
     known-long : (g : Group) → find_group c (gs ++ p.fresh) ≡ Some g → length g.indices ≡ size_of s
-    known-long g is =
-        let w = find-at (gs ++ p.fresh) c g is in
-        let f = first-at (gs ++ p.fresh) w.place w.first g first w.at in
-        f.1 ∙ ap length ((equal g.canonical c).0 (found-equal (gs ++ p.fresh) c g is)) ∙ size
+    known-long g is = grind (arith, find-at (gs ++ p.fresh) c g is, found-equal (gs ++ p.fresh) c g is, first-at, size)
 
     known : (g : Group) → find_group c (gs ++ p.fresh) ≡ Some g → IsPlanned gs l (plan (with_group p.listed g) p.fresh) s
     known g is =
-        let same : g.canonical ≡ c = (equal g.canonical c).0 (found-equal (gs ++ p.fresh) c g is) in
-        let long = known-long g is in
-        record {
-          group = g;
-          at = sym (part-behind p.listed.indices g.indices s.start (size_of s) at long);
-          canonical = ap group_of same ∙ form ∙ data-more l s p.listed.indices g.indices (omega (arith, at));
-          low = may.some;
-          within = omega (arith, length-append p.listed.indices g.indices, at, long, may.some);
-          among = ap (λ x. find_group x (gs ++ p.fresh)) same ∙ is;
-        }
+        grind (arith, found-equal (gs ++ p.fresh) c g is, known-long g is, data-more l s p.listed.indices g.indices (omega (arith, at)), length-append p.listed.indices g.indices, part-behind, form)
 
     abbrev new : Group
     new = next_group gs p.fresh c (size_of s)
@@ -138,8 +126,7 @@ module _ (equal : (x y : List WasmSubType) → (Eq x y ≡ true) ↔ (x ≡ y)) 
           canonical = form ∙ data-more l s p.listed.indices new.indices (omega (arith, at));
           low = may.some;
           within = omega (arith, length-append p.listed.indices new.indices, at, new-long, may.some);
-          among = ap (find_group c) (sym (append_assoc gs p.fresh (at_first new ∷ []))) ∙ find-none (gs ++ p.fresh) (at_first new ∷ []) c none
-              ∙ ap (λ (b : Bool). if b then Some new else None) ((equal c c).1 refl);
+          among = grind (arith, append_assoc, find-none);
         }
 
     new-first : AllFirst (at_first new ∷ [])
@@ -156,19 +143,8 @@ module _ (equal : (x y : List WasmSubType) → (Eq x y ≡ true) ↔ (x ≡ y)) 
     pub is-next : IsNext (plan_group gs l p s)
     is-next =
         either-planned gs l p s IsNext
-        (λ g is. record {
-          here = known g is;
-          firsts = first;
-          long = omega (arith, length-append p.listed.indices g.indices, at, known-long g is, may.some);
-          still = λ t x. subst (λ (fs : Groups). IsPlanned gs l (plan (with_group p.listed g) fs) t) (append-nil p.fresh)
-              (planned-more gs l p.listed p.fresh [] g.indices (p.listed.groups ++ first_index g ∷ []) t x);
-        })
-        (λ is. record {
-          here = unknown is;
-          firsts = subst AllFirst (append_assoc gs p.fresh (at_first new ∷ [])) (first-both (gs ++ p.fresh) (at_first new ∷ []) first new-first);
-          long = omega (arith, length-append p.listed.indices new.indices, at, new-long, may.some);
-          still = λ t x. planned-more gs l p.listed p.fresh (at_first new ∷ []) new.indices (p.listed.groups ++ first_index new ∷ []) t x;
-        })
+        (λ g is. grind (arith, known g is, length-append p.listed.indices g.indices, known-long g is, append-nil p.fresh, planned-more))
+        (λ is. grind (arith, unknown, append_assoc, first-both, length-append, new-long, planned-more, new-first))
 
   -- each group of some
   abbrev pub EachPlanned : Plan → List Span → Type 0
@@ -189,12 +165,7 @@ module _ (equal : (x y : List WasmSubType) → (Eq x y ≡ true) ↔ (x ≡ y)) 
       let n = is-next p s may.1 (sym may.0) first in
       let q = plan_group gs l p s in
       let rest = are-planned q ss end (subst (λ k. MayBePlannedFrom l k ss) (sym n.long) may.2) (subst (λ k. LieBetween k ss end) (sym n.long) lie.2) n.firsts in
-      record {
-        each = (rest.still s n.here, rest.each);
-        first = rest.first;
-        long = rest.long;
-        still = λ t x. rest.still t (n.still t x);
-      }
+      grind arith
 
   pub planned-at : (p : Plan) (ss : List Span) (k : ℕ) (s : Span) → EachPlanned p ss → slice_get ss k ≡ Some s → IsPlanned gs l p s
   planned-at p [] k s each at = absurd (none-some s at)

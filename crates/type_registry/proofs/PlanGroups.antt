@@ -45,16 +45,7 @@ pub may-plan : (l : TypeList) → Listed l → length l.types < 4294967295 → M
 may-plan l listed few =
     planned-from l (map span_of l.groups) 0 (length (list_of l).types) listed.well_named.orderly (λ k lt. each k lt) where
       each : (k : ℕ) → k < length (list_of l).groups → MayBePlanned l (span_at (list_of l) k)
-      each k lt =
-          let s = stands-at (list_of l) listed.well_named k lt in
-          let long = length-map l.types interned_of in
-          record {
-            some = s.some;
-            within = omega (arith, s.high, long);
-            few = omega (arith, s.high, long, few);
-            consed = may-cons l listed k lt;
-            used = may-use l listed k lt;
-          }
+      each k lt = grind (arith, stands-at (list_of l) listed.well_named k lt, length-map l.types interned_of, may-cons l listed k lt, may-use l listed k lt)
 
 -- ---- groups that are found
 
@@ -102,13 +93,7 @@ next-free gs es n first = ap (λ l. free_indices l n) (indices-both gs es ∙ ap
 
 pub first-more : (gs es : Groups) (c : List WasmSubType) (n : ℕ) → HaveFirstFree (indices_of gs) es
     → HaveFirstFree (indices_of gs) (es ++ at_first (next_group gs es c n) ∷ [])
-first-more gs es c n first =
-    let taken = indices_of gs in
-    let m = length (indices_of es) in
-    let new = free_indices (indices_of (gs ++ es)) n in
-    let whole : indices_of (es ++ at_first (next_group gs es c n) ∷ []) ≡ free_indices taken (m + n) =
-    indices-one es (at_first (next_group gs es c n)) ∙ ap (λ l. l ++ new) first ∙ ap (λ l. free_indices taken m ++ l) (next-free gs es n first) ∙ sym (free-split taken m n) in
-    whole ∙ ap (free_indices taken) (sym (free-length taken (m + n)) ∙ ap length (sym whole))
+first-more gs es c n first = grind (arith, common_steps, indices-one, next-free, free-split, free-length)
 
 pub next-length : (gs es : Groups) (c : List WasmSubType) (n : ℕ) → length (indices_of (es ++ at_first (next_group gs es c n) ∷ [])) ≡ length (indices_of es) + n
 next-length gs es c n = grind (arith, indices-one, length-append, free-length)

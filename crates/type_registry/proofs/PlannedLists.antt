@@ -1,7 +1,7 @@
 -- A registry is balanced once a module is registered.
-use Rattle.std.proofs.Common.{if◌then◌else◌, ◌≡◌, ◌∙◌, ◌↔◌, ◌<◌, ◌≤◌, ℕ, ◌+◌, Bool, true, false, nat_eq, List, [], ◌∷◌, ◌++◌, map, Option, Some, None, refl, sym, ap, subst, arith, eq-eqb, ◌⊎◌, inl, inr}
+use Rattle.std.proofs.Common.{if◌then◌else◌, ◌≡◌, ◌∙◌, ◌↔◌, ◌<◌, ◌≤◌, ℕ, ◌+◌, Bool, true, false, nat_eq, List, [], ◌∷◌, ◌++◌, map, Option, Some, refl, sym, ap, subst, arith, eq-eqb, ◌⊎◌, inl, inr}
 use Rattle.std.specs.List.{flat_map}
-use Rattle.std.proofs.lemmas.Grind.{flat_map-append}
+use Rattle.std.proofs.lemmas.Grind.{flat_map-append, common_steps}
 use Rattle.std.proofs.lemmas.List.{append-nil, append_assoc}
 use Rattle.std.proofs.lemmas.Option.{get_or_from_slice_get, same_Some}
 use Rattle.std.proofs.lemmas.Bool.{eqb-true, ne_eqb}
@@ -10,7 +10,7 @@ use Rattle.wasm_types.specs.declared.sub.WasmSubType.{WasmSubType}
 use Rattle.module_types.specs.Views.{span_of}
 use Rattle.module_types.specs.TypeList.{TypeList}
 use Rattle.type_registry.specs.Registry.{Registry, Group, Groups, Module}
-use Rattle.type_registry.specs.Changes.{Plan, begun, at_first, canonical_of, find_group, first_index, keep_groups, next_group, plan_group, plan_groups, planned, registered, size_of, with_group}
+use Rattle.type_registry.specs.Changes.{Plan, begun, canonical_of, find_group, first_index, keep_groups, next_group, plan_group, plan_groups, planned, registered, size_of, with_group}
 use Rattle.type_registry.specs.Standing.{MayRegister, kept_at}
 use Rattle.type_registry.specs.Balanced.{IsBalanced, count_in, indices_in, indices_at, times, times_below}
 use Rattle.type_registry.proofs.Balance.{kept-listed}
@@ -56,14 +56,11 @@ module _ (equal : (x y : List WasmSubType) → (Eq x y ≡ true) ↔ (x ≡ y)) 
       let c = canonical_of l p.listed.indices s in
       let new = next_group gs p.fresh c (size_of s) in
       either-planned gs l p s (λ q. IsTaken p.listed q.listed q.fresh)
-      (λ g is.
-      let same : g.canonical ≡ c = (equal g.canonical c).0 (found-equal (gs ++ p.fresh) c g is) in
-      record { group = g; listed = refl; among = ap (λ x. find_group x (gs ++ p.fresh)) same ∙ is })
+      (λ g is. grind (arith, found-equal (gs ++ p.fresh) c g is))
       (λ none. record {
         group = new;
         listed = refl;
-        among = ap (find_group c) (sym (append_assoc gs p.fresh (at_first new ∷ []))) ∙ find-none (gs ++ p.fresh) (at_first new ∷ []) c none
-            ∙ ap (λ (b : Bool). if b then Some new else None) ((equal c c).1 refl);
+        among = grind (arith, append_assoc, find-none);
       })
 
   -- the list is that of its groups where each group that is found is kept at its first index
@@ -80,14 +77,7 @@ module _ (equal : (x y : List WasmSubType) → (Eq x y ≡ true) ↔ (x ≡ y)) 
   -- each new group is one of the module's
   new-listed : (p : Plan) (s : Span) (first : ℕ) → times first (firsts_of p.fresh) ≤ times first p.listed.groups
       → times first (firsts_of (plan_group gs l p s).fresh) ≤ times first (plan_group gs l p s).listed.groups
-  new-listed p s first le =
-      let new = next_group gs p.fresh (canonical_of l p.listed.indices s) (size_of s) in
-      either-planned gs l p s (λ q. times first (firsts_of q.fresh) ≤ times first q.listed.groups)
-      (λ g is. omega (arith, le, times-append first p.listed.groups (first_index g ∷ [])))
-      (λ none. omega (arith, le, times-append first p.listed.groups (first_index new ∷ []), firsts-more p.fresh (at_first new))) where
-        firsts-more : (es : Groups) (e : ℕ × Group) → times first (firsts_of (es ++ e ∷ [])) ≡ times first (firsts_of es) + times first (e.0 ∷ [])
-        firsts-more [] e = omega arith
-        firsts-more (x ∷ es) e = omega (arith, firsts-more es e)
+  new-listed p s first le = grind (arith, common_steps, times-append, either-planned)
 
   pub all-listed : (p : Plan) (ss : List Span) (first : ℕ) → times first (firsts_of p.fresh) ≤ times first p.listed.groups
       → times first (firsts_of (plan_groups gs l p ss).fresh) ≤ times first (plan_groups gs l p ss).listed.groups
@@ -108,18 +98,14 @@ module _ (equal : (x y : List WasmSubType) → (Eq x y ≡ true) ↔ (x ≡ y)) 
 
   -- a group that is found is kept at its first index
   kept-first : (g : Group) → find_group g.canonical (r.groups ++ p.fresh) ≡ Some g → found kept (first_index g) ≡ Some g
-  kept-first g is =
-      let w = kept-of equal r l m g is in
-      ap (found kept) (get_or_from_slice_get g.indices 0 w.first 0 w.start) ∙ w.kept
+  kept-first g is = grind (arith, kept-of equal r l m g is, get_or_from_slice_get)
 
   listed-by : IsListedBy (found kept) p.listed
   listed-by = planned-listed equal r.groups l (found kept) begun (map span_of l.groups) kept-first (none-listed (found kept))
 
   -- what is kept is kept once groups are counted, but for its count
   same-indices : (first : ℕ) (g : Group) → found kept first ≡ Some g → indices_in (found kept first) ≡ indices_at now first
-  same-indices first g is =
-      let w = counted-is kept p.listed.groups first g is in
-      ap indices_in is ∙ ap (λ (x : Group). x.indices) (sym w.same) ∙ ap indices_in (sym w.kept)
+  same-indices first g is = grind (arith, counted-is kept p.listed.groups first g is)
 
   listed-new : p.listed.indices ≡ flat_map (indices_at now) p.listed.groups
   listed-new = grind (arith, listed-by, flat-same, found, same-indices)
@@ -153,10 +139,7 @@ module _ (equal : (x y : List WasmSubType) → (Eq x y ≡ true) ↔ (x ≡ y)) 
     by false is =
         b.listed key n is
         ∙ flat-same (indices_at r) (indices_at now) n.groups
-        (λ first lt.
-        let w = kept-listed r b key n first is lt in
-        let k = still first w.group w.is in
-        ap indices_in w.is ∙ ap indices_in (sym k) ∙ same-indices first w.group k)
+        (λ first lt. grind (arith, kept-listed r b key n first is lt, still, same-indices))
 
   pub registered-balanced : IsBalanced now
   registered-balanced = grind (arith, registered-sound, ne_eqb, counted-now, had-now, listed-now)

@@ -112,12 +112,7 @@ module _ (equal : (x y : List WasmSubType) → (Eq x y ≡ true) ↔ (x ≡ y)) 
       (sym x.start ∙ ap (λ is. slice_get is 0) w.at ∙ take-get (drop s.start p.listed.indices) (size_of s) 0 (omega (arith, w.low))
       ∙ get-dropped p.listed.indices s.start 0 ∙ ap (slice_get p.listed.indices) none
       ∙ slice_get-get_or p.listed.indices s.start 0 (omega (arith, w.low, w.within))) in
-      record {
-        group = b.group;
-        kept = ap (found (registered r l).groups) (sym first) ∙ b.kept;
-        at = ap (λ (g : Group). g.indices) b.same ∙ w.at;
-        canonical = ap (λ (g : Group). group_of g.canonical) b.same ∙ w.canonical;
-      }
+      grind arith
 
   pub registered-stands : Stands (registered r l) r.registrations l
   registered-stands = grind (arith, registered-sound, eq-eqb, all, length-map, stands-group)

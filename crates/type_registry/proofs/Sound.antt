@@ -28,19 +28,11 @@ Kept = ℕ × Group
 
 pub found-index : (gs : Groups) (i p n : ℕ) (h : Group) → found gs i ≡ Some h → slice_get h.indices p ≡ Some n → list_any (nat_eq n) (indices_of gs) ≡ true
 found-index [] i p n h is at = absurd (none-some h is)
-found-index (e ∷ gs) i p n h is at =
-    let rest = found-index gs i p n h in
-    let mine = any-place e.1.indices n p in
-    let left = any-left e.1.indices (indices_of gs) n in
-    let right = any-right e.1.indices (indices_of gs) n in
-    grind (arith, nat_tests)
+found-index (e ∷ gs) i p n h is at = grind (arith, any-place, any-left, any-right, nat_tests, (found-index gs i p n h))
 
 found-unlike : (gs : Groups) (i : ℕ) (h : Group) (c : List WasmSubType) → found gs i ≡ Some h → find_group c gs ≡ None → Eq h.canonical c ≡ true → ⊥
 found-unlike [] i h c is none holds = none-some h is
-found-unlike (e ∷ gs) i h c is none holds =
-    let rest = found-unlike gs i h c in
-    let equal = cases_Bool (Eq e.1.canonical c) in
-    grind (arith, nat_tests)
+found-unlike (e ∷ gs) i h c is none holds = grind (arith, cases_Bool, nat_tests, (found-unlike gs i h c))
 
 -- ---- one more group
 
@@ -61,9 +53,7 @@ keep-ordered : (f : ℕ) (gs : Groups) (g : Group) → found gs f ≡ None → A
 keep-ordered f [] g none ordered = (tt, tt)
 keep-ordered f (e ∷ gs) g none ordered =
     let differ : (f ≡ e.0 → ⊥) × (found gs f ≡ None) = (λ same. grind (arith, nat_tests), grind (arith, nat_tests)) in
-    cond_both (nat_le f e.0) ((f, g) ∷ e ∷ gs) (e ∷ keep_group gs f g) AreOrdered
-    (λ le. let lt : f < e.0 = omega (arith, leb-true f e.0 le, differ.0) in ((lt, above-less f e.0 gs lt ordered.0), ordered))
-    (λ gt. (keep-above e.0 f gs g (leb-false f e.0 gt) ordered.0, keep-ordered f gs g differ.1 ordered.1))
+    grind (arith, leb-true, above-less, leb-false, keep-above, cond_both, (keep-ordered f gs g differ.1 ordered.1))
 
 -- a group that is found is the new one or was found
 data Where (gs : Groups) (f i : ℕ) (g h : Group) : Type 0 where

@@ -5,7 +5,6 @@ use Rattle.std.proofs.lemmas.Option.{slice_get-get_or, same_Some}
 use Rattle.type_spec.specs.Interned.{Span}
 use Rattle.wasm_index.specs.Index.{number_of, index_of}
 use Rattle.wasm_types.specs.declared.sub.WasmRecGroup.{WasmRecGroup}
-use Rattle.wasm_types.specs.TypeViews.{group_of}
 use Rattle.module_types.specs.Views.{interned_of}
 use Rattle.module_types.specs.TypeList.{TypeList}
 use Rattle.module_types.specs.Conversion.{no_span}
@@ -56,11 +55,7 @@ module _ (r : Registry) (a : ℕ) (l : TypeList) (listed : Listed l) (st : Stand
   canonical-at k lt = ap canonical_in (group-at k lt).kept
 
   pub are : AreCompared (list_of l) engine olds canonicals
-  are k lt = record {
-    within = lt;
-    stands = members-are l listed (span k);
-    mapped = ap group_of (canonical-at k lt) ∙ (group-at k lt).canonical;
-  }
+  are k lt = grind (arith, members-are l listed (span k), canonical-at k lt, group-at k lt)
 
   -- the index of a member
   pub member : (k : ℕ) (lt : k < length (list_of l).groups) (i : ℕ) → (span k).start ≤ i → i < (span k).end → i < length l.types
@@ -72,9 +67,7 @@ module _ (r : Registry) (a : ℕ) (l : TypeList) (listed : Listed l) (st : Stand
       ap (λ m. option_and_then (λ (m : registry.Module). slice_get m.indices i) m) st.held ∙ slice_get-get_or indices i 0 (omega (arith, lt, st.count))
 
   pub short : (k : ℕ) → k < length (list_of l).groups → (i : ℕ) → i < (span k).end → i < length l.types
-  short k lt i high =
-      let s = stands-at (list_of l) listed.well_named k lt in
-      omega (arith, s.high, high, length-map l.types interned_of)
+  short k lt i high = grind (arith, stands-at (list_of l) listed.well_named k lt, length-map l.types interned_of)
 
 module _ (r : Registry) (a b : ℕ) (l m : TypeList) (listed : Listed l) (listed' : Listed m) (st : Stands r a l) (st' : Stands r b m) where
   abbrev is : List ℕ

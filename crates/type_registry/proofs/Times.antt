@@ -1,5 +1,5 @@
 -- How often lists have numbers, and how often held modules have groups.
-use Rattle.std.proofs.Common.{if◌then◌else◌, ◌≡◌, ◌∙◌, ◌<◌, ◌≤◌, ℕ, zero, suc, ◌+◌, Bool, true, false, nat_eq, List, [], ◌∷◌, ◌++◌, Option, Some, None, refl, sym, ap, arith, eq-eqb}
+use Rattle.std.proofs.Common.{if◌then◌else◌, ◌≡◌, ◌<◌, ◌≤◌, ℕ, zero, suc, ◌+◌, Bool, true, false, nat_eq, List, [], ◌∷◌, ◌++◌, Option, Some, refl, ap, arith, eq-eqb}
 use Rattle.std.specs.List.{flat_map, list_any}
 use Rattle.std.proofs.lemmas.Bool.{ne_eqb}
 use Rattle.std.proofs.lemmas.Bool.Decides.{nat_tests}
@@ -25,11 +25,7 @@ flat-same ix ix' (x ∷ ns) same = grind (arith, times-first, (flat-same ix ix' 
 
 pub flat-has : (ix : ℕ → List ℕ) (ns : List ℕ) (n i : ℕ) → 0 < times n ns → list_any (nat_eq i) (ix n) ≡ true → list_any (nat_eq i) (flat_map ix ns) ≡ true
 flat-has ix [] n i lt has = absurd (omega (arith, lt))
-flat-has ix (x ∷ ns) n i lt has =
-    let rest = flat-has ix ns n i in
-    let left = any-left (ix x) (flat_map ix ns) i in
-    let right = any-right (ix x) (flat_map ix ns) i in
-    grind (arith, nat_tests)
+flat-has ix (x ∷ ns) n i lt has = grind (arith, any-left, any-right, nat_tests, (flat-has ix ns n i))
 
 -- a number of the list whose list has an index
 pub record IsFrom (ix : ℕ → List ℕ) (ns : List ℕ) (i : ℕ) : Type 0 where
@@ -39,12 +35,7 @@ pub record IsFrom (ix : ℕ → List ℕ) (ns : List ℕ) (i : ℕ) : Type 0 whe
 
 pub flat-from : (ix : ℕ → List ℕ) (ns : List ℕ) (i : ℕ) → list_any (nat_eq i) (flat_map ix ns) ≡ true → IsFrom ix ns i
 flat-from ix [] i has = let no-way : false ≡ true = has in cc
-flat-from ix (x ∷ ns) i has = by (list_any (nat_eq i) (ix x)) refl (flat-from ix ns i) where
-  by : (c : Bool) → list_any (nat_eq i) (ix x) ≡ c → (list_any (nat_eq i) (flat_map ix ns) ≡ true → IsFrom ix ns i) → IsFrom ix (x ∷ ns) i
-  by true e rest = record { number = x; is_in = times-first x ns; has = e }
-  by false e rest =
-      let w = rest (sym (any-second (ix x) (flat_map ix ns) i e) ∙ has) in
-      record { number = w.number; is_in = omega (arith, w.is_in); has = w.has }
+flat-from ix (x ∷ ns) i has = grind (arith, times-first, any-second, (flat-from ix ns i))
 
 -- ---- held modules
 
@@ -63,11 +54,7 @@ below-low held key first (suc n) le = grind (arith, ne_eqb, (below-low held key 
 pub below-without : (held : ℕ → Option Module) (key first n : ℕ) (m : Module) → held key ≡ Some m → key < n
     → times_below (without_module held key) first n + times first m.groups ≡ times_below held first n
 below-without held key first zero m is lt = absurd (omega (arith, lt))
-below-without held key first (suc n) m is lt =
-    let rest = below-without held key first n m is in
-    let low = below-low held key first n in
-    let here : key ≡ n → times_in first (held n) ≡ times first m.groups = (λ same. ap (λ k. times_in first (held k)) (sym same) ∙ ap (times_in first) is) in
-    grind (arith, nat_tests)
+below-without held key first (suc n) m is lt = grind (arith, below-low, nat_tests, (below-without held key first n m is))
 
 -- a held module has a group no more often than all
 pub below-one : (held : ℕ → Option Module) (key first n : ℕ) (m : Module) → held key ≡ Some m → key < n → times first m.groups ≤ times_below held first n
@@ -82,11 +69,4 @@ pub record IsHad (held : ℕ → Option Module) (first : ℕ) : Type 0 where
 
 pub below-some : (held : ℕ → Option Module) (first n : ℕ) → 0 < times_below held first n → IsHad held first
 below-some held first zero lt = absurd (omega (arith, lt))
-below-some held first (suc n) lt = by (held n) refl (below-some held first n) where
-  here : (m : Module) → held n ≡ Some m → (c : ℕ) → times first m.groups ≡ c → (0 < times_below held first n → IsHad held first) → IsHad held first
-  here m is zero none rest = rest (omega (arith, lt, ap (times_in first) is, none))
-  here m is (suc c) some rest = record { key = n; listed = m; is = is; has = omega (arith, some) }
-
-  by : (o : Option Module) → held n ≡ o → (0 < times_below held first n → IsHad held first) → IsHad held first
-  by None e rest = rest (omega (arith, lt, ap (times_in first) e))
-  by (Some m) e rest = here m e (times first m.groups) refl rest
+below-some held first (suc n) lt = grind (arith, (below-some held first n))

@@ -80,9 +80,7 @@ module _ {Key : Type 0} (content : Key → List WasmSubType) (live : ℕ) (known
   pub no-type : owner_at os n ≡ None → lookup (nat_eq n) (used_types now) ≡ None
   no-type none = ap (λ es. lookup (nat_eq n) (used_types es)) (sym seen) ∙ miss gs 0 n absent where
     absent : (m : ℕ) (g : Group) → group_in gs m ≡ Some g → list_any (nat_eq n) g.indices ≡ false
-    absent m g at = false_from_ne_true (list_any (nat_eq n) g.indices) (λ e.
-        let q = place-any g.indices n e in
-        none-some (record { first = m; place = q.place }) (sym none ∙ k.owned m q.place n g at q.at))
+    absent m g at = false_from_ne_true (list_any (nat_eq n) g.indices) (λ e. grind (arith, place-any g.indices n e))
 
   -- an owner has a group, and its member's type is that of the index
   pub some-type : (o : Owner) (g : Group) → owner_at os n ≡ Some o → group_in gs o.first ≡ Some g
@@ -96,9 +94,7 @@ module _ {Key : Type 0} (content : Key → List WasmSubType) (live : ℕ) (known
         once q there = ap (λ (p : Owner). p.place) (same_Some (record { first = o.first; place = q }) o (sym (k.owned o.first q n g at there) ∙ is))
 
         others : (j : ℕ) (h : Group) → (j ≡ o.first → ⊥) → group_in gs j ≡ Some h → list_any (nat_eq n) h.indices ≡ false
-        others j h apart there = false_from_ne_true (list_any (nat_eq n) h.indices) (λ e.
-            let q = place-any h.indices n e in
-            apart (ap (λ (p : Owner). p.first) (same_Some (record { first = j; place = q.place }) o (sym (k.owned j q.place n h there q.at) ∙ is))))
+        others j h apart there = false_from_ne_true (list_any (nat_eq n) h.indices) (λ e. grind (arith, place-any h.indices n e))
 
   -- an owner has a group
   pub no-group : (o : Owner) → owner_at os n ≡ Some o → group_in gs o.first ≡ None → ⊥

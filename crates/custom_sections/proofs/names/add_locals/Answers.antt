@@ -1,4 +1,4 @@
-use Rattle.std.proofs.Common.{arith, Some, None, map}
+use Rattle.std.proofs.Common.{arith, None, map}
 use Rattle.std.proofs.lemmas.Grind.{common_steps}
 use Rattle.std.proofs.lemmas.List.{map_push}
 use Rattle.custom_sections.specs.Views.{text_of, locals_of}

@@ -1,9 +1,6 @@
 use Rattle.std.proofs.lemmas.Grind.{common_steps}
-use Rattle.std.proofs.Common.{rules, arith, ◌≡◌, ◌∙◌, ◌<◌, ◌≤◌, ◌++◌, ◌∷◌, [], List, ℕ, length, sym, ap, subst}
-use Rattle.std.specs.Global.{Vec}
+use Rattle.std.proofs.Common.{arith}
 use Rattle.std.proofs.lemmas.List.{map_push}
-use Rattle.free_numbers.specs.Counts.{total, pair_sums}
-use Rattle.free_numbers.specs.Levels.{lists_of, counts_of, IsChain, IsTree}
 use Rattle.free_numbers.proofs.Pairs.{pairs-shorter, chain-more, first-more, chain-tree, total-pairs}
 use Rattle.free_numbers.proofs.levels.levels_of.Goals as goal
 

@@ -1,5 +1,5 @@
 use Rattle.std.proofs.lemmas.Grind.{common_steps}
-use Rattle.std.proofs.Common.{arith, ◌≡◌, ◌∙◌, ◌+◌, length, get_or, sym, ap}
+use Rattle.std.proofs.Common.{arith, ◌≡◌, ◌∙◌, length, ap}
 use Rattle.free_numbers.specs.Counts.{before}
 use Rattle.free_numbers.proofs.Pairs.{before-next, before-few, all-before}
 use Rattle.free_numbers.proofs.numbers.sum.Goals as goal

@@ -1,8 +1,5 @@
 use Rattle.std.proofs.lemmas.Grind.{common_steps}
-use Rattle.std.proofs.Common.{arith, ◌≡◌, ◌∙◌, ◌≤◌, List, ℕ, get_or, ap, subst}
-use Rattle.std.specs.Global.{Vec}
-use Rattle.free_numbers.specs.Counts.{before, IsCounts}
-use Rattle.free_numbers.specs.Levels.{lists_of, counts_of}
+use Rattle.std.proofs.Common.{arith}
 use Rattle.free_numbers.proofs.Pairs.{count-few}
 use Rattle.free_numbers.proofs.numbers.FreeNumbers.nth.Goals as goal
 

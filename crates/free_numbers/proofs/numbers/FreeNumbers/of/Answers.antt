@@ -1,6 +1,5 @@
 use Rattle.std.proofs.lemmas.Grind.{common_steps}
-use Rattle.std.proofs.Common.{arith, ◌<◌, List, ℕ, sym, subst}
-use Rattle.free_numbers.specs.Counts.{total}
+use Rattle.std.proofs.Common.{arith}
 use Rattle.free_numbers.proofs.Pairs.{few-in-all}
 use Rattle.free_numbers.proofs.numbers.FreeNumbers.of.Goals as goal
 
