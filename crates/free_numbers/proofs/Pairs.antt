@@ -138,7 +138,7 @@ module _ (vs ws : List (Vec ℕ)) (v : Vec ℕ) (e : vs ≡ v ∷ ws) (some : 0 
 -- ---- a level more
 
 pub pairs-shorter : (xs : List ℕ) → 1 < length xs → length (pair_sums xs) < length xs
-pairs-shorter h1 h = grind (arith, length-pairs)
+pairs-shorter xs h = grind (arith, length-pairs)
 
 pub chain-more : (ls : List (List ℕ)) (xs ys : List ℕ) → ys ≡ pair_sums xs → IsChain (ls ++ xs ∷ []) → IsChain ((ls ++ xs ∷ []) ++ ys ∷ [])
 chain-more [] xs ys e chain = (e, tt)

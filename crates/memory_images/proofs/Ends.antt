@@ -23,7 +23,7 @@ IsIn range place = (range.start ≤ place) × (place < range.end)
 
 module _ (contents : ℕ → ℕ) (A B C : ℕ → Type 0) (split : (place : ℕ) → C place → A place ⊎ B place) where
   pub ends_joined : (a b : Option Ends) → EndsOf contents A a → EndsOf contents B b → EndsOf contents C (joined a b)
-  ends_joined h1 h2 h k = grind arith
+  ends_joined a b h k = grind arith
 
 -- ---- all that is laid
 
@@ -32,7 +32,7 @@ module _ (below above : ℕ → ℕ) (x : Laid) (over : (place : ℕ) → above 
   by_place place = grind (arith, misses, covers)
 
   pub bounds_joined : (a b : Option Ends) → Bounds below a → EndsOf (byte_in x) (Within x) b → Bounds above (joined a b)
-  bounds_joined h1 h2 h k = grind (arith, by_place)
+  bounds_joined a b h k = grind (arith, by_place)
 
 -- ---- all ranges
 
@@ -83,7 +83,7 @@ module _ (laid : List Laid) (ranges : List Written) (written : AreWritten (map p
         inr (record { index = r.index; range = r.range; is_range = r.is_range; early = slice_get_within ranges r.index r.range r.is_range; within = (r.from, r.upto) })
 
   pub everywhere : (ends : Option Ends) → EndsOf (contents_of laid) (LiesIn ranges (length ranges)) ends → EndsOf (contents_of laid) (λ _. ⊤) ends
-  everywhere h1 h = grind (arith, zero_or_in)
+  everywhere ends h = grind (arith, zero_or_in)
 
 -- ---- the pages round the ends
 

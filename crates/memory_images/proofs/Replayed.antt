@@ -28,7 +28,7 @@ moved (s ∷ rest) m place d = ⊎_elim
     (cases_Bool (s.memory == m && nat_lt 0 (length s.bytes)))
 
 same_image : (page : ℕ) (c e : ℕ → ℕ) → ((place : ℕ) → c place ≡ e place) → (i : Option MemoryImage) → ImageOf page c i → ImageOf page e i
-same_image page c e same h5 h = grind arith
+same_image page c e same i h = grind arith
 
 module _ (imports : ℕ) (memories : List ImageMemory) (active : List ActiveSegment) (all : List (Vec Laid)) (are : AreLaid imports memories active all)
     (n page : ℕ) (count : length all ≡ n) (images : List (Option MemoryImage)) where

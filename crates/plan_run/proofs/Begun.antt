@@ -64,7 +64,7 @@ module _ (plan : MemoryPlan) where
 -- ---- one memory
 
 length-first : (page size : ℕ) (image : Option (ℕ × List ℕ)) → ImageIsWithin page size image → length (first_bytes size image) ≡ size
-length-first page size h3 within = grind (arith, length-replicate, length-written)
+length-first page size image within = grind (arith, length-replicate, length-written)
 
 first-item : (page size object place : ℕ) (image : Option (ℕ × List ℕ)) → ImageIsWithin page size image → place < size
     → slice_get (first_bytes size image) place ≡ Some (laid_over image object place 0)

@@ -25,24 +25,24 @@ operator_in (plain.AsAny term) = Some op.AnyConvertExtern
 operator_in _ = None
 
 operator-kept : (o : Operator) (vs : List plain.Value) → operator_in (kept_term o vs) ≡ Some o
-operator-kept h1 vs = grind arith
+operator-kept o vs = grind arith
 
 -- a conversion wraps a term that the other did not make
 wraps-extern : (t : Term) (b : Operator) → operator_in t ≡ Some b → undoes op.ExternConvertAny b ≡ false → plain.to_extern t ≡ plain.AsExtern t
-wraps-extern h1 b is isnt = grind (arith, false≢true)
+wraps-extern t b is isnt = grind (arith, false≢true)
 
 wraps-any : (t : Term) (b : Operator) → operator_in t ≡ Some b → undoes op.AnyConvertExtern b ≡ false → plain.to_any t ≡ plain.AsAny t
-wraps-any h1 b is isnt = grind (arith, false≢true)
+wraps-any t b is isnt = grind (arith, false≢true)
 
 wraps : (a b : Operator) (t : Term) → kind_of a ≡ Conversion → operator_in t ≡ Some b → undoes a b ≡ false → conversion a t ≡ kept_term a (plain.Ref t ∷ [])
-wraps h1 b t is made isnt = grind (arith, wraps-extern, wraps-any)
+wraps a b t is made isnt = grind (arith, wraps-extern, wraps-any)
 
 -- and undoes what the other made
 back : (a b : Operator) (t : Term) → undoes a b ≡ true → conversion a (kept_term b (plain.Ref t ∷ [])) ≡ t
-back h1 h2 t does = grind (arith, false≢true)
+back a b t does = grind (arith, false≢true)
 
 has-one : (a b : Operator) (vs : List Value) → undoes a b ≡ true → HasReference b vs → IsOneReference vs
-has-one h1 h2 vs does has = grind (arith, false≢true)
+has-one a b vs does has = grind (arith, false≢true)
 
 -- ---- values
 

@@ -24,7 +24,7 @@ image-at (suc minimum) (c ∷ cs) (suc place) l = grind (arith, (image-at minimu
 
 module _ (globals : List plain.Value) (fields : ℕ → ℕ) where
   length-cells : (minimum : ℕ) (initial : Option Expression) (image : List (Option ℕ)) → length image ≤ minimum → length (cells_from globals fields minimum initial image) ≡ minimum
-  length-cells minimum h2 image l = grind (arith, length-append, length-map, length-replicate)
+  length-cells minimum initial image l = grind (arith, length-append, length-map, length-replicate)
 
   cell-at : (minimum : ℕ) (initial : Option Expression) (image : List (Option ℕ)) (place : ℕ) → place < minimum
       → slice_get (cells_from globals fields minimum initial image) place ≡ Some (planned_cell globals fields initial image place)

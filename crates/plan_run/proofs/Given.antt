@@ -59,7 +59,7 @@ within-each w plan page n (m ∷ ms) each =
 module _ (t : ModuleTranslation) (f : Finished t) where
   within-one : (w : Way) (i : ℕ) (m : Memory) → slice_get t.module.memories i ≡ Some m
       → ImageIsWithin (page_size_of t) (minimum_bytes m) (image_in w (memory_plan_of t) i)
-  within-one h1 i m at = grind arith
+  within-one w i m at = grind arith
 
   pub images-within : (w : Way) → ImagesAreWithin w (memory_plan_of t) (page_size_of t) t.module.num_imported_memories (own_memories t)
   images-within w = within-each w (memory_plan_of t) (page_size_of t) t.module.num_imported_memories (own_memories t)
@@ -67,7 +67,7 @@ module _ (t : ModuleTranslation) (f : Finished t) where
 
   -- no imported memory has an image
   pub none-imported : (w : Way) (i : ℕ) → i < t.module.num_imported_memories → image_in w (memory_plan_of t) i ≡ None
-  none-imported h1 i l = grind arith
+  none-imported w i l = grind arith
 
 -- the image of one of the defined memories
 pub within-of : (t : ModuleTranslation) (w : Way) (page i : ℕ) (ms : List Memory) (d : Memory) → ms ≡ t.module.memories → t.module.num_imported_memories ≤ i → i < length ms

@@ -34,7 +34,7 @@ terms-low terms (n ∷ ns) k l =
 -- ---- values over terms that agree
 
 value-same : (one other : List Term) (k : ℕ) (v : Value) → ((i : ℕ) → i < k → slice_get one i ≡ slice_get other i) → NamesBelow k v → value_in one v ≡ value_in other v
-value-same one other k h4 same below = grind arith
+value-same one other k v same below = grind arith
 
 values-same : (one other : List Term) (k : ℕ) (vs : List Value) → ((i : ℕ) → i < k → slice_get one i ≡ slice_get other i) → All (NamesBelow k) vs
     → values_in one vs ≡ values_in other vs
@@ -42,7 +42,7 @@ values-same one other k [] same below = refl
 values-same one other k (v ∷ vs) same below = grind (arith, All-head, value-same, All-tail, (values-same one other k vs same (All-tail (NamesBelow k) v vs below)))
 
 pub names-more : (k m : ℕ) (v : Value) → k ≤ m → NamesBelow k v → NamesBelow m v
-names-more k m h3 l below = grind arith
+names-more k m v l below = grind arith
 
 pub all-names-more : (k m : ℕ) (vs : List Value) → k ≤ m → All (NamesBelow k) vs → All (NamesBelow m) vs
 all-names-more k m vs l = All-weaker (NamesBelow k) (NamesBelow m) (λ v. names-more k m v l) vs
