@@ -26,10 +26,8 @@ module _ {X : Type 0} (left rest : List X) (x : X) (at : left ≡ x ∷ rest) wh
       (ap (map made) at ∙ ap (λ (w : W). w ∷ map made rest) (sym is)) before
 
   -- what holds of all that are left, by the number of the functions, which references do not change
-  pub here_still : (P : ℕ → X → Type 0) (start now : EscapeLog) (ms ns : List ℕ) → after_escapes now ms ≡ after_escapes start ns → All (P start.count) left
-      → P now.count x
-  here_still P start now ms ns noted all =
-      subst (λ (n : ℕ). P n x) (sym (ap (λ (f : EscapeLog). f.count) noted)) (All-head (P start.count) x rest (All-same (P start.count) (x ∷ rest) left (sym at) all))
+  pub here_still : (P : ℕ → X → Type 0) (start now : ℕ) → now ≡ start → All (P start) left → P now x
+  here_still P start now same all = subst (λ (n : ℕ). P n x) (sym same) (All-head (P start) x rest (All-same (P start) (x ∷ rest) left (sym at) all))
 
   -- those that came, and one more
   pub came_more : (came all : List X) → came ++ left ≡ all → (came ++ x ∷ []) ++ rest ≡ all

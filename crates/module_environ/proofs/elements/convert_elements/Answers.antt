@@ -32,7 +32,7 @@ pub add-requires-clause-convertible : goal.add-requires-clause-convertible
 add-requires-clause-convertible g c =
     let at = taken _ _ _ _ _ c.if-branch.true c.in_ok-advance.ensures c.entry.ensures in
     here_still _ _ (element_of c.entry.result.now) at (IsElementConvertible ((goal.TypeConvert-dyn g c.args.env.now).knows c.args.env.now.1))
-    c.args.escaping.now c.loop-elements.escaping _ _ c.loop-elements.invariant.noted c.loop-elements.invariant.convertible
+    _ _ (ap (λ (f : EscapeLog). f.count) c.loop-elements.invariant.noted) c.loop-elements.invariant.convertible
 
 pub loop-elements-preserved : goal.loop-elements-preserved
 loop-elements-preserved g c =

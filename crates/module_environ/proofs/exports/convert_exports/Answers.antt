@@ -8,6 +8,7 @@ use Rattle.form_rules.proofs.ExportNames.{distinct_front}
 use Rattle.module_environ.specs.Escapes.{exported_function}
 use Rattle.module_environ.specs.Exported.{CanExport, AreEntered, exported_functions}
 use Rattle.module_environ.specs.Pooled.{with_texts, exported_names}
+use Rattle.module_environ.specs.EscapeLog.{EscapeLog}
 use Rattle.module_environ.proofs.Filling.{here_still, came_more, came_all, noted_more}
 use Rattle.module_environ.proofs.GrownPool.{GrowsBy, grows-text, length-grown}
 use Rattle.module_environ.proofs.exports.convert_exports.Goals as goal
@@ -17,13 +18,13 @@ add_export-requires-clause-room c = omega (arith, ap length c.in-Some.ensures.st
 
 pub add_export-requires-clause-in_range : goal.add_export-requires-clause-in_range
 add_export-requires-clause-in_range c =
-    (here_still _ _ (export_of c.in-Some.export.now) c.in-Some.ensures.steps CanExport c.args.escaping.now c.loop-export.escaping _ _
-    c.loop-export.invariant.noted c.loop-export.invariant.in_range).index
+    (here_still _ _ (export_of c.in-Some.export.now) c.in-Some.ensures.steps CanExport _ _
+    (ap (λ (f : EscapeLog). f.count) c.loop-export.invariant.noted) c.loop-export.invariant.in_range).index
 
 pub note_function-requires : goal.note_function-requires
 note_function-requires c =
-    here_still _ _ (export_of c.in-Some.export.now) c.in-Some.ensures.steps CanExport c.args.escaping.now c.loop-export.escaping _ _
-    c.loop-export.invariant.noted c.loop-export.invariant.in_range
+    here_still _ _ (export_of c.in-Some.export.now) c.in-Some.ensures.steps CanExport _ _
+    (ap (λ (f : EscapeLog). f.count) c.loop-export.invariant.noted) c.loop-export.invariant.in_range
 
 pub loop-export-preserved : goal.loop-export-preserved
 loop-export-preserved c =

@@ -10,6 +10,7 @@ use Rattle.wasm_convert.specs.Constants.{const_ops_of}
 use Rattle.module_environ.specs.Convertible.{IsConvertible}
 use Rattle.module_environ.specs.Escapes.{referred_if_any}
 use Rattle.module_environ.specs.Initialisers.{view_first_value}
+use Rattle.module_environ.specs.EscapeLog.{EscapeLog}
 use Rattle.module_environ.proofs.Filling.{here_still, made_more, noted_more}
 use Rattle.module_environ.proofs.first_values.first_values.Goals as goal
 
@@ -17,7 +18,7 @@ pub first_value-requires : goal.first_value-requires
 first_value-requires g c =
     let knows = (goal.TypeConvert-dyn g c.args.env.now).knows c.args.env.now.1 in
     here_still _ _ (table_of c.in-Some.table.now) c.in-Some.ensures.steps (λ (n : ℕ) (t : TableDef). IfSome t.init (IsConvertible knows n))
-    c.args.escaping.now c.loop-table.escaping _ _ c.loop-table.invariant.noted c.loop-table.invariant.convertible
+    _ _ (ap (λ (f : EscapeLog). f.count) c.loop-table.invariant.noted) c.loop-table.invariant.convertible
 
 pub loop-table-preserved : goal.loop-table-preserved
 loop-table-preserved g c =

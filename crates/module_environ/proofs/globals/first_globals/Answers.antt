@@ -6,6 +6,7 @@ use Rattle.form_data.specs.Views.{global_of}
 use Rattle.form_lists.proofs.Taking.{taken}
 use Rattle.module_environ.specs.Convertible.{IsConvertible}
 use Rattle.module_environ.specs.Escapes.{referred}
+use Rattle.module_environ.specs.EscapeLog.{EscapeLog}
 use Rattle.module_environ.proofs.Filling.{here_still, noted_more}
 use Rattle.module_environ.proofs.GatheredGlobals.{known_more, left_more}
 use Rattle.module_environ.proofs.globals.first_globals.Goals as goal
@@ -15,7 +16,7 @@ convert_expression-requires g c =
     let knows = (goal.TypeConvert-dyn g c.args.env.now).knows c.args.env.now.1 in
     let at = taken _ _ _ _ _ c.if-branch.true c.in_ok-advance.ensures c.entry.ensures in
     here_still _ _ (global_of c.entry.result.now) at (λ (n : ℕ) (x : GlobalDef). IsConvertible knows n x.init)
-    c.args.escaping.now c.loop-globals.escaping _ _ c.loop-globals.invariant.noted c.loop-globals.invariant.convertible
+    _ _ (ap (λ (f : EscapeLog). f.count) c.loop-globals.invariant.noted) c.loop-globals.invariant.convertible
 
 pub add-requires : goal.add-requires
 add-requires g c = omega (arith, ap length (taken _ _ _ _ _ c.if-branch.true c.in_ok-advance.ensures c.entry.ensures), c.loop-globals.invariant.few)

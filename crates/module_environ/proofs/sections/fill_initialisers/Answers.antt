@@ -3,7 +3,10 @@ use Rattle.rule_spec.specs.declared.rules.Rule.TheVariants.{L7}
 use Rattle.rule_spec.specs.Lists as rule
 use Rattle.rule_spec.specs.Lists.{lists_of_module}
 use Rattle.module_environ.specs.Filling.{module_in, FillsInitialisers}
+use Rattle.std.specs.List.{flat_map}
 use Rattle.module_environ.specs.EscapeLog.{EscapeLog}
+use Rattle.module_environ.specs.Escapes.{referred, referred_if_any, item_functions}
+use Rattle.module_environ.specs.Exported.{exported_functions}
 use Rattle.module_environ.specs.Initialisers.{first_values, left_initialisers, active_elements, passive_items}
 use Rattle.module_environ.proofs.FilledInitialisers.{on_ok, noted_all, no_images_of}
 use Rattle.module_environ.proofs.RuledSections.{table-initialisers, global-initialisers, elements-convert, segments-convert, exports-in-range}
@@ -76,7 +79,8 @@ returns g c =
       active = active;
       passive = passive;
       noted = noted_all c.args.escaping.now c.first_values.new.escaping c.first_globals.new.escaping c.convert_exports.new.escaping
-          c.convert_elements.new.escaping _ _ _ _ c.in_ok-values.ensures.noted c.in_ok-known.ensures.noted exports.noted
+          c.convert_elements.new.escaping (flat_map (λ t. referred_if_any t.init) l.tables) (flat_map (λ g. referred g.init) l.globals)
+          (exported_functions l.exports) (flat_map (λ e. item_functions e.items) l.elements) c.in_ok-values.ensures.noted c.in_ok-known.ensures.noted exports.noted
           c.in_ok-active.ensures.noted;
       same = refl;
     }))
