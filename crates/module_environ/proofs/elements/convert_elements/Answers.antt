@@ -7,7 +7,7 @@ use Rattle.form_reader.specs.SectionRows.{element_segment}
 use Rattle.form_lists.specs.Walk.{walk_left}
 use Rattle.form_lists.proofs.Taking.{taken}
 use Rattle.module_environ.specs.Escapes.{item_functions}
-use Rattle.module_environ.specs.EscapeLog.{after_escapes}
+use Rattle.module_environ.specs.EscapeLog.{EscapeLog, after_escapes}
 use Rattle.module_environ.specs.Segments.{IsElementConvertible, AreElementsConvertible}
 use Rattle.module_environ.proofs.Filling.{here_still, came_more, noted_more}
 use Rattle.module_environ.proofs.elements.convert_elements.Goals as goal
