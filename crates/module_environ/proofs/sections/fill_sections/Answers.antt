@@ -1,4 +1,4 @@
-use Rattle.std.proofs.Common.{◌≡◌, ◌∙◌, length, map, sym, ap, subst, arith}
+use Rattle.std.proofs.Common.{◌≡◌, ◌∙◌, length, map, sym, ap, subst, arith, ◌-◌}
 use Rattle.std.specs.List.{enumerate_from, range_with_len}
 use Rattle.std.proofs.lemmas.List.{length-map}
 use Rattle.std.proofs.lemmas.List.FromFn.{length-enumerate_from}
@@ -53,7 +53,8 @@ returns-clause-sections g c =
     let after : c.if-debugged.escaping ≡ after_escapes c.fill_initialisers.new.escaping (behind c.args.debugged (lists_of_module m)) =
     elim c.if-debugged.branch [
       | then-debugged+in_ok-note_escape_range-2 w ↦
-          noted-where (lists_of_module m) c.fill_initialisers.new.escaping c.if-debugged.escaping c.args.debugged w.if-debugged.true _ _
+          noted-where (lists_of_module m) c.fill_initialisers.new.escaping c.if-debugged.escaping c.args.debugged w.if-debugged.true l.imported_functions
+          (w.len-then-debugged.result - l.imported_functions)
           (imported-are l gathered)
           (omega (arith, w.len-then-debugged.ensures, ap length (functions-are l gathered), imported-are l gathered))
           (w.escaping-is ∙ w.in_ok-note_escape_range-2.ensures)
