@@ -1,9 +1,10 @@
 -- Declared types, gathered one member and one group at a time.
-use Rattle.std.proofs.Common.{◌≡◌, ℕ, ◌+◌, ◌<◌, List, [], ◌∷◌, ◌++◌, length, map, take, get_or, refl, sym, ap, ◌∙◌, append_assoc, add-zero, suc, arith}
+use Rattle.std.proofs.Common.{◌≡◌, ℕ, ◌+◌, ◌<◌, List, [], ◌∷◌, ◌++◌, length, map, take, get_or, refl, sym, ap, subst, ◌∙◌, append_assoc, add-zero, suc, arith}
 use Rattle.std.proofs.lemmas.List.{length-append, length-map, length-take-le, map_more, map_push}
 use Rattle.form_data.specs.declared.types.SubType.{SubType as SubTypeRead}
 use Rattle.form_data.specs.Views.{sub_type_of}
 use Rattle.form_lists.specs.declared.lists.Declared.{Declared as Gathered}
+use Rattle.form_lists.specs.Gathered.{AddsTypes}
 use Rattle.form_lists.specs.Views.{declared_of}
 use Rattle.wasm_spec.specs.declared.types.UnpackedIndex.{UnpackedIndex}
 use Rattle.wasm_spec.specs.TypeData.{Group, SubType}
@@ -62,3 +63,25 @@ group_added now after g left rest all at added before =
     ∙ ap (λ (n : ℕ). map declared_of now ++ (members ++ declared_groups n rest)) counted
     ∙ ap (λ (gs : List (Group UnpackedIndex UnpackedIndex)). map declared_of now ++ declared_groups index gs) (sym at)
     ∙ before
+
+-- ---- as groups are added
+
+pub no_types : (old : List Gathered) → AddsTypes old old []
+unfolding AddsTypes
+no_types old rest = refl
+
+pub types_then : (a b c : List Gathered) (gs hs : List (Group UnpackedIndex UnpackedIndex)) → AddsTypes a b gs → AddsTypes b c hs → AddsTypes a c (gs ++ hs)
+unfolding AddsTypes
+types_then a b c gs hs first second rest =
+    second rest ∙ first (hs ++ rest) ∙ ap (λ (gs : List (Group UnpackedIndex UnpackedIndex)). map declared_of a ++ declared_groups (length a) gs) (sym (append_assoc gs hs rest))
+
+pub one_group : (old new : List Gathered) (g : Group UnpackedIndex UnpackedIndex)
+    → map declared_of new ≡ map declared_of old ++ declared_from (length old + length g) (length old) g → AddsTypes old new (g ∷ [])
+unfolding AddsTypes
+one_group old new g added rest = group_added old new g (g ∷ rest) rest _ refl added refl
+
+-- one group more of those that are left
+pub types_more : (a b c : List Gathered) (g : Group UnpackedIndex UnpackedIndex) (left rest all : List (Group UnpackedIndex UnpackedIndex)) → left ≡ g ∷ rest
+    → AddsTypes b c (g ∷ []) → ((d : List Gathered) → AddsTypes b d left → AddsTypes a d all) → (d : List Gathered) → AddsTypes c d rest → AddsTypes a d all
+types_more a b c g left rest all at added before d others =
+    before d (subst (AddsTypes b d) (sym at) (types_then b c d (g ∷ []) rest added others))

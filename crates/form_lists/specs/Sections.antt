@@ -1,6 +1,8 @@
 -- The entries of the sections of a module, in order.
 use Rattle.std.specs.Prelude.{◌≡◌, List, [], ◌++◌, map}
 use Rattle.std.specs.List.{flat_map}
+use Rattle.wasm_spec.specs.declared.types.UnpackedIndex.{UnpackedIndex}
+use Rattle.wasm_spec.specs.TypeData.{Group}
 use Rattle.wasm_spec.specs.Module as plain
 use Rattle.form_reader.specs.declared.input.InputEntries.{InputEntries}
 use Rattle.form_reader.specs.declared.input.InputEntries.TheVariants as entries
@@ -14,7 +16,9 @@ entries_left seen of_section walk = map seen walk.entries.now ++ flat_map of_sec
 
 -- what no section lists that may stay in the input is listed by none that does
 pub none_in_input : {X : Type 0} (f : plain.Payload → List X)
-    → ((globals : List plain.GlobalDef) → f (plain.Globals globals) ≡ []) → ((elements : List plain.Element) → f (plain.Elements elements) ≡ [])
+    → ((types : List (Group UnpackedIndex UnpackedIndex)) → f (plain.Types types) ≡ []) → ((globals : List plain.GlobalDef) → f (plain.Globals globals) ≡ [])
+    → ((elements : List plain.Element) → f (plain.Elements elements) ≡ [])
     → (entries : InputEntries) → f (input_payload_of entries) ≡ []
-none_in_input f globals elements (entries.Globals list) = globals _
-none_in_input f globals elements (entries.Elements list) = elements _
+none_in_input f types globals elements (entries.Types list) = types _
+none_in_input f types globals elements (entries.Globals list) = globals _
+none_in_input f types globals elements (entries.Elements list) = elements _

@@ -1,32 +1,33 @@
 //! Gathers the lists of a module, once, over its sections.
 
-ghost use Rattle.std.specs.Prelude.{◌≡◌, ◌+◌, ◌++◌, ◌∷◌, [], map, length, IfOk, OnOk};
+ghost use Rattle.std.specs.Prelude.{◌≡◌, ◌++◌, ◌∷◌, [], map, IfOk, OnOk};
 ghost use Rattle.wasm_spec.specs.Module.{imports, groups};
-ghost use Rattle.rule_spec.specs.Lists.{declared_from, declared_groups, lists_of_module};
-ghost use Rattle.form_data.specs.Views.{import_of, table_of, global_of, group_of, payload_of};
+ghost use Rattle.rule_spec.specs.Lists.{declared_groups, lists_of_module};
+ghost use Rattle.form_data.specs.Views.{import_of, table_of, global_of, group_of, payload_of, module_of};
 ghost use Rattle.form_reader.specs.SectionRows.{global_entry};
 ghost use Rattle.form_reader.specs.Input.{vector_in};
 ghost use Rattle.form_lists.specs.Source.{source_module, sections_in};
 ghost use Rattle.form_lists.specs.Views.{declared_of, lists_of};
-ghost use Rattle.form_lists.specs.Gathered.{AddsImports, AddsDefined};
+ghost use Rattle.form_lists.specs.Gathered.{AddsTypes, AddsImports, AddsDefined};
 
 use crate::lists::{Declared, Lists, Spaces};
 use crate::sections::entries_of;
 use crate::source::{Section, Source, sections_of};
-use form_data::{GlobalDef, Import, Payload, RecGroup, TableDef};
+use form_data::{Form, GlobalDef, Import, Payload, RecGroup, TableDef};
 use form_reader::{InputEntries, InputEntry, InputVector};
 use std::alloc::{AllocError, Global};
 use wasm_spec::{GlobalType, TableType, TypeRef};
 
-/// The lists of a module.
+/// The lists of a module, whose declared types were gathered before.
 pub fn gather_lists<'f, 'd>(
     alloc: Global,
     source: Source<'f, 'd>,
+    types: Vec<Declared<'f>>,
 ) -> Result<Lists<'f, 'd>, AllocError>
+    requires { map declared_of types.items ≡ declared_groups 0 (groups (source_module source)) }
     ensures lists { IfOk result (λ l. lists_of l ≡ lists_of_module (source_module source.entry)) }
     ensures of_source { IfOk result (λ l. l.source ≡ source.entry) }
 {
-    let types = declared_types(alloc, source)?;
     let mut spaces = Spaces {
         functions: Vec::new(alloc),
         table_types: Vec::new(alloc),
@@ -47,24 +48,46 @@ pub fn gather_lists<'f, 'd>(
     })
 }
 
-/// The declared types, in the order of their indices.
-fn declared_types<'f>(
+/// The types that some groups declare, in the order of their indices.
+pub fn declared_types<'f>(
     alloc: Global,
-    source: Source<'f, '_>,
+    groups: &'f [RecGroup],
 ) -> Result<Vec<Declared<'f>>, AllocError>
-    ensures { IfOk result (λ types. map declared_of types.items ≡ declared_groups 0 (groups (source_module source.entry))) }
+    ensures { IfOk result (λ types. map declared_of types.items ≡ declared_groups 0 (map group_of groups.now)) }
 {
     let mut types = Vec::new(alloc);
-    for group in entries_of::<RecGroup>(source) {
-        add_group(&mut types, group)?;
+    add_groups(&mut types, groups)?;
+    Ok(types)
+}
+
+/// The types that a form declares, in the order of their indices.
+pub fn declared_in_form<'f>(
+    alloc: Global,
+    form: &'f Form<'_>,
+) -> Result<Vec<Declared<'f>>, AllocError>
+    ensures { IfOk result (λ types. map declared_of types.items ≡ declared_groups 0 (groups (module_of form.now))) }
+{
+    let mut types = Vec::new(alloc);
+    for payload in &form.payloads {
+        add_groups(&mut types, RecGroup::in_payload(payload))?;
     }
     Ok(types)
 }
 
+fn add_groups<'f>(
+    types: &mut Vec<Declared<'f>>,
+    groups: &'f [RecGroup],
+) -> Result<(), AllocError>
+    ensures { OnOk result (AddsTypes types.old.items types.new.items (map group_of groups.now)) }
+{
+    for group in groups {
+        add_group(types, group)?;
+    }
+    Ok(())
+}
+
 fn add_group<'f>(types: &mut Vec<Declared<'f>>, group: &'f RecGroup) -> Result<(), AllocError>
-    ensures { OnOk result
-        (let members = group_of group.now in let index = length types.old.items in
-        map declared_of types.new.items ≡ map declared_of types.old.items ++ declared_from (index + length members) index members) }
+    ensures { OnOk result (AddsTypes types.old.items types.new.items (group_of group.now ∷ [])) }
 {
     let group_end = types.len() + group.types.len();
     for ty in &group.types {

@@ -1,6 +1,6 @@
 //! The lists of a module of which the rules speak.
 
-ghost use Rattle.std.specs.Prelude.{◌≡◌};
+ghost use Rattle.std.specs.Prelude.{◌≡◌, []};
 ghost use Rattle.std.specs.Option.{option_map};
 ghost use Rattle.form_data.specs.Views.{composite_of};
 ghost use Rattle.rule_spec.specs.Lists.{kind_at};
@@ -8,6 +8,7 @@ ghost use Rattle.form_lists.specs.Views.{lists_of};
 
 use crate::source::Source;
 use form_data::{CompositeInnerType, SubType};
+use std::alloc::Global;
 use wasm_spec::{GlobalType, MemoryType, TableType};
 
 /// A declared type, its index, and the index after the last member of its group.
@@ -41,7 +42,22 @@ pub struct Lists<'f, 'd> {
     pub imported_globals: usize,
 }
 
-impl<'f> Lists<'f, '_> {
+impl<'f, 'd> Lists<'f, 'd> {
+    /// The same lists without the types; `source` is the module again, which may be lent for longer than the types are.
+    pub fn without_types<'s>(self, alloc: Global, source: Source<'s, 'd>) -> Lists<'s, 'd>
+        requires { source ≡ self.source }
+        ensures lists { lists_of result ≡ record (lists_of self.entry) { types = [] } }
+        ensures of_source { result.source ≡ source.entry }
+    {
+        Lists {
+            source,
+            types: Vec::new(alloc),
+            spaces: self.spaces,
+            imported_functions: self.imported_functions,
+            imported_globals: self.imported_globals,
+        }
+    }
+
     /// The kind of the declared type that has this index.
     pub fn kind_at(&self, index: u32) -> Option<&'f CompositeInnerType>
         ensures { option_map (λ k. composite_of k.now) result ≡ kind_at (lists_of self.now) index }

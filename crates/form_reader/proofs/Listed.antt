@@ -1,5 +1,6 @@
 -- Entries that stay in the input: what a loop passes over is what is listed, and how the first is taken.
-use Rattle.std.proofs.Common.{◌≡◌, ℕ, zero, suc, ◌+◌, ◌-◌, ◌<◌, ◌≤◌, List, [], ◌∷◌, ◌++◌, Result, Ok, Err, refl, sym, ap, subst, ◌∙◌, arith}
+use Rattle.std.proofs.Common.{◌≡◌, ℕ, zero, suc, ◌+◌, ◌-◌, ◌<◌, ◌≤◌, List, [], ◌∷◌, ◌++◌, Result, Ok, Err, refl, sym, ap, subst, ◌∙◌, append_assoc, arith}
+use Rattle.std.proofs.lemmas.List.{append-nil}
 use Rattle.form_reader.specs.Reading.{Reader, Fails, and_then, Fault, Bad, Stops, elements_at}
 use Rattle.form_reader.specs.declared.error.ReadError.{ReadError}
 use Rattle.form_reader.specs.declared.error.ReadError.TheVariants as errors
@@ -10,6 +11,11 @@ use Rattle.form_reader.proofs.Loop.{with_front, all_so_far, one_more, all_read}
 pub record SoFar {A : Type 0} (read : Reader A) (n i : ℕ) (start now : List ℕ) : Type 0 where
   pub front : List A
   pub so_far : with_front front (elements_at read (n - i) now) ≡ elements_at read n start
+
+-- and what was read was appended to a list
+pub record KeptSoFar {A : Type 0} (read : Reader A) (n i : ℕ) (start now : List ℕ) (before all : List A) : Type 0 where
+  pub so_far : SoFar read n i start now
+  pub appended : all ≡ before ++ so_far.front
 
 -- the error is one of the bytes
 abbrev pub IsFault : ReadError → Type 0
@@ -22,6 +28,18 @@ module _ {A : Type 0} (read : Reader A) where
 
   pub further : (n i : ℕ) (start now rest : List ℕ) (x : A) → i < n → read now ≡ Ok (x, rest) → SoFar read n i start now → SoFar read n (i + 1) start rest
   further n i start now rest x l e s = record { front = s.front ++ x ∷ []; so_far = one_more read n i s.front x now rest _ l e s.so_far }
+
+  pub none_kept : (n : ℕ) (bytes : List ℕ) (before : List A) → KeptSoFar read n 0 bytes bytes before before
+  unfolding none_yet
+  none_kept n bytes before = record { so_far = none_yet n bytes; appended = sym (append-nil before) }
+
+  pub further_kept : (n i : ℕ) (start now rest : List ℕ) (x : A) (before kept : List A) → i < n → read now ≡ Ok (x, rest)
+      → KeptSoFar read n i start now before kept → KeptSoFar read n (i + 1) start rest before (kept ++ x ∷ [])
+  unfolding further
+  further_kept n i start now rest x before kept l e s = record {
+    so_far = further n i start now rest x l e s.so_far;
+    appended = ap (λ (xs : List A). xs ++ x ∷ []) s.appended ∙ append_assoc before s.so_far.front (x ∷ []);
+  }
 
   first_of : Result (List A × List ℕ) Fault → List A
   first_of (Ok x) = x.0
@@ -50,11 +68,16 @@ module _ {A : Type 0} (read : Reader A) where
   whole_list zero bytes rest xs e = sym (ap first_of e)
   whole_list (suc n) bytes rest xs e = all_listed n (whole_list n) rest xs (read bytes) e
 
+  -- in the end all are read, and they are the listed ones
+  front_listed : (n i : ℕ) (start now : List ℕ) → n ≤ i → (s : SoFar read n i start now) → s.front ≡ listed read n start
+  front_listed n i start now l s = whole_list n start now s.front (all_read read n i s.front now _ l s.so_far)
+
   pub at_end : (n i : ℕ) (start now : List ℕ) → n ≤ i → SoFar read n i start now → elements_at read n start ≡ Ok (listed read n start, now)
-  at_end n i start now l s =
-      let e = all_read read n i s.front now _ l s.so_far in
-      let same = whole_list n start now s.front e in
-      rw (sym same) e
+  at_end n i start now l s = rw (sym (front_listed n i start now l s)) (all_read read n i s.front now _ l s.so_far)
+
+  pub kept_at_end : (n i : ℕ) (start now : List ℕ) (before kept : List A) → n ≤ i → KeptSoFar read n i start now before kept
+      → kept ≡ before ++ listed read n start
+  kept_at_end n i start now before kept l s = s.appended ∙ ap (λ (xs : List A). before ++ xs) (front_listed n i start now l s.so_far)
 
   -- ---- the first of them
 

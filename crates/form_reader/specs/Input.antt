@@ -1,10 +1,12 @@
 -- What stays in the input, as the plain values of the definitions.
-use Rattle.std.specs.Prelude.{◌≡◌, ℕ, zero, suc, Bool, true, false, List, [], ◌∷◌, Result, Ok, Err}
+use Rattle.std.specs.Prelude.{◌≡◌, ℕ, zero, suc, Bool, true, false, List, [], ◌∷◌, ◌++◌, map, Result, Ok, Err}
 use Rattle.wasm_spec.specs.Module as plain
 use Rattle.std.specs.List.{flat_map}
 use Rattle.form_data.specs.declared.form.Custom.{Custom}
-use Rattle.form_data.specs.Views.{payload_of}
+use Rattle.form_data.specs.declared.types.RecGroup.{RecGroup}
+use Rattle.form_data.specs.Views.{payload_of, group_of}
 use Rattle.form_reader.specs.Reading.{Fault, Reader}
+use Rattle.form_reader.specs.TypeRows.{group}
 use Rattle.form_reader.specs.SectionRows.{global_entry, element_segment, custom_section}
 use Rattle.form_reader.specs.declared.customs.InputCustoms.{InputCustoms}
 use Rattle.form_reader.specs.declared.input_vectors.InputVector.{InputVector}
@@ -31,6 +33,7 @@ abbrev pub vector_in : {A : Type 0} → Reader A → InputVector → List A
 vector_in read vector = listed read vector.count vector.bytes.now
 
 abbrev pub input_payload_of : InputEntries → plain.Payload
+input_payload_of (entries.Types groups) = plain.Types (vector_in group.read groups)
 input_payload_of (entries.Globals globals) = plain.Globals (vector_in global_entry.read globals)
 input_payload_of (entries.Elements elements) = plain.Elements (vector_in element_segment.read elements)
 
@@ -52,6 +55,10 @@ sections_of_part (parts.Section section) = input_section_of section ∷ []
 -- the module that a form holds
 abbrev pub input_module_of : InputForm → plain.Module
 input_module_of form = flat_map sections_of_part form.parts.items
+
+-- the groups of types that sections list stand in a list besides, after those that stood there
+abbrev pub KeepsGroups : List RecGroup → List RecGroup → plain.Module → Type 0
+KeepsGroups old new sections = map group_of new ≡ map group_of old ++ plain.groups sections
 
 -- the first of some entries is taken and the others are left, or there is none
 abbrev pub Takes : {A : Type 0} → List A → A → List A → Bool → Type 0

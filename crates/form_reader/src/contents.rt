@@ -1,9 +1,9 @@
 //! What sections hold, by their ids (core specification, 5.5, sections).
 
-ghost use Rattle.std.specs.Prelude.{◌≡◌, ◌+◌, ◌<◌, ◌^◌, length};
+ghost use Rattle.std.specs.Prelude.{◌≡◌, ◌+◌, ◌<◌, ◌^◌, [], ◌∷◌, length, IfOk};
 ghost use Rattle.wasm_spec.specs.Grammar.{order_of as spec_order_of, section_id as spec_section_id, next_order as spec_next_order};
 ghost use Rattle.form_data.specs.Views.{payload_of};
-ghost use Rattle.form_reader.specs.Input.{input_payload_of, input_section_of};
+ghost use Rattle.form_reader.specs.Input.{input_payload_of, input_section_of, KeepsGroups};
 ghost use Rattle.form_reader.specs.Reading.{Reads, whole};
 ghost use Rattle.form_reader.specs.ReadingNumbers.{unsigned_at, sized_at};
 ghost use Rattle.form_reader.specs.SectionRows.{section_contents};
@@ -12,7 +12,7 @@ use crate::cursor::Cursor;
 use crate::customs::CUSTOM;
 use crate::entity_types::TagType;
 use crate::error::ReadError;
-use crate::input::InputEntries::{self, Elements, Globals};
+use crate::input::InputEntries::{self, Elements, Globals, Types};
 use crate::input::InputSection::{self, Input, Read};
 use crate::vectors::Index;
 use form_data::{DataSegment, Element, Export, GlobalDef, Import, Payload, RecGroup, TableDef};
@@ -44,6 +44,7 @@ fn entries_id(entries: &InputEntries<'_>) -> u8
     ensures { result ≡ spec_section_id (input_payload_of entries.now) }
 {
     match entries {
+        Types(_) => 1,
         Globals(_) => 6,
         Elements(_) => 9,
     }
@@ -95,19 +96,21 @@ impl<'d> Cursor<'d> {
         Ok(number)
     }
 
-    /// What follows the id of a section that is not a custom one; it stands at `place`.
+    /// What follows the id of a section that is not a custom one; it stands at `place`. The groups of a type section are kept besides.
     #[tactic(auto, unfolding(crate::specs::SectionRows::section_contents))]
     pub fn section_contents(
         &mut self,
         alloc: Global,
         place: usize,
         id: u8,
+        groups: &mut Vec<RecGroup>,
     ) -> Result<InputSection<'d>, ReadError>
         requires { place + length self.now.rest.now < 2 ^ 30 }
-        ensures { Reads (section_contents place id).read input_section_of self.old.rest.now self.new.rest.now result }
+        ensures reads { Reads (section_contents place id).read input_section_of self.old.rest.now self.new.rest.now result }
+        ensures keeps { IfOk result (λ section. KeepsGroups groups.old.items groups.new.items (input_section_of section ∷ [])) }
     {
         match id {
-            1 => Ok(Read(Payload::Types(self.section_of::<RecGroup>(alloc)?))),
+            1 => Ok(Input(Types(self.kept_vector(alloc, groups)?))),
             2 => Ok(Read(Payload::Imports(self.section_of::<Import<'d>>(alloc)?))),
             3 => Ok(Read(Payload::Functions(self.section_of::<Index>(alloc)?))),
             4 => Ok(Read(Payload::Tables(self.section_of::<TableDef>(alloc)?))),

@@ -1,4 +1,4 @@
-//! Modules whose globals, element segments and custom sections stay in the input.
+//! Modules whose types, globals, element segments and custom sections stay in the input.
 
 ghost use Rattle.std.specs.Prelude.{◌≡◌, ◌++◌, map, IfOk, OnOk};
 ghost use Rattle.form_data.specs.Views.{payload_of};
@@ -6,12 +6,13 @@ ghost use Rattle.form_reader.specs.Input.{customs_in, input_payload_of, input_se
 
 use crate::customs::InputCustoms;
 use crate::input_vectors::InputVector;
-use form_data::{Element, GlobalDef, Payload};
+use form_data::{Element, GlobalDef, Payload, RecGroup};
 use std::alloc::{AllocError, Global};
 
 /// The entries of a section, which stay in the input, by its kind.
 #[derive(Clone, Copy)]
 pub enum InputEntries<'d> {
+    Types(InputVector<'d>),
     Globals(InputVector<'d>),
     Elements(InputVector<'d>),
 }
@@ -30,7 +31,7 @@ pub enum InputPart<'d> {
     Section(InputSection<'d>),
 }
 
-/// The sections of a module in order; its globals, element segments and custom sections stay in the input.
+/// The sections of a module in order; its types, globals, element segments and custom sections stay in the input.
 ///
 /// Of sections that are no custom ones there is at most one of each kind, and so at most 27 parts, whatever the input.
 #[derive(Drop)]
@@ -45,6 +46,9 @@ impl<'d> InputEntries<'d> {
         ensures { IfOk result (λ payload. payload_of payload ≡ input_payload_of self.entry) }
     {
         match self {
+            InputEntries::Types(groups) => {
+                Ok(Payload::Types(groups.collected::<RecGroup>(alloc)?))
+            }
             InputEntries::Globals(globals) => {
                 Ok(Payload::Globals(globals.collected::<GlobalDef>(alloc)?))
             }

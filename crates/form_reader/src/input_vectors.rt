@@ -1,6 +1,6 @@
 //! Vectors that stay in the input (core specification, 5.1, grammar).
 
-ghost use Rattle.std.specs.Prelude.{◌≡◌, ℕ, List, [], map, false, IfOk};
+ghost use Rattle.std.specs.Prelude.{◌≡◌, ◌++◌, ℕ, List, [], map, false, IfOk};
 ghost use Rattle.wasm_spec.specs.Module as plain;
 ghost use Rattle.form_data.specs.Views.{payload_of};
 ghost use Rattle.form_reader.specs.Reading.{Reader, Reads, whole};
@@ -10,6 +10,7 @@ ghost use Rattle.form_reader.specs.Input.{vector_in, input_payload_of, Takes};
 use crate::cursor::Cursor;
 use crate::error::ReadError;
 use crate::input::InputEntries;
+use crate::vectors::MOST_ROOM;
 use form_data::Payload;
 use std::alloc::{AllocError, Global};
 use std::mem;
@@ -65,6 +66,45 @@ impl<'d> Cursor<'d> {
             entry.read_into(alloc, self)?;
         }
         Ok(InputVector { count, bytes })
+    }
+
+    /// As `counted_entries`, and each entry is appended to a list as well.
+    #[tactic(auto, unfolding(crate::specs::ReadingNumbers::vector_at))]
+    fn kept_entries<E: InputEntry<'d>>(
+        &mut self,
+        alloc: Global,
+        kept: &mut Vec<E>,
+    ) -> Result<InputVector<'d>, ReadError>
+        ensures reads { Reads (vector_at E.form) (vector_in E.form) self.old.rest.now self.new.rest.now result }
+        ensures keeps { IfOk result (λ vector. map E.view kept.new.items ≡ map E.view kept.old.items ++ vector_in E.form vector) }
+    {
+        let count = self.u32()?;
+        let bytes = self.rest;
+        kept.reserve_exact((count as usize).min(bytes.len()).min(MOST_ROOM))?;
+        'entries: for _ in 0..count {
+            let mut entry = E::none(alloc);
+            entry.read_into(alloc, self)?;
+            kept.push(entry)?;
+        }
+        Ok(InputVector { count, bytes })
+    }
+
+    /// As `input_vector`, and each entry is appended to a list as well.
+    #[tactic(auto, unfolding(crate::specs::Reading::whole, crate::specs::ReadingNumbers::sized_at))]
+    pub(crate) fn kept_vector<E: InputEntry<'d>>(
+        &mut self,
+        alloc: Global,
+        kept: &mut Vec<E>,
+    ) -> Result<InputVector<'d>, ReadError>
+        ensures reads { Reads (sized_at (whole (vector_at E.form))) (vector_in E.form) self.old.rest.now self.new.rest.now result }
+        ensures keeps { IfOk result (λ vector. map E.view kept.new.items ≡ map E.view kept.old.items ++ vector_in E.form vector) }
+    {
+        let mut body = self.sized()?;
+        let vector = body.kept_entries(alloc, kept)?;
+        if !body.rest.is_empty() {
+            return Err(ReadError::Malformed);
+        }
+        Ok(vector)
     }
 
     /// A size, and a count and entries that fill it.

@@ -3,12 +3,12 @@
 ghost use Rattle.std.specs.Prelude.{◌≡◌, ◌↔◌, ◌^◌, ◌<◌, ◌≤◌, length, map, IfOk, Err};
 ghost use Rattle.std.specs.List.{flat_map};
 ghost use Rattle.wasm_spec.specs.declared.operators.What.{What};
-ghost use Rattle.wasm_spec.specs.Module.{Module, HasFewEntries};
+ghost use Rattle.wasm_spec.specs.Module.{Module, HasFewEntries, groups};
 ghost use Rattle.wasm_spec.specs.Grammar.{Spells, Stops};
 ghost use Rattle.wasm_spec.specs.Sizes.{HasShortTypes};
 ghost use Rattle.wasm_spec.specs.Interfaces.{HasNoInterfaceTypes};
-ghost use Rattle.form_data.specs.Views.{module_of, payload_of};
-ghost use Rattle.form_reader.specs.Input.{sections_of_part, input_module_of};
+ghost use Rattle.form_data.specs.Views.{module_of, payload_of, group_of};
+ghost use Rattle.form_reader.specs.Input.{sections_of_part, input_module_of, KeepsGroups};
 ghost use Rattle.form_reader.specs.Outcomes.{ReadsAs, ReadsInputAs};
 ghost use Rattle.form_reader.specs.Reading.{Gives};
 ghost use Rattle.form_reader.specs.ReadingSections.{is_component as spec_is_component, module_at};
@@ -16,7 +16,7 @@ ghost use Rattle.form_reader.specs.ReadingSections.{is_component as spec_is_comp
 use crate::error::ReadError;
 use crate::input::{InputForm, InputPart};
 use crate::sections::sections;
-use form_data::{Form, Payload};
+use form_data::{Form, Payload, RecGroup};
 use std::alloc::{AllocError, Global};
 use wasm_spec::What;
 
@@ -41,12 +41,17 @@ fn is_component(bytes: &[u8]) -> bool
 
 /// The sections after the header.
 #[tactic(auto, unfolding(crate::specs::ReadingSections::module_at))]
-fn parts_of<'d>(alloc: Global, bytes: &'d [u8]) -> Result<Vec<InputPart<'d>>, ReadError>
+fn parts_of<'d>(
+    alloc: Global,
+    bytes: &'d [u8],
+    groups: &mut Vec<RecGroup>,
+) -> Result<Vec<InputPart<'d>>, ReadError>
     requires { length bytes.now < 2 ^ 30 }
-    ensures { Gives (λ x. flat_map sections_of_part x.items) result (module_at bytes.now) }
+    ensures reads { Gives (λ x. flat_map sections_of_part x.items) result (module_at bytes.now) }
+    ensures keeps { IfOk result (λ parts. KeepsGroups groups.old.items groups.new.items (flat_map sections_of_part parts.items)) }
 {
     if bytes.starts_with(&HEADER) {
-        return sections(alloc, HEADER.len(), &bytes[HEADER.len()..]);
+        return sections(alloc, HEADER.len(), &bytes[HEADER.len()..], groups);
     }
     if is_component(bytes) {
         return Err(ReadError::Unsupported(What::Component));
@@ -65,18 +70,23 @@ fn collected<'d>(alloc: Global, parts: Vec<InputPart<'d>>) -> Result<Vec<Payload
     Ok(payloads)
 }
 
-/// The module that the bytes spell; its element segments and custom sections stay in the input.
+/// The module that the bytes spell; its types, globals, element segments and custom sections stay in the input. Its types are given
+/// besides, each read once.
 ///
 /// # Errors
 /// Those of `read_module`.
-pub fn read_input<'d>(alloc: Global, bytes: &'d [u8]) -> Result<InputForm<'d>, ReadError>
+pub fn read_input<'d>(
+    alloc: Global,
+    bytes: &'d [u8],
+) -> Result<(InputForm<'d>, Vec<RecGroup>), ReadError>
     // What is read is spelled so.
-    ensures read { IfOk result (λ form. Spells bytes.now (input_module_of form)) }
+    ensures read { IfOk result (λ r. Spells bytes.now (input_module_of r.0)) }
+    ensures groups { IfOk result (λ r. map group_of r.1.items ≡ groups (input_module_of r.0)) }
     // Custom sections of interface types are refused.
-    ensures no_interface_types { IfOk result (λ form. HasNoInterfaceTypes (input_module_of form)) }
-    ensures whole { IfOk result (λ form. form.wasm.now ≡ bytes.now) }
-    ensures few { IfOk result (λ form. HasFewEntries (input_module_of form)) }
-    ensures short { IfOk result (λ form. HasShortTypes (input_module_of form)) }
+    ensures no_interface_types { IfOk result (λ r. HasNoInterfaceTypes (input_module_of r.0)) }
+    ensures whole { IfOk result (λ r. r.0.wasm.now ≡ bytes.now) }
+    ensures few { IfOk result (λ r. HasFewEntries (input_module_of r.0)) }
+    ensures short { IfOk result (λ r. HasShortTypes (input_module_of r.0)) }
     // What is spelled is read, unless memory runs out.
     ensures complete { length bytes.now < 2 ^ 30 → (m : Module) → Spells bytes.now m → HasNoInterfaceTypes m → ReadsInputAs result m }
 
@@ -88,8 +98,9 @@ pub fn read_input<'d>(alloc: Global, bytes: &'d [u8]) -> Result<InputForm<'d>, R
     if bytes.len() >= MAX_MODULE_SIZE {
         return Err(ReadError::TooLarge);
     }
-    let parts = parts_of(alloc, bytes)?;
-    Ok(InputForm { wasm: bytes, parts })
+    let mut groups = Vec::new(alloc);
+    let parts = parts_of(alloc, bytes, &mut groups)?;
+    Ok((InputForm { wasm: bytes, parts }, groups))
 }
 
 /// The module that the bytes spell.
@@ -113,8 +124,8 @@ pub fn read_module<'d>(alloc: Global, bytes: &'d [u8]) -> Result<Form<'d>, ReadE
     ensures malformed { result ≡ Err ReadError.Malformed → (m : Module) → ¬ Spells bytes.now m }
     ensures stops_nowhere { result ≡ Err ReadError.Malformed → (what : What) → ¬ Stops bytes.now what }
 {
-    let input = read_input(alloc, bytes)?;
-    let payloads = collected(alloc, input.parts)?;
+    let (form, _groups) = read_input(alloc, bytes)?;
+    let payloads = collected(alloc, form.parts)?;
     Ok(Form {
         wasm: bytes,
         payloads,

@@ -1,8 +1,8 @@
 //! Sections, one after another (core specification, 5.5, sections).
 
-ghost use Rattle.std.specs.Prelude.{◌≡◌, ◌+◌, ◌<◌, ◌^◌, [], ◌∷◌, length, nat_eq, false};
+ghost use Rattle.std.specs.Prelude.{◌≡◌, ◌+◌, ◌<◌, ◌^◌, [], ◌∷◌, length, nat_eq, false, IfOk};
 ghost use Rattle.std.specs.List.{flat_map, starts_with};
-ghost use Rattle.form_reader.specs.Input.{input_section_of, sections_of_part};
+ghost use Rattle.form_reader.specs.Input.{input_section_of, sections_of_part, KeepsGroups};
 ghost use Rattle.form_reader.specs.Reading.{Gives, Reads};
 ghost use Rattle.form_reader.specs.ReadingSections.{all_sections_at, ReadsSections};
 ghost use Rattle.form_reader.specs.SectionRows.{section};
@@ -11,6 +11,7 @@ use crate::contents::{next_order, order_of};
 use crate::cursor::Cursor;
 use crate::error::ReadError;
 use crate::input::{InputPart, InputSection};
+use form_data::RecGroup;
 use std::alloc::Global;
 
 impl<'d> Cursor<'d> {
@@ -21,14 +22,16 @@ impl<'d> Cursor<'d> {
         alloc: Global,
         place: usize,
         next: usize,
+        groups: &mut Vec<RecGroup>,
     ) -> Result<InputSection<'d>, ReadError>
         requires small { place + length self.now.rest.now < 2 ^ 30 }
         requires other { starts_with nat_eq self.now.rest.now (0 ∷ []) ≡ false }
-        ensures { Reads (section place next).read input_section_of self.old.rest.now self.new.rest.now result }
+        ensures reads { Reads (section place next).read input_section_of self.old.rest.now self.new.rest.now result }
+        ensures keeps { IfOk result (λ section. KeepsGroups groups.old.items groups.new.items (input_section_of section ∷ [])) }
     {
         let id = self.byte()?;
         match order_of(id) {
-            Some(order) if next <= order => self.section_contents(alloc, place + 1, id),
+            Some(order) if next <= order => { self.section_contents(alloc, place + 1, id, groups) }
             _ => Err(ReadError::Malformed),
         }
     }
@@ -39,27 +42,31 @@ impl<'d> Cursor<'d> {
         alloc: Global,
         place: usize,
         next: &mut usize,
+        groups: &mut Vec<RecGroup>,
     ) -> Result<InputPart<'d>, ReadError>
         requires { place + length self.now.rest.now < 2 ^ 30 }
-        ensures { ReadsSections sections_of_part place next.old next.new self.old.rest.now self.new.rest.now result }
+        ensures reads { ReadsSections sections_of_part place next.old next.new self.old.rest.now self.new.rest.now result }
+        ensures keeps { IfOk result (λ part. KeepsGroups groups.old.items groups.new.items (sections_of_part part)) }
     {
         if self.is_at_custom() {
             return Ok(InputPart::Customs(self.customs()?));
         }
-        let section = self.section(alloc, place, *next)?;
+        let section = self.section(alloc, place, *next, groups)?;
         *next = next_order(*next, &section);
         Ok(InputPart::Section(section))
     }
 }
 
-/// The sections up to the end of the bytes, which begin at a place of the input.
+/// The sections up to the end of the bytes, which begin at a place of the input; the groups of types are kept besides.
 pub fn sections<'d>(
     alloc: Global,
     start: usize,
     bytes: &'d [u8],
+    groups: &mut Vec<RecGroup>,
 ) -> Result<Vec<InputPart<'d>>, ReadError>
     requires { start + length bytes.now < 2 ^ 30 }
-    ensures { Gives (λ x. flat_map sections_of_part x.items) result (all_sections_at start 0 bytes.now) }
+    ensures reads { Gives (λ x. flat_map sections_of_part x.items) result (all_sections_at start 0 bytes.now) }
+    ensures keeps { IfOk result (λ parts. KeepsGroups groups.old.items groups.new.items (flat_map sections_of_part parts.items)) }
 {
     let mut all = Vec::new(alloc);
     let mut cursor = Cursor { rest: bytes };
@@ -67,7 +74,7 @@ pub fn sections<'d>(
     let mut next = 0;
     'parts: while !cursor.rest.is_empty() {
         let before = cursor.rest.len();
-        let part = cursor.part(alloc, place, &mut next)?;
+        let part = cursor.part(alloc, place, &mut next, groups)?;
         place += before - cursor.rest.len();
         all.push(part)?;
     }

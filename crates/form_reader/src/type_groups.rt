@@ -1,6 +1,8 @@
 //! Composite types, subtypes and groups (core specification, 5.3, composite and recursive types).
 
+ghost use Rattle.std.specs.Prelude.{refl};
 ghost use Rattle.wasm_spec.specs.declared.types.UnpackedIndex.{UnpackedIndex};
+ghost use Rattle.wasm_spec.specs.Module as plain;
 ghost use Rattle.wasm_spec.specs.TypeData as data_of;
 ghost use Rattle.form_data.specs.Views.{composite_of, sub_type_of, group_of};
 ghost use Rattle.form_reader.specs.Reading.{Reads, first_byte_at};
@@ -9,9 +11,11 @@ ghost use Rattle.form_reader.specs.TypeRows.{function_type, composite_after, sup
 
 use crate::cursor::Cursor;
 use crate::error::ReadError;
+use crate::input::InputEntries;
+use crate::input_vectors::{InputEntry, InputVector};
 use crate::value_types::SHARED;
 use crate::vectors::Entry;
-use form_data::{CompositeInnerType, FuncType, RecGroup, SubType};
+use form_data::{CompositeInnerType, FuncType, Payload, RecGroup, SubType};
 use std::alloc::Global;
 use wasm_spec::{FieldType, UnpackedIndex, ValType, What};
 
@@ -47,27 +51,50 @@ impl<'d> Entry<'d> for SubType {
     }
 }
 
-impl<'d> Entry<'d> for RecGroup {
-    type Value = RecGroup;
-
+impl<'d> InputEntry<'d> for RecGroup {
     ghost Seen = { data_of.Group UnpackedIndex UnpackedIndex };
 
     ghost form = { group.read };
 
     ghost view = { group_of };
 
+    ghost of_section = { plain.groups_of_section };
+
+    ghost no_customs = { λ name bytes. refl };
+
+    fn in_payload<'f>(payload: &'f Payload<'d>) -> &'f [Self] {
+        match payload {
+            Payload::Types(groups) => groups.as_slice(),
+            _ => &[],
+        }
+    }
+
+    #[tactic(auto, using(crate::proofs::Listed::none_there))]
+    fn in_input(entries: InputEntries<'d>) -> InputVector<'d> {
+        match entries {
+            InputEntries::Types(groups) => groups,
+            _ => InputVector::none(),
+        }
+    }
+
+    fn none(alloc: Global) -> RecGroup {
+        RecGroup {
+            types: Vec::new(alloc),
+        }
+    }
+
     /// A subtype alone, or the members of a group.
     #[tactic(auto, unfolding(crate::specs::TypeRows::group))]
-    fn read(alloc: Global, cursor: &mut Cursor<'d>) -> Result<RecGroup, ReadError> {
+    fn read_into(&mut self, alloc: Global, cursor: &mut Cursor<'d>) -> Result<(), ReadError> {
         let first = cursor.byte()?;
         if first == GROUP {
-            let types = cursor.vector::<SubType>(alloc)?;
-            return Ok(RecGroup { types });
+            return cursor.vector_into::<SubType>(alloc, &mut self.types);
         }
         let sub_type = cursor.sub_type_after(alloc, first)?;
-        let mut types = Vec::with_capacity(alloc, 1)?;
-        types.push(sub_type)?;
-        Ok(RecGroup { types })
+        self.types.clear();
+        self.types.reserve_exact(1)?;
+        self.types.push(sub_type)?;
+        Ok(())
     }
 }
 

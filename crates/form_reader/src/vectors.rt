@@ -9,7 +9,7 @@ use crate::error::ReadError;
 use std::alloc::Global;
 
 /// The most entries that a list has room for before they are read.
-const MOST_ROOM: usize = 1024;
+pub(crate) const MOST_ROOM: usize = 1024;
 
 /// What the lists of a module are made of.
 pub trait Entry<'d> {

@@ -1,12 +1,13 @@
 //! The listed rules, checked one after another.
 
-ghost use Rattle.std.specs.Prelude.{◌≡◌, ◌↔◌, IsTrue, IfOk, OnOk, Err};
+ghost use Rattle.std.specs.Prelude.{◌≡◌, ◌↔◌, map, IsTrue, IfOk, OnOk, Err};
+ghost use Rattle.wasm_spec.specs.Module.{groups};
 ghost use Rattle.rule_spec.specs.declared.rules.Rule.{Rule};
 ghost use Rattle.form_data.specs.Views.{module_of};
-ghost use Rattle.rule_spec.specs.Lists.{lists_of_module};
+ghost use Rattle.rule_spec.specs.Lists.{declared_groups, lists_of_module};
 ghost use Rattle.rule_spec.specs.Rules.{Satisfies, Keeps, KeepsBefore};
 ghost use Rattle.form_lists.specs.Source.{source_module};
-ghost use Rattle.form_lists.specs.Views.{lists_of};
+ghost use Rattle.form_lists.specs.Views.{declared_of, lists_of};
 ghost use Rattle.form_typing.specs.Defaults.{defaults as defaults_of_types};
 ghost use Rattle.form_rules.specs.Walked.{AreElementsWalked, AreGlobalsWalked};
 ghost use Rattle.form_rules.specs.Outcomes.{ChecksOrNoMemory, HasGlobals};
@@ -23,7 +24,7 @@ use crate::start::starts_hold;
 use crate::tables::initialisers_hold;
 use crate::type_rules::{types_are_named, types_hold};
 use form_data::Form;
-use form_lists::{Lists, Source, gather_lists};
+use form_lists::{Declared, Lists, Source, declared_in_form, gather_lists};
 use form_typing::{expressions_hold, struct_defaults};
 use rule_spec::Rule;
 use std::alloc::{AllocError, Global};
@@ -54,18 +55,21 @@ pub fn check(alloc: Global, form: &Form<'_>) -> Result<(), CheckError>
     // What keeps the rules passes, unless memory runs out.
     ensures complete { Keeps (module_of form.now) → ChecksOrNoMemory result }
 {
-    checked_lists(alloc, Source::Form(form))?;
+    let types = declared_in_form(alloc, form)?;
+    checked_lists(alloc, Source::Form(form), types)?;
     Ok(())
 }
 
-/// The lists of a module that keeps the listed rules.
+/// The lists of a module that keeps the listed rules, whose declared types were gathered before.
 ///
 /// # Errors
 /// Those of `check`.
 pub fn checked_lists<'f, 'd>(
     alloc: Global,
     source: Source<'f, 'd>,
+    types: Vec<Declared<'f>>,
 ) -> Result<Lists<'f, 'd>, CheckError>
+    requires { map declared_of types.items ≡ declared_groups 0 (groups (source_module source)) }
     ensures lists { IfOk result (λ l. lists_of l ≡ lists_of_module (source_module source.entry)) }
     ensures of_source { IfOk result (λ l. l.source ≡ source.entry) }
     ensures kept { OnOk result (Keeps (source_module source.entry)) }
@@ -73,7 +77,7 @@ pub fn checked_lists<'f, 'd>(
     ensures first { (rule : Rule) → result ≡ Err (CheckError.Invalid rule) → KeepsBefore rule (source_module source.entry) }
     ensures complete { Keeps (source_module source.entry) → ChecksOrNoMemory result }
 {
-    let lists = gather_lists(alloc, source)?;
+    let lists = gather_lists(alloc, source, types)?;
     let defaults = struct_defaults(alloc, &lists)?;
     let globals = walk_globals(alloc, &lists, &defaults)?;
     let elements = walk_elements(alloc, &lists, &defaults)?;

@@ -4,6 +4,7 @@ mod Adding
 mod Decoding
 mod KeyLaws
 mod InOrder
+mod InPlace
 pub mod Steps
 mod Listing
 mod Rows

@@ -2,7 +2,7 @@
 
 ghost use Rattle.std.specs.Prelude.{◌≡◌, ◌+◌, ◌<◌, ◌^◌, length, map, IfOk, OnOk};
 ghost use Rattle.wasm_spec.specs.Sizes.{HasShortTypes};
-ghost use Rattle.wasm_spec.specs.Module.{HasFewEntries};
+ghost use Rattle.wasm_spec.specs.Module.{HasFewEntries, groups};
 ghost use Rattle.rule_spec.specs.Rules.{Keeps};
 ghost use Rattle.form_data.specs.Views.{group_of, module_of};
 ghost use Rattle.form_lists.specs.Source.{source_module};
@@ -13,12 +13,13 @@ ghost use Rattle.form_types.specs.Adding.{HasNone, HasFewIds, AddsGroup};
 use crate::canonical::CanonicalGroup;
 use crate::distinct::Distinct;
 use crate::finding::{FirstIds, find_or_note, next_key, push_row, seed_of};
-use crate::named::named_group;
+use crate::copied::groups_of_form;
+use crate::named::name_group;
 use crate::numbering::Types;
 use crate::validator::Validator;
 use entity_map::{OutOfMemory, Seeded};
 use form_data::{Form, RecGroup};
-use form_lists::{Source, entries_of};
+use form_lists::Source;
 use std::alloc::{AllocError, Global};
 use std::collections::HashMap;
 use wasm_spec::CoreTypeId;
@@ -48,24 +49,24 @@ impl Numbering {
         &mut self,
         alloc: Global,
         key: &mut CanonicalGroup,
-        group: &RecGroup,
+        mut group: RecGroup,
     ) -> Result<(), AllocError>
-        requires some { 0 < length group.now.types.items }
-        requires room { length self.old.declared.items + length group.now.types.items < 2 ^ 30 }
-        requires few { self.old.distinct.next + length group.now.types.items < 2 ^ 30 }
+        requires some { 0 < length group.types.items }
+        requires room { length self.old.declared.items + length group.types.items < 2 ^ 30 }
+        requires few { self.old.distinct.next + length group.types.items < 2 ^ 30 }
         requires ids { HasFewIds self.old.first_ids }
         requires listed { IsListed self.old.distinct (map group_of self.old.distinct.groups.items) }
-        ensures { OnOk result (AddsGroup self.old self.new (group_of group.now)) }
+        ensures { OnOk result (AddsGroup self.old self.new (group_of group.entry)) }
     {
-        let members = group.types.as_slice();
-        next_key(key, &self.declared, members)?;
+        let count = group.types.len();
+        next_key(key, &self.declared, group.types.as_slice())?;
         let next = self.distinct.next;
         match find_or_note(alloc, &mut self.first_ids, key, next)? {
-            Some(first) => push_row(&mut self.declared, first, members.len())?,
+            Some(first) => push_row(&mut self.declared, first, count)?,
             None => {
-                push_row(&mut self.declared, next, members.len())?;
-                let named = named_group(alloc, &self.declared, members)?;
-                self.distinct.push(named)?;
+                push_row(&mut self.declared, next, count)?;
+                name_group(&self.declared, group.types.as_mut_slice());
+                self.distinct.push(group)?;
             }
         }
         Ok(())
@@ -88,10 +89,11 @@ impl Types {
         ensures made { IfOk result (λ t. t.validator ≡ validator.now) }
         ensures numbered { IfOk result (AreNumbered (module_of form.now)) }
     {
-        Types::build_from(alloc, validator, Source::Form(form))
+        let groups = groups_of_form(alloc, form)?;
+        Types::build_from(alloc, validator, Source::Form(form), groups)
     }
 
-    /// The types of a module that keeps the rules, wherever its element segments are.
+    /// The types of a module that keeps the rules, of its groups. Those that are not equal to an earlier one become the groups of the list.
     ///
     /// # Errors
     /// `OutOfMemory`.
@@ -99,7 +101,9 @@ impl Types {
         alloc: Global,
         validator: &Validator,
         source: Source<'_, '_>,
+        groups: Vec<RecGroup>,
     ) -> Result<Types, OutOfMemory>
+        requires groups { map group_of groups.items ≡ groups (source_module source) }
         requires keeps { Keeps (source_module source) }
         requires few { HasFewEntries (source_module source) }
         requires short { HasShortTypes (source_module source) }
@@ -109,7 +113,7 @@ impl Types {
         let seed = seed_of(source);
         let mut numbering = Numbering::new(alloc, seed);
         let mut key = CanonicalGroup::new(alloc);
-        for group in entries_of::<RecGroup>(source) {
+        for group in groups {
             if !group.types.is_empty() {
                 numbering.add_group(alloc, &mut key, group)?;
             }

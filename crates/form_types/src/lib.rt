@@ -4,6 +4,7 @@
 mod building;
 mod canonical;
 mod codes;
+mod copied;
 mod distinct;
 mod elements;
 mod finding;

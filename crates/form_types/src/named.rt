@@ -1,15 +1,14 @@
 //! Types in which each reference is the id of what it names.
 
-ghost use Rattle.std.specs.Prelude.{◌≡◌, map, All, IsTrue, IfOk};
+ghost use Rattle.std.specs.Prelude.{◌≡◌, map, All, IsTrue};
 ghost use Rattle.std.specs.Option.{option_map};
-ghost use Rattle.wasm_spec.specs.TypeData.{heap_of, reference_of, value_of, storage_of, field_of, map_heap, map_reference, map_value, map_storage, map_field, map_function, map_composite, map_sub_type, map_group};
-ghost use Rattle.form_data.specs.Views.{function_of, composite_of, sub_type_of, group_of};
+ghost use Rattle.wasm_spec.specs.TypeData.{heap_of, reference_of, value_of, storage_of, field_of, map_heap, map_reference, map_value, map_storage, map_field, map_composite, map_sub_type, map_group};
+ghost use Rattle.form_data.specs.Views.{composite_of, sub_type_of};
 ghost use Rattle.form_types.specs.Seen.{ids_of};
 ghost use Rattle.form_types.specs.Placed.{named_index, NamesNone};
 
 use crate::seen::{id_at, place_of};
-use form_data::{CompositeInnerType, FuncType, RecGroup, SubType};
-use std::alloc::{AllocError, Global};
+use form_data::{CompositeInnerType, SubType};
 use wasm_spec::{CoreTypeId, FieldType, HeapType, RefType, StorageType, UnpackedIndex, ValType};
 
 fn named_index(ids: &[CoreTypeId], index: UnpackedIndex) -> UnpackedIndex
@@ -85,68 +84,39 @@ fn all_name_none(values: &[ValType]) -> bool
     values.iter().all(|value| names_none(value))
 }
 
-fn named_values(
-    alloc: Global,
-    ids: &[CoreTypeId],
-    values: &[ValType],
-) -> Result<Vec<ValType>, AllocError>
-    ensures { IfOk result (λ v. map value_of v.items ≡ map (map_value (named_index (ids_of ids.now))) (map value_of values.now)) }
+/// The values of a list are named where they stand.
+fn name_values(ids: &[CoreTypeId], values: &mut [ValType])
+    ensures { map value_of values.new ≡ map (map_value (named_index (ids_of ids.now))) (map value_of values.old) }
 {
-    // Most lists name no type, and are copied at once.
+    // Most lists name no type, and stay as they are.
     if all_name_none(values) {
-        let same = Vec::from_slice(alloc, values)?;
-        return Ok(same);
+        return;
     }
-    let mut named = Vec::with_capacity(alloc, values.len())?;
-    for value in values {
-        named.push(named_value(ids, *value))?;
+    for value in values.iter_mut() {
+        *value = named_value(ids, *value);
     }
-    Ok(named)
 }
 
-fn named_fields(
-    alloc: Global,
-    ids: &[CoreTypeId],
-    fields: &[FieldType],
-) -> Result<Vec<FieldType>, AllocError>
-    ensures { IfOk result (λ v. map field_of v.items ≡ map (map_field (named_index (ids_of ids.now))) (map field_of fields.now)) }
+fn name_fields(ids: &[CoreTypeId], fields: &mut [FieldType])
+    ensures { map field_of fields.new ≡ map (map_field (named_index (ids_of ids.now))) (map field_of fields.old) }
 {
-    let mut named = Vec::with_capacity(alloc, fields.len())?;
-    for field in fields {
-        named.push(named_field(ids, *field))?;
+    for field in fields.iter_mut() {
+        *field = named_field(ids, *field);
     }
-    Ok(named)
 }
 
-fn named_function(
-    alloc: Global,
-    ids: &[CoreTypeId],
-    function: &FuncType,
-) -> Result<FuncType, AllocError>
-    ensures { IfOk result (λ f. function_of f ≡ map_function (named_index (ids_of ids.now)) (function_of function.now)) }
-{
-    let params = named_values(alloc, ids, function.params.as_slice())?;
-    let results = named_values(alloc, ids, function.results.as_slice())?;
-    Ok(FuncType { params, results })
-}
-
-fn named_composite(
-    alloc: Global,
-    ids: &[CoreTypeId],
-    composite: &CompositeInnerType,
-) -> Result<CompositeInnerType, AllocError>
-    ensures { IfOk result (λ c. composite_of c ≡ map_composite (named_index (ids_of ids.now)) (named_index (ids_of ids.now)) (composite_of composite.now)) }
+fn name_composite(ids: &[CoreTypeId], composite: &mut CompositeInnerType)
+    ensures { composite_of composite.new
+        ≡ map_composite (named_index (ids_of ids.now)) (named_index (ids_of ids.now)) (composite_of composite.old) }
 {
     match composite {
-        CompositeInnerType::Func(function) => Ok(CompositeInnerType::Func(named_function(
-            alloc, ids, function,
-        )?)),
-        CompositeInnerType::Array(field) => Ok(CompositeInnerType::Array(named_field(ids, *field))),
-        CompositeInnerType::Struct(fields) => {
-            let fields = named_fields(alloc, ids, fields.as_slice())?;
-            Ok(CompositeInnerType::Struct(fields))
+        CompositeInnerType::Func(function) => {
+            name_values(ids, function.params.as_mut_slice());
+            name_values(ids, function.results.as_mut_slice());
         }
-        CompositeInnerType::Cont(index) => Ok(CompositeInnerType::Cont(named_index(ids, *index))),
+        CompositeInnerType::Array(field) => *field = named_field(ids, *field),
+        CompositeInnerType::Struct(fields) => name_fields(ids, fields.as_mut_slice()),
+        CompositeInnerType::Cont(index) => *index = named_index(ids, *index),
     }
 }
 
@@ -159,28 +129,18 @@ fn named_supertype(ids: &[CoreTypeId], supertype: Option<UnpackedIndex>) -> Opti
     }
 }
 
-fn named_sub_type(alloc: Global, ids: &[CoreTypeId], ty: &SubType) -> Result<SubType, AllocError>
-    ensures { IfOk result (λ t. sub_type_of t ≡ map_sub_type (named_index (ids_of ids.now)) (named_index (ids_of ids.now)) (sub_type_of ty.now)) }
+fn name_sub_type(ids: &[CoreTypeId], ty: &mut SubType)
+    ensures { sub_type_of ty.new ≡ map_sub_type (named_index (ids_of ids.now)) (named_index (ids_of ids.now)) (sub_type_of ty.old) }
 {
-    let composite = named_composite(alloc, ids, &ty.composite)?;
-    Ok(SubType {
-        is_final: ty.is_final,
-        supertype: named_supertype(ids, ty.supertype),
-        composite,
-    })
+    ty.supertype = named_supertype(ids, ty.supertype);
+    name_composite(ids, &mut ty.composite);
 }
 
-/// The group, in which each reference is the id of what it names.
-pub fn named_group(
-    alloc: Global,
-    ids: &[CoreTypeId],
-    types: &[SubType],
-) -> Result<RecGroup, AllocError>
-    ensures { IfOk result (λ g. group_of g ≡ map_group (named_index (ids_of ids.now)) (named_index (ids_of ids.now)) (map sub_type_of types.now)) }
+/// Each reference of a group's members becomes the id of what it names.
+pub fn name_group(ids: &[CoreTypeId], types: &mut [SubType])
+    ensures { map sub_type_of types.new ≡ map_group (named_index (ids_of ids.now)) (named_index (ids_of ids.now)) (map sub_type_of types.old) }
 {
-    let mut members = Vec::with_capacity(alloc, types.len())?;
-    for ty in types {
-        members.push(named_sub_type(alloc, ids, ty)?)?;
+    for ty in types.iter_mut() {
+        name_sub_type(ids, ty);
     }
-    Ok(RecGroup { types: members })
 }

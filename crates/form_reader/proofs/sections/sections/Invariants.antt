@@ -1,6 +1,6 @@
 use Rattle.std.proofs.Common.{◌+◌, ◌<◌, ◌^◌, length}
 use Rattle.std.specs.List.{flat_map}
-use Rattle.form_reader.specs.Input.{sections_of_part}
+use Rattle.form_reader.specs.Input.{sections_of_part, KeepsGroups}
 use Rattle.form_reader.specs.ReadingSections.{Passes}
 use Rattle.form_reader.proofs.sections.sections.Given as goal
 
@@ -8,6 +8,7 @@ abbrev pub invariant-parts : goal.invariant-parts
 invariant-parts l = record {
   small : l.place + length l.cursor.rest.now < 2 ^ 30;
   so_far : Passes l.start 0 l.bytes (flat_map sections_of_part l.all.items) l.place l.next l.cursor.rest.now;
+  keeps : KeepsGroups l.initial.groups.items l.groups.items (flat_map sections_of_part l.all.items);
 }
 
 abbrev pub decreases-parts : goal.decreases-parts

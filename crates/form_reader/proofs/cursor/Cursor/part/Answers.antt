@@ -3,18 +3,18 @@ use Rattle.form_reader.specs.Input.{input_section_of}
 use Rattle.form_reader.proofs.SectionList.{one_passes, section_shortens, section_fails}
 use Rattle.form_reader.proofs.cursor.Cursor.part.Goals as goal
 
-pub returns-then-is_at_custom : goal.returns-then-is_at_custom
-returns-then-is_at_custom c = c.in_ok-customs.ensures c.args.place c.args.next.now
+pub returns-then-is_at_custom-clause-reads : goal.returns-then-is_at_custom-clause-reads
+returns-then-is_at_custom-clause-reads c = c.in_ok-customs.ensures c.args.place c.args.next.now
 
-pub returns-in_err-section : goal.returns-in_err-section
-returns-in_err-section c =
+pub returns-in_err-section-clause-reads : goal.returns-in_err-section-clause-reads
+returns-in_err-section-clause-reads c =
     let p = err_from_is_err_and c.from_residual-in_err-section.result c.from_residual-in_err-section.ensures.1 in
-    rw (p.1, p.2) (section_fails c.in_err-section.field-0.0 c.args.place c.args.next.now c.args.self.now.rest.now c.in_err-section.ensures)
+    rw (p.1, p.2) (section_fails c.in_err-section.field-0.0 c.args.place c.args.next.now c.args.self.now.rest.now c.in_err-section.ensures.reads)
 
-pub returns : goal.returns
-returns c =
+pub returns-clause-reads : goal.returns-clause-reads
+returns-clause-reads c =
     let p = input_section_of c.in_ok-section.section in
     let rest = c.section.new.self.rest.now in (
-      rw c.next_order.ensures (one_passes c.args.place c.args.next.now c.args.self.now.rest.now p rest c.in_ok-section.ensures),
+      rw c.next_order.ensures (one_passes c.args.place c.args.next.now c.args.self.now.rest.now p rest c.in_ok-section.ensures.reads),
       section_shortens c.args.place c.args.next.now c.args.self.now.rest.now p rest c.in_ok-section.ensures,
     )

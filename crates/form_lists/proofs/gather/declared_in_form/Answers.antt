@@ -1,0 +1,1 @@
+use Rattle.form_lists.proofs.gather.declared_in_form.Goals as goal
