@@ -4,7 +4,7 @@ use Rattle.std.specs.Prelude.{All, slice_get, unwrap_or}
 use Rattle.std.specs.List.{flat_map, enumerate_from}
 use Rattle.std.specs.Option.{option_map}
 use Rattle.std.proofs.lemmas.List.{length_push, map_push}
-use Rattle.std.proofs.lemmas.List.Elements.{All-nil, All-cons, All-append, All-weaker}
+use Rattle.std.proofs.lemmas.List.Elements.{All-nil, All-cons, All-append, All-map, All-weaker}
 use Rattle.std.proofs.lemmas.Option.{none-some, same_Some, slice_get_cases, slice_get-get_or, slice_get-map}
 use Rattle.std.proofs.lemmas.Simd.{map-map}
 use Rattle.wasm_spec.specs.declared.types.UnpackedIndex.{UnpackedIndex}
@@ -18,17 +18,16 @@ use Rattle.rule_spec.specs.Lists.{Declared, declared_from, declared_groups, list
 use Rattle.rule_spec.specs.Lists as rule
 use Rattle.rule_spec.specs.References.{ValueRefersIn, BodyRefersIn}
 use Rattle.rule_spec.specs.TypeRules.{IsBelow, KindIsBelow, ValueIsBelow, IsDeclaredWell}
-use Rattle.form_lists.specs.declared.lists.Declared as types
 use Rattle.form_lists.specs.declared.lists.Lists.{Lists}
-use Rattle.form_lists.specs.Views.{declared_of, lists_of}
-use Rattle.form_lists.proofs.AllSections.{All-joined, All-parts, All-from_map}
+use Rattle.form_lists.proofs.AllSections.{All-joined, All-parts}
 use Rattle.form_lists.proofs.DeclaredLists.{length-declared_from}
+use Rattle.form_types.proofs.Ruled.{declared-types}
 use Rattle.wasm_types.specs.ValueViews.{Name, value_of as view_value}
 use Rattle.wasm_convert.specs.Conversion.{LookUp}
 use Rattle.wasm_convert.specs.Known.{Known}
 use Rattle.init_plan.specs.declared.debug_info.FunctionMetadata.{FunctionMetadata}
 use Rattle.module_environ.specs.Filling.{module_in, IsGathered, LooksUpTypes}
-use Rattle.module_environ.specs.Metadata.{FunctionData, params_of, params_at, params_of_types, function_data, view_function}
+use Rattle.module_environ.specs.Metadata.{FunctionData, params_of, KnowsParams, params_to, params_at, params_of_types, function_data, view_function}
 use Rattle.module_environ.specs.Types.{look_up_in}
 use Rattle.module_environ.proofs.Agreeing.{known-edges}
 use Rattle.module_environ.proofs.Filling.{added_more}
@@ -74,30 +73,21 @@ module _ (count : ℕ) where
       (All-weaker (IsBelow bound) (IsBelow count) (below-more bound le) (flat_map edges type.params) front)
   params-below bound _ le below = All-nil (ValueIsBelow count)
 
-module _ (m : plain.Module) (well : All (IsDeclaredWell (lists_of_module m)) (lists_of_module m).types) where
-  abbrev l : rule.Lists
-  l = lists_of_module m
-
-  abbrev HasParams : Option (Composite UnpackedIndex UnpackedIndex) → Type 0
-  HasParams kind = All (ValueIsBelow (length l.types)) (unwrap_or (option_map params_of kind) [])
-
-  kind-params : (i : ℕ) → HasParams (kind_at l i)
-  kind-params i = by (slice_get_cases l.types i).1 where
-    by : ((d : Declared) × (i < length l.types) × (slice_get l.types i ≡ Some d) × (get_or l.types i d ≡ d))
-        ⊎ ((length l.types ≤ i) × (slice_get l.types i ≡ None)) → HasParams (kind_at l i)
-    by (inl found) =
-        let d = found.0 in
-        let ends = subst (EndsBy (length l.types)) found.3 (groups-end (length l.types) 0 (plain.groups m) (omega arith) i d found.1) in
-        let is = subst (IsDeclaredWell l) found.3 (well i d found.1) in
-        subst (λ o. HasParams (option_map (λ (x : Declared). x.type.composite.inner) o)) (sym found.2)
-        (params-below (length l.types) d.group_end d.type.composite.inner ends is.indices)
-    by (inr past) =
-        subst (λ o. HasParams (option_map (λ (x : Declared). x.type.composite.inner) o)) (sym past.1) (All-nil (ValueIsBelow (length l.types)))
+-- those of each declared type
+params-declared : (m : plain.Module) → All (IsDeclaredWell (lists_of_module m)) (lists_of_module m).types
+    → All (λ type. All (ValueIsBelow (length (lists_of_module m).types)) (params_of type.composite.inner)) (plain.types m)
+params-declared m well =
+    let ds = (lists_of_module m).types in
+    let count = length ds in
+    let P : SubType UnpackedIndex UnpackedIndex → Type 0 = λ type. All (ValueIsBelow count) (params_of type.composite.inner) in
+    subst (All P) (declared-types 0 (plain.groups m)) (All-map P (λ (d : Declared). d.type) ds (λ i x lt.
+    let d = get_or ds i x in
+    params-below count d.group_end d.type.composite.inner (groups-end count 0 (plain.groups m) (omega arith) i x lt) (well i x lt).indices))
 
 -- the parameters of a function are those of the kind of its type
-pub params-found : (l : rule.Lists) (f d : ℕ) → f < length l.functions
-    → unwrap_or (option_map params_of (kind_at l (get_or l.functions f d))) [] ≡ params_at l f
-params-found l f d lt = rw (slice_get-get_or l.functions f d lt) refl
+pub params-found : (l : rule.Lists) (fs : List ℕ) (f d : ℕ) → fs ≡ l.functions → f < length fs
+    → unwrap_or (option_map params_of (kind_at l (get_or fs f d))) [] ≡ params_at l f
+params-found l fs f d same lt = rw (sym same, slice_get-get_or fs f d lt) refl
 
 module _ (look : LookUp) (l : rule.Lists) where
   abbrev looked-up : Declared → List (Value Name)
@@ -120,13 +110,13 @@ module _ (look : LookUp) (l : rule.Lists) where
   past-types t (Some d) e at = absurd (none-some (looked-up d) (sym at ∙ by-type t (Some d) e))
 
   -- of a list that has what is looked up, the entry at the type of a function
-  module _ {X : Type 0} (see : X → List (Value Name)) (xs : List X) (listed : map see xs ≡ params_of_types look l) (f t d : ℕ)
-      (lt : f < length l.functions) (is : t ≡ get_or l.functions f d) where
+  module _ {X : Type 0} (see : X → List (Value Name)) (xs : List X) (listed : map see xs ≡ params_of_types look l) (fs : List ℕ) (f t d : ℕ)
+      (same : fs ≡ l.functions) (lt : f < length fs) (is : t ≡ get_or fs f d) where
     found-at : (o : Option X) → slice_get xs t ≡ o → slice_get (params_of_types look l) t ≡ option_map see o
     found-at o e = ap (λ ys. slice_get ys t) (sym listed) ∙ slice_get-map see xs t ∙ ap (option_map see) e
 
     of-function : map (map_value look) (params-at-type t) ≡ map (map_value look) (params_at l f)
-    of-function = ap (λ n. map (map_value look) (params-at-type n)) is ∙ ap (map (map_value look)) (params-found l f d lt)
+    of-function = ap (λ n. map (map_value look) (params-at-type n)) is ∙ ap (map (map_value look)) (params-found l fs f d same lt)
 
     pub params-some : (x : X) → t < length xs → x ≡ get_or xs t x → see x ≡ map (map_value look) (params_at l f)
     params-some x within at =
@@ -168,25 +158,17 @@ module _ (lists : Lists) (gathered : IsGathered lists) where
 
     -- ---- parameters and locals can be converted
 
-    module _ (ds : List types.Declared) (read : ds ≡ lists.types.items) (k : ℕ) (d : types.Declared) (params : List ValType) (lt : k < length ds)
-        (at : d ≡ get_or ds k d) (are : map value_of params ≡ params_of (declared_of d).type.composite.inner) where
-      found : slice_get all.types k ≡ Some (declared_of d)
-      found = ap (λ (r : rule.Lists). slice_get r.types k) (sym gathered.lists)
-          ∙ slice_get-map declared_of lists.types.items k
-          ∙ ap (option_map declared_of) (ap (λ (xs : List types.Declared). slice_get xs k) (sym read) ∙ slice_get-get_or ds k d lt ∙ ap Some (sym at))
+    pub types-known : All (KnowsParams known) (plain.types m)
+    types-known =
+        All-weaker (λ (type : SubType UnpackedIndex UnpackedIndex). All (ValueIsBelow count) (params_of type.composite.inner)) (KnowsParams known)
+        (λ type. All-weaker (ValueIsBelow count) KnowsValue known-value (params_of type.composite.inner)) (plain.types m)
+        (params-declared m (gathered.keeps L1))
 
-      below : All (ValueIsBelow count) (params_of (declared_of d).type.composite.inner)
-      below = subst (λ o. All (ValueIsBelow count) (unwrap_or (option_map params_of (option_map (λ (x : Declared). x.type.composite.inner) o)) [])) found
-          (kind-params m (gathered.keeps L1) k)
-
-      pub params-known : All (λ (ty : ValType). KnowsValue (value_of ty)) params
-      params-known =
-          All-from_map KnowsValue value_of params
-          (subst (All KnowsValue) (sym are) (All-weaker (ValueIsBelow count) KnowsValue known-value (params_of (declared_of d).type.composite.inner) below))
-
-      -- what they are converted to
-      pub params-alike : map (λ (ty : ValType). map_value look (value_of ty)) params ≡ map (map_value (look_up_in m)) (params_of (declared_of d).type.composite.inner)
-      params-alike = sym (map-map (map_value look) value_of params) ∙ (λ i. map (map_value (looks.same i)) (are i))
+    -- what they are converted to
+    pub types-alike : map (params_to look) (plain.types m) ≡ params_of_types (look_up_in m) all
+    types-alike =
+        ap (map (params_to look)) (sym (declared-types 0 (plain.groups m))) ∙ map-map (params_to look) (λ (d : Declared). d.type) all.types
+        ∙ ap (λ (l : LookUp). params_of_types l all) looks.same
 
     pub locals-known : (body : Body) → BodyRefersIn count body → (runs : List (ℕ × ValType)) → runs ≡ body.locals
         → All (λ (run : ℕ × ValType). KnowsValue (value_of run.1)) runs
@@ -203,13 +185,12 @@ module _ (lists : Lists) (gathered : IsGathered lists) where
     -- so the metadata of a function is as the definition has it
     pub metadata : (n f : ℕ) (body : Body) (runs : List (ℕ × ValType)) (z : FunctionMetadata)
         → f ≡ lists.imported_functions + n → runs ≡ body.locals
-        → map view_value z.params.value.items ≡ map (map_value (look_up_in m)) (params_at (lists_of lists) f)
+        → map view_value z.params.value.items ≡ map (map_value (look_up_in m)) (params_at all f)
         → map {B = ℕ × Value Name} (λ run. (run.0, view_value run.1)) z.locals.items ≡ map (run_of look) runs
         → view_function z ≡ function_data (look_up_in m) all (n, body)
     metadata n f body runs z at listed first second =
         let place : f ≡ all.imported_functions + n = at ∙ ap (λ (r : rule.Lists). r.imported_functions + n) gathered.lists in
-        let ps = first ∙ ap (λ (r : rule.Lists). map (map_value (look_up_in m)) (params_at r f)) gathered.lists
-        ∙ ap (λ (k : ℕ). map (map_value (look_up_in m)) (params_at all k)) place in
+        let ps = first ∙ ap (λ (k : ℕ). map (map_value (look_up_in m)) (params_at all k)) place in
         let ls : map {B = ℕ × Value Name} (λ run. (run.0, view_value run.1)) z.locals.items ≡ map (run_of (look_up_in m)) body.locals =
         second ∙ (λ i. map (run_of (looks.same i)) (listed i)) in
         λ i. record { params = ps i; locals = ls i }

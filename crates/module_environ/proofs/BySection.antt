@@ -1,5 +1,5 @@
 -- The lists of a module, one section after another.
-use Rattle.std.proofs.Common.{◌≡◌, ◌∙◌, ℕ, ◌+◌, ◌<◌, List, [], ◌∷◌, ◌++◌, length, map, take, get_or, sym, ap, subst, arith}
+use Rattle.std.proofs.Common.{◌≡◌, ◌∙◌, append_assoc, ℕ, ◌+◌, ◌<◌, List, [], ◌∷◌, ◌++◌, length, map, take, get_or, sym, ap, subst, arith}
 use Rattle.std.specs.Prelude.{All}
 use Rattle.std.specs.List.{flat_map}
 use Rattle.std.proofs.lemmas.List.{append-nil, length-map, map_more, map_push, take_more, get_or-map}
@@ -14,6 +14,18 @@ at-item P view xs i x lt is all =
 pub item-more : {X Y : Type 0} (view : X → Y) (xs : List X) (i : ℕ) (x : X) → i < length xs → x ≡ get_or xs i x
     → map view (take (i + 1) xs) ≡ map view (take i xs) ++ view x ∷ []
 item-more {X} view xs i x lt is = map_more view xs i x lt ∙ ap (λ (y : X). map view (take i xs) ++ view y ∷ []) (sym is)
+
+-- what is made of one item more is added
+pub made-more : {X Y Z W : Type 0} (see : Z → W) (made : Y → W) (view : X → Y) (start now after : List Z) (z : Z) (xs : List X) (i : ℕ) (x : X)
+    → i < length xs → x ≡ get_or xs i x → see z ≡ made (view x) → after ≡ now ++ z ∷ []
+    → map see now ≡ map see start ++ map made (map view (take i xs)) → map see after ≡ map see start ++ map made (map view (take (i + 1) xs))
+made-more {W = W} see made view start now after z xs i x lt at is pushed before =
+    let front = map view (take i xs) in
+    let more = ap (map made) (item-more view xs i x lt at) ∙ map_push made front (view x) in
+    ap (map see) pushed ∙ map_push see now z
+    ∙ (λ k. before k ++ is k ∷ [])
+    ∙ append_assoc (map see start) (map made front) (made (view x) ∷ [])
+    ∙ ap (λ (ws : List W). map see start ++ ws) (sym more)
 
 -- what one section more gives
 pub section-push : {X Y A : Type 0} (f : Y → List A) (view : X → Y) (xs : List X) (x : X)

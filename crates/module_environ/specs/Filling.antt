@@ -31,9 +31,9 @@ use Rattle.module_environ.specs.Translation.{CountsImports, NeedsHeap, HasGlobal
 abbrev pub module_in : Lists → plain.Module
 module_in l = source_module l.source
 
--- the lists are those of a module that keeps the rules and has few entries
+-- the lists are those of a module that keeps the rules and has few entries, but for its types, for which nothing asks any more
 pub record IsGathered (l : Lists) : Type 0 where
-  pub lists : lists_of l ≡ lists_of_module (module_in l)
+  pub lists : lists_of l ≡ record (lists_of_module (module_in l)) { types = [] }
   pub keeps : Keeps (module_in l)
   pub few : HasFewEntries (module_in l)
 

@@ -1,14 +1,15 @@
 -- The metadata of the functions that a module defines: their parameters, and their locals in runs of one type (core specification, 2.5, functions).
-use Rattle.std.specs.Prelude.{ℕ, ◌+◌, Bool, List, [], map, unwrap_or, if◌then◌else◌}
+use Rattle.std.specs.Prelude.{ℕ, ◌+◌, Bool, List, [], map, All, unwrap_or, if◌then◌else◌}
 use Rattle.std.specs.List.{enumerate_from}
 use Rattle.std.specs.Option.{option_map}
 use Rattle.wasm_spec.specs.declared.types.UnpackedIndex.{UnpackedIndex}
-use Rattle.wasm_spec.specs.TypeData.{Value, Composite, Func, value_of, map_value}
+use Rattle.wasm_spec.specs.TypeData.{Value, Composite, Func, SubType, value_edges, value_of, map_value}
 use Rattle.wasm_spec.specs.Module.{Body}
 use Rattle.rule_spec.specs.Lists.{Lists, Declared}
 use Rattle.rule_spec.specs.Indices.{kind_of_function}
 use Rattle.wasm_types.specs.ValueViews.{Name, value_of as view_value}
 use Rattle.wasm_convert.specs.Conversion.{LookUp}
+use Rattle.wasm_convert.specs.Known.{Known}
 use Rattle.init_plan.specs.declared.debug_info.FunctionMetadata.{FunctionMetadata}
 
 pub record FunctionData : Type 0 where
@@ -21,6 +22,14 @@ abbrev pub params_of : Composite UnpackedIndex UnpackedIndex → List (Value Unp
 params_of (Func type) = type.params
 params_of _ = []
 
+-- the types that those of a declared type name are known
+abbrev pub KnowsParams : (UnpackedIndex → Type 0) → SubType UnpackedIndex UnpackedIndex → Type 0
+KnowsParams known type = All (λ v. Known known (value_edges (λ i. i) v)) (params_of type.composite.inner)
+
+-- what they are looked up to
+abbrev pub params_to : LookUp → SubType UnpackedIndex UnpackedIndex → List (Value Name)
+params_to look type = map (map_value look) (params_of type.composite.inner)
+
 -- those of a function of the index space
 abbrev pub params_at : Lists → ℕ → List (Value UnpackedIndex)
 params_at l function = unwrap_or (option_map params_of (kind_of_function l function)) []
@@ -29,7 +38,7 @@ params_at l function = unwrap_or (option_map params_of (kind_of_function l funct
 module _ (look : LookUp) (l : Lists) where
   -- the parameters of each declared type
   abbrev pub params_of_types : List (List (Value Name))
-  params_of_types = map (λ (d : Declared). map (map_value look) (params_of d.type.composite.inner)) l.types
+  params_of_types = map (λ (d : Declared). params_to look d.type) l.types
 
   -- of a defined function, by its number among those, and its body
   abbrev pub function_data : ℕ × Body → FunctionData

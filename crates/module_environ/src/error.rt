@@ -5,6 +5,7 @@ ghost use Rattle.module_environ.specs.Errors.{error_of_read, error_of_check, err
 ghost use Rattle.module_environ.specs.declared.error.EnvironError.TheVariants as refusal;
 
 use form_reader::ReadError;
+use std::alloc::AllocError;
 use form_rules::CheckError;
 use module_types::BuildError;
 use rule_spec::Rule;
@@ -66,6 +67,14 @@ impl From<BuildError> for EnvironError {
             BuildError::OutOfMemory => EnvironError::OutOfMemory,
             BuildError::Poisoned => EnvironError::Poisoned,
         }
+    }
+}
+
+impl From<AllocError> for EnvironError {
+    ghost from_gives = { λ _ error. error ≡ refusal.OutOfMemory };
+
+    fn from(_e: AllocError) -> EnvironError {
+        EnvironError::OutOfMemory
     }
 }
 

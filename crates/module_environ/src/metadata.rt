@@ -1,19 +1,18 @@
 //! The metadata of the functions that a module defines.
 
-ghost use Rattle.std.specs.Prelude.{◌≡◌, ℕ, ◌<◌, length, map, All, IfOk};
+ghost use Rattle.std.specs.Prelude.{◌≡◌, ℕ, ◌<◌, ◌++◌, length, map, All, IfOk, OnOk};
 ghost use Rattle.wasm_spec.specs.TypeData.{Value, value_edges, map_value, value_of};
 ghost use Rattle.rule_spec.specs.Lists.{lists_of_module};
-ghost use Rattle.form_data.specs.Views.{composite_of};
-ghost use Rattle.form_lists.specs.Views.{lists_of};
+ghost use Rattle.form_data.specs.Views.{composite_of, group_of};
 ghost use Rattle.wasm_types.specs.ValueViews.{Name, value_of as view_value};
 ghost use Rattle.wasm_convert.specs.Known.{Known};
 ghost use Rattle.module_environ.specs.Filling.{module_in, IsGathered, LooksUpTypes};
-ghost use Rattle.module_environ.specs.Metadata.{params_of, params_at, params_of_types, view_function, functions_asked};
+ghost use Rattle.module_environ.specs.Metadata.{params_of, KnowsParams, params_to, params_at, params_of_types, view_function, functions_asked};
 ghost use Rattle.module_environ.specs.Types.{look_up_in};
 
 use entity_map::OutOfMemory;
-use form_data::{CompositeInnerType, FunctionBody};
-use form_lists::{Lists, entries_of};
+use form_data::{CompositeInnerType, FunctionBody, RecGroup};
+use form_lists::{Lists, entries_of, walk_of};
 use init_plan::FunctionMetadata;
 use std::alloc::Global;
 use std::rc::Rc;
@@ -57,14 +56,32 @@ fn params_by_type(
     requires gathered { IsGathered lists.now }
     requires looks { LooksUpTypes (module_in lists.now) (knows env.now) (look_up env.now) }
     ensures { IfOk result (λ all. map (λ params. map view_value params.value.items) all.items
-        ≡ params_of_types (look_up_in (module_in lists.now)) (lists_of lists.now)) }
+        ≡ params_of_types (look_up_in (module_in lists.now)) (lists_of_module (module_in lists.now))) }
 {
-    let mut all = Vec::with_capacity(alloc, lists.types.len())?;
-    for declared in &lists.types {
-        let params = convert_types(alloc, env, kind_params(&declared.ty.composite))?;
-        all.push(shared(alloc, params)?)?;
+    let mut all = Vec::new(alloc);
+    let mut groups = walk_of::<RecGroup>(alloc, lists.source);
+    while groups.advance()? {
+        add_params(alloc, env, &mut all, groups.entry())?;
     }
     Ok(all)
+}
+
+/// Adds the parameters of each member of a group.
+fn add_params(
+    alloc: Global,
+    env: &dyn TypeConvert,
+    all: &mut Vec<Rc<Vec<WasmValType>>>,
+    group: &RecGroup,
+) -> Result<(), OutOfMemory>
+    requires { All (KnowsParams (knows env.now)) (group_of group.now) }
+    ensures { OnOk result (map (λ params. map view_value params.value.items) all.new.items
+        ≡ map (λ params. map view_value params.value.items) all.old.items ++ map (params_to (look_up env.now)) (group_of group.now)) }
+{
+    for ty in &group.types {
+        let params = convert_types(alloc, env, kind_params(&ty.composite))?;
+        all.push(shared(alloc, params)?)?;
+    }
+    Ok(())
 }
 
 /// The list, which may have several owners now.
@@ -84,11 +101,12 @@ fn function_params(
     by_type: &[Rc<Vec<WasmValType>>],
     function: usize,
 ) -> Result<Rc<Vec<WasmValType>>, OutOfMemory>
+    requires gathered { IsGathered lists.now }
     requires there { function < length lists.now.spaces.functions.items }
     requires by_type { map (λ params. map view_value params.value.items) by_type.now
-        ≡ params_of_types (look_up_in (module_in lists.now)) (lists_of lists.now) }
+        ≡ params_of_types (look_up_in (module_in lists.now)) (lists_of_module (module_in lists.now)) }
     ensures { IfOk result (λ params. map view_value params.value.items
-        ≡ map (map_value (look_up_in (module_in lists.now))) (params_at (lists_of lists.now) function)) }
+        ≡ map (map_value (look_up_in (module_in lists.now))) (params_at (lists_of_module (module_in lists.now)) function)) }
 {
     match by_type.get(lists.spaces.functions[function] as usize) {
         Some(params) => Ok(params.clone()?),
@@ -112,7 +130,7 @@ fn convert_types(
     types: &[ValType],
 ) -> Result<Vec<WasmValType>, OutOfMemory>
     requires { All (λ ty. Known (knows env.now) (value_edges (λ i. i) (value_of ty))) types.now }
-    ensures { IfOk result (λ converted. map view_value converted.items ≡ map (λ ty. map_value (look_up env.now) (value_of ty)) types.now) }
+    ensures { IfOk result (λ converted. map view_value converted.items ≡ map (map_value (look_up env.now)) (map value_of types.now)) }
 {
     // The borrow checker wants the types on the way to an index by name.
     let _named: Option<(WasmRefType, WasmHeapType, EngineOrModuleTypeIndex)> = None;

@@ -1,9 +1,10 @@
 //! The translation of a module: its bytes are read and checked, and each section becomes a part of the record.
 
 ghost use Rattle.std.specs.Prelude.{◌≡◌, ◌≢◌, ◌⊎◌, ◌^◌, ◌≤◌, ◌&&◌, length, map, true, false, is_none, IfOk, IfErr, OnOk, OnErr, Err};
-ghost use Rattle.wasm_spec.specs.Module.{Module, imports, function_import, HasFewEntries};
+ghost use Rattle.wasm_spec.specs.Module.{Module, groups, imports, function_import, HasFewEntries};
 ghost use Rattle.wasm_spec.specs.Sizes.{HasShortTypes};
 ghost use Rattle.rule_spec.specs.Rules.{Keeps};
+ghost use Rattle.form_data.specs.Views.{group_of};
 ghost use Rattle.form_lists.specs.Source.{source_module};
 ghost use Rattle.form_types.specs.Placed.{placed_groups};
 ghost use Rattle.form_types.specs.Types.{TypesData};
@@ -32,7 +33,8 @@ use crate::sections::fill_sections;
 use crate::tags::convert_tags;
 use crate::types::intern_types;
 use entity_map::{OutOfMemory, PrimaryMap};
-use form_lists::{Lists, Source};
+use form_data::RecGroup;
+use form_lists::{Lists, Source, declared_types};
 use form_reader::read_input;
 use form_rules::checked_lists;
 use form_types::{Types, Validator};
@@ -106,7 +108,7 @@ fn translation_of<'d>(
     ensures stays_poisoned { types.old.is_poisoned ≡ true → types.new ≡ types.old }
     ensures stops { OnErr result (StopsOnTheWay validator.now bytes.now types.old types.new) }
 {
-    let form = read_input(alloc, bytes)?;
+    let (form, groups) = read_input(alloc, bytes)?;
     let mut translation = ModuleTranslation::new(alloc, module_index)?;
     if let Err(error) = translate_form(
         alloc,
@@ -114,6 +116,7 @@ fn translation_of<'d>(
         validator,
         types,
         Source::Input(&form),
+        groups,
         &mut translation,
     ) {
         // Dropped by one call, not field by field at each exit.
@@ -142,8 +145,10 @@ fn translate_form<'d>(
     validator: &Validator,
     types: &mut ModuleTypesBuilder,
     source: Source<'_, 'd>,
+    groups: Vec<RecGroup>,
     translation: &mut ModuleTranslation<'d>,
 ) -> Result<(), EnvironError>
+    requires groups { map group_of groups.items ≡ groups (source_module source) }
     requires few { HasFewEntries (source_module source) }
     requires short { HasShortTypes (source_module source) }
     requires new { IsNewTranslation translation.old.module.module_index translation.old }
@@ -158,8 +163,11 @@ fn translate_form<'d>(
     ensures stops { types.new.is_poisoned ≡ false
         → (types.new ≡ types.old) ⊎ (Keeps (source_module source.entry) × IsOnTheWay (source_module source.entry) validator.now (builder_view types.new)) }
 {
-    let lists = checked_lists(alloc, source)?;
-    translate_lists(alloc, tunables, validator, types, &lists, translation)
+    let declared = declared_types(alloc, groups.as_slice())?;
+    let checked = checked_lists(alloc, source, declared)?;
+    // The rules asked for the types, and nothing does from here on: the groups become those of the list of types.
+    let lists = checked.without_types(alloc, source);
+    translate_lists(alloc, tunables, validator, types, &lists, groups, translation)
 }
 
 /// Fills an empty translation with all of a module that keeps the rules, but its bytes and its code.
@@ -169,8 +177,10 @@ fn translate_lists<'d>(
     validator: &Validator,
     types: &mut ModuleTypesBuilder,
     lists: &Lists<'_, 'd>,
+    groups: Vec<RecGroup>,
     translation: &mut ModuleTranslation<'d>,
 ) -> Result<(), EnvironError>
+    requires groups { map group_of groups.items ≡ groups (module_in lists.now) }
     requires gathered { IsGathered lists.now }
     requires short { HasShortTypes (module_in lists.now) }
     requires new { IsNewTranslation translation.old.module.module_index translation.old }
@@ -186,7 +196,7 @@ fn translate_lists<'d>(
     if types.is_poisoned() {
         return Err(EnvironError::Poisoned);
     }
-    let ids = Types::build_from(alloc, validator, lists.source)?;
+    let ids = Types::build_from(alloc, validator, lists.source, groups)?;
     let indices = intern_types(alloc, &ids, types)?;
     fill_lists(alloc, tunables, types, lists, &indices, translation)?;
     translation.module.tags = convert_tags(alloc, lists.spaces.tags.as_slice(), &indices, types)?;

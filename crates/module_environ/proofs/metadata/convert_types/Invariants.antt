@@ -7,4 +7,4 @@ use Rattle.module_environ.proofs.metadata.convert_types.Given as goal
 abbrev pub invariant-loop-ty : goal.invariant-loop-ty
 invariant-loop-ty g l =
     map view_value l.converted.items
-    ≡ map (λ ty. map_value ((goal.TypeConvert-dyn g l.env.now).look_up l.env.now.1) (value_of ty)) (take l.ty-index l.types)
+    ≡ map (map_value ((goal.TypeConvert-dyn g l.env.now).look_up l.env.now.1)) (map value_of (take l.ty-index l.types))

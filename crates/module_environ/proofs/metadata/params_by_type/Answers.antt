@@ -1,46 +1,51 @@
-use Rattle.std.proofs.Common.{◌∙◌, List, [], ◌∷◌, ◌++◌, map, sym, ap}
-use Rattle.std.specs.Global.{Vec}
-use Rattle.std.proofs.lemmas.List.{map_push, take_all}
-use Rattle.std.proofs.lemmas.Simd.{map-map}
-use Rattle.rule_spec.specs.Lists as rule
-use Rattle.form_lists.specs.declared.lists.Declared.{Declared}
-use Rattle.form_lists.specs.Views.{declared_of}
-use Rattle.wasm_spec.specs.TypeData.{Value, map_value}
-use Rattle.wasm_types.specs.declared.value.WasmValType.{WasmValType}
-use Rattle.wasm_types.specs.ValueViews.{Name, value_of as view_value}
-use Rattle.module_environ.specs.Filling.{module_in}
-use Rattle.module_environ.specs.Metadata.{params_of}
-use Rattle.module_environ.specs.Types.{look_up_in}
-use Rattle.module_environ.proofs.AlikeFunctions.{params-known, params-alike}
-use Rattle.module_environ.proofs.BySection.{item-more}
+use Rattle.std.proofs.Common.{◌∙◌, List, ◌++◌, All, map, sym, ap, subst}
+use Rattle.std.proofs.lemmas.List.{append-nil, map-append}
+use Rattle.form_data.specs.Views.{group_of}
+use Rattle.form_lists.proofs.AllSections.{All-joined}
+use Rattle.form_lists.proofs.Taking.{taken, none_left}
+use Rattle.form_types.specs.Types.{NamedGroup, types_by_id}
+use Rattle.wasm_types.specs.ValueViews.{value_of as view_value}
+use Rattle.module_environ.specs.Metadata.{KnowsParams, params_to}
+use Rattle.module_environ.proofs.AlikeFunctions.{types-known, types-alike}
+use Rattle.module_environ.proofs.Filling.{added_more}
 use Rattle.module_environ.proofs.metadata.params_by_type.Goals as goal
 
-pub convert_types-requires : goal.convert_types-requires
-convert_types-requires g c =
-    let look = goal.TypeConvert-dyn g c.args.env.now in
-    params-known c.args.lists.now c.requires.gathered (look.knows c.args.env.now.1) (look.look_up c.args.env.now.1) c.requires.looks
-    c.deref-declared-items.result.now c.deref-declared-items.ensures.value c.loop-declared.declared-index c.declared-item.result
-    c.kind_params.result.now c.loop-declared-test.true c.declared-item.is c.kind_params.ensures
+pub loop-groups-init : goal.loop-groups-init
+loop-groups-init g c =
+    let env = goal.TypeConvert-dyn g c.args.env.now in
+    let knows = env.knows c.args.env.now.1 in
+    let look = env.look_up c.args.env.now.1 in
+    let none = c.new-all.ensures.items in
+    let start = ap types_by_id c.walk_of-groups.ensures in
+    record {
+      known = subst (All (KnowsParams knows)) (sym start) (types-known c.args.lists.now c.requires.gathered knows look c.requires.looks);
+      params = λ i. map (λ params. map view_value params.value.items) (none i) ++ map (params_to look) (start i);
+    }
 
-pub loop-declared-preserved : goal.loop-declared-preserved
-loop-declared-preserved g c =
-    let look = goal.TypeConvert-dyn g c.args.env.now in
-    let m = module_in c.args.lists.now in
-    let made : Declared → List (Value Name) = λ d. map (map_value (look_up_in m)) (params_of (declared_of d).type.composite.inner) in
-    let one = ap (λ (ps : Vec WasmValType). map view_value ps.items) c.in_ok-shared.ensures
-    ∙ c.in_ok-params.ensures
-    ∙ params-alike c.args.lists.now c.requires.gathered (look.knows c.args.env.now.1) (look.look_up c.args.env.now.1) c.requires.looks
-    c.deref-declared-items.result.now c.deref-declared-items.ensures.value c.loop-declared.declared-index c.declared-item.result
-    c.kind_params.result.now c.loop-declared-test.true c.declared-item.is c.kind_params.ensures in
-    ap (map (λ params. map view_value params.value.items)) c.in_ok-push.ensures.items
-    ∙ map_push (λ params. map view_value params.value.items) c.loop-declared.all.items c.in_ok-shared.field-0
-    ∙ (λ i. c.loop-declared.invariant i ++ one i ∷ [])
-    ∙ sym (item-more made c.deref-declared-items.result.now c.loop-declared.declared-index c.declared-item.result c.loop-declared-test.true c.declared-item.is)
+pub add_params-requires : goal.add_params-requires
+add_params-requires g c =
+    let known = KnowsParams ((goal.TypeConvert-dyn g c.args.env.now).knows c.args.env.now.1) in
+    let at = ap types_by_id (taken _ _ _ _ _ c.if-branch.true c.in_ok-advance.ensures c.entry.ensures) in
+    ((All-joined known (group_of c.entry.result.now) _).0 (subst (All known) at c.loop-groups.invariant.known)).0
+
+pub loop-groups-preserved : goal.loop-groups-preserved
+loop-groups-preserved g c =
+    let env = goal.TypeConvert-dyn g c.args.env.now in
+    let known = KnowsParams (env.knows c.args.env.now.1) in
+    let made = params_to (env.look_up c.args.env.now.1) in
+    let group = group_of c.entry.result.now in
+    let at = ap types_by_id (taken _ _ _ _ _ c.if-branch.true c.in_ok-advance.ensures c.entry.ensures) in
+    record {
+      known = ((All-joined known group _).0 (subst (All known) at c.loop-groups.invariant.known)).1;
+      params = added_more _ _ (map made group) _ _ _ c.in_ok-add_params.ensures (ap (map made) at ∙ map-append made group _) c.loop-groups.invariant.params;
+    }
 
 pub returns : goal.returns
 returns g c =
-    let m = module_in c.args.lists.now in
-    let made : Declared → List (Value Name) = λ d. map (map_value (look_up_in m)) (params_of (declared_of d).type.composite.inner) in
-    c.loop-declared.invariant
-    ∙ ap (map made) (take_all c.loop-declared.declared-index c.deref-declared-items.result.now c.loop-declared-test.false ∙ c.deref-declared-items.ensures.value)
-    ∙ sym (map-map (λ (d : rule.Declared). map (map_value (look_up_in m)) (params_of d.type.composite.inner)) declared_of c.args.lists.now.types.items)
+    let env = goal.TypeConvert-dyn g c.args.env.now in
+    let look = env.look_up c.args.env.now.1 in
+    let all = map (λ params. map view_value params.value.items) c.loop-groups.all.items in
+    sym (append-nil all)
+    ∙ ap (λ (gs : List NamedGroup). all ++ map (params_to look) (types_by_id gs)) (sym (none_left _ _ _ _ c.if-branch.false c.in_ok-advance.ensures))
+    ∙ c.loop-groups.invariant.params
+    ∙ types-alike c.args.lists.now c.requires.gathered (env.knows c.args.env.now.1) look c.requires.looks

@@ -1,14 +1,26 @@
-use Rattle.std.proofs.Common.{◌≡◌, map, take}
-use Rattle.wasm_spec.specs.TypeData.{map_value}
+use Rattle.std.proofs.Common.{◌≡◌, ◌++◌, length, map, All}
+use Rattle.wasm_spec.specs.Module.{types, groups_of_section}
+use Rattle.form_data.specs.Views.{group_of}
+use Rattle.form_reader.specs.TypeRows.{group}
+use Rattle.form_lists.specs.Walk.{walk_left}
+use Rattle.form_types.specs.Types.{types_by_id}
 use Rattle.wasm_types.specs.ValueViews.{value_of as view_value}
-use Rattle.form_lists.specs.Views.{declared_of}
 use Rattle.module_environ.specs.Filling.{module_in}
-use Rattle.module_environ.specs.Metadata.{params_of}
-use Rattle.module_environ.specs.Types.{look_up_in}
+use Rattle.module_environ.specs.Metadata.{KnowsParams, params_to}
 use Rattle.module_environ.proofs.metadata.params_by_type.Given as goal
 
--- the parameters of the types so far
-abbrev pub invariant-loop-declared : goal.invariant-loop-declared
-invariant-loop-declared g l =
-    map (λ params. map view_value params.value.items) l.all.items
-    ≡ map (λ d. map (map_value (look_up_in (module_in l.lists))) (params_of (declared_of d).type.composite.inner)) (take l.declared-index l.declared-items)
+-- with the parameters of the groups that are left, all are there
+abbrev pub invariant-loop-groups : goal.invariant-loop-groups
+invariant-loop-groups g l =
+    let env = goal.TypeConvert-dyn g l.env.now in
+    let look = env.look_up l.env.now.1 in
+    let left = types_by_id (walk_left group.read group_of groups_of_section l.groups) in
+    record {
+      known : All (KnowsParams (env.knows l.env.now.1)) left;
+      params : map (λ params. map view_value params.value.items) l.all.items ++ map (params_to look) left
+          ≡ map (params_to look) (types (module_in l.lists));
+    }
+
+-- the groups that are left
+abbrev pub decreases-loop-groups : goal.decreases-loop-groups
+decreases-loop-groups g l = length (walk_left group.read group_of groups_of_section l.groups)

@@ -1,7 +1,10 @@
-use Rattle.std.proofs.Common.{inl, inr, ap, subst}
+use Rattle.std.proofs.Common.{◌∙◌, [], inl, inr, sym, ap, subst}
 use Rattle.std.specs.Prelude.{OnOk}
 use Rattle.std.proofs.lemmas.Result.{err_from_is_err_and}
 use Rattle.wasm_spec.specs.Module as plain
+use Rattle.wasm_spec.specs.Module.{HasFewEntries}
+use Rattle.rule_spec.specs.Lists as rule
+use Rattle.rule_spec.specs.Lists.{lists_of_module}
 use Rattle.rule_spec.specs.Rules.{Keeps}
 use Rattle.form_lists.specs.Source.{source_module}
 use Rattle.module_types.specs.Builder.{builder_view}
@@ -19,9 +22,19 @@ returns-in_err-lists-clause-cause c =
 
 -- ---- the lists were checked
 
+pub translate_lists-requires-clause-gathered : goal.translate_lists-requires-clause-gathered
+translate_lists-requires-clause-gathered c =
+    let same = ap source_module (c.forget_types.ensures.of_source ∙ c.in_ok-lists.ensures.of_source) in
+    record {
+      lists = c.forget_types.ensures.lists
+          ∙ ap (λ (l : rule.Lists). record l { types = [] }) (c.in_ok-lists.ensures.lists ∙ ap lists_of_module (sym same));
+      keeps = subst Keeps (sym same) c.in_ok-lists.ensures.kept;
+      few = subst HasFewEntries (sym same) c.requires.few;
+    }
+
 pub returns-clause-formed : goal.returns-clause-formed
 returns-clause-formed c =
-    let same = ap source_module c.in_ok-lists.ensures.of_source in
+    let same = ap source_module (c.forget_types.ensures.of_source ∙ c.in_ok-lists.ensures.of_source) in
     subst (λ (m : plain.Module). OnOk c.translate_lists.result
     (IsFormed c.args.tunables.now c.args.validator.now m c.args.translation.now c.translate_lists.new.translation c.translate_lists.new.types)) same
     c.translate_lists.ensures.formed
@@ -42,7 +55,7 @@ returns-clause-refused c =
 pub returns-clause-stops : goal.returns-clause-stops
 returns-clause-stops c =
     let m = source_module c.args.source in
-    let same = ap source_module c.in_ok-lists.ensures.of_source in
+    let same = ap source_module (c.forget_types.ensures.of_source ∙ c.in_ok-lists.ensures.of_source) in
     let P : Type 0 = Keeps m × IsOnTheWay m c.args.validator.now (builder_view c.translate_lists.new.types) in
     stops-anyhow c.args.types.now c.translate_lists.new.types P (λ is. (c.translate_lists.ensures.poisoned is).1) (λ was sound.
     elim (c.translate_lists.ensures.stops was sound) [
