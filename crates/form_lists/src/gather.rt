@@ -49,7 +49,7 @@ pub fn gather_lists<'f, 'd>(
 }
 
 /// The types that some groups declare, in the order of their indices.
-pub fn declared_types<'f>(
+pub fn types_of_groups<'f>(
     alloc: Global,
     groups: &'f [RecGroup],
 ) -> Result<Vec<Declared<'f>>, AllocError>
@@ -61,7 +61,7 @@ pub fn declared_types<'f>(
 }
 
 /// The types that a form declares, in the order of their indices.
-pub fn declared_in_form<'f>(
+pub fn types_of_form<'f>(
     alloc: Global,
     form: &'f Form<'_>,
 ) -> Result<Vec<Declared<'f>>, AllocError>

@@ -24,7 +24,7 @@ use crate::start::starts_hold;
 use crate::tables::initialisers_hold;
 use crate::type_rules::{types_are_named, types_hold};
 use form_data::Form;
-use form_lists::{Declared, Lists, Source, declared_in_form, gather_lists};
+use form_lists::{Declared, Lists, Source, types_of_form, gather_lists};
 use form_typing::{expressions_hold, struct_defaults};
 use rule_spec::Rule;
 use std::alloc::{AllocError, Global};
@@ -55,7 +55,7 @@ pub fn check(alloc: Global, form: &Form<'_>) -> Result<(), CheckError>
     // What keeps the rules passes, unless memory runs out.
     ensures complete { Keeps (module_of form.now) → ChecksOrNoMemory result }
 {
-    let types = declared_in_form(alloc, form)?;
+    let types = types_of_form(alloc, form)?;
     checked_lists(alloc, Source::Form(form), types)?;
     Ok(())
 }

@@ -34,7 +34,7 @@ use crate::tags::convert_tags;
 use crate::types::intern_types;
 use entity_map::{OutOfMemory, PrimaryMap};
 use form_data::RecGroup;
-use form_lists::{Lists, Source, declared_types};
+use form_lists::{Lists, Source, types_of_groups};
 use form_reader::read_input;
 use form_rules::checked_lists;
 use form_types::{Types, Validator};
@@ -163,7 +163,7 @@ fn translate_form<'d>(
     ensures stops { types.new.is_poisoned ≡ false
         → (types.new ≡ types.old) ⊎ (Keeps (source_module source.entry) × IsOnTheWay (source_module source.entry) validator.now (builder_view types.new)) }
 {
-    let declared = declared_types(alloc, groups.as_slice())?;
+    let declared = types_of_groups(alloc, groups.as_slice())?;
     let checked = checked_lists(alloc, source, declared)?;
     // The rules asked for the types, and nothing does from here on: the groups become those of the list of types.
     let lists = checked.without_types(alloc, source);

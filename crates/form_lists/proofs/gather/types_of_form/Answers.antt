@@ -1,0 +1,1 @@
+use Rattle.form_lists.proofs.gather.types_of_form.Goals as goal
