@@ -1,10 +1,20 @@
+use Rattle.std.proofs.Common.{◌++◌, ◌∙◌, map, refl, sym, ap}
+use Rattle.std.proofs.lemmas.List.{append-nil}
 use Rattle.std.proofs.lemmas.Result.{err_from_is_err_and}
+use Rattle.wasm_spec.specs.Module.{groups_of_section}
+use Rattle.form_data.specs.Views.{group_of}
 use Rattle.form_reader.specs.Input.{input_section_of}
+use Rattle.form_reader.proofs.CustomRuns.{none_listed}
 use Rattle.form_reader.proofs.SectionList.{one_passes, section_shortens, section_fails}
 use Rattle.form_reader.proofs.cursor.Cursor.part.Goals as goal
 
 pub returns-then-is_at_custom-clause-reads : goal.returns-then-is_at_custom-clause-reads
 returns-then-is_at_custom-clause-reads c = c.in_ok-customs.ensures c.args.place c.args.next.now
+
+pub returns-then-is_at_custom-clause-keeps : goal.returns-then-is_at_custom-clause-keeps
+returns-then-is_at_custom-clause-keeps c =
+    let groups = map group_of c.args.groups.now.items in
+    sym (ap (λ gs. groups ++ gs) (none_listed groups_of_section (λ name bytes. refl) c.in_ok-customs.field-0) ∙ append-nil groups)
 
 pub returns-in_err-section-clause-reads : goal.returns-in_err-section-clause-reads
 returns-in_err-section-clause-reads c =
@@ -16,5 +26,5 @@ returns-clause-reads c =
     let p = input_section_of c.in_ok-section.section in
     let rest = c.section.new.self.rest.now in (
       rw c.next_order.ensures (one_passes c.args.place c.args.next.now c.args.self.now.rest.now p rest c.in_ok-section.ensures.reads),
-      section_shortens c.args.place c.args.next.now c.args.self.now.rest.now p rest c.in_ok-section.ensures,
+      section_shortens c.args.place c.args.next.now c.args.self.now.rest.now p rest c.in_ok-section.ensures.reads,
     )
