@@ -1,6 +1,6 @@
 -- Declared types, gathered one member and one group at a time.
 use Rattle.std.proofs.Common.{◌≡◌, ℕ, ◌+◌, ◌<◌, List, [], ◌∷◌, ◌++◌, length, map, take, get_or, refl, sym, ap, subst, ◌∙◌, append_assoc, add-zero, suc, arith}
-use Rattle.std.proofs.lemmas.List.{length-append, length-map, length-take-le, map_more, map_push}
+use Rattle.std.proofs.lemmas.List.{append-nil, length-append, length-map, length-take-le, map_more, map_push}
 use Rattle.form_data.specs.declared.types.SubType.{SubType as SubTypeRead}
 use Rattle.form_data.specs.Views.{sub_type_of}
 use Rattle.form_lists.specs.declared.lists.Declared.{Declared as Gathered}
@@ -80,8 +80,7 @@ pub one_group : (old new : List Gathered) (g : Group UnpackedIndex UnpackedIndex
 unfolding AddsTypes
 one_group old new g added rest = group_added old new g (g ∷ rest) rest _ refl added refl
 
--- one group more of those that are left
-pub types_more : (a b c : List Gathered) (g : Group UnpackedIndex UnpackedIndex) (left rest all : List (Group UnpackedIndex UnpackedIndex)) → left ≡ g ∷ rest
-    → AddsTypes b c (g ∷ []) → ((d : List Gathered) → AddsTypes b d left → AddsTypes a d all) → (d : List Gathered) → AddsTypes c d rest → AddsTypes a d all
-types_more a b c g left rest all at added before d others =
-    before d (subst (AddsTypes b d) (sym at) (types_then b c d (g ∷ []) rest added others))
+-- what is added to no types is all of them
+pub all_types : (new : List Gathered) (gs : List (Group UnpackedIndex UnpackedIndex)) → AddsTypes [] new gs → map declared_of new ≡ declared_groups 0 gs
+unfolding AddsTypes
+all_types new gs added = sym (append-nil (map declared_of new)) ∙ added [] ∙ ap (declared_groups 0) (append-nil gs)

@@ -81,7 +81,7 @@ impl<'d> Cursor<'d> {
         let count = self.u32()?;
         let bytes = self.rest;
         kept.reserve_exact((count as usize).min(bytes.len()).min(MOST_ROOM))?;
-        'entries: for _ in 0..count {
+        'kept: for _ in 0..count {
             let mut entry = E::none(alloc);
             entry.read_into(alloc, self)?;
             kept.push(entry)?;

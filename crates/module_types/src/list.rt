@@ -148,7 +148,8 @@ impl ModuleTypes {
         requires { length self.old.types + length types.items < u32.MAX }
         ensures { OnOk result (self.new ≡ with_types self.old types.items) }
     {
-        self.reserve(types.len())?;
+        // With room for a trampoline, which functions of one group mostly share: without it the list would double for one type.
+        self.reserve(types.len() + 1)?;
         for ty in types {
             self.push(ty)?;
         }

@@ -2,6 +2,6 @@ use Rattle.std.proofs.Common.{map}
 use Rattle.form_reader.proofs.Listed.{KeptSoFar}
 use Rattle.form_reader.proofs.cursor.Cursor.kept_entries.Given as goal
 
-abbrev pub invariant-entries : goal.invariant-entries
-invariant-entries g l = KeptSoFar g.E.InputEntry.form l.count l.counter l.bytes l.self.rest.now
+abbrev pub invariant-kept : goal.invariant-kept
+invariant-kept g l = KeptSoFar g.E.InputEntry.form l.count l.counter l.bytes l.self.rest.now
     (map g.E.InputEntry.view l.initial.kept.items) (map g.E.InputEntry.view l.kept.items)
