@@ -13,13 +13,13 @@ module _ {X Y : Type 0} (view : X → Y) (change : Y → Y) where
   pub none_changed : (xs : List X) → Changes view change 0 xs xs
   none_changed xs = record { long = refl; front = refl; left = refl }
 
-  pub one_changed : (k : ℕ) (old now : List X) (was x : X) → k < length now → was ≡ get_or now k was → view x ≡ change (view was)
+  pub one_changed : (k : ℕ) (old now : List X) (was x : X) → k < length old → view x ≡ change (view (get_or now k was))
       → Changes view change k old now → Changes view change (k + 1) old (set now k x)
-  one_changed k old now was x lt at is h =
-      let lt' : k < length old = omega (arith, lt, h.long) in
+  one_changed k old now was x lt' is h =
+      let lt : k < length now = omega (arith, lt', h.long) in
       let next : get_or now k was ∷ drop (k + 1) now ≡ get_or old k was ∷ drop (k + 1) old =
       sym (drop_more now k was lt) ∙ h.left ∙ drop_more old k was lt' in
-      let same : was ≡ get_or old k was = at ∙ ap (λ l. get_or l 0 was) next in
+      let same : get_or now k was ≡ get_or old k was = ap (λ l. get_or l 0 was) next in
       record {
         long = length-set now k x ∙ h.long;
         front = ap (map view) (take_more_set now k x lt) ∙ map_push view (take k now) x

@@ -2,7 +2,8 @@
 
 ghost use Rattle.std.specs.Prelude.{◌≡◌, ◌+◌, ◌<◌, ◌^◌, length, map, IfOk, OnOk};
 ghost use Rattle.wasm_spec.specs.Sizes.{HasShortTypes};
-ghost use Rattle.wasm_spec.specs.Module.{HasFewEntries, groups};
+ghost use Rattle.wasm_spec.specs.Module.{HasFewEntries};
+ghost use Rattle.wasm_spec.specs.Module as plain;
 ghost use Rattle.rule_spec.specs.Rules.{Keeps};
 ghost use Rattle.form_data.specs.Views.{group_of, module_of};
 ghost use Rattle.form_lists.specs.Source.{source_module};
@@ -56,7 +57,7 @@ impl Numbering {
         requires few { self.old.distinct.next + length group.types.items < 2 ^ 30 }
         requires ids { HasFewIds self.old.first_ids }
         requires listed { IsListed self.old.distinct (map group_of self.old.distinct.groups.items) }
-        ensures { OnOk result (AddsGroup self.old self.new (group_of group.entry)) }
+        ensures { OnOk result (AddsGroup self.old self.new (group_of group)) }
     {
         let count = group.types.len();
         next_key(key, &self.declared, group.types.as_slice())?;
@@ -103,7 +104,7 @@ impl Types {
         source: Source<'_, '_>,
         groups: Vec<RecGroup>,
     ) -> Result<Types, OutOfMemory>
-        requires groups { map group_of groups.items ≡ groups (source_module source) }
+        requires groups { map group_of groups.items ≡ plain.groups (source_module source) }
         requires keeps { Keeps (source_module source) }
         requires few { HasFewEntries (source_module source) }
         requires short { HasShortTypes (source_module source) }

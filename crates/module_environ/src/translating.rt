@@ -1,7 +1,8 @@
 //! The translation of a module: its bytes are read and checked, and each section becomes a part of the record.
 
 ghost use Rattle.std.specs.Prelude.{◌≡◌, ◌≢◌, ◌⊎◌, ◌^◌, ◌≤◌, ◌&&◌, length, map, true, false, is_none, IfOk, IfErr, OnOk, OnErr, Err};
-ghost use Rattle.wasm_spec.specs.Module.{Module, groups, imports, function_import, HasFewEntries};
+ghost use Rattle.wasm_spec.specs.Module.{Module, imports, function_import, HasFewEntries};
+ghost use Rattle.wasm_spec.specs.Module as plain;
 ghost use Rattle.wasm_spec.specs.Sizes.{HasShortTypes};
 ghost use Rattle.rule_spec.specs.Rules.{Keeps};
 ghost use Rattle.form_data.specs.Views.{group_of};
@@ -148,7 +149,7 @@ fn translate_form<'d>(
     groups: Vec<RecGroup>,
     translation: &mut ModuleTranslation<'d>,
 ) -> Result<(), EnvironError>
-    requires groups { map group_of groups.items ≡ groups (source_module source) }
+    requires groups { map group_of groups.items ≡ plain.groups (source_module source) }
     requires few { HasFewEntries (source_module source) }
     requires short { HasShortTypes (source_module source) }
     requires new { IsNewTranslation translation.old.module.module_index translation.old }
@@ -180,7 +181,7 @@ fn translate_lists<'d>(
     groups: Vec<RecGroup>,
     translation: &mut ModuleTranslation<'d>,
 ) -> Result<(), EnvironError>
-    requires groups { map group_of groups.items ≡ groups (module_in lists.now) }
+    requires groups { map group_of groups.items ≡ plain.groups (module_in lists.now) }
     requires gathered { IsGathered lists.now }
     requires short { HasShortTypes (module_in lists.now) }
     requires new { IsNewTranslation translation.old.module.module_index translation.old }

@@ -1,14 +1,16 @@
-use Rattle.std.proofs.Common.{◌≡◌, ◌∙◌, ◌<◌, [], length, sym, ap, arith}
+use Rattle.std.proofs.Common.{◌≡◌, ◌∙◌, ◌<◌, [], length, map, sym, ap, arith}
 use Rattle.std.specs.Prelude.{◌==◌, vec_len, true, false}
+use Rattle.std.specs.Global.{Global}
+use Rattle.std.specs.Vec.Iter.{into_iter_items, into_iter_len}
+use Rattle.std.specs.declared.vec.IntoIter.{IntoIter}
 use Rattle.std.proofs.lemmas.Grind.{common_steps}
-use Rattle.std.proofs.lemmas.List.{length-map}
+use Rattle.std.proofs.lemmas.List.{length-map, nil_from_length}
 use Rattle.wasm_spec.specs.declared.types.CoreTypeId.{CoreTypeId}
-use Rattle.wasm_spec.specs.Module.{groups, groups_of_section}
+use Rattle.wasm_spec.specs.Module.{groups}
 use Rattle.rule_spec.specs.declared.rules.Rule.TheVariants.{L1}
 use Rattle.form_data.specs.declared.types.RecGroup.{RecGroup}
 use Rattle.form_data.specs.Views.{group_of, sub_type_of}
 use Rattle.form_lists.specs.Source.{source_module}
-use Rattle.form_lists.specs.Sections.{entries_left}
 use Rattle.form_types.proofs.Built.{built-none, built-empty, built-more, few-ids}
 use Rattle.form_types.proofs.Ruled.{size-places, walked, room-next, near-item, walks-more}
 use Rattle.form_types.proofs.Final.{numbered, sound}
@@ -20,21 +22,25 @@ has_some g test = grind (arith, common_steps, test, g.types.ok.0)
 has_none : (g : RecGroup) → (vec_len g.types == 0) ≡ true → length g.types.items ≡ 0
 has_none g test = grind (arith, common_steps, test, g.types.ok.0)
 
+-- where none is left, none is listed
+no_groups : (left : IntoIter RecGroup Global) → into_iter_len left ≡ 0 → map group_of (into_iter_items left) ≡ []
+no_groups left none = ap (map group_of) (nil_from_length (into_iter_items left) (sym left.rest.ok.0 ∙ none))
+
 pub loop-group-init : goal.loop-group-init
 loop-group-init c = record {
   done = [];
   built = built-none c.new-numbering.result c.new-numbering.ensures;
-  all = ap (entries_left group_of groups_of_section) c.into_iter-group-iterator.ensures.into_iter_gives ∙ c.entries_of-group-items.ensures;
+  all = ap (map group_of) c.into_iter-group-iterator.ensures.into_iter_gives.0 ∙ c.requires.groups;
 }
 
 pub add_group-requires-clause-room : goal.add_group-requires-clause-room
 add_group-requires-clause-room c =
     omega (
       arith,
-      room-next c.loop-group.invariant c.in-Some.ensures.steps,
+      room-next c.loop-group.invariant (ap (map group_of) c.in-Some.ensures.steps.0),
       c.requires.few.types,
       c.loop-group.invariant.built.counted,
-      length-map c.in-Some.group.now.types.items sub_type_of,
+      length-map c.in-Some.group.types.items sub_type_of,
       length-map c.loop-group.numbering.declared.items (λ (id : CoreTypeId). id.0),
     )
 
@@ -42,38 +48,38 @@ pub add_group-requires-clause-few : goal.add_group-requires-clause-few
 add_group-requires-clause-few c =
     omega (
       arith,
-      room-next c.loop-group.invariant c.in-Some.ensures.steps,
+      room-next c.loop-group.invariant (ap (map group_of) c.in-Some.ensures.steps.0),
       c.requires.few.types,
       c.loop-group.invariant.built.listed.next_is,
       c.loop-group.invariant.built.numbered.few,
-      length-map c.in-Some.group.now.types.items sub_type_of,
+      length-map c.in-Some.group.types.items sub_type_of,
     )
 
 pub add_group-requires-clause-ids : goal.add_group-requires-clause-ids
 add_group-requires-clause-ids c =
     few-ids c.loop-group.invariant.done c.loop-group.numbering c.loop-group.invariant.built
-    (omega (arith, room-next c.loop-group.invariant c.in-Some.ensures.steps, c.requires.few.types))
+    (omega (arith, room-next c.loop-group.invariant (ap (map group_of) c.in-Some.ensures.steps.0), c.requires.few.types))
 
 pub loop-group-preserved-in-Continue-1 : goal.loop-group-preserved-in-Continue-1
 loop-group-preserved-in-Continue-1 c =
-    let g = c.in-Some.group.now in
+    let g = c.in-Some.group in
     let some : 0 < length g.types.items = has_some g (sym c.is_empty.ensures ∙ c.if-not-is_empty.true) in
-    walks-more c.loop-group.invariant c.in-Some.ensures.steps c.add_group.new.self
+    walks-more c.loop-group.invariant (ap (map group_of) c.in-Some.ensures.steps.0) c.add_group.new.self
     (built-more c.loop-group.invariant.done c.loop-group.numbering c.add_group.new.self (group_of g) c.loop-group.invariant.built
-    (omega (arith, some, length-map g.types.items sub_type_of)) (near-item c.loop-group.invariant c.in-Some.ensures.steps (c.requires.keeps L1))
+    (omega (arith, some, length-map g.types.items sub_type_of)) (near-item c.loop-group.invariant (ap (map group_of) c.in-Some.ensures.steps.0) (c.requires.keeps L1))
     c.in_ok-add_group.ensures)
 
 pub loop-group-preserved : goal.loop-group-preserved
 loop-group-preserved c =
-    let g = c.in-Some.group.now in
+    let g = c.in-Some.group in
     let none : length g.types.items ≡ 0 = has_none g (sym c.is_empty.ensures ∙ c.if-not-is_empty.false) in
-    walks-more c.loop-group.invariant c.in-Some.ensures.steps c.loop-group.numbering
+    walks-more c.loop-group.invariant (ap (map group_of) c.in-Some.ensures.steps.0) c.loop-group.numbering
     (built-empty c.loop-group.invariant.done c.loop-group.numbering (group_of g) (length-map g.types.items sub_type_of ∙ none) c.loop-group.invariant.built)
 
 pub invariant_of-result : goal.invariant_of-result
 invariant_of-result c =
     let m = source_module c.args.source in
-    let b = walked c.loop-group.invariant c.in-None.ensures.steps.0 in
+    let b = walked c.loop-group.invariant (no_groups c.loop-group.group-iterator c.in-None.ensures.steps.0) in
     record {
       numbers = b.listed.numbers_are;
       spans = b.listed.spans_are;
@@ -83,4 +89,4 @@ invariant_of-result c =
 
 pub returns-clause-numbered : goal.returns-clause-numbered
 returns-clause-numbered c =
-    numbered (source_module c.args.source) c.loop-group.numbering (walked c.loop-group.invariant c.in-None.ensures.steps.0) c.id.result.0
+    numbered (source_module c.args.source) c.loop-group.numbering (walked c.loop-group.invariant (no_groups c.loop-group.group-iterator c.in-None.ensures.steps.0)) c.id.result.0
