@@ -129,13 +129,12 @@ module _ (m : plain.Module) (keeps : Keeps m) (few : HasFewEntries m) (known : U
   segment-converts : (k : DataKind) → NamesMemory l k → HasMemoryOffset l k → DataKindRefersIn (length l.types) k
       → IsDataConvertible known k
   segment-converts Passive named typed refers = tt
-  segment-converts (Active memory offset) named typed refers =
-      (
-        omega (arith, named, few.memories),
-        offset-converts offset
-            (at-entry (λ (t : MemoryType). HasClass l l.global_types offset (address_class t.memory64)) (Converts offset) l.memories memory named
-            (λ t h. convert l.global_types few.globals offset _ h refers) typed),
-      )
+  segment-converts (Active memory offset) named typed refers = (
+    omega (arith, named, few.memories),
+    offset-converts offset
+        (at-entry (λ (t : MemoryType). HasClass l l.global_types offset (address_class t.memory64)) (Converts offset) l.memories memory named
+        (λ t h. convert l.global_types few.globals offset _ h refers) typed),
+  )
 
   pub segments-convert : AreDataConvertible known l.segments
   segments-convert k d lt =

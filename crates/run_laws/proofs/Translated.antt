@@ -1,5 +1,5 @@
 -- A translation whose memories and then tables are planned can be laid.
-use Rattle.std.proofs.Common.{◌≡◌, ℕ, ◌<◌, ◌≤◌, ◌⊎◌, Bool, List, length, map, sym, subst, arith}
+use Rattle.std.proofs.Common.{◌≡◌, ℕ, ◌<◌, ◌≤◌, ◌⊎◌, Bool, List, length, sym, subst, arith}
 use Rattle.std.specs.Prelude.{All, None, Some}
 use Rattle.std.specs.Int.{IsPowerOfTwo}
 use Rattle.wasm_spec.specs.Module.{Module, globals}
