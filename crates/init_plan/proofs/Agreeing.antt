@@ -7,8 +7,7 @@ use Rattle.replay_spec.specs.Values.{offset_over}
 use Rattle.replay_spec.specs.Data.{module_phase}
 use Rattle.replay_spec.specs.Plan.{MemoryPlan, phase_by_map, phase_by_list, Agrees}
 use Rattle.replay_spec.specs.Tables.{TablePlan, planned_elements_phase}
-use Rattle.replay_spec.specs.Globals.{GlobalPlan, AgreesOnGlobals}
-use Rattle.init_plan.specs.Held.{initialisers}
+use Rattle.replay_spec.specs.Globals.{GlobalPlan, AgreesOnGlobals, initialisers}
 use Rattle.init_plan.specs.Agreement.{AgreesOnElements, fields_of, globals_of, module_elements_phase, AgreesInAll}
 
 pub agree_in_all : (m : Module) (globals : GlobalPlan) (memories : MemoryPlan) (tables : TablePlan)

@@ -6,7 +6,6 @@ pub mod Planning
 pub mod ImagesOff
 pub mod Sized
 pub mod MemoriesKept
-pub mod Held
 pub mod Holding
 pub mod Agreeing
 mod WholeRanges

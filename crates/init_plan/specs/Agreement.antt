@@ -9,8 +9,7 @@ use Rattle.replay_spec.specs.Data.{module_phase}
 use Rattle.replay_spec.specs.Plan.{MemoryPlan, phase_by_map, phase_by_list}
 use Rattle.replay_spec.specs.Elements.{elements_phase, defined_tables, active_elements}
 use Rattle.replay_spec.specs.Tables.{TablePlan, planned_elements_phase, AgreesOnTables}
-use Rattle.replay_spec.specs.Globals.{GlobalPlan, values_after, planned_globals}
-use Rattle.init_plan.specs.Held.{initialisers}
+use Rattle.replay_spec.specs.Globals.{GlobalPlan, initialisers, values_after, planned_globals}
 
 -- the element phase of a plan is the module's
 abbrev pub AgreesOnElements : Module → TablePlan → Type 0

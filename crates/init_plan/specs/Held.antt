@@ -1,10 +1,7 @@
 -- What a translation holds of the lists of a module.
 use Rattle.std.specs.Prelude.{◌≡◌, ℕ, ◌-◌, List, length, map}
-use Rattle.std.specs.Option.{option_map}
-use Rattle.wasm_spec.specs.declared.types.HeapType.TheVariants.{Abstract}
-use Rattle.wasm_spec.specs.declared.types.AbstractHeapType.TheVariants.{Any}
-use Rattle.wasm_spec.specs.Module.{Expression, ElementItems, Functions, Expressions, Module, table_import, imported_of, imported_memories, memories}
-use Rattle.rule_spec.specs.Lists.{Lists, lists_of_module}
+use Rattle.wasm_spec.specs.Module.{Expression, Module, table_import, imported_of, imported_memories, memories}
+use Rattle.rule_spec.specs.Lists.{lists_of_module}
 use Rattle.wasm_index.specs.declared.index.Index.{Index}
 use Rattle.wasm_index.specs.declared.spaces.DefinedGlobalSpace.{DefinedGlobalSpace}
 use Rattle.wasm_index.specs.Index.{number_of}
@@ -12,29 +9,13 @@ use Rattle.wasm_types.specs.Memories.{memory_of}
 use Rattle.wasm_convert.specs.declared.operators.ConstOp.{ConstOp}
 use Rattle.wasm_convert.specs.declared.values.GlobalConstValue.{GlobalConstValue}
 use Rattle.wasm_convert.specs.Constants.{expression_of, plain_value_of}
-use Rattle.wasm_convert.specs.Operators.{with_any_null}
 use Rattle.replay_spec.specs.Values.{Value}
 use Rattle.replay_spec.specs.Data.{active_segments}
-use Rattle.replay_spec.specs.Elements.{ActiveElements, DefinedTable, active_elements, defined_tables}
-use Rattle.replay_spec.specs.Globals.{GlobalPlan, IsGlobalPlan}
+use Rattle.replay_spec.specs.Elements.{active_elements, defined_tables}
+use Rattle.replay_spec.specs.Globals.{GlobalPlan, IsGlobalPlan, initialisers}
 use Rattle.init_plan.specs.declared.translation.ModuleTranslation.{ModuleTranslation}
 use Rattle.init_plan.specs.Views.{initializers_of}
 use Rattle.init_plan.specs.Tables.{tables_of, elements_of}
-
--- an expression as a translation holds it: the heap type of a null reference is lost
-abbrev pub erase_null_type : Expression → Expression
-erase_null_type e = map with_any_null e
-
--- of the items' type only that they are references is held
-abbrev pub erased_items : ElementItems → ElementItems
-erased_items (Functions indices) = Functions indices
-erased_items (Expressions type items) = Expressions (record { nullable = type.nullable; heap = Abstract Any }) (map erase_null_type items)
-
-abbrev pub erased_elements : ActiveElements → ActiveElements
-erased_elements s = record { table = s.table; offset = erase_null_type s.offset; items = erased_items s.items }
-
-abbrev pub erased_table : DefinedTable → DefinedTable
-erased_table t = record { minimum = t.minimum; functions = t.functions; initial = option_map erase_null_type t.initial }
 
 -- the active data segments and the memories are those of the module
 pub record HoldsMemories (m : Module) (t : ModuleTranslation) : Type 0 where
@@ -45,8 +26,8 @@ pub record HoldsMemories (m : Module) (t : ModuleTranslation) : Type 0 where
 -- the active element segments and the defined tables are those of the module
 pub record HoldsTables (m : Module) (t : ModuleTranslation) : Type 0 where
   pub imports : t.module.num_imported_tables ≡ length (imported_of table_import m)
-  pub tables : tables_of t ≡ map erased_table (defined_tables (lists_of_module m))
-  pub active : elements_of t ≡ map erased_elements (active_elements (lists_of_module m).elements)
+  pub tables : tables_of t ≡ defined_tables (lists_of_module m)
+  pub active : elements_of t ≡ active_elements (lists_of_module m).elements
 
 abbrev pub simple_global_of : Index DefinedGlobalSpace × GlobalConstValue → ℕ × Value
 simple_global_of g = (number_of g.0, plain_value_of g.1)
@@ -62,10 +43,6 @@ plan_of_globals t = record {
   kept = map kept_global_of t.global_initializers.items;
 }
 
--- the first values of globals, of a module
-abbrev pub initialisers : Lists → List Expression
-initialisers l = map (λ g. g.init) l.globals
-
 -- constant first values stand in the record, and the other initialisers are kept
 abbrev pub HoldsGlobals : Module → ModuleTranslation → Type 0
-HoldsGlobals m t = IsGlobalPlan (map erase_null_type (initialisers (lists_of_module m))) (plan_of_globals t)
+HoldsGlobals m t = IsGlobalPlan (initialisers (lists_of_module m)) (plan_of_globals t)

@@ -7,12 +7,12 @@ ghost use Rattle.rule_spec.specs.Lists.{lists_of_module};
 ghost use Rattle.replay_spec.specs.Plan.{MemoryPlan, AgreesOver, Agrees};
 ghost use Rattle.replay_spec.specs.Images.{image_memory_of};
 ghost use Rattle.replay_spec.specs.Tables.{TablePlan, AgreesOnTables};
-ghost use Rattle.replay_spec.specs.Globals.{GlobalPlan, AgreesOnGlobals};
+ghost use Rattle.replay_spec.specs.Globals.{GlobalPlan, AgreesOnGlobals, initialisers};
 ghost use Rattle.init_plan.specs.declared.translation.ModuleTranslation.{ModuleTranslation};
 ghost use Rattle.init_plan.specs.Views.{initializers_of, defined_sizes};
 ghost use Rattle.init_plan.specs.Images.{image_memories};
 ghost use Rattle.init_plan.specs.Tables.{tables_of, elements_of};
-ghost use Rattle.init_plan.specs.Held.{initialisers, plan_of_globals, HoldsMemories, HoldsTables, HoldsGlobals};
+ghost use Rattle.init_plan.specs.Held.{plan_of_globals, HoldsMemories, HoldsTables, HoldsGlobals};
 ghost use Rattle.init_plan.specs.Agreement.{AgreesOnElements, AgreesInAll};
 
 /// Where a translation holds a module's lists, a plan that agrees with the translation agrees with the module.

@@ -1,23 +1,22 @@
--- An expression as a translation holds it: the heap type of a null reference is lost, and its constant value stays.
+-- A converted expression, converted back, is what replay sees of the expression.
 use Rattle.std.proofs.Common.{◌≡◌, map, refl, ap, ◌∙◌}
 use Rattle.std.proofs.lemmas.Simd.{map-map}
 use Rattle.wasm_spec.specs.declared.operators.Operator.{Operator}
 use Rattle.wasm_spec.specs.declared.operators.Operator.TheVariants as op
 use Rattle.wasm_spec.specs.Module.{Expression}
 use Rattle.wasm_convert.specs.Conversion.{LookUp}
-use Rattle.wasm_convert.specs.Operators.{const_op_of, operator_of, with_any_null}
+use Rattle.wasm_convert.specs.Operators.{const_op_of, operator_of}
 use Rattle.wasm_convert.specs.Constants.{const_ops_of, expression_of}
-use Rattle.replay_spec.specs.Values.{const_value}
-use Rattle.init_plan.specs.Held.{erase_null_type}
-use Rattle.init_plan.proofs.Held.{const_erased}
+use Rattle.replay_spec.specs.Values.{any_null, any_nulls, const_value}
+use Rattle.replay_spec.proofs.AnyNull.{const-any}
 
-back_conversion : (look : LookUp) (o : Operator) → operator_of (const_op_of look o) ≡ with_any_null o
+back_conversion : (look : LookUp) (o : Operator) → operator_of (const_op_of look o) ≡ any_null o
 back_conversion look (op.RefNull heap) = refl
 back_conversion look _ = refl
 
-pub erased-is : (look : LookUp) (e : Expression) → expression_of (const_ops_of look e) ≡ erase_null_type e
-erased-is look e = map-map operator_of (const_op_of look) e ∙ (λ i. map (λ o. back_conversion look o i) e)
+pub seen-is : (look : LookUp) (e : Expression) → expression_of (const_ops_of look e) ≡ any_nulls e
+seen-is look e = map-map operator_of (const_op_of look) e ∙ (λ i. map (λ o. back_conversion look o i) e)
 
 -- a converted expression has the constant value of the expression
 pub const_value_converted : (look : LookUp) (e : Expression) → const_value (expression_of (const_ops_of look e)) ≡ const_value e
-const_value_converted look e = ap const_value (erased-is look e) ∙ const_erased e
+const_value_converted look e = ap const_value (seen-is look e) ∙ const-any e

@@ -41,15 +41,15 @@ use Rattle.wasm_module.specs.declared.table_initialization.TableSegment.{TableSe
 use Rattle.wasm_module.specs.declared.table_initialization.TableSegmentElements.{TableSegmentElements}
 use Rattle.wasm_module.specs.declared.table_initialization.TableSegmentElements.TheVariants as elements
 use Rattle.table_images.specs.Views.{is_func, items_of, active_elements_of, initial_of, defined_table_of, defined_tables_of}
-use Rattle.replay_spec.specs.Values.{Value, const_value}
-use Rattle.replay_spec.specs.Elements.{ActiveElements, is_function_type, has_functions_on_top, defined_table, active_of_element}
+use Rattle.replay_spec.specs.Values.{Value, any_nulls, const_value}
+use Rattle.replay_spec.specs.Elements.{ActiveElements, is_function_type, has_functions_on_top, defined_table, items_of_element, active_of_element}
 use Rattle.replay_spec.specs.Elements as replay
 use Rattle.replay_spec.specs.Globals.{simple_of, kept_of}
+use Rattle.replay_spec.proofs.AnyNull.{const-any}
 use Rattle.init_plan.specs.declared.translation.ModuleTranslation.{ModuleTranslation}
 use Rattle.init_plan.specs.Tables.{own_tables}
-use Rattle.init_plan.specs.Held.{erase_null_type, erased_items, erased_elements, erased_table, HoldsMemories, HoldsTables, HoldsGlobals}
-use Rattle.init_plan.proofs.Held.{const_erased}
-use Rattle.module_environ.proofs.HeldExpressions.{erased-is}
+use Rattle.init_plan.specs.Held.{HoldsMemories, HoldsTables, HoldsGlobals}
+use Rattle.module_environ.proofs.HeldExpressions.{seen-is}
 use Rattle.module_environ.specs.Types.{look_up_in}
 use Rattle.module_environ.specs.Initialisers.{view_initialiser, first_values, view_first_value, Items, FunctionItems, ExpressionItems, items_in, view_items, ActiveItems, active_in, active_elements, view_segment}
 use Rattle.module_environ.specs.Translation.{HasEntities, CountsImports, HasGlobals, HasElements, HasData}
@@ -66,41 +66,41 @@ map_gathered {Y = Y} f g (x ∷ xs) = by (filter_map g xs) (map_gathered f g xs)
 
 -- ---- globals
 
-simple_held : (n : ℕ) (es : List Expression) → filter_map simple_of (enumerate_from n (map erase_null_type es)) ≡ filter_map simple_of (enumerate_from n es)
+simple_held : (n : ℕ) (gs : List GlobalDef)
+    → filter_map simple_of (enumerate_from n (map (λ g. g.init) gs)) ≡ filter_map simple_of (enumerate_from n (map (λ g. any_nulls g.init) gs))
 simple_held n [] = refl
-simple_held n (e ∷ es) = λ i. cons_option (option_map (λ v. (n, v)) (const_erased e i)) (simple_held (n + 1) es i)
+simple_held n (g ∷ gs) = λ i. cons_option (option_map (λ v. (n, v)) (sym (const-any g.init) i)) (simple_held (n + 1) gs i)
 
-held_at : ℕ × Expression → ℕ × Expression
-held_at g = (g.0, erase_null_type g.1)
+module _ (look : LookUp) where
+  -- an initialiser that is kept, converted and converted back
+  held_at : ℕ × Expression → ℕ × Expression
+  held_at g = (g.0, expression_of (const_ops_of look g.1))
 
-kept_held : (n : ℕ) (es : List Expression)
-    → filter_map kept_of (enumerate_from n (map erase_null_type es)) ≡ map held_at (filter_map kept_of (enumerate_from n es))
-unfolding held_at
-kept_held n [] = refl
-kept_held n (e ∷ es) =
-    ap (λ (v : Option Value). cons_option (if is_none v then Some (n, erase_null_type e) else None) (filter_map kept_of (enumerate_from (n + 1) (map erase_null_type es))))
-    (const_erased e)
-    ∙ by (filter_map kept_of (enumerate_from (n + 1) es)) (kept_held (n + 1) es) (is_none (const_value e)) where
-      by : (kept : List (ℕ × Expression)) → filter_map kept_of (enumerate_from (n + 1) (map erase_null_type es)) ≡ map held_at kept → (left : Bool)
-          → cons_option (if left then Some (n, erase_null_type e) else None) (filter_map kept_of (enumerate_from (n + 1) (map erase_null_type es)))
-          ≡ map held_at (cons_option (if left then Some (n, e) else None) kept)
-      by kept rest true = λ i. (n, erase_null_type e) ∷ rest i
-      by kept rest false = rest
+  kept_held : (n : ℕ) (gs : List GlobalDef)
+      → map held_at (filter_map kept_of (enumerate_from n (map (λ g. g.init) gs))) ≡ filter_map kept_of (enumerate_from n (map (λ g. any_nulls g.init) gs))
+  unfolding held_at
+  kept_held n [] = refl
+  kept_held n (g ∷ gs) = by (filter_map kept_of (enumerate_from (n + 1) (map (λ g. g.init) gs))) (kept_held (n + 1) gs) (const_value g.init)
+      ∙ (λ i. cons_option (if is_none (sym (const-any g.init) i) then Some (n, any_nulls g.init) else None)
+      (filter_map kept_of (enumerate_from (n + 1) (map (λ g. any_nulls g.init) gs)))) where
+        by : (kept : List (ℕ × Expression)) → map held_at kept ≡ filter_map kept_of (enumerate_from (n + 1) (map (λ g. any_nulls g.init) gs)) → (v : Option Value)
+            → map held_at (cons_option (if is_none v then Some (n, g.init) else None) kept)
+            ≡ cons_option (if is_none v then Some (n, any_nulls g.init) else None) (filter_map kept_of (enumerate_from (n + 1) (map (λ g. any_nulls g.init) gs)))
+        by kept rest None = λ i. (n, seen-is look g.init i) ∷ rest i
+        by kept rest (Some v) = rest
 
 pub holds_globals : (m : plain.Module) (t : ModuleTranslation) → HasGlobals m t
     → length t.module.globals - t.module.num_imported_globals ≡ length (lists_of_module m).globals → HoldsGlobals m t
 unfolding held_at
 holds_globals m t has counted =
     let globals = (lists_of_module m).globals in
-    let es = map (λ (g : GlobalDef). g.init) globals in
     let back : ℕ × List ConstOp → ℕ × Expression = λ g. (g.0, expression_of g.1) in
-    let kept = filter_map kept_of (enumerate_from 0 es) in
     record {
-      count = counted ∙ sym (length-map globals (λ (g : GlobalDef). g.init)) ∙ sym (length-map es erase_null_type);
-      simple = has.known ∙ sym (simple_held 0 es);
+      count = counted ∙ sym (length-map globals (λ (g : GlobalDef). any_nulls g.init));
+      simple = has.known ∙ simple_held 0 globals;
       kept = sym (map-map back (view_initialiser (λ e. e)) t.global_initializers.items) ∙ ap (map back) has.left
-          ∙ map-map back (λ (g : ℕ × Expression). (g.0, const_ops_of (look_up_in m) g.1)) kept
-          ∙ (λ i. map (λ (g : ℕ × Expression). (g.0, erased-is (look_up_in m) g.1 i)) kept) ∙ sym (kept_held 0 es);
+          ∙ map-map back (λ (g : ℕ × Expression). (g.0, const_ops_of (look_up_in m) g.1)) (filter_map kept_of (enumerate_from 0 (map (λ g. g.init) globals)))
+          ∙ kept_held (look_up_in m) 0 globals;
     }
 
 -- ---- memories
@@ -111,10 +111,9 @@ holds_memories m t entities counts has = record { imports = counts.memories; mem
 -- ---- active element segments
 
 -- their items without what the plan of tables does not hold
-plain_items : Items → ElementItems
-plain_items (FunctionItems functions) = Functions functions
-plain_items (ExpressionItems type expressions) =
-    Expressions (record { nullable = type.nullable; heap = Abstract abstract.Any }) (map expression_of expressions)
+plain_items : Items → replay.Items
+plain_items (FunctionItems functions) = replay.Functions functions
+plain_items (ExpressionItems type expressions) = replay.Expressions (map expression_of expressions)
 
 plain_active : ActiveItems → ActiveElements
 plain_active a = record { table = a.table; offset = expression_of a.offset; items = plain_items a.items }
@@ -122,31 +121,28 @@ plain_active a = record { table = a.table; offset = expression_of a.offset; item
 view_plain : (s : TableSegment) → active_elements_of s ≡ plain_active (view_segment s)
 unfolding plain_items plain_active
 view_plain s =
-    ap (λ (items : ElementItems). record { table = (view_segment s).table; offset = expression_of s.offset; items = items }) (by s.elements) where
+    ap (λ (items : replay.Items). record { table = (view_segment s).table; offset = expression_of s.offset; items = items }) (by s.elements) where
       by : (x : TableSegmentElements) → items_of x ≡ plain_items (view_items x)
       by (elements.Functions functions) = refl
       by (elements.Expressions ty expressions) = refl
 
-items_held : (look : LookUp) (items : ElementItems) → plain_items (items_in look items) ≡ erased_items items
+items_held : (look : LookUp) (items : ElementItems) → plain_items (items_in look items) ≡ items_of_element items
 unfolding plain_items
 items_held look (Functions indices) = refl
 items_held look (Expressions type items) =
-    ap (Expressions (record { nullable = type.nullable; heap = Abstract abstract.Any }))
-    (map-map expression_of (const_ops_of look) items ∙ (λ i. map (λ e. erased-is look e i) items))
+    ap replay.Expressions (map-map expression_of (const_ops_of look) items ∙ (λ i. map (λ e. seen-is look e i) items))
 
-active_held : (look : LookUp) (kind : ElementKind) (items : ElementItems)
-    → option_map plain_active (active_in look kind items) ≡ option_map erased_elements (active_of_element kind items)
+active_held : (look : LookUp) (kind : ElementKind) (items : ElementItems) → option_map plain_active (active_in look kind items) ≡ active_of_element kind items
 unfolding plain_active
 active_held look PassiveElement items = refl
 active_held look DeclaredElement items = refl
 active_held look (ActiveElement table offset) items =
-    λ i. Some (record { table = unwrap_or table 0; offset = erased-is look offset i; items = items_held look items i })
+    λ i. Some (record { table = unwrap_or table 0; offset = seen-is look offset i; items = items_held look items i })
 
-elements_held : (look : LookUp) (es : List Element) → map plain_active (active_elements look es) ≡ map erased_elements (replay.active_elements es)
+elements_held : (look : LookUp) (es : List Element) → map plain_active (active_elements look es) ≡ replay.active_elements es
 elements_held look es =
     map_gathered plain_active (λ (e : Element). active_in look e.kind e.items) es
     ∙ (λ i. filter_map (λ (e : Element). active_held look e.kind e.items i) es)
-    ∙ sym (map_gathered erased_elements (λ (e : Element). active_of_element e.kind e.items) es)
 
 -- ---- the kinds of declared types
 
@@ -227,22 +223,22 @@ on_top_same m (Concrete (index.RecGroup i)) below = absurd (All-head (IsBelow (l
 on_top_same m (Concrete (index.Id i)) below = absurd (All-head (IsBelow (length (lists_of_module m).types)) (index.Id i) [] below)
 
 initial_held : (look : LookUp) (v : TableInitialValue) (e : Option Expression) → view_first_value v ≡ option_map (const_ops_of look) e
-    → initial_of v ≡ option_map erase_null_type e
+    → initial_of v ≡ option_map any_nulls e
 initial_held look v e same = seen v ∙ ap (option_map expression_of) same ∙ back e where
   seen : (v : TableInitialValue) → initial_of v ≡ option_map expression_of (view_first_value v)
   seen initial.Null = refl
   seen (initial.Expr e) = refl
 
-  back : (e : Option Expression) → option_map expression_of (option_map (const_ops_of look) e) ≡ option_map erase_null_type e
+  back : (e : Option Expression) → option_map expression_of (option_map (const_ops_of look) e) ≡ option_map any_nulls e
   back None = refl
-  back (Some e) = ap Some (erased-is look e)
+  back (Some e) = ap Some (seen-is look e)
 
 module _ (m : plain.Module) where
   table_in : TableType → TableData Name
   table_in t = map_table (look_up_in m) (table_type_of t)
 
   table_held : (t : Table) (v : TableInitialValue) (d : TableDef) → TableRefersIn (length (lists_of_module m).types) d → table_of t ≡ table_in d.type
-      → view_first_value v ≡ option_map (const_ops_of (look_up_in m)) d.init → defined_table_of t v ≡ erased_table (defined_table (lists_of_module m) d)
+      → view_first_value v ≡ option_map (const_ops_of (look_up_in m)) d.init → defined_table_of t v ≡ defined_table (lists_of_module m) d
   unfolding table_in
   table_held t v d below same value =
       let minimum : t.limits.min ≡ d.type.initial = ap (λ (x : TableData Name). x.limits.min) same in
@@ -253,7 +249,7 @@ module _ (m : plain.Module) where
 
   tables_held : (ts : List Table) (vs : List TableInitialValue) (ds : List TableDef) → All (TableRefersIn (length (lists_of_module m).types)) ds
       → map table_of ts ≡ map (λ (d : TableDef). table_in d.type) ds → map view_first_value vs ≡ first_values (look_up_in m) ds
-      → defined_tables_of ts vs ≡ map erased_table (map (defined_table (lists_of_module m)) ds)
+      → defined_tables_of ts vs ≡ map (defined_table (lists_of_module m)) ds
   tables_held [] vs [] below same values = refl
   tables_held [] vs (d ∷ ds) below same values = cc
   tables_held (t ∷ ts) vs [] below same values = cc

@@ -1,5 +1,5 @@
 -- What the rules say of each section: its types are known, its expressions can be converted, and its indices are in range.
-use Rattle.std.proofs.Common.{◌≡◌, ℕ, ◌+◌, ◌<◌, ◌≤◌, ◌^◌, ◌⊎◌, List, [], ◌∷◌, length, take, Option, Some, None, sym, subst, arith, inl, inr, get_or, length-take, ◌≢◌, Bool, true, false}
+use Rattle.std.proofs.Common.{◌≡◌, ℕ, ◌+◌, ◌<◌, ◌≤◌, ◌^◌, ◌⊎◌, List, [], ◌∷◌, length, take, Option, Some, None, sym, subst, arith, inl, inr, get_or, length-take}
 use Rattle.std.specs.Prelude.{All, IfSome, slice_get, unwrap_or}
 use Rattle.std.proofs.lemmas.List.Elements.{All-nil, All-cons, All-head, All-tail, All-weaker}
 use Rattle.std.proofs.lemmas.Option.{slice_get_cases}
@@ -22,8 +22,6 @@ use Rattle.rule_spec.specs.Indices.{space_size, NamesTable, NamesMemory, NamesFu
 use Rattle.rule_spec.specs.References.{AllReferIn, ExpressionRefersIn, ElementKindRefersIn, TableRefersIn, GlobalRefersIn, ItemsReferIn, DataKindRefersIn}
 use Rattle.rule_spec.specs.Expressions.{AreExpressionsTyped, address_class, HasTypedInitialiser, AreGlobalsTyped, HasTableOffset, HasTypedItems, HasMemoryOffset}
 use Rattle.rule_spec.specs.Typing.{HasClass}
-use Rattle.init_plan.specs.Held.{erase_null_type}
-use Rattle.init_plan.proofs.Holding.{erased_whole}
 use Rattle.module_environ.specs.Convertible.{IsConvertible}
 use Rattle.module_environ.specs.Escapes.{exported_function}
 use Rattle.module_environ.specs.Exported.{CanExport}
@@ -128,21 +126,15 @@ module _ (m : plain.Module) (keeps : Keeps m) (few : HasFewEntries m) (known : U
         items = element-items e.items named.items t.items r.items;
       }
 
-  not-ref : (wide : Bool) → address_class wide ≢ class.Ref
-  not-ref true e = let no : class.I64 ≡ class.Ref = e in cc
-  not-ref false e = let no : class.I32 ≡ class.Ref = e in cc
-
   segment-converts : (k : DataKind) → NamesMemory l k → HasMemoryOffset l k → DataKindRefersIn (length l.types) k
       → IsDataConvertible known k
   segment-converts Passive named typed refers = tt
-  segment-converts (Active memory offset) named typed refers =
-      let whole-offset = at-entry (λ (t : MemoryType). HasClass l l.global_types offset (address_class t.memory64))
-      (IsOffset known offset × (erase_null_type offset ≡ offset)) l.memories memory named
-      (λ t h. (
-        offset-converts offset (convert l.global_types few.globals offset _ h refers),
-        erased_whole l l.global_types offset (address_class t.memory64) (not-ref t.memory64) h,
-      )) typed in
-      (omega (arith, named, few.memories), whole-offset.0, whole-offset.1)
+  segment-converts (Active memory offset) named typed refers = (
+    omega (arith, named, few.memories),
+    offset-converts offset
+        (at-entry (λ (t : MemoryType). HasClass l l.global_types offset (address_class t.memory64)) (Converts offset) l.memories memory named
+        (λ t h. convert l.global_types few.globals offset _ h refers) typed),
+  )
 
   pub segments-convert : AreDataConvertible known l.segments
   segments-convert k d lt =

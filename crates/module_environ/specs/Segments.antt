@@ -10,7 +10,6 @@ use Rattle.wasm_convert.specs.Conversion.{LookUp}
 use Rattle.wasm_convert.specs.Known.{Known}
 use Rattle.wasm_convert.specs.Operators.{KnowsOperator}
 use Rattle.wasm_module.specs.Elements.{element_type, element_count}
-use Rattle.init_plan.specs.Held.{erase_null_type}
 use Rattle.module_environ.specs.declared.elements.ElementSegments.{ElementSegments}
 use Rattle.module_environ.specs.Convertible.{IsConvertible}
 use Rattle.module_environ.specs.Initialisers.{active_elements, view_segment, passive_items, view_items, passive_numbers}
@@ -22,10 +21,10 @@ module _ (known : UnpackedIndex → Type 0) where
     pub some : 0 < length e
     pub operators : All (KnowsOperator known) e
 
-  -- the memory of an active data segment has an index, and its offset is a number, so that a translation holds it whole
+  -- the memory of an active data segment has an index
   abbrev pub IsDataConvertible : DataKind → Type 0
   IsDataConvertible Passive = Unit {0}
-  IsDataConvertible (Active memory offset) = (memory < 4294967295) × IsOffset offset × (erase_null_type offset ≡ offset)
+  IsDataConvertible (Active memory offset) = (memory < 4294967295) × IsOffset offset
 
   abbrev pub AreDataConvertible : List Segment → Type 0
   AreDataConvertible segments = All (λ s. IsDataConvertible s.kind) segments

@@ -1,3 +1,4 @@
+pub mod AnyNull
 pub mod Constant
 pub mod Kept
 pub mod Typed

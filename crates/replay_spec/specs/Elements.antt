@@ -1,22 +1,29 @@
 -- The element phase of a module: what its active element segments leave in its tables (core specification, 4.7, instantiation).
 use Rattle.std.specs.Prelude.{ℕ, ◌-◌, Bool, true, false, nat_lt, List, [], ◌++◌, length, map, slice_index, slice_get, unwrap_or, Option, None, Some, if◌then◌else◌}
 use Rattle.std.specs.List.{filter_map}
+use Rattle.std.specs.Option.{option_map}
 use Rattle.wasm_spec.specs.declared.types.HeapType.{HeapType}
 use Rattle.wasm_spec.specs.declared.types.HeapType.TheVariants as heap
 use Rattle.wasm_spec.specs.declared.types.AbstractHeapType.TheVariants as abstract
 use Rattle.wasm_spec.specs.declared.types.UnpackedIndex.{UnpackedIndex}
 use Rattle.wasm_spec.specs.declared.types.UnpackedIndex.TheVariants as index
 use Rattle.wasm_spec.specs.TypeData.{Composite, Func}
-use Rattle.wasm_spec.specs.Module.{Expression, ElementItems, Functions, Expressions, ElementKind, ActiveElement, Element, TableDef}
+use Rattle.wasm_spec.specs.Module.{Expression, ElementItems, ElementKind, ActiveElement, Element, TableDef}
+use Rattle.wasm_spec.specs.Module as read
 use Rattle.rule_spec.specs.Lists.{Lists, kind_at}
 use Rattle.replay_spec.specs.Phases.{Piece, Phase}
-use Rattle.replay_spec.specs.Values.{Value, Ref, Null, Func as function, eval, offset_over}
+use Rattle.replay_spec.specs.Values.{Value, Ref, Null, Func as function, any_nulls, eval, offset_over}
+
+-- what a segment writes: functions, or the values of expressions
+pub data Items : Type 0 where
+  Functions : (indices : List ℕ) → Items
+  Expressions : (items : List Expression) → Items
 
 -- a segment that is written to a table at an offset
 pub record ActiveElements : Type 0 where
   pub table : ℕ
   pub offset : Expression
-  pub items : ElementItems
+  pub items : Items
 
 -- a defined table: its minimum size in cells, whether its heap type has functions on top, and what its cells hold at first
 pub record DefinedTable : Type 0 where
@@ -36,9 +43,9 @@ module _ (globals : List Value) (fields : ℕ → ℕ) where
   abbrev pub cell_of : Expression → Value
   cell_of e = value_or_null (eval globals fields e)
 
-  abbrev pub item_cells : ElementItems → List Value
+  abbrev pub item_cells : Items → List Value
   item_cells (Functions indices) = map (λ k. Ref (function k)) indices
-  item_cells (Expressions type items) = map cell_of items
+  item_cells (Expressions items) = map cell_of items
 
   abbrev pub elements_piece : ActiveElements → Piece Value
   elements_piece s = record { object = s.table; offset = offset_over globals fields s.offset; items = item_cells s.items }
@@ -72,9 +79,15 @@ elements_phase globals fields imported tables active = record {
 
 -- ---- of a module
 
+-- a module's items; their type tells nothing of the cells
+abbrev pub items_of_element : ElementItems → Items
+items_of_element (read.Functions indices) = Functions indices
+items_of_element (read.Expressions type items) = Expressions (map any_nulls items)
+
 -- a table that is not named is the first
 abbrev pub active_of_element : ElementKind → ElementItems → Option ActiveElements
-active_of_element (ActiveElement table offset) items = Some (record { table = unwrap_or table 0; offset = offset; items = items })
+active_of_element (ActiveElement table offset) items =
+    Some (record { table = unwrap_or table 0; offset = any_nulls offset; items = items_of_element items })
 active_of_element _ items = None
 
 -- the active element segments, in order
@@ -93,7 +106,8 @@ has_functions_on_top l (heap.Concrete (index.Module i)) = is_function_type (kind
 has_functions_on_top l _ = false
 
 abbrev pub defined_table : Lists → TableDef → DefinedTable
-defined_table l t = record { minimum = t.type.initial; functions = has_functions_on_top l t.type.element_type.heap; initial = t.init }
+defined_table l t =
+    record { minimum = t.type.initial; functions = has_functions_on_top l t.type.element_type.heap; initial = option_map any_nulls t.init }
 
 -- the tables of the table section, in order
 abbrev pub defined_tables : Lists → List DefinedTable

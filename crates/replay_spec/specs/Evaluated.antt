@@ -1,5 +1,5 @@
 -- Each initialiser, offset and item of a module has a value of its class: no phase falls back on null or on 0 (core specification, 4.2, values).
-use Rattle.std.specs.Prelude.{◌≡◌, ℕ, ◌+◌, List, length, map, take, All, IfSome, IsSomeAnd, Some, slice_get, unwrap_or}
+use Rattle.std.specs.Prelude.{◌≡◌, ℕ, ◌+◌, List, length, take, All, IfSome, IsSomeAnd, Some, slice_get, unwrap_or}
 use Rattle.wasm_spec.specs.TypeData.{value_of}
 use Rattle.wasm_spec.specs.Module.{Expression, TableDef, GlobalDef, ElementKind, ActiveElement, ElementItems, Functions, Expressions, Element, DataKind, Passive, Active, Segment}
 use Rattle.rule_spec.specs.declared.classes.Class.{Class}
@@ -8,7 +8,7 @@ use Rattle.rule_spec.specs.Expressions.{address_class}
 use Rattle.rule_spec.specs.Lists.{Lists}
 use Rattle.rule_spec.specs.Typing.{class_of}
 use Rattle.replay_spec.specs.Classes.{IsOfClass, HaveClasses, field_count}
-use Rattle.replay_spec.specs.Globals.{values_after}
+use Rattle.replay_spec.specs.Globals.{initialisers, values_after}
 use Rattle.replay_spec.specs.Values.{Value, eval}
 
 -- there is a value for each imported global, of its class
@@ -18,7 +18,7 @@ pub record AreImported (l : Lists) (imported : List Value) : Type 0 where
 
 -- the values of all globals, over those of the imported ones
 abbrev pub all_globals : Lists → List Value → List Value
-all_globals l imported = values_after (field_count l) imported (map (λ g. g.init) l.globals)
+all_globals l imported = values_after (field_count l) imported (initialisers l)
 
 module _ (l : Lists) (globals : List Value) where
   -- an expression has a value of a class, over the values of the globals

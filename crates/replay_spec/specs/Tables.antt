@@ -3,10 +3,10 @@ use Rattle.std.specs.Prelude.{◌≡◌, ℕ, ◌+◌, ◌-◌, ◌<◌, ◌≤�
 use Rattle.std.specs.Option.{option_and_then}
 use Rattle.wasm_spec.specs.declared.operators.Operator.{Operator}
 use Rattle.wasm_spec.specs.declared.operators.Operator.TheVariants.{RefNull, RefFunc}
-use Rattle.wasm_spec.specs.Module.{Expression, ElementItems, Functions, Expressions}
+use Rattle.wasm_spec.specs.Module.{Expression}
 use Rattle.replay_spec.specs.Phases.{Piece, last_item, Phase, SamePhase}
 use Rattle.replay_spec.specs.Values.{Value, I32, I64, Ref, Null, Func, const_value}
-use Rattle.replay_spec.specs.Elements.{ActiveElements, DefinedTable, cell_of, elements_piece, elements_phase, table_sizes, table_base}
+use Rattle.replay_spec.specs.Elements.{Items, Functions, Expressions, ActiveElements, DefinedTable, cell_of, elements_piece, elements_phase, table_sizes, table_base}
 
 -- ---- cells of images: the index of a function, or nothing for null
 
@@ -23,13 +23,13 @@ expression_cell (op ∷ []) = operator_cell op
 expression_cell (op ∷ next ∷ ops) = None
 
 -- items are functions, or expressions with such cells
-abbrev pub AreCells : ElementItems → Type 0
+abbrev pub AreCells : Items → Type 0
 AreCells (Functions indices) = Unit {0}
-AreCells (Expressions type items) = All (λ e. IsSome (expression_cell e)) items
+AreCells (Expressions items) = All (λ e. IsSome (expression_cell e)) items
 
-abbrev pub image_cells : ElementItems → List (Option ℕ)
+abbrev pub image_cells : Items → List (Option ℕ)
 image_cells (Functions indices) = map Some indices
-image_cells (Expressions type items) = map (λ e. unwrap_or (expression_cell e) None) items
+image_cells (Expressions items) = map (λ e. unwrap_or (expression_cell e) None) items
 
 -- ---- offsets that are known
 

@@ -4,11 +4,14 @@ use Rattle.wasm_spec.specs.declared.entities.MemoryType.{MemoryType}
 use Rattle.wasm_spec.specs.declared.operators.Operator.TheVariants.{I32Const, I32Add}
 use Rattle.wasm_spec.specs.declared.types.HeapType.{HeapType}
 use Rattle.wasm_spec.specs.declared.types.HeapType.TheVariants.{Abstract}
-use Rattle.wasm_spec.specs.declared.types.AbstractHeapType.TheVariants.{Any}
+use Rattle.wasm_spec.specs.declared.types.AbstractHeapType.TheVariants.{Any, Func}
 use Rattle.wasm_spec.specs.Module.{Expression, Active, Segment, Memories, Segments, Module}
 
 abbrev pub any_heap : HeapType
 any_heap = Abstract Any
+
+abbrev pub function_heap : HeapType
+function_heap = Abstract Func
 
 -- n ones, and then the additions that leave their sum
 abbrev pub ones_added : ℕ → Expression

@@ -3,9 +3,9 @@ use Rattle.std.specs.Prelude.{pos, ℤ, ℕ, List, [], ◌∷◌, true, Option, 
 use Rattle.wasm_spec.specs.declared.operators.Operator.TheVariants.{I32Const, I32Add, GlobalGet, RefFunc, RefNull}
 use Rattle.wasm_spec.specs.declared.types.AbstractHeapType.TheVariants as heap
 use Rattle.wasm_spec.specs.declared.types.HeapType.TheVariants.{Abstract}
-use Rattle.wasm_spec.specs.Module.{Expression, Functions, Expressions}
+use Rattle.wasm_spec.specs.Module.{Expression}
 use Rattle.replay_spec.specs.Values.{I32}
-use Rattle.replay_spec.specs.Elements.{ActiveElements, DefinedTable}
+use Rattle.replay_spec.specs.Elements.{Functions, Expressions, ActiveElements, DefinedTable}
 use Rattle.replay_spec.specs.Tables.{TablePlan}
 use Rattle.replay_spec.specs.Globals.{GlobalPlan}
 
@@ -17,11 +17,7 @@ abbrev pub functions_at : ℤ → List ℕ → ActiveElements
 functions_at offset indices = record { table = 0; offset = I32Const offset ∷ []; items = Functions indices }
 
 abbrev pub expressions_at : ℤ → List Expression → ActiveElements
-expressions_at offset items = record {
-  table = 0;
-  offset = I32Const offset ∷ [];
-  items = Expressions (record { nullable = true; heap = Abstract heap.Func }) items;
-}
+expressions_at offset items = record { table = 0; offset = I32Const offset ∷ []; items = Expressions items }
 
 abbrev pub function : ℕ → Expression
 function index = RefFunc index ∷ []

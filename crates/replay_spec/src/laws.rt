@@ -3,13 +3,19 @@
 ghost use Rattle.std.specs.Prelude.{◌≡◌, ℕ, List, Some, IsSomeAnd};
 ghost use Rattle.wasm_spec.specs.declared.entities.GlobalType.{GlobalType};
 ghost use Rattle.wasm_spec.specs.Module.{Expression, Module};
-ghost use Rattle.replay_spec.specs.Values.{Value, eval, const_value};
+ghost use Rattle.replay_spec.specs.Values.{Value, any_nulls, eval, const_value};
 ghost use Rattle.replay_spec.specs.Classes.{IsOfClass, HaveClasses, field_count};
 ghost use Rattle.replay_spec.specs.Evaluated.{AreImported, all_globals, HaveValues};
 ghost use Rattle.rule_spec.specs.declared.classes.Class.{Class};
 ghost use Rattle.rule_spec.specs.Lists.{Lists, lists_of_module};
 ghost use Rattle.rule_spec.specs.Rules.{Keeps};
 ghost use Rattle.rule_spec.specs.Typing.{HasClass};
+
+/// What replay sees of an expression has the values of the expression.
+pub fn any_null_law()
+    ensures value { (globals : List Value) (fields : ℕ → ℕ) (e : Expression) → eval globals fields (any_nulls e) ≡ eval globals fields e }
+    ensures constant { (e : Expression) → const_value (any_nulls e) ≡ const_value e }
+{}
 
 /// A constant value is the value of the expression, over any globals and types.
 pub fn constant_value_law()

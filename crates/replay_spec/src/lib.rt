@@ -14,7 +14,7 @@ mod worked_tables;
 
 pub use global_laws::global_plan_law;
 pub use image_laws::{memory_image_laws, memory_plan_exists_laws, memory_plan_laws};
-pub use laws::{constant_value_law, module_value_laws, typed_value_law};
+pub use laws::{any_null_law, constant_value_law, module_value_laws, typed_value_law};
 pub use startup_laws::startup_law;
 pub use table_laws::{table_plan_exists_law, table_plan_law, taken_law};
 pub use worked::{

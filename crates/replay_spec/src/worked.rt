@@ -1,11 +1,11 @@
 //! Worked examples of the definitions: each clause computes.
 
 ghost use Rattle.std.specs.Prelude.{◌≡◌, [], ◌∷◌, Some, None, pos, negsuc};
-ghost use Rattle.replay_spec.specs.Values.{I32, I64, F32, F64, V128, Ref, Null, Func, Host, I31, Allocated, AsExtern, NoMore, Argument, eval, const_value, offset_of};
+ghost use Rattle.replay_spec.specs.Values.{I32, I64, F32, F64, V128, Ref, Null, Func, Host, I31, Allocated, AsExtern, NoMore, Argument, any_nulls, eval, const_value, offset_of};
 ghost use Rattle.replay_spec.specs.Phases.{content_of, trap_of};
 ghost use Rattle.replay_spec.specs.Data.{module_phase};
 ghost use Rattle.replay_spec.specs.Plan.{ranges_from};
-ghost use Rattle.replay_spec.specs.Worked.{any_heap, ones_added, overlapping, ends_at_minus_one, empty_past_the_end};
+ghost use Rattle.replay_spec.specs.Worked.{any_heap, function_heap, ones_added, overlapping, ends_at_minus_one, empty_past_the_end};
 ghost use Rattle.wasm_spec.specs.declared.operators.Operator.TheVariants as op;
 
 /// The values of constant expressions: numbers are unsigned and wrap, and offsets are read from them.
@@ -48,6 +48,7 @@ pub fn worked_references()
     ensures host_and_back { eval (Ref (Host 3) ∷ []) (λ t. 0) (op.GlobalGet 0 ∷ op.AnyConvertExtern ∷ op.ExternConvertAny ∷ []) ≡ Some (Ref (Host 3)) }
     ensures null_outside { eval [] (λ t. 0) (op.RefNull any_heap ∷ op.AnyConvertExtern ∷ []) ≡ Some (Ref Null) }
     ensures null { eval [] (λ t. 0) (op.RefNull any_heap ∷ op.ExternConvertAny ∷ []) ≡ Some (Ref Null) }
+    ensures null_of_a_type { any_nulls (op.RefNull function_heap ∷ op.ExternConvertAny ∷ []) ≡ op.RefNull any_heap ∷ op.ExternConvertAny ∷ [] }
     ensures structure { eval [] (λ t. 2) (op.I32Const (pos 1) ∷ op.I64Const (pos 2) ∷ op.StructNew 9 ∷ [])
         ≡ Some (Ref (Allocated (op.StructNew 9) (Argument (I32 1) (Argument (I64 2) NoMore)))) }
     ensures short_structure { eval [] (λ t. 2) (op.I32Const (pos 1) ∷ op.StructNew 9 ∷ []) ≡ None }

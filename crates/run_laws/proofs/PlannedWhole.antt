@@ -8,13 +8,13 @@ use Rattle.rule_spec.specs.Rules.{Keeps}
 use Rattle.form_reader.proofs.Entries.{few_entries}
 use Rattle.replay_spec.specs.Data.{ActiveSegment, active_segments}
 use Rattle.replay_spec.specs.Elements.{ActiveElements, DefinedTable, defined_tables, active_elements}
-use Rattle.replay_spec.specs.Globals.{IsGlobalPlan}
+use Rattle.replay_spec.specs.Globals.{IsGlobalPlan, initialisers}
 use Rattle.replay_spec.specs.Images.{ImageMemory, IsMemoryPlan, image_memory_of}
 use Rattle.replay_spec.specs.Tables.{IsTablePlan}
 use Rattle.init_plan.specs.declared.translation.ModuleTranslation.{ModuleTranslation}
 use Rattle.init_plan.specs.Views.{memory_plan_of}
 use Rattle.init_plan.specs.Images.{image_memories}
-use Rattle.init_plan.specs.Held.{plan_of_globals, erase_null_type, erased_table, erased_elements, initialisers}
+use Rattle.init_plan.specs.Held.{plan_of_globals}
 use Rattle.init_plan.specs.Tables.{plan_of_tables}
 use Rattle.module_environ.specs.Readable.{IsReadable}
 use Rattle.module_environ.specs.Translation.{HasSections}
@@ -41,12 +41,12 @@ module _ (i : InitOptions) (bytes : List ℕ) (m : Module) (t : ModuleTranslatio
   ready = is_ready i.tunables.debug_guest m old sections keeps few
 
   abbrev kept_tables : List DefinedTable
-  kept_tables = map erased_table (defined_tables (lists_of_module m))
+  kept_tables = defined_tables (lists_of_module m)
 
   abbrev kept_elements : List ActiveElements
-  kept_elements = map erased_elements (active_elements (lists_of_module m).elements)
+  kept_elements = active_elements (lists_of_module m).elements
 
-  planned-so : IsPlannedSo (images i) i.tunables.table_lazy_init (map erase_null_type (initialisers (lists_of_module m))) (active_segments m) (passive_bytes m)
+  planned-so : IsPlannedSo (images i) i.tunables.table_lazy_init (initialisers (lists_of_module m)) (active_segments m) (passive_bytes m)
       kept_tables kept_elements t
   planned-so =
       let back = sym is.rest.same in
@@ -54,7 +54,7 @@ module _ (i : InitOptions) (bytes : List ℕ) (m : Module) (t : ModuleTranslatio
         page = page;
         imported_globals = subst (λ (t : ModuleTranslation). t.module.num_imported_globals ≤ length t.module.globals) back
             (globals-among m old sections.entities sections.counts);
-        global_plan = subst (λ (t : ModuleTranslation). IsGlobalPlan (map erase_null_type (initialisers (lists_of_module m))) (plan_of_globals t)) back ready.holds_globals;
+        global_plan = subst (λ (t : ModuleTranslation). IsGlobalPlan (initialisers (lists_of_module m)) (plan_of_globals t)) back ready.holds_globals;
         imported_memories = subst (λ (t : ModuleTranslation). t.module.num_imported_memories ≤ length t.module.memories) back ready.memories.imports;
         page_sizes = subst (λ (t : ModuleTranslation). All (λ memory. (memory.page_size_log2 ≡ 0) ⊎ (memory.page_size_log2 ≡ 16)) t.module.memories) back
             ready.memories.page_sizes;
@@ -78,5 +78,5 @@ module _ (i : InitOptions) (bytes : List ℕ) (m : Module) (t : ModuleTranslatio
       }
 
   pub planned-finished : Finished t
-  planned-finished = finished (images i) i.tunables.table_lazy_init (map erase_null_type (initialisers (lists_of_module m))) (active_segments m) (passive_bytes m)
+  planned-finished = finished (images i) i.tunables.table_lazy_init (initialisers (lists_of_module m)) (active_segments m) (passive_bytes m)
       kept_tables kept_elements t planned-so

@@ -1,5 +1,5 @@
 -- A translation whose memories and then tables are planned can be laid.
-use Rattle.std.proofs.Common.{◌≡◌, ℕ, ◌<◌, ◌≤◌, ◌⊎◌, Bool, List, length, map, sym, subst, arith}
+use Rattle.std.proofs.Common.{◌≡◌, ℕ, ◌<◌, ◌≤◌, ◌⊎◌, Bool, List, length, sym, subst, arith}
 use Rattle.std.specs.Prelude.{All, None, Some}
 use Rattle.std.specs.Int.{IsPowerOfTwo}
 use Rattle.wasm_spec.specs.Module.{Module, globals}
@@ -7,14 +7,14 @@ use Rattle.rule_spec.specs.Lists.{lists_of_module}
 use Rattle.wasm_index.specs.declared.index.Index.{Index}
 use Rattle.wasm_index.specs.declared.spaces.StaticModuleSpace.{StaticModuleSpace}
 use Rattle.wasm_types.specs.declared.tunables.Tunables.{Tunables}
-use Rattle.replay_spec.specs.Globals.{IsGlobalPlan}
+use Rattle.replay_spec.specs.Globals.{IsGlobalPlan, initialisers}
 use Rattle.replay_spec.specs.Images.{ImageOptions, IsMemoryPlan}
 use Rattle.replay_spec.specs.Tables.{IsTablePlan}
 use Rattle.module_types.specs.Builder.{BuilderState}
 use Rattle.init_plan.specs.declared.translation.ModuleTranslation.{ModuleTranslation}
 use Rattle.init_plan.specs.Views.{memory_plan_of, initializers_of, passive_bytes, IsSegmented, IsProcessed}
 use Rattle.init_plan.specs.Images.{image_memories}
-use Rattle.init_plan.specs.Held.{plan_of_globals, erase_null_type, initialisers}
+use Rattle.init_plan.specs.Held.{plan_of_globals}
 use Rattle.init_plan.specs.Tables.{tables_of, elements_of, plan_of_tables}
 use Rattle.module_environ.specs.Translation.{HasEntities, CountsImports}
 use Rattle.module_environ.specs.Translated.{IsTranslated}
@@ -34,13 +34,13 @@ module _ (tunables : Tunables) (index : Index StaticModuleSpace) (validator : �
   same : new ≡ with_tables new (with_memories mid old)
   same = both-planned old mid new memories.same tables.same
 
-  planned-so : IsPlannedSo options lazy (map erase_null_type (initialisers (lists_of_module told.meaning))) (initializers_of old) (passive_bytes old)
+  planned-so : IsPlannedSo options lazy (initialisers (lists_of_module told.meaning)) (initializers_of old) (passive_bytes old)
       (tables_of mid) (elements_of mid) new
   planned-so = record {
     page = page;
     imported_globals = subst (λ (t : ModuleTranslation). t.module.num_imported_globals ≤ length t.module.globals) (sym same)
         (globals-among told.meaning old told.translation.sections.entities told.translation.sections.counts);
-    global_plan = subst (λ (t : ModuleTranslation). IsGlobalPlan (map erase_null_type (initialisers (lists_of_module told.meaning))) (plan_of_globals t)) (sym same)
+    global_plan = subst (λ (t : ModuleTranslation). IsGlobalPlan (initialisers (lists_of_module told.meaning)) (plan_of_globals t)) (sym same)
         told.ready.holds_globals;
     imported_memories = subst (λ (t : ModuleTranslation). t.module.num_imported_memories ≤ length t.module.memories) (sym same) told.ready.memories.imports;
     page_sizes = subst (λ (t : ModuleTranslation). All (λ memory. (memory.page_size_log2 ≡ 0) ⊎ (memory.page_size_log2 ≡ 16)) t.module.memories) (sym same)
@@ -64,5 +64,5 @@ module _ (tunables : Tunables) (index : Index StaticModuleSpace) (validator : �
   }
 
   pub translated-finished : Finished new
-  translated-finished = finished options lazy (map erase_null_type (initialisers (lists_of_module told.meaning))) (initializers_of old) (passive_bytes old)
+  translated-finished = finished options lazy (initialisers (lists_of_module told.meaning)) (initializers_of old) (passive_bytes old)
       (tables_of mid) (elements_of mid) new planned-so

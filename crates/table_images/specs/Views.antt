@@ -1,9 +1,6 @@
 -- The tables of a translated module, as the plain values of the definitions.
 use Rattle.std.specs.Prelude.{ℕ, Bool, true, false, List, [], ◌∷◌, map, ◌==◌, Option, None, Some, if◌then◌else◌}
-use Rattle.wasm_spec.specs.declared.types.HeapType.TheVariants.{Abstract}
-use Rattle.wasm_spec.specs.declared.types.AbstractHeapType.TheVariants.{Any}
-use Rattle.wasm_spec.specs.Module.{Expression, ElementItems}
-use Rattle.wasm_spec.specs.Module as plain
+use Rattle.wasm_spec.specs.Module.{Expression}
 use Rattle.wasm_index.specs.declared.index.Index.{Index}
 use Rattle.wasm_index.specs.declared.spaces.FuncSpace.{FuncSpace}
 use Rattle.wasm_index.specs.Index.{number_of}
@@ -17,7 +14,7 @@ use Rattle.wasm_module.specs.declared.table_initialization.TableInitialValue.The
 use Rattle.wasm_module.specs.declared.table_initialization.TableSegment.{TableSegment}
 use Rattle.wasm_module.specs.declared.table_initialization.TableSegmentElements.{TableSegmentElements}
 use Rattle.wasm_module.specs.declared.table_initialization.TableSegmentElements.TheVariants as elements
-use Rattle.replay_spec.specs.Elements.{ActiveElements, DefinedTable}
+use Rattle.replay_spec.specs.Elements.{Items, Functions, Expressions, ActiveElements, DefinedTable}
 use Rattle.replay_spec.specs.Tables.{PlannedTable, TablePlan}
 
 -- a cell of an image; the reserved index stands for null
@@ -27,11 +24,10 @@ cell_of index = if number_of index == 4294967295 then None else Some (number_of 
 abbrev pub image_of : List (Index FuncSpace) → List (Option ℕ)
 image_of indices = map cell_of indices
 
--- the items of a segment; of their type only that they are references is kept
-abbrev pub items_of : TableSegmentElements → ElementItems
-items_of (elements.Functions functions) = plain.Functions (map number_of functions.items)
-items_of (elements.Expressions ty expressions) =
-    plain.Expressions (record { nullable = ty.nullable; heap = Abstract Any }) (map expression_of expressions.items)
+-- the items of a segment
+abbrev pub items_of : TableSegmentElements → Items
+items_of (elements.Functions functions) = Functions (map number_of functions.items)
+items_of (elements.Expressions ty expressions) = Expressions (map expression_of expressions.items)
 
 abbrev pub active_elements_of : TableSegment → ActiveElements
 active_elements_of s = record { table = number_of s.table_index; offset = expression_of s.offset; items = items_of s.elements }

@@ -7,7 +7,7 @@ use Rattle.wasm_index.specs.declared.index.Index.{Index}
 use Rattle.wasm_index.specs.declared.spaces.StaticModuleSpace.{StaticModuleSpace}
 use Rattle.wasm_index.specs.Index.{index_of}
 use Rattle.wasm_types.specs.declared.tunables.Tunables.{Tunables}
-use Rattle.replay_spec.specs.Globals.{AgreesOnGlobals}
+use Rattle.replay_spec.specs.Globals.{AgreesOnGlobals, initialisers}
 use Rattle.replay_spec.specs.Plan.{MemoryPlan, Agrees}
 use Rattle.replay_spec.specs.Startup.{Startup, startup_of, first_startup, raised_by_tables, raised_by_memories}
 use Rattle.replay_spec.specs.Tables.{TablePlan, IsTablePlan}
@@ -16,7 +16,7 @@ use Rattle.module_types.specs.Builder.{BuilderState, builder_view}
 use Rattle.module_types.specs.Views.{interned_of}
 use Rattle.init_plan.specs.declared.translation.ModuleTranslation.{ModuleTranslation}
 use Rattle.init_plan.specs.Agreement.{AgreesOnElements, AgreesInAll}
-use Rattle.init_plan.specs.Held.{initialisers, plan_of_globals}
+use Rattle.init_plan.specs.Held.{plan_of_globals}
 use Rattle.init_plan.specs.Startup.{startup_kind, raised, types_after}
 use Rattle.table_images.specs.Left.{IsLeft}
 use Rattle.init_plan.specs.Tables.{tables_of, elements_of, plan_of_tables, startup_with_tables, AreCounted, OnlyTableInitChanges}

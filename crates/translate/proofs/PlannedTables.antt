@@ -1,12 +1,10 @@
 -- What the plan of a translation's tables promises of the module whose lists the translation holds.
-use Rattle.std.proofs.Common.{ℕ, List, map, ap, subst, ◌∙◌}
+use Rattle.std.proofs.Common.{ap, ◌∙◌}
 use Rattle.wasm_spec.specs.Module.{Module}
-use Rattle.rule_spec.specs.Lists.{Lists, lists_of_module}
-use Rattle.replay_spec.specs.Elements.{ActiveElements, DefinedTable, defined_tables, active_elements}
 use Rattle.replay_spec.specs.Tables.{TablePlan, IsTablePlan}
 use Rattle.init_plan.specs.declared.translation.ModuleTranslation.{ModuleTranslation}
 use Rattle.init_plan.specs.Views.{OnlyMemoryInitChanges}
-use Rattle.init_plan.specs.Held.{erased_table, erased_elements, HoldsTables}
+use Rattle.init_plan.specs.Held.{HoldsTables}
 use Rattle.init_plan.specs.Tables.{tables_of, elements_of}
 use Rattle.translate.specs.Options.{InitOptions, PlansTables}
 
@@ -20,9 +18,4 @@ holds_still m old mid same h = record {
 
 pub plans_tables : (i : InitOptions) (m : Module) (t : ModuleTranslation) (plan : TablePlan) → HoldsTables m t
     → IsTablePlan i.tunables.table_lazy_init t.module.num_imported_tables (tables_of t) (elements_of t) plan → PlansTables i m plan
-plans_tables i m t plan holds h =
-    let l : Lists = lists_of_module m in
-    let lazy = i.tunables.table_lazy_init in
-    subst (λ (n : ℕ). IsTablePlan lazy n (map erased_table (defined_tables l)) (map erased_elements (active_elements l.elements)) plan) holds.imports
-    (subst (λ (ts : List DefinedTable). IsTablePlan lazy t.module.num_imported_tables ts (map erased_elements (active_elements l.elements)) plan) holds.tables
-    (subst (λ (ss : List ActiveElements). IsTablePlan lazy t.module.num_imported_tables (tables_of t) ss plan) holds.active h))
+plans_tables i m t plan holds h = rw (← holds.imports, ← holds.tables, ← holds.active) h

@@ -9,7 +9,6 @@ use Rattle.replay_spec.specs.Images.{ImageOptions, IsStatic, IsMemoryPlan, image
 use Rattle.replay_spec.specs.Plan.{MemoryPlan}
 use Rattle.replay_spec.specs.Startup.{Startup, Never, Always, IfMemoriesNeedInit, startup_of}
 use Rattle.replay_spec.specs.Tables.{TablePlan, IsTablePlan}
-use Rattle.init_plan.specs.Held.{erased_table, erased_elements}
 use Rattle.init_plan.specs.Images.{image_options, HasRuntimeSize}
 use Rattle.module_environ.specs.Initialisers.{passive_data_from}
 use Rattle.command_words.specs.declared.command.Collector.{Collector}
@@ -65,11 +64,10 @@ module _ (i : InitOptions) (m : Module) where
   HasDataSize P =
       HasRuntimeSize (images i) (length (imported_memories m)) (map image_memory_of (defined_memories m)) (active_segments m) (passive_bytes m) P
 
-  -- a plan of its tables; of an expression that is kept, the heap type of a null reference is not
+  -- a plan of its tables
   abbrev pub PlansTables : TablePlan → Type 0
   PlansTables plan = let l = lists_of_module m in
-      IsTablePlan i.tunables.table_lazy_init (length (imported_of table_import m)) (map erased_table (defined_tables l))
-      (map erased_elements (active_elements l.elements)) plan
+      IsTablePlan i.tunables.table_lazy_init (length (imported_of table_import m)) (defined_tables l) (active_elements l.elements) plan
 
 -- when its startup function runs
 abbrev pub startup_by : Module → MemoryPlan → TablePlan → Startup

@@ -62,11 +62,6 @@ operator_of (ops.ArrayNewFixed type size) = plain.ArrayNewFixed (number_of type)
 operator_of ops.ExternConvertAny = plain.ExternConvertAny
 operator_of ops.AnyConvertExtern = plain.AnyConvertExtern
 
--- an operator that was read, with `any` for the heap type of a null reference
-abbrev pub with_any_null : Operator → Operator
-with_any_null (plain.RefNull heap) = plain.RefNull (Abstract Any)
-with_any_null op = op
-
 -- an operator that can be converted: its index is below the reserved one, its heap type is known
 module _ (known : UnpackedIndex → Type 0) where
   abbrev pub KnowsOperator : Operator → Type 0

@@ -1,20 +1,15 @@
-use Rattle.std.proofs.Common.{subst, ap, refl}
-use Rattle.form_data.specs.declared.form.DataKind.{DataKind}
-use Rattle.form_data.specs.Views.{data_kind_of}
+use Rattle.std.proofs.Common.{ap, refl}
 use Rattle.wasm_index.specs.declared.index.Index.{Index}
 use Rattle.wasm_index.specs.declared.spaces.MemorySpace.{MemorySpace}
 use Rattle.wasm_index.specs.Index.{number_of}
-use Rattle.module_environ.specs.Segments.{IsDataConvertible}
 use Rattle.module_environ.proofs.DataSteps.{active-added}
 use Rattle.module_environ.proofs.data.add_active.Goals as goal
 
 pub returns-in_ok-push : goal.returns-in_ok-push
 returns-in_ok-push g c =
-    let known = (goal.TypeConvert-dyn g c.args.env.now).knows c.args.env.now.1 in
     let look = (goal.TypeConvert-dyn g c.args.env.now).look_up c.args.env.now.1 in
-    let can = subst (λ (k : DataKind). IsDataConvertible known (data_kind_of k)) c.in-Active.is c.requires in
     active-added look c.args.active.now.items c.push.new.self.items
     (record { memory_index = c.from_u32.result; offset = c.in_ok-convert_offset.field-0; bytes = c.args.segment.now.bytes })
     c.args.segment.now.kind c.in-Active.memory_index c.in-Active.offset c.args.segment.now.bytes.now
     c.in-Active.is c.in_ok-push.ensures.items (ap (λ (x : Index MemorySpace). number_of x) c.from_u32.ensures) c.in_ok-convert_offset.ensures
-    can.2 refl
+    refl
