@@ -27,21 +27,6 @@ locals_none bytes e = ap locals_behind (fault_from_none (unsigned_at 32 bytes) (
 abbrev pub ended : {A : Type 0} → List A → Option (List ℕ) → List A × Option (List ℕ)
 ended front rest = (front, rest)
 
-module _ {A : Type 0} where
-  pub nothing_added : (front : List A) (read : List A × Option (List ℕ)) → read ≡ ([], None) → front ≡ front ++ read.0
-  nothing_added front read e = sym (append-nil front) ∙ ap (λ (r : List A × Option (List ℕ)). front ++ r.0) (sym e)
-
-  pub nothing_behind : (read : List A × Option (List ℕ)) → read ≡ ([], None) → None ≡ read.1
-  nothing_behind read e = ap (λ (r : List A × Option (List ℕ)). r.1) (sym e)
-
-  pub added : (front old : List A) (rest : Option (List ℕ)) (read : List A × Option (List ℕ)) → ended front rest ≡ in_front old read
-      → front ≡ old ++ read.0
-  added front old rest read e = ap (λ (r : List A × Option (List ℕ)). r.0) e
-
-  pub behind : (front old : List A) (rest : Option (List ℕ)) (read : List A × Option (List ℕ)) → ended front rest ≡ in_front old read
-      → rest ≡ read.1
-  behind front old rest read e = ap (λ (r : List A × Option (List ℕ)). r.1) e
-
 module _ {A : Type 0} (part : Partly A) where
   -- what so many elements add to those before
   abbrev pub still : List A → ℕ → List ℕ → List A × Option (List ℕ)

@@ -1,6 +1,6 @@
 -- Cutting `.dwo` takes nothing of `.debug_`.
 use Rattle.std.proofs.lemmas.Grind.{common_steps}
-use Rattle.std.proofs.Common.{◌≡◌, ℕ, zero, suc, ◌-◌, ◌≤◌, List, ◌++◌, length, take, drop, get_or, Bool, true, false, cond, eqb, refl, sym, ◌∙◌, arith, append_assoc}
+use Rattle.std.proofs.Common.{◌≡◌, ℕ, zero, suc, ◌-◌, ◌≤◌, List, ◌++◌, length, take, drop, get_or, Bool, true, cond, eqb, refl, sym, arith, append_assoc}
 use Rattle.std.specs.Prelude.{codes}
 use Rattle.std.specs.List.{starts_with, ends_with}
 use Rattle.std.specs.Cmp.{unsigned_Decides}
@@ -44,8 +44,7 @@ module _ (name : List ℕ) (ends : ends_with eqb name (codes ".dwo") ≡ true) w
 one_cut : (t : Bool) (name cut : List ℕ) → ends_with eqb name (codes ".dwo") ≡ t
     → starts_with eqb cut (codes ".debug_") ≡ starts_with eqb (take (length name - 4) name) (codes ".debug_")
     → starts_with eqb (cond t cut name) (codes ".debug_") ≡ starts_with eqb name (codes ".debug_")
-one_cut true name cut e h = h ∙ cut_keeps name e
-one_cut false name cut e h = refl
+one_cut t name cut e h = grind (arith, cut_keeps)
 
 all_cuts_keep : (n : ℕ) (name : List ℕ) → starts_with eqb (without_dwo n name) (codes ".debug_") ≡ starts_with eqb name (codes ".debug_")
 all_cuts_keep zero name = refl

@@ -17,8 +17,7 @@ regroup {A} front x (Ok y) = ap (λ (ys : List A). Some (ys, y.1)) (simp append_
 regroup front x (Err f) = refl
 
 all_so_far : {A : Type 0} (read : Result (List A × List ℕ) Fault) → with_front [] (taken read) ≡ taken read
-all_so_far (Ok x) = refl
-all_so_far (Err fault) = refl
+all_so_far read = grind arith
 
 module _ {A : Type 0} (part : Reader A) where
   -- what so many elements add to those before

@@ -1,5 +1,5 @@
 -- Names of subsections one after the other, as a loop reads them.
-use Rattle.std.proofs.Common.{◌≡◌, ℕ, suc, ◌-◌, ◌+◌, ◌<◌, ◌≤◌, List, length, Bool, true, false, Option, Some, None, refl, sym, append_assoc, arith}
+use Rattle.std.proofs.Common.{◌≡◌, ℕ, suc, ◌-◌, ◌+◌, ◌<◌, ◌≤◌, List, length, Bool, true, false, Option, Some, None, refl, append_assoc, arith}
 use Rattle.std.specs.Option.{option_or}
 use Rattle.std.proofs.lemmas.List.{append-nil}
 use Rattle.custom_sections.specs.Reading.{taken}
@@ -11,12 +11,10 @@ pub same_lists : (a b : Option (List ℕ)) (f g : List (ℕ × List ℕ)) (l m :
 same_lists a b f g l m d e h = cc
 
 or_regroups : (a b c : Option (List ℕ)) → option_or c (option_or b a) ≡ option_or (option_or c b) a
-or_regroups a b (Some x) = refl
-or_regroups a b None = refl
+or_regroups a b c = grind arith
 
 pub joined_regroups : (a b c : NameLists) → joined (joined a b) c ≡ joined a (joined b c)
-joined_regroups a b c = same_lists _ _ _ _ _ _ (or_regroups a.module_name b.module_name c.module_name)
-    (append_assoc a.functions b.functions c.functions) (append_assoc a.locals b.locals c.locals)
+joined_regroups a b c = grind (arith, same_lists, or_regroups, append_assoc)
 
 pub joined_none : (a : NameLists) → joined a no_names ≡ a
 joined_none a = same_lists _ _ _ _ _ _ refl (append-nil a.functions) (append-nil a.locals)
@@ -45,8 +43,7 @@ module _ (locals : Bool) where
       → Some ((id, contents), rest) ≡ taken (sized_subsection_at bytes) → (subsection locals id contents).1 ≡ false
       → still_named names (suc n) bytes ≡ joined names (subsection locals id contents).0
   unfolding subsections_before
-  ends_is names n bytes id contents rest e filled =
-      rw (read_from_taken (sized_subsection_at bytes) ((id, contents), rest) (sym e), filled) refl
+  ends_is names n bytes id contents rest e filled = grind (arith, read_from_taken)
 
   -- a subsection with a fault in it is the last
   pub ends : (names : NameLists) (count i : ℕ) (bytes : List ℕ) (id : ℕ) (contents rest : List ℕ) (total : NameLists) → i < count

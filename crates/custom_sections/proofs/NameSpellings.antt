@@ -120,8 +120,7 @@ one_again locals n id bytes rest names t =
 
 nothing_left : (locals : Bool) (n : ℕ) → subsections_before locals n [] ≡ no_names
 unfolding subsections_before sized_subsection_at
-nothing_left locals zero = refl
-nothing_left locals (suc n) = refl
+nothing_left locals n = grind arith
 
 subsections_again : (locals : Bool) (n : ℕ) (bytes : List ℕ) (all : List NameLists) → length bytes ≤ n → SpellsSubsections locals bytes all
     → subsections_before locals n bytes ≡ joined_all all

@@ -1,5 +1,5 @@
 -- Numbers of 32 bits, byte by byte.
-use Rattle.std.proofs.Common.{◌≡◌, ℕ, suc, ◌-◌, ◌^◌, ◌<◌, ◌≤◌, List, [], ◌∷◌, Option, Some, None, refl, ap, ◌∙◌, arith}
+use Rattle.std.proofs.Common.{◌≡◌, ℕ, suc, ◌-◌, ◌^◌, ◌<◌, ◌≤◌, List, Option, Some, None, refl, ap, ◌∙◌, arith}
 use Rattle.std.specs.Option.{option_map}
 use Rattle.std.proofs.lemmas.Bool.{lt-ltb, le-ltb}
 use Rattle.form_reader.specs.Reading.{uncons}
@@ -8,8 +8,7 @@ use Rattle.form_reader.proofs.Digits.{remaining}
 use Rattle.custom_sections.specs.Reading.{taken}
 
 nothing_left : (s w l k : ℕ) (bytes : List ℕ) → None ≡ uncons bytes → remaining s w l (suc k) bytes ≡ None
-nothing_left s w l k [] e = refl
-nothing_left s w l k (b ∷ bytes) e = absurd cc
+nothing_left s w l k bytes e = grind arith
 
 -- the bytes end within a number
 pub cut : (s w l most i : ℕ) (bytes : List ℕ) (total : Option (Found × List ℕ)) → None ≡ uncons bytes → i < most

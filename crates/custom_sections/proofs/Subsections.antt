@@ -42,19 +42,14 @@ module _ (locals : Bool) (contents : List ℕ) where
 pub nothing : (names : NameLists) (read : NameLists × Bool) (filled : Bool) → read ≡ (no_names, filled) → names ≡ joined names read.0
 nothing names read filled e = sym (joined_none names) ∙ ap (λ (r : NameLists × Bool). joined names r.0) (sym e)
 
-pub fills : (read : NameLists × Bool) (names : NameLists) (filled : Bool) → read ≡ (names, filled) → filled ≡ read.1
-fills read names filled e = ap (λ (r : NameLists × Bool). r.1) (sym e)
-
 pub with_module : (names : NameLists) (text : List ℕ) (read : NameLists × Bool) → read ≡ (record no_names { module_name = Some text }, true)
     → record names { module_name = Some text } ≡ joined names read.0
 with_module names text read e = grind (arith, same_lists, append-nil)
 
 pub with_functions : (names : NameLists) (functions : List (ℕ × List ℕ)) (part : List (ℕ × List ℕ) × Option (List ℕ)) (read : NameLists × Bool)
     → functions ≡ names.functions ++ part.0 → read ≡ functions_named part → record names { functions = functions } ≡ joined names read.0
-with_functions names functions part read f e =
-    same_lists _ _ _ _ _ _ refl f (sym (append-nil names.locals)) ∙ ap (λ (r : NameLists × Bool). joined names r.0) (sym e)
+with_functions names functions part read f e = grind (arith, same_lists, append-nil)
 
 pub with_locals : (names : NameLists) (locals : List (ℕ × List (ℕ × List ℕ))) (part : List (ℕ × List (ℕ × List ℕ)) × Option (List ℕ))
     (read : NameLists × Bool) → locals ≡ names.locals ++ part.0 → read ≡ locals_named part → record names { locals = locals } ≡ joined names read.0
-with_locals names locals part read l e =
-    same_lists _ _ _ _ _ _ refl (sym (append-nil names.functions)) l ∙ ap (λ (r : NameLists × Bool). joined names r.0) (sym e)
+with_locals names locals part read l e = grind (arith, same_lists, append-nil)

@@ -1,5 +1,5 @@
 -- What was taken, by what was read.
-use Rattle.std.proofs.Common.{◌≡◌, Option, Some, None, Result, Ok, Err, refl, ap}
+use Rattle.std.proofs.Common.{◌≡◌, Option, Some, None, Result, Ok, Err, arith}
 use Rattle.form_reader.specs.Reading.{Fault}
 use Rattle.custom_sections.specs.Reading.{taken}
 
@@ -17,10 +17,8 @@ none_is x e = absurd cc
 
 -- what was taken was read
 pub read_from_taken : {A : Type 0} (read : Result A Fault) (x : A) → taken read ≡ Some x → read ≡ Ok x
-read_from_taken (Ok y) x e = let same : y ≡ x = cc in ap Ok same
-read_from_taken (Err fault) x e = absurd cc
+read_from_taken read x e = grind arith
 
 -- where nothing was taken, a fault came
 pub fault_from_none : {A : Type 0} (read : Result A Fault) → taken read ≡ None → (fault : Fault) × (read ≡ Err fault)
-fault_from_none (Ok y) e = absurd cc
-fault_from_none (Err fault) e = (fault, refl)
+fault_from_none read e = grind arith

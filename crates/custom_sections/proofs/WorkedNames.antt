@@ -1,11 +1,10 @@
 -- Name sections, read.
-use Rattle.std.proofs.Common.{◌≡◌, ℕ, zero, suc, ◌<◌, [], ◌∷◌, true, arith}
+use Rattle.std.proofs.Common.{◌≡◌, ℕ, ◌<◌, [], ◌∷◌, true, arith}
 use Rattle.std.specs.Str.{is_utf8, IsAscii}
 use Rattle.std.proofs.lemmas.Str.{IsUtf8-from_ascii, is_utf8-from_IsUtf8}
 
 one_ascii : (b : ℕ) → b < 128 → IsAscii (b ∷ [])
-one_ascii b lt zero = lt
-one_ascii b lt (suc i) = omega arith
+one_ascii b lt h3 = grind arith
 
 -- a byte below 128 is text
 pub one_char : (b : ℕ) → b < 128 → is_utf8 (b ∷ []) ≡ true

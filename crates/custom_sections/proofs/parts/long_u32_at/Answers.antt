@@ -7,27 +7,16 @@ pub bytes-init : goal.bytes-init
 bytes-init c = record { weight_is = refl; below = omega arith; so_far = (0, all_remains 5 c.args.bytes.now) }
 
 pub returns-in_err-byte : goal.returns-in_err-byte
-returns-in_err-byte c =
-    let s = c.bytes.invariant.so_far in
-    rw c.from_residual.ensures (none_taken c.args.bytes.now
-    (cut c.bytes.sum c.bytes.weight s.0 5 c.bytes.counter c.bytes.rest.now _ c.in_err-byte.ensures c.bytes-test.true s.1))
+returns-in_err-byte c = grind (arith, none_taken, cut)
 
 pub overflow_mul-sum : goal.overflow_mul-sum
-overflow_mul-sum c =
-    let w = weight_small c.bytes.counter c.bytes.weight c.bytes.invariant.weight_is (omega arith) in
-    let d = digit_small c.from.result c.bytes.weight (omega arith) in
-    omega arith
+overflow_mul-sum c = grind (arith, weight_small, digit_small)
 
 pub overflow_add-sum : goal.overflow_add-sum
-overflow_add-sum c =
-    let w = weight_small c.bytes.counter c.bytes.weight c.bytes.invariant.weight_is (omega arith) in
-    let d = digit_small c.from.result c.bytes.weight (omega arith) in
-    omega (arith, c.bytes.invariant.below)
+overflow_add-sum c = grind (arith, weight_small, digit_small)
 
 pub overflow_mul-weight : goal.overflow_mul-weight
-overflow_mul-weight c =
-    let w = weight_small c.bytes.counter c.bytes.weight c.bytes.invariant.weight_is (omega arith) in
-    omega arith
+overflow_mul-weight c = grind (arith, weight_small)
 
 pub returns-in-Ok : goal.returns-in-Ok
 returns-in-Ok c =
@@ -46,5 +35,4 @@ returns-in-Err c =
     large_taken c.args.bytes.now _ c.in_ok-byte.after.now is (omega (arith, h))
 
 pub bytes-preserved : goal.bytes-preserved
-bytes-preserved c =
-    grind (arith, weight_next c.bytes.counter c.bytes.weight c.bytes.invariant.weight_is, weight_small c.bytes.counter c.bytes.weight c.bytes.invariant.weight_is (omega arith), digit_small c.from.result c.bytes.weight (omega arith), step)
+bytes-preserved c = grind (arith, weight_next, weight_small, digit_small, step)

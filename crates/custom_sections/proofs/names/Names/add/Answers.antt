@@ -1,7 +1,7 @@
-use Rattle.std.proofs.Common.{◌≤◌, ap, ◌∙◌, arith, true, false, map}
+use Rattle.std.proofs.Common.{◌≤◌, arith, true, false, map}
 use Rattle.custom_sections.specs.Views.{text_of, locals_of, names_of}
-use Rattle.custom_sections.specs.NameReading.{no_names, is_filled, names_before, locals_before, vector_before}
-use Rattle.custom_sections.proofs.Subsections.{no_module, one_module, functions_are, locals_are, locals_skipped, skipped, nothing, fills, with_module, with_functions, with_locals}
+use Rattle.custom_sections.specs.NameReading.{names_before, locals_before, vector_before}
+use Rattle.custom_sections.proofs.Subsections.{no_module, one_module, functions_are, locals_are, locals_skipped, skipped, nothing, with_module, with_functions, with_locals}
 use Rattle.custom_sections.proofs.names.Names.add.Goals as goal
 
 pub returns-in_default-whole_name-clause-added : goal.returns-in_default-whole_name-clause-added
@@ -9,8 +9,7 @@ returns-in_default-whole_name-clause-added c =
     rw c.in-0.is (nothing (names_of c.args.self.now) _ false (no_module c.args.locals c.args.contents.now c.in_default-whole_name.ensures))
 
 pub returns-in_default-whole_name-clause-filled : goal.returns-in_default-whole_name-clause-filled
-returns-in_default-whole_name-clause-filled c =
-    rw c.in-0.is (fills _ no_names false (no_module c.args.locals c.args.contents.now c.in_default-whole_name.ensures))
+returns-in_default-whole_name-clause-filled c = grind (arith, no_module)
 
 pub returns-in-Some-clause-added : goal.returns-in-Some-clause-added
 returns-in-Some-clause-added c =
@@ -18,8 +17,7 @@ returns-in-Some-clause-added c =
     (one_module c.args.locals c.args.contents.now c.in-Some.name.now c.in-Some.ensures))
 
 pub returns-in-Some-clause-filled : goal.returns-in-Some-clause-filled
-returns-in-Some-clause-filled c =
-    rw c.in-0.is (fills _ _ true (one_module c.args.locals c.args.contents.now c.in-Some.name.now c.in-Some.ensures))
+returns-in-Some-clause-filled c = grind (arith, one_module)
 
 pub returns-in_ok-add_names-in-1-clause-added : goal.returns-in_ok-add_names-in-1-clause-added
 returns-in_ok-add_names-in-1-clause-added c =
@@ -27,8 +25,7 @@ returns-in_ok-add_names-in-1-clause-added c =
     c.in_ok-add_names-in-1.ensures.added (functions_are c.args.locals c.args.contents.now))
 
 pub returns-in_ok-add_names-in-1-clause-filled : goal.returns-in_ok-add_names-in-1-clause-filled
-returns-in_ok-add_names-in-1-clause-filled c =
-    rw (c.in-1.is, functions_are c.args.locals c.args.contents.now) (c.is_filled.ensures ∙ ap is_filled c.in_ok-add_names-in-1.ensures.left)
+returns-in_ok-add_names-in-1-clause-filled c = grind (arith, functions_are)
 
 pub returns-in_ok-add_locals-in-2-clause-added : goal.returns-in_ok-add_locals-in-2-clause-added
 returns-in_ok-add_locals-in-2-clause-added c =
@@ -37,16 +34,14 @@ returns-in_ok-add_locals-in-2-clause-added c =
     c.in_ok-add_locals-in-2.ensures.added (locals_are c.args.locals c.args.contents.now c.if-locals.true))
 
 pub returns-in_ok-add_locals-in-2-clause-filled : goal.returns-in_ok-add_locals-in-2-clause-filled
-returns-in_ok-add_locals-in-2-clause-filled c =
-    rw (c.in-2.is, locals_are c.args.locals c.args.contents.now c.if-locals.true)
-    (c.is_filled-in-2.ensures ∙ ap is_filled c.in_ok-add_locals-in-2.ensures.left)
+returns-in_ok-add_locals-in-2-clause-filled c = grind (arith, locals_are)
 
 pub returns-in_default-clause-added : goal.returns-in_default-clause-added
 returns-in_default-clause-added c =
     rw c.in-2.is (nothing (names_of c.args.self.now) _ true (locals_skipped c.args.locals c.args.contents.now c.if-locals.false))
 
 pub returns-in_default-clause-filled : goal.returns-in_default-clause-filled
-returns-in_default-clause-filled c = rw c.in-2.is (fills _ no_names true (locals_skipped c.args.locals c.args.contents.now c.if-locals.false))
+returns-in_default-clause-filled c = grind (arith, locals_skipped)
 
 pub returns-in_default-2-clause-added : goal.returns-in_default-2-clause-added
 returns-in_default-2-clause-added c =
@@ -54,6 +49,4 @@ returns-in_default-2-clause-added c =
     nothing (names_of c.args.self.now) _ true (skipped c.args.locals c.args.contents.now c.args.id high)
 
 pub returns-in_default-2-clause-filled : goal.returns-in_default-2-clause-filled
-returns-in_default-2-clause-filled c =
-    let high : 3 ≤ c.args.id = omega arith in
-    fills _ no_names true (skipped c.args.locals c.args.contents.now c.args.id high)
+returns-in_default-2-clause-filled c = grind (arith, skipped)
