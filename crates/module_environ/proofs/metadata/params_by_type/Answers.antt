@@ -1,14 +1,19 @@
-use Rattle.std.proofs.Common.{◌∙◌, List, ◌++◌, All, map, sym, ap, subst}
+use Rattle.std.proofs.Common.{◌≡◌, ◌∙◌, Bool, false, List, [], ◌++◌, All, map, sym, ap, subst}
 use Rattle.std.proofs.lemmas.List.{append-nil, map-append}
 use Rattle.form_data.specs.Views.{group_of}
 use Rattle.form_lists.proofs.AllSections.{All-joined}
-use Rattle.form_lists.proofs.Taking.{taken, none_left}
+use Rattle.form_reader.specs.Input.{Takes}
+use Rattle.form_lists.proofs.Taking.{taken}
 use Rattle.form_types.specs.Types.{NamedGroup, types_by_id}
 use Rattle.wasm_types.specs.ValueViews.{value_of as view_value}
 use Rattle.module_environ.specs.Metadata.{KnowsParams, params_to}
 use Rattle.module_environ.proofs.AlikeFunctions.{types-known, types-alike}
 use Rattle.module_environ.proofs.Filling.{added_more}
 use Rattle.module_environ.proofs.metadata.params_by_type.Goals as goal
+
+-- at the end none was left
+none_left : {A : Type 0} (before after : List A) (first : A) (b : Bool) → b ≡ false → Takes before first after b → before ≡ []
+none_left before after first b is takes = (subst (Takes before first after) is takes).0
 
 pub loop-groups-init : goal.loop-groups-init
 loop-groups-init g c =

@@ -14,27 +14,27 @@ use Rattle.module_environ.proofs.WayPlaces.{none_else, unchanged, told_poisoned,
 use Rattle.module_environ.proofs.WholeTranslation.{check-cause}
 use Rattle.module_environ.proofs.translating.translate_form.Goals as goal
 
-pub returns-in_err-lists-clause-cause : goal.returns-in_err-lists-clause-cause
-returns-in_err-lists-clause-cause c =
-    let p = err_from_is_err_and c.from_residual.result c.from_residual.ensures.1 in
+pub returns-in_err-checked-clause-cause : goal.returns-in_err-checked-clause-cause
+returns-in_err-checked-clause-cause c =
+    let p = err_from_is_err_and c.from_residual-in_err-checked.result c.from_residual-in_err-checked.ensures.1 in
     let e = c.checked_lists.ensures in
-    rw (p.1, p.2) (check-cause (source_module c.args.source) c.args.types.now.is_poisoned c.checked_lists.result c.in_err-lists.field-0.0 c.in_err-lists.was e.broken e.first)
+    rw (p.1, p.2) (check-cause (source_module c.args.source) c.args.types.now.is_poisoned c.checked_lists.result c.in_err-checked.field-0.0 c.in_err-checked.was e.broken e.first)
 
 -- ---- the lists were checked
 
 pub translate_lists-requires-clause-gathered : goal.translate_lists-requires-clause-gathered
 translate_lists-requires-clause-gathered c =
-    let same = ap source_module (c.forget_types.ensures.of_source ∙ c.in_ok-lists.ensures.of_source) in
+    let same = ap source_module (c.without_types-lists.ensures.of_source) in
     record {
-      lists = c.forget_types.ensures.lists
-          ∙ ap (λ (l : rule.Lists). record l { types = [] }) (c.in_ok-lists.ensures.lists ∙ ap lists_of_module (sym same));
-      keeps = subst Keeps (sym same) c.in_ok-lists.ensures.kept;
+      lists = c.without_types-lists.ensures.lists
+          ∙ ap (λ (l : rule.Lists). record l { types = [] }) (c.in_ok-checked.ensures.lists ∙ ap lists_of_module (sym same));
+      keeps = subst Keeps (sym same) c.in_ok-checked.ensures.kept;
       few = subst HasFewEntries (sym same) c.requires.few;
     }
 
 pub returns-clause-formed : goal.returns-clause-formed
 returns-clause-formed c =
-    let same = ap source_module (c.forget_types.ensures.of_source ∙ c.in_ok-lists.ensures.of_source) in
+    let same = ap source_module (c.without_types-lists.ensures.of_source) in
     subst (λ (m : plain.Module). OnOk c.translate_lists.result
     (IsFormed c.args.tunables.now c.args.validator.now m c.args.translation.now c.translate_lists.new.translation c.translate_lists.new.types)) same
     c.translate_lists.ensures.formed
@@ -55,13 +55,13 @@ returns-clause-refused c =
 pub returns-clause-stops : goal.returns-clause-stops
 returns-clause-stops c =
     let m = source_module c.args.source in
-    let same = ap source_module (c.forget_types.ensures.of_source ∙ c.in_ok-lists.ensures.of_source) in
+    let same = ap source_module (c.without_types-lists.ensures.of_source) in
     let P : Type 0 = Keeps m × IsOnTheWay m c.args.validator.now (builder_view c.translate_lists.new.types) in
     stops-anyhow c.args.types.now c.translate_lists.new.types P (λ is. (c.translate_lists.ensures.poisoned is).1) (λ was sound.
     elim (c.translate_lists.ensures.stops was sound) [
       | inl unchanged ↦ inl unchanged
       | inr way ↦ inr (
-        c.in_ok-lists.ensures.kept,
+        c.in_ok-checked.ensures.kept,
         subst (λ (n : plain.Module). IsOnTheWay n c.args.validator.now (builder_view c.translate_lists.new.types)) same way,
       )
     ])

@@ -34,7 +34,7 @@ pub returns-in-Err-clause-cause : goal.returns-in-Err-clause-cause
 returns-in-Err-clause-cause c =
     let e = c.in_ok-form.ensures in
     form_cause c.args.bytes.now (input_module_of c.in_ok-form.form) c.args.types.now.is_poisoned _
-    (was_readable c.args.bytes.now c.in_ok-form.form e.too_large e.read e.no_interface_types) c.in-Err.ensures.cause
+    (was_readable c.args.bytes.now c.in_ok-form.form c.in_ok-form.groups e.too_large e.read e.no_interface_types) c.in-Err.ensures.cause
 
 pub returns-in-Err-clause-complete : goal.returns-in-Err-clause-complete
 returns-in-Err-clause-complete c = λ m can kept sound.
@@ -52,7 +52,7 @@ pub returns-in-Err-clause-stops : goal.returns-in-Err-clause-stops
 returns-in-Err-clause-stops c =
     let e = c.in_ok-form.ensures in
     stops-read c.args.validator.now c.args.bytes.now (input_module_of c.in_ok-form.form) c.args.types.now c.translate_form.new.types
-    (was_readable c.args.bytes.now c.in_ok-form.form e.too_large e.read e.no_interface_types) c.translate_form.ensures.stops
+    (was_readable c.args.bytes.now c.in_ok-form.form c.in_ok-form.groups e.too_large e.read e.no_interface_types) c.translate_form.ensures.stops
 
 -- ---- memory runs out for its code
 
@@ -60,7 +60,7 @@ pub returns-in-Err-take_bodies-clause-stops : goal.returns-in-Err-take_bodies-cl
 returns-in-Err-take_bodies-clause-stops c =
     let e = c.in_ok-form.ensures in
     stops-read c.args.validator.now c.args.bytes.now (input_module_of c.in_ok-form.form) c.args.types.now c.translate_form.new.types
-    (was_readable c.args.bytes.now c.in_ok-form.form e.too_large e.read e.no_interface_types) c.translate_form.ensures.stops
+    (was_readable c.args.bytes.now c.in_ok-form.form c.in_ok-form.groups e.too_large e.read e.no_interface_types) c.translate_form.ensures.stops
 
 pub returns-in-Err-take_bodies-clause-cause : goal.returns-in-Err-take_bodies-clause-cause
 returns-in-Err-take_bodies-clause-cause c = rw c.into.ensures tt
@@ -90,6 +90,6 @@ returns-in-Ok-clause-translated c =
       debuginfo = record formed.debuginfo { wasm_file = record formed.debuginfo.wasm_file { code_section_offset = c.in-Ok.place } };
     } in
     is_translated c.args.tunables.now c.args.module_index c.args.validator.now c.args.bytes.now m c.in_ok-translation.translation formed coded
-    c.translate_form.new.types (was_readable c.args.bytes.now c.in_ok-form.form e.too_large e.read e.no_interface_types) e.few
+    c.translate_form.new.types (was_readable c.args.bytes.now c.in_ok-form.form c.in_ok-form.groups e.too_large e.read e.no_interface_types) e.few
     c.in_ok-translation.ensures c.in_default.ensures.formed refl
     (ap (map (λ input. body_of input.body)) c.replace-none.ensures.after ∙ c.in-Ok.ensures.bodies) c.in-Ok.ensures.place
