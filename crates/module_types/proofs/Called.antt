@@ -1,6 +1,6 @@
 -- Trampolines: steps keep them where mapped types were met; each member of a group has one, and in a module's list all functions but the startup type.
 use Rattle.std.proofs.lemmas.Grind.{common_steps}
-use Rattle.std.proofs.Common.{◌≡◌, ◌<◌, ◌≤◌, ℕ, zero, suc, ◌+◌, ◌-◌, Bool, true, false, List, [], ◌∷◌, ◌++◌, length, get_or, set, replicate, map, Option, Some, None, refl, sym, ap, subst, ◌∙◌, inl, inr, arith}
+use Rattle.std.proofs.Common.{◌≡◌, ◌<◌, ◌≤◌, ℕ, zero, suc, ◌+◌, ◌-◌, Bool, true, false, List, [], ◌∷◌, ◌++◌, length, get_or, set, replicate, map, Option, Some, None, refl, sym, ap, ◌∙◌, inl, inr, arith}
 use Rattle.std.specs.Prelude.{if◌then◌else◌, IsSome, slice_get, option_and_then}
 use Rattle.std.specs.Option.{option_map}
 use Rattle.std.proofs.lemmas.Bool.{cases_lt, cases_eq}
@@ -189,7 +189,7 @@ kept-alone b t k j s = at-more b.trampolines (k ∷ []) j s
 -- ---- the members of a group
 
 called-now : (b : Built) (i : ℕ) (f : Called) → i < length b.trampolines → (o : Option ℕ) → HasTrampoline (assign_at b i f o) i
-called-now b i f lt h4 = grind (arith, get_or-set_same, at-more)
+called-now b i f lt o = grind (arith, get_or-set_same, at-more)
 
 called-all : (b : Built) (i : ℕ) (ts : List Interned) (p : ℕ) (f : Called) → i + length ts ≤ length b.trampolines → composite_at ts p ≡ Func f
     → HasTrampoline (assign_trampolines b i ts) (i + p)

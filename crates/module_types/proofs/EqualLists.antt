@@ -4,7 +4,7 @@ use Rattle.std.proofs.Common.{◌≡◌, ◌∙◌, ◌↔◌, ◌<◌, ℕ, Lis
 use Rattle.std.proofs.lemmas.Bool.{false≢true}
 use Rattle.std.proofs.lemmas.List.{length-map}
 use Rattle.std.proofs.lemmas.List.Elements.{All-nil, All-cons, All-head, All-tail}
-use Rattle.wasm_spec.specs.TypeData.{Group, map_sub_type}
+use Rattle.wasm_spec.specs.TypeData.{Group}
 use Rattle.type_spec.specs.Equality.{Home, SameType, home, SameGroup}
 use Rattle.type_spec.specs.Interned.{Interned, Built, empty, with_group, kind_at, taken, Span, next_span}
 use Rattle.type_spec.specs.Firsts.{taken_groups}

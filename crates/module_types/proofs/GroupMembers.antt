@@ -1,10 +1,10 @@
 -- Groups and the steps that follow them: what each step keeps, all keep, and so does a whole list.
-use Rattle.std.proofs.Common.{◌≡◌, ◌≤◌, ◌<◌, ℕ, zero, suc, ◌+◌, List, [], ◌∷◌, ◌++◌, length, set, drop, Bool, true, false, Option, Some, None, refl, sym, ap, ◌∙◌, arith, get_or, take, ◌-◌, map}
+use Rattle.std.proofs.Common.{◌≡◌, ◌≤◌, ◌<◌, ℕ, zero, suc, ◌+◌, List, [], ◌∷◌, ◌++◌, length, set, drop, Bool, true, false, Option, Some, None, refl, sym, ap, ◌∙◌, arith, get_or, ◌-◌, map}
 use Rattle.std.specs.Prelude.{◌==◌, if◌then◌else◌}
 use Rattle.std.proofs.lemmas.List.{append_assoc, append-nil, length-append, get_or_at, get_or_append_left, drop_at, take_at}
 use Rattle.wasm_spec.specs.TypeData.{Composite, Func, Group}
 use Rattle.type_data.specs.Names.{Named}
-use Rattle.type_spec.specs.Interned.{Interned, Called, Built, Span, mapped, same_mapped, plain, alone, now_known, knows, with_trampoline, assign_at, assign_trampoline, assign_trampolines, composite_at, opened, with_group, next_span, exception_for, startup_type, with_exception, with_startup, Taking, empty, with_exceptions, numbered, interned_group, take_group, none_taken, taken, interned}
+use Rattle.type_spec.specs.Interned.{Interned, Called, Built, Span, mapped, plain, alone, assign_at, assign_trampoline, assign_trampolines, composite_at, opened, with_group, next_span, exception_for, startup_type, with_exception, with_startup, Taking, empty, with_exceptions, numbered, interned_group, take_group, none_taken, taken, interned}
 use Rattle.type_spec.specs.Equality.{Home}
 use Rattle.type_spec.specs.Firsts.{firsts, firsts_after, taken_groups}
 use Rattle.module_types.specs.Orderly.{IsOrderly, LieBetween}
@@ -51,7 +51,7 @@ module _ (R : Built → Built → Type 0) (none : (b : Built) → R b b)
   at-function b i f None = grind arith
 
   pub each-step : (b : Built) (i : ℕ) (c : Composite (Named ℕ) ℕ) → R b (assign_trampoline b i c)
-  each-step b i h2 = grind (arith, at-function)
+  each-step b i c = grind (arith, at-function)
 
   pub all-steps : ((b c d : Built) → R b c → R c d → R b d) → (b : Built) (i : ℕ) (ts : List Interned) → R b (assign_trampolines b i ts)
   all-steps both b i [] = none b
@@ -244,7 +244,7 @@ module _ (P : Built → Type 0) (Q : ℕ → Type 0) (exception : (b : Built) (i
   through-exceptions (i ∷ is) b all p = through-exceptions is (with_exception b i) (All-tail Q i is all) (exception b i (All-head Q i is all) p)
 
   through-startup : (b : Built) (startup : Bool) → P b → P (with_startup b startup)
-  through-startup b h1 p = grind arith
+  through-startup b startup p = grind arith
 
   pub through-interned : (ms : List (Group ℕ ℕ)) (tags : List ℕ) (startup : Bool) → ((i : ℕ) → Q (get_or (taken ms).declared i 0)) → P (taken ms).built
       → P (interned ms tags startup)

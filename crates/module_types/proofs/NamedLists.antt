@@ -5,11 +5,11 @@ use Rattle.std.specs.Prelude.{◌⊎◌}
 use Rattle.std.proofs.lemmas.Bool.{cases_lt, false≢true}
 use Rattle.std.proofs.lemmas.List.{length-map, length_push, get_or_past}
 use Rattle.std.proofs.lemmas.List.Elements.{All-nil, All-map, All-weaker, All-cons, All-append}
-use Rattle.wasm_spec.specs.TypeData.{Struct, SubType, Group, map_sub_type, map_group, group_edges, Value, I32, Composite, Func, Exn, map_value, map_field, map_function, map_composite, value_edges, field_edges, composite_edges, sub_type_edges}
+use Rattle.wasm_spec.specs.TypeData.{Struct, SubType, Group, map_sub_type, map_group, group_edges, Value, Composite, Func, Exn, map_value, map_field, map_composite, value_edges, field_edges, composite_edges, sub_type_edges}
 use Rattle.type_data.specs.Shapes.{erased}
 use Rattle.type_data.specs.TypeShapes.{group_shape}
 use Rattle.type_data.specs.Names.{NameKind, plainly, Named, index_of}
-use Rattle.type_spec.specs.Equality.{Home, home}
+use Rattle.type_spec.specs.Equality.{Home}
 use Rattle.type_spec.specs.Interned.{Interned, Built, empty, with_group, plain, exception_for, composite_at, startup_type, kind_of_type, kind_at, taken, interned, Called, passed, mapped, opened, field_for, with_exception, with_startup}
 use Rattle.type_spec.specs.Firsts.{taken_groups}
 use Rattle.type_spec.specs.Taken.{NameEarlier}
@@ -19,14 +19,14 @@ use Rattle.module_types.specs.ListGroups.{unkinded, kind_in, IsWellNamed}
 use Rattle.module_types.proofs.Taking.{IsMet, Covers, form, Next, Stand, IsExactBelow, with_forms, next-copy, number_in, whole}
 use Rattle.module_types.proofs.EqualLists.{next-home, next-place, next-number}
 use Rattle.module_types.proofs.GroupMembers.{composite-behind, extends-group, trampoline_next, all-steps, through-interned}
-use Rattle.module_types.proofs.WellNamed.{kind-mapped, AllBelow, Well, kind-before, well-next, named-before}
+use Rattle.module_types.proofs.WellNamed.{AllBelow, Well, kind-before, well-next, named-before}
 use Rattle.std.specs.Option.{option_to_list}
 use Rattle.form_lists.proofs.AllSections.{All-joined}
 
 -- ---- a mapped type names nothing
 
 value-nothing : (v : Value (Named ℕ)) → value_edges (λ (r : ℕ). r) (map_value (index_of {R = ℕ}) (passed v)) ≡ []
-value-nothing h0 = grind arith
+value-nothing v = grind arith
 
 values-nothing : (vs : List (Value (Named ℕ))) → flat_map (value_edges (λ (r : ℕ). r)) (map (map_value (index_of {R = ℕ})) (map passed vs)) ≡ []
 values-nothing [] = refl
@@ -37,7 +37,7 @@ mapped-nothing f = λ i. (values-nothing f.params i ++ values-nothing f.results 
 
 module _ (kind : ℕ → NameKind) where
   value-named : (v : Value (Named ℕ)) → map_value (name_by kind (λ (r : ℕ). r)) (map_value (index_of {R = ℕ}) (passed v)) ≡ passed v
-  value-named h0 = grind arith
+  value-named v = grind arith
 
   values-named : (vs : List (Value (Named ℕ)))
       → map (map_value (name_by kind (λ (r : ℕ). r))) (map (map_value (index_of {R = ℕ})) (map passed vs)) ≡ map passed vs

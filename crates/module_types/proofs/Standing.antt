@@ -1,13 +1,12 @@
 -- The groups of a well named list, where they stand.
-use Rattle.std.proofs.Common.{◌≡◌, ◌∙◌, ◌<◌, ◌≤◌, ℕ, zero, suc, ◌+◌, ◌-◌, List, [], ◌∷◌, ◌++◌, length, take, drop, get_or, map, sym, ap, subst, arith}
+use Rattle.std.proofs.Common.{◌≡◌, ◌∙◌, ◌<◌, ◌≤◌, ℕ, zero, suc, ◌+◌, ◌-◌, List, [], ◌∷◌, length, drop, get_or, sym, ap, subst, arith}
 use Rattle.std.proofs.lemmas.List.{map-append, take-append-drop, drop-drop, drop-map, take-map}
 use Rattle.std.proofs.Math.ListN.{drop_of_length-le}
-use Rattle.wasm_spec.specs.TypeData.{Group, map_sub_type}
 use Rattle.type_data.specs.Names.{index_of}
 use Rattle.type_spec.specs.Equality.{home_from}
 use Rattle.type_spec.specs.Interned.{Interned, Span, Built, kind_of_type, kind_at}
 use Rattle.type_spec.specs.Taken.{NameEarlier}
-use Rattle.type_spec.proofs.Homes.{joined, size, in_front, behind}
+use Rattle.type_spec.proofs.Homes.{joined, size, in_front}
 use Rattle.type_spec.proofs.ByNames.{name_by, by_names, some_type, joined-kind}
 use Rattle.module_types.specs.Orderly.{LieBetween}
 use Rattle.module_types.specs.Conversion.{no_span}

@@ -1,6 +1,6 @@
 -- Two groups become one, where each reference is given by what it names, exactly where the groups are equal.
 use Rattle.std.proofs.Common.{arith}
-use Rattle.std.proofs.Common.{◌≡◌, ◌∙◌, ◌↔◌, ℕ, ◌-◌, ◌<◌, ◌≤◌, Bool, true, false, nat_le, List, refl, sym, ap}
+use Rattle.std.proofs.Common.{◌≡◌, ◌↔◌, ℕ, ◌-◌, ◌<◌, ◌≤◌, Bool, true, false, nat_le, List, refl}
 use Rattle.std.specs.List.{All}
 use Rattle.std.proofs.lemmas.Bool.{leb-true, leb-false}
 use Rattle.wasm_spec.specs.TypeData.{Group, group_edges}
@@ -40,7 +40,7 @@ module _ {X : Type 0} (ms ns : List (Group ℕ ℕ)) (h k : Home) (end end' : �
     module _ (groups : SameGroup Same h k) where
       same-named : (r s : ℕ) → r < end → s < end' → (c d : Bool) → nat_le h.start r ≡ c → nat_le k.start s ≡ d
           → SameTarget Same (target_by c (r - h.start) r) (target_by d (s - k.start) s) → SameType ms ns r s
-      same-named r s p q h4 h5 e f same = grind (arith, same-at, leb-true)
+      same-named r s p q c d e f same = grind (arith, same-at, leb-true)
 
       names : (r s : ℕ) → r < end → s < end' → SameTarget Same (target (λ i. i) h.start r) (target (λ i. i) k.start s)
           → name_by kind given r ≡ name_by kind' given' s
