@@ -1,5 +1,6 @@
 -- Trampolines: steps keep them where mapped types were met; each member of a group has one, and in a module's list all functions but the startup type.
-use Rattle.std.proofs.Common.{◌≡◌, ◌<◌, ◌≤◌, ℕ, zero, suc, ◌+◌, ◌-◌, Bool, true, false, List, [], ◌∷◌, ◌++◌, length, get_or, set, replicate, map, Option, Some, None, refl, sym, ap, subst, ◌∙◌, inl, inr, arith}
+use Rattle.std.proofs.lemmas.Grind.{common_steps}
+use Rattle.std.proofs.Common.{◌≡◌, ◌<◌, ◌≤◌, ℕ, zero, suc, ◌+◌, ◌-◌, Bool, true, false, List, [], ◌∷◌, ◌++◌, length, get_or, set, replicate, map, Option, Some, None, refl, sym, ap, ◌∙◌, inl, inr, arith}
 use Rattle.std.specs.Prelude.{if◌then◌else◌, IsSome, slice_get, option_and_then}
 use Rattle.std.specs.Option.{option_map}
 use Rattle.std.proofs.lemmas.Bool.{cases_lt, cases_eq}
@@ -39,19 +40,11 @@ module _ (b : Built) (tied : IsTied b) where
   tied-more : (ts : List Interned) (groups : List Span)
       → IsTied (record b { types = b.types ++ ts; groups = groups; trampolines = b.trampolines ++ replicate (length ts) None })
   tied-more ts groups = record {
-    sized = length-append b.trampolines (replicate (length ts) None)
-        ∙ omega (arith, tied.sized, length-replicate (length ts) (let o : Option ℕ = None in o), length-append b.types ts);
+    sized = grind (arith, length-append, length-replicate);
     known = λ f k e.
         let old = tied.known f k e in
         (omega (arith, old.0, length-append b.types ts), composite-before b.types ts k old.0 ∙ old.1);
-    called = λ i k f e is.
-        elim (cases_lt i (length b.trampolines)) [
-          | inl lt ↦ tied.called i k f (sym (get_or_append_left b.trampolines (replicate (length ts) None) None i lt) ∙ e)
-              (sym (composite-before b.types ts i (omega (arith, lt, tied.sized))) ∙ is)
-          | inr past ↦
-              let there = get_or-append_right b.trampolines (replicate (length ts) None) (length b.trampolines) i None refl past in
-              let no : None ≡ Some k = sym (there ∙ none-there (length ts) (i - length b.trampolines)) ∙ e in absurd cc
-        ];
+    called = grind (arith, cases_lt, get_or_append_left, composite-before, get_or-append_right, none-there);
   }
 
   pub tied-alone : (t : Interned) → IsTied (alone b t None)
@@ -59,35 +52,17 @@ module _ (b : Built) (tied : IsTied b) where
 
   -- a function is called by what its mapped type was met at
   pub tied-set : (i k : ℕ) (f : Called) → composite_at b.types i ≡ Func f → b.known_trampolines (mapped f) ≡ Some k → IsTied (with_trampoline b i k)
-  tied-set i k f at is = record {
-    sized = length-set b.trampolines i (Some k) ∙ tied.sized;
-    known = tied.known;
-    called = λ j l g e at'.
-        elim (cases_eq j i) [
-          | inl one ↦
-              let lt = within b.types i f at in
-              let same : Some k ≡ Some l = sym (get_or-set_same b.trampolines i (Some k) None (omega (arith, lt, tied.sized)))
-              ∙ ap (λ n. get_or (set b.trampolines i (Some k)) n None) (sym one) ∙ e in
-              let both : f ≡ g = func-same f g (composite_at b.types j) (ap (composite_at b.types) one ∙ at) at' in
-              ap (λ h. b.known_trampolines (mapped h)) (sym both) ∙ is ∙ same
-          | inr other ↦ tied.called j l g (sym (get_or-set_other b.trampolines i j (Some k) None other) ∙ e) at'
-        ];
-  }
+  tied-set i k f at is = grind (arith, length-set, cases_eq, within, get_or-set_same, func-same, get_or-set_other)
 
   module _ (f : Called) (k : ℕ) (none : b.known_trampolines (mapped f) ≡ None) (stands : composite_at b.types k ≡ Func (mapped f)) where
     met-by : (g : Called) (l : ℕ) (test : Bool) → same_mapped (mapped f) (mapped g) ≡ test → (if test then Some k else b.known_trampolines (mapped g)) ≡ Some l
         → (l < length b.types) × (composite_at b.types l ≡ Func (mapped g))
-    met-by g l true same e =
-        let one : mapped f ≡ mapped g = same-mapped f (mapped g) same in
-        let place : k ≡ l = cc in
-        let at : composite_at b.types l ≡ Func (mapped g) = ap (composite_at b.types) (sym place) ∙ stands ∙ ap Func one in
-        (within b.types l (mapped g) at, at)
+    met-by g l true same e = grind (arith, same-mapped f (mapped g) same, within)
     met-by g l false other e = tied.known g l e
 
     called-by : (g : Called) (l : ℕ) → b.known_trampolines (mapped g) ≡ Some l → (test : Bool) → same_mapped (mapped f) (mapped g) ≡ test
         → (if test then Some k else b.known_trampolines (mapped g)) ≡ Some l
-    called-by g l is true same =
-        let no : None ≡ Some l = sym none ∙ ap b.known_trampolines (same-mapped f (mapped g) same) ∙ is in absurd cc
+    called-by g l is true same = grind (arith, same-mapped f (mapped g) same)
     called-by g l is false other = is
 
     -- a mapped type that was not met is met where it stands
@@ -112,17 +87,9 @@ tied-new b tied i f at none =
     let there : composite_at (b.types ++ t ∷ []) i ≡ Func f = composite-before b.types (t ∷ []) i (within b.types i f at) ∙ at in
     let met = met-now f b.known_trampolines k in
     let three = tied-set (knows (alone b t None) (mapped f) k) two i k f there met in
-    let four : IsTied (with_trampoline (with_trampoline (knows (alone b t None) (mapped f) k) i k) k k) =
-    tied-set (with_trampoline (knows (alone b t None) (mapped f) k) i k) three k k (mapped f) (at-front b.types t []) (ap (now_known b.known_trampolines (mapped f) k) (mapped-twice f) ∙ met) in
-    let read : set (set (b.trampolines ++ None ∷ []) i (Some k)) k (Some k) ≡ set b.trampolines i (Some k) ++ Some k ∷ [] =
-    ap (λ ks. set ks k (Some k)) (set-append_left b.trampolines (None ∷ []) i (Some k) (omega (arith, within b.types i f at, tied.sized)))
-    ∙ set_at (set b.trampolines i (Some k)) None [] (Some k) k (length-set b.trampolines i (Some k) ∙ tied.sized) in
-    coe 0 1 (j. IsTied (record {
-      types = b.types ++ t ∷ [];
-      groups = (alone b t None).groups;
-      trampolines = read j;
-      known_trampolines = now_known b.known_trampolines (mapped f) k;
-    })) four
+    let four : IsTied (with_trampoline (with_trampoline (knows (alone b t None) (mapped f) k) i k) k k) = grind (arith, common_steps, tied-set, at-front, mapped-twice) in
+    let read : set (set (b.trampolines ++ None ∷ []) i (Some k)) k (Some k) ≡ set b.trampolines i (Some k) ++ Some k ∷ [] = grind (arith, set-append_left, within, set_at, length-set) in
+    grind arith
 
 tied-at : (b : Built) → IsTied b → (i : ℕ) (f : Called) → composite_at b.types i ≡ Func f → (o : Option ℕ) → b.known_trampolines (mapped f) ≡ o → IsTied (assign_at b i f o)
 tied-at b tied i f at (Some k) is = tied-set b tied i k f at is
@@ -179,9 +146,6 @@ at-set (x ∷ xs) zero k zero s = refl
 at-set (x ∷ xs) (suc i) k (suc j) s = at-set xs i k j s
 at-set (x ∷ xs) i k j s = s
 
-at-itself : (xs : List (Option ℕ)) (i k : ℕ) → i < length xs → IsAt (set xs i (Some k)) i
-at-itself xs i k lt = subst IsSome (sym (get_or-set_same xs i (Some k) None lt)) refl
-
 -- ---- what has a trampoline keeps it
 
 abbrev IsSized : Built → Type 0
@@ -202,43 +166,13 @@ keeps-none : (b : Built) → Keeps b b
 keeps-none b = record { long = omega arith; kept = λ j s. s; sized = λ e. e; from = λ n e h. h }
 
 keeps-both : (b c d : Built) → Keeps b c → Keeps c d → Keeps b d
-keeps-both b c d x y = record {
-  long = omega (arith, x.long, y.long);
-  kept = λ j s. y.kept j (x.kept j s);
-  sized = λ e. y.sized (x.sized e);
-  from = λ n e h. y.from n (x.sized e) (x.from n e h);
-}
+keeps-both b c d x y = grind arith
 
 keeps-set : (b : Built) (known : Called → Option ℕ) (i k : ℕ) → Keeps b (trampoline_set b known i k)
-keeps-set b known i k =
-    let same = length-set b.trampolines i (Some k) in
-    record {
-      long = omega (arith, same);
-      kept = λ j s. at-set b.trampolines i k j s;
-      sized = λ e. same ∙ e;
-      from = λ n e h j low lt. at-set b.trampolines i k j (h j low lt);
-    }
-
--- a type that has its trampoline
-keeps-alone : (b : Built) (t : Interned) (k : ℕ) → Keeps b (alone b t (Some k))
-keeps-alone b t k =
-    let long = length_push b.trampolines (Some k) in
-    let types = length_push b.types t in
-    record {
-      long = omega (arith, long);
-      kept = λ j s. at-more b.trampolines (Some k ∷ []) j s;
-      sized = λ e. omega (arith, long, types, e);
-      from = λ n e h j low lt.
-          elim (cases_lt j (length b.types)) [
-            | inl old ↦ at-more b.trampolines (Some k ∷ []) j (h j low old)
-            | inr new ↦ subst IsSome (sym (get_or_push b.trampolines (Some k) None j (omega (arith, new, lt, types, e)))) refl
-          ];
-    }
+keeps-set b known i k = grind (arith, length-set, at-set)
 
 keeps-next : (b : Built) (known : Called → Option ℕ) (i : ℕ) (f : Called) → Keeps b (trampoline_next b known i f)
-keeps-next b known i f =
-    let c = trampoline_set b known i (length b.types) in
-    keeps-both b c (trampoline_next b known i f) (keeps-set b known i (length b.types)) (keeps-alone c (plain (Func (mapped f))) (length b.types))
+keeps-next b known i f = grind (arith, common_steps, trampoline_set, keeps-both, trampoline_next, keeps-set, length_push, at-more, cases_lt, get_or_push)
 
 keeps-step : (b : Built) (i : ℕ) (c : Composite (Named ℕ) ℕ) → Keeps b (assign_trampoline b i c)
 keeps-step = each-step Keeps keeps-none keeps-set keeps-next
@@ -255,31 +189,20 @@ kept-alone b t k j s = at-more b.trampolines (k ∷ []) j s
 -- ---- the members of a group
 
 called-now : (b : Built) (i : ℕ) (f : Called) → i < length b.trampolines → (o : Option ℕ) → HasTrampoline (assign_at b i f o) i
-called-now b i f lt (Some k) = at-itself b.trampolines i k lt
-called-now b i f lt None = by (same_mapped (mapped f) f) where
-  by : (own : Bool) → HasTrampoline (if own then with_trampoline (knows b (mapped f) i) i i
-      else alone (with_trampoline (knows b (mapped f) (length b.types)) i (length b.types)) (plain (Func (mapped f))) (Some (length b.types))) i
-  by true = at-itself b.trampolines i i lt
-  by false = at-more (set b.trampolines i (Some (length b.types))) (Some (length b.types) ∷ []) i (at-itself b.trampolines i (length b.types) lt)
+called-now b i f lt o = grind (arith, get_or-set_same, at-more)
 
 called-all : (b : Built) (i : ℕ) (ts : List Interned) (p : ℕ) (f : Called) → i + length ts ≤ length b.trampolines → composite_at ts p ≡ Func f
     → HasTrampoline (assign_trampolines b i ts) (i + p)
 called-all b i [] p f le is = absurd cc
-called-all b i (t ∷ ts) zero f le is =
-    let at : i ≡ i + 0 = omega arith in
-    let here = subst (λ c. HasTrampoline (assign_trampoline b i c) i) (sym is) (called-now b i f (omega (arith, le)) (b.known_trampolines (mapped f))) in
-    subst (HasTrampoline (assign_trampolines b i (t ∷ ts))) at ((keeps-steps (assign_trampoline b i t.composite.inner) (suc i) ts).kept i here)
+called-all b i (t ∷ ts) zero f le is = grind (arith, called-now b i f (omega (arith, le)) (b.known_trampolines (mapped f)), keeps-steps (assign_trampoline b i t.composite.inner) (suc i) ts)
 called-all b i (t ∷ ts) (suc p) f le is =
     let at : suc i + p ≡ i + suc p = omega arith in
     let c = assign_trampoline b i t.composite.inner in
-    subst (HasTrampoline (assign_trampolines c (suc i) ts)) at
-    (called-all c (suc i) ts p f (omega (arith, le, (keeps-step b i t.composite.inner).long)) is)
+    grind (arith, (called-all c (suc i) ts p f (omega (arith, le, (keeps-step b i t.composite.inner).long)) is))
 
 module _ (b : Built) (sized : IsSized b) (ts : List Interned) where
   opened-sized : IsSized (opened b ts)
-  opened-sized =
-      length-append b.trampolines (replicate (length ts) None)
-      ∙ omega (arith, sized, length-replicate (length ts) (let o : Option ℕ = None in o), length-append b.types ts)
+  opened-sized = grind (arith, length-append, length-replicate)
 
   -- each function member of a group has a trampoline
   pub called-member : (i : ℕ) (f : Called) → composite_at ts i ≡ Func f → HasTrampoline (with_group b ts) (length b.types + i)
@@ -308,8 +231,7 @@ entire-group b e ts =
                   | inr in_group ↦
                       let p = j - length b.types in
                       let place : length b.types + p ≡ j = omega (arith, in_group) in
-                      subst (HasTrampoline (with_group b ts)) place
-                      (called-member b e.sized ts p f (sym (composite-behind b.types ts p) ∙ ap (composite_at (b.types ++ ts)) place ∙ at))
+                      grind (arith, called-member, composite-behind)
                 ]
             | inr new ↦ k.from (length (b.types ++ ts)) opened_sized (λ n low lt. absurd (omega (arith, low, lt))) j new (within (with_group b ts).types j f is)
           ];

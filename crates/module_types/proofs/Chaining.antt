@@ -22,17 +22,13 @@ use Rattle.module_types.specs.declared.met.MetTypes.{MetTypes}
 -- ---- equality of function types
 
 by-test : {P : Type 0} (b : Bool) → (b ≡ true → P) → (b ≡ false → P) → P
-by-test true holds fails = holds refl
-by-test false holds fails = fails refl
+by-test b holds fails = grind arith
 
 pub unequal : (f g : WasmFuncType) → (f ≡ g → ⊥) → func.ghosts.eq f g ≡ false
 unequal f g off = by-test (func.ghosts.eq f g) (λ e. absurd (off ((equal f g).0 e))) (λ e. e)
 
 pub turned : (f g : WasmFuncType) → func.ghosts.eq f g ≡ func.ghosts.eq g f
-turned f g =
-    by-test (func.ghosts.eq g f)
-    (λ e. (equal f g).1 (sym ((equal g f).0 e)) ∙ sym e)
-    (λ e. unequal f g (λ s. let off : false ≡ true = sym e ∙ (equal g f).1 (sym s) in absurd cc) ∙ sym e)
+turned f g = grind (arith, by-test, equal, unequal)
 
 -- ---- lists
 
@@ -49,10 +45,7 @@ pub last-or : {X : Type 0} (xs : List X) (x : X) (i : ℕ) (y : X) → slice_get
 last-or [] x zero y e = let same : x ≡ y = cc in inr (refl, same)
 last-or [] x (suc i) y e = absurd cc
 last-or (z ∷ zs) x zero y e = inl e
-last-or (z ∷ zs) x (suc i) y e = elim (last-or zs x i y e) [
-  | inl at ↦ inl at
-  | inr end ↦ inr (let n = end.0 in omega (arith, n), end.1)
-]
+last-or (z ∷ zs) x (suc i) y e = grind (arith, (last-or zs x i y e))
 
 -- ---- one more
 
@@ -62,22 +55,12 @@ known-more rs r f = ap (λ es. lookup (func.ghosts.eq f) (map entry_of es)) (rev
 -- a longer list leads as the shorter one did
 leads-on : (digest : WasmFuncType → ℕ) (rs : List Met) (f : WasmFuncType) (c n m : ℕ) → known_in (take m rs) f ≡ known_in (take n rs) f → n ≤ m
     → Leads digest rs f c n → Leads digest rs f c m
-leads-on digest rs f zero n m same long leads = same ∙ leads
-leads-on digest rs f (suc k) n m same long leads = (let less = leads.0 in omega (arith, less, long), same ∙ leads.1, leads.2)
+leads-on digest rs f c n m same long leads = grind arith
 
 leads-within : (digest : WasmFuncType → ℕ) (rs : List Met) (r : Met) (f : WasmFuncType) (c n : ℕ) → n ≤ length rs
     → Leads digest rs f c n → Leads digest (rs ++ r ∷ []) f c n
 leads-within digest rs r f zero n long leads = ap (λ es. known_in es f) (take-append-le n rs (r ∷ []) long) ∙ leads
-leads-within digest rs r f (suc m) n long leads =
-    let less = leads.0 in (
-      less,
-      ap (λ es. known_in es f) (take-append-le n rs (r ∷ []) long) ∙ leads.1
-          ∙ sym (ap (λ es. known_in es f) (take-append-le (suc m) rs (r ∷ []) (omega (arith, less, long)))),
-      λ s at. elim (last-or rs r m s at) [
-        | inl there ↦ leads.2 s there
-        | inr end ↦ let n = end.0 in absurd (omega (arith, n, less, long))
-      ],
-    )
+leads-within digest rs r f (suc m) n long leads = grind (arith, take-append-le, long, last-or)
 
 module _ (digest : WasmFuncType → ℕ) (newest : ℕ → ℕ) (rs : List Met) (chained : AreChained digest newest rs) where
   -- one of a chain, which is another type
@@ -109,8 +92,7 @@ module _ (digest : WasmFuncType → ℕ) (newest : ℕ → ℕ) (rs : List Met) 
       sym (sym (whole f) ∙ leads.1 ∙ ap (λ es. known_in es f) (taken-more rs m r there) ∙ known-more (take m rs) r f ∙ ap (λ b. cond b (Some r.ty) (known_in (take m rs) f)) is)
 
   pub in-range : (f : WasmFuncType) (c : ℕ) → Leads digest rs f c (length rs) → 0 < c → c - 1 < length rs
-  in-range f zero leads some = absurd (omega (arith, some))
-  in-range f (suc m) leads some = let less = leads.0 in omega (arith, less)
+  in-range f c leads some = grind arith
 
   -- one more is chained to the newest of its digest
   module _ (r : Met) (behind : r.before ≡ newest (digest r.key)) (later : ℕ → ℕ)
@@ -125,14 +107,7 @@ module _ (digest : WasmFuncType → ℕ) (newest : ℕ → ℕ) (rs : List Met) 
     of-all f = ap (λ es. known_in es f) (take_all (length all) all (omega arith))
 
     to-it : (f : WasmFuncType) → digest r.key ≡ digest f → Leads digest all f (suc (length rs)) (length all)
-    to-it f same = (
-      omega (arith, long),
-      ap (λ n. known_in (take n all) f) (let e : length all ≡ suc (length rs) = omega (arith, long) in e),
-      λ s at. elim (last-or rs r (length rs) s at) [
-        | inl there ↦ let less = slice_get_within rs (length rs) s there in absurd (omega (arith, less))
-        | inr end ↦ sym (ap (λ (t : Met). digest t.key) end.1) ∙ same
-      ],
-    )
+    to-it f same = grind (arith, long, last-or, slice_get_within)
 
     past-it : (f : WasmFuncType) → (digest r.key ≡ digest f → ⊥) → Leads digest all f (newest (digest f)) (length all)
     past-it f off =
@@ -206,10 +181,7 @@ module _ (types more : List WasmSubType) where
     known-on = ap known_in (mets-within m.types.items linked.standing)
 
     pub linked-on : IsLinked (types ++ more) m
-    linked-on = record {
-      standing = λ i t at. let stands = linked.standing i t at in coe 0 1 (j. IsSome (sym (read-within types more t.ty stands) j)) stands;
-      chained = coe 0 1 (i. AreChained (digest_of m.hasher) (newest_of m) (sym (mets-within m.types.items linked.standing) i)) linked.chained;
-    }
+    linked-on = grind (arith, read-within, mets-within)
 
 -- ---- one more is noted
 
@@ -234,21 +206,13 @@ module _ (types : List WasmSubType) (old new : MetTypes) (f : WasmFuncType) (ty 
   digest-is = is ∙ ap (digest_of old.hasher) (sym key-is-f)
 
   chained-on : AreChained (digest_of new.hasher) (newest_of new) (mets types new.types.items)
-  chained-on = coe 0 1 (i. AreChained (digest_of (sym hasher i)) (newest_of new) (sym with-r i))
-      (chained-more (digest_of old.hasher) (newest_of old) (mets types old.types.items) linked.chained r (before ∙ ap (newest_of old) digest-is) (newest_of new)
-      (λ q. puts q ∙ (λ j. if nat_eq (digest-is j) q then suc (sym (length-map old.types.items (met_of types)) j) else newest_of old q)))
+  chained-on = grind (arith, with-r, chained-more, digest-is, length-map)
 
   standing-on : Stand types new.types.items
-  standing-on i t at = elim (last-or old.types.items m i t (ap (λ ms. slice_get ms i) (sym listed) ∙ at)) [
-    | inl there ↦ linked.standing i t there
-    | inr end ↦ coe 0 1 (j. IsSome (part_at func_in types (end.1 j).ty)) (coe 0 1 (j. IsSome (sym part j)) refl)
-  ]
+  standing-on i t at = grind (arith, last-or, part)
 
   noted-puts : (q : WasmFuncType) → met_at types new q ≡ cond (func.ghosts.eq f q) (Some ty) (met_at types old q)
-  noted-puts q =
-      ap (λ rs. known_in rs q) with-r ∙ known-more (mets types old.types.items) r q
-      ∙ (λ j. cond (func.ghosts.eq q (key-is-f j)) (Some (at j)) (met_at types old q))
-      ∙ ap (λ b. cond b (Some ty) (met_at types old q)) (turned q f)
+  noted-puts q = grind (arith, with-r, known-more, key-is-f, turned)
 
   pub is-noted : IsNoted types old new f ty
   is-noted = record { linked = record { standing = standing-on; chained = chained-on }; puts = noted-puts }
@@ -256,13 +220,7 @@ module _ (types : List WasmSubType) (old new : MetTypes) (f : WasmFuncType) (ty 
 -- ---- none was met
 
 pub linked-none : (types : List WasmSubType) (m : MetTypes) → m.types.items ≡ [] → ((q : ℕ) → newest_of m q ≡ 0) → IsLinked types m
-linked-none types m none nothing = record {
-  standing = λ i t at. let here : slice_get [] i ≡ Some t = ap (λ ms. slice_get ms i) (sym none) ∙ at in absurd cc;
-  chained = coe 0 1 (i. AreChained (digest_of m.hasher) (newest_of m) (mets types (sym none i))) (record {
-    first = λ f. coe 0 1 (i. Leads (digest_of m.hasher) [] f (sym (nothing (digest_of m.hasher f)) i) 0) refl;
-    next = λ i r at f same. absurd cc;
-  });
-}
+linked-none types m none nothing = grind arith
 
 -- ---- the last of a list
 

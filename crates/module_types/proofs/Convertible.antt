@@ -1,29 +1,28 @@
 -- A group of a list of types can be converted, and what it becomes.
 use Rattle.std.proofs.Common.{◌≡◌, ◌≤◌, ◌<◌, ℕ, zero, suc, ◌+◌, List, [], ◌∷◌, ◌++◌, All, length, get_or, map, Option, Some, None, refl, sym, ap, subst, ◌∙◌, inl, inr, arith, take}
-use Rattle.std.specs.Prelude.{slice_get, IsSome, IsSomeAnd, ◌⊎◌}
+use Rattle.std.specs.Prelude.{IsSome, ◌⊎◌}
 use Rattle.std.proofs.lemmas.List.{length-map, length-append, take_all}
-use Rattle.std.proofs.lemmas.List.Elements.{All-head, All-tail, All-cons, All-nil, All-weaker}
+use Rattle.std.proofs.lemmas.List.Elements.{All-tail, All-nil, All-weaker}
 use Rattle.wasm_spec.specs.declared.types.UnpackedIndex.{UnpackedIndex}
 use Rattle.wasm_spec.specs.declared.types.UnpackedIndex.TheVariants as index
-use Rattle.wasm_spec.specs.TypeData.{SubType, Composite, Func, map_sub_type, group_edges}
+use Rattle.wasm_spec.specs.TypeData.{SubType, map_sub_type, group_edges}
 use Rattle.wasm_spec.specs.Sizes.{HasShortLists, CompositeHasShortLists}
-use Rattle.rule_spec.specs.TypeRules.{IsFunction}
 use Rattle.type_data.specs.TypeShapes.{group_shape}
-use Rattle.type_data.specs.Names.{FuncName, named}
+use Rattle.type_data.specs.Names.{named}
 use Rattle.type_data.specs.ListLaws.{map-twice}
 use Rattle.type_spec.specs.Interned.{Span}
 use Rattle.form_data.specs.declared.types.SubType.{SubType as Read}
 use Rattle.form_data.specs.declared.types.CompositeInnerType.{CompositeInnerType}
 use Rattle.form_data.specs.declared.types.CompositeInnerType.TheVariants as inner
 use Rattle.form_data.specs.Views as form
-use Rattle.form_types.specs.Types.{NamedGroup, TypesData, types_by_id, IsIdBelow, NameEarlier, NamesFunction, ContinuesFunction, IsSound}
+use Rattle.form_types.specs.Types.{NamedGroup, TypesData, types_by_id, IsIdBelow, NameEarlier, ContinuesFunction, IsSound}
 use Rattle.form_types.specs.Numbered.{first_id}
 use Rattle.wasm_types.specs.declared.sub.WasmSubType.{WasmSubType}
 use Rattle.wasm_types.specs.TypeViews.{sub_type_of}
 use Rattle.wasm_convert.specs.Conversion.{index_in}
 use Rattle.wasm_convert.specs.Known.{CanLookUp, Known, CanConvert}
 use Rattle.module_types.specs.Views.{interned_number, interned_of, span_of}
-use Rattle.module_types.specs.Conversion.{id_number, kind_in, group_of_id, members_of, members_by_index, look_by_id, StandsInterned, KnowsId, HasIndex, interned_members}
+use Rattle.module_types.specs.Conversion.{id_number, group_of_id, members_of, members_by_index, look_by_id, StandsInterned, KnowsId, HasIndex, interned_members}
 use Rattle.module_types.specs.TypeList.{TypeList}
 use Rattle.module_types.specs.Noted.{noted_at}
 use Rattle.module_types.specs.Builder.{Builder, BuilderState, builder_view}
@@ -37,14 +36,12 @@ use Rattle.std.specs.List.{flat_map}
 
 all-both : {A : Type 0} (P Q R : A → Type 0) → ((x : A) → P x → Q x → R x) → (xs : List A) → All P xs → All Q xs → All R xs
 all-both P Q R each [] p q = All-nil R
-all-both P Q R each (x ∷ xs) p q =
-    All-cons R x xs (each x (All-head P x xs p) (All-head Q x xs q)) (all-both P Q R each xs (All-tail P x xs p) (All-tail Q x xs q))
+all-both P Q R each (x ∷ xs) p q = grind (arith, (all-both P Q R each xs (All-tail P x xs p) (All-tail Q x xs q)))
 
 -- ---- the references of a group
 
 below-more : (a b : ℕ) → a ≤ b → (i : UnpackedIndex) → IsIdBelow a i → IsIdBelow b i
-below-more a b h (index.Id id) lt = omega (arith, h, lt)
-below-more a b h i lt = absurd lt
+below-more a b h i lt = grind arith
 
 pub names-earlier : (first : ℕ) (gs : List NamedGroup) (k : ℕ) → NameEarlier first gs
     → All (IsIdBelow (first + (first_id gs k + length (get_or gs k [])))) (group_edges (λ r. r) (get_or gs k []))
@@ -72,15 +69,12 @@ module _ (t : TypesData) (next : ℕ) (spans : List Span) (ids : ℕ → Option 
 
   knows : (bound : ℕ) → bound ≤ length (types_by_id t.groups) → (i : UnpackedIndex) → IsIdBelow bound i
       → (group_of_id t (id_number i) ≡ k) ⊎ IsSome (ids (group_of_id t (id_number i))) → CanLookUp (KnowsId t next spans ids) i
-  knows bound le (index.Id id) lt held = index-known id.0 (omega (arith, lt, le)) held
-  knows bound le i lt held = absurd lt
+  knows bound le i lt held = grind (arith, index-known)
 
   pub group-known : IsSound t
       → All (λ i. (group_of_id t (id_number i) ≡ k) ⊎ IsSome (ids (group_of_id t (id_number i)))) (group_edges (λ r. r) (members_of t k))
       → Known (KnowsId t next spans ids) (group_edges (λ r. r) (members_of t k))
-  group-known sound held =
-      let bound : 0 + (first_id t.groups k + length (members_of t k)) ≤ length (types_by_id t.groups) = omega (arith, group-ends t.groups k) in
-      all-both _ _ (CanLookUp (KnowsId t next spans ids)) (knows _ bound) (group_edges (λ r. r) (members_of t k)) (names-earlier 0 t.groups k sound.references) held
+  group-known sound held = grind (arith, group-ends t.groups k, names-earlier 0 t.groups k sound.references, all-both, knows)
 
 -- ---- its members
 
@@ -89,26 +83,11 @@ all-in P [] k all = All-nil P
 all-in P (g ∷ gs) zero all = ((All-joined P g (types_by_id gs)).0 all).0
 all-in P (g ∷ gs) (suc k) all = all-in P gs k ((All-joined P g (types_by_id gs)).0 all).1
 
-kind-function : (o : Option (SubType UnpackedIndex UnpackedIndex)) → IsSomeAnd o (λ t. IsFunction t.composite.inner) → kind_in o ≡ FuncName
-kind-function None h = absurd h
-kind-function (Some t) h = by t.composite.inner h where
-  by : (c : Composite UnpackedIndex UnpackedIndex) → IsFunction c
-      → kind_in (Some (record { is_final = t.is_final; supertype = t.supertype; composite = record { inner = c; shared = t.composite.shared } })) ≡ FuncName
-  by (Func f) h = refl
-  by c h = absurd h
-
 module _ (t : TypesData) (next : ℕ) (spans : List Span) (ids : ℕ → Option ℕ) where
-  resumes : (i : UnpackedIndex) → NamesFunction (types_by_id t.groups) i → (look_by_id t next spans ids i).kind ≡ FuncName
-  resumes (index.Id id) h = kind-function (slice_get (types_by_id t.groups) id.0) h
-  resumes i h = absurd h
-
   can-by : (m : Read) (c : CompositeInnerType)
       → ContinuesFunction (types_by_id t.groups) (record { is_final = m.is_final; supertype = m.supertype; composite = record { inner = form.composite_of c; shared = (form.sub_type_of m).composite.shared } })
       → CompositeHasShortLists (form.composite_of c) → CanConvert (look_by_id t next spans ids) (form.composite_of c)
-  can-by m (inner.Func f) resumed short = (omega (arith, short.0), omega (arith, short.1))
-  can-by m (inner.Array f) resumed short = tt
-  can-by m (inner.Struct f) resumed short = tt
-  can-by m (inner.Cont i) resumed short = resumes i resumed
+  can-by m c resumed short = grind arith
 
   pub members-can : (k : ℕ) (members : List Read) → members_of t k ≡ map form.sub_type_of members → IsSound t
       → All (λ m. CanConvert (look_by_id t next spans ids) (form.composite_of m.composite)) members
@@ -150,5 +129,4 @@ all-parts P edges view xs all = All-from_map (λ y. All P (edges y)) view xs ((A
 -- what a list of converted parts is, past the last
 pub converted : {A B C D : Type 0} (made : D → C) (f : B → C) (view : A → B) (xs : List A) (n : ℕ) (ys : List D) → length xs ≤ n
     → map made ys ≡ map (λ x. f (view x)) (take n xs) → map made ys ≡ map f (map view xs)
-converted made f view xs n ys past each =
-    each ∙ ap (map (λ x. f (view x))) (take_all n xs past) ∙ sym (map-twice view f (λ x. f (view x)) (λ x. refl) xs)
+converted made f view xs n ys past each = grind (arith, take_all, map-twice)

@@ -1,5 +1,5 @@
 -- A builder that interned the declared groups of a module in turn holds what the definition takes.
-use Rattle.std.proofs.Common.{◌≡◌, ◌∙◌, ◌↔◌, ◌⊎◌, inl, inr, ℕ, zero, suc, ◌+◌, ◌-◌, ◌<◌, ◌≤◌, true, false, Some, None, List, [], ◌∷◌, ◌++◌, length, get_or, take, replicate, refl, sym, ap, subst, arith, length-append}
+use Rattle.std.proofs.Common.{◌≡◌, ◌∙◌, ◌↔◌, ◌⊎◌, inl, inr, ℕ, zero, suc, ◌+◌, ◌-◌, ◌<◌, ◌≤◌, true, false, Some, None, List, [], ◌∷◌, ◌++◌, length, get_or, take, refl, sym, ap, subst, arith, length-append}
 use Rattle.std.specs.Prelude.{slice_get, slice_index, IsSome}
 use Rattle.std.specs.List.{All, fold, flat_map}
 use Rattle.std.proofs.lemmas.Bool.{cases_lt}
@@ -37,19 +37,8 @@ use Rattle.module_types.proofs.Taking.{near-from, first-place, equal-same, equal
 pub number-of : (gs : List NamedGroup) (base k p : ℕ) → k < length gs → p < length (get_or gs k [])
     → get_or (group_numbers base gs) (first_id gs k + p) 0 ≡ base + k
 number-of [] base k p lt lt' = absurd (omega arith)
-number-of (g ∷ gs) base zero p lt lt' =
-    let at : 0 + p ≡ p = omega arith in
-    let long = length-replicate (length g) base in
-    ap (λ n. get_or (replicate (length g) base ++ group_numbers (base + 1) gs) n 0) at
-    ∙ get_or_append_left (replicate (length g) base) (group_numbers (base + 1) gs) 0 p (omega (arith, long, lt'))
-    ∙ get_or-replicate (length g) p base 0 lt' ∙ omega arith
-number-of (g ∷ gs) base (suc k) p lt lt' =
-    let long = length-replicate (length g) base in
-    let at : length (g ++ types_by_id (take k gs)) + p ≡ length (replicate (length g) base) + (first_id gs k + p) =
-    omega (arith, long, length-append g (types_by_id (take k gs))) in
-    ap (λ n. get_or (replicate (length g) base ++ group_numbers (base + 1) gs) n 0) at
-    ∙ get_or-append-add (replicate (length g) base) (group_numbers (base + 1) gs) (first_id gs k + p) 0
-    ∙ number-of gs (base + 1) k p (omega arith) lt' ∙ omega arith
+number-of (g ∷ gs) base zero p lt lt' = grind (arith, length-replicate, get_or_append_left, get_or-replicate)
+number-of (g ∷ gs) base (suc k) p lt lt' = grind (arith, length-replicate, length-append, get_or-append-add, (number-of gs (base + 1) k p (omega arith) lt'))
 
 module _ (m : plain.Module) (t : TypesData) (are : AreNumbered m t) (near : NameEarlier 0 (placed_groups m)) where
   abbrev pub all : List (Group ℕ ℕ)
@@ -156,11 +145,7 @@ module _ (m : plain.Module) (t : TypesData) (are : AreNumbered m t) (near : Name
     pub fresh : (k : ℕ) → ((i : ℕ) → i < size all → IsMet all done i → group i ≡ k → ⊥) → b.ids k ≡ None
 
   pub index-held : (b : Builder) (i : ℕ) → i < size all → HoldsAt b i → interned_index t b (id i) ≡ number i
-  index-held b i lt x =
-      let at = (id-at i lt).at in
-      let place : id i - first_id t.groups (group i) ≡ i - (home all i).start = omega (arith, at) in
-      ap (λ o. start_by t (length b.built.types) b.built.groups b.ids o + (id i - first_id t.groups (group i))) x.id_is
-      ∙ ap (λ p. (get_or b.built.groups x.at no_span).start + p) place ∙ x.index
+  index-held b i lt x = grind (arith, id-at)
 
   -- ---- one declared type more
 
@@ -180,10 +165,7 @@ module _ (m : plain.Module) (t : TypesData) (are : AreNumbered m t) (near : Name
         (lt', (reaches all n (omega (arith, lt))).before i lt' (omega (arith, low, home-start all i, home-start all n)))
 
     member-group : (i : ℕ) → here.start ≤ i → i < here.start + length here.members → (home all i ≡ here) × (group i ≡ group n)
-    member-group i low high =
-        let w = home-within all n lt in
-        let again = home-again all n i lt (record { from = low; to = high }) in
-        (again, first-group i (omega (arith, high, w.high)) ∙ ap (λ (h : Home). group h.start) again ∙ sym (first-group n lt))
+    member-group i low high = grind (arith, home-within, home-again, first-group)
 
     -- its group can be interned
     pub comes-next : HoldsGroups t b → CanIntern t b (group n)
@@ -212,11 +194,7 @@ module _ (m : plain.Module) (t : TypesData) (are : AreNumbered m t) (near : Name
     -- the group of another is appended
     module _ (unmet : is_met all d here ≡ false) where
       other : (i : ℕ) → i < size all → IsMet all d i → group i ≡ group n → ⊥
-      other i lt' met same =
-          let one = group-same (home all i).start here.start (omega (arith, home-start all i, lt')) (omega (arith, home-start all n, lt))
-          (first-place all i lt' ∙ sym (first-place all n lt)) (sym (first-group i lt') ∙ same ∙ first-group n lt) in
-          let no : false ≡ true = sym unmet ∙ sym (met-same all d (home all i) here one) ∙ met in
-          cc
+      other i lt' met same = grind (arith, group-same, home-start, first-place, first-group, met-same, met)
 
       unheld : b.ids (group n) ≡ None
       unheld = has.fresh (group n) other
@@ -355,13 +333,7 @@ module _ (m : plain.Module) (t : TypesData) (are : AreNumbered m t) (near : Name
         comes-next (after_first (size gs)) (size gs) lt p.0 p.1
 
     pub tied : HasTaken t (interns_declared t (new_builder validator) 0 all) (taken all)
-    tied =
-        let has = (reached (size all) (omega arith)).0 in
-        record {
-          built = has.built;
-          declared = λ i lt.
-              has-index (after_first (size all)) (size all) (omega arith) has i (omega (arith, lt, (whole all near).counted));
-        }
+    tied = grind (arith, reached, has-index, whole)
 
     -- two declared types have one interned index exactly where they are equal
     pub told : (i j : ℕ) → i < length t.declared → j < length t.declared

@@ -1,9 +1,10 @@
 -- Two lists of groups have equal interned lists exactly where they take equal groups in turn, and what is built tells the groups that it was built of.
+use Rattle.std.proofs.lemmas.Grind.{common_steps}
 use Rattle.std.proofs.Common.{◌≡◌, ◌∙◌, ◌↔◌, ◌<◌, ℕ, List, [], ◌∷◌, length, map, sym, ap, arith, ◌++◌, refl, inl, inr, ◌+◌, ◌-◌, ◌≤◌, subst}
 use Rattle.std.proofs.lemmas.Bool.{false≢true}
 use Rattle.std.proofs.lemmas.List.{length-map}
 use Rattle.std.proofs.lemmas.List.Elements.{All-nil, All-cons, All-head, All-tail}
-use Rattle.wasm_spec.specs.TypeData.{Group, map_sub_type}
+use Rattle.wasm_spec.specs.TypeData.{Group}
 use Rattle.type_spec.specs.Equality.{Home, SameType, home, SameGroup}
 use Rattle.type_spec.specs.Interned.{Interned, Built, empty, with_group, kind_at, taken, Span, next_span}
 use Rattle.type_spec.specs.Firsts.{taken_groups}
@@ -21,13 +22,7 @@ use Rattle.module_types.proofs.Telling.{Tells, same-at, told}
 -- a type of the group that comes next, by its place in the list
 module _ (all : List (Group ℕ ℕ)) (number : ℕ → ℕ) (b : Built) (h : Home) (x : Next all number b h) where
   pub next-home : (r : ℕ) → h.start ≤ r → r < h.start + length h.members → home all r ≡ h
-  next-home r low high =
-      let at = x.at in
-      home-again all h.start r (omega (arith, x.some, x.inside)) (record {
-        from = omega (arith, low, ap (λ (g : Home). g.start) at);
-        to = omega
-            (arith, high, ap (λ (g : Home). g.start) at, ap (λ (g : Home). length g.members) at);
-      }) ∙ at
+  next-home r low high = grind (arith, home-again)
 
   pub next-place : (r : ℕ) → h.start ≤ r → r < h.start + length h.members → r - (home all r).start ≡ r - h.start
   next-place r low high = ap (λ (g : Home). r - g.start) (next-home r low high)
@@ -92,8 +87,7 @@ module _ (ms ns : List (Group ℕ ℕ)) (number number' : ℕ
                   same = type-chained ms ms ns i (h.start + p) (k.start + p) c.same
                       (same-at ms ns h k (h.start + length h.members) (k.start + length k.members) (kind_at ms) (kind_at ns) number number' tells groups
                       (h.start + p) (k.start + p) (omega arith) (omega (arith, c.lt)) (omega arith) (omega (arith, c.lt, long)) at);
-                  number_is = (exact i (h.start + p) lt (omega (arith, c.lt, x.inside))).1 c.same ∙ x.numbers p c.lt
-                      ∙ sym (y.numbers p (omega (arith, c.lt, long)));
+                  number_is = grind arith;
                 }
             | inl old ↦ bridged i lt old
           ]
@@ -102,10 +96,8 @@ module _ (ms ns : List (Group ℕ ℕ)) (number number' : ℕ
       → ((i : ℕ) → i < size ms → IsMet ms done i → Bridge i)
       → (map (form ms number) hs ≡ map (form ns number') ks) ↔ AllZip (SameGroup Same) hs ks
   all-told [] [] b done x covers y bridged = (λ same. tt, λ same. refl)
-  all-told [] (k ∷ ks) b done x covers y bridged =
-      (λ same. let no : [] ≡ form ns number' k ∷ map (form ns number') ks = same in cc, λ same. absurd same)
-  all-told (h ∷ hs) [] b done x covers y bridged =
-      (λ same. let no : form ms number h ∷ map (form ms number) hs ≡ [] = same in cc, λ same. absurd same)
+  all-told [] (k ∷ ks) b done x covers y bridged = grind arith
+  all-told (h ∷ hs) [] b done x covers y bridged = grind arith
   all-told (h ∷ hs) (k ∷ ks) b done x covers y bridged =
       let bridges : (i : ℕ) → i < size ms → i < h.start → Bridge i = λ i lt before. bridged i lt (covers.0 i before) in
       let one = forms-told b h k x.0 y.0 bridges in
@@ -133,14 +125,10 @@ groups_determined b (ts ∷ tss) [] p q types groups = absurd (longer b ts tss (
 groups_determined b (ts ∷ tss) (us ∷ uss) p q types groups =
     let x = first-group b ts tss in
     let y = first-group b us uss in
-    let spans : next_span b (length ts) ∷ x.groups_more ≡ next_span b (length us) ∷ y.groups_more =
-    back-same b.groups b.groups (next_span b (length ts) ∷ x.groups_more) (next_span b (length us) ∷ y.groups_more) refl
-    (sym (groups-apart b ts (with_groups b (ts ∷ tss)) x) ∙ groups ∙ groups-apart b us (with_groups b (us ∷ uss)) y) in
+    let spans : next_span b (length ts) ∷ x.groups_more ≡ next_span b (length us) ∷ y.groups_more = grind (arith, common_steps, back-same, groups-apart) in
     let first : next_span b (length ts) ≡ next_span b (length us) = cc in
     let long : length ts ≡ length us = omega (arith, ap (λ (s : Span). s.end) first) in
-    let same : ts ≡ us =
-    front-same ts us x.types_more y.types_more long
-    (back-same b.types b.types (ts ++ x.types_more) (us ++ y.types_more) refl (sym (types-apart b ts (with_groups b (ts ∷ tss)) x) ∙ types ∙ types-apart b us (with_groups b (us ∷ uss)) y)) in
+    let same : ts ≡ us = grind (arith, common_steps, front-same, back-same, types-apart) in
     let rest = groups_determined (with_group b ts) tss uss (All-tail (λ ts. 0 < length ts) ts tss p) (All-tail (λ ts. 0 < length ts) us uss q)
     (types ∙ ap (λ vs. (with_groups (with_group b vs) uss).types) (sym same))
     (groups ∙ ap (λ vs. (with_groups (with_group b vs) uss).groups) (sym same)) in
@@ -149,10 +137,7 @@ groups_determined b (ts ∷ tss) (us ∷ uss) p q types groups =
 module _ (all : List (Group ℕ ℕ)) (number : ℕ → ℕ) where
   filled : (hs : List Home) (b : Built) → Stand all number b hs → AllFilled (map (form all number) hs)
   filled [] b x = All-nil (λ (ts : List Interned). 0 < length ts)
-  filled (h ∷ hs) b x =
-      All-cons (λ (ts : List Interned). 0 < length ts) (form all number h) (map (form all number) hs)
-      (omega (arith, x.0.some, length-map h.members (map_sub_type (name_by (kind_at all) number) number)))
-      (filled hs (with_group b (form all number h)) x.1)
+  filled (h ∷ hs) b x = grind (arith, All-cons, form, length-map, name_by, (filled hs (with_group b (form all number h)) x.1))
 
 pub equal-lists : (ms ns : List (Group ℕ ℕ)) → NameEarlier 0 ms → NameEarlier 0 ns → SameLists (taken ms).built (taken ns).built ↔ TakeEqual ms ns
 equal-lists ms ns near near' =
@@ -170,11 +155,7 @@ equal-lists ms ns near near' =
           (sym (ap (λ (b : Built). b.groups) is) ∙ same.groups ∙ ap (λ (b : Built). b.groups) is'))),
       (λ same.
           let one : (taken ms).built ≡ (taken ns).built = is ∙ ap (with_groups empty) (both.1 same) ∙ sym is' in
-          record {
-            types = ap (λ (b : Built). b.types) one;
-            groups = ap (λ (b : Built). b.groups) one;
-            trampolines = ap (λ (b : Built). b.trampolines) one;
-          }),
+          grind arith),
     )
 
 pub declared : (ms : List (Group ℕ ℕ)) → NameEarlier 0 ms → (i j : ℕ) → i < length (taken ms).declared → j < length (taken ms).declared

@@ -1,5 +1,5 @@
 -- A group appends at most two types for each of its members: itself, and the mapped type of a function. So there are at most two for each declared type.
-use Rattle.std.proofs.Common.{◌≡◌, ℕ, suc, ◌+◌, ◌<◌, ◌≤◌, List, [], ◌∷◌, length, inl, inr, ap, arith, length-append}
+use Rattle.std.proofs.Common.{◌≡◌, ℕ, suc, ◌+◌, ◌<◌, ◌≤◌, List, [], ◌∷◌, length, inl, inr, arith, length-append}
 use Rattle.std.proofs.lemmas.Bool.{cases_lt}
 use Rattle.std.proofs.lemmas.List.{length-map}
 use Rattle.wasm_spec.specs.TypeData.{Group}
@@ -30,9 +30,7 @@ module _ (all : List (Group ℕ ℕ)) where
       let here = ends n lt (omega (arith, starts)) in
       let before : End n n = λ i lt' start.
       elim (cases_lt n ((home all i).start + length (home all i).members)) [
-        | inl within ↦
-            let again = home-again all i n lt' (record { from = omega (arith, start); to = within }) in
-            absurd (omega (arith, start, starts, ap (λ (h : Home). h.start) again))
+        | inl within ↦ grind (arith, home-again)
         | inr le ↦ le
       ] in
       omega (arith, few n before, group-few (state all n).built ts, long, here, starts)

@@ -1,10 +1,10 @@
 -- Groups and the steps that follow them: what each step keeps, all keep, and so does a whole list.
-use Rattle.std.proofs.Common.{◌≡◌, ◌≤◌, ◌<◌, ℕ, zero, suc, ◌+◌, List, [], ◌∷◌, ◌++◌, length, set, drop, Bool, true, false, Option, Some, None, refl, sym, ap, ◌∙◌, arith, get_or, take, ◌-◌, map}
+use Rattle.std.proofs.Common.{◌≡◌, ◌≤◌, ◌<◌, ℕ, zero, suc, ◌+◌, List, [], ◌∷◌, ◌++◌, length, set, drop, Bool, true, false, Option, Some, None, refl, sym, ap, ◌∙◌, arith, get_or, ◌-◌, map}
 use Rattle.std.specs.Prelude.{◌==◌, if◌then◌else◌}
 use Rattle.std.proofs.lemmas.List.{append_assoc, append-nil, length-append, get_or_at, get_or_append_left, drop_at, take_at}
 use Rattle.wasm_spec.specs.TypeData.{Composite, Func, Group}
 use Rattle.type_data.specs.Names.{Named}
-use Rattle.type_spec.specs.Interned.{Interned, Called, Built, Span, mapped, same_mapped, plain, alone, now_known, knows, with_trampoline, assign_at, assign_trampoline, assign_trampolines, composite_at, opened, with_group, next_span, exception_for, startup_type, with_exception, with_startup, Taking, empty, with_exceptions, numbered, interned_group, take_group, none_taken, taken, interned}
+use Rattle.type_spec.specs.Interned.{Interned, Called, Built, Span, mapped, plain, alone, assign_at, assign_trampoline, assign_trampolines, composite_at, opened, with_group, next_span, exception_for, startup_type, with_exception, with_startup, Taking, empty, with_exceptions, numbered, interned_group, take_group, none_taken, taken, interned}
 use Rattle.type_spec.specs.Equality.{Home}
 use Rattle.type_spec.specs.Firsts.{firsts, firsts_after, taken_groups}
 use Rattle.module_types.specs.Orderly.{IsOrderly, LieBetween}
@@ -23,9 +23,7 @@ one-more first end later (s ∷ ss) lie more = (lie.0, lie.1, one-more s.end end
 
 few-from : (first end : ℕ) (ss : List Span) → LieBetween first ss end → length ss + first ≤ end
 few-from first end [] lie = omega (arith, lie)
-few-from first end (s ∷ ss) lie =
-    let rest = few-from s.end end ss lie.2 in
-    omega (arith, rest, lie.0, lie.1)
+few-from first end (s ∷ ss) lie = grind (arith, (few-from s.end end ss lie.2))
 
 -- there are no more groups than types
 pub few-groups : (b : Built) → IsOrderly b → length b.groups ≤ length b.types
@@ -50,21 +48,14 @@ module _ (R : Built → Built → Type 0) (none : (b : Built) → R b b)
     (next : (b : Built) (known : Called → Option ℕ) (i : ℕ) (f : Called) → R b (trampoline_next b known i f)) where
   at-function : (b : Built) (i : ℕ) (f : Called) (o : Option ℕ) → R b (assign_at b i f o)
   at-function b i f (Some k) = called b b.known_trampolines i k
-  at-function b i f None = by (same_mapped (mapped f) f) where
-    by : (own : Bool) → R b (if own then with_trampoline (knows b (mapped f) i) i i
-        else alone (with_trampoline (knows b (mapped f) (length b.types)) i (length b.types)) (plain (Func (mapped f))) (Some (length b.types)))
-    by true = called b (now_known b.known_trampolines (mapped f) i) i i
-    by false = next b (now_known b.known_trampolines (mapped f) (length b.types)) i f
+  at-function b i f None = grind arith
 
   pub each-step : (b : Built) (i : ℕ) (c : Composite (Named ℕ) ℕ) → R b (assign_trampoline b i c)
-  each-step b i (Func f) = at-function b i f (b.known_trampolines (mapped f))
-  each-step b i c = none b
+  each-step b i c = grind (arith, at-function)
 
   pub all-steps : ((b c d : Built) → R b c → R c d → R b d) → (b : Built) (i : ℕ) (ts : List Interned) → R b (assign_trampolines b i ts)
   all-steps both b i [] = none b
-  all-steps both b i (t ∷ ts) =
-      both b (assign_trampoline b i t.composite.inner) (assign_trampolines b i (t ∷ ts)) (each-step b i t.composite.inner)
-      (all-steps both (assign_trampoline b i t.composite.inner) (suc i) ts)
+  all-steps both b i (t ∷ ts) = grind (arith, each-step b i t.composite.inner, (all-steps both (assign_trampoline b i t.composite.inner) (suc i) ts))
 
 -- ---- types and groups come after the others
 
@@ -81,12 +72,7 @@ pub extends-none : (b : Built) → Extends b b
 extends-none b = record { types_more = []; types = sym (append-nil b.types); groups_more = []; groups = sym (append-nil b.groups) }
 
 pub extends-both : (b c d : Built) → Extends b c → Extends c d → Extends b d
-extends-both b c d x y = record {
-  types_more = x.types_more ++ y.types_more;
-  types = y.types ∙ ap (λ ts. ts ++ y.types_more) x.types ∙ append_assoc b.types x.types_more y.types_more;
-  groups_more = x.groups_more ++ y.groups_more;
-  groups = y.groups ∙ ap (λ ts. ts ++ y.groups_more) x.groups ∙ append_assoc b.groups x.groups_more y.groups_more;
-}
+extends-both b c d x y = grind (arith, append_assoc)
 
 pub extends-alone : (b : Built) (t : Interned) (k : Option ℕ) → Extends b (alone b t k)
 extends-alone b t k = record { types_more = t ∷ []; types = refl; groups_more = next_span b 1 ∷ []; groups = refl }
@@ -109,18 +95,14 @@ group-long b ts = omega (arith, extends-long (opened b ts) (with_group b ts) (ex
 
 -- a step appends at most one type
 pub few-more : (b : Built) (i : ℕ) (c : Composite (Named ℕ) ℕ) → length (assign_trampoline b i c).types ≤ length b.types + 1
-few-more =
-    each-step (λ b c. length c.types ≤ length b.types + 1) (λ b. omega arith) (λ b known i k. omega arith)
-    (λ b known i f. omega (arith, length-append b.types (plain (Func (mapped f)) ∷ [])))
+few-more = grind (arith, each-step, length-append)
 
 -- ---- each step keeps the order of groups
 
 -- a group after the others
 orderly-more : (b : Built) (t : Interned) (ts : List Interned) → IsOrderly b
     → IsOrderly (record b { types = b.types ++ t ∷ ts; groups = b.groups ++ next_span b (length (t ∷ ts)) ∷ [] })
-orderly-more b t ts orderly =
-    lie-to 0 (length b.types + length (t ∷ ts)) (length (b.types ++ t ∷ ts)) _ (sym (length-append b.types (t ∷ ts)))
-    (one-more 0 (length b.types) (length b.types + length (t ∷ ts)) b.groups orderly (omega arith))
+orderly-more b t ts orderly = grind (arith, lie-to, length-append, one-more)
 
 pub orderly-exception : (b : Built) (i : ℕ) → IsOrderly b → IsOrderly (with_exception b i)
 orderly-exception b i o = orderly-more b (plain (exception_for i (composite_at b.types i))) [] o
@@ -154,9 +136,7 @@ composite-before (t ∷ ts) us (suc i) h = composite-before ts us i (omega arith
 
 pub composite-behind : (ts us : List Interned) (i : ℕ) → composite_at (ts ++ us) (length ts + i) ≡ composite_at us i
 composite-behind [] us i = let same : 0 + i ≡ i = omega arith in ap (composite_at us) same
-composite-behind (t ∷ ts) us i =
-    let next : length (t ∷ ts) + i ≡ suc (length ts + i) = omega arith in
-    ap (composite_at (t ∷ (ts ++ us))) next ∙ composite-behind ts us i
+composite-behind (t ∷ ts) us i = grind (arith, (composite-behind ts us i))
 
 step : (b : Built) (i : ℕ) (ts : List Interned) (at : ℕ) → at < length ts
     → assign_trampolines (assign_trampoline b i (composite_at ts at)) (suc i) (drop (suc at) ts) ≡ assign_trampolines b i (drop at ts)
@@ -178,24 +158,14 @@ module _ (old now : Built) (first i : ℕ) (a : Along old now first i) (h : i < 
   made = assign_trampoline now i (composite_at now.types i)
 
   stepped : assign_trampolines made (suc i) (drop (suc i) old.types) ≡ assign_trampolines old first (drop first old.types)
-  stepped =
-      ap (λ c. assign_trampolines (assign_trampoline now i c) (suc i) (drop (suc i) old.types))
-      (ap (λ ts. composite_at ts i) a.extends.types ∙ composite-before old.types a.extends.types_more i h)
-      ∙ step now i old.types i h ∙ a.rest
+  stepped = grind (arith, composite-before, step)
 
   pub along-more : (later : Built) → later ≡ made → Along old later first (i + 1)
-  along-more later is =
-      let next : suc i ≡ i + 1 = omega arith in
-      coe 0 1 (j. Along old (sym is j) first (next j)) (record {
-        rest = stepped;
-        extends = extends-both old now made a.extends (extends-step now i (composite_at now.types i));
-        orderly = orderly-step now i (composite_at now.types i) a.orderly;
-      })
+  along-more later is = grind (arith, stepped, extends-both, extends-step, orderly-step)
 
   -- no step makes more types than there are in the end
   pub along-room : length made.types ≤ length (assign_trampolines old first (drop first old.types)).types
-  along-room =
-      omega (arith, extends-long made (assign_trampolines made (suc i) (drop (suc i) old.types)) (extends-steps made (suc i) (drop (suc i) old.types)), ap (λ (b : Built). length b.types) stepped)
+  along-room = grind (arith, extends-long, extends-steps, stepped)
 
 -- ---- where groups stand
 
@@ -214,14 +184,10 @@ module _ (b : Built) (ts : List Interned) (c : Built) (x : Extends (opened b ts)
   span-new = ap (λ ss. get_or ss (length b.groups) no_span) groups-apart ∙ get_or_at b.groups (next_span b (length ts)) x.groups_more no_span (length b.groups) refl
 
   pub span-old : (n : ℕ) → n < length b.groups → get_or c.groups n no_span ≡ get_or b.groups n no_span
-  span-old n lt =
-      ap (λ ss. get_or ss n no_span) groups-apart ∙ get_or_append_left b.groups (next_span b (length ts) ∷ x.groups_more) no_span n lt
+  span-old n lt = grind (arith, groups-apart, get_or_append_left)
 
   pub types-new : types_in c.types (next_span b (length ts)) ≡ ts
-  types-new =
-      let s = next_span b (length ts) in
-      ap (λ us. types_in us s) types-apart ∙ ap (take (s.end - s.start)) (drop_at b.types (ts ++ x.types_more) (length b.types) refl)
-      ∙ take_at ts x.types_more (s.end - s.start) (omega arith)
+  types-new = grind (arith, types-apart, drop_at, take_at)
 
 pub extends-group : (b : Built) (ts : List Interned) → Extends (opened b ts) (with_group b ts)
 extends-group b ts = extends-steps (opened b ts) (length b.types) ts
@@ -242,9 +208,7 @@ first-group b ts tss =
 
 -- a group that is not empty leaves more types
 pub longer : (b : Built) (ts : List Interned) (tss : List (List Interned)) → 0 < length ts → b.types ≡ (with_groups b (ts ∷ tss)).types → ⊥
-longer b ts tss filled same =
-    let x = first-group b ts tss in
-    omega (arith, filled, ap length (same ∙ types-apart b ts (with_groups b (ts ∷ tss)) x), length-append b.types (ts ++ x.types_more), length-append ts x.types_more)
+longer b ts tss filled same = grind (arith, first-group b ts tss, types-apart, length-append)
 
 -- ---- what each group keeps holds of what is taken of a module
 
@@ -280,8 +244,7 @@ module _ (P : Built → Type 0) (Q : ℕ → Type 0) (exception : (b : Built) (i
   through-exceptions (i ∷ is) b all p = through-exceptions is (with_exception b i) (All-tail Q i is all) (exception b i (All-head Q i is all) p)
 
   through-startup : (b : Built) (startup : Bool) → P b → P (with_startup b startup)
-  through-startup b false p = p
-  through-startup b true p = last b p
+  through-startup b startup p = grind arith
 
   pub through-interned : (ms : List (Group ℕ ℕ)) (tags : List ℕ) (startup : Bool) → ((i : ℕ) → Q (get_or (taken ms).declared i 0)) → P (taken ms).built
       → P (interned ms tags startup)

@@ -1,11 +1,11 @@
 -- What a builder shows after a growing call, and what it holds under ids: after one more index, one more group, and calls in turn.
 use Rattle.std.proofs.Common.{◌≡◌, ◌<◌, ℕ, Bool, true, false, nat_eq, List, length, Option, Some, None, refl, sym, ap, ◌∙◌, inl, inr, arith, zero, suc, [], ◌∷◌, OnOk}
-use Rattle.std.specs.Prelude.{if◌then◌else◌, slice_get, is_some, Result, Ok, Err}
+use Rattle.std.specs.Prelude.{if◌then◌else◌, slice_get, is_some, Result}
 use Rattle.std.proofs.lemmas.Bool.{eqb-true, eq-eqb, cases_eq, eqb-false}
 use Rattle.std.proofs.lemmas.Option.{same_Some}
 use Rattle.type_spec.specs.Interned.{Interned, Span, with_group, opened, empty, with_exception, with_startup}
 use Rattle.form_types.specs.Types.{TypesData, types_by_id}
-use Rattle.module_types.specs.Builder.{Builder, noted, interns_by, interns, new_builder, BuilderState, builder_view, excepts_by, excepts, starts_by, starts}
+use Rattle.module_types.specs.Builder.{Builder, noted, interns_by, interns, new_builder, BuilderState, builder_view, excepts, starts}
 use Rattle.module_types.specs.Conversion.{group_of_id, members_of, StandsInterned, HasIndex, HoldsGroups}
 use Rattle.module_types.proofs.GroupMembers.{Extends, extends-group, group-within, span-new, span-old}
 use Rattle.std.specs.Option.{unwrap_or, option_map}
@@ -18,11 +18,10 @@ use Rattle.std.proofs.lemmas.List.{length-map}
 use Rattle.wasm_index.specs.declared.index.Index.{Index}
 use Rattle.wasm_index.specs.declared.spaces.ModuleInternedRecGroupSpace.{ModuleInternedRecGroupSpace}
 use Rattle.wasm_index.specs.Index.{number_of, index_of}
-use Rattle.module_types.specs.Views.{TypeIndex, interned_of, span_of}
+use Rattle.module_types.specs.Views.{TypeIndex, interned_of}
 
 pub where-ok : {A E : Type 0} {P : Type 0} (r : Result A E) → is_err r ≡ false → OnOk r P → P
-where-ok (Ok x) e p = p
-where-ok (Err x) e p = absurd cc
+where-ok r e p = grind arith
 
 -- one more number is noted
 abbrev Notes : List (Option ℕ) → List (Option ℕ) → ℕ → ℕ → Type 0
@@ -31,14 +30,7 @@ Notes before after id n = noted_at after ≡ noted (noted_at before) id n
 -- a state shows a builder that has its parts
 shows : (s : BuilderState) (b : Builder) → s.validator ≡ b.validator → (builder_view s).built ≡ b.built → noted_at s.ids ≡ b.ids
     → noted_at s.exceptions ≡ b.exceptions → option_map number_of s.startup ≡ b.startup → s.is_poisoned ≡ b.is_poisoned → builder_view s ≡ b
-shows s b validator built ids exceptions startup poisoned = λ j. record {
-  validator = validator j;
-  built = built j;
-  ids = ids j;
-  exceptions = exceptions j;
-  startup = startup j;
-  is_poisoned = poisoned j;
-}
+shows s b validator built ids exceptions startup poisoned = grind arith
 
 module _ (old new : BuilderState) where
   abbrev before : Builder
@@ -51,34 +43,23 @@ module _ (old new : BuilderState) where
       → (builder_view new).built ≡ with_group before.built ts → k ≡ index_of (length old.list.groups) → Notes old.ids new.ids id (number_of k)
       → new.validator ≡ old.validator → new.exceptions ≡ old.exceptions → new.startup ≡ old.startup → new.is_poisoned ≡ old.is_poisoned
       → builder_view new ≡ interns before id ts
-  shows-interned ts id k none built next puts validator exceptions startup poisoned =
-      shows new (interns_by before id ts None) validator built
-      (puts ∙ ap (noted before.ids id) (ap number_of next ∙ sym (length-map old.list.groups span_of)))
-      (ap noted_at exceptions) (ap (option_map number_of) startup) poisoned
-      ∙ ap (interns_by before id ts) none
+  shows-interned ts id k none built next puts validator exceptions startup poisoned = grind (arith, shows, length-map)
 
   pub shows-excepted : (i : ℕ) (k : TypeIndex) → None ≡ noted_at old.exceptions i
       → (builder_view new).built ≡ with_exception before.built i → k ≡ index_of (length old.list.types) → Notes old.exceptions new.exceptions i (number_of k)
       → new.validator ≡ old.validator → new.ids ≡ old.ids → new.startup ≡ old.startup → new.is_poisoned ≡ old.is_poisoned
       → builder_view new ≡ excepts before i
-  shows-excepted i k none built next puts validator ids startup poisoned =
-      shows new (excepts_by before i None) validator built (ap noted_at ids) (puts ∙ ap (noted before.exceptions i) (types-count k next))
-      (ap (option_map number_of) startup) poisoned
-      ∙ ap (excepts_by before i) none
+  shows-excepted i k none built next puts validator ids startup poisoned = grind (arith, shows, types-count)
 
   pub shows-started : (k : TypeIndex) → old.startup ≡ None → (builder_view new).built ≡ with_startup before.built true
       → k ≡ index_of (length old.list.types) → new.startup ≡ Some k
       → new.validator ≡ old.validator → new.ids ≡ old.ids → new.exceptions ≡ old.exceptions → new.is_poisoned ≡ old.is_poisoned
       → builder_view new ≡ starts before
-  shows-started k none built next startup validator ids exceptions poisoned =
-      shows new (starts_by before None) validator built (ap noted_at ids) (ap noted_at exceptions)
-      (ap (option_map number_of) startup ∙ ap Some (types-count k next)) poisoned
-      ∙ ap (λ o. starts_by before (option_map number_of o)) (sym none)
+  shows-started k none built next startup validator ids exceptions poisoned = grind (arith, shows, types-count)
 
 pub shows-new : (new : BuilderState) → (builder_view new).built ≡ empty → new.ids ≡ [] → new.exceptions ≡ [] → new.startup ≡ None
     → new.is_poisoned ≡ false → builder_view new ≡ new_builder new.validator
-shows-new new built ids exceptions startup poisoned =
-    shows new (new_builder new.validator) refl built (ap noted_at ids) (ap noted_at exceptions) (ap (option_map number_of) startup) poisoned
+shows-new new built ids exceptions startup poisoned = grind arith
 
 module _ (none v k : ℕ) (is_none : note_of none ≡ None) (is : note_of v ≡ Some k) where
   note-read : (xs : List ℕ) (m : ℕ) → noted_at (notes_of xs) m ≡ note_of (unwrap_or (slice_get xs m) none)
@@ -88,21 +69,13 @@ module _ (none v k : ℕ) (is_none : note_of none ≡ None) (is : note_of v ≡ 
 
   pub noted-written : (xs : List ℕ) (n m : ℕ)
       → noted_at (notes_of (written none xs n v)) m ≡ noted (noted_at (notes_of xs)) n k m
-  noted-written xs n m = note-read (written none xs n v) m ∙ by (nat_eq n m) refl where
-    by : (test : Bool) → nat_eq n m ≡ test → note_of (unwrap_or (slice_get (written none xs n v) m) none) ≡ (if test then Some k else noted_at (notes_of xs) m)
-    by true e =
-        ap (λ i. note_of (unwrap_or (slice_get (written none xs n v) i) none)) (sym (eqb-true n m e))
-        ∙ ap (λ o. note_of (unwrap_or o none)) (slice_get-written none xs n v) ∙ is
-    by false e = ap note_of (slice_get-written_elsewhere none xs n v m (λ same. eqb-false n m e (sym same))) ∙ sym (note-read xs m)
+  noted-written xs n m = grind (arith, note-read, eqb-true, slice_get-written, slice_get-written_elsewhere, eqb-false)
 
 pub noted-here : (at : ℕ → Option ℕ) (n k : ℕ) → noted at n k n ≡ Some k
 noted-here at n k = ap (λ c. if c then Some k else at n) (eq-eqb n n refl)
 
 pub noted-elsewhere : (at : ℕ → Option ℕ) (n k m : ℕ) → (n ≡ m → ⊥) → noted at n k m ≡ at m
-noted-elsewhere at n k m other = by (nat_eq n m) refl where
-  by : (c : Bool) → nat_eq n m ≡ c → (if c then Some k else at m) ≡ at m
-  by true e = absurd (other (eqb-true n m e))
-  by false e = refl
+noted-elsewhere at n k m other = grind arith
 
 module _ (t : TypesData) (b : Builder) (k : ℕ) (ts : List Interned) (holds : HoldsGroups t b) (long : length ts ≡ length (members_of t k)) where
   abbrev later : Builder
@@ -118,12 +91,7 @@ module _ (t : TypesData) (b : Builder) (k : ℕ) (ts : List Interned) (holds : H
   longer = group-within b.built ts (with_group b.built ts) x
 
   held-new : StandsLater k (length b.built.groups)
-  held-new =
-      let at = span-new b.built ts (with_group b.built ts) x in
-      record {
-        within = longer;
-        whole = omega (arith, ap (λ (s : Span). s.start) at, ap (λ (s : Span). s.end) at, long);
-      }
+  held-new = grind (arith, span-new b.built ts (with_group b.built ts) x, x, longer)
 
   held-before : (m j : ℕ) → b.ids m ≡ Some j → StandsLater m j
   held-before m j e =
@@ -147,11 +115,7 @@ module _ (t : TypesData) (b : Builder) (k : ℕ) (ts : List Interned) (holds : H
   holds-kept = elim (b.ids k) as (λ o. HoldsGroups t (interns_by b k ts o)) [ Some j ↦ holds | None ↦ holds-later ]
 
   some-now : (interns b k ts).ids k ≡ None → ⊥
-  some-now = by (b.ids k) refl where
-    by : (o : Option ℕ) → b.ids k ≡ o → (interns_by b k ts o).ids k ≡ None → ⊥
-    by (Some j) e none = let no : Some j ≡ None = sym e ∙ none in cc
-    by None e none =
-        let no : Some (length b.built.groups) ≡ None = sym (noted-here b.ids k (length b.built.groups)) ∙ none in cc
+  some-now = grind arith
 
   pub has-index : (n : ℕ) → n < length (types_by_id t.groups) → group_of_id t n ≡ k
       → HasIndex t (length (interns b k ts).built.types) (interns b k ts).built.groups (interns b k ts).ids n
@@ -168,16 +132,13 @@ abbrev Seen : Builder → List ℕ → Type 0
 Seen b seen = (n : ℕ) → is_some (b.ids n) ≡ seen_in n seen
 
 noted-seen : (test : Bool) (k : ℕ) (o : Option ℕ) (s : Bool) → is_some o ≡ s → is_some (if test then Some k else o) ≡ (if test then true else s)
-noted-seen true k o s e = refl
-noted-seen false k o s e = e
+noted-seen test k o s e = grind arith
 
 module _ (cs : List (ℕ × List Interned)) (id : ℕ) (ts : List Interned) where
   one-more : ((b : Builder) (seen : List ℕ) → Seen b seen → (runs b cs).built ≡ with_groups b.built (firsts seen cs))
       → (b : Builder) (seen : List ℕ) → Seen b seen → (o : Option ℕ) → b.ids id ≡ o
       → (runs (interns_by b id ts (b.ids id)) cs).built ≡ with_groups b.built (if seen_in id seen then firsts seen cs else ts ∷ firsts (id ∷ seen) cs)
-  one-more rest b seen tied (Some k) e =
-      ap (λ o. (runs (interns_by b id ts o) cs).built) e ∙ rest b seen tied
-      ∙ ap (λ s. with_groups b.built (if s then firsts seen cs else ts ∷ firsts (id ∷ seen) cs)) (sym (ap is_some e) ∙ tied id)
+  one-more rest b seen tied (Some k) e = grind arith
   one-more rest b seen tied None e =
       ap (λ o. (runs (interns_by b id ts o) cs).built) e
       ∙ rest (interns_by b id ts None) (id ∷ seen) (λ n. noted-seen (nat_eq id n) (length b.built.groups) (b.ids n) (seen_in n seen) (tied n))

@@ -5,11 +5,11 @@ use Rattle.std.specs.Prelude.{◌⊎◌}
 use Rattle.std.proofs.lemmas.Bool.{cases_lt, false≢true}
 use Rattle.std.proofs.lemmas.List.{length-map, length_push, get_or_past}
 use Rattle.std.proofs.lemmas.List.Elements.{All-nil, All-map, All-weaker, All-cons, All-append}
-use Rattle.wasm_spec.specs.TypeData.{Struct, SubType, Group, map_sub_type, map_group, group_edges, Value, I32, Composite, Func, Exn, map_value, map_field, map_function, map_composite, value_edges, field_edges, composite_edges, sub_type_edges}
+use Rattle.wasm_spec.specs.TypeData.{Struct, SubType, Group, map_sub_type, map_group, group_edges, Value, Composite, Func, Exn, map_value, map_field, map_composite, value_edges, field_edges, composite_edges, sub_type_edges}
 use Rattle.type_data.specs.Shapes.{erased}
 use Rattle.type_data.specs.TypeShapes.{group_shape}
 use Rattle.type_data.specs.Names.{NameKind, plainly, Named, index_of}
-use Rattle.type_spec.specs.Equality.{Home, home}
+use Rattle.type_spec.specs.Equality.{Home}
 use Rattle.type_spec.specs.Interned.{Interned, Built, empty, with_group, plain, exception_for, composite_at, startup_type, kind_of_type, kind_at, taken, interned, Called, passed, mapped, opened, field_for, with_exception, with_startup}
 use Rattle.type_spec.specs.Firsts.{taken_groups}
 use Rattle.type_spec.specs.Taken.{NameEarlier}
@@ -19,15 +19,14 @@ use Rattle.module_types.specs.ListGroups.{unkinded, kind_in, IsWellNamed}
 use Rattle.module_types.proofs.Taking.{IsMet, Covers, form, Next, Stand, IsExactBelow, with_forms, next-copy, number_in, whole}
 use Rattle.module_types.proofs.EqualLists.{next-home, next-place, next-number}
 use Rattle.module_types.proofs.GroupMembers.{composite-behind, extends-group, trampoline_next, all-steps, through-interned}
-use Rattle.module_types.proofs.WellNamed.{kind-mapped, AllBelow, Well, kind-before, well-next, named-before}
+use Rattle.module_types.proofs.WellNamed.{AllBelow, Well, kind-before, well-next, named-before}
 use Rattle.std.specs.Option.{option_to_list}
 use Rattle.form_lists.proofs.AllSections.{All-joined}
 
 -- ---- a mapped type names nothing
 
 value-nothing : (v : Value (Named ℕ)) → value_edges (λ (r : ℕ). r) (map_value (index_of {R = ℕ}) (passed v)) ≡ []
-value-nothing I32 = refl
-value-nothing v = refl
+value-nothing v = grind arith
 
 values-nothing : (vs : List (Value (Named ℕ))) → flat_map (value_edges (λ (r : ℕ). r)) (map (map_value (index_of {R = ℕ})) (map passed vs)) ≡ []
 values-nothing [] = refl
@@ -38,8 +37,7 @@ mapped-nothing f = λ i. (values-nothing f.params i ++ values-nothing f.results 
 
 module _ (kind : ℕ → NameKind) where
   value-named : (v : Value (Named ℕ)) → map_value (name_by kind (λ (r : ℕ). r)) (map_value (index_of {R = ℕ}) (passed v)) ≡ passed v
-  value-named I32 = refl
-  value-named v = refl
+  value-named v = grind arith
 
   values-named : (vs : List (Value (Named ℕ)))
       → map (map_value (name_by kind (λ (r : ℕ). r))) (map (map_value (index_of {R = ℕ})) (map passed vs)) ≡ map passed vs
@@ -80,12 +78,7 @@ module _ (index : ℕ → Named ℕ) where
   -- the parameters of the function type at an index
   params-at : (ts : List Interned) (i : ℕ) (f : Called) → map_group index (λ r. r) (unkinded ts) ≡ ts → composite_at ts i ≡ Func f
       → map (map_value index) (map (map_value (index_of {R = ℕ})) f.params) ≡ f.params
-  params-at ts i f same at =
-      let whole : Func (map_function index (map_function (index_of {R = ℕ}) f)) ≡ Func f =
-      ap (λ c. map_composite index (λ r. r) (map_composite (index_of {R = ℕ}) (λ r. r) c)) (sym at) ∙ sym (composite-named ts i)
-      ∙ ap (λ us. composite_at us i) same ∙ at in
-      let function : map_function index (map_function (index_of {R = ℕ}) f) ≡ f = cc in
-      ap (λ (g : Called). g.params) function
+  params-at ts i f same at = grind (arith, whole, composite-named)
 
   fields-named : (vs : List (Value (Named ℕ))) → map (map_field index) (map (map_field (index_of {R = ℕ})) (map field_for vs))
       ≡ map field_for (map (map_value index) (map (map_value (index_of {R = ℕ})) vs))
@@ -154,8 +147,7 @@ module _ (kind : ℕ → NameKind) (number : ℕ → ℕ) where
   member-named : (g : Group ℕ ℕ) (p : ℕ) → p < length g
       → kind_in (by_names kind number g) p ≡ kind_of_type (get_or (map_group (erased {R = ℕ}) (erased {R = ℕ}) g) p some_member).composite.inner
   member-named [] p lt = absurd (omega arith)
-  member-named (t ∷ ts) zero lt = kind-mapped (name_by kind number) number t.composite.inner
-      ∙ sym (kind-mapped (erased {R = ℕ}) (erased {R = ℕ}) t.composite.inner)
+  member-named (t ∷ ts) zero lt = grind arith
   member-named (t ∷ ts) (suc p) lt = member-named ts p (omega arith)
 
 module _ (all : List (Group ℕ ℕ)) (number : ℕ → ℕ) (exact : IsExactBelow all number (size all)) where
@@ -168,35 +160,21 @@ module _ (all : List (Group ℕ ℕ)) (number : ℕ → ℕ) (exact : IsExactBel
     abbrev next : List Interned
     next = form all number h
 
-    long : length next ≡ length h.members
-    long = length-map h.members (map_sub_type (name_by (kind_at all) number) number)
-
     -- a member of the group, by its place in the list
     member-kind : (r : ℕ) → h.start ≤ r → r < h.start + length h.members → kind_in (b.types ++ next) (number r) ≡ kind_at all r
     member-kind r low high =
-        let p = r - h.start in
-        let inside : p < length h.members = omega (arith, low, high) in
-        let at = next-home all number b h x r low high in
-        let place = next-place all number b h x r low high in
-        ap (kind_in (b.types ++ next)) (next-number all number b h x r low high) ∙ ap kind_of_type (composite-behind b.types next p)
-        ∙ member-named (kind_at all) number h.members p inside
-        ∙ (λ t. kind_of_type (get_or (map_group (erased {R = ℕ}) (erased {R = ℕ}) (sym at t).members) (sym place t) some_member).composite.inner)
-        ∙ sym (home-kind all r (omega (arith, high, x.inside)))
+        grind (arith, next-home all number b h x r low high, next-place all number b h x r low high, next-number all number b h x r low high, composite-behind, member-named, home-kind)
 
     module _ (there : (i : ℕ) → i < size all → i < h.start → IsThere b i) where
       reference-below : (r : ℕ) → r < h.start + length h.members → number r < length b.types + length next
       reference-below r lt =
           elim (cases_lt r h.start) [
             | inl old ↦ let before = x.below r old in omega (arith, before)
-            | inr low ↦ omega (arith, next-number all number b h x r low lt, low, lt, long)
+            | inr low ↦ grind (arith, next-number all number b h x r low lt, low, lt, length-map, name_by)
           ]
 
       reference-kind : (r : ℕ) → r < h.start + length h.members → kind_in (b.types ++ next) (number r) ≡ kind_at all r
-      reference-kind r lt =
-          elim (cases_lt r h.start) [
-            | inl old ↦ let is = there r (omega (arith, lt, x.inside)) old in kind-before b.types next (number r) is.lt ∙ is.kind
-            | inr low ↦ member-kind r low lt
-          ]
+      reference-kind r lt = grind (arith, cases_lt, kind-before, member-kind)
 
       next-below : AllBelow (length b.types + length next) (unkinded next)
       next-below =
@@ -222,27 +200,8 @@ module _ (all : List (Group ℕ ℕ)) (number : ℕ → ℕ) (exact : IsExactBel
             let s = extends-group b next in
             let whole = ap length s.types ∙ length-append (b.types ++ next) s.types_more in
             elim (next-copy all number b h x done i lt met) [
-              | inr c ↦
-                  let p = i - (home all i).start in
-                  let r = h.start + p in
-                  let inside : r < size all = omega (arith, c.lt, x.inside) in
-                  let same = (exact i r lt inside).1 c.same in
-                  let at : number i < length (b.types ++ next) = omega
-                  (arith, same, x.numbers p c.lt, c.lt, long, length-append b.types next) in
-                  record {
-                    lt = omega (arith, at, whole);
-                    kind = ap (λ ts. kind_in ts (number i)) s.types ∙ kind-before (b.types ++ next) s.types_more (number i) at
-                        ∙ ap (kind_in (b.types ++ next)) same ∙ member-kind r (omega arith) (omega (arith, c.lt))
-                        ∙ sym (same-kind all all i r lt inside c.same);
-                  }
-              | inl old ↦
-                  let is = found i lt old in
-                  let at : number i < length (b.types ++ next) = omega (arith, is.lt, length-append b.types next) in
-                  record {
-                    lt = omega (arith, at, whole);
-                    kind = ap (λ ts. kind_in ts (number i)) s.types ∙ kind-before (b.types ++ next) s.types_more (number i) at
-                        ∙ kind-before b.types next (number i) is.lt ∙ is.kind;
-                  }
+              | inr c ↦ grind (arith, size, length-map, name_by, length-append, whole, kind-before, member-kind, same-kind)
+              | inl old ↦ grind (arith, length-append, whole, kind-before)
             ]
 
   well-forms : (hs : List Home) (b : Built) (done : List Home) → Stand all number b hs → Covers all done hs
@@ -252,7 +211,7 @@ module _ (all : List (Group ℕ ℕ)) (number : ℕ → ℕ) (exact : IsExactBel
   well-forms (h ∷ hs) b done x covers found w =
       let there : (i : ℕ) → i < size all → i < h.start → IsThere b i = λ i lt before. found i lt (covers.0 i before) in
       well-forms hs (with_group b (form all number h)) (done ++ h ∷ []) x.1 covers.1 (there-more b h x.0 there done found)
-      (well-group b (form all number h) (omega (arith, x.0.some, long b h x.0)) w (next-below b h x.0 there) (next-kinds b h x.0 there))
+      (well-group b (form all number h) (grind (arith, x.0.some, length-map, name_by)) w (next-below b h x.0 there) (next-kinds b h x.0 there))
 
 well-empty : Well [] []
 well-empty = record { orderly = refl; earlier = tt; below = All-nil (λ r. r < 0); kinds = refl }
@@ -269,6 +228,4 @@ well-named ms near tags startup =
     record { orderly = end.0.orderly; earlier = end.0.earlier; kinds = end.0.kinds } where
       low : (i : ℕ) → (i < size ms) ⊎ (size ms ≤ i) → number_in ms i ≤ length (taken ms).built.types
       low i (inl lt) = let below = (whole ms near).below i lt in omega (arith, below)
-      low i (inr past) =
-          let nowhere : number_in ms i ≡ 0 = get_or_past (taken ms).declared i 0 (omega (arith, past, (whole ms near).counted)) in
-          omega (arith, nowhere)
+      low i (inr past) = grind (arith, number_in ms i, get_or_past (taken ms).declared i 0 (omega (arith, past, (whole ms near).counted)), whole ms near)

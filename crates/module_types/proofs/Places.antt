@@ -12,15 +12,9 @@ use Rattle.type_spec.specs.Interned.{Span}
 
 in-parts : (m v : ℕ) (rest : List ℕ) (n k : ℕ) → slice_get (replicate m v ++ rest) n ≡ Some k
     → ((n < m) × (v ≡ k)) ⊎ ((m ≤ n) × (slice_get rest (n - m) ≡ Some k))
-in-parts zero v rest n k e =
-    let same : n ≡ n - 0 = omega arith in
-    inr (omega arith, coe 0 1 (j. slice_get rest (same j) ≡ Some k) e)
+in-parts zero v rest n k e = grind arith
 in-parts (suc m) v rest zero k e = inl (omega arith, cc)
-in-parts (suc m) v rest (suc n) k e =
-    elim (in-parts m v rest n k e) [
-      | inl p ↦ inl (omega (arith, p.0), p.1)
-      | inr p ↦ let same : n - m ≡ suc n - suc m = omega arith in inr (omega (arith, p.0), coe 0 1 (j. slice_get rest (same j) ≡ Some k) p.1)
-    ]
+in-parts (suc m) v rest (suc n) k e = grind (arith, (in-parts m v rest n k e))
 
 -- an id is that of a member of a group, which is at a place of the groups from one on
 pub record IsIn (base : ℕ) (gs : List NamedGroup) (n k : ℕ) : Type 0 where
@@ -63,24 +57,17 @@ ids-of : (first : ℕ) (gs : List NamedGroup) (k : ℕ) → k < length gs
     → slice_get (member_ids first gs) k ≡ Some (ids_from (first + first_id gs k) (length (get_or gs k [])))
 ids-of first [] k h = absurd (omega arith)
 ids-of first (g ∷ gs) zero h = let same : first ≡ first + 0 = omega arith in ap (λ f. Some (ids_from f (length g))) same
-ids-of first (g ∷ gs) (suc k) h =
-    let same : (first + length g) + first_id gs k ≡ first + length (g ++ types_by_id (take k gs)) = omega (arith, length-append g (types_by_id (take k gs))) in
-    ids-of (first + length g) gs k (omega arith) ∙ ap (λ f. Some (ids_from f (length (get_or gs k [])))) same
+ids-of first (g ∷ gs) (suc k) h = grind (arith, same, length-append, (ids-of (first + length g) gs k (omega arith)))
 
 pub ids-are : (gs : List NamedGroup) (k : ℕ) (ids : List CoreTypeId) → k < length gs → slice_get (member_ids 0 gs) k ≡ Some ids
     → ids ≡ ids_from (first_id gs k) (length (get_or gs k []))
-ids-are gs k ids h e =
-    let same : 0 + first_id gs k ≡ first_id gs k = omega arith in
-    let both : Some ids ≡ Some (ids_from (first_id gs k) (length (get_or gs k []))) = sym e ∙ ids-of 0 gs k h ∙ ap (λ f. Some (ids_from f (length (get_or gs k [])))) same in
-    cc
+ids-are gs k ids h e = grind (arith, same, ids-of)
 
 pub head-of : (first count : ℕ) (x : CoreTypeId) (rest : List CoreTypeId) → 0 < count → x ∷ rest ≡ ids_from first count → x.0 ≡ first
-head-of first zero x rest h e = absurd (omega arith)
-head-of first (suc m) x rest h e = let same : x ≡ record { 0 = first } = cc in ap (λ (y : CoreTypeId). y.0) same
+head-of first count x rest h e = grind arith
 
 pub some-ids : (first count : ℕ) → 0 < count → [] ≡ ids_from first count → ⊥
-some-ids first zero h e = omega arith
-some-ids first (suc m) h e = cc
+some-ids first count h e = grind arith
 
 -- the ids of a group are among all
 pub group-ends : (gs : List NamedGroup) (k : ℕ) → first_id gs k + length (get_or gs k []) ≤ length (types_by_id gs)
@@ -108,9 +95,7 @@ module _ (t : TypesData) (n k : ℕ) (e : slice_get (group_numbers 0 t.groups) n
 
     module _ (next : ℕ) (spans : List Span) (ids : ℕ → Option ℕ) (has : HasIndex t next spans ids n) where
       index-is : (o : Option ℕ) → ids k ≡ o → index_by_id t next spans ids n ≡ start_by t next spans ids o + (n - first.0)
-      index-is o held =
-          (λ j. start_by t next spans ids (ids (group-is t n k e j)) + (n - first_id t.groups (group-is t n k e j)))
-          ∙ (λ j. start_by t next spans ids (held j) + (n - sym first-is j))
+      index-is o held = grind (arith, group-is, first-is)
 
       pub stands : (j : ℕ) → ids k ≡ Some j → StandsInterned t spans k j
       stands j held = coe 0 1 (i. StandsInterned t spans (group-is t n k e i) j) (has.stands j (ap ids (group-is t n k e) ∙ held))
@@ -120,18 +105,14 @@ module _ (t : TypesData) (n k : ℕ) (e : slice_get (group_numbers 0 t.groups) n
         span-is = get_or_from_slice_get spans j s no_span at
 
         pub held-within : s.start + (n - first.0) < s.end
-        held-within =
-            omega (arith, (stands j held).whole, ap (λ (r : Span). r.start) span-is, ap (λ (r : Span). r.end) span-is, first-is, starts t n k e, within t n k e)
+        held-within = grind (arith, stands, span-is, first-is, starts, within)
 
         pub held-index : index_by_id t next spans ids n ≡ s.start + (n - first.0)
         held-index = index-is (Some j) held ∙ ap (λ (r : Span). r.start + (n - first.0)) span-is
 
       module _ (unheld : ids k ≡ None) where
         pub next-within : next + (n - first.0) < 4294967295
-        next-within =
-            let room : next + length (members_of t k) < 4294967295 =
-            coe 0 1 (i. next + length (members_of t (group-is t n k e i)) < 4294967295) (has.room (ap ids (group-is t n k e) ∙ unheld)) in
-            omega (arith, room, first-is, starts t n k e, within t n k e)
+        next-within = grind (arith, group-is, first-is, starts, within)
 
         pub next-index : index_by_id t next spans ids n ≡ next + (n - first.0)
         next-index = index-is None unheld

@@ -1,5 +1,5 @@
 -- Each declared type is equal to the interned type at its index.
-use Rattle.std.proofs.Common.{◌≡◌, ◌∙◌, ◌<◌, ◌≤◌, inl, inr, ℕ, ◌+◌, ◌-◌, Bool, true, false, nat_le, List, [], ◌∷◌, ◌++◌, length, get_or, map, refl, sym, ap, subst, arith}
+use Rattle.std.proofs.Common.{◌≡◌, ◌∙◌, ◌<◌, ◌≤◌, ℕ, ◌+◌, ◌-◌, Bool, true, false, nat_le, List, [], ◌∷◌, ◌++◌, length, get_or, map, refl, sym, ap, subst, arith}
 use Rattle.std.specs.List.{AllZip, All}
 use Rattle.std.proofs.lemmas.Bool.{leb-true, leb-false, false≢true}
 use Rattle.std.proofs.lemmas.List.{length-map}
@@ -16,7 +16,7 @@ use Rattle.type_spec.proofs.Equivalence.{type-chained, groups-type}
 use Rattle.type_spec.proofs.Homes.{size, home-again}
 use Rattle.type_spec.proofs.ByNames.{name_by, names-plain}
 use Rattle.module_types.specs.Conversion.{no_span}
-use Rattle.module_types.specs.ListGroups.{unkinded, types_in, list_groups, IsWellNamed}
+use Rattle.module_types.specs.ListGroups.{list_groups, IsWellNamed}
 use Rattle.module_types.proofs.GroupMembers.{Extends, extends-both, group-within, span-new, types-new, extends-group, extends-groups, extends-interned}
 use Rattle.module_types.proofs.Taking.{IsMet, Covers, form, Next, Stand, IsExactBelow, with_forms, next-copy, number_in, whole}
 use Rattle.module_types.proofs.EqualLists.{next-home, next-place, next-number}
@@ -50,35 +50,19 @@ module _ (all : List (Group ℕ ℕ)) (number : ℕ → ℕ) (exact : IsExactBel
     there = record { start = first; members = map_group number number h.members }
 
     home-there : home (list_groups l) first ≡ there
-    home-there =
-        ap (λ (s : Span). home (list_groups l) s.start) (sym span-is) ∙ (stands-at l w (length b.groups) within).at
-        ∙ (λ i. record { start = (span-is i).start; members = unkinded (types_in l.types (span-is i)) })
-        ∙ ap (λ ts. record { start = first; members = unkinded ts }) (types-new b next l behind)
-        ∙ ap (λ g. record { start = first; members = g }) (names-plain (kind_at all) number h.members)
+    home-there = grind (arith, span-is, stands-at, within, types-new, names-plain)
 
     first-in : first + length h.members ≤ size (list_groups l)
     first-in = omega (arith, (stands-at l w (length b.groups) within).high, ap (λ (s : Span). s.end) span-is, long, list-size l w)
 
     home-member : (p : ℕ) → p < length h.members → home (list_groups l) (first + p) ≡ there
-    home-member p lt =
-        let from = ap (λ (g : Home). g.start) home-there in
-        let members = ap (λ (g : Home). length g.members) home-there ∙ length-map h.members (map_sub_type number number) in
-        home-again (list_groups l) first (first + p) (omega (arith, first-in, lt)) (record {
-          from = omega (arith, from);
-          to = omega
-              (arith, from, members, lt);
-        }) ∙ home-there
+    home-member p lt = grind (arith, home-there, length-map, home-again, first-in)
 
     module _ (same : (i : ℕ) → i < size all → i < h.start → Same i (number i)) where
       target-there : (r : ℕ) → r < h.start + length h.members → (c d : Bool) → nat_le h.start r ≡ c → nat_le first (number r) ≡ d
           → SameTarget Same (target_by c (r - h.start) r) (target_by d (number r - first) (number r))
       target-there r lt true true e f = omega (arith, next-number all number b h x r (leb-true h.start r e) lt)
-      target-there r lt true false e f = absurd (omega (
-        arith,
-        next-number all number b h x r (leb-true h.start r e) lt,
-        leb-false first
-            (number r) f,
-      ))
+      target-there r lt true false e f = grind (arith, next-number all number b h x r (leb-true h.start r e) lt, leb-true h.start r e, leb-false first (number r) f)
       target-there r lt false true e f = absurd (omega (arith, x.below r (leb-false h.start r e), leb-true first (number r) f))
       target-there r lt false false e f = same r (omega (arith, lt, x.inside)) (leb-false h.start r e)
 
@@ -109,15 +93,7 @@ module _ (all : List (Group ℕ ℕ)) (number : ℕ → ℕ) (exact : IsExactBel
 
       module _ (done : List Home) (found : (i : ℕ) → i < size all → IsMet all done i → Same i (number i)) where
         found-more : (i : ℕ) → i < size all → IsMet all (done ++ h ∷ []) i → Same i (number i)
-        found-more i lt met =
-            elim (next-copy all number b h x done i lt met) [
-              | inr c ↦
-                  let p = i - (home all i).start in
-                  let r = h.start + p in
-                  let one = (exact i r lt (omega (arith, c.lt, x.inside))).1 c.same ∙ x.numbers p c.lt in
-                  subst (Same i) (sym one) (type-chained all all (list_groups l) i r (first + p) c.same (member-there p c.lt))
-              | inl old ↦ found i lt old
-            ]
+        found-more i lt met = grind (arith, next-copy all number b h x done i lt met, type-chained, member-there)
 
   all-same : (hs : List Home) (b : Built) (done : List Home) → Stand all number b hs → Covers all done hs → Extends (with_forms all number b hs) l
       → ((i : ℕ) → i < size all → IsMet all done i → Same i (number i)) → (i : ℕ) → i < size all → Same i (number i)

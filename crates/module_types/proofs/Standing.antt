@@ -1,13 +1,12 @@
 -- The groups of a well named list, where they stand.
-use Rattle.std.proofs.Common.{◌≡◌, ◌∙◌, ◌<◌, ◌≤◌, ℕ, zero, suc, ◌+◌, ◌-◌, List, [], ◌∷◌, ◌++◌, length, take, drop, get_or, map, sym, ap, subst, arith}
+use Rattle.std.proofs.Common.{◌≡◌, ◌∙◌, ◌<◌, ◌≤◌, ℕ, zero, suc, ◌+◌, ◌-◌, List, [], ◌∷◌, length, drop, get_or, sym, ap, subst, arith}
 use Rattle.std.proofs.lemmas.List.{map-append, take-append-drop, drop-drop, drop-map, take-map}
 use Rattle.std.proofs.Math.ListN.{drop_of_length-le}
-use Rattle.wasm_spec.specs.TypeData.{Group, map_sub_type}
 use Rattle.type_data.specs.Names.{index_of}
 use Rattle.type_spec.specs.Equality.{home_from}
 use Rattle.type_spec.specs.Interned.{Interned, Span, Built, kind_of_type, kind_at}
 use Rattle.type_spec.specs.Taken.{NameEarlier}
-use Rattle.type_spec.proofs.Homes.{joined, size, in_front, behind}
+use Rattle.type_spec.proofs.Homes.{joined, size, in_front}
 use Rattle.type_spec.proofs.ByNames.{name_by, by_names, some_type, joined-kind}
 use Rattle.module_types.specs.Orderly.{LieBetween}
 use Rattle.module_types.specs.Conversion.{no_span}
@@ -41,13 +40,7 @@ stands-from ts (s ∷ ss) first end (suc k) lie le earlier lt =
     let last = span-ends ts s ss first end lie le in
     let r = stands-from ts ss s.end end k lie.2 le (subst (λ n. NameEarlier n (groups_of ts ss)) last earlier.1) (omega arith) in
     let t = get_or ss k no_span in
-    record {
-      low = omega (arith, r.low, lie.0, lie.1);
-      some = r.some;
-      high = r.high;
-      at = behind first g (groups_of ts ss) t.start (omega (arith, r.low, last)) ∙ ap (λ n. home_from n (groups_of ts ss) t.start) last ∙ r.at;
-      near = r.near;
-    }
+    grind arith
 
 -- the groups of a list are its types
 pub joined-from : (ts : List Interned) (ss : List Span) (first : ℕ) → LieBetween first ss (length ts)
@@ -56,10 +49,7 @@ joined-from ts [] first lie = ap unkinded (sym (drop_of_length-le ts (omega (ari
 joined-from ts (s ∷ ss) first lie =
     let n = s.end - s.start in
     let at : s.start + n ≡ s.end = omega (arith, lie.1) in
-    ap (λ l. unkinded (types_in ts s) ++ l) (joined-from ts ss s.end lie.2 ∙ ap (λ k. unkinded (drop k ts)) (sym at)
-    ∙ ap unkinded (sym (drop-drop n s.start ts)))
-    ∙ sym (map-append (map_sub_type (index_of {R = ℕ}) (λ (r : ℕ). r)) (take n (drop s.start ts)) (drop n (drop s.start ts)))
-    ∙ ap unkinded (take-append-drop n (drop s.start ts)) ∙ ap (λ k. unkinded (drop k ts)) lie.0
+    grind (arith, drop-drop n s.start ts, take-append-drop n (drop s.start ts), map-append, (joined-from ts ss s.end lie.2))
 
 kind-plain : (ts : List Interned) (i : ℕ) → i < length ts → kind_of_type (get_or (unkinded ts) i some_type).composite.inner ≡ kind_in ts i
 kind-plain [] i lt = absurd (omega arith)
@@ -71,27 +61,15 @@ module _ (b : Built) (w : IsWellNamed b) where
   list-size = omega (arith, groups-size b.types b.groups 0 (length b.types) w.orderly (omega arith))
 
   pub list-kind : (i : ℕ) → i < length b.types → kind_at (list_groups b) i ≡ kind_in b.types i
-  list-kind i lt =
-      joined-kind (list_groups b) i (omega (arith, lt, list-size))
-      ∙ ap (λ (g : Group ℕ ℕ). kind_of_type (get_or g i some_type).composite.inner) (joined-from b.types b.groups 0 w.orderly)
-      ∙ kind-plain b.types i lt
+  list-kind i lt = grind (arith, joined-kind, list-size, some_type, joined-from, kind-plain)
 
   pub stands-at : (k : ℕ) → k < length b.groups → StandsFrom b.types b.groups 0 (length b.types) (get_or b.groups k no_span)
   stands-at k lt = stands-from b.types b.groups 0 (length b.types) k w.orderly (omega arith) w.earlier lt
 
   pub span-long : (k : ℕ) → k < length b.groups
       → length (unkinded (types_in b.types (get_or b.groups k no_span))) ≡ (get_or b.groups k no_span).end - (get_or b.groups k no_span).start
-  span-long k lt =
-      let s = stands-at k lt in
-      unkinded-long (types_in b.types (get_or b.groups k no_span)) ∙ types-long b.types (get_or b.groups k no_span) (omega (arith, s.some)) s.high
+  span-long k lt = grind (arith, stands-at, unkinded-long, types-long)
 
   -- a group's types, by names
   pub span-named : (s : Span) → by_names (kind_in b.types) (λ r. r) (unkinded (types_in b.types s)) ≡ types_in b.types s
-  span-named s =
-      let name = map_sub_type (name_by (kind_in b.types) (λ (r : ℕ). r)) (λ (r : ℕ). r) in
-      let plain = map_sub_type (index_of {R = ℕ}) (λ (r : ℕ). r) in
-      ap (map name) (sym (map-in plain b.types s)) ∙ sym (map-in name (unkinded b.types) s)
-      ∙ ap (λ ts. take (s.end - s.start) (drop s.start ts)) w.kinds where
-        map-in : {A B : Type 0} (f : A → B) (xs : List A) (s : Span)
-            → take (s.end - s.start) (drop s.start (map f xs)) ≡ map f (take (s.end - s.start) (drop s.start xs))
-        map-in f xs s = ap (take (s.end - s.start)) (drop-map f s.start xs) ∙ take-map f (s.end - s.start) (drop s.start xs)
+  span-named s = grind (arith, name_by, drop-map, take-map)

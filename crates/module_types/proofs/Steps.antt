@@ -1,11 +1,12 @@
 -- What a step of an interner does to what it holds, and what its types are named by.
-use Rattle.std.proofs.Common.{◌≡◌, ℕ, zero, suc, ◌+◌, List, [], ◌∷◌, ◌++◌, length, map, replicate, Bool, true, false, cond, Option, Some, None, refl, sym, ap, ◌∙◌, IsTrue}
+use Rattle.std.proofs.Common.{[], arith}
+use Rattle.std.proofs.Common.{◌≡◌, ℕ, zero, suc, ◌+◌, List, ◌∷◌, ◌++◌, length, map, replicate, Bool, true, false, cond, Option, Some, None, refl, sym, ap, ◌∙◌, IsTrue}
 use Rattle.std.specs.Prelude.{if◌then◌else◌, slice_get}
 use Rattle.std.specs.Option.{option_map}
 use Rattle.std.specs.declared.ops.Range.{Range}
 use Rattle.std.proofs.lemmas.List.{length-map, length-append, map-append, map-set}
 use Rattle.wasm_spec.specs.TypeData.{Func, map_field, map_value}
-use Rattle.type_spec.specs.Interned.{Called, Built, mapped, same_mapped, plain, alone, now_known, knows, with_trampoline, assign_at, assign_trampoline, composite_at, next_span, opened, kind_of_type, exception_for, field_for, with_exception}
+use Rattle.type_spec.specs.Interned.{Called, Built, mapped, same_mapped, plain, alone, now_known, knows, with_trampoline, assign_at, assign_trampoline, composite_at, next_span, opened, kind_of_type, field_for, with_exception}
 use Rattle.wasm_index.specs.Index.{number_of, index_of}
 use Rattle.wasm_types.specs.declared.func.WasmFuncType.{WasmFuncType}
 use Rattle.wasm_types.specs.declared.composite.WasmCompositeInnerType.{WasmCompositeInnerType}
@@ -13,7 +14,7 @@ use Rattle.wasm_types.specs.declared.composite.WasmCompositeInnerType.TheVariant
 use Rattle.wasm_types.specs.declared.sub.WasmSubType.{WasmSubType}
 use Rattle.wasm_types.specs.contracts.equal.WasmFuncTypePartialEq.TheImpl as func
 use Rattle.wasm_types.specs.Trampolines.{trampoline_of}
-use Rattle.module_types.specs.Views.{TypeIndex, inner_of, interned_of, called_of, function_at, span_of, index_at, interned_number, field_at}
+use Rattle.module_types.specs.Views.{TypeIndex, inner_of, interned_of, called_of, function_at, index_at, interned_number, field_at}
 use Rattle.module_types.specs.TypeList.{TypeList, with_type, with_types, with_range, called_by}
 use Rattle.module_types.specs.Held.{built_of}
 use Rattle.module_types.specs.Interner.{with_next_trampoline}
@@ -62,15 +63,7 @@ module _ (l : TypeList) (get : WasmFuncType → Option TypeIndex) where
         groups = held.groups ++ next_span held (length (map interned_of ts)) ∷ [];
         trampolines = held.trampolines ++ map (option_map number_of) ks;
       }
-  more-is ts ks r start end =
-      let long = sym (length-map l.types interned_of) in
-      let many = sym (length-map ts interned_of) in
-      λ j. record held {
-        types = map-append interned_of l.types ts j;
-        groups = (map-append span_of l.groups (r ∷ [])
-            ∙ (λ i. map span_of l.groups ++ record { start = (ap number_of start ∙ long) i; end = (ap number_of end ∙ length-append l.types ts ∙ (λ m. long m + many m)) i } ∷ [])) j;
-        trampolines = map-append (option_map number_of) l.trampolines ks j;
-      }
+  more-is ts ks r start end = grind (arith, length-map, map-append, length-append)
 
   pub alone-is : (t : WasmSubType) (k : Option TypeIndex) (r : Range TypeIndex) → r.start ≡ index_of (length l.types)
       → r.end ≡ index_of (length (l.types ++ t ∷ []))
@@ -80,22 +73,13 @@ module _ (l : TypeList) (get : WasmFuncType → Option TypeIndex) where
   pub opened-is : (ts : List WasmSubType) (r : Range TypeIndex) → r.start ≡ index_of (length l.types)
       → r.end ≡ index_of (length (l.types ++ ts))
       → built_of (with_range (with_types l ts) r) get ≡ opened held (map interned_of ts)
-  opened-is ts r start end =
-      more-is ts (replicate (length ts) None) r start end
-      ∙ ap (λ ks. record (opened held (map interned_of ts)) { trampolines = held.trampolines ++ ks })
-      (map-replicate (option_map number_of) (length ts) None ∙ ap (λ n. replicate n None) (sym (length-map ts interned_of)))
-
-number-or : (b : Bool) (k : TypeIndex) (o : Option TypeIndex) → option_map number_of (cond b (Some k) o) ≡ cond b (Some (number_of k)) (option_map number_of o)
-number-or true k o = refl
-number-or false k o = refl
+  opened-is ts r start end = grind (arith, more-is, map-replicate, length-map)
 
 -- what is known once a key is noted that a type stands for
 noted-by : (get : WasmFuncType → Option TypeIndex) (key : WasmFuncType) (m : Called) → ((g : Called) → func.ghosts.eq key (function_at g) ≡ same_mapped m g)
     → (later : WasmFuncType → Option TypeIndex) (k : TypeIndex) → ((q : WasmFuncType) → later q ≡ cond (func.ghosts.eq key q) (Some k) (get q)) → (g : Called)
     → option_map number_of (later (function_at g)) ≡ now_known (λ h. option_map number_of (get (function_at h))) m (number_of k) g
-noted-by get key m tests later k puts g =
-    ap (option_map number_of) (puts (function_at g)) ∙ number-or (func.ghosts.eq key (function_at g)) k (get (function_at g))
-    ∙ ap (λ b. cond b (Some (number_of k)) (option_map number_of (get (function_at g)))) (tests g)
+noted-by get key m tests later k puts g = grind arith
 
 -- ---- a function and its trampoline
 
@@ -137,8 +121,7 @@ module _ (l : TypeList) (get : WasmFuncType → Option TypeIndex) (i : ℕ) (f :
   pub known-itself : (none : None ≡ get (trampoline_of f)) (later : WasmFuncType → Option TypeIndex) (k : TypeIndex) → number_of k ≡ i
       → ((q : WasmFuncType) → later q ≡ cond (func.ghosts.eq (trampoline_of f) q) (Some k) (get q)) → func.ghosts.eq (trampoline_of f) f ≡ true
       → built_of (called_by l i k) later ≡ assign_trampoline old i (composite_at old.types i)
-  known-itself none later k at puts is_own =
-      known-now none later k puts ∙ ap (λ n. with_trampoline (knows old (mapped (called_of f)) n) i n) at ∙ sym (made-new none true is_own)
+  known-itself none later k at puts is_own = grind (arith, known-now none later k puts, made-new none true is_own)
 
   -- a new type is appended
   pub known-next : None ≡ get (trampoline_of f) → func.ghosts.eq (trampoline_of f) f ≡ false → (g : Called) → g ≡ mapped (called_of f)
@@ -148,9 +131,7 @@ module _ (l : TypeList) (get : WasmFuncType → Option TypeIndex) (i : ℕ) (f :
   -- then there is one type more
   pub new-long : None ≡ get (trampoline_of f) → func.ghosts.eq (trampoline_of f) f ≡ false
       → length (assign_trampoline old i (composite_at old.types i)).types ≡ length l.types + 1
-  new-long none not_own =
-      ap (λ b. length b.types) (made-new none false not_own)
-      ∙ length-append old.types (plain (Func (mapped (called_of f))) ∷ []) ∙ ap (λ n. n + 1) (length-map l.types interned_of)
+  new-long none not_own = grind (arith, made-new none false not_own, length-append old.types (plain (Func (mapped (called_of f))) ∷ []), length-map l.types interned_of)
 
 -- ---- the trampoline that comes next
 
@@ -165,53 +146,40 @@ module _ (l : TypeList) (get : WasmFuncType → Option TypeIndex) where
   module _ (f : WasmFuncType) (own : trampoline_of f ≡ f) (later : WasmFuncType → Option TypeIndex) (k : TypeIndex)
       (puts : (q : WasmFuncType) → later q ≡ cond (func.ghosts.eq f q) (Some k) (get q)) where
     own-test : (g : Called) → func.ghosts.eq f (function_at g) ≡ same_mapped (called_of f) g
-    own-test g =
-        ap (λ h. func.ghosts.eq h (function_at g)) (sym own)
-        ∙ key-is f (function_at g)
-        ∙ (λ j. same_mapped ((sym (called-mapped f) ∙ ap called_of own) j) (function-back g j))
+    own-test g = grind (arith, own, key-is f (function_at g), called-mapped f, function-back)
 
     pub noted-is : built_of l later ≡ knows (built_of l get) (called_of f) (number_of k)
     noted-is = λ j. record (built_of l get) { known_trampolines = λ g. noted-by get f (called_of f) own-test later k puts g j }
 
 not-function : (b : Built) (i : ℕ) (c : WasmCompositeInnerType) → ((f : WasmFuncType) → c ≡ inner.Func f → ⊥) → assign_trampoline b i (inner_of c) ≡ b
-not-function b i (inner.Func f) other = absurd (other f refl)
-not-function b i c other = refl
+not-function b i c other = grind arith
 
 -- only a function has a trampoline
 pub assign_trampoline-other : (l : TypeList) (get : WasmFuncType → Option TypeIndex) (i : ℕ) (x : WasmSubType)
     → slice_get l.types i ≡ Some x → ((f : WasmFuncType) → x.composite_type.inner ≡ inner.Func f → ⊥)
     → built_of l get ≡ assign_trampoline (built_of l get) i (composite_at (map interned_of l.types) i)
-assign_trampoline-other l get i x read other =
-    sym (ap (assign_trampoline (built_of l get) i) (composite-read l.types i x read x.composite_type.inner refl) ∙ not-function (built_of l get) i x.composite_type.inner other)
+assign_trampoline-other l get i x read other = grind (arith, composite-read l.types i x read x.composite_type.inner refl, not-function (built_of l get) i x.composite_type.inner other)
 
 -- ---- what an interned type is named by
 
 kind-kept : (c : WasmCompositeInnerType) → kind_of_type (composite_of c) ≡ kind_of_type (inner_of c)
-kind-kept (inner.Func t) = refl
-kind-kept c = refl
+kind-kept c = grind arith
 
 abbrev named_as : WasmSubType → ℕ → Name
 named_as t n = record { kind = kind_of_type (composite_of t.composite_type.inner); index = index_at n }
 
 pub name-is : (b : BuilderState) (i : TypeIndex) (t : WasmSubType) → slice_get b.list.types (number_of i) ≡ Some t → (n : ℕ) → number_of i ≡ n
     → named_as t (number_of i) ≡ interned_name b n
-name-is b i t read n is =
-    (λ j. record {
-      kind = (kind-kept t.composite_type.inner ∙ ap kind_of_type (sym (composite-read b.list.types (number_of i) t read t.composite_type.inner refl))) j;
-      index = index_at (number_of i);
-    }) ∙ ap (interned_name b) is
+name-is b i t read n is = grind (arith, kind-kept, composite-read)
 
 -- ---- the exception type of a function type
 
 none-function : (c : WasmCompositeInnerType) → ((f : WasmFuncType) → c ≡ inner.Func f → ⊥) → IsTrue (is_function (inner_of c)) → ⊥
-none-function (inner.Func f) other is = other f refl
-none-function c other is = absurd cc
+none-function c other is = grind arith
 
 pub no-function : (ts : List WasmSubType) (i : ℕ) (x : WasmSubType) → slice_get ts i ≡ Some x
     → ((f : WasmFuncType) → x.composite_type.inner ≡ inner.Func f → ⊥) → IsTrue (is_function (composite_at (map interned_of ts) i)) → ⊥
-no-function ts i x read other is =
-    let e = composite-read ts i x read x.composite_type.inner refl in
-    none-function x.composite_type.inner other (coe 0 1 (j. IsTrue (is_function (e j))) is)
+no-function ts i x read other is = grind (arith, composite-read ts i x read x.composite_type.inner refl, none-function)
 
 fields-made : (vs : List WasmValType)
     → map (map_field (named interned_number)) (map field_of (map field_at vs)) ≡ map field_for (map (map_value (named interned_number)) (map value_of vs))
@@ -221,6 +189,4 @@ fields-made (v ∷ vs) = λ i. field_for (map_value (named interned_number) (val
 pub exception-made : (b : Built) (i : ℕ) (f : WasmFuncType) → composite_at b.types i ≡ types.Func (called_of f)
     → (fields : List WasmFieldType) → fields ≡ map field_at f.params
     → alone b (plain (types.Exn (record { function = i; fields = map (map_field (named interned_number)) (map field_of fields) }))) None ≡ with_exception b i
-exception-made b i f kind fields is =
-    ap (λ fs. alone b (plain (types.Exn (record { function = i; fields = fs }))) None) (ap (λ fs. map (map_field (named interned_number)) (map field_of fs)) is ∙ fields-made f.params)
-    ∙ sym (ap (λ c. alone b (plain (exception_for i c)) None) kind)
+exception-made b i f kind fields is = grind (arith, fields-made)

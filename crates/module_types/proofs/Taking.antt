@@ -34,9 +34,7 @@ module _ (all : List (Group ℕ ℕ)) where
   -- ---- types, and the groups that they stand in
 
   pub first-home : (i : ℕ) → i < size all → home all (home all i).start ≡ home all i
-  first-home i lt =
-      let w = home-within all i lt in
-      home-again all i (home all i).start lt (record { from = omega arith; to = omega (arith, w.from, w.to) })
+  first-home i lt = grind (arith, home-within, home-again)
 
   pub first-place : (i : ℕ) → i < size all → (home all i).start - (home all (home all i).start).start ≡ 0
   first-place i lt = ap (λ (h : Home). (home all i).start - h.start) (first-home i lt) ∙ omega arith
@@ -48,8 +46,7 @@ module _ (all : List (Group ℕ ℕ)) where
 
   pub same-by-starts : (i j : ℕ) → i < size all → j < size all → SameType all all (home all i).start (home all j).start
       → i - (home all i).start ≡ j - (home all j).start → SameType all all i j
-  same-by-starts i j lt lt' starts at =
-      type-beside all all (home all i).start (home all j).start i j starts (sym (first-home i lt)) (sym (first-home j lt')) at
+  same-by-starts i j lt lt' starts at = grind (arith, type-beside, first-home)
 
   -- the group of a type is equal to a group
   abbrev pub IsEqual : Home → ℕ → Type 0
@@ -59,16 +56,11 @@ module _ (all : List (Group ℕ ℕ)) where
   equal-same h i e = (down-decided (suc h.start) all all h.start (home all i).start).0 e
 
   pub equal-home : (h : Home) (i : ℕ) → home all i ≡ h → IsEqual h i
-  equal-home h i at =
-      subst (λ (g : Home). equal_groups all h g ≡ true) (sym at) ((down-decided (suc h.start) all all h.start h.start).1 (type-itself all h.start))
+  equal-home h i at = grind (arith, down-decided (suc h.start) all all h.start h.start, type-itself all h.start)
 
   equal-alike : (h g k : Home) → SameType all all g.start k.start → equal_groups all h g ≡ equal_groups all h k
   equal-alike h g k same =
-      let d = down-decided (suc h.start) all all h.start g.start in
-      let back = type-turned all all g.start k.start same in
-      same_from_decides {P = SameType all all h.start k.start} (equal_groups all h g) (equal_groups all h k)
-      ((λ e. type-chained all all all h.start g.start k.start (d.0 e) same), (λ x. d.1 (type-chained all all all h.start k.start g.start x back)))
-      (down-decided (suc h.start) all all h.start k.start)
+      grind (arith, down-decided (suc h.start) all all h.start g.start, type-turned all all g.start k.start same, down-decided (suc h.start) all all h.start k.start, same_from_decides, type-chained)
 
   -- the type is equal to a member of the group
   pub record Copy (h : Home) (i : ℕ) : Type 0 where
@@ -78,17 +70,7 @@ module _ (all : List (Group ℕ ℕ)) where
   pub copy : (h : Home) (i : ℕ) → h.start < size all → home all h.start ≡ h → i < size all → IsEqual h i → Copy h i
   copy h i inside at lt e = record { lt = long; same = same } where
     long : i - (home all i).start < length h.members
-    long =
-        let w = home-within all i lt in
-        let starts = equal-same h i e in
-        omega (
-          arith,
-          w.from,
-          w.to,
-          ap (λ (g : Home). length g.members) at,
-          ap (λ (g : Home). length g.members) (first-home i lt),
-          groups-long _ (home all h.start) (home all (home all i).start) (type-groups all all h.start (home all i).start starts),
-        )
+    long = grind (arith, home-within, equal-same, first-home, groups-long, type-groups)
 
     same : SameType all all i (h.start + (i - (home all i).start))
     same =
@@ -123,19 +105,10 @@ module _ (all : List (Group ℕ ℕ)) where
     met-before met = with_one ∙ or_left (is_met done (home all i)) (equal_groups all h (home all i) || false) met
 
     pub met-now : IsEqual h i → IsMet (done ++ h ∷ []) i
-    met-now e =
-        with_one
-        ∙ or_right (is_met done (home all i)) (equal_groups all h (home all i) || false) (or_left (equal_groups all h (home all i)) false e)
+    met-now e = grind (arith, with_one, or_right, or_left)
 
     pub met-either : IsMet (done ++ h ∷ []) i → IsMet done i ⊎ IsEqual h i
-    met-either met =
-        elim (or_cases (is_met done (home all i)) (equal_groups all h (home all i) || false) (sym with_one ∙ met)) [
-          | inl old ↦ inl old
-          | inr e ↦ elim (or_cases (equal_groups all h (home all i)) false e) [
-            | inl new ↦ inr new
-            | inr never ↦ absurd (let f : false ≡ true = never in cc)
-          ]
-        ]
+    met-either met = grind (arith, or_cases, with_one)
 
   -- each type before a group that is taken is met in those before it, and in the end each type is
   abbrev pub Covers : List Home → List Home → Type 0
@@ -155,16 +128,7 @@ module _ (all : List (Group ℕ ℕ)) where
   pub step-by : (n : ℕ) (Q : List Home → Taking → Type 0) → (IsMet (done_at n) n → Q (done_at n) (state n))
       → (is_met (done_at n) (home all n) ≡ false → Q (done_at n ++ home all n ∷ []) (take_group all (state n) (home all n)))
       → Q (done_at (n + 1)) (state (n + 1))
-  step-by n Q old new = subst (λ d. Q d (fold (take_group all) none_taken d)) (sym next) (by (is_met (done_at n) (home all n)) refl) where
-    next : done_at (n + 1) ≡ with_first (equal_groups all) (done_at n) (home all n)
-    next =
-        ap (fold (with_first (equal_groups all)) []) (map-range_with_len_more (home all) 0 n n (omega arith))
-        ∙ fold_push (with_first (equal_groups all)) [] (map (home all) (range_with_len 0 n)) (home all n)
-
-    by : (c : Bool) → is_met (done_at n) (home all n) ≡ c → Q (if c then done_at n else done_at n ++ home all n ∷ [])
-        (fold (take_group all) none_taken (if c then done_at n else done_at n ++ home all n ∷ []))
-    by true e = old e
-    by false e = subst (Q (done_at n ++ home all n ∷ [])) (sym (fold_push (take_group all) none_taken (done_at n) (home all n))) (new e)
+  step-by n Q old new = grind (arith, map-range_with_len_more (home all) 0 n n (omega arith), fold_push (with_first (equal_groups all)), fold_push (take_group all) none_taken (done_at n) (home all n))
 
   pub through-places : (Q : ℕ → List Home → Taking → Type 0) → Q 0 [] none_taken
       → ((n : ℕ) → n < size all → Q n (done_at n) (state n) → IsMet (done_at n) n → Q (n + 1) (done_at n) (state n))
@@ -188,11 +152,7 @@ module _ (all : List (Group ℕ ℕ)) where
     pub told : (i j : ℕ) → i < size all → j < size all → IsMet done i → IsMet done j → t.number i ≡ t.number j → SameType all all i j
 
   before-next : (n i : ℕ) → i < size all → (home all i).start < n + 1 → ((home all i).start < n) ⊎ (home all i ≡ home all n)
-  before-next n i lt start =
-      elim (cases_eq (home all i).start n) [
-        | inl e ↦ inr (sym (first-home i lt) ∙ ap (home all) e)
-        | inr other ↦ inl (omega (arith, start, other))
-      ]
+  before-next n i lt start = grind (arith, cases_eq (home all i).start n, first-home i lt)
 
   -- the group of a type that none is equal to is taken
   module _ (done : List Home) (t : Taking) (h : Home) (unmet : is_met done h ≡ false) where
@@ -203,11 +163,7 @@ module _ (all : List (Group ℕ ℕ)) where
     by_test i c = if c then length t.built.types + (i - (home all i).start) else t.number i
 
     pub number-old : (i : ℕ) → IsMet done i → after.number i ≡ t.number i
-    number-old i met =
-        elim (cases_Bool (equal_groups all h (home all i))) [
-          | inl e ↦ absurd (let no : false ≡ true = sym unmet ∙ met-same done h (home all i) (equal-same h i e) ∙ met in cc)
-          | inr e ↦ ap (by_test i) e
-        ]
+    number-old i met = grind (arith, cases_Bool, met-same, equal-same)
 
     pub number-new : (i : ℕ) → IsEqual h i → after.number i ≡ length t.built.types + (i - (home all i).start)
     number-new i e = ap (by_test i) e
@@ -220,26 +176,17 @@ module _ (all : List (Group ℕ ℕ)) where
       own-inside = omega (arith, inside, home-start all n, ap (λ (g : Home). g.start) at)
 
       long : length t.built.types + length h.members ≤ length after.built.types
-      long =
-          let ts = interned_group all after.number h.members in
-          let each : length ts ≡ length h.members = length-map h.members _ in
-          omega (arith, group-long t.built ts, each)
+      long = grind (arith, length-map, group-long)
 
       reaches-new : Reaches (n + 1) (done ++ h ∷ []) after
       reaches-new = record {
-        before = λ i lt start.
-            elim (before-next n i lt start) [
-              | inl low ↦ met-before done h i (r.before i lt low)
-              | inr e ↦ met-now done h i (equal-home h i (e ∙ at))
-            ];
+        before = grind (arith, before-next, met-before, r, met-now, equal-home);
         below = λ i lt met.
             elim (met-either done h i met) [
               | inl x ↦ omega (arith, number-old i x, r.below i lt x, long)
               | inr e ↦ omega (arith, number-new i e, (copy h i own-inside own lt e).lt, long)
             ];
-        same = λ i j lt lt' same.
-            let tests = equal-alike h (home all i) (home all j) (starts-same i j lt lt' same) in
-            λ k. if tests k then length t.built.types + same.0 k else r.same i j lt lt' same k;
+        same = grind (arith, equal-alike, starts-same, r);
         told = λ i j lt lt' met met' same.
             elim (met-either done h i met) [
               | inl x ↦ elim (met-either done h j met') [
@@ -264,11 +211,7 @@ module _ (all : List (Group ℕ ℕ)) where
         told = λ i j lt lt' met. absurd (let no : false ≡ true = met in cc);
       })
       (λ n inside r met. record {
-        before = λ i lt start.
-            elim (before-next n i lt start) [
-              | inl low ↦ r.before i lt low
-              | inr e ↦ subst (λ h. is_met (done_at n) h ≡ true) (sym e) met
-            ];
+        before = grind (arith, before-next, r);
         below = r.below;
         same = r.same;
         told = r.told;
@@ -277,9 +220,7 @@ module _ (all : List (Group ℕ ℕ)) where
 
   -- a type that is met stays so, at its index
   kept : (k n i : ℕ) → IsMet (done_at n) i → IsMet (done_at (n + k)) i × ((state (n + k)).number i ≡ (state n).number i)
-  kept zero n i met =
-      let at : n ≡ n + 0 = omega arith in
-      subst (λ m. IsMet (done_at m) i × ((state m).number i ≡ (state n).number i)) at (met, refl)
+  kept zero n i met = grind arith
   kept (suc k) n i met =
       let p = kept k n i met in
       let m = n + k in
@@ -293,10 +234,7 @@ module _ (all : List (Group ℕ ℕ)) where
   number_in i = get_or (taken all).declared i 0
 
   pub reads : (n i : ℕ) → n ≤ size all → i < size all → IsMet (done_at n) i → number_in i ≡ (state n).number i
-  reads n i le lt met =
-      let at : n + (size all - n) ≡ size all = omega (arith, le) in
-      get_or-map-range_with_len (state (size all)).number 0 (size all) i i 0 lt (omega arith)
-      ∙ ap (λ m. (state m).number i) (sym at) ∙ (kept (size all - n) n i met).1
+  reads n i le lt met = grind (arith, size all, get_or-map-range_with_len (state (size all)).number 0 (size all) i i 0 lt (omega arith), kept (size all - n) n i met)
 
   module _ (number : ℕ → ℕ) where
     -- the group as it is interned
@@ -324,11 +262,7 @@ module _ (all : List (Group ℕ ℕ)) where
 
     -- a type equal to a member of the group that comes next
     pub next-copy : (b : Built) (h : Home) → Next b h → (done : List Home) (i : ℕ) → i < size all → IsMet (done ++ h ∷ []) i → IsMet done i ⊎ Copy h i
-    next-copy b h x done i lt met =
-        elim (met-either done h i met) [
-          | inl old ↦ inl old
-          | inr e ↦ inr (copy h i (omega (arith, x.some, x.inside)) x.at lt e)
-        ]
+    next-copy b h x done i lt met = grind (arith, met-either, copy)
 
     -- some groups were taken, and others follow
     pub record Follows (b : Built) (done hs : List Home) : Type 0 where
@@ -356,16 +290,10 @@ module _ (all : List (Group ℕ ℕ)) where
 
     -- it starts at the place
     pub starts-here : here.start ≡ n
-    starts-here =
-        elim (cases_lt here.start n) [
-          | inl lt ↦ absurd (let no : false ≡ true = sym unmet ∙ r.before n inside lt in cc)
-          | inr le ↦ omega (arith, le, home-start all n)
-        ]
+    starts-here = grind (arith, cases_lt, r, home-start)
 
     before-here : (i : ℕ) → i < here.start → (i < size all) × IsMet d i
-    before-here i lt =
-        let lt' : i < size all = omega (arith, lt, starts-here, inside) in
-        (lt', r.before i lt' (omega (arith, lt, starts-here, home-start all i)))
+    before-here i lt = grind (arith, size, starts-here, r, home-start)
 
     member-here : (i : ℕ) → here.start ≤ i → i < here.start + length here.members → home all i ≡ here
     member-here i low high = home-again all n i inside (record { from = low; to = high })
@@ -405,21 +333,14 @@ module _ (all : List (Group ℕ ℕ)) where
             at = first-home n inside;
             inside = w.high;
             near = near-here;
-            numbers = λ p lt.
-                let at = member-here (here.start + p) (omega arith) (omega (arith, lt)) in
-                number-here (here.start + p) (omega (arith, lt, w.high)) (equal-home here (here.start + p) at)
-                ∙ ap (λ (h : Home). length t.built.types + (here.start + p - h.start)) at ∙ omega arith;
+            numbers = grind (arith, member-here, number-here, equal-home);
             below = λ i lt.
                 let x = before-here i lt in
                 omega (arith, reads n i (omega (arith, inside)) x.0 x.1, r.below i x.0 x.1);
           }
 
       follows-here : (hs : List Home) → Follows number_in later.built (d ++ here ∷ []) hs → Follows number_in t.built d (here ∷ hs)
-      follows-here hs x = record {
-        stand = (next-here, subst (λ ts. Stand number_in (with_group t.built ts) hs) form-here x.stand);
-        covers = ((λ i lt. (before-here i lt).1), x.covers);
-        built = x.built ∙ ap (λ ts. with_forms number_in (with_group t.built ts) hs) form-here;
-      }
+      follows-here hs x = grind (arith, next-here, form-here, before-here)
 
   -- ---- all groups
 

@@ -1,5 +1,6 @@
 -- Two groups become one, where each reference is given by what it names, exactly where the groups are equal.
-use Rattle.std.proofs.Common.{◌≡◌, ◌∙◌, ◌↔◌, ℕ, ◌-◌, ◌<◌, ◌≤◌, Bool, true, false, nat_le, List, refl, sym, ap}
+use Rattle.std.proofs.Common.{arith}
+use Rattle.std.proofs.Common.{◌≡◌, ◌↔◌, ℕ, ◌-◌, ◌<◌, ◌≤◌, Bool, true, false, nat_le, List, refl}
 use Rattle.std.specs.List.{All}
 use Rattle.std.proofs.lemmas.Bool.{leb-true, leb-false}
 use Rattle.wasm_spec.specs.TypeData.{Group, group_edges}
@@ -34,26 +35,16 @@ module _ {X : Type 0} (ms ns : List (Group ℕ ℕ)) (h k : Home) (end end' : �
     reads r s p q false false e f = t.outside r s (leb-false h.start r e) p (leb-false k.start s f) q
 
     pub same-at : SameGroup Same h k → (r s : ℕ) → h.start ≤ r → r < end → k.start ≤ s → s < end' → r - h.start ≡ s - k.start → SameType ms ns r s
-    same-at groups r s low p low' q at =
-        let one = t.home_is r low p in
-        let two = t.home_is' s low' q in
-        groups-type ms ns r s (ap (λ (g : Home). r - g.start) one ∙ at ∙ sym (ap (λ (g : Home). s - g.start) two))
-        (coe 0 1 (i. SameGroup Same (sym one i) (sym two i)) groups)
+    same-at groups r s low p low' q at = grind (arith, groups-type)
 
     module _ (groups : SameGroup Same h k) where
       same-named : (r s : ℕ) → r < end → s < end' → (c d : Bool) → nat_le h.start r ≡ c → nat_le k.start s ≡ d
           → SameTarget Same (target_by c (r - h.start) r) (target_by d (s - k.start) s) → SameType ms ns r s
-      same-named r s p q true true e f same = same-at groups r s (leb-true h.start r e) p (leb-true k.start s f) q same
-      same-named r s p q true false e f same = absurd same
-      same-named r s p q false true e f same = absurd same
-      same-named r s p q false false e f same = same
+      same-named r s p q c d e f same = grind (arith, same-at, leb-true)
 
       names : (r s : ℕ) → r < end → s < end' → SameTarget Same (target (λ i. i) h.start r) (target (λ i. i) k.start s)
           → name_by kind given r ≡ name_by kind' given' s
-      names r s p q same = λ i. record {
-        kind = t.kinds r s p q (same-named r s p q (nat_le h.start r) (nat_le k.start s) refl refl same) i;
-        index = (reads r s p q (nat_le h.start r) (nat_le k.start s) refl refl).1 same i;
-      }
+      names r s p q same = grind (arith, same-named, reads)
 
     pub told : (by_names kind given h.members ≡ by_names kind' given' k.members) ↔ SameGroup Same h k
     told = (

@@ -1,11 +1,12 @@
 -- A group that is appended to a well named list leaves it well named.
-use Rattle.std.proofs.Common.{◌≡◌, ◌∙◌, ◌<◌, ◌≤◌, ℕ, ◌+◌, ◌-◌, List, [], ◌∷◌, ◌++◌, length, take, drop, map, refl, sym, ap, subst, arith, length-append}
+use Rattle.std.proofs.lemmas.Grind.{common_steps}
+use Rattle.std.proofs.Common.{◌≡◌, ◌<◌, ◌≤◌, ℕ, ◌+◌, ◌-◌, List, [], ◌∷◌, ◌++◌, length, drop, map, refl, sym, ap, subst, arith, length-append}
 use Rattle.std.specs.List.{All}
 use Rattle.std.proofs.lemmas.List.{length-map, map-append, drop-append-le, take-append-le, length-drop, length-take-le}
 use Rattle.std.proofs.Math.Seq.{drop-append_seam, take-length}
 use Rattle.std.proofs.lemmas.List.Concat.{flat_map-append}
 use Rattle.std.proofs.lemmas.List.Elements.{All-append, All-weaker}
-use Rattle.wasm_spec.specs.TypeData.{Group, map_sub_type, group_edges, sub_type_edges, Composite, Func, map_composite}
+use Rattle.wasm_spec.specs.TypeData.{Group, map_sub_type, group_edges, sub_type_edges, Composite, map_composite}
 use Rattle.type_data.specs.Names.{index_of}
 use Rattle.type_spec.specs.Interned.{Interned, Span, kind_of_type}
 use Rattle.type_spec.specs.Taken.{NameEarlier}
@@ -41,9 +42,7 @@ pub types-long : (ts : List Interned) (s : Span) → s.start ≤ s.end → s.end
 types-long ts s low high = length-take-le (s.end - s.start) (drop s.start ts) (omega (arith, length-drop s.start ts, low, high))
 
 pub types-before : (ts us : List Interned) (s : Span) → s.start ≤ s.end → s.end ≤ length ts → types_in (ts ++ us) s ≡ types_in ts s
-types-before ts us s low high =
-    ap (take (s.end - s.start)) (drop-append-le s.start ts us (omega (arith, low, high)))
-    ∙ take-append-le (s.end - s.start) (drop s.start ts) us (omega (arith, length-drop s.start ts, low, high))
+types-before ts us s low high = grind (arith, drop-append-le, take-append-le, length-drop)
 
 groups-before : (ts us : List Interned) (ss : List Span) (first end : ℕ) → LieBetween first ss end → end ≤ length ts
     → groups_of (ts ++ us) ss ≡ groups_of ts ss
@@ -52,23 +51,14 @@ groups-before ts us (s ∷ ss) first end lie le =
     let low = lie-low s.end end ss lie.2 in
     λ i. unkinded (types-before ts us s (omega (arith, lie.1)) (omega (arith, low, le)) i) ∷ groups-before ts us ss s.end end lie.2 le i
 
-pub types-last : (ts us : List Interned) (s : Span) → s.start ≡ length ts → s.end ≡ length ts + length us → types_in (ts ++ us) s ≡ us
-types-last ts us s start end =
-    let long : s.end - s.start ≡ length us = omega (arith, start, end) in
-    (λ i. take (long i) (drop (start i) (ts ++ us))) ∙ ap (take (length us)) (drop-append_seam ts us) ∙ take-length us
-
 pub span-ends : (ts : List Interned) (s : Span) (ss : List Span) (first end : ℕ) → LieBetween first (s ∷ ss) end → end ≤ length ts
     → first + length (unkinded (types_in ts s)) ≡ s.end
-span-ends ts s ss first end lie le =
-    let high = lie-low s.end end ss lie.2 in
-    omega (arith, unkinded-long (types_in ts s), types-long ts s (omega (arith, lie.1)) (omega (arith, high, le)), lie.0, lie.1)
+span-ends ts s ss first end lie le = grind (arith, lie-low, unkinded-long, types-long)
 
 pub groups-size : (ts : List Interned) (ss : List Span) (first end : ℕ) → LieBetween first ss end → end ≤ length ts
     → first + size (groups_of ts ss) ≡ end
 groups-size ts [] first end lie le = omega (arith, lie)
-groups-size ts (s ∷ ss) first end lie le =
-    let rest = groups-size ts ss s.end end lie.2 le in
-    omega (arith, size-cons (unkinded (types_in ts s)) (groups_of ts ss), span-ends ts s ss first end lie le, rest)
+groups-size ts (s ∷ ss) first end lie le = grind (arith, size-cons (unkinded (types_in ts s)) (groups_of ts ss), span-ends ts s ss first end lie le, (groups-size ts ss s.end end lie.2 le))
 
 earlier-more : (gs : List (Group ℕ ℕ)) (g : Group ℕ ℕ) (start : ℕ) → NameEarlier start gs → AllBelow (start + size gs + length g) g
     → NameEarlier start (gs ++ g ∷ [])
@@ -81,8 +71,7 @@ earlier-more (h ∷ gs) g start earlier here =
 
 -- replacing names keeps the kind of a type
 pub kind-mapped : {H I R S : Type 0} (h : H → I) (f : R → S) (c : Composite H R) → kind_of_type (map_composite h f c) ≡ kind_of_type c
-kind-mapped h f (Func t) = refl
-kind-mapped h f c = refl
+kind-mapped h f c = grind arith
 
 -- kinds stay where types are appended
 pub kind-before : (ts us : List Interned) (i : ℕ) → i < length ts → kind_in (ts ++ us) i ≡ kind_in ts i
@@ -105,14 +94,10 @@ module _ (ts us : List Interned) (ss : List Span) (well : Well ts ss) (some : 0 
   span = record { start = length ts; end = length ts + length us }
 
   orderly-next : LieBetween 0 (ss ++ span ∷ []) (length (ts ++ us))
-  orderly-next =
-      lie-to 0 (length ts + length us) (length (ts ++ us)) (ss ++ span ∷ []) (sym (length-append ts us))
-      (one-more 0 (length ts) (length ts + length us) ss well.orderly (omega (arith, some)))
+  orderly-next = grind (arith, lie-to, length-append, one-more)
 
   groups-next : groups_of (ts ++ us) (ss ++ span ∷ []) ≡ groups_of ts ss ++ unkinded us ∷ []
-  groups-next =
-      map-append (λ (s : Span). unkinded (types_in (ts ++ us) s)) ss (span ∷ [])
-      ∙ (λ i. groups-before ts us ss 0 (length ts) well.orderly (omega arith) i ++ unkinded (types-last ts us span refl refl i) ∷ [])
+  groups-next = grind (arith, common_steps, map-append, groups-before, drop-append_seam, take-length)
 
   pub well-next : Well (ts ++ us) (ss ++ span ∷ [])
   well-next =
@@ -122,14 +107,11 @@ module _ (ts us : List Interned) (ss : List Span) (well : Well ts ss) (some : 0 
       let joined : unkinded (ts ++ us) ≡ unkinded ts ++ unkinded us = map-append (map_sub_type (index_of {R = ℕ}) (λ (r : ℕ). r)) ts us in
       record {
         orderly = orderly-next;
-        earlier = subst (λ gs. NameEarlier 0 gs) (sym groups-next)
-            (earlier-more (groups_of ts ss) (unkinded us) 0 well.earlier (subst (λ n. AllBelow n (unkinded us)) at below));
+        earlier = grind (arith, groups-next, earlier-more);
         below = subst (λ n. AllBelow n (unkinded (ts ++ us))) (sym long)
             (subst (λ g. AllBelow (length ts + length us) g) (sym joined)
             (subst (λ rs. All (λ r. r < length ts + length us) rs) (sym (flat_map-append (sub_type_edges (λ r. r)) (unkinded ts) (unkinded us)))
             (All-append (λ r. r < length ts + length us) (group_edges (λ r. r) (unkinded ts)) (group_edges (λ r. r) (unkinded us))
             (All-weaker (λ r. r < length ts) (λ r. r < length ts + length us) (λ r lt. omega (arith, lt)) _ well.below) below)));
-        kinds = ap (by_names (kind_in (ts ++ us)) (λ r. r)) joined
-            ∙ map-append (map_sub_type (name_by (kind_in (ts ++ us)) (λ r. r)) (λ r. r)) (unkinded ts) (unkinded us)
-            ∙ (λ i. (named-before ts us (unkinded ts) well.below ∙ well.kinds) i ++ kinds i);
+        kinds = grind (arith, named-before ts us (unkinded ts) well.below, by_names, map-append, name_by);
       }

@@ -45,8 +45,7 @@ record IsOf (o : Option Group) (i : ℕ) : Type 0 where
   pub has : list_any (nat_eq i) group.indices ≡ true
 
 of-any : (o : Option Group) (i : ℕ) → list_any (nat_eq i) (indices_in o) ≡ true → IsOf o i
-of-any None i has = let no-way : false ≡ true = has in cc
-of-any (Some g) i has = record { group = g; is = refl; has = has }
+of-any o i has = grind arith
 
 -- a held module that has an index at a place
 record IsAmong (r : Registry) (key place i : ℕ) : Type 0 where
@@ -56,8 +55,7 @@ record IsAmong (r : Registry) (key place i : ℕ) : Type 0 where
 
 among-of : (r : Registry) (key place i : ℕ) (o : Option Module) → r.held key ≡ o → option_and_then (λ (m : Module). slice_get m.indices place) o ≡ Some i
     → IsAmong r key place i
-among-of r key place i None e at = absurd (none-some i at)
-among-of r key place i (Some m) e at = record { listed = m; held = e; at = at }
+among-of r key place i o e at = grind arith
 
 -- what a part of a list has the list has
 any-take : (ns : List ℕ) (n i : ℕ) → list_any (nat_eq i) (take n ns) ≡ true → list_any (nat_eq i) ns ≡ true
@@ -201,13 +199,11 @@ pub registered-index : (r : Registry) (l : TypeList) → IsBalanced r → (k i :
 registered-index r l b k i held = grind (arith, true-false, option_and_then, slice_get, ne_eqb)
 
 pub released-balanced : (r : Registry) (key : ℕ) (o : Option Module) → r.held key ≡ o → IsBalanced r → IsBalanced (released_by r key o)
-released-balanced r key None e b = b
-released-balanced r key (Some m) e b = left-balanced r b key m e
+released-balanced r key o e b = grind (arith, left-balanced)
 
 pub released-stands : (r : Registry) (key : ℕ) (o : Option Module) → r.held key ≡ o → IsBalanced r → (k : ℕ) (l : TypeList) → (k ≡ key → ⊥) → Stands r k l
     → Stands (released_by r key o) k l
-released-stands r key None e b k l differ st = st
-released-stands r key (Some m) e b k l differ st = left-stands r b key m e k l differ st
+released-stands r key o e b k l differ st = grind (arith, left-stands)
 
 pub empty-balanced : (n : ℕ) → IsBalanced (empty n)
 empty-balanced n = grind (arith, none-sound, none-some)

@@ -1,5 +1,5 @@
 -- How often modules have kept groups.
-use Rattle.std.proofs.Common.{◌≡◌, ◌≤◌, ◌+◌, ℕ, ◌-◌, nat_eq, List, [], ◌∷◌, ◌++◌, length, Option, Some, None, refl, arith}
+use Rattle.std.proofs.Common.{◌≡◌, ◌≤◌, ◌+◌, ℕ, ◌-◌, nat_eq, List, [], ◌∷◌, ◌++◌, length, Option, Some, refl, arith}
 use Rattle.std.specs.Map.{lookup, set_value, remove_entry}
 use Rattle.std.specs.Option.{option_map}
 use Rattle.std.proofs.lemmas.Option.{none-some, same_Some}
@@ -32,8 +32,7 @@ counted-left gs [] = omega arith
 counted-left gs (f ∷ fs) = grind (arith, nat_eq, counted-leave, (counted-left (leave_group gs f (lookup (nat_eq f) gs)) fs))
 
 counted-more : (gs : List (ℕ × Group)) (f : ℕ) (o : Option Group) → lookup (nat_eq f) gs ≡ o → counted (count_group gs f o) ≤ counted gs + 1
-counted-more gs f None e = omega arith
-counted-more gs f (Some g) e = omega (arith, counted-set gs f (g.count + 1) g e)
+counted-more gs f o e = grind (arith, counted-set)
 
 pub counted-all : (gs : List (ℕ × Group)) (fs : List ℕ) → counted (count_groups gs fs) ≤ counted gs + length fs
 counted-all gs [] = omega arith

@@ -1,6 +1,6 @@
 -- Groups at their first indices.
 use Rattle.std.proofs.lemmas.Grind.{common_steps}
-use Rattle.std.proofs.Common.{if◌then◌else◌, ◌≡◌, ◌∙◌, ◌<◌, ℕ, zero, suc, ◌+◌, nat_eq, List, [], ◌∷◌, length, Option, Some, None, option_and_then, set, eq-eqb, refl, sym, ap, arith}
+use Rattle.std.proofs.Common.{◌≡◌, ◌∙◌, ◌<◌, ℕ, zero, suc, ◌+◌, nat_eq, List, [], ◌∷◌, length, Option, Some, None, option_and_then, set, refl, sym, ap, arith}
 use Rattle.std.proofs.lemmas.List.{length-append}
 use Rattle.std.proofs.lemmas.Bool.{ne_eqb}
 use Rattle.std.specs.Map.{lookup, set_value, remove_entry}
@@ -16,17 +16,14 @@ nothing = None
 lookup-below : (gs : List (Option Group)) (k n : ℕ) → n < k → lookup (nat_eq n) (kept_from k gs) ≡ None
 lookup-below [] k n h = refl
 lookup-below (None ∷ gs) k n h = lookup-below gs (k + 1) n (omega (arith, h))
-lookup-below (Some g ∷ gs) k n h =
-    ap (λ c. if c then Some g else lookup (nat_eq n) (kept_from (k + 1) gs)) (ne_eqb n k (λ same. omega arith)) ∙ lookup-below gs (k + 1) n (omega (arith, h))
+lookup-below (Some g ∷ gs) k n h = grind (arith, (lookup-below gs (k + 1) n (omega (arith, h))))
 
 pub lookup-at : (gs : List (Option Group)) (k m n : ℕ) → n ≡ k + m → lookup (nat_eq n) (kept_from k gs) ≡ group_in gs m
 lookup-at [] k m n e = refl
 lookup-at (None ∷ gs) k zero n e = lookup-below gs (k + 1) n (omega (arith, e))
 lookup-at (None ∷ gs) k (suc m) n e = lookup-at gs (k + 1) m n (omega (arith, e))
-lookup-at (Some g ∷ gs) k zero n e =
-    ap (λ c. if c then Some g else lookup (nat_eq n) (kept_from (k + 1) gs)) (eq-eqb n k (omega (arith, e)))
-lookup-at (Some g ∷ gs) k (suc m) n e =
-    ap (λ c. if c then Some g else lookup (nat_eq n) (kept_from (k + 1) gs)) (ne_eqb n k (λ same. omega arith)) ∙ lookup-at gs (k + 1) m n (omega (arith, e))
+lookup-at (Some g ∷ gs) k zero n e = grind arith
+lookup-at (Some g ∷ gs) k (suc m) n e = grind (arith, (lookup-at gs (k + 1) m n (omega (arith, e))))
 
 -- another group at a place, or none
 pub set-at : (gs : List (Option Group)) (k m n : ℕ) (g h : Group) → n ≡ k + m → group_in gs m ≡ Some g
@@ -34,8 +31,7 @@ pub set-at : (gs : List (Option Group)) (k m n : ℕ) (g h : Group) → n ≡ k 
 set-at [] k m n g h e at = refl
 set-at (None ∷ gs) k zero n g h e at = let no : nothing ≡ Some g = at in cc
 set-at (None ∷ gs) k (suc m) n g h e at = set-at gs (k + 1) m n g h (omega (arith, e)) at
-set-at (Some x ∷ gs) k zero n g h e at =
-    ap (λ c. if c then (k, h) ∷ kept_from (k + 1) gs else (k, x) ∷ set_value (nat_eq n) (kept_from (k + 1) gs) h) (sym (eq-eqb n k (omega (arith, e))))
+set-at (Some x ∷ gs) k zero n g h e at = grind arith
 set-at (Some x ∷ gs) k (suc m) n g h e at = grind (arith, nat_eq, ne_eqb, (set-at gs (k + 1) m n g h (omega (arith, e)) at))
 
 pub remove-at : (gs : List (Option Group)) (k m n : ℕ) (g : Group) → n ≡ k + m → group_in gs m ≡ Some g
@@ -43,8 +39,7 @@ pub remove-at : (gs : List (Option Group)) (k m n : ℕ) (g : Group) → n ≡ k
 remove-at [] k m n g e at = refl
 remove-at (None ∷ gs) k zero n g e at = let no : nothing ≡ Some g = at in cc
 remove-at (None ∷ gs) k (suc m) n g e at = remove-at gs (k + 1) m n g (omega (arith, e)) at
-remove-at (Some x ∷ gs) k zero n g e at =
-    ap (λ c. if c then kept_from (k + 1) gs else (k, x) ∷ remove_entry (nat_eq n) (kept_from (k + 1) gs)) (sym (eq-eqb n k (omega (arith, e))))
+remove-at (Some x ∷ gs) k zero n g e at = grind arith
 remove-at (Some x ∷ gs) k (suc m) n g e at = grind (arith, nat_eq, ne_eqb, (remove-at gs (k + 1) m n g (omega (arith, e)) at))
 
 -- ---- the group at a place, once another is put there

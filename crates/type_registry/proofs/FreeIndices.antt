@@ -1,6 +1,6 @@
 -- The indices that are free, in their order.
-use Rattle.std.specs.Prelude.{◌||◌}
-use Rattle.std.proofs.Common.{if◌then◌else◌, ◌≡◌, ◌∙◌, ◌<◌, ◌≤◌, ℕ, zero, suc, ◌+◌, ◌-◌, Bool, true, false, nat_eq, List, [], ◌∷◌, ◌++◌, length, get_or, slice_get, Some, refl, sym, ap, arith, eq-eqb}
+use Rattle.std.specs.Prelude.{[], ◌||◌}
+use Rattle.std.proofs.Common.{if◌then◌else◌, ◌≡◌, ◌∙◌, ◌<◌, ◌≤◌, ℕ, zero, suc, ◌+◌, ◌-◌, Bool, true, false, nat_eq, List, ◌∷◌, ◌++◌, length, get_or, slice_get, Some, refl, sym, ap, arith, eq-eqb}
 use Rattle.std.specs.List.{list_any}
 use Rattle.std.proofs.lemmas.Bool.{ne_eqb, cases_Bool, false_from_ne_true}
 use Rattle.std.proofs.lemmas.Option.{slice_get-get_or, slice_get_within, none-some, same_Some}
@@ -64,8 +64,7 @@ rank-high (t ∷ ts) n = omega (arith, rank-high ts n, one-less t ts n)
 
 past-none : (taken : List ℕ) (m : ℕ) → past taken ≤ m → has taken m ≡ false
 past-none [] m le = refl
-past-none (t ∷ ts) m le =
-    ap (λ c. c || has ts m) (ne_eqb m t (λ e. absurd (omega (arith, e, le)))) ∙ past-none ts m (omega (arith, le))
+past-none (t ∷ ts) m le = grind (arith, (past-none ts m (omega (arith, le))))
 
 from-none : (taken : List ℕ) (i n : ℕ) → ((m : ℕ) → i + n ≤ m → has taken m ≡ false) → has taken (least_from taken i n) ≡ false
 from-none taken i zero none = none i (omega arith)
@@ -197,8 +196,7 @@ AreCounted taken xs = (i : ℕ) → i < length xs → get_or xs i 0 ≡ (if has 
 
 pub counted-before : (taken xs : List ℕ) → AreCounted taken xs → (n : ℕ) → n ≤ length xs → before n xs ≡ free_below taken n
 counted-before taken xs are zero le = refl
-counted-before taken xs are (suc n) le =
-    omega (arith, before-more xs n, counted-before taken xs are n (omega (arith, le)), are n (omega (arith, le)))
+counted-before taken xs are (suc n) le = grind (arith, before-more, (counted-before taken xs are n (omega (arith, le))))
 
 pub counted-free : (taken xs : List ℕ) → AreCounted taken xs → (n : ℕ) → get_or xs n 0 ≡ 1 → (n < length xs) × (has taken n ≡ false)
 counted-free taken xs are n one = grind (arith, some-within, cases_Bool)
@@ -208,5 +206,4 @@ pub counted-past : (taken xs : List ℕ) → AreCounted taken xs → ((i : ℕ) 
     → (n d : ℕ) → n ≡ length xs + d → free_below taken n ≡ total xs + d
 counted-past taken xs are free n zero e = grind (arith, counted-before taken xs are (length xs) (omega arith), all-before xs)
 counted-past taken xs are free zero (suc d) e = absurd (omega (arith, e))
-counted-past taken xs are free (suc n) (suc d) e =
-    omega (arith, step-free taken n (free n (omega (arith, e))), counted-past taken xs are free n d (omega (arith, e)))
+counted-past taken xs are free (suc n) (suc d) e = grind (arith, (counted-past taken xs are free n d (omega (arith, e))))

@@ -1,7 +1,7 @@
 -- Groups that are not kept yet, found by their canonical members.
 use Rattle.std.proofs.lemmas.Grind.{common_steps}
-use Rattle.std.specs.Prelude.{cond}
-use Rattle.std.proofs.Common.{if◌then◌else◌, ◌≡◌, ◌∙◌, ◌↔◌, ◌<◌, ℕ, zero, suc, ◌+◌, Bool, true, false, List, [], ◌∷◌, ◌++◌, length, slice_get, Option, Some, None, refl, sym, ap, arith}
+use Rattle.std.specs.Prelude.{[], cond}
+use Rattle.std.proofs.Common.{◌≡◌, ◌∙◌, ◌↔◌, ◌<◌, ℕ, zero, suc, ◌+◌, Bool, true, false, List, ◌∷◌, ◌++◌, length, slice_get, Option, Some, None, refl, sym, ap, arith}
 use Rattle.std.proofs.lemmas.List.{length-append}
 use Rattle.std.specs.Option.{option_map}
 use Rattle.std.proofs.lemmas.Option.{none-some, same_Some}
@@ -40,8 +40,7 @@ find-no-one (x ∷ es) c none =
 -- an equal one would be found
 none-there : (es : Groups) (c : List WasmSubType) (q : ℕ) (f : Entry) → find_group c es ≡ None → slice_get es q ≡ Some f → Eq f.1.canonical c ≡ true → ⊥
 none-there [] c q f none at is = none-some f at
-none-there (x ∷ es) c zero f none at is =
-    none-some x.1 (sym none ∙ ap (λ b. if b then Some x.1 else find_group c es) (ap (λ (e : Entry). Eq e.1.canonical c) (same_Some x f at) ∙ is))
+none-there (x ∷ es) c zero f none at is = grind arith
 none-there (x ∷ es) c (suc q) f none at is =
     let rest : find_group c es ≡ None → ⊥ = (λ n. none-there es c q f n at is) in
     let equal = cases_Bool (Eq x.1.canonical c) in
@@ -71,8 +70,7 @@ at-earlier (x ∷ es) e f (suc p) at = at-earlier es e f p at
 
 indices-pushed : (es : Groups) (e : Entry) → length (indices_of (es ++ e ∷ [])) ≡ length (indices_of es) + length e.1.indices
 indices-pushed [] e = omega (arith, length-append e.1.indices (indices_of []))
-indices-pushed (x ∷ es) e =
-    omega (arith, indices-pushed es e, length-append x.1.indices (indices_of es), length-append x.1.indices (indices_of (es ++ e ∷ [])))
+indices-pushed (x ∷ es) e = grind (arith, length-append, (indices-pushed es e))
 
 module _ {Key : Type 0} (content : Key → List WasmSubType) (places : Key → Option ℕ) (members : ℕ) (es : Groups) (k : AreFresh content places members es) where
   -- the map may be another that has the same
@@ -88,8 +86,7 @@ module _ {Key : Type 0} (content : Key → List WasmSubType) (places : Key → O
         ∙ ap (option_map group_of) (sym w.at)
 
     pub not-fresh : (key : Key) → places key ≡ None → find_group (content key) es ≡ None
-    not-fresh key none =
-        find-no-one es (content key) (λ q f here holds. none-some q (sym none ∙ k.found q f here key (sym ((equal f.1.canonical (content key)).0 holds))))
+    not-fresh key none = grind (arith, find-no-one, none-some)
 
     module _ (places' : Key → Option ℕ) (members' : ℕ) (e : Entry) (unknown : find_group e.1.canonical es ≡ None)
         (learns : (q : Key) → places' q ≡ cond (Eq e.1.canonical (content q)) (Some (length es)) (places q)) (more : members' ≡ members + length e.1.indices) where

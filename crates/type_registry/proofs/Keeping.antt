@@ -1,9 +1,9 @@
 -- What is kept stays so where a group is kept that was not.
-use Rattle.std.proofs.Common.{if◌then◌else◌, ◌≡◌, ◌∙◌, ◌<◌, ◌↔◌, ℕ, zero, suc, ◌+◌, Bool, true, false, nat_eq, List, [], ◌∷◌, ◌++◌, length, map, set, slice_get, Option, Some, None, refl, sym, ap, arith, length-set}
-use Rattle.std.specs.Prelude.{cond, Result, Ok, Err, is_ok, OnOk}
+use Rattle.std.proofs.Common.{◌≡◌, ◌∙◌, ◌<◌, ◌↔◌, ℕ, zero, suc, ◌+◌, Bool, true, false, nat_eq, List, [], ◌∷◌, ◌++◌, length, map, set, slice_get, Option, Some, None, refl, sym, ap, arith, length-set}
+use Rattle.std.specs.Prelude.{cond, Result, is_ok, OnOk}
 use Rattle.std.specs.List.{list_any}
 use Rattle.std.proofs.lemmas.List.{length-append}
-use Rattle.std.proofs.lemmas.Bool.{eqb-true, eqb-false, le-leb, lt-leb, false_from_ne_true}
+use Rattle.std.proofs.lemmas.Bool.{eqb-true, eqb-false, lt-leb, false_from_ne_true}
 use Rattle.std.proofs.lemmas.Option.{none-some, same_Some}
 use Rattle.wasm_types.specs.declared.sub.WasmSubType.{WasmSubType}
 use Rattle.wasm_types.specs.contracts.equal_groups.WasmRecGroupPartialEq.TheImpl as groups_equal
@@ -16,8 +16,7 @@ use Rattle.type_registry.proofs.FirstIndices.{set-other, set-here}
 use Rattle.type_registry.proofs.OwnerLists.{any-place, place-any}
 
 pub ok-is : {A E P : Type 0} (r : Result A E) → is_ok r ≡ true → OnOk r P → P
-ok-is (Ok x) e p = p
-ok-is (Err x) e p = let no : false ≡ true = e in cc
+ok-is r e p = grind arith
 
 -- ---- owners of a new group's indices
 
@@ -54,8 +53,7 @@ owned-at f p os (n ∷ ns) (suc q) i at h one = grind (arith, set, length-set, (
 front : (gs : List (Option Group)) (k n : ℕ) (g : Group) → n < k → (n, g) ∷ kept_from k gs ≡ keep_group (kept_from k gs) n g
 front [] k n g lt = refl
 front (None ∷ gs) k n g lt = front gs (k + 1) n g (omega (arith, lt))
-front (Some x ∷ gs) k n g lt =
-    ap (λ c. if c then (n, g) ∷ (k, x) ∷ kept_from (k + 1) gs else (k, x) ∷ keep_group (kept_from (k + 1) gs) n g) (sym (le-leb n k (omega (arith, lt))))
+front (Some x ∷ gs) k n g lt = grind arith
 
 pub keep-at : (gs : List (Option Group)) (k m n : ℕ) (g : Group) → n ≡ k + m → m < length gs → group_in gs m ≡ None
     → kept_from k (set gs m (Some g)) ≡ keep_group (kept_from k gs) n g

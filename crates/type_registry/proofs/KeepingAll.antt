@@ -1,6 +1,6 @@
 -- Groups that may be kept one after another.
-use Rattle.std.specs.Prelude.{◌||◌, ⊤}
-use Rattle.std.proofs.Common.{if◌then◌else◌, ◌≡◌, ◌∙◌, ◌<◌, ◌≤◌, ◌+◌, ℕ, zero, suc, Bool, true, false, nat_eq, nat_le, List, [], ◌∷◌, ◌++◌, length, slice_get, Some, None, refl, sym, ap, subst, arith}
+use Rattle.std.specs.Prelude.{[], ◌||◌, ⊤}
+use Rattle.std.proofs.Common.{if◌then◌else◌, ◌≡◌, ◌∙◌, ◌<◌, ◌≤◌, ◌+◌, ℕ, zero, suc, Bool, true, false, nat_eq, nat_le, List, ◌∷◌, ◌++◌, length, slice_get, Some, None, refl, sym, ap, subst, arith}
 use Rattle.std.specs.List.{list_any}
 use Rattle.std.proofs.lemmas.List.{length-append}
 use Rattle.std.proofs.lemmas.Bool.{cases_Bool, or_parts, cond_both}
@@ -52,10 +52,8 @@ once-apart (x ∷ xs) ys n o has = grind (arith, not-right, nat_tests, (once-apa
 once-at : (ns : List ℕ) (p q n : ℕ) → IsOnce ns → slice_get ns p ≡ Some n → slice_get ns q ≡ Some n → p ≡ q
 once-at [] p q n o at at' = absurd (none-some n at)
 once-at (m ∷ ns) zero zero n o at at' = refl
-once-at (m ∷ ns) zero (suc q) n o at at' =
-    absurd (true-false (list_any (nat_eq m) ns) (ap (λ i. list_any (nat_eq i) ns) (same_Some m n at) ∙ any-place ns n q at') o.0)
-once-at (m ∷ ns) (suc p) zero n o at at' =
-    absurd (true-false (list_any (nat_eq m) ns) (ap (λ i. list_any (nat_eq i) ns) (same_Some m n at') ∙ any-place ns n p at) o.0)
+once-at (m ∷ ns) zero (suc q) n o at at' = grind (arith, true-false, same_Some, any-place)
+once-at (m ∷ ns) (suc p) zero n o at at' = grind (arith, true-false, same_Some, any-place)
 once-at (m ∷ ns) (suc p) (suc q) n o at at' = ap suc (once-at ns p q n o.1 at at')
 
 -- ---- what is kept once one more group is
@@ -101,8 +99,7 @@ pub record MayKeep (s : GroupsState) (es : Groups) : Type 0 where
 
 unknown-still : (gs : Groups) (f : ℕ) (g : Group) (es : Groups) → AllUnlike g es → AllUnknown gs es → AllUnknown (keep_group gs f g) es
 unknown-still gs f g [] unlike unknown = tt
-unknown-still gs f g (e ∷ es) unlike unknown =
-    (keep-unknown gs f g e.1.canonical unlike.0 unknown.0, unknown-still gs f g es unlike.1 unknown.1)
+unknown-still gs f g (e ∷ es) unlike unknown = grind (arith, keep-unknown, (unknown-still gs f g es unlike.1 unknown.1))
 
 one-may : (s : GroupsState) (e : ℕ × Group) (es : Groups) → MayKeep s (e ∷ es) → MayBeKept s e.1
 one-may s e es m =

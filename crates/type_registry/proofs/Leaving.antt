@@ -1,5 +1,5 @@
 -- Groups that modules leave.
-use Rattle.std.proofs.Common.{◌≡◌, ◌∙◌, ◌≤◌, ℕ, ◌+◌, ◌-◌, nat_eq, List, [], ◌∷◌, ◌++◌, length, Option, Some, None, refl, arith}
+use Rattle.std.proofs.Common.{◌≡◌, ◌∙◌, ◌≤◌, ℕ, ◌+◌, ◌-◌, nat_eq, List, [], ◌∷◌, ◌++◌, length, Option, Some, refl, arith}
 use Rattle.std.proofs.lemmas.List.{length-append}
 use Rattle.std.specs.Map.{lookup, set_value, remove_entry}
 use Rattle.std.proofs.lemmas.Bool.Decides.{nat_tests}
@@ -29,8 +29,7 @@ left_short gs [] = omega arith
 left_short gs (f ∷ fs) = grind (arith, nat_eq, one-short, (left_short (leave_group gs f (lookup (nat_eq f) gs)) fs))
 
 count-short : (gs : List (ℕ × Group)) (f : ℕ) (o : Option Group) → lookup (nat_eq f) gs ≡ o → length (indices_of (count_group gs f o)) ≡ length (indices_of gs)
-count-short gs f None e = refl
-count-short gs f (Some g) e = set-short f (g.count + 1) gs g e
+count-short gs f o e = grind (arith, set-short)
 
 -- groups that are counted have as many indices
 pub counted-long : (gs : List (ℕ × Group)) (fs : List ℕ) → length (indices_of (count_groups gs fs)) ≡ length (indices_of gs)

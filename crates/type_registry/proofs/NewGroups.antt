@@ -1,5 +1,5 @@
 -- Groups that are found among those that are kept, and groups that are not.
-use Rattle.std.proofs.Common.{if◌then◌else◌, ◌≡◌, ◌∙◌, ◌↔◌, ◌+◌, ℕ, zero, suc, true, false, nat_eq, List, [], ◌∷◌, ◌++◌, length, slice_get, Option, Some, None, refl, sym, ap, arith}
+use Rattle.std.proofs.Common.{◌≡◌, ◌∙◌, ◌↔◌, ◌+◌, ℕ, zero, suc, true, false, nat_eq, List, [], ◌∷◌, ◌++◌, length, slice_get, Option, Some, None, refl, sym, ap, arith}
 use Rattle.std.specs.List.{list_any}
 use Rattle.std.proofs.lemmas.Bool.{cases_Bool, or_left, or_right, both_ways}
 use Rattle.std.proofs.lemmas.List.Folds.{list_any-append}
@@ -25,8 +25,7 @@ any-right xs ys n e = list_any-append (nat_eq n) xs ys ∙ or_right (list_any (n
 -- ---- what kept groups have
 
 pub none-of : {A : Type 0} (o : Option A) → ((x : A) → o ≡ Some x → ⊥) → o ≡ None
-none-of None not = refl
-none-of (Some x) not = absurd (not x refl)
+none-of o not = grind arith
 
 pub has-index : (gs : List (Option Group)) (k f p n : ℕ) (g : Group) → group_in gs f ≡ Some g → slice_get g.indices p ≡ Some n
     → list_any (nat_eq n) (indices_of (kept_from k gs)) ≡ true
@@ -34,8 +33,7 @@ has-index [] k f p n g at is = absurd (none-some g at)
 has-index (None ∷ gs) k zero p n g at is = absurd (none-some g at)
 has-index (Some x ∷ gs) k zero p n g at is = grind (arith, any-left, any-place, slice_get, same_Some)
 has-index (None ∷ gs) k (suc f) p n g at is = has-index gs (k + 1) f p n g at is
-has-index (Some x ∷ gs) k (suc f) p n g at is =
-    any-right x.indices (indices_of (kept_from (k + 1) gs)) n (has-index gs (k + 1) f p n g at is)
+has-index (Some x ∷ gs) k (suc f) p n g at is = grind (arith, any-right, (has-index gs (k + 1) f p n g at is))
 
 -- the one kept group that is equal is found
 find-some : (gs : List (Option Group)) (k f : ℕ) (g : Group) (c : List WasmSubType) → group_in gs f ≡ Some g → Eq g.canonical c ≡ true
@@ -44,8 +42,7 @@ find-some [] k f g c at holds only = absurd (none-some g at)
 find-some (None ∷ gs) k zero g c at holds only = absurd (none-some g at)
 find-some (None ∷ gs) k (suc f) g c at holds only =
     find-some gs (k + 1) f g c at holds (λ n h here is. let e : suc n ≡ suc f = only (suc n) h here is in omega (arith, e))
-find-some (Some x ∷ gs) k zero g c at holds only =
-    ap (λ b. if b then Some x else find_group c (kept_from (k + 1) gs)) (ap (λ (h : Group). Eq h.canonical c) (same_Some x g at) ∙ holds) ∙ at
+find-some (Some x ∷ gs) k zero g c at holds only = grind arith
 find-some (Some x ∷ gs) k (suc f) g c at holds only =
     let rest = find-some gs (k + 1) f g c at holds (λ n h here is. let e : suc n ≡ suc f = only (suc n) h here is in omega (arith, e)) in
     let equal = cases_Bool (Eq x.canonical c) in
@@ -73,8 +70,7 @@ module _ {Key : Type 0} (content : Key → List WasmSubType) (live : ℕ) (known
       ∙ sym w.kept
 
   pub not-found : (key : Key) → known key ≡ None → find_group (content key) (kept_from 0 gs) ≡ None
-  not-found key none =
-      find-none gs 0 (content key) (λ m h here holds. none-some m (sym none ∙ k.found m h here key (sym ((equal h.canonical (content key)).0 holds))))
+  not-found key none = grind (arith, find-none, none-some)
 
   -- ---- a group that may be kept
 

@@ -50,10 +50,8 @@ place-any ns i e = grind (arith, Contains-from_any eqb-true i ns e, slice_get-ge
 
 pub given-set : (os : List (Option Owner)) (i : ℕ) (o : Option Owner) (free new : List ℕ) → o ≡ None → free ≡ map free_count os → new ≡ set free i 1
     → new ≡ map free_count (set os i o)
-given-set os i o free new none are is =
-    is ∙ ap (λ l. set l i 1) are ∙ ap (λ p. set (map free_count os) i (free_count p)) (sym none) ∙ sym (map-set free_count os i o)
+given-set os i o free new none are is = grind (arith, map-set)
 
 pub taken-set : (os : List (Option Owner)) (i : ℕ) (o : Option Owner) (p : Owner) (free new : List ℕ) → o ≡ Some p → free ≡ map free_count os
     → new ≡ set free i 0 → new ≡ map free_count (set os i o)
-taken-set os i o p free new some are is =
-    is ∙ ap (λ l. set l i 0) are ∙ ap (λ q. set (map free_count os) i (free_count q)) (sym some) ∙ sym (map-set free_count os i o)
+taken-set os i o p free new some are is = grind (arith, map-set)

@@ -37,13 +37,11 @@ data-more l s xs ys at =
 
 -- a part that lies in the front
 part-within : (xs ys : List ℕ) (n s : ℕ) → s + n ≤ length xs → take n (drop s (xs ++ ys)) ≡ take n (drop s xs)
-part-within xs ys n s le =
-    ap (take n) (drop-append-le s xs ys (omega (arith, le))) ∙ take-append-le n (drop s xs) ys (omega (arith, le, length-drop s xs))
+part-within xs ys n s le = grind (arith, drop-append-le, take-append-le, length-drop)
 
 -- the part behind the front is the rest
 part-behind : (xs ys : List ℕ) (s n : ℕ) → length xs ≡ s → length ys ≡ n → take n (drop s (xs ++ ys)) ≡ ys
-part-behind xs ys s n at long =
-    ap (take n) (drop-append-le s xs ys (omega (arith, at)) ∙ ap (λ l. l ++ ys) (drop_of_length-le xs (omega (arith, at)))) ∙ take_all n ys (omega (arith, long))
+part-behind xs ys s n at long = grind (arith, drop-append-le, drop_of_length-le, take_all)
 
 -- ---- what a group that is found among some tells
 
@@ -62,8 +60,7 @@ find-at (e ∷ es) c g is = by (Eq e.1.canonical c) is (find-at es c g) where
 pub first-at : (es : Groups) (p f : ℕ) (g : Group) → AllFirst es → slice_get es p ≡ Some (f, g)
     → (slice_get g.indices 0 ≡ Some f) × (length g.indices ≡ length g.canonical)
 first-at [] p f g first at = absurd (none-some (f, g) at)
-first-at (e ∷ es) zero f g first at =
-    subst (λ (x : ℕ × Group). (slice_get x.1.indices 0 ≡ Some x.0) × (length x.1.indices ≡ length x.1.canonical)) (same_Some e (f, g) at) (first.0, first.1)
+first-at (e ∷ es) zero f g first at = grind arith
 first-at (e ∷ es) (suc p) f g first at = first-at es p f g first.2 at
 
 pub first-both : (xs ys : Groups) → AllFirst xs → AllFirst ys → AllFirst (xs ++ ys)
@@ -130,8 +127,7 @@ module _ (equal : (x y : List WasmSubType) → (Eq x y ≡ true) ↔ (x ≡ y)) 
         }
 
     new-first : AllFirst (at_first new ∷ [])
-    new-first =
-        (slice_get-get_or new.indices 0 0 (omega (arith, new-long, may.some)), new-long ∙ sym size, tt)
+    new-first = grind (arith, slice_get-get_or, new-long, size)
 
     -- what is known once the group is planned
     pub record IsNext (q : Plan) : Type 0 where
@@ -141,10 +137,7 @@ module _ (equal : (x y : List WasmSubType) → (Eq x y ≡ true) ↔ (x ≡ y)) 
       pub still : (t : Span) → IsPlanned gs l p t → IsPlanned gs l q t
 
     pub is-next : IsNext (plan_group gs l p s)
-    is-next =
-        either-planned gs l p s IsNext
-        (λ g is. grind (arith, known g is, length-append p.listed.indices g.indices, known-long g is, append-nil p.fresh, planned-more))
-        (λ is. grind (arith, unknown, append_assoc, first-both, length-append, new-long, planned-more, new-first))
+    is-next = grind (arith, append-nil p.fresh, planned-more, unknown, append_assoc, first-both, length-append, new-long, new-first, either-planned, known, known-long)
 
   -- each group of some
   abbrev pub EachPlanned : Plan → List Span → Type 0

@@ -223,5 +223,4 @@ counted-both gs (e ∷ es) = omega (arith, counted-both (keep_group gs e.0 e.1) 
 
 pub length-both : (gs es : Groups) → length (indices_of (keep_groups gs es)) ≡ length (indices_of gs) + length (indices_of es)
 length-both gs [] = omega arith
-length-both gs (e ∷ es) =
-    omega (arith, length-both (keep_group gs e.0 e.1) es, keep-length gs e.0 e.1, length-append e.1.indices (indices_of es))
+length-both gs (e ∷ es) = grind (arith, keep-length, length-append, (length-both (keep_group gs e.0 e.1) es))

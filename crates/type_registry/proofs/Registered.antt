@@ -31,8 +31,7 @@ above-differ (x ∷ gs) n (suc p) e all at = above-differ gs n p e all.1 at
 -- each group is found at its first index
 entry-found : (gs : Groups) (p f : ℕ) (g : Group) → AreOrdered gs → slice_get gs p ≡ Some (f, g) → found gs f ≡ Some g
 entry-found [] p f g ordered at = absurd (none-some (f, g) at)
-entry-found (x ∷ gs) zero f g ordered at =
-    subst (λ (y : ℕ × Group). found (x ∷ gs) y.0 ≡ Some y.1) (same_Some x (f, g) at) (ap (λ (c : Bool). if c then Some x.1 else found gs x.0) (eq-eqb x.0 x.0 refl))
+entry-found (x ∷ gs) zero f g ordered at = grind arith
 entry-found (x ∷ gs) (suc p) f g ordered at = grind (arith, found, above-differ, ne_eqb, (entry-found gs p f g ordered.1 at))
 
 all-first : (gs : Groups) → ((p f : ℕ) (g : Group) → slice_get gs p ≡ Some (f, g) → (slice_get g.indices 0 ≡ Some f) × (length g.indices ≡ length g.canonical))
@@ -43,8 +42,7 @@ all-first (x ∷ gs) each =
     (here.0, here.1, all-first gs (λ p f g at. each (suc p) f g at))
 
 sound-first : (gs : Groups) → IsSound gs → AllFirst gs
-sound-first gs sound =
-    all-first gs (λ p f g at. let is = entry-found gs p f g sound.ordered at in (sound.firsts f g is, sound.members f g is))
+sound-first gs sound = grind (arith, all-first, entry-found)
 
 first-second : (xs ys : Groups) → AllFirst (xs ++ ys) → AllFirst ys
 first-second [] ys all = all

@@ -1,7 +1,7 @@
 -- What is kept stays so where there is room for more.
 use Rattle.std.proofs.lemmas.Grind.{common_steps}
-use Rattle.std.specs.Prelude.{replicate}
-use Rattle.std.proofs.Common.{◌≡◌, ◌∙◌, ◌<◌, ℕ, zero, suc, ◌+◌, List, [], ◌∷◌, ◌++◌, length, map, slice_get, Option, Some, None, option_and_then, refl, sym, ap, arith}
+use Rattle.std.specs.Prelude.{[], replicate}
+use Rattle.std.proofs.Common.{◌≡◌, ◌∙◌, ◌<◌, ℕ, zero, suc, ◌+◌, List, ◌∷◌, ◌++◌, length, map, slice_get, Option, Some, None, option_and_then, refl, sym, ap, arith}
 use Rattle.std.proofs.lemmas.List.{length-append, length-replicate}
 use Rattle.wasm_types.specs.declared.sub.WasmSubType.{WasmSubType}
 use Rattle.free_numbers.specs.Counts.{IsCounts}

@@ -1,6 +1,6 @@
 -- Kept groups are told ne_eqb, also once more are kept and counted.
-use Rattle.std.specs.Prelude.{⊤}
-use Rattle.std.proofs.Common.{if◌then◌else◌, ◌≡◌, ◌∙◌, ◌↔◌, ◌<◌, ℕ, zero, suc, ◌+◌, ◌-◌, Bool, true, nat_eq, nat_le, List, [], ◌∷◌, length, slice_get, Option, Some, None, refl, sym, ap, subst, arith, eq-eqb}
+use Rattle.std.specs.Prelude.{[], ⊤}
+use Rattle.std.proofs.Common.{if◌then◌else◌, ◌≡◌, ◌∙◌, ◌↔◌, ◌<◌, ℕ, zero, suc, ◌-◌, Bool, true, nat_eq, nat_le, List, ◌∷◌, length, slice_get, Option, Some, None, refl, sym, ap, subst, arith, eq-eqb}
 use Rattle.std.specs.List.{list_any}
 use Rattle.std.specs.Map.{lookup, set_value, remove_entry}
 use Rattle.std.specs.Option.{option_map}
@@ -46,8 +46,7 @@ above-less m n (e ∷ gs) lt all = (omega (arith, lt, all.0), above-less m n gs 
 
 keep-above : (n f : ℕ) (gs : Groups) (g : Group) → n < f → AreAbove n gs → AreAbove n (keep_group gs f g)
 keep-above n f [] g lt all = (lt, tt)
-keep-above n f (e ∷ gs) g lt all =
-    cond_both (nat_le f e.0) ((f, g) ∷ e ∷ gs) (e ∷ keep_group gs f g) (AreAbove n) (λ _. (lt, all)) (λ _. (all.0, keep-above n f gs g lt all.1))
+keep-above n f (e ∷ gs) g lt all = grind (arith, (keep-above n f gs g lt all.1))
 
 keep-ordered : (f : ℕ) (gs : Groups) (g : Group) → found gs f ≡ None → AreOrdered gs → AreOrdered (keep_group gs f g)
 keep-ordered f [] g none ordered = (tt, tt)
@@ -97,8 +96,7 @@ AllFirst (e ∷ es) = (slice_get e.1.indices 0 ≡ Some e.0) × (length e.1.indi
 module _ (equal : (x y : List WasmSubType) → (Eq x y ≡ true) ↔ (x ≡ y)) where
   pub keeps-sound : (es : Groups) (s : GroupsState) → IsSound s.groups → MayKeepAll s es → AllFirst es → IsSound (keep_groups s.groups es)
   keeps-sound [] s sound may first = sound
-  keeps-sound (e ∷ es) s sound may first =
-      keeps-sound es (with_one s e) (keep-sound equal s e.0 e.1 sound may.0 first.0 first.1) (may-rest s e es may) first.2
+  keeps-sound (e ∷ es) s sound may first = grind (arith, (keeps-sound es (with_one s e) (keep-sound equal s e.0 e.1 sound may.0 first.0 first.1) (may-rest s e es may) first.2))
 
   -- a group that is kept stays so
   pub keeps-found : (es : Groups) (s : GroupsState) (i : ℕ) (h : Group) → IsSound s.groups → MayKeepAll s es → AllFirst es → found s.groups i ≡ Some h
@@ -118,8 +116,7 @@ module _ (equal : (x y : List WasmSubType) → (Eq x y ≡ true) ↔ (x ≡ y)) 
       let here : found (with_one s x).groups x.0 ≡ Some x.1 = found-keep s.groups x.0 x.0 x.1 ∙ ap (λ (c : Bool). if c then Some x.1 else found s.groups x.0) (eq-eqb x.0 x.0 refl) in
       let whole = keeps-found es (with_one s x) x.0 x.1 (keep-sound equal s x.0 x.1 sound may.0 first.0 first.1) (may-rest s x es may) first.2 here in
       subst (λ (y : Kept). found (keep_groups s.groups (x ∷ es)) y.0 ≡ Some y.1) (same_Some x e at) whole
-  keeps-new (x ∷ es) s (suc p) e sound may first at =
-      keeps-new es (with_one s x) p e (keep-sound equal s x.0 x.1 sound may.0 first.0 first.1) (may-rest s x es may) first.2 at
+  keeps-new (x ∷ es) s (suc p) e sound may first at = grind (arith, (keeps-new es (with_one s x) p e (keep-sound equal s x.0 x.1 sound may.0 first.0 first.1) (may-rest s x es may) first.2 at))
 
 -- ---- groups that are counted
 
@@ -134,8 +131,7 @@ pub record IsBut (gs : Groups) (i : ℕ) (h : Group) : Type 0 where
   pub same : bare group ≡ bare h
 
 pub but-of : (gs : Groups) (i : ℕ) (h : Group) (o : Option Group) → found gs i ≡ o → option_map bare o ≡ Some (bare h) → IsBut gs i h
-but-of gs i h None e is = absurd (none-some (bare h) is)
-but-of gs i h (Some g) e is = record { group = g; kept = e; same = same_Some (bare g) (bare h) is }
+but-of gs i h o e is = grind arith
 
 set-bare : (gs : Groups) (f i n : ℕ) (g : Group) → found gs f ≡ Some g
     → option_map bare (found (set_value (nat_eq f) gs (record g { count = n })) i) ≡ option_map bare (found gs i)
@@ -143,8 +139,7 @@ set-bare [] f i n g is = refl
 set-bare (e ∷ gs) f i n g is = let rest = set-bare gs f i n g in grind (arith, nat_tests)
 
 count-bare : (gs : Groups) (f i : ℕ) (o : Option Group) → found gs f ≡ o → option_map bare (found (count_group gs f o) i) ≡ option_map bare (found gs i)
-count-bare gs f i None e = refl
-count-bare gs f i (Some g) e = set-bare gs f i (g.count + 1) g e
+count-bare gs f i o e = grind (arith, set-bare)
 
 counts-bare : (gs : Groups) (fs : List ℕ) (i : ℕ) → option_map bare (found (count_groups gs fs) i) ≡ option_map bare (found gs i)
 counts-bare gs [] i = refl
@@ -159,17 +154,14 @@ counted-was gs fs i h is = but-of gs i h (found gs i) refl (sym (counts-bare gs 
 
 set-above : (n f : ℕ) (gs : Groups) (g : Group) → AreAbove n gs → AreAbove n (set_value (nat_eq f) gs g)
 set-above n f [] g all = tt
-set-above n f (e ∷ gs) g all =
-    cond_both (nat_eq f e.0) ((e.0, g) ∷ gs) (e ∷ set_value (nat_eq f) gs g) (AreAbove n) (λ _. all) (λ _. (all.0, set-above n f gs g all.1))
+set-above n f (e ∷ gs) g all = grind (arith, (set-above n f gs g all.1))
 
 set-ordered : (f : ℕ) (gs : Groups) (g : Group) → AreOrdered gs → AreOrdered (set_value (nat_eq f) gs g)
 set-ordered f [] g all = tt
-set-ordered f (e ∷ gs) g all =
-    cond_both (nat_eq f e.0) ((e.0, g) ∷ gs) (e ∷ set_value (nat_eq f) gs g) AreOrdered (λ _. all) (λ _. (set-above e.0 f gs g all.0, set-ordered f gs g all.1))
+set-ordered f (e ∷ gs) g all = grind (arith, cond_both, set-above, (set-ordered f gs g all.1))
 
 count-ordered : (f : ℕ) (gs : Groups) (o : Option Group) → AreOrdered gs → AreOrdered (count_group gs f o)
-count-ordered f gs None all = all
-count-ordered f gs (Some g) all = set-ordered f gs (record g { count = g.count + 1 }) all
+count-ordered f gs o all = grind (arith, set-ordered)
 
 counts-ordered : (gs : Groups) (fs : List ℕ) → AreOrdered gs → AreOrdered (count_groups gs fs)
 counts-ordered gs [] all = all
@@ -213,13 +205,11 @@ removed-was gs f i h ordered is = let all = found-remove gs f i ordered in grind
 
 remove-above : (n f : ℕ) (gs : Groups) → AreAbove n gs → AreAbove n (remove_entry (nat_eq f) gs)
 remove-above n f [] all = tt
-remove-above n f (e ∷ gs) all =
-    cond_both (nat_eq f e.0) gs (e ∷ remove_entry (nat_eq f) gs) (AreAbove n) (λ _. all.1) (λ _. (all.0, remove-above n f gs all.1))
+remove-above n f (e ∷ gs) all = grind (arith, (remove-above n f gs all.1))
 
 remove-ordered : (f : ℕ) (gs : Groups) → AreOrdered gs → AreOrdered (remove_entry (nat_eq f) gs)
 remove-ordered f [] all = tt
-remove-ordered f (e ∷ gs) all =
-    cond_both (nat_eq f e.0) gs (e ∷ remove_entry (nat_eq f) gs) AreOrdered (λ _. all.1) (λ _. (remove-above e.0 f gs all.0, remove-ordered f gs all.1))
+remove-ordered f (e ∷ gs) all = grind (arith, cond_both, remove-above, (remove-ordered f gs all.1))
 
 pub leave-ordered : (gs : Groups) (f : ℕ) (o : Option Group) → AreOrdered gs → AreOrdered (leave_group gs f o)
 leave-ordered gs f o h1 = grind (arith, cond_both, nat_le, nat_eq, remove-ordered, set-ordered)

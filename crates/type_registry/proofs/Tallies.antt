@@ -1,5 +1,5 @@
 -- How often modules have a kept group once groups are kept, counted or left.
-use Rattle.std.proofs.Common.{if◌then◌else◌, ◌≡◌, ◌∙◌, ◌<◌, ℕ, ◌+◌, ◌-◌, Bool, true, nat_eq, List, [], ◌∷◌, map, Option, Some, None, refl, ap, arith, ◌⊎◌, inl}
+use Rattle.std.proofs.Common.{if◌then◌else◌, ◌≡◌, ◌∙◌, ◌<◌, ℕ, ◌+◌, ◌-◌, Bool, true, nat_eq, List, [], ◌∷◌, map, Option, Some, refl, ap, arith, ◌⊎◌, inl}
 use Rattle.std.specs.Map.{set_value}
 use Rattle.std.proofs.lemmas.Bool.{eqb-true}
 use Rattle.std.proofs.lemmas.Option.{none-some}
@@ -19,8 +19,7 @@ pub record IsThere (o : Option Group) : Type 0 where
   pub is : o ≡ Some group
 
 pub there-of : (o : Option Group) → 0 < count_in o → IsThere o
-there-of None lt = absurd (omega (arith, lt))
-there-of (Some g) lt = record { group = g; is = refl }
+there-of o lt = grind arith
 
 abbrev one_if : Bool → ℕ
 one_if c = if c then 1 else 0
@@ -94,8 +93,7 @@ one-had gs f o h1 h2 h3 = grind (arith, found-remove, found-set, nat_tests)
 
 pub left-had : (gs : Groups) (fs : List ℕ) → AreOrdered gs → AreHad gs → AreHad (leave_groups gs fs)
 left-had gs [] ordered had = had
-left-had gs (f ∷ fs) ordered had =
-    left-had (leave_group gs f (found gs f)) fs (leave-ordered gs f (found gs f) ordered) (one-had gs f (found gs f) refl ordered had)
+left-had gs (f ∷ fs) ordered had = grind (arith, (left-had (leave_group gs f (found gs f)) fs (leave-ordered gs f (found gs f) ordered) (one-had gs f (found gs f) refl ordered had)))
 
 -- what is kept once groups are left was kept, but for its count
 pub left-was : (gs : Groups) (fs : List ℕ) (i : ℕ) (h : Group) → AreOrdered gs → found (leave_groups gs fs) i ≡ Some h → IsBut gs i h

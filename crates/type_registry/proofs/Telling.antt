@@ -1,5 +1,5 @@
 -- Registered types have one index exactly where they are equal.
-use Rattle.std.proofs.Common.{◌≡◌, ◌∙◌, ℕ, zero, suc, ◌-◌, ◌<◌, ◌≤◌, List, [], ◌∷◌, length, take, get_or, slice_get, Option, Some, None, option_and_then, refl, sym, ap, arith}
+use Rattle.std.proofs.Common.{◌≡◌, ◌∙◌, ℕ, zero, suc, ◌-◌, ◌<◌, ◌≤◌, List, [], ◌∷◌, length, take, get_or, slice_get, Option, Some, None, refl, sym, ap, arith}
 use Rattle.std.proofs.lemmas.List.{length-map}
 use Rattle.std.proofs.lemmas.Option.{slice_get-get_or, same_Some}
 use Rattle.type_spec.specs.Interned.{Span}
@@ -63,8 +63,7 @@ module _ (r : Registry) (a : ℕ) (l : TypeList) (listed : Listed l) (st : Stand
   member k lt i low high short = grind (arith, slice_get, group-at, take-get, get-dropped, slice_get-get_or)
 
   pub index-is : (i : ℕ) → i < length l.types → registry.index_at r a i ≡ Some (get_or indices i 0)
-  index-is i lt =
-      ap (λ m. option_and_then (λ (m : registry.Module). slice_get m.indices i) m) st.held ∙ slice_get-get_or indices i 0 (omega (arith, lt, st.count))
+  index-is i lt = grind (arith, slice_get-get_or)
 
   pub short : (k : ℕ) → k < length (list_of l).groups → (i : ℕ) → i < (span k).end → i < length l.types
   short k lt i high = grind (arith, stands-at (list_of l) listed.well_named k lt, length-map l.types interned_of)

@@ -1,5 +1,5 @@
 -- The types of live indices as they are used.
-use Rattle.std.proofs.Common.{if◌then◌else◌, ◌≡◌, ◌∙◌, ℕ, zero, suc, ◌+◌, false, nat_eq, List, [], ◌∷◌, ◌++◌, map, slice_get, Option, Some, None, refl, sym, ap, arith, eq-eqb}
+use Rattle.std.proofs.Common.{◌≡◌, ◌∙◌, ℕ, zero, suc, ◌+◌, false, nat_eq, List, [], ◌∷◌, ◌++◌, map, slice_get, Option, Some, None, refl, sym, ap, arith}
 use Rattle.std.specs.List.{list_any, zip}
 use Rattle.std.specs.Map.{lookup}
 use Rattle.std.proofs.lemmas.Bool.{false_from_ne_true}
@@ -30,8 +30,7 @@ zip-at : (n : ℕ) (is : List ℕ) (ts : List UsedType) (p : ℕ) → slice_get 
 zip-at n [] ts p at one = absurd (none-some n at)
 zip-at n (i ∷ is) [] zero at one = refl
 zip-at n (i ∷ is) [] (suc p) at one = refl
-zip-at n (i ∷ is) (t ∷ ts) zero at one =
-    ap (λ c. if c then Some t else lookup (nat_eq n) (zip is ts)) (eq-eqb n i (sym (same_Some i n at)))
+zip-at n (i ∷ is) (t ∷ ts) zero at one = grind arith
 zip-at n (i ∷ is) (t ∷ ts) (suc p) at one =
     let rest = zip-at n is ts p at (λ q here. let more : suc q ≡ suc p = one (suc q) here in omega (arith, more)) in
     let first : n ≡ i → 0 ≡ suc p = (λ same. one 0 (ap Some (sym same))) in
@@ -51,8 +50,7 @@ miss (Some g ∷ gs) k n no-one =
 
 -- a value, or else nothing more
 or-nothing : (o : Option UsedType) → or_else o None ≡ o
-or-nothing None = refl
-or-nothing (Some t) = refl
+or-nothing o = grind arith
 
 hit : (gs : List (Option Group)) (k m n p : ℕ) (g : Group) → group_in gs m ≡ Some g → slice_get g.indices p ≡ Some n
     → ((q : ℕ) → slice_get g.indices q ≡ Some n → q ≡ p)
