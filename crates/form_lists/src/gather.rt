@@ -61,10 +61,7 @@ pub fn types_of_groups<'f>(
 }
 
 /// The types that a form declares, in the order of their indices.
-pub fn types_of_form<'f>(
-    alloc: Global,
-    form: &'f Form<'_>,
-) -> Result<Vec<Declared<'f>>, AllocError>
+pub fn types_of_form<'f>(alloc: Global, form: &'f Form<'_>) -> Result<Vec<Declared<'f>>, AllocError>
     ensures { IfOk result (λ types. map declared_of types.items ≡ declared_groups 0 (groups (module_of form.now))) }
 {
     let mut types = Vec::new(alloc);
@@ -74,10 +71,7 @@ pub fn types_of_form<'f>(
     Ok(types)
 }
 
-fn add_groups<'f>(
-    types: &mut Vec<Declared<'f>>,
-    groups: &'f [RecGroup],
-) -> Result<(), AllocError>
+fn add_groups<'f>(types: &mut Vec<Declared<'f>>, groups: &'f [RecGroup]) -> Result<(), AllocError>
     ensures { OnOk result (AddsTypes types.old.items types.new.items (map group_of groups.now)) }
 {
     for group in groups {

@@ -24,7 +24,7 @@ use crate::start::starts_hold;
 use crate::tables::initialisers_hold;
 use crate::type_rules::{types_are_named, types_hold};
 use form_data::Form;
-use form_lists::{Declared, Lists, Source, types_of_form, gather_lists};
+use form_lists::{Declared, Lists, Source, gather_lists, types_of_form};
 use form_typing::{expressions_hold, struct_defaults};
 use rule_spec::Rule;
 use std::alloc::{AllocError, Global};

@@ -12,9 +12,9 @@ ghost use Rattle.form_types.specs.Numbered.{AreNumbered};
 ghost use Rattle.form_types.specs.Adding.{HasNone, HasFewIds, AddsGroup};
 
 use crate::canonical::CanonicalGroup;
+use crate::copied::groups_of_form;
 use crate::distinct::Distinct;
 use crate::finding::{FirstIds, find_or_note, next_key, push_row, seed_of};
-use crate::copied::groups_of_form;
 use crate::named::name_group;
 use crate::numbering::Types;
 use crate::validator::Validator;

@@ -5,10 +5,10 @@ ghost use Rattle.module_environ.specs.Errors.{error_of_read, error_of_check, err
 ghost use Rattle.module_environ.specs.declared.error.EnvironError.TheVariants as refusal;
 
 use form_reader::ReadError;
-use std::alloc::AllocError;
 use form_rules::CheckError;
 use module_types::BuildError;
 use rule_spec::Rule;
+use std::alloc::AllocError;
 use thiserror::Error;
 use wasm_spec::What;
 

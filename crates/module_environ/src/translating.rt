@@ -168,7 +168,15 @@ fn translate_form<'d>(
     let checked = checked_lists(alloc, source, declared)?;
     // The rules asked for the types, and nothing does from here on: the groups become those of the list of types.
     let lists = checked.without_types(alloc, source);
-    translate_lists(alloc, tunables, validator, types, &lists, groups, translation)
+    translate_lists(
+        alloc,
+        tunables,
+        validator,
+        types,
+        &lists,
+        groups,
+        translation,
+    )
 }
 
 /// Fills an empty translation with all of a module that keeps the rules, but its bytes and its code.
