@@ -25,8 +25,7 @@ pub cell-function : (f : Index FuncSpace) → number_of f < 4294967295 → cell_
 cell-function f l = let e : (number_of f == 4294967295) ≡ false = ne_eqb (number_of f) 4294967295 (λ same. absurd (omega (arith, same))) in rw e refl
 
 pub cell-index : (o : Option ℕ) → IsCell o → cell_of (index_cell o) ≡ o
-cell-index None h = refl
-cell-index (Some k) h = cell-function (index_of k) h
+cell-index o h = grind (arith, cell-function)
 
 pub cells-replicate : (f : Index FuncSpace) (n : ℕ) → image_of (replicate n f) ≡ replicate n (cell_of f)
 cells-replicate f zero = refl
@@ -34,8 +33,7 @@ cells-replicate f (suc n) = ap (λ xs. cell_of f ∷ xs) (cells-replicate f n)
 
 -- there is a cell for each element
 pub length-cells : (elements : TableSegmentElements) → length (image_cells (items_of elements)) ≡ element_count elements
-length-cells (Functions functions) = length-map (map number_of functions.items) Some ∙ length-map functions.items number_of
-length-cells (Expressions ty expressions) = length-map (map expression_of expressions.items) (λ e. unwrap_or (expression_cell e) None) ∙ length-map expressions.items expression_of
+length-cells elements = grind (arith, length-map)
 
 function-at : (fs : List (Index FuncSpace)) (i : ℕ) (x : Index FuncSpace) → i < length (map Some (map number_of fs)) → AreFunctions (map Some (map number_of fs)) → x ≡ get_or fs i x
     → cell_of x ≡ get_or (map Some (map number_of fs)) i None
@@ -46,9 +44,7 @@ function-at (f ∷ fs) (suc i) x l are is = function-at fs i x (omega arith) (Al
 pub at-functions : (elements : TableSegmentElements) (functions : Vec (Index FuncSpace)) → elements ≡ Functions functions → (i : ℕ) (x : Index FuncSpace)
     → i < length (image_cells (items_of elements)) → AreFunctions (image_cells (items_of elements)) → x ≡ get_or functions.items i x
     → cell_of x ≡ get_or (image_cells (items_of elements)) i None
-at-functions elements functions e i x l are is =
-    subst (λ xs. cell_of x ≡ get_or (image_cells (items_of xs)) i None) (sym e)
-    (function-at functions.items i x (subst (λ xs. i < length (image_cells (items_of xs))) e l) (subst (λ xs. AreFunctions (image_cells (items_of xs))) e are) is)
+at-functions elements functions e i x l are is = grind (arith, function-at)
 
 abbrev cell_in : List ConstOp → Option ℕ
 cell_in e = unwrap_or (expression_cell (expression_of e)) None
@@ -57,24 +53,19 @@ abbrev cells_in : List (List ConstOp) → List (Option ℕ)
 cells_in es = map (λ e. unwrap_or (expression_cell e) None) (map expression_of es)
 
 found-cell : (o : Option (Option ℕ)) → IsCell (unwrap_or o None) → cell_of (unwrap_or (option_map index_cell o) (index_of 4294967295)) ≡ unwrap_or o None
-found-cell None h = refl
-found-cell (Some cell) h = cell-index cell h
+found-cell o h = grind (arith, cell-index)
 
 expression-at : (es : List (List ConstOp)) (i : ℕ) (x : List ConstOp) → i < length (cells_in es) → AreFunctions (cells_in es) → x ≡ get_or es i x
     → cell_of (unwrap_or (option_map index_cell (expression_cell (expression_of x))) (index_of 4294967295)) ≡ get_or (cells_in es) i None
 expression-at [] i x l are is = absurd (omega arith)
-expression-at (e ∷ es) zero x l are is =
-    let h : IsCell (cell_in e) = All-head IsCell (cell_in e) (cells_in es) are in
-    ap (λ y. cell_of (unwrap_or (option_map index_cell (expression_cell (expression_of y))) (index_of 4294967295))) is ∙ found-cell (expression_cell (expression_of e)) h
+expression-at (e ∷ es) zero x l are is = grind (arith, All-head, found-cell)
 expression-at (e ∷ es) (suc i) x l are is = expression-at es i x (omega arith) (All-tail IsCell (cell_in e) (cells_in es) are) is
 
 pub at-expressions : (elements : TableSegmentElements) (ty : WasmRefType) (expressions : Vec (List ConstOp)) → elements ≡ Expressions ty expressions → (i : ℕ) (x : List ConstOp) (r : Index FuncSpace)
     → i < length (image_cells (items_of elements)) → AreFunctions (image_cells (items_of elements)) → x ≡ get_or expressions.items i x
     → r ≡ unwrap_or (option_map index_cell (expression_cell (expression_of x))) (index_of 4294967295)
     → cell_of r ≡ get_or (image_cells (items_of elements)) i None
-at-expressions elements ty expressions e i x r l are is found =
-    subst (λ xs. cell_of r ≡ get_or (image_cells (items_of xs)) i None) (sym e)
-    (ap cell_of found ∙ expression-at expressions.items i x (subst (λ xs. i < length (image_cells (items_of xs))) e l) (subst (λ xs. AreFunctions (image_cells (items_of xs))) e are) is)
+at-expressions elements ty expressions e i x r l are is found = grind (arith, expression-at)
 
 -- what holds of the images of elements holds of the elements
 unmapped : {A B : Type 0} (f : A → B) (P : B → Type 0) (xs : List A) → All P (map f xs) → All (λ x. P (f x)) xs
@@ -94,6 +85,4 @@ are-cells elements ty expressions xs b e is h = rw e (
 -- the functions of one segment
 pub holds-segment : (segments : List TableSegment) (i : ℕ) (s : TableSegment) → s ≡ get_or segments i s → i < length segments → SegmentsHoldFunctions (map active_elements_of segments)
     → AreFunctions (image_cells (items_of s.elements))
-holds-segment segments i s is l h = subst (λ (x : TableSegment). AreFunctions (image_cells (items_of x.elements))) (sym is)
-    (All-get_or (λ (x : TableSegment). AreFunctions (image_cells (items_of x.elements))) segments i s l
-    (unmapped active_elements_of (λ (x : ActiveElements). AreFunctions (image_cells x.items)) segments h))
+holds-segment segments i s is l h = grind (arith, All-get_or (λ (x : TableSegment). AreFunctions (image_cells (items_of x.elements))) segments i s l (unmapped active_elements_of (λ (x : ActiveElements). AreFunctions (image_cells x.items)) segments h))

@@ -15,7 +15,7 @@ use Rattle.replay_spec.specs.Phases.{item_at, last_item}
 use Rattle.replay_spec.specs.Elements.{ActiveElements, DefinedTable}
 use Rattle.replay_spec.specs.Tables.{image_cells, constant_place, image_piece, elements_end, initial_function, is_imaged_from_start, kept_initial, MayBeTaken, end_on, IsTableImage, TakesPrefix}
 use Rattle.replay_spec.proofs.Replay.{last-append}
-use Rattle.replay_spec.proofs.Covering.{CoversAt, item-cover}
+use Rattle.replay_spec.proofs.Covering.{item-cover}
 use Rattle.replay_spec.proofs.TablesJoined.{past-image}
 use Rattle.table_images.specs.declared.spot.Spot.{Spot}
 use Rattle.table_images.specs.Steps.{IsSpot, LaysCells, LaysAt, first_image, AreTableImages}
@@ -72,18 +72,11 @@ last-push m p d taken a = ap (last_item m p d) (map-append image_piece taken (a 
 
 end-here : (m : ℕ) (taken : List ActiveElements) (a : ActiveElements) → a.table ≡ m → end_on m (taken ++ a ∷ []) ≡ max (end_on m taken) (elements_end a)
 end-here m [] a on = let e : (a.table == m) ≡ true = eq-eqb a.table m on in rw e (omega arith)
-end-here m (s ∷ ss) a on = over (s.table == m) refl (end-here m ss a on) where
-  over : (b : Bool) → (s.table == m) ≡ b → end_on m (ss ++ a ∷ []) ≡ max (end_on m ss) (elements_end a)
-      → end_on m (s ∷ (ss ++ a ∷ [])) ≡ max (end_on m (s ∷ ss)) (elements_end a)
-  over true e h = rw e (omega arith)
-  over false e h = rw e h
+end-here m (s ∷ ss) a on = grind (arith, (end-here m ss a on))
 
 end-there : (m : ℕ) (taken : List ActiveElements) (a : ActiveElements) → a.table ≢ m → end_on m (taken ++ a ∷ []) ≡ end_on m taken
 end-there m [] a off = let e : (a.table == m) ≡ false = ne_eqb a.table m off in rw e refl
-end-there m (s ∷ ss) a off = over (s.table == m) refl (end-there m ss a off) where
-  over : (b : Bool) → (s.table == m) ≡ b → end_on m (ss ++ a ∷ []) ≡ end_on m ss → end_on m (s ∷ (ss ++ a ∷ [])) ≡ end_on m (s ∷ ss)
-  over true e h = rw e (ap (max (elements_end s)) h)
-  over false e h = rw e h
+end-there m (s ∷ ss) a off = grind (arith, (end-there m ss a off))
 
 item-moved : (k m start begin place : ℕ) (items : List (Option ℕ)) → k ≡ m → begin ≡ start
     → item_at 0 place (record { object = 0; offset = begin; items = items }) ≡ item_at m place (record { object = k; offset = start; items = items })
@@ -132,12 +125,7 @@ module _ (imports : ℕ) (ds : List DefinedTable) (taken : List ActiveElements) 
 
   -- any other image
   step-there : (m : ℕ) (d : DefinedTable) (image : List (Option ℕ)) → a.table ≢ m → IsTableImage true taken m d image → IsTableImage true (taken ++ a ∷ []) m d image
-  step-there m d image off prior = record {
-    reach = prior.reach ∙ ap (λ n. if is_imaged_from_start true d then d.minimum else n) (sym (end-there m taken a off));
-    cells = λ p l.
-        let none : item_at m p (image_piece a) ≡ None = ⊎_elim (λ e. e) (λ (c : CoversAt m p (image_piece a)). absurd (off c.on)) (item-cover m p (image_piece a)) in
-        prior.cells p l ∙ ap Some (sym (last-push m p (initial_function d.initial) taken a ∙ ap (λ o. unwrap_or o (last_item m p (initial_function d.initial) (map image_piece taken))) none));
-  }
+  step-there m d image off prior = grind (arith, end-there, item-cover, last-push)
 
   pub step : (images more : List (List (Option ℕ))) → LaysAt table place (image_cells a.items) images more → AreTableImages true imports ds taken images
       → AreTableImages true imports ds (taken ++ a ∷ []) more
@@ -170,26 +158,14 @@ get-replicate x (suc n) zero l = refl
 get-replicate x (suc n) (suc p) l = get-replicate x n p (omega arith)
 
 first-reach : (b : Bool) (n : ℕ) (cell : Option ℕ) → length (if b then replicate n cell else []) ≡ (if b then n else 0)
-first-reach true n cell = length-replicate n cell
-first-reach false n cell = refl
+first-reach b n cell = grind (arith, length-replicate)
 
 first-cells : (b : Bool) (n : ℕ) (cell : Option ℕ) (p : ℕ) → p < length (if b then replicate n cell else []) → slice_get (if b then replicate n cell else []) p ≡ Some cell
-first-cells true n cell p l = get-replicate cell n p (omega (arith, length-replicate n cell))
-first-cells false n cell p l = absurd (omega arith)
+first-cells b n cell p l = grind (arith, get-replicate, length-replicate)
 
 pub first-images : (lazy : Bool) (imports : ℕ) (ds : List DefinedTable) (images : List (List (Option ℕ))) → images ≡ map (first_image lazy) ds
     → AreTableImages lazy imports ds [] images
-first-images lazy imports ds images e = record {
-  count = ap length e ∙ length-map ds (first_image lazy);
-  takes = All-nil (MayBeTaken lazy imports ds);
-  each = λ i d image at found.
-      let same : first_image lazy d ≡ image = same_Some (first_image lazy d) image
-      (sym (slice_get-map (first_image lazy) ds i ∙ ap (option_map (first_image lazy)) at) ∙ ap (λ xs. slice_get xs i) (sym e) ∙ found) in
-      subst (IsTableImage lazy [] (imports + i) d) same (record {
-        reach = first-reach (is_imaged_from_start lazy d) d.minimum (initial_function d.initial);
-        cells = first-cells (is_imaged_from_start lazy d) d.minimum (initial_function d.initial);
-      });
-}
+first-images lazy imports ds images e = grind (arith, length-map, All-nil, same_Some, slice_get-map, first-reach, first-cells)
 
 -- ---- a loop over the segments
 
@@ -220,10 +196,7 @@ module _ (imported : ℕ) (ts : List Table) (vs : List TableInitialValue) (segme
       none spot.0 spot.1
 
 pub ended : (segments : List TableSegment) (a : ActiveElements) (rest : List ActiveElements) → map active_elements_of (drop (length segments) segments) ≡ a ∷ rest → ⊥
-ended segments a rest begins =
-    let within = slice_get_within (map active_elements_of segments) (length segments) a (map-drop-at active_elements_of segments (length segments) a rest begins) in
-    let n = length-map segments active_elements_of in
-    omega arith
+ended segments a rest begins = grind (arith, slice_get_within, map-drop-at, length-map)
 
 map-take-drop : {A B : Type 0} (f : A → B) (n : ℕ) (xs : List A) → map f xs ≡ map f (take n xs) ++ map f (drop n xs)
 map-take-drop f zero xs = refl
@@ -238,8 +211,4 @@ takes-prefix imported ds segments n images h stops = record { parts = map-take-d
 
 -- where no image is wanted nothing is taken
 pub takes-none : (imported : ℕ) (ds : List DefinedTable) (active : List ActiveElements) → TakesPrefix false imported ds active [] active
-takes-none imported ds active = record {
-  parts = refl;
-  takes = All-nil (MayBeTaken false imported ds);
-  longest = λ s rest e may. false≢true may.lazy_tables;
-}
+takes-none imported ds active = grind (arith, All-nil, false≢true)

@@ -35,8 +35,7 @@ pub made-of : (ts : List Table) (vs : List TableInitialValue) (i : ℕ) (d : Def
 made-of [] vs i d at = absurd (none-some d at)
 made-of (t ∷ ts) [] i d at = absurd (none-some d at)
 made-of (t ∷ ts) (v ∷ vs) zero d at = record { table = t; value = v; is_table = refl; is_value = refl; made = sym (same_Some (defined_table_of t v) d at) }
-made-of (t ∷ ts) (v ∷ vs) (suc i) d at =
-    let m = made-of ts vs i d at in record { table = m.table; value = m.value; is_table = m.is_table; is_value = m.is_value; made = m.made }
+made-of (t ∷ ts) (v ∷ vs) (suc i) d at = let m = made-of ts vs i d at in record { table = m.table; value = m.value; is_table = m.is_table; is_value = m.is_value; made = m.made }
 
 pub length-defined : (ts : List Table) (vs : List TableInitialValue) → length ts ≡ length vs → length (defined_tables_of ts vs) ≡ length vs
 length-defined [] [] e = refl
@@ -93,26 +92,20 @@ pub holds-at : (ts : List Table) (vs : List TableInitialValue) (i : ℕ) (v : Ta
     → TablesHoldFunctions (defined_tables_of ts vs) → IsCell (initial_function (initial_of v))
 holds-at [] vs i v e l is h = absurd (omega arith)
 holds-at (t ∷ ts) [] i v e l is h = absurd (omega arith)
-holds-at (t ∷ ts) (w ∷ vs) zero v e l is h =
-    subst (λ x. IsCell (initial_function (initial_of x))) (sym is) (All-head (λ (d : DefinedTable). IsCell (initial_function d.initial)) (defined_table_of t w) (defined_tables_of ts vs) h)
-holds-at (t ∷ ts) (w ∷ vs) (suc i) v e l is h =
-    holds-at ts vs i v (omega arith) (omega arith) is (All-tail (λ (d : DefinedTable). IsCell (initial_function d.initial)) (defined_table_of t w) (defined_tables_of ts vs) h)
+holds-at (t ∷ ts) (w ∷ vs) zero v e l is h = subst (λ x. IsCell (initial_function (initial_of x))) (sym is) (All-head (λ (d : DefinedTable). IsCell (initial_function d.initial)) (defined_table_of t w) (defined_tables_of ts vs) h)
+holds-at (t ∷ ts) (w ∷ vs) (suc i) v e l is h = holds-at ts vs i v (omega arith) (omega arith) is (All-tail (λ (d : DefinedTable). IsCell (initial_function d.initial)) (defined_table_of t w) (defined_tables_of ts vs) h)
 
 pub first-count : (lazy : Bool) (ts : List Table) (vs : List TableInitialValue) (i : ℕ) (images : List (Vec (Index FuncSpace))) → length ts ≡ length vs → i < length vs
     → images_of images ≡ map (first_image lazy) (defined_tables_of (take i ts) (take i vs)) → length images ≡ i
-first-count lazy ts vs i images e l is =
-    sym (length-map images (λ (x : Vec (Index FuncSpace)). image_of x.items)) ∙ ap length is ∙ length-map (defined_tables_of (take i ts) (take i vs)) (first_image lazy)
-    ∙ length-defined (take i ts) (take i vs) (length-take-le i ts (omega arith) ∙ sym (length-take-le i vs (omega arith))) ∙ length-take-le i vs (omega arith)
+first-count lazy ts vs i images e l is = grind (arith, length-map, length-defined, length-take-le)
 
 pub first-length : (lazy : Bool) (ts : List Table) (vs : List TableInitialValue) (images : List (Vec (Index FuncSpace))) → length ts ≡ length vs
     → images_of images ≡ map (first_image lazy) (defined_tables_of ts vs) → length images ≡ length vs
-first-length lazy ts vs images e is =
-    sym (length-map images (λ (x : Vec (Index FuncSpace)). image_of x.items)) ∙ ap length is ∙ length-map (defined_tables_of ts vs) (first_image lazy) ∙ length-defined ts vs e
+first-length lazy ts vs images e is = grind (arith, length-map, length-defined)
 
 pub first-imaged : (lazy : Bool) (d : DefinedTable) (xs : List (Option ℕ)) → lazy ≡ true → true ≡ is_imaged_from_start true d → xs ≡ replicate d.minimum (initial_function d.initial)
     → xs ≡ first_image lazy d
-first-imaged lazy d xs e f g =
-    subst (λ b. xs ≡ first_image b d) (sym e) (g ∙ sym (cond-true (is_imaged_from_start true d) (replicate d.minimum (initial_function d.initial)) [] (sym f)))
+first-imaged lazy d xs e f g = grind (arith, cond-true)
 
 pub first-step : (lazy : Bool) (ts : List Table) (vs : List TableInitialValue) (i : ℕ) (t : Table) (v : TableInitialValue) (images new : List (Vec (Index FuncSpace))) (image : Vec (Index FuncSpace))
     → i < length ts → i < length vs → v ≡ get_or vs i v → new ≡ images ++ image ∷ []
@@ -129,9 +122,7 @@ first-step lazy ts vs i t v images new image l m is pushed before here =
 -- ---- initialisers that are dropped
 
 same-rest : (xs ys : List TableInitialValue) (i : ℕ) (d : TableInitialValue) → drop i xs ≡ drop i ys → get_or xs i d ≡ get_or ys i d
-same-rest xs ys i d e =
-    let zero_more : i + 0 ≡ i = omega arith in
-    ap (λ k. get_or xs k d) (sym zero_more) ∙ sym (get_or-drop i xs 0 d) ∙ ap (λ zs. get_or zs 0 d) e ∙ get_or-drop i ys 0 d ∙ ap (λ k. get_or ys k d) zero_more
+same-rest xs ys i d e = grind (arith, get_or-drop i xs 0 d, get_or-drop i ys 0 d)
 
 drop-more : (xs : List TableInitialValue) (i : ℕ) → drop (i + 1) xs ≡ drop 1 (drop i xs)
 drop-more xs zero = refl

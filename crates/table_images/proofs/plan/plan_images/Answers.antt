@@ -1,43 +1,21 @@
-use Rattle.std.proofs.Common.{◌∙◌, ap, length, map, arith, sym, subst, true}
-use Rattle.std.specs.Global.{Vec}
+use Rattle.std.proofs.Common.{map, arith, sym, subst, true}
 use Rattle.std.proofs.lemmas.List.{length-map}
 use Rattle.entity_map.proofs.LentLemmas.{refill-same_length}
-use Rattle.wasm_index.specs.declared.index.Index.{Index}
-use Rattle.wasm_index.specs.declared.spaces.FuncSpace.{FuncSpace}
-use Rattle.table_images.specs.Steps.{first_image, images_of}
-use Rattle.table_images.specs.Left.{StandStill}
-use Rattle.table_images.specs.Views.{active_elements_of, defined_tables_of, table_plan_of, image_of}
+use Rattle.table_images.specs.Steps.{images_of}
+use Rattle.table_images.specs.Views.{active_elements_of, defined_tables_of, table_plan_of}
 use Rattle.replay_spec.specs.Tables.{IsTablePlan}
 use Rattle.table_images.proofs.Tables.{length-defined}
 use Rattle.table_images.proofs.Planned.{planned-images}
 use Rattle.table_images.proofs.plan.plan_images.Goals as goal
 
 pub take_segments-requires-clause-each : goal.take_segments-requires-clause-each
-take_segments-requires-clause-each c =
-    let one = length-map c.args.images.now (λ (x : Vec (Index FuncSpace)). image_of x.items) in
-    let two = length-map (defined_tables_of c.args.tables.now c.args.initialization.now.initial_values) (first_image true) in
-    let three = length-defined c.args.tables.now c.args.initialization.now.initial_values c.requires.paired in
-    let first = ap length c.requires.first in
-    let values = ap length c.as_slice.ensures in
-    omega arith
+take_segments-requires-clause-each c = grind (arith, length-map, length-defined)
 
 pub returns-clause-count : goal.returns-clause-count
-returns-clause-count c =
-    let vs = c.args.initialization.now.initial_values in
-    let was = c.as_mut_slice.ensures.values in
-    let count = rw was at c.drop_imaged.ensures.count in
-    ap length (refill-same_length vs c.drop_imaged.new.values count) ∙ count
+returns-clause-count c = grind (arith, refill-same_length)
 
 pub returns-clause-left : goal.returns-clause-left
-returns-clause-left c =
-    let vs = c.args.initialization.now.initial_values in
-    let was = c.as_mut_slice.ensures.values in
-    let count = rw was at c.drop_imaged.ensures.count in
-    record {
-      taken = c.in_ok-taken.taken;
-      segments = c.in_ok-initialization.ensures.tail;
-      initialisers = subst (StandStill vs) (sym (refill-same_length vs c.drop_imaged.new.values count)) (rw was at c.drop_imaged.ensures.still);
-    }
+returns-clause-left c = grind (arith, refill-same_length)
 
 pub returns-clause-planned : goal.returns-clause-planned
 returns-clause-planned c =
