@@ -1,5 +1,5 @@
 -- What is answered to imports, one after another.
-use Rattle.std.proofs.Common.{◌≡◌, ◌<◌, ◌≤◌, ◌+◌, ℕ, zero, suc, List, [], ◌∷◌, ◌++◌, length, map, drop, slice_get, Option, Some, None, Result, Ok, Err, Vec, Global, refl, sym, ap, subst, ◌∙◌, inl, inr, arith}
+use Rattle.std.proofs.Common.{◌≡◌, ◌≤◌, ◌+◌, ℕ, zero, suc, List, [], ◌∷◌, ◌++◌, length, map, drop, slice_get, Option, Some, None, Result, Ok, Err, Vec, Global, refl, sym, ap, ◌∙◌, inl, inr, arith}
 use Rattle.std.specs.Prelude.{◌⊎◌, IsSomeAnd, IsOk, IfOk}
 use Rattle.std.specs.List.{enumerate_from, AllZip}
 use Rattle.std.specs.Option.{option_map}
@@ -11,7 +11,7 @@ use Rattle.import_match.specs.declared.error.LinkError.TheVariants as error
 use Rattle.import_match.specs.declared.error.Mismatch.{Mismatch}
 use Rattle.import_match.specs.Rules.{mismatch}
 use Rattle.import_match.specs.Definitions.{Definition, TwoNames, found}
-use Rattle.import_match.specs.Resolving.{IsAnswer, IsAnswerAt, numbers_of, judged, answer_at, answer_to, answers, with_value, all_values, resolved, IsMatched, IsGiven, IsReached, IsMissing, IsMismatched, AreMatched, AreGiven}
+use Rattle.import_match.specs.Resolving.{IsAnswer, IsAnswerAt, judged, answer_at, answer_to, answers, with_value, all_values, resolved, IsMatched, IsGiven, IsReached, IsMissing, IsMismatched, AreMatched, AreGiven}
 use Rattle.import_match.specs.Refusals.{ComesExactly, IsOutOfMemory}
 
 abbrev pub Answer : Type 0
@@ -25,34 +25,18 @@ Answers = Result (List ℕ) LinkError
 -- what answers to one import say of what was found
 ok-found : (i : ℕ) (want : EntityType) (o : Option (ℕ × EntityType)) (k : ℕ) → answer_at i want o ≡ Ok k
     → IsSomeAnd o (λ (have : ℕ × EntityType). (have.0 ≡ k) × (mismatch have.1 want ≡ None))
-ok-found i want None k e = absurd cc
-ok-found i want (Some have) k e = by (mismatch have.1 want) refl e
-  where
-    by : (m : Option Mismatch) → mismatch have.1 want ≡ m → judged i have.0 m ≡ Ok k → (have.0 ≡ k) × (mismatch have.1 want ≡ None)
-    by None is e' = (cc, is)
-    by (Some x) is e' = absurd cc
+ok-found i want o k e = grind arith
 
 pub missing-found : (i : ℕ) (want : EntityType) (o : Option (ℕ × EntityType)) (j : ℕ) → answer_at i want o ≡ Err (error.Missing j) → (i ≡ j) × (o ≡ None)
-missing-found i want None j e = (cc, refl)
-missing-found i want (Some have) j e = by (mismatch have.1 want) e
-  where
-    by : (m : Option Mismatch) → judged i have.0 m ≡ Err (error.Missing j) → (i ≡ j) × (◌≡◌ {A = Option (ℕ × EntityType)} (Some have) None)
-    by None e' = absurd cc
-    by (Some x) e' = absurd cc
+missing-found i want o j e = grind arith
 
 pub mismatch-found : (i : ℕ) (want : EntityType) (o : Option (ℕ × EntityType)) (j : ℕ) (x : Mismatch) → answer_at i want o ≡ Err (error.Mismatch j x)
     → (i ≡ j) × IsSomeAnd o (λ (have : ℕ × EntityType). mismatch have.1 want ≡ Some x)
-mismatch-found i want None j x e = absurd cc
-mismatch-found i want (Some have) j x e = by (mismatch have.1 want) refl e
-  where
-    by : (m : Option Mismatch) → mismatch have.1 want ≡ m → judged i have.0 m ≡ Err (error.Mismatch j x) → (i ≡ j) × (mismatch have.1 want ≡ Some x)
-    by None is e' = absurd cc
-    by (Some y) is e' = (cc, is ∙ cc)
+mismatch-found i want o j x e = grind arith
 
 pub found-mismatch : (i : ℕ) (want : EntityType) (o : Option (ℕ × EntityType)) (x : Mismatch)
     → IsSomeAnd o (λ (have : ℕ × EntityType). mismatch have.1 want ≡ Some x) → answer_at i want o ≡ Err (error.Mismatch i x)
-found-mismatch i want None x h = absurd h
-found-mismatch i want (Some have) x h = ap (judged i have.0) h
+found-mismatch i want o x h = grind arith
 
 -- only a missing definition or one that does not match is told of an import
 abbrev pub IsOfImport : LinkError → Type 0
@@ -63,15 +47,7 @@ IsOfImport (error.Mismatch i x) = Unit {0}
 IsOfImport error.OutOfMemory = ⊥
 
 pub error-of_import : (i : ℕ) (want : EntityType) (o : Option (ℕ × EntityType)) (e : LinkError) → answer_at i want o ≡ Err e → IsOfImport e
-error-of_import i want None e is = subst IsOfImport (same is) tt
-  where
-    same : ◌≡◌ {A = Answer} (Err (error.Missing i)) (Err e) → error.Missing i ≡ e
-    same h = cc
-error-of_import i want (Some have) e is = by (mismatch have.1 want) is
-  where
-    by : (m : Option Mismatch) → judged i have.0 m ≡ Err e → IsOfImport e
-    by None h = absurd cc
-    by (Some x) h = let same : error.Mismatch i x ≡ e = cc in subst IsOfImport same tt
+error-of_import i want o e is = grind arith
 
 -- ---- imports in order
 
@@ -86,16 +62,13 @@ before_all ks (Ok others) = Ok (ks ++ others)
 before_all ks (Err e) = Err e
 
 one-more : (ks : List ℕ) (k : ℕ) (r : Answers) → before_all (ks ++ k ∷ []) r ≡ before_all ks (with_value k r)
-one-more ks k (Ok others) = ap (λ m. Ok m) (append_assoc ks (k ∷ []) others)
-one-more ks k (Err e) = refl
+one-more ks k r = grind (arith, append_assoc)
 
 -- an item at a place, with its number
 slice_get-enumerate_from : {X : Type 0} (n : ℕ) (xs : List X) (i : ℕ) → slice_get (enumerate_from n xs) i ≡ option_map (λ (x : X). (n + i, x)) (slice_get xs i)
 slice_get-enumerate_from n [] i = refl
 slice_get-enumerate_from {X} n (x ∷ xs) zero = let plus : n ≡ n + 0 = omega arith in ap (λ (m : ℕ). Some (m, x)) plus
-slice_get-enumerate_from {X} n (x ∷ xs) (suc i) =
-    let plus : n + 1 + i ≡ n + suc i = omega arith in
-    slice_get-enumerate_from (n + 1) xs i ∙ ap (λ (m : ℕ). option_map (λ (y : X). (m, y)) (slice_get xs i)) plus
+slice_get-enumerate_from {X} n (x ∷ xs) (suc i) = grind (arith, (slice_get-enumerate_from (n + 1) xs i))
 
 -- what is left of imports, from one on
 left : (ws : List Definition) (i : ℕ) (w : Definition) → slice_get ws i ≡ Some w → drop i ws ≡ w ∷ drop (i + 1) ws
@@ -107,19 +80,10 @@ module _ (ds : List Definition) where
   run n ws = all_values (map (answer_to ds) (enumerate_from n ws))
 
   pub run-cons : (n : ℕ) (w : Definition) (ws : List Definition) → run n (w ∷ ws) ≡ after (answer_to ds (n, w)) (run (n + 1) ws)
-  run-cons n w ws = by (answer_to ds (n, w)) (map (answer_to ds) (enumerate_from (n + 1) ws))
-    where
-      by : (a : Answer) (rs : List Answer) → all_values (a ∷ rs) ≡ after a (all_values rs)
-      by (Ok k) rs = refl
-      by (Err e) rs = refl
+  run-cons n w ws = grind arith
 
   matched-ok : (n : ℕ) (w : Definition) (k : ℕ) → answer_to ds (n, w) ≡ Ok k → IsMatched ds w
-  matched-ok n w k is = by (found ds w.0) (ok-found n w.1 (found ds w.0) k is)
-    where
-      by : (o : Option (ℕ × EntityType)) → IsSomeAnd o (λ (have : ℕ × EntityType). (have.0 ≡ k) × (mismatch have.1 w.1 ≡ None))
-          → IsSomeAnd o (λ (have : ℕ × EntityType). mismatch have.1 w.1 ≡ None)
-      by None h = h
-      by (Some have) h = h.1
+  matched-ok n w k is = grind (arith, ok-found)
 
   ok-matched : (n : ℕ) (w : Definition) → IsMatched ds w → (k : ℕ) × (answer_to ds (n, w) ≡ Ok k)
   ok-matched n w is = by (found ds w.0) is
@@ -130,14 +94,7 @@ module _ (ds : List Definition) where
 
   -- an import that is reached behind one that is matched
   later : (w : Definition) (ws : List Definition) (j : ℕ) (want : Definition) → IsMatched ds w → IsReached ds ws j want → IsReached ds (w ∷ ws) (suc j) want
-  later w ws j want is r = record {
-    at = r.at;
-    before = before;
-  }
-    where
-      before : (i : ℕ) (other : Definition) → i < suc j → slice_get (w ∷ ws) i ≡ Some other → IsMatched ds other
-      before zero other less at = subst (IsMatched ds) (same_Some w other at) is
-      before (suc i) other less at = r.before i other (omega (arith, less)) at
+  later w ws j want is r = grind (arith, same_Some)
 
   -- an import at which the answer is an error is the first such
   pub failed : (n : ℕ) (ws : List Definition) (e : LinkError) → run n ws ≡ Err e
@@ -164,10 +121,7 @@ module _ (ds : List Definition) where
   pub fails : (n : ℕ) (ws : List Definition) (e : LinkError) (j : ℕ) (want : Definition) → IsReached ds ws j want → answer_to ds (n + j, want) ≡ Err e
       → run n ws ≡ Err e
   fails n [] e j want r is = absurd (none-some want r.at)
-  fails n (w ∷ ws) e zero want r is =
-      let zero-more : n + 0 ≡ n = omega arith in
-      let same : w ≡ want = same_Some w want r.at in
-      run-cons n w ws ∙ ap (λ a. after a (run (n + 1) ws)) (ap (λ y. answer_to ds (n, y)) same ∙ ap (λ m. answer_to ds (m, want)) (sym zero-more) ∙ is)
+  fails n (w ∷ ws) e zero want r is = grind (arith, same_Some w want r.at, run-cons n w ws)
   fails n (w ∷ ws) e (suc j) want r is =
       let ok = ok-matched n w (r.before 0 w (omega arith) refl) in
       let more : n + 1 + j ≡ n + suc j = omega arith in
@@ -178,24 +132,11 @@ module _ (ds : List Definition) where
   pub given : (n : ℕ) (ws : List Definition) (ks : List ℕ) → run n ws ≡ Ok ks → AllZip (IsGiven ds) ws ks
   given n [] [] is = tt
   given n [] (k ∷ ks) is = absurd cc
-  given n (w ∷ ws) ks is = by (answer_to ds (n, w)) refl (run (n + 1) ws) ks (sym (run-cons n w ws) ∙ is) (given (n + 1) ws)
-    where
-      by : (a : Answer) → answer_to ds (n, w) ≡ a → (r : Answers) → (all : List ℕ) → after a r ≡ Ok all
-          → ((ys : List ℕ) → r ≡ Ok ys → AllZip (IsGiven ds) ws ys) → AllZip (IsGiven ds) (w ∷ ws) all
-      by (Err x) at r all h tail = absurd cc
-      by (Ok k) at (Err x) all h tail = absurd cc
-      by (Ok k) at (Ok others) [] h tail = absurd cc
-      by (Ok k) at (Ok others) (y ∷ ys) h tail =
-          let first : k ≡ y = cc in
-          let same : others ≡ ys = cc in
-          (ok-found n w.1 (found ds w.0) y (at ∙ ap (λ m. Ok m) first), tail ys (ap (λ m. Ok m) same))
+  given n (w ∷ ws) ks is = grind (arith, run-cons, ok-found, (given (n + 1) ws))
 
   pub all-matched : (n : ℕ) (ws : List Definition) → AreMatched ds ws → (ks : List ℕ) × (run n ws ≡ Ok ks)
   all-matched n [] all = ([], refl)
-  all-matched n (w ∷ ws) all =
-      let ok = ok-matched n w (all 0 w refl) in
-      let rest = all-matched (n + 1) ws (λ i want at. all (suc i) want at) in
-      (ok.0 ∷ rest.0, run-cons n w ws ∙ ap (λ a. after a (run (n + 1) ws)) ok.1 ∙ ap (with_value ok.0) rest.1)
+  all-matched n (w ∷ ws) all = grind (arith, ok-matched n w (all 0 w refl), all-matched (n + 1) ws (λ i want at. all (suc i) want at), run-cons n w ws)
 
   -- ---- the answer to the import at a place
 
@@ -204,36 +145,17 @@ module _ (ds : List Definition) where
   answer-is i names n want t same alike = λ j. answer_at i (alike j) (found ds (same j))
 
   pub answers-at : (ws : List Definition) (i : ℕ) (w : Definition) → slice_get ws i ≡ Some w → slice_get (answers ds ws) i ≡ Some (answer_to ds (i, w))
-  answers-at ws i w at =
-      slice_get-map (answer_to ds) (enumerate_from 0 ws) i
-      ∙ ap (option_map (answer_to ds)) (slice_get-enumerate_from 0 ws i ∙ ap (option_map (λ (y : Definition). (0 + i, y))) at)
-      ∙ ap (λ m. Some (answer_to ds (m, w))) plus
-    where
-      plus : 0 + i ≡ i
-      plus = omega arith
+  answers-at ws i w h4 = grind (arith, slice_get-map, slice_get-enumerate_from)
 
   pub answer-at : (ws : List Definition) (i : ℕ) (r : Answer) → slice_get (answers ds ws) i ≡ Some r
       → (w : Definition) × (slice_get ws i ≡ Some w) × (answer_to ds (i, w) ≡ r)
-  answer-at ws i r is = by (slice_get ws i) refl
-    where
-      by : (o : Option Definition) → slice_get ws i ≡ o → (w : Definition) × (slice_get ws i ≡ Some w) × (answer_to ds (i, w) ≡ r)
-      by None none =
-          let past = slice_get-map (answer_to ds) (enumerate_from 0 ws) i
-          ∙ ap (option_map (answer_to ds)) (slice_get-enumerate_from 0 ws i ∙ ap (option_map (λ (y : Definition). (0 + i, y))) none)
-          in
-          absurd (none-some r (sym past ∙ is))
-      by (Some w) at = (w, at, same_Some (answer_to ds (i, w)) r (sym (answers-at ws i w at) ∙ is))
+  answer-at ws i r is = grind (arith, slice_get-map, slice_get-enumerate_from, none-some, same_Some, answers-at)
 
   -- an error in it is of an import
   pub answer-at-of_import : (ws : List Definition) (i : ℕ) (r : Answer) → IsAnswerAt r ds ws i → (e : LinkError) → (e ≡ error.OutOfMemory → ⊥) → r ≡ Err e
       → IsOfImport e
-  answer-at-of_import ws i r (inl none) e other is = absurd (other (same_error (sym is ∙ none)))
-    where
-      same_error : ◌≡◌ {A = Answer} (Err e) (Err error.OutOfMemory) → e ≡ error.OutOfMemory
-      same_error h = cc
-  answer-at-of_import ws i r (inr told) e other is =
-      let a = answer-at ws i r told in
-      error-of_import i a.0.1 (found ds a.0.0) e (a.2 ∙ is)
+  answer-at-of_import ws i r (inl none) e other is = grind arith
+  answer-at-of_import ws i r (inr told) e other is = grind (arith, answer-at, told, error-of_import)
 
   -- ---- the import at a place, once those before it were answered
   module _ (ws : List Definition) (i : ℕ) (ks : List ℕ) (is : before_all ks (run i (drop i ws)) ≡ run 0 ws) where
@@ -261,9 +183,7 @@ Found = Result (Vec ℕ Global) LinkError
 
 module _ (ds wants : List Definition) where
   pub answer-given : (r : Found) → IsAnswer r (resolved ds wants) → IfOk r (λ v. AreGiven ds wants v.items)
-  answer-given (Ok v) (inl none) = absurd cc
-  answer-given (Ok v) (inr is) = given ds 0 wants v.items (sym is)
-  answer-given (Err e) a = tt
+  answer-given r a = grind (arith, given)
 
   pub answer-complete : (r : Found) → IsAnswer r (resolved ds wants) → AreMatched ds wants → IsOk r ⊎ IsOutOfMemory r
   answer-complete (Ok v) a matched = inl refl
@@ -272,23 +192,13 @@ module _ (ds wants : List Definition) where
 
   -- an error is told exactly where it is the answer, unless there is no memory
   told : (r : Found) → IsAnswer r (resolved ds wants) → (e : LinkError) → (e ≡ error.OutOfMemory → ⊥) → r ≡ Err e → resolved ds wants ≡ Err e
-  told r (inl none) e other is = let same : e ≡ error.OutOfMemory = same_error (sym is ∙ none) in absurd (other same)
-    where
-      same_error : ◌≡◌ {A = Found} (Err e) (Err error.OutOfMemory) → e ≡ error.OutOfMemory
-      same_error h = cc
-  told r (inr found) e other is = sym found ∙ ap numbers_of is
+  told r h2 e other is = grind arith
 
   tells : (r : Found) → IsAnswer r (resolved ds wants) → (e : LinkError) → resolved ds wants ≡ Err e → (r ≡ Err e) ⊎ (r ≡ Err error.OutOfMemory)
-  tells r (inl none) e is = inr none
-  tells (Ok v) (inr found) e is = absurd cc
-  tells (Err x) (inr found) e is = let same : x ≡ e = cc in inl (ap (λ y. Err y) same)
+  tells r h2 e is = grind arith
 
   missing-is : (i : ℕ) → resolved ds wants ≡ Err (error.Missing i) → IsMissing ds wants i
-  missing-is i is =
-      let f = failed ds 0 wants (error.Missing i) is in
-      let at = missing-found (0 + f.0) f.1.1 (found ds f.1.0) i f.3 in
-      let place : f.0 ≡ i = omega (arith, at.0) in
-      record { want = f.1; reached = subst (λ m. IsReached ds wants m f.1) place f.2; missing = at.1 }
+  missing-is i is = grind (arith, failed, missing-found)
 
   is-missing : (i : ℕ) → IsMissing ds wants i → resolved ds wants ≡ Err (error.Missing i)
   is-missing i m =
@@ -297,17 +207,10 @@ module _ (ds wants : List Definition) where
       (ap (answer_at (0 + i) m.want.1) m.missing ∙ ap (λ k. Err (error.Missing k)) place)
 
   mismatch-is : (i : ℕ) (x : Mismatch) → resolved ds wants ≡ Err (error.Mismatch i x) → IsMismatched ds wants i x
-  mismatch-is i x is =
-      let f = failed ds 0 wants (error.Mismatch i x) is in
-      let at = mismatch-found (0 + f.0) f.1.1 (found ds f.1.0) i x f.3 in
-      let place : f.0 ≡ i = omega (arith, at.0) in
-      record { want = f.1; reached = subst (λ m. IsReached ds wants m f.1) place f.2; broken = at.1 }
+  mismatch-is i x is = grind (arith, failed, mismatch-found)
 
   is-mismatch : (i : ℕ) (x : Mismatch) → IsMismatched ds wants i x → resolved ds wants ≡ Err (error.Mismatch i x)
-  is-mismatch i x m =
-      let place : 0 + i ≡ i = omega arith in
-      fails ds 0 wants (error.Mismatch i x) i m.want m.reached
-      (found-mismatch (0 + i) m.want.1 (found ds m.want.0) x m.broken ∙ ap (λ k. Err (error.Mismatch k x)) place)
+  is-mismatch i x m = grind (arith, fails, found-mismatch (0 + i) m.want.1 (found ds m.want.0) x m.broken)
 
   pub answer-missing : (r : Found) → IsAnswer r (resolved ds wants) → (i : ℕ) → ComesExactly r (error.Missing i) (IsMissing ds wants i)
   answer-missing r a i = record {
@@ -322,6 +225,4 @@ module _ (ds wants : List Definition) where
   }
 
   pub answer-of_import : (r : Found) → IsAnswer r (resolved ds wants) → (e : LinkError) → (e ≡ error.OutOfMemory → ⊥) → r ≡ Err e → IsOfImport e
-  answer-of_import r a e other is =
-      let f = failed ds 0 wants e (told r a e other is) in
-      error-of_import (0 + f.0) f.1.1 (found ds f.1.0) e f.3
+  answer-of_import r a e other is = grind (arith, failed, told, error-of_import)

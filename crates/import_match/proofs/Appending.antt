@@ -19,9 +19,7 @@ module _ (x : Definition) (rest : List Definition) (once : AreOnce (x ∷ rest))
 
   -- a later one has other names
   other-names : (j : ℕ) (d : Definition) → slice_get rest j ≡ Some d → names_eq d.0 x.0 ≡ false
-  other-names j d at = false_from_ne_true (names_eq d.0 x.0) (λ e.
-      let one : suc j ≡ 0 = once (suc j) 0 d x at refl (equal-names d.0 x.0 e) in
-      omega (arith, one))
+  other-names j d at = grind (arith, false_from_ne_true, equal-names, once (suc j) 0 d x)
 
   -- the later ones stay new once the first is defined
   pub new-rest : (ds : List Definition) → All (IsNew ds) (x ∷ rest) → All (IsNew (ds ++ x ∷ [])) rest
@@ -38,11 +36,7 @@ at-push : {X : Type 0} (xs : List X) (x y : X) (i : ℕ) → slice_get (xs ++ x 
 at-push [] x y zero at = inr (refl, same_Some x y at)
 at-push [] x y (suc i) at = absurd (none-some y at)
 at-push (z ∷ xs) x y zero at = inl at
-at-push (z ∷ xs) x y (suc i) at =
-    elim (at-push xs x y i at) [
-      | inl before ↦ inl before
-      | inr last ↦ inr (ap suc last.0, last.1)
-    ]
+at-push (z ∷ xs) x y (suc i) at = grind (arith, (at-push xs x y i at))
 
 -- one more under new names stands once too
 pub once-push : (ds : List Definition) (x : Definition) → AreOnce ds → IsNew ds x → AreOnce (ds ++ x ∷ [])

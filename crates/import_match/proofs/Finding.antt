@@ -12,39 +12,23 @@ use Rattle.import_match.specs.Definitions.{Definition, TwoNames, names_eq, found
 pub absent : (k : ℕ) (ds : List Definition) (n : TwoNames) → ((i : ℕ) (d : Definition) → slice_get ds i ≡ Some d → names_eq n d.0 ≡ false)
     → found_from k ds n ≡ None
 absent k [] n none = refl
-absent k (x ∷ ds) n none =
-    ap (λ b. if b then Some (k, x.1) else found_from (k + 1) ds n) (none 0 x refl)
-    ∙ absent (k + 1) ds n (λ i d at. none (suc i) d at)
+absent k (x ∷ ds) n none = grind (arith, none 0 x refl, absent (k + 1) ds n (λ i d at. none (suc i) d at))
 
 pub none-has : (k : ℕ) (ds : List Definition) (n : TwoNames) → found_from k ds n ≡ None → (i : ℕ) (d : Definition) → slice_get ds i ≡ Some d → names_eq n d.0 ≡ false
 none-has k [] n none i d at = absurd (none-some d at)
-none-has k (x ∷ ds) n none zero d at =
-    let same = same_Some x d at in
-    let equal = cases_Bool (names_eq n x.0) in
-    grind arith
-none-has k (x ∷ ds) n none (suc i) d at =
-    let equal = cases_Bool (names_eq n x.0) in
-    let rest : found_from (k + 1) ds n ≡ None = grind arith in
-    none-has (k + 1) ds n rest i d at
+none-has k (x ∷ ds) n none zero d at = grind (arith, same_Some, cases_Bool)
+none-has k (x ∷ ds) n none (suc i) d at = grind (arith, cases_Bool, (none-has (k + 1) ds n))
 
 pub none-append : (k : ℕ) (ds es : List Definition) (n : TwoNames) → found_from k ds n ≡ None
     → ((j : ℕ) (d : Definition) → slice_get es j ≡ Some d → names_eq n d.0 ≡ false) → found_from k (ds ++ es) n ≡ None
 none-append k [] es n none others = absent k es n others
-none-append k (x ∷ ds) es n none others =
-    let rest : found_from (k + 1) ds n ≡ None → found_from (k + 1) (ds ++ es) n ≡ None = (λ e. none-append (k + 1) ds es n e others) in
-    let equal = cases_Bool (names_eq n x.0) in
-    grind arith
+none-append k (x ∷ ds) es n none others = grind (arith, cases_Bool, (none-append (k + 1) ds es n))
 
 -- one more definition is found where none before it is
 pub found-last : (k : ℕ) (ds : List Definition) (d : Definition) (n : TwoNames) → found_from k ds n ≡ None → names_eq n d.0 ≡ true
     → found_from k (ds ++ d ∷ []) n ≡ Some (k + length ds, d.1)
 found-last k [] d n none test = let plus : k ≡ k + 0 = omega arith in ap (λ b. if b then Some (k, d.1) else None) test ∙ ap (λ (m : ℕ). Some (m, d.1)) plus
-found-last k (x ∷ ds) d n none test =
-    let plus : k + 1 + length ds ≡ k + suc (length ds) = omega arith in
-    let rest : found_from (k + 1) ds n ≡ None → found_from (k + 1) (ds ++ d ∷ []) n ≡ Some (k + suc (length ds), d.1) =
-    (λ e. found-last (k + 1) ds d n e test ∙ ap (λ (m : ℕ). Some (m, d.1)) plus) in
-    let equal = cases_Bool (names_eq n x.0) in
-    grind arith
+found-last k (x ∷ ds) d n none test = grind (arith, cases_Bool, (found-last (k + 1) ds d n))
 
 -- under other names it changes nothing
 pub found-others : (k : ℕ) (ds : List Definition) (d : Definition) (n : TwoNames) → names_eq n d.0 ≡ false

@@ -1,5 +1,5 @@
 -- The one definition under two names.
-use Rattle.std.proofs.Common.{◌≡◌, ◌↔◌, ◌<◌, ◌+◌, ◌∙◌, ℕ, zero, suc, Bool, true, false, List, [], ◌∷◌, slice_get, Some, refl, sym, ap, subst, arith, if◌then◌else◌}
+use Rattle.std.proofs.Common.{◌≡◌, ◌↔◌, ◌<◌, ◌+◌, ℕ, zero, suc, Bool, true, false, List, [], ◌∷◌, slice_get, Some, refl, sym, ap, arith, if◌then◌else◌}
 use Rattle.std.proofs.lemmas.Option.{none-some, same_Some}
 use Rattle.std.proofs.lemmas.Bool.{cases_Bool}
 use Rattle.wasm_types.specs.declared.entity.EntityType.{EntityType}
@@ -27,11 +27,7 @@ found-stands k (x ∷ ds) n p t is = by (names_eq n x.0) refl is (found-stands (
 stands-found : (k : ℕ) (ds : List Definition) (n : TwoNames) (i : ℕ) (t : EntityType) → slice_get ds i ≡ Some (n, t)
     → ((j : ℕ) (d : Definition) → j < i → slice_get ds j ≡ Some d → d.0 ≡ n → ⊥) → found_from k ds n ≡ Some (k + i, t)
 stands-found k [] n i t at before = absurd (none-some (n, t) at)
-stands-found k (x ∷ ds) n zero t at before =
-    let pair = same_Some x (n, t) at in
-    let test = names-equal n x.0 (sym (ap (λ (d : Definition). d.0) pair)) in
-    let plus : k ≡ k + 0 = omega arith in
-    ap (λ b. if b then Some (k, x.1) else found_from (k + 1) ds n) test ∙ (λ j. Some (plus j, (pair j).1))
+stands-found k (x ∷ ds) n zero t at before = grind (arith, names-equal, same_Some x (n, t))
 stands-found k (x ∷ ds) n (suc i) t at before =
     let rest = stands-found (k + 1) ds n i t at (λ j d less here. before (suc j) d (omega (arith, less)) here) in
     let plus : k + 1 + i ≡ k + suc i = omega arith in
@@ -40,13 +36,4 @@ stands-found k (x ∷ ds) n (suc i) t at before =
     grind arith
 
 pub found-once : (ds : List Definition) → AreOnce ds → (n : TwoNames) (i : ℕ) (t : EntityType) → (found ds n ≡ Some (i, t)) ↔ (slice_get ds i ≡ Some (n, t))
-found-once ds once n i t = (
-  λ is.
-      let s = found-stands 0 ds n i t is in
-      let place : s.0 ≡ i = omega (arith, s.1) in
-      subst (λ m. slice_get ds m ≡ Some (n, t)) place s.2,
-  λ at.
-      let plus : 0 + i ≡ i = omega arith in
-      stands-found 0 ds n i t at (λ j d less here same. let one : j ≡ i = once j i d (n, t) here at same in absurd (omega (arith, less, one)))
-      ∙ ap (λ m. Some (m, t)) plus,
-)
+found-once ds once n i t = grind (arith, found-stands, stands-found)

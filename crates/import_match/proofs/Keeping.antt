@@ -1,5 +1,5 @@
 -- Definitions that are kept in a map by their names, where one more goes in.
-use Rattle.std.proofs.Common.{◌≡◌, ◌∙◌, ◌<◌, ◌+◌, ℕ, Bool, true, false, List, [], ◌∷◌, ◌++◌, length, map, All, Some, None, refl, sym, ap, subst, arith}
+use Rattle.std.proofs.Common.{◌≡◌, ◌∙◌, ◌<◌, ◌+◌, ℕ, List, [], ◌∷◌, ◌++◌, length, All, Some, None, refl, sym, ap, subst, arith}
 use Rattle.std.specs.Prelude.{cond, filter}
 use Rattle.std.specs.BTreeMap.{is_at, insert_entry}
 use Rattle.std.specs.Map.{lookup}
@@ -10,7 +10,7 @@ use Rattle.std.proofs.lemmas.Bool.{lt-ltb, false_from_ne_true, both_ways}
 use Rattle.import_match.specs.declared.names.Names.{Names}
 use Rattle.import_match.specs.contracts.names.NamesOrd.TheImpl as ordered
 use Rattle.wasm_types.specs.declared.entity.EntityType.{EntityType}
-use Rattle.import_match.specs.Definitions.{Definition, names_of, names_eq, found, AreOnce}
+use Rattle.import_match.specs.Definitions.{Definition, names_of, found, AreOnce}
 use Rattle.import_match.specs.Kept.{Entry, by_number, entry_definition, in_order, is_below, AreKept}
 use Rattle.import_match.proofs.Appending.{once-push}
 use Rattle.import_match.proofs.Finding.{found-last, found-others}
@@ -31,27 +31,11 @@ module _ (es : List Entry) (kept : AreKept es) (k : Names) (t : EntityType) (new
   new-key = kept.finds k ∙ new
 
   pub listed : in_order grown ≡ in_order es ++ d ∷ []
-  listed =
-      ap (map entry_definition) (insert-last ordered.ghosts.cmp k (length es, t) es new-key kept.numbers)
-      ∙ map_push entry_definition (by_number es) (k, (length es, t))
+  listed = grind (arith, insert-last, new-key, map_push)
 
   finds-grown : (q : Names) → cond (is_eq (ordered.ghosts.cmp k q)) (Some (length es, t)) (lookup (is_at (ordered.ghosts.cmp q)) es)
       ≡ found (in_order es ++ d ∷ []) (names_of q)
-  finds-grown q = by (names_eq (names_of k) (names_of q)) refl
-    where
-      by : (b : Bool) → names_eq (names_of k) (names_of q) ≡ b
-          → cond (is_eq (ordered.ghosts.cmp k q)) (Some (length es, t)) (lookup (is_at (ordered.ghosts.cmp q)) es) ≡ found (in_order es ++ d ∷ []) (names_of q)
-      by true test =
-          let same = equal-names (names_of k) (names_of q) test in
-          let size : 0 + length (in_order es) ≡ length es = omega (arith, length-in_order es) in
-          ap (λ b. cond b (Some (length es, t)) (lookup (is_at (ordered.ghosts.cmp q)) es)) (order-eq k q ∙ test)
-          ∙ ap (λ (m : ℕ). Some (m, t)) (sym size)
-          ∙ sym (found-last 0 (in_order es) d (names_of q) (ap (found (in_order es)) (sym same) ∙ new) (names-equal (names_of q) (names_of k) (sym same)))
-      by false test =
-          ap (λ b. cond b (Some (length es, t)) (lookup (is_at (ordered.ghosts.cmp q)) es)) (order-eq k q ∙ test)
-          ∙ kept.finds q
-          ∙ sym (found-others 0 (in_order es) d (names_of q) (false_from_ne_true (names_eq (names_of q) (names_of k)) (λ e.
-          both_ways (names_eq (names_of k) (names_of q)) test (names-equal (names_of k) (names_of q) (sym (equal-names (names_of q) (names_of k) e))))))
+  finds-grown q = grind (arith, equal-names, length-in_order, order-eq, found-last, names-equal, found-others, false_from_ne_true, both_ways)
 
   -- the map with one more, as the call tells of it
   pub kept-grown : (after : List Entry) → after ≡ grown → length after ≡ length es + 1
@@ -72,6 +56,4 @@ module _ (es : List Entry) (kept : AreKept es) (k : Names) (t : EntityType) (new
 -- all have smaller numbers than the count
 pub below-all : (n : ℕ) (es : List Entry) → All (λ (e : Entry). e.1.0 < n) es → filter (is_below n) es ≡ es
 below-all n [] all = refl
-below-all n (e ∷ es) all =
-    ap (λ b. cond b (e ∷ filter (is_below n) es) (filter (is_below n) es)) (lt-ltb e.1.0 n (All-head (λ (x : Entry). x.1.0 < n) e es all))
-    ∙ ap (λ xs. e ∷ xs) (below-all n es (All-tail (λ (x : Entry). x.1.0 < n) e es all))
+below-all n (e ∷ es) all = grind (arith, lt-ltb e.1.0 n (All-head (λ (x : Entry). x.1.0 < n) e es all), below-all n es (All-tail (λ (x : Entry). x.1.0 < n) e es all))

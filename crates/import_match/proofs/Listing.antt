@@ -1,7 +1,7 @@
 -- Definitions that are read off the lists of a module.
-use Rattle.std.proofs.Common.{◌≡◌, ◌<◌, ℕ, zero, suc, Bool, true, List, [], ◌∷◌, length, map, slice_get, get_or, All, Option, Some, None, refl, sym, ap, subst, ◌∙◌, inl, inr, true≢false}
+use Rattle.std.proofs.Common.{◌≡◌, ◌<◌, ℕ, Bool, true, List, [], ◌∷◌, length, map, slice_get, get_or, All, Option, Some, refl, sym, subst, ◌∙◌, inl, inr, true≢false, arith}
 use Rattle.std.specs.Prelude.{IsSome, option_and_then}
-use Rattle.std.specs.List.{filter_map, cons_option, IsDistinct}
+use Rattle.std.specs.List.{filter_map, IsDistinct}
 use Rattle.std.specs.Option.{option_map}
 use Rattle.std.proofs.lemmas.Bool.{cases_order}
 use Rattle.std.proofs.lemmas.Option.{none-some, same_Some, slice_get-map, slice_get-get_or, slice_get_within, get_or_from_slice_get}
@@ -10,30 +10,17 @@ use Rattle.std.proofs.lemmas.Map.Keys.{apart_from_distinct}
 
 -- an option that has a value
 pub value_of : {A : Type 0} (o : Option A) → IsSome o → (x : A) × (o ≡ Some x)
-value_of None h = absurd (true≢false (sym h))
-value_of (Some x) h = (x, refl)
+value_of o h = grind arith
 
 module _ {X Y : Type 0} (f : X → Option Y) where
   -- where all items give one, each gives the one at its place
   pub slice_get-filter_map : (xs : List X) → All (λ x. IsSome (f x)) xs → (k : ℕ) → slice_get (filter_map f xs) k ≡ option_and_then f (slice_get xs k)
   slice_get-filter_map [] all k = refl
-  slice_get-filter_map (x ∷ xs) all k =
-      by (f x) (All-head (λ y. IsSome (f y)) x xs all) k refl (slice_get-filter_map xs (All-tail (λ y. IsSome (f y)) x xs all))
-    where
-      by : (o : Option Y) → IsSome o → (i : ℕ) → f x ≡ o → ((j : ℕ) → slice_get (filter_map f xs) j ≡ option_and_then f (slice_get xs j))
-          → slice_get (cons_option o (filter_map f xs)) i ≡ option_and_then f (slice_get (x ∷ xs) i)
-      by None h i is rest = absurd (true≢false (sym h))
-      by (Some y) h zero is rest = sym is
-      by (Some y) h (suc i) is rest = rest i
+  slice_get-filter_map (x ∷ xs) all k = grind (arith, All-head (λ y. IsSome (f y)) x xs all, slice_get-filter_map xs (All-tail (λ y. IsSome (f y)) x xs all))
 
   pub length-filter_map : (xs : List X) → All (λ x. IsSome (f x)) xs → length (filter_map f xs) ≡ length xs
   length-filter_map [] all = refl
-  length-filter_map (x ∷ xs) all =
-      by (f x) (All-head (λ y. IsSome (f y)) x xs all) (length-filter_map xs (All-tail (λ y. IsSome (f y)) x xs all))
-    where
-      by : (o : Option Y) → IsSome o → length (filter_map f xs) ≡ length xs → length (cons_option o (filter_map f xs)) ≡ suc (length xs)
-      by None h rest = absurd (true≢false (sym h))
-      by (Some y) h rest = ap suc rest
+  length-filter_map (x ∷ xs) all = grind (arith, All-head (λ y. IsSome (f y)) x xs all, length-filter_map xs (All-tail (λ y. IsSome (f y)) x xs all))
 
 -- what holds of each item holds of the one at a place
 pub All-slice_get : {X : Type 0} (P : X → Type 0) (xs : List X) (i : ℕ) (x : X) → All P xs → slice_get xs i ≡ Some x → P x
@@ -45,8 +32,7 @@ All-from_slice_get P xs each = λ k d less. each k (get_or xs k d) (slice_get-ge
 
 -- an option that is mapped to a value
 pub mapped : {X Y : Type 0} (f : X → Y) (o : Option X) (y : Y) → option_map f o ≡ Some y → (x : X) × (o ≡ Some x) × (f x ≡ y)
-mapped f None y is = absurd (none-some y is)
-mapped f (Some x) y is = (x, refl, same_Some (f x) y is)
+mapped f o y is = grind (arith, none-some, same_Some)
 
 -- the item at a place of a mapped list comes from the item there
 pub slice_get-from_map : {X Y : Type 0} (f : X → Y) (xs : List X) (i : ℕ) (y : Y) → slice_get (map f xs) i ≡ Some y

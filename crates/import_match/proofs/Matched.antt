@@ -1,14 +1,11 @@
 -- Rules that all hold, and what the types are like then.
-use Rattle.std.proofs.Common.{◌≡◌, ◌↔◌, ◌∙◌, ℕ, Bool, true, false, List, [], ◌∷◌, Option, Some, None, refl, sym, ap, true≢false, eq-eqb}
+use Rattle.std.proofs.Common.{◌≡◌, ◌↔◌, ◌∙◌, ℕ, true, false, List, [], ◌∷◌, Option, None, refl, sym, ap, eq-eqb, arith}
 use Rattle.std.specs.List.{AllByRecursion}
-use Rattle.std.specs.Cmp.{booleans_Decides}
 use Rattle.std.proofs.lemmas.Bool.{eqb-true, leb-true, le-leb}
 use Rattle.std.proofs.lemmas.Option.{none-some, same_Some}
 use Rattle.wasm_types.specs.declared.entity.EntityType.{EntityType}
-use Rattle.wasm_types.specs.declared.entity.EntityType.TheVariants as entity
 use Rattle.wasm_types.specs.declared.index.EngineOrModuleTypeIndex.{EngineOrModuleTypeIndex}
 use Rattle.wasm_types.specs.declared.limits.IndexType.{IndexType}
-use Rattle.wasm_types.specs.declared.limits.IndexType.TheVariants.{I32, I64}
 use Rattle.wasm_types.specs.declared.value.WasmRefType.{WasmRefType}
 use Rattle.wasm_types.specs.declared.value.WasmValType.{WasmValType}
 use Rattle.wasm_types.specs.declared.value.WasmValType.TheVariants.{Ref}
@@ -38,11 +35,7 @@ AllHold rs = AllByRecursion (λ (r : Rule). r.0 ≡ true) rs
 
 holds : (rs : List Rule) → first_broken rs ≡ None → AllHold rs
 holds [] e = tt
-holds (r ∷ rs) e = by r.0 refl (holds rs)
-  where
-    by : (b : Bool) → r.0 ≡ b → (first_broken rs ≡ None → AllHold rs) → AllHold (r ∷ rs)
-    by true is rest = (is, rest (sym (ap (λ c. first_broken ((c, r.1) ∷ rs)) is) ∙ e))
-    by false is rest = absurd (none-some r.1 (sym e ∙ ap (λ c. first_broken ((c, r.1) ∷ rs)) is))
+holds (r ∷ rs) e = grind (arith, none-some, (holds rs))
 
 unbroken : (rs : List Rule) → AllHold rs → first_broken rs ≡ None
 unbroken [] all = refl
@@ -54,10 +47,7 @@ reference-sound : Sound references.ghosts.eq
 reference-sound a b same = same_Some a b (ap ref_in (value-sound (Ref a) (Ref b) same))
 
 index_type-sound : Sound index_types.ghosts.eq
-index_type-sound I32 I32 same = refl
-index_type-sound I64 I64 same = refl
-index_type-sound I32 I64 same = absurd (true≢false (sym same))
-index_type-sound I64 I32 same = absurd (true≢false (sym same))
+index_type-sound h1 h2 same = grind arith
 
 same-index : (a b : EngineOrModuleTypeIndex) → (indices.ghosts.eq a b ≡ true) ↔ (a ≡ b)
 same-index = decides indices.ghosts.eq index-sound indices_equal.laws-law.refl
@@ -72,10 +62,7 @@ same-value : (a b : WasmValType) → (values.ghosts.eq a b ≡ true) ↔ (a ≡ 
 same-value = decides values.ghosts.eq value-sound values_equal.laws-law.refl
 
 within : (have want : Option ℕ) → (is_within have want ≡ true) ↔ IsWithin have want
-within None None = (λ e. tt, λ h. refl)
-within (Some have) None = (λ e. tt, λ h. refl)
-within None (Some want) = (λ e. true≢false (sym e), λ h. absurd h)
-within (Some have) (Some want) = (leb-true have want, le-leb have want)
+within have want = grind (arith, leb-true, le-leb)
 
 -- ---- kinds
 
@@ -83,72 +70,28 @@ function : (a b : EngineOrModuleTypeIndex) → (first_broken (function_rules a b
 function a b = (λ e. (same-index a b).0 (holds (function_rules a b) e).0, λ h. unbroken (function_rules a b) ((same-index a b).1 h, tt))
 
 tag : (a b : Tag) → (first_broken (tag_rules a b) ≡ None) ↔ (a.signature ≡ b.signature)
-tag a b = (
-  λ e. (same-index a.signature b.signature).0 (holds (tag_rules a b) e).0,
-  λ h. unbroken (tag_rules a b) ((same-index a.signature b.signature).1 h, tt),
-)
+tag a b = grind (arith, same-index, holds, unbroken)
 
 table-holds : (a b : Table) → first_broken (table_rules a b) ≡ None → TableMatches a b
-table-holds a b e =
-    let all = holds (table_rules a b) e in
-    record {
-      element = (same-reference a.ref_type b.ref_type).0 all.0;
-      index_type = (same-index_type a.idx_type b.idx_type).0 all.1.0;
-      sizes = record { min = leb-true b.limits.min a.limits.min all.1.1.0; max = (within a.limits.max b.limits.max).0 all.1.1.1.0 };
-    }
+table-holds a b e = grind (arith, leb-true, holds (table_rules a b) e, same-reference a.ref_type b.ref_type, same-index_type a.idx_type b.idx_type, within a.limits.max b.limits.max)
 
 table-matches : (a b : Table) → TableMatches a b → first_broken (table_rules a b) ≡ None
-table-matches a b m =
-    unbroken (table_rules a b) (
-      (same-reference a.ref_type b.ref_type).1 m.element,
-      (
-        (same-index_type a.idx_type b.idx_type).1 m.index_type,
-        (le-leb b.limits.min a.limits.min m.sizes.min, ((within a.limits.max b.limits.max).1 m.sizes.max, tt)),
-      ),
-    )
+table-matches a b m = grind (arith, unbroken, same-reference, same-index_type, le-leb, within)
 
 memory-holds : (a b : Memory) → first_broken (memory_rules a b) ≡ None → MemoryMatches a b
-memory-holds a b e =
-    let all = holds (memory_rules a b) e in
-    record {
-      index_type = (same-index_type a.idx_type b.idx_type).0 all.0;
-      shared = (booleans_Decides a.shared b.shared).0 all.1.0;
-      page = eqb-true a.page_size_log2 b.page_size_log2 all.1.1.0;
-      sizes = record { min = leb-true b.limits.min a.limits.min all.1.1.1.0; max = (within a.limits.max b.limits.max).0 all.1.1.1.1.0 };
-    }
+memory-holds a b e = grind (arith, holds, same-index_type, eqb-true, leb-true, within)
 
 memory-matches : (a b : Memory) → MemoryMatches a b → first_broken (memory_rules a b) ≡ None
-memory-matches a b m =
-    unbroken (memory_rules a b) (
-      (same-index_type a.idx_type b.idx_type).1 m.index_type,
-      (
-        (booleans_Decides a.shared b.shared).1 m.shared,
-        (
-          eq-eqb a.page_size_log2 b.page_size_log2 m.page,
-          (le-leb b.limits.min a.limits.min m.sizes.min, ((within a.limits.max b.limits.max).1 m.sizes.max, tt)),
-        ),
-      ),
-    )
+memory-matches a b m = grind (arith, unbroken, same-index_type, eq-eqb, le-leb, within)
 
 global-holds : (a b : Global) → first_broken (global_rules a b) ≡ None → GlobalMatches a b
-global-holds a b e =
-    let all = holds (global_rules a b) e in
-    record {
-      mutability = (booleans_Decides a.mutability b.mutability).0 all.0;
-      type = (same-value a.wasm_ty b.wasm_ty).0 all.1.0;
-    }
+global-holds a b e = grind (arith, holds (global_rules a b) e, same-value a.wasm_ty b.wasm_ty)
 
 global-matches : (a b : Global) → GlobalMatches a b → first_broken (global_rules a b) ≡ None
-global-matches a b m =
-    unbroken (global_rules a b) ((booleans_Decides a.mutability b.mutability).1 m.mutability, ((same-value a.wasm_ty b.wasm_ty).1 m.type, tt))
+global-matches a b m = grind (arith, unbroken, same-value)
 
 other : (first_broken ((false, rule.Kind) ∷ []) ≡ None) ↔ ⊥
 other = (λ e. none-some rule.Kind (sym e), λ h. absurd h)
 
 pub matching : (have want : EntityType) → (mismatch have want ≡ None) ↔ Matches have want
-matching (entity.Function a) (entity.Function b) = function a b
-matching (entity.Table a) (entity.Table b) = (table-holds a b, table-matches a b)
-matching (entity.Memory a) (entity.Memory b) = (memory-holds a b, memory-matches a b)
-matching (entity.Global a) (entity.Global b) = (global-holds a b, global-matches a b)
-matching (entity.Tag a) (entity.Tag b) = tag a b
-matching _ _ = other
+matching have want = grind (arith, function, table-holds, table-matches, memory-holds, memory-matches, global-holds, global-matches, tag, other)

@@ -1,7 +1,7 @@
 -- The types that what a module exports and imports names are among those that the module names.
-use Rattle.std.proofs.Common.{◌≡◌, ◌∙◌, ℕ, List, [], ◌∷◌, ◌++◌, map, slice_get, All, Option, Some, None, refl, ap, subst}
+use Rattle.std.proofs.Common.{◌≡◌, ◌∙◌, ℕ, List, [], ◌∷◌, ◌++◌, map, slice_get, All, Option, Some, None, refl, sym, ap, subst, arith}
 use Rattle.std.specs.Prelude.{option_and_then}
-use Rattle.std.specs.List.{filter_map, flat_map, cons_option}
+use Rattle.std.specs.List.{filter_map, flat_map}
 use Rattle.std.specs.Option.{option_map}
 use Rattle.std.proofs.lemmas.Option.{none-some, same_Some, slice_get-map}
 use Rattle.std.proofs.lemmas.List.Elements.{All-nil, All-cons, All-map}
@@ -16,7 +16,6 @@ use Rattle.wasm_types.specs.declared.entity.EntityType.TheVariants as entity
 use Rattle.wasm_types.specs.declared.table.Table.{Table}
 use Rattle.wasm_types.specs.declared.global.Global.{Global}
 use Rattle.wasm_types.specs.declared.tag.Tag.{Tag}
-use Rattle.wasm_types.specs.declared.memory.Memory.{Memory}
 use Rattle.wasm_types.specs.EntityData.{table_edges, global_edges, tag_edges}
 use Rattle.wasm_types.specs.EntityViews.{table_of, global_of, tag_of}
 use Rattle.wasm_module.specs.declared.function.FunctionType.{FunctionType}
@@ -36,24 +35,22 @@ use Rattle.import_match.specs.ModuleTypes.{types_of}
 use Rattle.import_match.proofs.Linked.{Import, want_of}
 use Rattle.import_match.proofs.Listing.{mapped, All-slice_get}
 
-all-left : {X : Type 0} (P : X → Type 0) (xs ys : List X) → All P (xs ++ ys) → All P xs
-all-left P xs ys all = ((All-joined P xs ys).0 all).0
-
-all-right : {X : Type 0} (P : X → Type 0) (xs ys : List X) → All P (xs ++ ys) → All P ys
-all-right P xs ys all = ((All-joined P xs ys).0 all).1
-
 -- what holds of all that items give holds of what the item at a place gives
 all-at : {X Y : Type 0} (P : Y → Type 0) (f : X → List Y) (xs : List X) (i : ℕ) (x : X) → All P (flat_map f xs) → slice_get xs i ≡ Some x → All P (f x)
 all-at P f xs i x all at = All-slice_get (λ y. All P (f y)) xs i x ((All-parts P f xs).0 all) at
 
+-- the types that entities of a kind name are those of the list of that kind
+entity-at : {X Y : Type 0} (P : EngineOrModuleTypeIndex → Type 0) (f : X → EntityType) (view : X → Y) (edges : Y → List EngineOrModuleTypeIndex) (xs : List X) (i : ℕ) (t : EntityType)
+    → ((x : X) → types_in (f x) ≡ edges (view x)) → All P (flat_map edges (map view xs)) → option_map f (slice_get xs i) ≡ Some t → All P (types_in t)
+entity-at P f view edges xs i t same all is =
+    let x = mapped f (slice_get xs i) t is in
+    subst (λ u. All P (types_in u)) x.2
+    (subst (All P) (sym (same x.0)) (all-at P edges (map view xs) i (view x.0) all (slice_get-map view xs i ∙ ap (option_map view) x.1)))
+
 -- what holds of each value that an item gives holds of all
 all-given : {X Y : Type 0} (P : Y → Type 0) (f : X → Option Y) → ((x : X) (y : Y) → f x ≡ Some y → P y) → (xs : List X) → All P (filter_map f xs)
 all-given P f each [] = All-nil P
-all-given {Y = Y} P f each (x ∷ xs) = by (f x) refl (all-given P f each xs)
-  where
-    by : (o : Option Y) → f x ≡ o → All P (filter_map f xs) → All P (cons_option o (filter_map f xs))
-    by None is rest = rest
-    by (Some y) is rest = All-cons P y (filter_map f xs) (each x y is) rest
+all-given {Y = Y} P f each (x ∷ xs) = grind (arith, All-cons, (all-given P f each xs))
 
 abbrev Types : Type 0
 Types = List EngineOrModuleTypeIndex
@@ -79,46 +76,22 @@ module _ (m : Record) where
   after_tags = startup_edges (startup_of m.startup)
 
 module _ (P : EngineOrModuleTypeIndex → Type 0) (m : Record) (all : All P (types_of m)) where
-  after_spaces : All P (functions m ++ (tables m ++ (globals m ++ (tags m ++ after_tags m))))
-  after_spaces = all-right P (spaces m) (functions m ++ (tables m ++ (globals m ++ (tags m ++ after_tags m)))) all
-
-  after_functions : All P (tables m ++ (globals m ++ (tags m ++ after_tags m)))
-  after_functions = all-right P (functions m) (tables m ++ (globals m ++ (tags m ++ after_tags m))) after_spaces
-
-  after_tables : All P (globals m ++ (tags m ++ after_tags m))
-  after_tables = all-right P (tables m) (globals m ++ (tags m ++ after_tags m)) after_functions
-
-  after_globals : All P (tags m ++ after_tags m)
-  after_globals = all-right P (globals m) (tags m ++ after_tags m) after_tables
+  each : All P (functions m) × All P (tables m) × All P (globals m) × All P (tags m)
+  each =
+      let ends = tags m ++ after_tags m in
+      let a = ((All-joined P (spaces m) (functions m ++ (tables m ++ (globals m ++ ends)))).0 all).1 in
+      let b = (All-joined P (functions m) (tables m ++ (globals m ++ ends))).0 a in
+      let c = (All-joined P (tables m) (globals m ++ ends)).0 b.1 in
+      let d = (All-joined P (globals m) ends).0 c.1 in
+      (b.0, c.0, d.0, ((All-joined P (tags m) (after_tags m)).0 d.1).0)
 
   -- the types that an entity of the module names
   pub entity-types : (e : EntityIndex) (t : EntityType) → entity_type (record_of m) e ≡ Some t → All P (types_in t)
-  entity-types (index.Function i) t is =
-      let x = mapped (λ (f : FunctionType). entity.Function f.signature) (slice_get m.functions (number_of i)) t is in
-      subst (λ u. All P (types_in u)) x.2
-      (all-at P (λ (f : FunctionData EngineOrModuleTypeIndex). f.signature ∷ []) (map function_of m.functions) (number_of i) (function_of x.0)
-      (all-left P (functions m) (tables m ++ (globals m ++ (tags m ++ after_tags m))) after_spaces)
-      (slice_get-map function_of m.functions (number_of i) ∙ ap (option_map function_of) x.1))
-  entity-types (index.Table i) t is =
-      let x = mapped (λ (y : Table). entity.Table y) (slice_get m.tables (number_of i)) t is in
-      subst (λ u. All P (types_in u)) x.2
-      (all-at P (table_edges index_in) (map table_of m.tables) (number_of i) (table_of x.0)
-      (all-left P (tables m) (globals m ++ (tags m ++ after_tags m)) after_functions)
-      (slice_get-map table_of m.tables (number_of i) ∙ ap (option_map table_of) x.1))
-  entity-types (index.Memory i) t is =
-      let x = mapped (λ (y : Memory). entity.Memory y) (slice_get m.memories (number_of i)) t is in
-      subst (λ u. All P (types_in u)) x.2 (All-nil P)
-  entity-types (index.Global i) t is =
-      let x = mapped (λ (y : Global). entity.Global y) (slice_get m.globals (number_of i)) t is in
-      subst (λ u. All P (types_in u)) x.2
-      (all-at P (global_edges index_in) (map global_of m.globals) (number_of i) (global_of x.0)
-      (all-left P (globals m) (tags m ++ after_tags m) after_tables)
-      (slice_get-map global_of m.globals (number_of i) ∙ ap (option_map global_of) x.1))
-  entity-types (index.Tag i) t is =
-      let x = mapped (λ (y : Tag). entity.Tag y) (slice_get m.tags (number_of i)) t is in
-      subst (λ u. All P (types_in u)) x.2
-      (all-at P tag_edges (map tag_of m.tags) (number_of i) (tag_of x.0) (all-left P (tags m) (after_tags m) after_globals)
-      (slice_get-map tag_of m.tags (number_of i) ∙ ap (option_map tag_of) x.1))
+  entity-types (index.Function i) t is = entity-at P (λ (f : FunctionType). entity.Function f.signature) function_of (λ f. f.signature ∷ []) m.functions (number_of i) t (λ x. refl) each.0 is
+  entity-types (index.Table i) t is = entity-at P (λ (y : Table). entity.Table y) table_of (table_edges index_in) m.tables (number_of i) t (λ x. refl) each.1 is
+  entity-types (index.Memory i) t is = grind (arith, mapped, All-nil)
+  entity-types (index.Global i) t is = entity-at P (λ (y : Global). entity.Global y) global_of (global_edges index_in) m.globals (number_of i) t (λ x. refl) each.2 is
+  entity-types (index.Tag i) t is = entity-at P (λ (y : Tag). entity.Tag y) tag_of tag_edges m.tags (number_of i) t (λ x. refl) each.3 is
 
   abbrev NamesOwn : Definition → Type 0
   NamesOwn d = All P (types_in d.1)

@@ -1,11 +1,10 @@
 -- Two names.
-use Rattle.std.proofs.Common.{◌≡◌, ◌∙◌, Bool, true, false, refl, sym, ap, ◌&&◌}
+use Rattle.std.proofs.Common.{◌≡◌, ◌∙◌, Bool, true, false, refl, sym, ap, ◌&&◌, arith}
 use Rattle.std.specs.Ordering.{is_eq, ordering_then, nat_cmp}
 use Rattle.std.specs.Cmp.{tied_then, nat_cmp_is}
 use Rattle.std.specs.declared.cmp.Ordering.{Ordering}
 use Rattle.std.specs.declared.cmp.Ordering.TheVariants.{Equal}
 use Rattle.std.specs.Cmp.Lexicographic.{slice_cmp}
-use Rattle.std.specs.Str.{bytes_eq}
 use Rattle.std.proofs.lemmas.Bool.{and_from, and_parts}
 use Rattle.std.proofs.lemmas.Slice.Eq.{bytes_eq-Decides}
 use Rattle.std.proofs.lemmas.Map.Text.{is_eq-slice_cmp}
@@ -15,16 +14,10 @@ use Rattle.import_match.specs.Digest.{digest_of}
 use Rattle.import_match.specs.Definitions.{TwoNames, names_of, names_eq}
 
 pub names-equal : (a b : TwoNames) → a ≡ b → names_eq a b ≡ true
-names-equal a b same =
-    and_from (bytes_eq a.0 b.0) (bytes_eq a.1 b.1) ((bytes_eq-Decides a.0 b.0).1 (ap (λ (n : TwoNames). n.0) same))
-    ((bytes_eq-Decides a.1 b.1).1 (ap (λ (n : TwoNames). n.1) same))
+names-equal a b same = grind (arith, and_from, bytes_eq-Decides)
 
 pub equal-names : (a b : TwoNames) → names_eq a b ≡ true → a ≡ b
-equal-names a b e =
-    let both = and_parts (bytes_eq a.0 b.0) (bytes_eq a.1 b.1) e in
-    let from = (bytes_eq-Decides a.0 b.0).0 both.0 in
-    let own = (bytes_eq-Decides a.1 b.1).0 both.1 in
-    λ i. (from i, own i)
+equal-names a b e = grind (arith, and_parts, bytes_eq-Decides)
 
 -- the order of names is equal exactly at equal names, which have one digest
 pub order-eq : (a b : Names) → is_eq (ordered.ghosts.cmp a b) ≡ names_eq (names_of a) (names_of b)

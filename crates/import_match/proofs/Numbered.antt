@@ -1,11 +1,10 @@
 -- Entries of a map in the order of their numbers.
-use Rattle.std.proofs.Common.{◌≡◌, ◌∙◌, ◌<◌, ℕ, suc, Bool, false, List, [], ◌∷◌, ◌++◌, length, All, Some, None, refl, sym, ap, arith, if◌then◌else◌}
+use Rattle.std.proofs.Common.{◌≡◌, ◌∙◌, ◌<◌, ℕ, suc, Bool, false, List, [], ◌∷◌, ◌++◌, length, All, Some, None, refl, ap, arith, if◌then◌else◌}
 use Rattle.std.specs.Prelude.{nat_le, filter, cond}
 use Rattle.std.specs.BTreeMap.{is_at, insert_entry}
 use Rattle.std.specs.Map.{lookup}
 use Rattle.std.specs.Ordering.{is_eq, match_ordering}
 use Rattle.std.specs.declared.cmp.Ordering.{Ordering}
-use Rattle.std.specs.declared.cmp.Ordering.TheVariants.{Less, Equal, Greater}
 use Rattle.std.proofs.lemmas.Bool.{le-leb, lt-leb, cond_both}
 use Rattle.std.proofs.lemmas.Option.{none-some}
 use Rattle.std.proofs.lemmas.List.Elements.{All-cons, All-head, All-tail}
@@ -17,9 +16,7 @@ use Rattle.import_match.specs.Kept.{Entry, put, by_number}
 -- behind those with smaller numbers
 put-last : (e : Entry) (xs : List Entry) → All (λ (x : Entry). x.1.0 < e.1.0) xs → put e xs ≡ xs ++ e ∷ []
 put-last e [] all = refl
-put-last e (x ∷ xs) all =
-    ap (λ b. if b then e ∷ x ∷ xs else x ∷ put e xs) (lt-leb e.1.0 x.1.0 (All-head (λ (y : Entry). y.1.0 < e.1.0) x xs all))
-    ∙ ap (λ ys. x ∷ ys) (put-last e xs (All-tail (λ (y : Entry). y.1.0 < e.1.0) x xs all))
+put-last e (x ∷ xs) all = grind (arith, lt-leb e.1.0 x.1.0 (All-head (λ (y : Entry). y.1.0 < e.1.0) x xs all), put-last e xs (All-tail (λ (y : Entry). y.1.0 < e.1.0) x xs all))
 
 -- before a last one with a greater number
 put-push : (e n : Entry) (xs : List Entry) → e.1.0 < n.1.0 → put e (xs ++ n ∷ []) ≡ put e xs ++ n ∷ []
@@ -61,9 +58,7 @@ module _ (cmp : Names → Names → Ordering) (k : Names) (v : ℕ × EntityType
 
     -- what holds where it goes before, and behind where it holds of the others, holds
     by-order : (Q : List Entry → Type 0) → Q ((k, v) ∷ e ∷ es) → (IsNewIn es → Q (e ∷ insert_entry cmp es k v)) → (o : Ordering) → Seen o → Q (inserted o)
-    by-order Q first behind Less new = first
-    by-order Q first behind Equal new = absurd (none-some e.1 (sym new))
-    by-order Q first behind Greater new = behind new
+    by-order Q first behind o new = grind (arith, none-some)
 
   pub insert-last : (es : List Entry) → IsNewIn es → All (λ (e : Entry). e.1.0 < v.0) es → by_number (insert_entry cmp es k v) ≡ by_number es ++ (k, v) ∷ []
   insert-last [] new all = refl
@@ -76,11 +71,7 @@ module _ (cmp : Names → Names → Ordering) (k : Names) (v : ℕ × EntityType
 
   pub insert-filter : (p : Entry → Bool) → p (k, v) ≡ false → (es : List Entry) → IsNewIn es → filter p (insert_entry cmp es k v) ≡ filter p es
   insert-filter p out [] new = ap (λ b. cond b ((k, v) ∷ []) []) out
-  insert-filter p out (e ∷ es) new =
-      by-order e es (λ l. filter p l ≡ filter p (e ∷ es))
-      (ap (λ b. cond b ((k, v) ∷ filter p (e ∷ es)) (filter p (e ∷ es))) out)
-      (λ later. ap (λ xs. cond (p e) (e ∷ xs) xs) (insert-filter p out es later))
-      (cmp k e.0) new
+  insert-filter p out (e ∷ es) new = grind (arith, by-order, (insert-filter p out es))
 
   pub insert-All : (P : Entry → Type 0) → P (k, v) → (es : List Entry) → IsNewIn es → All P es → All P (insert_entry cmp es k v)
   insert-All P holds [] new all = All-cons P (k, v) [] holds all
