@@ -1,5 +1,4 @@
 -- What is answered to imports, one after another.
-use Rattle.std.proofs.lemmas.Grind.{common_steps}
 use Rattle.std.proofs.Common.{◌≡◌, ◌≤◌, ◌+◌, ℕ, zero, suc, List, [], ◌∷◌, ◌++◌, length, map, drop, slice_get, Option, Some, None, Result, Ok, Err, Vec, Global, refl, sym, ap, ◌∙◌, inl, inr, arith}
 use Rattle.std.specs.Prelude.{◌⊎◌, IsSomeAnd, IsOk, IfOk}
 use Rattle.std.specs.List.{enumerate_from, AllZip}
@@ -122,11 +121,13 @@ module _ (ds : List Definition) where
   pub fails : (n : ℕ) (ws : List Definition) (e : LinkError) (j : ℕ) (want : Definition) → IsReached ds ws j want → answer_to ds (n + j, want) ≡ Err e
       → run n ws ≡ Err e
   fails n [] e j want r is = absurd (none-some want r.at)
-  fails n (w ∷ ws) e zero want r is =
-      let zero-more : n + 0 ≡ n = omega arith in
-      let same : w ≡ want = same_Some w want r.at in
-      run-cons n w ws ∙ ap (λ a. after a (run (n + 1) ws)) (ap (λ y. answer_to ds (n, y)) same ∙ ap (λ m. answer_to ds (m, want)) (sym zero-more) ∙ is)
-  fails n (w ∷ ws) e (suc j) want r is = grind (arith, common_steps, ok-matched n w (r.before 0 w (omega arith) refl), run-cons n w ws)
+  fails n (w ∷ ws) e zero want r is = grind (arith, same_Some w want r.at, run-cons n w ws)
+  fails n (w ∷ ws) e (suc j) want r is =
+      let ok = ok-matched n w (r.before 0 w (omega arith) refl) in
+      let more : n + 1 + j ≡ n + suc j = omega arith in
+      let rest = fails (n + 1) ws e j want (record { at = r.at; before = λ i other less at. r.before (suc i) other (omega (arith, less)) at })
+      (ap (λ m. answer_to ds (m, want)) more ∙ is) in
+      run-cons n w ws ∙ ap (λ a. after a (run (n + 1) ws)) ok.1 ∙ ap (with_value ok.0) rest
 
   pub given : (n : ℕ) (ws : List Definition) (ks : List ℕ) → run n ws ≡ Ok ks → AllZip (IsGiven ds) ws ks
   given n [] [] is = tt
