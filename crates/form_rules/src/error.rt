@@ -3,6 +3,7 @@
 ghost use Rattle.std.specs.Prelude.{◌≡◌};
 ghost use Rattle.form_rules.specs.declared.error.CheckError.TheVariants as checks;
 
+use entity_map::OutOfMemory;
 use rule_spec::Rule;
 use std::alloc::AllocError;
 
@@ -19,6 +20,14 @@ impl From<AllocError> for CheckError {
     ghost from_gives = { λ _ e. e ≡ checks.OutOfMemory };
 
     fn from(_e: AllocError) -> CheckError {
+        CheckError::OutOfMemory
+    }
+}
+
+impl From<OutOfMemory> for CheckError {
+    ghost from_gives = { λ _ e. e ≡ checks.OutOfMemory };
+
+    fn from(_e: OutOfMemory) -> CheckError {
         CheckError::OutOfMemory
     }
 }

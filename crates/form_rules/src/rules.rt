@@ -5,11 +5,12 @@ ghost use Rattle.wasm_spec.specs.Module.{groups};
 ghost use Rattle.rule_spec.specs.declared.rules.Rule.{Rule};
 ghost use Rattle.form_data.specs.Views.{module_of};
 ghost use Rattle.rule_spec.specs.Lists.{declared_groups, lists_of_module};
-ghost use Rattle.rule_spec.specs.Rules.{Satisfies, Keeps, KeepsBefore};
+ghost use Rattle.rule_spec.specs.Rules.{AreDistinct, Satisfies, Keeps, KeepsBefore};
 ghost use Rattle.form_lists.specs.Source.{source_module};
 ghost use Rattle.form_lists.specs.Views.{declared_of, lists_of};
 ghost use Rattle.form_typing.specs.Defaults.{defaults as defaults_of_types};
 ghost use Rattle.form_rules.specs.Walked.{AreElementsWalked, AreGlobalsWalked};
+ghost use Rattle.form_rules.specs.Names.{exported_names};
 ghost use Rattle.form_rules.specs.Outcomes.{ChecksOrNoMemory, HasGlobals};
 
 use crate::counts::counts_agree;
@@ -19,10 +20,12 @@ use crate::exports::exports_hold;
 use crate::globals::{GlobalsKeep, walk_globals};
 use crate::indices::indices_hold;
 use crate::limits::limits_hold;
+use crate::names::pool_of_exports;
 use crate::references::references_hold;
 use crate::start::starts_hold;
 use crate::tables::initialisers_hold;
 use crate::type_rules::{types_are_named, types_hold};
+use entity_map::StringPool;
 use form_data::Form;
 use form_lists::{Declared, Lists, Source, gather_lists, types_of_form};
 use form_typing::{expressions_hold, struct_defaults};
@@ -60,7 +63,7 @@ pub fn check(alloc: Global, form: &Form<'_>) -> Result<(), CheckError>
     Ok(())
 }
 
-/// The lists of a module that keeps the listed rules, whose declared types were gathered before.
+/// The lists of a module that keeps the listed rules, and the pool of the names of its exports, in order. The declared types were gathered before.
 ///
 /// # Errors
 /// Those of `check`.
@@ -68,10 +71,11 @@ pub fn checked_lists<'f, 'd>(
     alloc: Global,
     source: Source<'f, 'd>,
     types: Vec<Declared<'f>>,
-) -> Result<Lists<'f, 'd>, CheckError>
+) -> Result<(Lists<'f, 'd>, StringPool), CheckError>
     requires { map declared_of types.items ≡ declared_groups 0 (groups (source_module source)) }
-    ensures lists { IfOk result (λ l. lists_of l ≡ lists_of_module (source_module source.entry)) }
-    ensures of_source { IfOk result (λ l. l.source ≡ source.entry) }
+    ensures lists { IfOk result (λ r. lists_of r.0 ≡ lists_of_module (source_module source.entry)) }
+    ensures of_source { IfOk result (λ r. r.0.source ≡ source.entry) }
+    ensures names { IfOk result (λ r. r.1 ≡ exported_names (lists_of_module (source_module source.entry)).exports) }
     ensures kept { OnOk result (Keeps (source_module source.entry)) }
     ensures broken { (rule : Rule) → result ≡ Err (CheckError.Invalid rule) → ¬ Satisfies rule (lists_of_module (source_module source.entry)) }
     ensures first { (rule : Rule) → result ≡ Err (CheckError.Invalid rule) → KeepsBefore rule (source_module source.entry) }
@@ -81,15 +85,20 @@ pub fn checked_lists<'f, 'd>(
     let defaults = struct_defaults(alloc, &lists)?;
     let globals = walk_globals(alloc, &lists, &defaults)?;
     let elements = walk_elements(alloc, &lists, &defaults)?;
+    let names = pool_of_exports(alloc, source)?;
+    let distinct = names.is_some();
     for rule in RULES {
-        if !keeps(alloc, rule, &lists, &defaults, globals, elements)? {
+        if !keeps(alloc, rule, &lists, &defaults, globals, elements, distinct)? {
             return Err(CheckError::Invalid(rule));
         }
     }
-    Ok(lists)
+    match names {
+        Some(names) => Ok((lists, names)),
+        None => unreachable!(),
+    }
 }
 
-/// What is asked of globals and of element segments was asked before, of all of them by one walk.
+/// What is asked of globals, of element segments and of the names of exports was asked before, of all of them by one walk.
 fn keeps(
     alloc: Global,
     rule: Rule,
@@ -97,11 +106,13 @@ fn keeps(
     defaults: &[bool],
     globals: GlobalsKeep,
     elements: ElementsKeep,
+    distinct: bool,
 ) -> Result<bool, AllocError>
     requires counted { HasGlobals (lists_of lists.now) }
     requires noted { defaults.now ≡ defaults_of_types (lists_of lists.now) }
     requires globals { AreGlobalsWalked (lists_of lists.now) globals }
     requires elements { AreElementsWalked (lists_of lists.now) elements }
+    requires distinct { IsTrue distinct ↔ AreDistinct (lists_of lists.now).exports }
     ensures { IfOk result (λ kept. IsTrue kept ↔ Satisfies rule (lists_of lists.now)) }
 {
     match rule {
@@ -111,7 +122,7 @@ fn keeps(
         Rule::L4 => Ok(limits_hold(lists)),
         Rule::L5 => Ok(initialisers_hold(lists)),
         Rule::L6 => expressions_hold(alloc, lists, defaults, globals.typed, elements.typed),
-        Rule::L7 => exports_hold(alloc, lists),
+        Rule::L7 => Ok(exports_hold(lists, distinct)),
         Rule::L8 => Ok(starts_hold(lists)),
         Rule::L9 => Ok(indices_hold(lists, elements.in_range)),
         Rule::L10 => Ok(references_hold(lists, globals.refer, elements.refer)),

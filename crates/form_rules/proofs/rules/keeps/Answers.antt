@@ -12,11 +12,6 @@ returns-in-L6 c =
     let P : Rule → Type 0 = λ r. IfOk c.expressions_hold.result (λ (kept : Bool). IsTrue kept ↔ Satisfies r (lists_of c.args.lists.now)) in
     subst P (sym c.in-L6.is) c.expressions_hold.ensures
 
-pub returns-in-L7 : goal.returns-in-L7
-returns-in-L7 c =
-    let P : Rule → Type 0 = λ r. IfOk c.exports_hold.result (λ (kept : Bool). IsTrue kept ↔ Satisfies r (lists_of c.args.lists.now)) in
-    subst P (sym c.in-L7.is) c.exports_hold.ensures
-
 pub references_hold-requires-clause-globals : goal.references_hold-requires-clause-globals
 references_hold-requires-clause-globals c =
     subst (λ (types : ℕ). IsTrue c.args.globals.refer ↔ All (GlobalRefersIn types) (lists_of c.args.lists.now).globals)

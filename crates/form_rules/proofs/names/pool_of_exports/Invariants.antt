@@ -4,7 +4,7 @@ use Rattle.form_data.specs.Views.{export_of}
 use Rattle.form_lists.specs.Source.{source_module}
 use Rattle.form_lists.specs.Sections.{entries_left}
 use Rattle.form_rules.proofs.ExportNames.{Gathers}
-use Rattle.form_rules.proofs.exports.names_are_distinct.Given as goal
+use Rattle.form_rules.proofs.names.pool_of_exports.Given as goal
 
 abbrev pub invariant-loop-export : goal.invariant-loop-export
-invariant-loop-export l = Gathers l.names (entries_left export_of exports_of_section l.export-iterator) (flat_map exports_of_section (source_module l.lists.source))
+invariant-loop-export l = Gathers l.pool (entries_left export_of exports_of_section l.export-iterator) (flat_map exports_of_section (source_module l.source))

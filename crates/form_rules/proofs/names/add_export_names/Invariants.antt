@@ -5,10 +5,10 @@ use Rattle.wasm_spec.specs.Module.{exports_of_section}
 use Rattle.form_data.specs.Views.{export_of}
 use Rattle.form_lists.specs.Source.{source_module}
 use Rattle.form_lists.specs.Sections.{entries_left}
-use Rattle.form_rules.specs.Names.{names_of}
-use Rattle.form_rules.proofs.exports.seed_of_names.Given as goal
+use Rattle.form_rules.specs.Names.{exported_names}
+use Rattle.form_rules.proofs.names.add_export_names.Given as goal
 
 -- the names that are left are still to be taken
 abbrev pub invariant-loop-export : goal.invariant-loop-export
-invariant-loop-export l = fold sip.write l.digest (names_of (entries_left export_of exports_of_section l.export-iterator))
-    ≡ fold sip.write sip.initial (names_of (flat_map exports_of_section (source_module l.lists.source)))
+invariant-loop-export l = fold sip.write l.digest (exported_names (entries_left export_of exports_of_section l.export-iterator))
+    ≡ fold sip.write l.initial.digest (exported_names (flat_map exports_of_section (source_module l.source)))
