@@ -18,7 +18,10 @@ pub record CanExport (functions : ℕ) (e : Export) : Type 0 where
   pub index : e.index < reserved_number
   pub function : IfSome (exported_function e.kind e.index) (λ f. f < functions)
 
--- what these exports became, in order; their names are in the pool
-pub record AreEntered (exports : List Export) (texts : List (List ℕ)) (entries : List (Atom × EntityIndex)) : Type 0 where
-  pub entities : map (resolved_export texts) entries ≡ exported_entities exports
-  pub pooled : All (λ e. HasText texts e.0) entries
+-- what exports become, of which the first has this place: their names are the first texts of the pool, in order, so the atom of each is its place
+abbrev pub entered_from : ℕ → List Export → List (Atom × EntityIndex)
+entered_from place [] = []
+entered_from place (e ∷ es) = (record { 0 = place }, entity_at e.kind e.index) ∷ entered_from (place + 1) es
+
+abbrev pub entered : List Export → List (Atom × EntityIndex)
+entered exports = entered_from 0 exports

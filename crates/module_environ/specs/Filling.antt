@@ -46,7 +46,7 @@ pub record LooksUpTypes (m : plain.Module) (known : UnpackedIndex → Type 0) (l
 pub record FillsEntities (m : plain.Module) (old new : Module) : Type 0 where
   pub imports : map (resolved_import new.strings) new.initializers.items ≡ imported_entities m
   pub pooled : All (HasTexts new.strings) new.initializers.items
-  pub texts : new.strings ≡ with_texts [] (imported_names m)
+  pub texts : new.strings ≡ with_texts (exported_names (lists_of_module m).exports) (imported_names m)
   pub counts : CountsImports m new
   pub tables : map table_of new.tables ≡ tables_data m
   pub memories : new.memories ≡ map memory_of (plain.memories m)
@@ -76,9 +76,8 @@ references_of l =
 
 -- exports, first values and segments are filled in, and their references noted
 pub record FillsInitialisers (m : plain.Module) (before after : EscapeLog) (old new : ModuleTranslation) : Type 0 where
-  pub exports : map (resolved_export new.module.strings) new.module.exports.entries ≡ exported_entities (lists_of_module m).exports
-  pub texts : new.module.strings ≡ with_texts old.module.strings (exported_names (lists_of_module m).exports)
-  pub pooled : All (λ e. HasText new.module.strings e.0) new.module.exports.entries
+  pub exports : map (resolved_export old.module.strings) new.module.exports.entries ≡ exported_entities (lists_of_module m).exports
+  pub pooled : All (λ e. HasText old.module.strings e.0) new.module.exports.entries
   pub globals : HasGlobals m new
   pub elements : HasElements m new
   pub unprocessed : IsUnprocessed new.memory_init
@@ -87,7 +86,6 @@ pub record FillsInitialisers (m : plain.Module) (before after : EscapeLog) (old 
   pub noted : after ≡ after_escapes before (references_of (lists_of_module m))
   pub same : new ≡ record old {
     «module» = record old.module {
-      strings = new.module.strings;
       exports = new.module.exports;
       table_initialization = new.module.table_initialization;
       passive_elements = new.module.passive_elements;

@@ -20,7 +20,6 @@ pub mod Forming
 pub mod FirstGlobals
 pub mod Worked
 pub mod Pooled
-pub mod Seeds
 pub mod Imported
 pub mod Exported
 pub mod Metadata

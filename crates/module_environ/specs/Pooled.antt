@@ -1,11 +1,11 @@
 -- The pool of a record: the texts of its names, each once.
-use Rattle.std.specs.Prelude.{◌<◌, ℕ, Bool, List, [], ◌∷◌, ◌++◌, length, map}
-use Rattle.std.specs.List.{flat_map, cons_option, fold}
+use Rattle.std.specs.Prelude.{◌<◌, ℕ, Bool, List, [], ◌++◌, length}
+use Rattle.std.specs.List.{cons_option, fold}
 use Rattle.entity_map.specs.Pool.{atom_number, with_text}
 use Rattle.entity_map.specs.declared.pool.Atom.{Atom}
-use Rattle.wasm_spec.specs.Module.{Import, Export}
 use Rattle.wasm_spec.specs.Module as plain
 use Rattle.rule_spec.specs.Lists.{lists_of_module}
+use Rattle.form_rules.specs.Names.{imported_names, exported_names}
 use Rattle.wasm_module.specs.declared.initializer.Initializer.{Initializer}
 use Rattle.wasm_module.specs.declared.initializer.Initializer.TheVariants as initializer
 use Rattle.module_customs.specs.Names.{module_names}
@@ -14,23 +14,13 @@ use Rattle.module_customs.specs.Names.{module_names}
 abbrev pub with_texts : List (List ℕ) → List (List ℕ) → List (List ℕ)
 with_texts texts more = fold with_text texts more
 
--- an import is named by the module from which it comes, and by its own name
-abbrev pub import_names : Import → List (List ℕ)
-import_names i = i.space ∷ i.name ∷ []
-
-abbrev pub imported_names : plain.Module → List (List ℕ)
-imported_names m = flat_map import_names (plain.imports m)
-
-abbrev pub exported_names : List Export → List (List ℕ)
-exported_names exports = map (λ (e : Export). e.name) exports
-
 -- the name of the module, where it has one
 abbrev pub own_name : Bool → plain.Module → List (List ℕ)
 own_name native m = cons_option (module_names native m).module_name []
 
--- the names of imports, of exports and of the module, each at its first place
+-- the names of exports, which are distinct, and those of imports and of the module, each where it first occurs
 abbrev pub pool_of : Bool → plain.Module → List (List ℕ)
-pool_of native m = with_texts [] (imported_names m ++ exported_names (lists_of_module m).exports ++ own_name native m)
+pool_of native m = with_texts (exported_names (lists_of_module m).exports) (imported_names m ++ own_name native m)
 
 -- a text stands at the atom
 abbrev pub HasText : List (List ℕ) → Atom → Type 0

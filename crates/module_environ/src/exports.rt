@@ -1,49 +1,46 @@
 //! What a module exports.
 
-ghost use Rattle.std.specs.Prelude.{◌≡◌, ◌-◌, ◌<◌, ◌^◌, ◌++◌, ◌∷◌, [], List, length, map, All, IfOk, OnOk};
+ghost use Rattle.std.specs.Prelude.{◌≡◌, ℕ, ◌<◌, ◌++◌, ◌∷◌, [], List, length, map, All, IfOk, OnOk};
 ghost use Rattle.std.specs.List.{flat_map};
 ghost use Rattle.wasm_spec.specs.Module.{exports_of_section, HasFewEntries};
 ghost use Rattle.wasm_spec.specs.Module as plain;
 ghost use Rattle.form_data.specs.Views.{export_of};
 ghost use Rattle.form_lists.specs.Source.{source_module};
-ghost use Rattle.rule_spec.specs.Rules.{AreDistinct};
+ghost use Rattle.form_rules.specs.Names.{exported_names};
 ghost use Rattle.module_environ.specs.Entities.{entity_at, exported_entities, resolved_export};
-ghost use Rattle.module_environ.specs.Exported.{CanExport, AreEntered, exported_functions};
+ghost use Rattle.module_environ.specs.Exported.{CanExport, entered, exported_functions};
 ghost use Rattle.module_environ.specs.EscapeLog.{after_escapes};
-ghost use Rattle.entity_map.specs.Pool.{with_text};
-ghost use Rattle.module_environ.specs.Pooled.{with_texts, exported_names, HasText};
+ghost use Rattle.module_environ.specs.Pooled.{HasText};
 
 use crate::escapes::Escaping;
 use entity_map::{Atom, EntityRef, OutOfMemory, StringPool};
 use form_data::Export;
-use form_lists::{Entry, Source, entries_in, entries_of, sections_of};
+use form_lists::{Source, entries_in, entries_of, sections_of};
 use indexmap::IndexMap;
 use std::alloc::Global;
 use wasm_index::{FuncIndex, GlobalIndex, MemoryIndex, TableIndex, TagIndex};
 use wasm_spec::ExternalKind;
 use wasm_types::EntityIndex;
 
-/// What is exported, in order; the names go into the pool, and exported functions are noted.
+/// What is exported, in order; exported functions are noted. The names are the first texts of the pool.
 pub(crate) fn convert_exports(
     alloc: Global,
     source: Source<'_, '_>,
-    strings: &mut StringPool,
+    strings: &StringPool,
     escaping: &mut Escaping,
 ) -> Result<IndexMap<Atom, EntityIndex>, OutOfMemory>
     requires few { HasFewEntries (source_module source) }
-    requires room { length strings.old < 2 ^ 31 }
-    requires distinct { AreDistinct (flat_map exports_of_section (source_module source)) }
+    requires names { (others : List (List ℕ)) × (strings.now ≡ exported_names (flat_map exports_of_section (source_module source)) ++ others) }
     requires in_range { All (CanExport escaping.old.count) (flat_map exports_of_section (source_module source)) }
-    ensures exports { IfOk result (λ es. map (resolved_export strings.new) es.entries
+    ensures exports { IfOk result (λ es. map (resolved_export strings.now) es.entries
         ≡ exported_entities (flat_map exports_of_section (source_module source.entry))) }
     ensures noted { OnOk result (escaping.new
         ≡ after_escapes escaping.old (exported_functions (flat_map exports_of_section (source_module source.entry)))) }
-    ensures pool { OnOk result (strings.new ≡ with_texts strings.old (exported_names (flat_map exports_of_section (source_module source.entry)))) }
-    ensures pooled { IfOk result (λ es. All (λ e. HasText strings.new e.0) es.entries) }
+    ensures pooled { IfOk result (λ es. All (λ e. HasText strings.now e.0) es.entries) }
 {
     // An atom is a number of our own, which no name chooses: the map needs no seed.
     let mut exports = IndexMap::new(alloc);
-    exports.reserve(count_entries::<Export<'_>>(source))?;
+    exports.reserve(count_exports(source))?;
     for export in entries_of::<Export<'_>>(source) {
         add_export(&mut exports, strings, export)?;
         note_function(escaping, export)?;
@@ -51,28 +48,27 @@ pub(crate) fn convert_exports(
     Ok(exports)
 }
 
-/// How many entries of one kind the sections list, which is the room that they take.
-pub(crate) fn count_entries<'d, E: Entry<'d>>(source: Source<'_, 'd>) -> usize {
+/// How many exports the sections list, which is the room that they take.
+fn count_exports(source: Source<'_, '_>) -> usize {
     let mut count: usize = 0;
     for section in sections_of(source) {
-        count = count.saturating_add(entries_in::<E>(section).len());
+        count = count.saturating_add(entries_in::<Export<'_>>(section).len());
     }
     count
 }
 
-/// Adds an export to those before.
+/// Adds an export to those before, under the atom of its place.
 fn add_export(
     entries: &mut IndexMap<Atom, EntityIndex>,
-    strings: &mut StringPool,
+    strings: &StringPool,
     export: &Export<'_>,
 ) -> Result<(), OutOfMemory>
-    requires room { length strings.old < u32.MAX - 1 }
+    requires room { length entries.old.entries < length strings.now }
     requires in_range { export.now.index < u32.MAX }
-    ensures pool { OnOk result (strings.new ≡ with_text strings.old export.now.name.now) }
-    ensures entered { OnOk result ((before : List plain.Export) → AreEntered before strings.old entries.old.entries
-        → AreDistinct (before ++ export_of export.now ∷ []) → AreEntered (before ++ export_of export.now ∷ []) strings.new entries.new.entries) }
+    ensures { OnOk result ((before : List plain.Export) → entries.old.entries ≡ entered before
+        → entries.new.entries ≡ entered (before ++ export_of export.now ∷ [])) }
 {
-    let name = strings.insert(export.name)?;
+    let name = strings.atom(entries.len());
     entries.insert(name, exported_entity(export))?;
     Ok(())
 }

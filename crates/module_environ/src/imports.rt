@@ -1,22 +1,19 @@
 //! What a module imports.
 
 ghost use Rattle.std.specs.Prelude.{◌≡◌, ◌+◌, ◌-◌, ◌<◌, [], length, map, All, IfOk, OnOk};
-ghost use Rattle.std.specs.Hash.DefaultHasher as sip;
-ghost use Rattle.std.specs.List.{flat_map, fold};
 ghost use Rattle.wasm_spec.specs.Module as plain;
 ghost use Rattle.wasm_spec.specs.Module.{HasFewEntries};
-ghost use Rattle.form_data.specs.Views.{import_of, export_of};
-ghost use Rattle.form_lists.specs.Source.{source_module, sections_in};
+ghost use Rattle.form_data.specs.Views.{import_of};
+ghost use Rattle.form_lists.specs.Source.{source_module};
+ghost use Rattle.form_rules.specs.Names.{import_names, imported_names};
 ghost use Rattle.wasm_index.specs.Index.{index_of};
 ghost use Rattle.module_environ.specs.Entities.{imported_entities, resolved_import};
 ghost use Rattle.module_environ.specs.Imported.{AreCounted, HaveIndices, counted, next_entity};
-ghost use Rattle.module_environ.specs.Pooled.{with_texts, import_names, imported_names, exported_names, HasTexts};
-ghost use Rattle.module_environ.specs.Seeds.{section_names};
+ghost use Rattle.module_environ.specs.Pooled.{with_texts, HasTexts};
 
-use crate::exports::count_entries;
-use entity_map::{EntityRef, NameDigest, OutOfMemory, StringPool};
-use form_data::{Export, Import};
-use form_lists::{Entry, Section, Source, entries_of, sections_of};
+use entity_map::{EntityRef, OutOfMemory, StringPool};
+use form_data::Import;
+use form_lists::{Source, entries_of};
 use std::alloc::Global;
 use wasm_index::Index;
 use wasm_module::Initializer;
@@ -74,64 +71,6 @@ fn take_next<Space>(count: &mut u32) -> Index<Space>
     index
 }
 
-/// How many names of modules a pool has room for: most modules import from few.
-const FEW_MODULES: usize = 64;
-
-/// A pool of no text, with room for the name of each import and of each export.
-pub(crate) fn pool_for(alloc: Global, source: Source<'_, '_>) -> Result<StringPool, OutOfMemory>
-    ensures { IfOk result (λ pool. pool ≡ []) }
-{
-    let mut pool = StringPool::seeded(alloc, name_seed(source));
-    let imports = count_entries::<Import<'_>>(source);
-    let names = imports.saturating_add(count_entries::<Export<'_>>(source));
-    pool.reserve(names.saturating_add(FEW_MODULES))?;
-    Ok(pool)
-}
-
-/// The seed of the pool: a digest of all names of imports and exports. Names that are chosen to collide change it as well.
-fn name_seed(source: Source<'_, '_>) -> u64
-    ensures { result ≡ sip.finish (fold sip.write sip.initial (flat_map section_names (source_module source.entry))) }
-{
-    let mut digest = NameDigest::new();
-    for section in sections_of(source) {
-        add_section_names(&mut digest, section);
-    }
-    digest.finish()
-}
-
-/// Adds the names in a section of imports or of exports to a digest.
-fn add_section_names(digest: &mut NameDigest, section: Section<'_, '_>)
-    ensures { digest.new ≡ fold sip.write digest.old (flat_map section_names (sections_in section.entry)) }
-{
-    match section {
-        Section::Read(payload) => {
-            add_import_names(digest, Import::in_section(payload));
-            add_export_names(digest, Export::in_section(payload));
-        }
-        Section::Input(_) => {}
-        Section::Customs(_) => {}
-    }
-}
-
-/// Adds the names of imports to a digest.
-fn add_import_names(digest: &mut NameDigest, imports: &[Import<'_>])
-    ensures { digest.new ≡ fold sip.write digest.old (flat_map import_names (map import_of imports.now)) }
-{
-    for import in imports {
-        digest.write(import.module.as_bytes());
-        digest.write(import.name.as_bytes());
-    }
-}
-
-/// Adds the names of exports to a digest.
-fn add_export_names(digest: &mut NameDigest, exports: &[Export<'_>])
-    ensures { digest.new ≡ fold sip.write digest.old (exported_names (map export_of exports.now)) }
-{
-    for export in exports {
-        digest.write(export.name.as_bytes());
-    }
-}
-
 /// What is imported, in order; the names go into the pool.
 pub(crate) fn convert_imports(
     alloc: Global,
@@ -139,10 +78,10 @@ pub(crate) fn convert_imports(
     strings: &mut StringPool,
 ) -> Result<(Vec<Initializer>, ImportCounts), OutOfMemory>
     requires few { HasFewEntries (source_module source) }
-    requires empty { strings.old ≡ [] }
+    requires few_texts { length strings.old < 2 ^ 30 }
     ensures imports { IfOk result (λ r. map (resolved_import strings.new) r.0.items ≡ imported_entities (source_module source.entry)) }
     ensures counts { IfOk result (λ r. AreCounted (plain.imports (source_module source.entry)) r.1) }
-    ensures pool { OnOk result (strings.new ≡ with_texts [] (imported_names (source_module source.entry))) }
+    ensures pool { OnOk result (strings.new ≡ with_texts strings.old (imported_names (source_module source.entry))) }
     ensures pooled { IfOk result (λ r. All (HasTexts strings.new) r.0.items) }
 {
     let mut initializers = Vec::new(alloc);

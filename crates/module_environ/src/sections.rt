@@ -3,13 +3,14 @@
 ghost use Rattle.std.specs.Prelude.{◌≡◌, ◌<◌, ◌^◌, ◌++◌, ℕ, [], length, map, OnOk};
 ghost use Rattle.wasm_spec.specs.Module.{imports, function_import};
 ghost use Rattle.rule_spec.specs.Lists.{lists_of_module};
+ghost use Rattle.form_rules.specs.Names.{imported_names, exported_names};
 ghost use Rattle.form_types.specs.Types.{TypesData};
 ghost use Rattle.init_plan.specs.Views.{IsNewTranslation, passive_data_of};
 ghost use Rattle.module_environ.specs.Entities.{count_of};
 ghost use Rattle.module_environ.specs.Environment.{AreHeld};
 ghost use Rattle.module_environ.specs.Types.{declared, type_index, AreTypesOf};
 ghost use Rattle.module_environ.specs.Translation.{HasSections};
-ghost use Rattle.module_environ.specs.Pooled.{with_texts, imported_names, exported_names};
+ghost use Rattle.module_environ.specs.Pooled.{with_texts};
 ghost use Rattle.module_environ.specs.Filling.{module_in, IsGathered, LooksUpTypes, FillsEntities, FillsInitialisers, LeavesRest};
 
 use crate::data::add_segments;
@@ -19,10 +20,10 @@ use crate::exports::convert_exports;
 use crate::first_values::{first_values, no_images};
 use crate::functions::{exported_signatures, function_types};
 use crate::globals::{FirstGlobals, first_globals};
-use crate::imports::{convert_imports, pool_for};
+use crate::imports::convert_imports;
 use crate::spaces::{convert_globals, convert_memories, convert_tables, hold_collected};
 use crate::start::start_function;
-use entity_map::{OutOfMemory, PrimaryMap};
+use entity_map::{OutOfMemory, PrimaryMap, StringPool};
 use form_lists::Lists;
 use init_plan::ModuleTranslation;
 use std::alloc::Global;
@@ -37,10 +38,12 @@ pub(crate) fn fill_sections<'d>(
     debugged: bool,
     env: &dyn TypeConvert,
     lists: &Lists<'_, 'd>,
+    names: StringPool,
     indices: &PrimaryMap<TypeIndex, EngineOrModuleTypeIndex>,
     translation: &mut ModuleTranslation<'d>,
 ) -> Result<(), OutOfMemory>
     requires gathered { IsGathered lists.now }
+    requires names { names ≡ exported_names (lists_of_module (module_in lists.now)).exports }
     requires looks { LooksUpTypes (module_in lists.now) (knows env.now) (look_up env.now) }
     requires of_module { (t : TypesData) × AreTypesOf (module_in lists.now) t }
     requires listed { indices.now ≡ map type_index (declared (module_in lists.now)) }
@@ -50,10 +53,10 @@ pub(crate) fn fill_sections<'d>(
     ensures imports { OnOk result
         (translation.new.debuginfo.wasm_file.imported_func_count ≡ count_of function_import (imports (module_in lists.now))) }
     ensures texts { OnOk result (translation.new.module.strings
-        ≡ with_texts [] (imported_names (module_in lists.now) ++ exported_names (lists_of_module (module_in lists.now)).exports)) }
+        ≡ with_texts (exported_names (lists_of_module (module_in lists.now)).exports) (imported_names (module_in lists.now))) }
     ensures rest { OnOk result (LeavesRest translation.old translation.new) }
 {
-    fill_entities(alloc, env, lists, &mut translation.module)?;
+    fill_entities(alloc, env, lists, names, &mut translation.module)?;
     let mut escaping = Escaping::new(alloc, lists.spaces.functions.len())?;
     let imported = lists.imported_functions as u32;
     escaping.note_escape_range(0, imported)?;
@@ -75,13 +78,15 @@ fn fill_entities(
     alloc: Global,
     env: &dyn TypeConvert,
     lists: &Lists<'_, '_>,
+    names: StringPool,
     entities: &mut Module,
 ) -> Result<(), OutOfMemory>
     requires gathered { IsGathered lists.now }
+    requires names { names ≡ exported_names (lists_of_module (module_in lists.now)).exports }
     requires looks { LooksUpTypes (module_in lists.now) (knows env.now) (look_up env.now) }
     ensures { OnOk result (FillsEntities (module_in lists.now) entities.old entities.new) }
 {
-    entities.strings = pool_for(alloc, lists.source)?;
+    entities.strings = names;
     let (initializers, counts) = convert_imports(alloc, lists.source, &mut entities.strings)?;
     entities.initializers = initializers;
     entities.num_imported_funcs = counts.functions as usize;
@@ -112,7 +117,8 @@ fn fill_initialisers<'d>(
     requires gathered { IsGathered lists.now }
     requires looks { LooksUpTypes (module_in lists.now) (knows env.now) (look_up env.now) }
     requires functions { escaping.old.count ≡ length lists.now.spaces.functions.items }
-    requires few_texts { length translation.old.module.strings < 2 ^ 31 }
+    requires names { (others : List (List ℕ)) × (translation.old.module.strings
+        ≡ exported_names (lists_of_module (module_in lists.now)).exports ++ others) }
     requires no_data { passive_data_of translation.old ≡ [] }
     ensures { OnOk result (FillsInitialisers (module_in lists.now) escaping.old escaping.new translation.old translation.new) }
 {
@@ -123,7 +129,7 @@ fn fill_initialisers<'d>(
     let FirstGlobals { known, left } = first_globals(alloc, env, source, escaping)?;
     translation.module.global_initializers = known;
     translation.global_initializers = left;
-    let strings = &mut translation.module.strings;
+    let strings = &translation.module.strings;
     translation.module.exports = convert_exports(alloc, source, strings, escaping)?;
     let ElementSegments {
         active,

@@ -4,9 +4,11 @@ ghost use Rattle.std.specs.Prelude.{◌≡◌, ◌≢◌, ◌⊎◌, ◌^◌, �
 ghost use Rattle.wasm_spec.specs.Module.{Module, imports, function_import, HasFewEntries};
 ghost use Rattle.wasm_spec.specs.Module as plain;
 ghost use Rattle.wasm_spec.specs.Sizes.{HasShortTypes};
+ghost use Rattle.rule_spec.specs.Lists.{lists_of_module};
 ghost use Rattle.rule_spec.specs.Rules.{Keeps};
 ghost use Rattle.form_data.specs.Views.{group_of};
 ghost use Rattle.form_lists.specs.Source.{source_module};
+ghost use Rattle.form_rules.specs.Names.{exported_names};
 ghost use Rattle.form_types.specs.Placed.{placed_groups};
 ghost use Rattle.form_types.specs.Types.{TypesData};
 ghost use Rattle.type_spec.specs.Interned.{taken};
@@ -33,7 +35,7 @@ use crate::error::EnvironError;
 use crate::sections::fill_sections;
 use crate::tags::convert_tags;
 use crate::types::intern_types;
-use entity_map::{OutOfMemory, PrimaryMap};
+use entity_map::{OutOfMemory, PrimaryMap, StringPool};
 use form_data::RecGroup;
 use form_lists::{Lists, Source, types_of_groups};
 use form_reader::read_input;
@@ -165,7 +167,7 @@ fn translate_form<'d>(
         → (types.new ≡ types.old) ⊎ (Keeps (source_module source.entry) × IsOnTheWay (source_module source.entry) validator.now (builder_view types.new)) }
 {
     let declared = types_of_groups(alloc, groups.as_slice())?;
-    let checked = checked_lists(alloc, source, declared)?;
+    let (checked, names) = checked_lists(alloc, source, declared)?;
     // The rules asked for the types, and nothing does from here on: the groups become those of the list of types.
     let lists = checked.without_types(alloc, source);
     translate_lists(
@@ -174,6 +176,7 @@ fn translate_form<'d>(
         validator,
         types,
         &lists,
+        names,
         groups,
         translation,
     )
@@ -186,9 +189,11 @@ fn translate_lists<'d>(
     validator: &Validator,
     types: &mut ModuleTypesBuilder,
     lists: &Lists<'_, 'd>,
+    names: StringPool,
     groups: Vec<RecGroup>,
     translation: &mut ModuleTranslation<'d>,
 ) -> Result<(), EnvironError>
+    requires names { names ≡ exported_names (lists_of_module (module_in lists.now)).exports }
     requires groups { map group_of groups.items ≡ plain.groups (module_in lists.now) }
     requires gathered { IsGathered lists.now }
     requires short { HasShortTypes (module_in lists.now) }
@@ -207,7 +212,15 @@ fn translate_lists<'d>(
     }
     let ids = Types::build_from(alloc, validator, lists.source, groups)?;
     let indices = intern_types(alloc, &ids, types)?;
-    fill_lists(alloc, tunables, types, lists, &indices, translation)?;
+    fill_lists(
+        alloc,
+        tunables,
+        types,
+        lists,
+        names,
+        &indices,
+        translation,
+    )?;
     translation.module.tags = convert_tags(alloc, lists.spaces.tags.as_slice(), &indices, types)?;
     translation.module.types = indices;
     translation.set_types(ids);
@@ -223,10 +236,12 @@ fn fill_lists<'d>(
     tunables: &Tunables,
     types: &ModuleTypesBuilder,
     lists: &Lists<'_, 'd>,
+    names: StringPool,
     indices: &PrimaryMap<TypeIndex, EngineOrModuleTypeIndex>,
     translation: &mut ModuleTranslation<'d>,
 ) -> Result<(), OutOfMemory>
     requires gathered { IsGathered lists.now }
+    requires names { names ≡ exported_names (lists_of_module (module_in lists.now)).exports }
     requires of_module { (t : TypesData) × AreTypesOf (module_in lists.now) t }
     requires listed { indices.now ≡ map type_index (declared (module_in lists.now)) }
     requires held { AreHeld indices.now (length types.now.list.types) }
@@ -245,6 +260,7 @@ fn fill_lists<'d>(
         tunables.debug_guest,
         &env,
         lists,
+        names,
         indices,
         translation,
     )?;
