@@ -1,75 +1,83 @@
 -- Exports, entered one after another.
-use Rattle.std.proofs.Common.{◌≡◌, ◌≢◌, ℕ, Bool, true, false, cond, List, [], ◌∷◌, ◌++◌, length, map, get_or, slice_get, unwrap_or, All, Some, nat_eq, inl, inr, refl, sym, ap, subst, ◌∙◌, arith}
-use Rattle.std.proofs.lemmas.List.{length-append, get_or_append_left, get_or_at, map_push}
+use Rattle.std.proofs.Common.{◌≡◌, ℕ, ◌+◌, ◌≤◌, Bool, true, false, cond, List, [], ◌∷◌, ◌++◌, suc, length, map, slice_get, unwrap_or, All, Some, nat_eq, inl, inr, refl, sym, ap, subst, ◌∙◌, arith, append_assoc}
+use Rattle.std.proofs.lemmas.List.{length-append, length-map}
+use Rattle.std.proofs.lemmas.List.Elements.{All-cons}
 use Rattle.std.proofs.lemmas.Bool.Decides.{eqb_tells}
-use Rattle.std.proofs.lemmas.Option.{slice_get_within}
-use Rattle.std.proofs.lemmas.List.Elements.{All-head, All-tail, All-same, All-push, All-map, All-weaker, All-from_get_or}
 use Rattle.indexmap.specs.IndexMap.{insert_entry}
-use Rattle.entity_map.specs.Pool.{atom_number, with_text}
+use Rattle.entity_map.specs.Pool.{atom_number}
 use Rattle.entity_map.specs.declared.pool.Atom.{Atom}
 use Rattle.wasm_spec.specs.Module.{Export}
 use Rattle.wasm_types.specs.declared.entity.EntityIndex.{EntityIndex}
-use Rattle.rule_spec.specs.Rules.{AreDistinct}
-use Rattle.form_lists.proofs.AllSections.{All-from_map}
-use Rattle.module_environ.specs.Entities.{text_at, entity_at, resolved_export}
-use Rattle.module_environ.specs.Exported.{AreEntered}
+use Rattle.form_rules.specs.Names.{exported_names}
+use Rattle.module_environ.specs.Entities.{entity_at, resolved_export, exported_entities}
+use Rattle.module_environ.specs.Exported.{entered_from, entered}
 use Rattle.module_environ.specs.Pooled.{HasText}
-use Rattle.module_environ.proofs.GrownPool.{GrowsBy, grows-text, pooled-grown, exports-grown}
 
--- ---- one name more
+-- ---- one export more
 
 -- atoms are compared by their numbers
 pub same-atom : (x y : Atom) → nat_eq x.0 y.0 ≡ true → x ≡ y
 same-atom x y same = elim (eqb_tells x.0 y.0) [ inl equal ↦ λ j. record { 0 = equal.1 j } | inr other ↦ absurd (cc) ]
 
--- an atom of a text that no entry has
-insert-new : (eq : Atom → Atom → Bool) → ((x y : Atom) → eq x y ≡ true → x ≡ y) → (texts : List (List ℕ)) (name : List ℕ) (k : Atom) (v : EntityIndex)
-    → text_at texts k ≡ name → (es : List (Atom × EntityIndex)) → All (λ e. text_at texts e.0 ≢ name) es → insert_entry eq es k v ≡ es ++ (k, v) ∷ []
-insert-new eq same texts name k v named [] others = refl
-insert-new eq same texts name k v named (e ∷ es) others =
-    let P : Atom × EntityIndex → Type 0 = λ x. text_at texts x.0 ≢ name in
-    by (All-head P e es others) (insert-new eq same texts name k v named es (All-tail P e es others)) (eq k e.0) refl where
-      by : text_at texts e.0 ≢ name → insert_entry eq es k v ≡ es ++ (k, v) ∷ [] → (b : Bool) → eq k e.0 ≡ b
-          → cond b ((e.0, v) ∷ es) (e ∷ insert_entry eq es k v) ≡ e ∷ (es ++ (k, v) ∷ [])
-      by other rest true is = absurd (other (ap (text_at texts) (sym (same k e.0 is)) ∙ named))
-      by other rest false is = ap (λ (xs : List (Atom × EntityIndex)). e ∷ xs) rest
+pub length-entered : (n : ℕ) (es : List Export) → length (entered_from n es) ≡ length es
+length-entered n [] = refl
+length-entered n (e ∷ es) = ap suc (length-entered (n + 1) es)
 
--- the exports before have other names
-others-named : (before : List Export) (e : Export) → AreDistinct (before ++ e ∷ []) → All (λ (b : Export). b.name ≢ e.name) before
-others-named before e distinct = All-from_get_or (λ (b : Export). b.name ≢ e.name) before e (λ i lt same.
-    let left : get_or (before ++ e ∷ []) i e ≡ get_or before i e = get_or_append_left before (e ∷ []) e i lt in
-    let right : get_or (before ++ e ∷ []) (length before) e ≡ e = get_or_at before e [] e (length before) refl in
-    distinct i (length before) e lt (omega (arith, length-append before (e ∷ [])))
-    (ap (λ (x : Export). x.name) left ∙ same ∙ sym (ap (λ (x : Export). x.name) right)))
+-- an atom behind those of others is none of theirs
+insert-behind : (eq : Atom → Atom → Bool) → ((x y : Atom) → eq x y ≡ true → x ≡ y) → (n : ℕ) (es : List Export) (k : Atom) (v : EntityIndex)
+    → n + length es ≤ atom_number k → insert_entry eq (entered_from n es) k v ≡ entered_from n es ++ (k, v) ∷ []
+insert-behind eq same n [] k v behind = refl
+insert-behind eq same n (e ∷ es) k v behind =
+    let first : Atom = record { 0 = n } in
+    by first (same k first) (insert-behind eq same (n + 1) es k v (omega (arith, behind))) (eq k first) refl where
+      by : (first : Atom) → (eq k first ≡ true → k ≡ first) → insert_entry eq (entered_from (n + 1) es) k v ≡ entered_from (n + 1) es ++ (k, v) ∷ []
+          → (b : Bool) → eq k first ≡ b → cond b ((first, entity_at e.kind e.index) ∷ entered_from (n + 1) es)
+            ((first, entity_at e.kind e.index) ∷ insert_entry eq (entered_from (n + 1) es) k v) ≡ (first, entity_at e.kind e.index) ∷ (entered_from (n + 1) es ++ (k, v) ∷ [])
+      by first equal rest true is = absurd (let far = ap atom_number (equal is) in omega (arith, far, behind))
+      by first equal rest false is = ap (λ (xs : List (Atom × EntityIndex)). (first, entity_at e.kind e.index) ∷ xs) rest
 
--- in a pool that grows
-entered-grown : (n : ℕ) (es : List Export) (old new : List (List ℕ)) (entries : List (Atom × EntityIndex)) → GrowsBy n old new
-    → AreEntered es old entries → AreEntered es new entries
-entered-grown n es old new entries grows h = record {
-  entities = exports-grown n old new grows entries h.pooled ∙ h.entities;
-  pooled = All-weaker (λ (e : Atom × EntityIndex). HasText old e.0) (λ (e : Atom × EntityIndex). HasText new e.0)
-      (λ e. pooled-grown n old new grows e.0) entries h.pooled;
-}
+entered-push : (n : ℕ) (es : List Export) (e : Export) (k : Atom) → atom_number k ≡ n + length es
+    → entered_from n (es ++ e ∷ []) ≡ entered_from n es ++ (k, entity_at e.kind e.index) ∷ []
+entered-push n [] e k is = λ j. (record { 0 = (let same : n ≡ atom_number k = omega (arith, is) in same) j }, entity_at e.kind e.index) ∷ []
+entered-push n (d ∷ es) e k is = ap (λ (xs : List (Atom × EntityIndex)). (record { 0 = n }, entity_at d.kind d.index) ∷ xs) (entered-push (n + 1) es e k (omega (arith, is)))
 
--- an export of a name of its own goes last
-pub entered-push : (eq : Atom → Atom → Bool) → ((x y : Atom) → eq x y ≡ true → x ≡ y) → (before : List Export) (e : Export) (old new : List (List ℕ))
-    (now after : List (Atom × EntityIndex)) (k : Atom) (v : EntityIndex) → new ≡ with_text old e.name → slice_get new (atom_number k) ≡ Some e.name
-    → v ≡ entity_at e.kind e.index → after ≡ insert_entry eq now k v → AreEntered before old now → AreDistinct (before ++ e ∷ [])
-    → AreEntered (before ++ e ∷ []) new after
-entered-push eq same before e old new now after k v put stands is inserted h distinct =
-    let moved = entered-grown 1 before old new now (subst (GrowsBy 1 old) (sym put) (grows-text old e.name)) h in
-    let Other : List ℕ × EntityIndex → Type 0 = λ x. x.0 ≢ e.name in
-    let view : Export → List ℕ × EntityIndex = λ (x : Export). (x.name, entity_at x.kind x.index) in
-    let named : text_at new k ≡ e.name = ap (λ r. unwrap_or r []) stands in
-    let others : All (λ (x : Atom × EntityIndex). text_at new x.0 ≢ e.name) now =
-    All-from_map Other (resolved_export new) now
-    (All-same Other (map (resolved_export new) now) (map view before) moved.entities (All-map Other view before (others-named before e distinct))) in
-    let last : after ≡ now ++ (k, v) ∷ [] = inserted ∙ insert-new eq same new e.name k v named now others in
-    record {
-      entities = ap (map (resolved_export new)) last ∙ map_push (resolved_export new) now (k, v)
-          ∙ (λ j. moved.entities j ++ (named j, is j) ∷ []) ∙ sym (map_push view before e);
-      pooled = All-same (λ (x : Atom × EntityIndex). HasText new x.0) after (now ++ (k, v) ∷ []) last
-          (All-push (λ (x : Atom × EntityIndex). HasText new x.0) now (k, v) moved.pooled (slice_get_within new (atom_number k) e.name stands));
-    }
+pub entered-more : (eq : Atom → Atom → Bool) → ((x y : Atom) → eq x y ≡ true → x ≡ y) → (before : List Export) (e : Export) (now after : List (Atom × EntityIndex))
+    (k : Atom) (v : EntityIndex) → atom_number k ≡ length now → v ≡ entity_at e.kind e.index → after ≡ insert_entry eq now k v → now ≡ entered before
+    → after ≡ entered (before ++ e ∷ [])
+entered-more eq same before e now after k v place is inserted was =
+    let at : atom_number k ≡ 0 + length before = omega (arith, place, ap length was, length-entered 0 before) in
+    inserted ∙ (λ j. insert_entry eq (was j) k (is j)) ∙ insert-behind eq same 0 before k (entity_at e.kind e.index) (omega (arith, at))
+    ∙ sym (entered-push 0 before e k at)
 
--- ---- in a module that keeps the rules
+-- ---- all of them, in a pool that begins with their names
+
+behind : {X : Type 0} (xs : List X) (x : X) (ys : List X) → slice_get (xs ++ x ∷ ys) (length xs) ≡ Some x
+behind [] x ys = refl
+behind (y ∷ xs) x ys = behind xs x ys
+
+resolved-from : (texts before : List (List ℕ)) (es : List Export) (others : List (List ℕ)) → texts ≡ before ++ (exported_names es ++ others)
+    → map (resolved_export texts) (entered_from (length before) es) ≡ exported_entities es
+resolved-from texts before [] others is = refl
+resolved-from texts before (e ∷ es) others is =
+    let named = ap (λ (ts : List (List ℕ)). unwrap_or (slice_get ts (length before)) []) is
+    ∙ ap (λ o. unwrap_or o []) (behind before e.name (exported_names es ++ others)) in
+    let rest = resolved-from texts (before ++ e.name ∷ []) es others (is ∙ sym (append_assoc before (e.name ∷ []) (exported_names es ++ others))) in
+    let long : length (before ++ e.name ∷ []) ≡ length before + 1 = omega (arith, length-append before (e.name ∷ [])) in
+    λ j. (named j, entity_at e.kind e.index) ∷ (ap (λ n. map (resolved_export texts) (entered_from n es)) (sym long) ∙ rest) j
+
+pub entered-resolved : (texts : List (List ℕ)) (es : List Export) (others : List (List ℕ)) → texts ≡ exported_names es ++ others
+    → (entries : List (Atom × EntityIndex)) → entries ≡ entered es → map (resolved_export texts) entries ≡ exported_entities es
+entered-resolved texts es others is entries all = ap (map (resolved_export texts)) all ∙ resolved-from texts [] es others is
+
+pooled-from : (texts : List (List ℕ)) (n : ℕ) (es : List Export) → n + length es ≤ length texts → All (λ e. HasText texts e.0) (entered_from n es)
+pooled-from texts n [] within = tt
+pooled-from texts n (e ∷ es) within = All-cons (λ (x : Atom × EntityIndex). HasText texts x.0) _ _ (omega (arith, within)) (pooled-from texts (n + 1) es (omega (arith, within)))
+
+pub length-names : (texts : List (List ℕ)) (es : List Export) (others : List (List ℕ)) → texts ≡ exported_names es ++ others → length es ≤ length texts
+length-names texts es others is =
+    omega (arith, ap length is, length-append (exported_names es) others, length-map es (λ (e : Export). e.name))
+
+pub entered-pooled : (texts : List (List ℕ)) (es : List Export) (others : List (List ℕ)) → texts ≡ exported_names es ++ others
+    → (entries : List (Atom × EntityIndex)) → entries ≡ entered es → All (λ e. HasText texts e.0) entries
+entered-pooled texts es others is entries all =
+    subst (All (λ (e : Atom × EntityIndex). HasText texts e.0)) (sym all) (pooled-from texts 0 es (length-names texts es others is))

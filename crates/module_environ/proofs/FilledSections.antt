@@ -32,7 +32,8 @@ use Rattle.module_environ.specs.Escapes.{references, defined_functions}
 use Rattle.module_environ.specs.Filling.{module_in, IsGathered, LooksUpTypes, FillsEntities, FillsInitialisers, references_of}
 use Rattle.module_environ.specs.EscapeLog.{EscapeLog, after_escapes}
 use Rattle.module_environ.specs.Translation.{HasEntities, CountsImports, NeedsHeap, HasData}
-use Rattle.module_environ.specs.Pooled.{with_texts, imported_names, exported_names, HasText, HasTexts}
+use Rattle.form_rules.specs.Names.{imported_names, exported_names}
+use Rattle.module_environ.specs.Pooled.{with_texts, HasText}
 use Rattle.module_environ.specs.Types.{declared, type_index, AreTypesOf}
 use Rattle.module_environ.proofs.DeclaredKinds.{function-below}
 use Rattle.module_environ.proofs.DeclaredLooks.{listed-long}
@@ -104,7 +105,6 @@ module _ (m : plain.Module) (index : Index StaticModuleSpace) (empty : ModuleTra
     (entities : Module) (first : FillsEntities m empty.module entities) (before after : EscapeLog) (t : ModuleTranslation)
     (second : FillsInitialisers m before after (record empty { «module» = entities }) t) where
   module-is : t.module ≡ record entities {
-    strings = t.module.strings;
     exports = t.module.exports;
     table_initialization = t.module.table_initialization;
     passive_elements = t.module.passive_elements;
@@ -112,38 +112,25 @@ module _ (m : plain.Module) (index : Index StaticModuleSpace) (empty : ModuleTra
   }
   module-is = ap (λ (x : ModuleTranslation). x.module) second.same
 
-  abbrev exports : ℕ
-  exports = length (exported_names (lists_of_module m).exports)
-
-  grows : GrowsBy exports entities.strings t.module.strings
-  grows = grows-within exports (exported_names (lists_of_module m).exports) entities.strings t.module.strings second.texts (omega arith)
-
-  -- the names of imports, and then of exports
-  pub texts-filled : t.module.strings ≡ with_texts [] (imported_names m ++ exported_names (lists_of_module m).exports)
-  texts-filled =
-      texts-then [] entities.strings t.module.strings (imported_names m) (exported_names (lists_of_module m).exports)
-      (imported_names m ++ exported_names (lists_of_module m).exports) refl first.texts second.texts
+  -- the names of exports, and then of imports
+  pub texts-filled : t.module.strings ≡ with_texts (exported_names (lists_of_module m).exports) (imported_names m)
+  texts-filled = ap (λ (x : Module). x.strings) module-is ∙ first.texts
 
   -- the empty record has no name
-  unnamed : IfSome entities.name (HasText t.module.strings)
-  unnamed = subst (λ n. IfSome n (HasText t.module.strings))
+  unnamed : IfSome entities.name (HasText entities.strings)
+  unnamed = subst (λ n. IfSome n (HasText entities.strings))
       (sym (ap (λ (x : Module). x.name) first.same ∙ ap (λ (r : ModuleRecord). r.name) new.record_of_module)) tt
 
   pub entities-filled : (start : Option (Index FuncSpace)) → option_map number_of start ≡ slice_get (lists_of_module m).starts 0
       → HasEntities m (record t { start_func = start })
   entities-filled start is = subst (λ x. HasEntities m (record t { «module» = x; start_func = start })) (sym module-is) (record {
-    imports = imports-grown exports entities.strings t.module.strings grows entities.initializers.items first.pooled ∙ first.imports;
+    imports = first.imports;
     exports = second.exports;
     tables = first.tables;
     memories = first.memories;
     globals = first.globals;
     start = is;
-    pooled = record {
-      imports = All-weaker (HasTexts entities.strings) (HasTexts t.module.strings) (names-grown exports entities.strings t.module.strings grows)
-          entities.initializers.items first.pooled;
-      exports = second.pooled;
-      name = unnamed;
-    };
+    pooled = record { imports = first.pooled; exports = second.pooled; name = unnamed };
   })
 
   pub counts-filled : CountsImports m t.module

@@ -15,7 +15,8 @@ use Rattle.wasm_module.specs.declared.initializer.Initializer.{Initializer}
 use Rattle.wasm_module.specs.declared.initializer.Initializer.TheVariants as initializer
 use Rattle.module_customs.specs.Names.{module_names}
 use Rattle.module_environ.specs.Entities.{text_at, resolved_import, resolved_export}
-use Rattle.module_environ.specs.Pooled.{with_texts, import_names, imported_names, exported_names, own_name, pool_of, HasText, HasTexts}
+use Rattle.form_rules.specs.Names.{import_names, imported_names, exported_names}
+use Rattle.module_environ.specs.Pooled.{with_texts, own_name, pool_of, HasText, HasTexts}
 
 -- ---- growing
 
@@ -65,26 +66,20 @@ pub imported-few : (is : List Import) → length (flat_map import_names is) ≡ 
 imported-few [] = refl
 imported-few (i ∷ is) = omega (arith, imported-few is)
 
--- a pool of the names of imports has at most two for each
-pub imports-pooled : (is : List Import) (texts : List (List ℕ)) → texts ≡ with_texts [] (flat_map import_names is) → length texts ≤ 2 * length is
-imports-pooled is texts whole =
-    omega (
-      arith,
-      length-grown (2 * length is) [] texts (grows-within (2 * length is) (flat_map import_names is) [] texts whole
-          (omega (arith, imported-few is))),
-    )
+-- imports bring at most two names each
+pub imports-pooled : (was : List (List ℕ)) (is : List Import) (texts : List (List ℕ)) → texts ≡ with_texts was (flat_map import_names is)
+    → length texts ≤ length was + 2 * length is
+imports-pooled was is texts whole =
+    length-grown (2 * length is) was texts (grows-within (2 * length is) (flat_map import_names is) was texts whole (omega (arith, imported-few is)))
 
 pub exported-few : (m : plain.Module) → HasFewEntries m → length (exported_names (lists_of_module m).exports) < 2 ^ 30
 exported-few m few = omega (arith, length-map (lists_of_module m).exports (λ (e : plain.Export). e.name), few.exports)
 
 -- so few are the names of imports and exports that there is room for that of the module
 pub names-pooled : (m : plain.Module) → HasFewEntries m → (texts : List (List ℕ))
-    → texts ≡ with_texts [] (imported_names m ++ exported_names (lists_of_module m).exports) → length texts < 2 ^ 31 + 2 ^ 30
+    → texts ≡ with_texts (exported_names (lists_of_module m).exports) (imported_names m) → length texts < 2 ^ 31 + 2 ^ 30
 names-pooled m few texts whole =
-    let names = imported_names m ++ exported_names (lists_of_module m).exports in
-    let long : length names < 2 ^ 31 + 2 ^ 30 = omega
-    (arith, length-append (imported_names m) (exported_names (lists_of_module m).exports), imported-few (plain.imports m), few.imports, exported-few m few) in
-    omega (arith, long, length-grown (length names) [] texts (grows-within (length names) names [] texts whole (omega arith)))
+    omega (arith, imports-pooled (exported_names (lists_of_module m).exports) (plain.imports m) texts whole, few.imports, exported-few m few)
 
 pub length-own : (native : Bool) (m : plain.Module) → length (own_name native m) ≤ 1
 length-own native m = by (module_names native m).module_name where
@@ -94,11 +89,9 @@ length-own native m = by (module_names native m).module_name where
 
 -- all names, the module's own last
 pub pooled-all : (native : Bool) (m : plain.Module) (old new : List (List ℕ))
-    → old ≡ with_texts [] (imported_names m ++ exported_names (lists_of_module m).exports) → new ≡ with_texts old (own_name native m) → new ≡ pool_of native m
+    → old ≡ with_texts (exported_names (lists_of_module m).exports) (imported_names m) → new ≡ with_texts old (own_name native m) → new ≡ pool_of native m
 pooled-all native m old new first second =
-    let imports = imported_names m in
-    let exports = exported_names (lists_of_module m).exports in
-    texts-then [] old new (imports ++ exports) (own_name native m) (imports ++ exports ++ own_name native m)
+    texts-then (exported_names (lists_of_module m).exports) old new (imported_names m) (own_name native m) (imported_names m ++ own_name native m)
     refl first second
 
 -- ---- texts

@@ -14,7 +14,8 @@ use Rattle.wasm_module.specs.declared.initializer.Initializer.{Initializer}
 use Rattle.module_environ.specs.declared.imports.ImportCounts.{ImportCounts}
 use Rattle.module_environ.specs.Entities.{NamedEntity, count_of, brought, imports_after, resolved_import}
 use Rattle.module_environ.specs.Imported.{AreCounted, HaveIndices, AreImported, one_if, counted, next_entity}
-use Rattle.module_environ.specs.Pooled.{with_texts, import_names, HasTexts}
+use Rattle.form_rules.specs.Names.{import_names}
+use Rattle.module_environ.specs.Pooled.{with_texts, HasTexts}
 use Rattle.module_environ.proofs.GrownPool.{GrowsBy, grows-within, texts-then, imports-pooled, names-grown, imports-grown}
 
 -- ---- counts
@@ -75,10 +76,10 @@ imports_after-push before (j ∷ is) i =
 
 -- ---- as they are converted
 
-pub imported-push : (is : List Import) (i : Import) (old new : List (List ℕ)) (before : List Initializer) (one : Initializer) (c : ImportCounts)
+pub imported-push : (was : List (List ℕ)) (is : List Import) (i : Import) (old new : List (List ℕ)) (before : List Initializer) (one : Initializer) (c : ImportCounts)
     → new ≡ with_texts old (import_names i) → HasTexts new one → resolved_import new one ≡ (i.space, i.name, next_entity c i.type)
-    → AreImported is old before c → AreImported (is ++ i ∷ []) new (before ++ one ∷ []) (counted c i.type)
-imported-push is i old new before one c put pooled resolved h =
+    → AreImported was is old before c → AreImported was (is ++ i ∷ []) new (before ++ one ∷ []) (counted c i.type)
+imported-push was is i old new before one c put pooled resolved h =
     let grows : GrowsBy 2 old new = grows-within 2 (import_names i) old new put (omega arith) in
     record {
       entities = map_push (resolved_import new) before one
@@ -89,20 +90,20 @@ imported-push is i old new before one c put pooled resolved h =
       pooled = All-push (HasTexts new) before one
           (All-weaker (HasTexts old) (HasTexts new) (names-grown 2 old new grows) before h.pooled) pooled;
       counted = counted-push is i c h.counted;
-      pool = texts-then [] old new (flat_map import_names is) (import_names i) (flat_map import_names (is ++ i ∷ []))
+      pool = texts-then was old new (flat_map import_names is) (import_names i) (flat_map import_names (is ++ i ∷ []))
           (flat_map-append import_names is (i ∷ [])) h.pool put;
     }
 
 -- one import more, converted
-pub imported-step : (is : List Import) (i : Import) (old new : List (List ℕ)) (now after : List Initializer) (one : Initializer) (c d : ImportCounts)
+pub imported-step : (was : List (List ℕ)) (is : List Import) (i : Import) (old new : List (List ℕ)) (now after : List Initializer) (one : Initializer) (c d : ImportCounts)
     → d ≡ counted c i.type → new ≡ with_texts old (import_names i) → HasTexts new one → resolved_import new one ≡ (i.space, i.name, next_entity c i.type)
-    → after ≡ now ++ one ∷ [] → AreImported is old now c → AreImported (is ++ i ∷ []) new after d
-imported-step is i old new now after one c d counts put pooled resolved pushed h =
-    subst (λ (x : ImportCounts). AreImported (is ++ i ∷ []) new after x) (sym counts)
-    (subst (λ (xs : List Initializer). AreImported (is ++ i ∷ []) new xs (counted c i.type)) (sym pushed)
-    (imported-push is i old new now one c put pooled resolved h))
+    → after ≡ now ++ one ∷ [] → AreImported was is old now c → AreImported was (is ++ i ∷ []) new after d
+imported-step was is i old new now after one c d counts put pooled resolved pushed h =
+    subst (λ (x : ImportCounts). AreImported was (is ++ i ∷ []) new after x) (sym counts)
+    (subst (λ (xs : List Initializer). AreImported was (is ++ i ∷ []) new xs (counted c i.type)) (sym pushed)
+    (imported-push was is i old new now one c put pooled resolved h))
 
 -- there is room for the names of few imports
-pub room-for-imports : (is : List Import) (texts : List (List ℕ)) (before : List Initializer) (c : ImportCounts) → AreImported is texts before c
-    → length is < 2 ^ 30 → length texts < 4294967293
-room-for-imports is texts before c h few = omega (arith, few, imports-pooled is texts h.pool)
+pub room-for-imports : (was : List (List ℕ)) (is : List Import) (texts : List (List ℕ)) (before : List Initializer) (c : ImportCounts)
+    → AreImported was is texts before c → length was < 2 ^ 30 → length is < 2 ^ 30 → length texts < 4294967293
+room-for-imports was is texts before c h short few = omega (arith, short, few, imports-pooled was is texts h.pool)

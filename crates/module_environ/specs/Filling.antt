@@ -22,7 +22,8 @@ use Rattle.module_environ.specs.Types.{look_up_in}
 use Rattle.module_environ.specs.EscapeLog.{EscapeLog, after_escapes}
 use Rattle.module_environ.specs.Escapes.{referred, referred_if_any, item_functions}
 use Rattle.module_environ.specs.Exported.{exported_functions}
-use Rattle.module_environ.specs.Pooled.{with_texts, imported_names, exported_names, HasText, HasTexts}
+use Rattle.form_rules.specs.Names.{imported_names, exported_names}
+use Rattle.module_environ.specs.Pooled.{with_texts, HasText, HasTexts}
 use Rattle.module_environ.specs.Entities.{imported_entities, exported_entities, resolved_import, resolved_export, tables_data, globals_data}
 use Rattle.module_environ.specs.Initialisers.{passive_data_from}
 use Rattle.module_environ.specs.Translation.{CountsImports, NeedsHeap, HasGlobals, HasElements}

@@ -11,7 +11,8 @@ use Rattle.wasm_types.specs.declared.entity.EntityIndex.TheVariants as entity
 use Rattle.wasm_module.specs.declared.initializer.Initializer.{Initializer}
 use Rattle.module_environ.specs.declared.imports.ImportCounts.{ImportCounts}
 use Rattle.module_environ.specs.Entities.{count_of, imports_after, resolved_import}
-use Rattle.module_environ.specs.Pooled.{with_texts, import_names, HasTexts}
+use Rattle.form_rules.specs.Names.{import_names}
+use Rattle.module_environ.specs.Pooled.{with_texts, HasTexts}
 
 -- each count is that of the imports of its kind
 abbrev pub AreCounted : List Import → ImportCounts → Type 0

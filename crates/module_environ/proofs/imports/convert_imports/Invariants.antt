@@ -8,5 +8,5 @@ use Rattle.module_environ.proofs.imports.convert_imports.Given as goal
 
 -- the imports that came are converted
 abbrev pub invariant-loop-import : goal.invariant-loop-import
-invariant-loop-import l = (came : List plain.Import) × AreImported came l.strings l.initializers.items l.counts
+invariant-loop-import l = (came : List plain.Import) × AreImported l.initial.strings came l.strings l.initializers.items l.counts
     × (came ++ entries_left import_of plain.imports_of_section l.import-iterator ≡ plain.imports (source_module l.source))

@@ -1,11 +1,20 @@
-use Rattle.std.proofs.Common.{◌∙◌, length, refl, ap, arith}
+use Rattle.std.proofs.Common.{◌∙◌, ℕ, List, length, refl, ap, arith}
 use Rattle.std.specs.Prelude.{drop}
 use Rattle.std.specs.List.{list_any}
 use Rattle.wasm_types.specs.Collected.{heap_is_collected}
 use Rattle.wasm_types.specs.declared.table.Table.{Table}
+use Rattle.form_rules.specs.Names.{imported_names}
+use Rattle.module_environ.specs.Filling.{module_in}
+use Rattle.module_environ.specs.Pooled.{with_texts}
+use Rattle.module_environ.proofs.GrownPool.{exported-few}
 use Rattle.module_environ.proofs.FilledEntities.{pages, memories-filled, tables-looked, globals-looked}
 use Rattle.module_environ.proofs.FilledEntities.{tables-filled, globals-filled, imported-within}
 use Rattle.module_environ.proofs.sections.fill_entities.Goals as goal
+
+pub convert_imports-requires-clause-few_texts : goal.convert_imports-requires-clause-few_texts
+convert_imports-requires-clause-few_texts g c =
+    let l = c.args.lists.now in
+    omega (arith, ap length c.requires.names, exported-few (module_in l) c.requires.gathered.few)
 
 pub convert_tables-requires-clause-known : goal.convert_tables-requires-clause-known
 convert_tables-requires-clause-known g c =
@@ -39,7 +48,7 @@ returns g c =
     record {
       imports = c.in_ok-initializers.ensures.imports;
       pooled = c.in_ok-initializers.ensures.pooled;
-      texts = c.in_ok-initializers.ensures.pool;
+      texts = c.in_ok-initializers.ensures.pool ∙ ap (λ (ts : List (List ℕ)). with_texts ts (imported_names (module_in l))) c.requires.names;
       counts = c.in_ok-initializers.ensures.counts;
       tables = c.in_ok-entities-2.ensures
           ∙ tables-filled l gathered knows look c.requires.looks c.as_slice.result.now c.as_slice.ensures.value;

@@ -1,5 +1,4 @@
 use Rattle.std.proofs.Common.{◌∙◌, length, refl, sym, ap, subst}
-use Rattle.rule_spec.specs.declared.rules.Rule.TheVariants.{L7}
 use Rattle.rule_spec.specs.Lists as rule
 use Rattle.rule_spec.specs.Lists.{lists_of_module}
 use Rattle.module_environ.specs.Filling.{module_in, FillsInitialisers}
@@ -25,9 +24,6 @@ first_globals-requires-clause-convertible g c =
     let r = c.requires.gathered in
     global-initialisers (module_in c.args.lists.now) r.keeps r.few _ c.requires.looks.knows c.first_values.new.escaping.count
     (ap (λ (f : EscapeLog). f.count) c.in_ok-values.ensures.noted ∙ c.requires.functions ∙ ap (λ (l : rule.Lists). length l.functions) r.lists)
-
-pub convert_exports-requires-clause-distinct : goal.convert_exports-requires-clause-distinct
-convert_exports-requires-clause-distinct g c = (c.requires.gathered.keeps L7).distinct
 
 pub convert_exports-requires-clause-in_range : goal.convert_exports-requires-clause-in_range
 convert_exports-requires-clause-in_range g c =
@@ -60,7 +56,6 @@ returns g c =
     c.add_segments.ensures.same
     (λ active passive unprocessed last. subst (FillsInitialisers m c.args.escaping.now c.convert_elements.new.escaping c.args.translation.now) (sym last) (record {
       exports = exports.exports;
-      texts = exports.pool;
       pooled = exports.pooled;
       globals = record {
         known = c.in_ok-known.ensures.known;

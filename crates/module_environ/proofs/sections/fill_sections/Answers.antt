@@ -13,7 +13,8 @@ use Rattle.module_environ.specs.Types.{interned_at}
 use Rattle.module_environ.proofs.FilledSections.{functions-named, starts-below, functions-are, imported-are}
 use Rattle.module_environ.proofs.FilledSections.{behind, all-noted, noted-where, noted-not}
 use Rattle.module_environ.proofs.FilledSections.{entities-filled, texts-filled, counts-filled, heap-filled, data-filled}
-use Rattle.module_environ.proofs.GrownPool.{imports-pooled}
+use Rattle.form_rules.specs.Names.{imported_names, exported_names}
+use Rattle.module_environ.proofs.GrownPool.{grows-within}
 use Rattle.module_environ.proofs.sections.fill_sections.Goals as goal
 use Rattle.module_environ.proofs.sections.fill_sections.Goals.{then-debugged+in_ok-note_escape_range-2, else-debugged}
 
@@ -27,11 +28,12 @@ exported_signatures-requires-clause-types g c =
     functions-named c.args.lists.now c.requires.gathered c.requires.of_module c.args.indices.now c.requires.listed c.as_slice-functions.result.now
     c.as_slice-functions.ensures.value
 
-pub fill_initialisers-requires-clause-few_texts : goal.fill_initialisers-requires-clause-few_texts
-fill_initialisers-requires-clause-few_texts g c =
+pub fill_initialisers-requires-clause-names : goal.fill_initialisers-requires-clause-names
+fill_initialisers-requires-clause-names g c =
     let m = module_in c.args.lists.now in
-    let pooled = imports-pooled (plain.imports m) c.fill_entities.new.entities.strings c.in_ok-fill_entities.ensures.texts in
-    omega (arith, pooled, c.requires.gathered.few.imports)
+    let grows = grows-within (length (imported_names m)) (imported_names m) (exported_names (lists_of_module m).exports)
+    c.fill_entities.new.entities.strings c.in_ok-fill_entities.ensures.texts (omega arith) in
+    (grows.added, grows.whole)
 
 pub start_function-translation-requires : goal.start_function-translation-requires
 start_function-translation-requires g c = starts-below c.args.lists.now c.requires.gathered

@@ -7,6 +7,7 @@ use Rattle.rule_spec.specs.Lists as rule
 use Rattle.rule_spec.specs.Lists.{lists_of_module}
 use Rattle.rule_spec.specs.Rules.{Keeps}
 use Rattle.form_lists.specs.Source.{source_module}
+use Rattle.form_rules.specs.Names.{exported_names}
 use Rattle.module_types.specs.Builder.{builder_view}
 use Rattle.module_environ.specs.Forming.{IsFormed}
 use Rattle.module_environ.specs.OnTheWay.{IsOnTheWay}
@@ -31,6 +32,10 @@ translate_lists-requires-clause-gathered c =
       keeps = subst Keeps (sym same) c.in_ok-checked.ensures.kept;
       few = subst HasFewEntries (sym same) c.requires.few;
     }
+
+pub translate_lists-requires-clause-names : goal.translate_lists-requires-clause-names
+translate_lists-requires-clause-names c =
+    c.in_ok-checked.ensures.names ∙ ap (λ (m : plain.Module). exported_names (lists_of_module m).exports) (ap source_module (sym c.without_types-lists.ensures.of_source))
 
 pub returns-clause-formed : goal.returns-clause-formed
 returns-clause-formed c =
