@@ -165,6 +165,7 @@ impl ConstOp {
     }
 
     /// Its name in the text format (core specification, 6.5, instructions).
+    #[inline(always)]
     pub fn name(&self) -> &'static str
         ensures { result.now ≡ name_of_operator self.now }
     {
@@ -195,6 +196,7 @@ impl ConstOp {
     }
 
     /// What follows the name.
+    #[inline(always)]
     pub fn operands(&self) -> Operands
         ensures { result ≡ operands_of self.now }
     {
