@@ -1,8 +1,7 @@
 -- An expression of a class has a value of that class.
 use Rattle.std.proofs.lemmas.Grind.{common_steps}
-use Rattle.std.proofs.Common.{rules, ◌≡◌, ℕ, suc, ◌+◌, ◌-◌, ◌*◌, ◌%◌, ◌^◌, ◌<◌, List, [], ◌∷◌, ◌++◌, length, map, take, drop, Bool, refl, sym, ◌∙◌, ap, subst, Option, None, Some, arith, lit<}
+use Rattle.std.proofs.Common.{rules, ◌≡◌, ℕ, suc, ◌%◌, ◌^◌, ◌<◌, List, [], ◌∷◌, ◌++◌, length, map, take, drop, Bool, refl, sym, ◌∙◌, ap, subst, Option, None, Some, arith, lit<}
 use Rattle.std.specs.Prelude.{replicate, slice_get, unwrap_or, IsSomeAnd}
-use Rattle.std.specs.Int.{cast_unsigned, w32, w64}
 use Rattle.std.specs.List.{AllZip, list_all}
 use Rattle.std.specs.Option.{option_and_then}
 use Rattle.std.proofs.Math.Nat.{mod-lt}
@@ -19,7 +18,7 @@ use Rattle.rule_spec.specs.declared.classes.Class.{Class}
 use Rattle.rule_spec.specs.declared.classes.Class.TheVariants as class
 use Rattle.rule_spec.specs.Lists.{Lists}
 use Rattle.rule_spec.specs.Typing.{Signature, field_class, has_default, struct_at, array_at, refers_to, where_true, global_signature, signature, Leads, HasClass}
-use Rattle.replay_spec.specs.Values.{Value, I32, I64, Ref, I31, Term, Action, pushes, joined_i32, joined_i64, joins_i32, joins_i64, i31_of, to_extern, to_any, converted, converts, allocates, action, acted, run, eval}
+use Rattle.replay_spec.specs.Values.{Value, I32, I64, Ref, I31, Term, Action, pushes, joined_i32, joined_i64, joins_i32, joins_i64, i31_of, converted, converts, allocates, action, acted, run, eval}
 use Rattle.replay_spec.specs.Classes.{IsOfClass, HaveClasses, field_count}
 
 abbrev AreOfClasses : List Value → List Class → Type 0
@@ -171,28 +170,14 @@ module _ (l : Lists) (visible : List GlobalType) (globals : List Value) (have : 
   fixed_array-does t n s (Some f) e = search (rules, known, allocates-does, length-replicate)
 
   operator-does : (operator : Operator) (s : Signature) → signature l visible operator ≡ Some s → Does (action globals (field_count l) operator) s
-  operator-does (op.I32Const value) s e = known _ _ s (pushes-does _ class.I32 (refl, i32-fits (cast_unsigned w32 value))) e
-  operator-does (op.I64Const value) s e = known _ _ s (pushes-does _ class.I64 (refl, i64-fits (cast_unsigned w64 value))) e
-  operator-does (op.F32Const bits) s e = known _ _ s (pushes-does _ class.F32 refl) e
-  operator-does (op.F64Const bits) s e = known _ _ s (pushes-does _ class.F64 refl) e
-  operator-does (op.V128Const value) s e = known _ _ s (pushes-does _ class.V128 refl) e
   operator-does (op.GlobalGet g) s e = global-does g s (slice_get visible g) refl e
-  operator-does op.RefI31 s e = known _ _ s i31-does e
-  operator-does (op.RefNull heap) s e = known _ _ s (pushes-does _ class.Ref refl) e
-  operator-does (op.RefFunc f) s e = known _ _ s (pushes-does _ class.Ref refl) (if-true _ (refers_to []) s e)
-  operator-does op.I32Add s e = known _ _ s (joins_i32-does (λ a b. a + b)) e
-  operator-does op.I32Sub s e = known _ _ s (joins_i32-does (λ a b. a + (2 ^ 32 - b))) e
-  operator-does op.I32Mul s e = known _ _ s (joins_i32-does (λ a b. a * b)) e
-  operator-does op.I64Add s e = known _ _ s (joins_i64-does (λ a b. a + b)) e
-  operator-does op.I64Sub s e = known _ _ s (joins_i64-does (λ a b. a + (2 ^ 64 - b))) e
-  operator-does op.I64Mul s e = known _ _ s (joins_i64-does (λ a b. a * b)) e
   operator-does (op.StructNew t) s e = struct-does t s (struct_at l t) refl e
   operator-does (op.StructNewDefault t) s e = default_struct-does t s (struct_at l t) e
   operator-does (op.ArrayNew t) s e = array-does t s (array_at l t) e
   operator-does (op.ArrayNewDefault t) s e = default_array-does t s (array_at l t) e
   operator-does (op.ArrayNewFixed t n) s e = fixed_array-does t n s (array_at l t) e
-  operator-does op.ExternConvertAny s e = known _ _ s (converts-does to_extern) e
-  operator-does op.AnyConvertExtern s e = known _ _ s (converts-does to_any) e
+  -- each other pushes a value, joins two numbers, or makes a reference of one value
+  operator-does operator s e = search (rules, known, pushes-does, i32-fits, i64-fits, joins_i32-does, joins_i64-does, i31-does, converts-does, if-true)
 
   leads : (e : Expression) (before after : List Class) (vs : List Value) → Leads l visible e before after → AreOfClasses vs before
       → (last : List Value) × (run (λ op. acted (action globals (field_count l) op)) e vs ≡ Some last) × AreOfClasses last after

@@ -1,5 +1,5 @@
 -- The items of two lists, one after the other, and each converted: the parts at the seam.
-use Rattle.std.proofs.Common.{◌≡◌, ◌∙◌, ◌+◌, List, ◌++◌, length, map, take, drop, refl, sym, ap}
+use Rattle.std.proofs.Common.{◌≡◌, ◌∙◌, List, ◌++◌, length, map, take, drop, refl, sym, ap}
 use Rattle.std.proofs.lemmas.List.{map-append, length-map, take-map, drop-map}
 use Rattle.type_data.specs.ListLaws.{map-twice}
 use Rattle.std.proofs.Math.Seq.{take-append_seam, drop-append_seam}

@@ -11,10 +11,11 @@ ghost use Rattle.wasm_types.specs.EntityViews.{table_of};
 ghost use Rattle.wasm_types.specs.TypeViews.{composite_of};
 ghost use Rattle.wasm_types.specs.ValueViews.{reference_of, field_of};
 ghost use Rattle.wasm_convert.specs.Conversion.{heap_type_of, table_type_of};
-ghost use Rattle.wasm_convert.specs.Operators.{const_op_of, operator_of};
+ghost use Rattle.wasm_convert.specs.Operators.{const_op_of, operator_of, operands_of, place_of_operator, plain_result};
 ghost use Rattle.replay_spec.specs.Values.{const_value};
 ghost use Rattle.wasm_convert.specs.Constants.{functions_of, plain_value_of, expression_of, IsNonzeroI32};
 
+use crate::operands::Operands;
 use crate::operators::ConstOp;
 use crate::values::GlobalConstValue;
 use wasm_spec::{AbstractHeapType, HeapType, Operator, StorageType, UnpackedIndex};
@@ -55,5 +56,10 @@ pub fn worked_constants()
     ensures sum { const_value (expression_of (ConstOp.I32Const (pos 2147483647) ∷ ConstOp.I32Const (pos 1) ∷ ConstOp.I32Add ∷ []))
         ≡ Some (plain_value_of (GlobalConstValue.I32 (negsuc 2147483647))) }
     ensures two_constants { const_value (expression_of (ConstOp.I32Const (pos 1) ∷ ConstOp.I32Const (pos 2) ∷ [])) ≡ None }
+    ensures operands { operands_of (ConstOp.ArrayNewFixed (index_of 3) 5) ≡ Operands.IndexAndSize 3 5 }
+    ensures last { place_of_operator ConstOp.AnyConvertExtern ≡ 21 }
+    ensures product { plain_result ConstOp.I64Mul (plain_value_of (GlobalConstValue.I64 (negsuc 2)) ∷ plain_value_of (GlobalConstValue.I64 (pos 5)) ∷ [])
+        ≡ Some (plain_value_of (GlobalConstValue.I64 (negsuc 14))) }
+    ensures other_type { plain_result ConstOp.I64Mul (plain_value_of (GlobalConstValue.I32 (pos 3)) ∷ plain_value_of (GlobalConstValue.I64 (pos 5)) ∷ []) ≡ None }
     ensures below_zero { IsNonzeroI32 (ConstOp.I32Const (negsuc 0) ∷ []) }
 {}
