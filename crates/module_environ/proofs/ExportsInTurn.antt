@@ -32,7 +32,7 @@ insert-behind eq same n (e ∷ es) k v behind =
     by first (same k first) (insert-behind eq same (n + 1) es k v (omega (arith, behind))) (eq k first) refl where
       by : (first : Atom) → (eq k first ≡ true → k ≡ first) → insert_entry eq (entered_from (n + 1) es) k v ≡ entered_from (n + 1) es ++ (k, v) ∷ []
           → (b : Bool) → eq k first ≡ b → cond b ((first, entity_at e.kind e.index) ∷ entered_from (n + 1) es)
-            ((first, entity_at e.kind e.index) ∷ insert_entry eq (entered_from (n + 1) es) k v) ≡ (first, entity_at e.kind e.index) ∷ (entered_from (n + 1) es ++ (k, v) ∷ [])
+          ((first, entity_at e.kind e.index) ∷ insert_entry eq (entered_from (n + 1) es) k v) ≡ (first, entity_at e.kind e.index) ∷ (entered_from (n + 1) es ++ (k, v) ∷ [])
       by first equal rest true is = absurd (let far = ap atom_number (equal is) in omega (arith, far, behind))
       by first equal rest false is = ap (λ (xs : List (Atom × EntityIndex)). (first, entity_at e.kind e.index) ∷ xs) rest
 

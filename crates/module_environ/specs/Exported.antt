@@ -1,13 +1,12 @@
 -- What exports become, one after another.
-use Rattle.std.specs.Prelude.{◌≡◌, ◌<◌, ℕ, List, map, All, IfSome}
+use Rattle.std.specs.Prelude.{◌<◌, ℕ, ◌+◌, List, [], ◌∷◌, IfSome}
 use Rattle.std.specs.List.{filter_map}
 use Rattle.entity_map.specs.Entity.{reserved_number}
 use Rattle.entity_map.specs.declared.pool.Atom.{Atom}
 use Rattle.wasm_spec.specs.Module.{Export}
 use Rattle.wasm_types.specs.declared.entity.EntityIndex.{EntityIndex}
-use Rattle.module_environ.specs.Entities.{resolved_export, exported_entities}
+use Rattle.module_environ.specs.Entities.{entity_at}
 use Rattle.module_environ.specs.Escapes.{exported_function}
-use Rattle.module_environ.specs.Pooled.{HasText}
 
 -- the functions among what is exported
 abbrev pub exported_functions : List Export → List ℕ

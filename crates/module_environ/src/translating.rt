@@ -212,15 +212,7 @@ fn translate_lists<'d>(
     }
     let ids = Types::build_from(alloc, validator, lists.source, groups)?;
     let indices = intern_types(alloc, &ids, types)?;
-    fill_lists(
-        alloc,
-        tunables,
-        types,
-        lists,
-        names,
-        &indices,
-        translation,
-    )?;
+    fill_lists(alloc, tunables, types, lists, names, &indices, translation)?;
     translation.module.tags = convert_tags(alloc, lists.spaces.tags.as_slice(), &indices, types)?;
     translation.module.types = indices;
     translation.set_types(ids);
