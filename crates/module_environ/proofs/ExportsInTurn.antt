@@ -29,12 +29,12 @@ insert-behind : (eq : Atom → Atom → Bool) → ((x y : Atom) → eq x y ≡ t
 insert-behind eq same n [] k v behind = refl
 insert-behind eq same n (e ∷ es) k v behind =
     let first : Atom = record { 0 = n } in
-    by first (same k first) (insert-behind eq same (n + 1) es k v (omega (arith, behind))) (eq k first) refl where
-      by : (first : Atom) → (eq k first ≡ true → k ≡ first) → insert_entry eq (entered_from (n + 1) es) k v ≡ entered_from (n + 1) es ++ (k, v) ∷ []
-          → (b : Bool) → eq k first ≡ b → cond b ((first, entity_at e.kind e.index) ∷ entered_from (n + 1) es)
+    by first refl (same k first) (insert-behind eq same (n + 1) es k v (omega (arith, behind))) (eq k first) refl where
+      by : (first : Atom) → atom_number first ≡ n → (eq k first ≡ true → k ≡ first) → insert_entry eq (entered_from (n + 1) es) k v ≡ entered_from (n + 1) es ++ (k, v) ∷ []
+          → (b : Bool) → eq k first ≡ b → cond b ((first, v) ∷ entered_from (n + 1) es)
           ((first, entity_at e.kind e.index) ∷ insert_entry eq (entered_from (n + 1) es) k v) ≡ (first, entity_at e.kind e.index) ∷ (entered_from (n + 1) es ++ (k, v) ∷ [])
-      by first equal rest true is = absurd (let far = ap atom_number (equal is) in omega (arith, far, behind))
-      by first equal rest false is = ap (λ (xs : List (Atom × EntityIndex)). (first, entity_at e.kind e.index) ∷ xs) rest
+      by first at equal rest true is = absurd (let far = ap atom_number (equal is) in omega (arith, at, far, behind))
+      by first at equal rest false is = ap (λ (xs : List (Atom × EntityIndex)). (first, entity_at e.kind e.index) ∷ xs) rest
 
 entered-push : (n : ℕ) (es : List Export) (e : Export) (k : Atom) → atom_number k ≡ n + length es
     → entered_from n (es ++ e ∷ []) ≡ entered_from n es ++ (k, entity_at e.kind e.index) ∷ []
@@ -70,7 +70,7 @@ pub entered-resolved : (texts : List (List ℕ)) (es : List Export) (others : Li
 entered-resolved texts es others is entries all = ap (map (resolved_export texts)) all ∙ resolved-from texts [] es others is
 
 pooled-from : (texts : List (List ℕ)) (n : ℕ) (es : List Export) → n + length es ≤ length texts → All (λ e. HasText texts e.0) (entered_from n es)
-pooled-from texts n [] within = tt
+pooled-from texts n [] within = λ k d lt. absurd (omega arith)
 pooled-from texts n (e ∷ es) within = All-cons (λ (x : Atom × EntityIndex). HasText texts x.0) _ _ (omega (arith, within)) (pooled-from texts (n + 1) es (omega (arith, within)))
 
 pub length-names : (texts : List (List ℕ)) (es : List Export) (others : List (List ℕ)) → texts ≡ exported_names es ++ others → length es ≤ length texts
@@ -80,4 +80,4 @@ length-names texts es others is =
 pub entered-pooled : (texts : List (List ℕ)) (es : List Export) (others : List (List ℕ)) → texts ≡ exported_names es ++ others
     → (entries : List (Atom × EntityIndex)) → entries ≡ entered es → All (λ e. HasText texts e.0) entries
 entered-pooled texts es others is entries all =
-    subst (All (λ (e : Atom × EntityIndex). HasText texts e.0)) (sym all) (pooled-from texts 0 es (length-names texts es others is))
+    subst (All (λ (e : Atom × EntityIndex). HasText texts e.0)) (sym all) (pooled-from texts 0 es (omega (arith, length-names texts es others is)))
