@@ -1,8 +1,7 @@
 -- The last piece that covers a place, and the byte there.
-use Rattle.std.proofs.Common.{◌≡◌, ℕ, suc, ◌+◌, ◌-◌, ◌<◌, ◌≤◌, Bool, true, false, List, [], ◌∷◌, map, get_or, Option, Some, None, ◌⊎◌, inl, inr, refl, sym, ◌∙◌, ap, subst, arith}
+use Rattle.std.proofs.Common.{◌≡◌, ℕ, suc, ◌+◌, ◌-◌, ◌<◌, ◌≤◌, Bool, true, false, List, [], ◌∷◌, map, get_or, Option, Some, None, ◌⊎◌, refl, ◌∙◌, ap, arith}
 use Rattle.std.specs.Prelude.{slice_get, unwrap_or}
-use Rattle.std.proofs.Math.Logic.{⊎_elim}
-use Rattle.std.proofs.lemmas.Bool.{cases_lt, le-leb}
+use Rattle.std.proofs.lemmas.Bool.{le-leb}
 use Rattle.std.proofs.lemmas.Bool.Decides.{nat_tests}
 use Rattle.std.proofs.lemmas.Option.{slice_get-get_or, slice_get_past}
 use Rattle.memory_images.specs.Ranges.{is_within, later_or, last_cover_from}
@@ -41,8 +40,7 @@ pub within_is : (start end place : ℕ) → is_within start end place ≡ true �
 within_is start end place h = (grind (arith, nat_tests), grind (arith, nat_tests))
 
 not_within : (start end place : ℕ) → is_within start end place ≡ false → (place < start) ⊎ (end ≤ place)
-not_within start end place h = ⊎_elim inl
-    (λ (ge : start ≤ place). ⊎_elim (λ (lt : place < end). absurd (let f : true ≡ false = sym (within_yes start end place ge lt) ∙ h in cc)) inr (cases_lt place end)) (cases_lt place start)
+not_within start end place h = grind (arith, nat_tests)
 
 -- what a piece gives at a place
 pub covers : (x : Laid) (place : ℕ) → x.start ≤ place → place < end_of x → item_at 0 place (piece_of x) ≡ Some (get_or x.bytes.now (place - x.start) 0)
@@ -70,4 +68,4 @@ pub covered : (laid : List Laid) (place s : ℕ) → last_cover_from 0 place (ma
 covered laid place s e = grind (arith, told 0 0 place laid)
 
 pub uncovered : (laid : List Laid) (place : ℕ) → last_cover_from 0 place (map pair_of laid) ≡ None → contents_of laid place ≡ 0
-uncovered laid place e = let P : Option ℕ → Type 0 = λ o. Told 0 0 place laid o in subst P e (told 0 0 place laid)
+uncovered laid place e = grind (arith, told 0 0 place laid)

@@ -63,15 +63,7 @@ module _ (laid : List Laid) (ranges : List Written) (written : AreWritten (map p
       let d = covering k w g (w.end - 1) (omega arith) (omega arith) in
       let same : d.part ≡ c.part = two_some (slice_get laid w.segment) d.part c.part d.is_part c.is_part in
       let e : end_of d.part ≡ end_of c.part = ap end_of same in
-      record {
-        part = c.part;
-        is_part = c.is_part;
-        low = c.from;
-        high = let u = d.upto in omega arith;
-        bytes = λ place h l.
-            let b = covering k w g place h l in
-            b.byte ∙ ap (λ (x : Laid). byte_in x place) (two_some (slice_get laid w.segment) b.part c.part b.is_part c.is_part);
-      }
+      grind (arith, covering k w g, two_some)
 
   -- where no range lies all is zero
   zero_or_in : (place : ℕ) → (contents_of laid place ≡ 0) ⊎ LiesIn ranges (length ranges) place

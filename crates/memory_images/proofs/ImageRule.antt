@@ -1,13 +1,11 @@
 -- The image rule, memory by memory.
-use Rattle.std.proofs.Common.{◌≡◌, ◌≢◌, ℕ, ◌+◌, ◌^◌, ◌<◌, List, [], length, map, get_or, All, Some, sym, ◌∙◌, ap, subst, arith}
+use Rattle.std.proofs.Common.{◌≡◌, ◌≢◌, ℕ, ◌+◌, ◌^◌, ◌<◌, List, [], length, map, get_or, All, Some, refl, sym, ◌∙◌, ap, subst, arith}
 use Rattle.std.specs.Prelude.{slice_get, nat_lt, ◌==◌, ◌&&◌}
 use Rattle.std.specs.Global.{Vec}
 use Rattle.std.specs.Option.{option_map}
-use Rattle.std.proofs.Math.Logic.{⊎_elim}
-use Rattle.std.proofs.lemmas.Bool.{cases_eq}
 use Rattle.std.proofs.lemmas.List.{length-map}
 use Rattle.std.proofs.lemmas.List.Elements.{All-filter, All-map}
-use Rattle.std.proofs.lemmas.Option.{slice_get-map, slice_get-get_or}
+use Rattle.std.proofs.lemmas.Option.{slice_get-map, slice_get-get_or, slice_get_read}
 use Rattle.replay_spec.specs.Phases.{Piece}
 use Rattle.replay_spec.specs.Data.{ActiveSegment}
 use Rattle.replay_spec.specs.Images.{ImageOptions, ImageMemory, IsPlaced, bytes_on, end_of, MayBeImage}
@@ -28,8 +26,8 @@ abbrev Fits : Piece ℕ → Type 0
 Fits p = p.offset + length p.items < 2 ^ 64
 
 module _ (imports : ℕ) (memories : List ImageMemory) (active : List ActiveSegment) (all : List (Vec Laid)) (are : AreLaid imports memories active all) where
-  pub fit_on : (m : ℕ) (laid : Vec Laid) → slice_get all m ≡ Some laid → All (λ x. laid_end x < 2 ^ 64) laid.items
-  fit_on m laid at = λ k d l. all_mapped piece_of Fits laid.items k d (subst (All Fits) (sym (are.each m) ∙ ap pieces_in at) segments) l where
+  pub all_fit : All (λ laid. All (λ x. laid_end x < 2 ^ 64) laid.items) all
+  all_fit m d l k e i = all_mapped piece_of Fits (get_or all m d).items k e (subst (All Fits) (sym (are.each m) ∙ ap pieces_in (slice_get-get_or all m d l)) segments) i where
     ends : (s : ActiveSegment) → IsPlaced imports memories s → end_of s < 2 ^ 64
     ends s p = grind (arith, start-placed imports memories s p)
 
@@ -37,20 +35,12 @@ module _ (imports : ℕ) (memories : List ImageMemory) (active : List ActiveSegm
     segments = All-map Fits laid_piece (bytes_on m active)
         (All-filter (λ s. s.memory == m && nat_lt 0 (length s.bytes)) (λ s. end_of s < 2 ^ 64) active (λ k s l. ends (get_or active k s) (are.placed k s l)))
 
-  pub all_fit : All (λ laid. All (λ x. laid_end x < 2 ^ 64) laid.items) all
-  all_fit = λ m d l. fit_on m (get_or all m d) (slice_get-get_or all m d l)
-
-  pub laid_same : (m : ℕ) (laid : Vec Laid) → slice_get all m ≡ Some laid → map piece_of laid.items ≡ map laid_piece (bytes_on m active)
-  laid_same m laid at = sym (ap pieces_in at) ∙ are.each m
+  pub laid_same : (m : ℕ) (laid : Vec Laid) → m < length all → laid ≡ get_or all m laid → map piece_of laid.items ≡ map laid_piece (bytes_on m active)
+  laid_same m laid l is = sym (ap pieces_in (slice_get_read all (length all) m laid refl l is)) ∙ are.each m
 
 pub memory_at : (defined : List Memory) (m : ℕ) (d : Memory) → m < length defined → slice_get (map image_memory defined) m ≡ Some (image_memory (get_or defined m d))
 memory_at defined m d l = slice_get-map image_memory defined m ∙ ap (option_map image_memory) (slice_get-get_or defined m d l)
 
-pub may_more : (options : ImageOptions) (imports : ℕ) (memories : List ImageMemory) (active : List ActiveSegment) (m : ℕ) (first : ImageMemory) → slice_get memories m ≡ Some first
-    → (bytes_on (imports + m) active ≢ [] → MayBeImage options first (bytes_on (imports + m) active))
-    → ((k : ℕ) (memory : ImageMemory) → k < m → slice_get memories k ≡ Some memory → bytes_on (imports + k) active ≢ [] → MayBeImage options memory (bytes_on (imports + k) active))
-    → (k : ℕ) (memory : ImageMemory) → k < m + 1 → slice_get memories k ≡ Some memory → bytes_on (imports + k) active ≢ [] → MayBeImage options memory (bytes_on (imports + k) active)
-may_more options imports memories active m first at may so_far k memory l found = ⊎_elim
-    (λ (is : k ≡ m). grind arith)
-    (λ (ne : k ≢ m). so_far k memory (omega arith) found)
-    (cases_eq k m)
+pub may_here : (options : ImageOptions) (memories : List ImageMemory) (m : ℕ) (first memory : ImageMemory) (ss : List ActiveSegment) → slice_get memories m ≡ Some first
+    → slice_get memories m ≡ Some memory → (ss ≢ [] → MayBeImage options first ss) → ss ≢ [] → MayBeImage options memory ss
+may_here options memories m first memory ss at found may = grind arith

@@ -1,7 +1,5 @@
 -- The ranges that are written by segments are one list.
-use Rattle.std.proofs.Common.{◌≡◌, ℕ, suc, ◌<◌, ◌≤◌, List, [], ◌∷◌, All, AllPairs, Some, None, refl, sym, ◌∙◌, ap, arith}
-use Rattle.std.proofs.Math.Logic.{⊎_elim}
-use Rattle.std.proofs.lemmas.Bool.{cases_lt}
+use Rattle.std.proofs.Common.{◌≡◌, ℕ, suc, ◌<◌, List, [], ◌∷◌, All, AllPairs, Some, None, refl, sym, ◌∙◌, arith}
 use Rattle.std.proofs.lemmas.List.Elements.{All-head, All-tail}
 use Rattle.memory_images.specs.declared.written.Written.{Written}
 use Rattle.memory_images.specs.Ranges.{segment_at, IsBefore, AreWritten}
@@ -23,9 +21,7 @@ first_some w ws h = All-head (λ (v : Written). v.start < v.end) w ws h.some
 -- no range after the first holds a place below its end
 none_below : (place : ℕ) (ws : List Written) → All (λ (w : Written). place < w.start) ws → segment_at ws place ≡ None
 none_below place [] all = refl
-none_below place (w ∷ ws) all =
-    rw (within_low w.start w.end place (All-head (λ (v : Written). place < v.start) w ws all))
-    (none_below place ws (All-tail (λ (v : Written). place < v.start) w ws all))
+none_below place (w ∷ ws) all = grind (arith, within_low, All-head, none_below place ws (All-tail (λ (v : Written). place < v.start) w ws all))
 
 none_behind : (w : Written) (ws : List Written) (place : ℕ) → AreRanges (w ∷ ws) → place < w.end → segment_at ws place ≡ None
 none_behind w ws place h lt = none_below place ws (λ k d l. let b = (h.ordered 0 (suc k) d (omega arith) (omega arith)).apart in omega (arith, b))
@@ -38,8 +34,7 @@ abbrev range : ℕ → ℕ → ℕ → Written
 range start end segment = record { start = start; end = end; segment = segment }
 
 same_written : (x y : Written) → x.start ≡ y.start → x.end ≡ y.end → x.segment ≡ y.segment → x ≡ y
-same_written x y a b c =
-    ap (λ (n : ℕ). range n x.end x.segment) a ∙ ap (λ (n : ℕ). range y.start n x.segment) b ∙ ap (λ (n : ℕ). range y.start y.end n) c
+same_written x y a b c = grind arith
 
 module _ (x y : Written) (xs ys : List Written) (hx : AreRanges (x ∷ xs)) (hy : AreRanges (y ∷ ys))
     (same : (place : ℕ) → segment_at (x ∷ xs) place ≡ segment_at (y ∷ ys) place) where
@@ -65,9 +60,7 @@ module _ (x y : Written) (xs ys : List Written) (hx : AreRanges (x ∷ xs)) (hy 
 -- the ranges after a first one that both lists share
 same_behind : (w : Written) (xs ys : List Written) → AreRanges (w ∷ xs) → AreRanges (w ∷ ys)
     → ((place : ℕ) → segment_at (w ∷ xs) place ≡ segment_at (w ∷ ys) place) → (place : ℕ) → segment_at xs place ≡ segment_at ys place
-same_behind w xs ys hx hy same place = ⊎_elim
-    (λ (lt : place < w.end). none_behind w xs place hx lt ∙ sym (none_behind w ys place hy lt))
-    (λ (ge : w.end ≤ place). let e = same place in rw (within_high w.start w.end place ge) at e) (cases_lt place w.end)
+same_behind w xs ys hx hy same place = grind (arith, none_behind w xs place hx, none_behind w ys place hy, within_high, same place)
 
 -- ranges that give each place the same segment are the same
 one_list : (xs ys : List Written) → AreRanges xs → AreRanges ys → ((place : ℕ) → segment_at xs place ≡ segment_at ys place) → xs ≡ ys
@@ -82,7 +75,7 @@ one_list (x ∷ xs) (y ∷ ys) hx hy same =
     let first : x ≡ y = same_written x y start end segment in
     with_first first (one_list xs ys (ranges_behind x xs hx) (ranges_behind y ys hy)) where
       equal : (m n : ℕ) → (m < n → ⊥) → (n < m → ⊥) → m ≡ n
-      equal m n low high = ⊎_elim (λ (l : m < n). absurd (low l)) (λ (g : n ≤ m). ⊎_elim (λ (l : n < m). absurd (high l)) (λ (h : m ≤ n). omega arith) (cases_lt n m)) (cases_lt m n)
+      equal m n low high = grind arith
 
       with_first : x ≡ y → (((place : ℕ) → segment_at xs place ≡ segment_at ys place) → xs ≡ ys) → x ∷ xs ≡ y ∷ ys
       with_first is rest = let tails : xs ≡ ys = rest (same_behind y xs ys (rw is at hx) hy (λ place. rw is at same place)) in rw (is, tails) refl

@@ -1,5 +1,5 @@
 -- The images of laid bytes are those of the segments.
-use Rattle.std.proofs.Common.{◌≡◌, ℕ, true, false, List, [], ◌∷◌, length, map, Option, None, refl, sym, ◌∙◌, ap, arith}
+use Rattle.std.proofs.Common.{◌≡◌, ℕ, true, false, List, [], ◌∷◌, length, map, Option, None, refl, sym, ◌∙◌, ap, subst, arith}
 use Rattle.std.specs.Prelude.{unwrap_or, nat_lt, ◌==◌, ◌&&◌}
 use Rattle.std.specs.Global.{Vec}
 use Rattle.std.proofs.Math.Logic.{⊎_elim}
@@ -27,16 +27,13 @@ moved (s ∷ rest) m place d = ⊎_elim
     rw test (ap (λ o. last_item m place (unwrap_or o d) (map (piece_of offset_of) rest)) none ∙ moved rest m place d))
     (cases_Bool (s.memory == m && nat_lt 0 (length s.bytes)))
 
-same_image : (page : ℕ) (c e : ℕ → ℕ) → ((place : ℕ) → c place ≡ e place) → (i : Option MemoryImage) → ImageOf page c i → ImageOf page e i
-same_image page c e same i h = grind arith
-
 module _ (imports : ℕ) (memories : List ImageMemory) (active : List ActiveSegment) (all : List (Vec Laid)) (are : AreLaid imports memories active all)
     (n page : ℕ) (count : length all ≡ n) (images : List (Option MemoryImage)) where
-  contents : (m place : ℕ) → contents_at all m place ≡ written_on active m place
-  contents m place = ap (last_item 0 place 0) (are.each m) ∙ sym (moved active m place 0)
+  contents : contents_at all ≡ written_on active
+  contents = λ i m place. (ap (last_item 0 place 0) (are.each m) ∙ sym (moved active m place 0)) i
 
   pub are_images : AreListed (λ m. ImageOf page (contents_at all m)) (length all) images → AreImages page n active images
-  are_images h = record { count = h.count ∙ count; each = λ m image at. same_image page (contents_at all m) (written_on active m) (contents m) image (h.each m image at) }
+  are_images h = record { count = h.count ∙ count; each = λ m image at. subst (λ c. ImageOf page (c m) image) contents (h.each m image at) }
 
   pub of_laid : AreImages page n active images → AreListed (λ m. ImageOf page (contents_at all m)) (length all) images
-  of_laid h = record { count = h.count ∙ sym count; each = λ m image at. same_image page (written_on active m) (contents_at all m) (λ place. sym (contents m place)) image (h.each m image at) }
+  of_laid h = record { count = h.count ∙ sym count; each = λ m image at. subst (λ c. ImageOf page (c m) image) (sym contents) (h.each m image at) }

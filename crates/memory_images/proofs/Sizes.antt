@@ -1,8 +1,7 @@
 -- The images of all memories, and how large they are.
-use Rattle.std.proofs.Common.{◌≡◌, ℕ, suc, ◌+◌, ◌-◌, ◌^◌, ◌<◌, ◌≤◌, List, [], ◌∷◌, ◌++◌, length, get_or, sum_by, min, Option, None, Some, refl, sym, ◌∙◌, ap, subst, arith}
+use Rattle.std.proofs.Common.{◌≡◌, ℕ, suc, ◌+◌, ◌-◌, ◌^◌, List, [], ◌∷◌, ◌++◌, length, sum_by, min, Option, None, Some, refl, sym, ◌∙◌, subst, arith}
 use Rattle.std.specs.Prelude.{slice_get}
 use Rattle.std.specs.Global.{Vec}
-use Rattle.std.proofs.Math.Logic.{⊎_elim}
 use Rattle.std.proofs.lemmas.Bool.{cases_lt}
 use Rattle.std.proofs.lemmas.List.{length_push, get_or_push, get_or_append_left}
 use Rattle.std.proofs.lemmas.List.Sums.{sum_by-cons}
@@ -17,19 +16,10 @@ use Rattle.memory_images.specs.Image.{IsSpan, SpanOf}
 use Rattle.memory_images.specs.Images.{AreListed, span_size}
 
 pub listed_more : {A : Type 0} (R : ℕ → A → Type 0) (n : ℕ) (ys : List A) (y : A) → R n y → AreListed R n ys → AreListed R (n + 1) (ys ++ y ∷ [])
-listed_more R n ys y h so_far =
-    let c = so_far.count in
-    let len = length_push ys y in
-    record {
-      count = omega (arith, c, len);
-      each = λ m answer at.
-          let l = slice_get_within (ys ++ y ∷ []) m answer at in
-          let is : get_or (ys ++ y ∷ []) m answer ≡ answer = get_or_from_slice_get (ys ++ y ∷ []) m answer answer at in
-          ⊎_elim
-          (λ (lt : m < length ys). so_far.each m answer (slice_get-get_or ys m answer lt ∙ ap Some (sym (get_or_append_left ys (y ∷ []) answer m lt) ∙ is)))
-          (λ (ge : length ys ≤ m). grind (arith, get_or_push))
-          (cases_lt m (length ys));
-    }
+listed_more R n ys y h so_far = record {
+  count = grind (arith, length_push, so_far.count);
+  each = λ m answer at. grind (arith, so_far.count, so_far.each m, cases_lt m (length ys), slice_get_within (ys ++ y ∷ []) m answer at, get_or_from_slice_get (ys ++ y ∷ []) m answer answer at, slice_get-get_or ys m answer, get_or_append_left, get_or_push, length_push);
+}
 
 listed_behind : {A : Type 0} (R : ℕ → A → Type 0) (n : ℕ) (x : A) (xs : List A) → AreListed R (suc n) (x ∷ xs) → AreListed (λ m. R (suc m)) n xs
 listed_behind R n x xs h = record { count = (let c = h.count in omega arith); each = λ m answer at. h.each (suc m) answer at }

@@ -1,11 +1,12 @@
 -- Ranges that are found from low places to high ones.
-use Rattle.std.proofs.Common.{◌≡◌, ℕ, zero, suc, ◌+◌, ◌-◌, ◌^◌, ◌<◌, ◌≤◌, true, false, List, [], ◌∷◌, ◌++◌, length, take, get_or, min, All, AllPairs, Option, Some, None, refl, sym, ◌∙◌, ap, subst, arith}
+use Rattle.std.proofs.Common.{◌≡◌, ℕ, zero, suc, ◌+◌, ◌-◌, ◌^◌, ◌<◌, ◌≤◌, false, List, [], ◌∷◌, ◌++◌, length, take, get_or, min, All, AllPairs, Option, Some, None, refl, sym, ◌∙◌, ap, subst, arith}
 use Rattle.std.specs.Prelude.{Contains, IsSome, IfSome, slice_get, slice_set}
 use Rattle.std.specs.BinaryHeap.{IsUpperBound}
 use Rattle.std.specs.List.Sorted.{IsPermutation}
 use Rattle.std.specs.Ordering.{nat_cmp}
 use Rattle.std.proofs.Math.Logic.{⊎_elim}
 use Rattle.std.proofs.lemmas.Bool.{cases_lt}
+use Rattle.std.proofs.lemmas.Bool.Decides.{nat_tests}
 use Rattle.std.proofs.lemmas.List.{take_all, take_more, take_more_set, length-take, length-set, get_or-take}
 use Rattle.std.proofs.lemmas.List.Elements.{All-push, All-cons, Contains-append_left, Contains-push, All-tail, All-take}
 use Rattle.std.proofs.lemmas.List.Quantifiers.{all_pairs_push}
@@ -24,28 +25,19 @@ read_at xs n x y l is at = two_some (slice_get xs n) x y (slice_get-get_or xs n 
 -- ---- the last pair that covers a place
 
 not_within : (start end place : ℕ) → (start ≤ place → place < end → ⊥) → is_within start end place ≡ false
-not_within start end place never = ⊎_elim (within_low start end place)
-    (λ (ge : start ≤ place). ⊎_elim (λ (l : place < end). absurd (never ge l)) (within_high start end place) (cases_lt place end)) (cases_lt place start)
+not_within start end place never = grind (arith, nat_tests)
 
 none_is : (n place : ℕ) (ps : List (ℕ × ℕ)) → ((k : ℕ) → k < length ps → start_of ps k ≤ place → place < end_of ps k → ⊥) → last_cover_from n place ps ≡ None
 none_is n place [] none = refl
-none_is n place (p ∷ ps) none =
-    let here = not_within p.0 (p.0 + p.1) place (none 0 (omega arith)) in
-    let behind = none_is (suc n) place ps (λ k l. none (suc k) (omega arith)) in
-    rw (behind, here) refl
+none_is n place (p ∷ ps) none = rw (none_is (suc n) place ps (λ k l. none (suc k) (omega arith)), not_within p.0 (p.0 + p.1) place (none 0 (omega arith))) refl
 
 last_is : (n place : ℕ) (ps : List (ℕ × ℕ)) (k : ℕ) → k < length ps → start_of ps k ≤ place → place < end_of ps k
     → ((j : ℕ) → k < j → j < length ps → start_of ps j ≤ place → place < end_of ps j → ⊥) → last_cover_from n place ps ≡ Some (n + k)
 last_is n place [] k l from upto none = absurd (omega arith)
 last_is n place (p ∷ ps) zero l from upto none =
-    let here = within_yes p.0 (p.0 + p.1) place from upto in
-    let behind = none_is (suc n) place ps (λ j m. none (suc j) (omega arith) (omega arith)) in
-    let same : n ≡ n + 0 = omega arith in
-    rw (behind, here) (ap Some same)
+    grind (arith, within_yes p.0 (p.0 + p.1) place from upto, none_is (suc n) place ps (λ j m. none (suc j) (omega arith) (omega arith)))
 last_is n place (p ∷ ps) (suc k) l from upto none =
-    let behind = last_is (suc n) place ps k (omega arith) from upto (λ j m i. none (suc j) (omega arith) (omega arith)) in
-    let same : suc n + k ≡ n + suc k = omega arith in
-    rw behind (ap Some same)
+    grind (arith, last_is (suc n) place ps k (omega arith) from upto (λ j m i. none (suc j) (omega arith) (omega arith)))
 
 -- ---- one more range
 
@@ -53,15 +45,9 @@ at-push : (ws : List Written) (w : Written) (place : ℕ) → segment_at (ws ++ 
 at-push [] w place = refl
 at-push (v ∷ ws) w place = grind (arith, (at-push ws w place))
 
-not_later : (o : Option ℕ) (n : ℕ) → later_or o false n ≡ o
-not_later (Some k) n = refl
-not_later None n = refl
-
 none_above : (n place : ℕ) (ws : List Written) → n ≤ place → All (λ w. w.end ≤ n) ws → segment_at ws place ≡ None
 none_above n place [] l all = refl
-none_above n place (w ∷ ws) l all =
-    let here = within_high w.start w.end place (let e : w.end ≤ n = all 0 w (omega arith) in omega arith) in
-    rw here (none_above n place ws l (All-tail (λ (v : Written). v.end ≤ n) w ws all))
+none_above n place (w ∷ ws) l all = grind (arith, within_high, all 0 w (omega arith), none_above n place ws l (All-tail (λ (v : Written). v.end ≤ n) w ws all))
 
 module _ (segments : List (ℕ × ℕ)) (start end : ℕ) (some : start < end) where
   -- the last range reaches from a start or below it up to an end
@@ -70,7 +56,7 @@ module _ (segments : List (ℕ × ℕ)) (start end : ℕ) (some : start < end) w
       → AllPairs IsBefore (init ++ w ∷ []) → AreWrittenBelow segments end (init ++ w ∷ [])
   reaches init w from upto owner low below somes ordered = record {
     places = grind (arith, none_above, within_yes, at-push);
-    below = All-push (λ (v : Written). v.end ≤ end) init w (λ k d l. let e = below k d l in omega arith) (omega arith);
+    below = All-push (λ (v : Written). v.end ≤ end) init w (λ k d l. omega (arith, below k d l)) (omega arith);
     some = All-push (λ (v : Written). v.start < v.end) init w somes (omega arith);
     ordered = ordered;
   }
@@ -81,7 +67,7 @@ module _ (segments : List (ℕ × ℕ)) (start end : ℕ) (some : start < end) w
     pub added : w.start ≡ start → ((last : Written) → slice_get ranges (length ranges - 1) ≡ Some last → last.end ≡ start → last.segment ≡ w.segment → ⊥) → AreWrittenBelow segments end (ranges ++ w ∷ [])
     added from other = reaches ranges w (omega arith) upto owner low a.below a.some (all_pairs_push IsBefore ranges w a.ordered before) where
       low : (place : ℕ) → place < start → segment_at (ranges ++ w ∷ []) place ≡ last_cover segments place
-      low place l = let out = within_low w.start w.end place (omega arith) in at-push ranges w place ∙ rw out (not_later (segment_at ranges place) w.segment) ∙ a.places place l
+      low place l = grind (arith, within_low, at-push, a.places place l)
 
       before : (k : ℕ) (d : Written) → k < length ranges → IsBefore (get_or ranges k d) w
       before k d l = grind (arith, slice_get-get_or)
@@ -108,25 +94,16 @@ module _ (segments : List (ℕ × ℕ)) (start end : ℕ) (some : start < end) w
           low_start = let s = some_last in omega (arith, s, from, touch)
 
           same_within : (place : ℕ) → place < start → is_within w.start w.end place ≡ is_within last.start last.end place
-          same_within place l = ⊎_elim
-              (λ (lt : place < w.start). within_low w.start w.end place lt ∙ sym (within_low last.start last.end place (omega (arith, lt, from))))
-              (λ (ge : w.start ≤ place). within_yes w.start w.end place ge (omega arith) ∙ sym (within_yes last.start last.end place (omega (arith, ge, from)) (omega (arith, l, touch))))
-              (cases_lt place w.start)
+          same_within place l = grind (arith, nat_tests)
 
           low : (place : ℕ) → place < start → segment_at (init ++ w ∷ []) place ≡ last_cover segments place
-          low place l = at-push init w place ∙ ap (λ b. later_or (segment_at init place) b w.segment) (same_within place l)
-              ∙ ap (later_or (segment_at init place) (is_within last.start last.end place)) (sym same) ∙ sym (at-push init last place)
-              ∙ ap (λ ws. segment_at ws place) old_is ∙ a.places place l
+          low place l = grind (arith, at-push, same_within, old_is, a.places place l)
 
           size : length init ≡ n
           size = let l = length-take n ranges in omega arith
 
           pairs : AllPairs IsBefore init
-          pairs i j e lt l =
-              let s = size in
-              let x = get_or-take n ranges i e (omega arith) in
-              let y = get_or-take n ranges j e (omega arith) in
-              rw (x, y) (a.ordered i j e lt (omega arith))
+          pairs i j e lt l = grind (arith, size, get_or-take, a.ordered i j e lt)
 
           before : (k : ℕ) (e : Written) → k < length init → IsBefore (get_or init k e) w
           before k e l =
@@ -150,9 +127,8 @@ module _ (segments : List (ℕ × ℕ)) (from at limit : ℕ) (old active : List
   -- no segment is active any more
   pub idle : (ranges : List Written) → length active ≡ 0 → at ≤ limit → AreWrittenBelow segments at ranges → AreWrittenBelow segments limit ranges
   idle ranges none high a = record {
-    places = λ place l. ⊎_elim (a.places place)
-        (λ (ge : at ≤ place). grind (arith, none_above, none_is)) (cases_lt place at);
-    below = λ k d l. let e = a.below k d l in omega arith;
+    places = λ place l. grind (arith, cases_lt place at, a.places place, none_above at place ranges, none_is 0 place segments);
+    below = λ k d l. omega (arith, a.below k d l);
     some = a.some;
     ordered = a.ordered;
   }
@@ -161,7 +137,7 @@ module _ (segments : List (ℕ × ℕ)) (from at limit : ℕ) (old active : List
 module _ (segments : List (ℕ × ℕ)) (from at next : ℕ) (old active rest : List ℕ) (top : ℕ) (some : 0 < length active) (is_top : top ≡ get_or active 0 top) (begun : AreBegun segments from active)
     (keeps : Keeps segments at old active) (up : at ≤ next) (ended : end_of segments top ≤ next) where
   pub popped : (o : Option ℕ) → IsSome o → IfSome o (λ x. x ≡ get_or active 0 x) → IfSome o (λ x. IsPermutation active (x ∷ rest)) → AreBegun segments from rest × Keeps segments next old rest
-  popped None is first moved = absurd (let e : false ≡ true = is in cc)
+  popped None is first moved = absurd cc
   popped (Some x) is first moved =
       let P : ℕ → Type 0 = λ k. (k < length segments) × (start_of segments k ≤ from) in
       let same : x ≡ top = read_at active 0 x top some first (slice_get-get_or active 0 top some ∙ ap Some (sym is_top)) in
@@ -194,21 +170,19 @@ module _ (segments starts : List (ℕ × ℕ)) (are : AreStarts segments starts)
     rises j ge l = let s = ap (λ (s : ℕ × ℕ). s.0) is_first in let r = are.rise i j (0, 0) ge l in omega (arith, s, r)
 
     pub reached : ((j : ℕ) → i ≤ j → j < length starts → at ≤ (get_or starts j (0, 0)).0) → at ≤ first.0
-    reached low = let s = ap (λ (s : ℕ × ℕ). s.0) is_first in let l = low i (omega arith) within in omega (arith, s, l)
+    reached low = grind (arith, is_first)
 
     own : (first.1 < length segments) × (first.0 ≡ start_of segments first.1)
     own = rw is (are.numbers i first within)
 
     pub small : All (λ pair. pair.0 + pair.1 < 2 ^ 64) segments → first.0 ≤ 2 ^ 64 - 1
-    small fits = let o = own in let s = o.1 in let f : end_of segments first.1 < 2 ^ 64 = fits first.1 (0, 0) o.0 in omega (arith, s, f)
+    small fits = grind (arith, own, fits first.1 (0, 0))
 
     module _ (old mid new : List ℕ) (moved : IsPermutation (first.1 ∷ mid) new) where
       pub begun_more : AreBegun segments first.0 mid → AreBegun segments first.0 new
       begun_more begun =
           let P : ℕ → Type 0 = λ k. (k < length segments) × (start_of segments k ≤ first.0) in
-          let o = own in
-          let s = o.1 in
-          All-permutation P (first.1 ∷ mid) new moved (All-cons P first.1 mid (o.0, omega (arith, s)) begun)
+          All-permutation P (first.1 ∷ mid) new moved (All-cons P first.1 mid (grind (arith, own)) begun)
 
       pub kept_more : at ≤ first.0 → AreKept segments starts i at old → Keeps segments first.0 old mid → AreKept segments starts (i + 1) first.0 new
       kept_more up kept keeps j l past = Contains-permutation (first.1 ∷ mid) new (get_or starts j (0, 0)).1 moved (⊎_elim

@@ -1,6 +1,6 @@
 -- Cells as they stand in images.
-use Rattle.std.proofs.Common.{◌≡◌, ℕ, zero, suc, ◌<◌, Bool, false, List, [], ◌∷◌, length, get_or, map, replicate, All, Option, None, Some, refl, sym, ◌∙◌, ap, subst, arith}
-use Rattle.std.specs.Prelude.{unwrap_or, IsSome, IsTrue, ◌==◌}
+use Rattle.std.proofs.Common.{◌≡◌, ℕ, zero, suc, ◌<◌, Bool, List, [], ◌∷◌, length, get_or, map, replicate, All, Option, None, Some, refl, ◌∙◌, ap, arith}
+use Rattle.std.specs.Prelude.{unwrap_or, IsSome, IsTrue}
 use Rattle.std.specs.Global.{Vec}
 use Rattle.std.specs.Option.{option_map}
 use Rattle.std.proofs.lemmas.Bool.{ne_eqb}
@@ -22,7 +22,7 @@ use Rattle.table_images.specs.Steps.{IsCell, AreFunctions, SegmentsHoldFunctions
 use Rattle.table_images.specs.Views.{active_elements_of, cell_of, image_of, items_of}
 
 pub cell-function : (f : Index FuncSpace) → number_of f < 4294967295 → cell_of f ≡ Some (number_of f)
-cell-function f l = let e : (number_of f == 4294967295) ≡ false = ne_eqb (number_of f) 4294967295 (λ same. absurd (omega (arith, same))) in rw e refl
+cell-function f l = grind (arith, ne_eqb)
 
 pub cell-index : (o : Option ℕ) → IsCell o → cell_of (index_cell o) ≡ o
 cell-index o h = grind (arith, cell-function)
@@ -77,10 +77,7 @@ HasCell e = IsSome (expression_cell (expression_of e))
 
 pub are-cells : (elements : TableSegmentElements) (ty : WasmRefType) (expressions : Vec (List ConstOp)) (xs : List (List ConstOp)) (b : Bool) → elements ≡ Expressions ty expressions
     → xs ≡ expressions.items → (IsTrue b → All HasCell xs) × (All HasCell xs → IsTrue b) → (IsTrue b → AreCells (items_of elements)) × (AreCells (items_of elements) → IsTrue b)
-are-cells elements ty expressions xs b e is h = rw e (
-  λ yes_all. All-map (λ x. IsSome (expression_cell x)) expression_of expressions.items (subst (All HasCell) is (h.0 yes_all)),
-  λ all. h.1 (subst (All HasCell) (sym is) (unmapped expression_of (λ x. IsSome (expression_cell x)) expressions.items all)),
-)
+are-cells elements ty expressions xs b e is h = grind (arith, All-map (λ x. IsSome (expression_cell x)) expression_of expressions.items, unmapped expression_of (λ x. IsSome (expression_cell x)) expressions.items)
 
 -- the functions of one segment
 pub holds-segment : (segments : List TableSegment) (i : ℕ) (s : TableSegment) → s ≡ get_or segments i s → i < length segments → SegmentsHoldFunctions (map active_elements_of segments)

@@ -1,11 +1,11 @@
 -- Cells over an image.
-use Rattle.std.proofs.Common.{◌≡◌, ◌≢◌, ℕ, zero, suc, ◌+◌, ◌-◌, ◌<◌, ◌≤◌, List, [], ◌∷◌, ◌++◌, length, get_or, set, take, replicate, Option, None, Some, refl, sym, ◌∙◌, ap, arith}
+use Rattle.std.proofs.Common.{◌≡◌, ◌≢◌, ℕ, ◌+◌, ◌-◌, ◌<◌, ◌≤◌, List, ◌++◌, length, get_or, set, take, replicate, Option, None, Some, arith}
 use Rattle.std.specs.Prelude.{slice_get, unwrap_or}
 use Rattle.std.specs.Global.{Vec}
 use Rattle.std.proofs.Math.ListN.{length-set, length-replicate}
-use Rattle.std.proofs.lemmas.Bool.{cases_eq, leb-true, le-leb}
-use Rattle.std.proofs.lemmas.List.{length-append, length-map, map-append, map-set, take_all}
-use Rattle.std.proofs.lemmas.Option.{slice_get-map, slice_get-get_or, same_Some}
+use Rattle.std.proofs.lemmas.Bool.{cases_eq, cases_lt, leb-true, le-leb}
+use Rattle.std.proofs.lemmas.List.{length-append, length-map, length-take, map-append, map-set, take_all, get_or-take, get_or-set_same, get_or-set_other, get_or_append_left, get_or-append_right, get_or-replicate, get_or_past}
+use Rattle.std.proofs.lemmas.Option.{slice_get-map, slice_get-get_or, slice_get_past, unwrap_or-slice_get, same_Some}
 use Rattle.wasm_index.specs.declared.index.Index.{Index}
 use Rattle.wasm_index.specs.declared.spaces.FuncSpace.{FuncSpace}
 use Rattle.wasm_index.specs.Index.{index_of}
@@ -14,31 +14,17 @@ use Rattle.table_images.specs.Steps.{OverlaysCells, LaysCells, LaysAt, grown, im
 use Rattle.table_images.specs.Views.{image_of}
 use Rattle.table_images.proofs.CellsStand.{cells-replicate}
 
-get-set-same : {A : Type 0} (xs : List A) (k : ℕ) (x : A) → k < length xs → slice_get (set xs k x) k ≡ Some x
-get-set-same [] k x l = absurd (omega arith)
-get-set-same (y ∷ ys) zero x l = refl
-get-set-same (y ∷ ys) (suc k) x l = get-set-same ys k x (omega arith)
+pub get-set-same : {A : Type 0} (xs : List A) (k : ℕ) (x : A) → k < length xs → slice_get (set xs k x) k ≡ Some x
+get-set-same xs k x l = grind (arith, slice_get-get_or (set xs k x) k x, length-set, get_or-set_same)
 
-get-set-other : {A : Type 0} (xs : List A) (k j : ℕ) (x : A) → j ≢ k → slice_get (set xs k x) j ≡ slice_get xs j
-get-set-other [] k j x ne = refl
-get-set-other (y ∷ ys) zero zero x ne = absurd (ne refl)
-get-set-other (y ∷ ys) zero (suc j) x ne = refl
-get-set-other (y ∷ ys) (suc k) zero x ne = refl
-get-set-other (y ∷ ys) (suc k) (suc j) x ne = get-set-other ys k j x (λ e. ne (ap suc e))
+pub get-set-other : {A : Type 0} (xs : List A) (k j : ℕ) (x : A) → j ≢ k → slice_get (set xs k x) j ≡ slice_get xs j
+get-set-other xs k j x ne = grind (arith, cases_lt j (length xs), slice_get-get_or xs j x, slice_get-get_or (set xs k x) j x, slice_get_past, length-set, get_or-set_other)
 
 take-one-other : (xs : List (Option ℕ)) (i k : ℕ) → k ≢ i → slice_get (take i xs) k ≡ slice_get (take (i + 1) xs) k
-take-one-other [] i k ne = ap (λ (xs : List (Option ℕ)). slice_get xs k) (take_all i [] (omega arith) ∙ sym (take_all (i + 1) [] (omega arith)))
-take-one-other (x ∷ xs) zero zero ne = absurd (ne refl)
-take-one-other (x ∷ xs) zero (suc k) ne = refl
-take-one-other (x ∷ xs) (suc i) zero ne = grind arith
-take-one-other (x ∷ xs) (suc i) (suc k) ne = grind (arith, (take-one-other xs i k))
+take-one-other xs i k ne = grind (arith, cases_lt k (length xs), slice_get-get_or (take i xs) k None, slice_get-get_or (take (i + 1) xs) k None, slice_get_past (take i xs) k, slice_get_past (take (i + 1) xs) k, length-take, get_or-take)
 
 take-one-same : (xs : List (Option ℕ)) (i : ℕ) → i < length xs → slice_get (take (i + 1) xs) i ≡ Some (get_or xs i None)
-take-one-same [] i l = absurd (omega arith)
-take-one-same (x ∷ xs) zero l = refl
-take-one-same (x ∷ xs) (suc i) l = rw (sucs i) (take-one-same xs i (omega arith)) where
-  sucs : (i : ℕ) → suc i + 1 ≡ suc (i + 1)
-  sucs i = omega arith
+take-one-same xs i l = grind (arith, slice_get-get_or (take (i + 1) xs) i None, length-take, get_or-take)
 
 abbrev piece : ℕ → List (Option ℕ) → Piece (Option ℕ)
 piece place cells = record { object = 0; offset = place; items = cells }
@@ -56,11 +42,7 @@ overlay-more place i cells old new x l within is h = grind (arith, get-set-other
 -- ---- an image that grows
 
 get-grown : (image : List (Option ℕ)) (n p : ℕ) → unwrap_or (slice_get (image ++ replicate n None) p) None ≡ unwrap_or (slice_get image p) None
-get-grown [] zero p = refl
-get-grown [] (suc n) zero = refl
-get-grown [] (suc n) (suc p) = get-grown [] n p
-get-grown (x ∷ image) n zero = refl
-get-grown (x ∷ image) n (suc p) = get-grown image n p
+get-grown image n p = grind (arith, cases_lt p (length image), cases_lt p (length image + n), unwrap_or-slice_get, get_or_append_left, get_or-append_right, get_or-replicate, get_or_past, length-replicate)
 
 pub lays-grown : (place : ℕ) (cells old between new : List (Option ℕ)) → between ≡ grown (place + length cells) old → OverlaysCells place cells between new → LaysCells place cells old new
 lays-grown place cells old between new e h = grind (arith, length-append, length-replicate, get-grown)

@@ -1,5 +1,5 @@
 -- The plan of the code is the plan of the definitions.
-use Rattle.std.proofs.Common.{◌≡◌, ℕ, Bool, true, false, List, [], ◌∷◌, length, map, take, drop, Option, refl, sym, ◌∙◌, subst, arith}
+use Rattle.std.proofs.Common.{◌≡◌, ℕ, Bool, true, false, List, [], ◌∷◌, length, map, take, drop, Option, refl, ◌∙◌, arith}
 use Rattle.wasm_types.specs.declared.table.Table.{Table}
 use Rattle.wasm_module.specs.declared.table_initialization.TableInitialValue.{TableInitialValue}
 use Rattle.wasm_module.specs.declared.table_initialization.TableSegment.{TableSegment}
@@ -30,22 +30,13 @@ pub planned-images : (imported : ℕ) (ts : List Table) (vs ws : List TableIniti
     → ((a : ActiveElements) (rest : List ActiveElements) → map active_elements_of (drop n segments) ≡ a ∷ rest → MayBeTaken true imported (defined_tables_of ts vs) a → ⊥)
     → IsTablePlan true imported (defined_tables_of ts vs) (map active_elements_of segments) (table_plan_of ts ws kept images)
 planned-images imported ts vs ws segments kept n first images a b initials is begin taken stops =
-    let are = taken (first-images true imported (defined_tables_of ts vs) first begin) in
-    let count = are.count in
-    let defined = length-defined ts vs a in
-    let prefix = takes-prefix imported (defined_tables_of ts vs) segments n images are stops in
-    table-plan true imported ts vs ws (map active_elements_of segments) (map active_elements_of (take n segments)) kept images a b (omega arith) initials
-    (subst (λ xs. TakesPrefix true imported (defined_tables_of ts vs) (map active_elements_of segments) (map active_elements_of (take n segments)) (map active_elements_of xs)) (sym is) prefix) are
+    grind (arith, first-images true imported (defined_tables_of ts vs) first begin, length-defined ts vs a, takes-prefix imported (defined_tables_of ts vs) segments n images, table-plan true imported ts vs ws)
 
 -- where none is wanted: empty ones
 pub planned-none : (lazy : Bool) (imported : ℕ) (ts : List Table) (vs : List TableInitialValue) (segments : List TableSegment) (images : List (List (Option ℕ))) → lazy ≡ false
     → length ts ≡ length vs → images ≡ map (first_image lazy) (defined_tables_of ts vs)
     → IsTablePlan lazy imported (defined_tables_of ts vs) (map active_elements_of segments) (table_plan_of ts vs segments images)
 planned-none lazy imported ts vs segments images off a begin =
-    let first : images ≡ map (first_image false) (defined_tables_of ts vs) = subst (λ b. images ≡ map (first_image b) (defined_tables_of ts vs)) off begin in
-    let are = first-images false imported (defined_tables_of ts vs) images first in
-    let count = are.count in
-    let defined = length-defined ts vs a in
-    subst (λ b. IsTablePlan b imported (defined_tables_of ts vs) (map active_elements_of segments) (table_plan_of ts vs segments images)) (sym off)
-    (table-plan false imported ts vs vs (map active_elements_of segments) [] segments images a refl (omega arith) (kept-unwanted ts vs a)
-    (takes-none imported (defined_tables_of ts vs) (map active_elements_of segments)) are)
+    let are = first-images lazy imported (defined_tables_of ts vs) images begin in
+    table-plan lazy imported ts vs vs (map active_elements_of segments) [] segments images a refl (omega (arith, are.count, length-defined ts vs a)) (rw off (kept-unwanted ts vs a))
+    (rw off (takes-none imported (defined_tables_of ts vs) (map active_elements_of segments))) are

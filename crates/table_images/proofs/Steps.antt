@@ -1,11 +1,9 @@
 -- One more segment in the images.
-use Rattle.std.proofs.Common.{◌≡◌, ◌≢◌, ℕ, zero, suc, ◌+◌, ◌-◌, ◌<◌, ◌≤◌, Bool, true, false, List, [], ◌∷◌, ◌++◌, length, get_or, map, take, drop, replicate, Option, None, Some, refl, sym, ◌∙◌, ap, subst, arith}
+use Rattle.std.proofs.Common.{◌≡◌, ◌≢◌, ℕ, zero, suc, ◌+◌, ◌-◌, ◌<◌, ◌≤◌, Bool, true, false, List, [], ◌∷◌, ◌++◌, length, get_or, map, take, drop, replicate, Option, None, Some, refl, sym, ◌∙◌, ap, arith}
 use Rattle.std.specs.Prelude.{slice_get, unwrap_or, max, ◌==◌, if◌then◌else◌}
-use Rattle.std.specs.Option.{option_map}
-use Rattle.std.proofs.Math.Logic.{⊎_elim}
 use Rattle.std.proofs.Math.ListN.{length-replicate}
 use Rattle.std.proofs.lemmas.Bool.{cases_Bool, cases_lt, cases_eq, eq-eqb, ne_eqb, cond-true, cond-false, false≢true}
-use Rattle.std.proofs.lemmas.List.{map-append, take_more, length-map}
+use Rattle.std.proofs.lemmas.List.{map-append, map_more, drop_more, take-append-drop, length-map, get_or-replicate}
 use Rattle.std.proofs.lemmas.List.Elements.{All-nil, All-push}
 use Rattle.std.proofs.lemmas.Option.{same_Some, slice_get-map, slice_get-get_or, slice_get_within, slice_get_past}
 use Rattle.wasm_types.specs.declared.table.Table.{Table}
@@ -20,49 +18,17 @@ use Rattle.replay_spec.proofs.TablesJoined.{past-image}
 use Rattle.table_images.specs.declared.spot.Spot.{Spot}
 use Rattle.table_images.specs.Steps.{IsSpot, LaysCells, LaysAt, first_image, AreTableImages}
 use Rattle.table_images.specs.Views.{items_of, active_elements_of, defined_tables_of}
-use Rattle.table_images.proofs.Tables.{defined-at, MadeOf, made-of}
+use Rattle.table_images.proofs.Tables.{defined-at, made-of}
 
 -- ---- the rule
 
 module _ (imported : ℕ) (ts : List Table) (vs : List TableInitialValue) (s : TableSegment) where
   -- a segment that the code takes is one of the definitions
   pub spot-taken : (spot : Spot) → IsSpot imported ts vs s spot → MayBeTaken true imported (defined_tables_of ts vs) (active_elements_of s)
-  spot-taken spot is = record {
-    lazy_tables = refl;
-    table = _;
-    defined = is.defined;
-    is_table = defined-at ts vs _ is.table is.value is.is_table is.is_value;
-    functions = is.functions;
-    keeps_none = is.keeps_none;
-    place = spot.place;
-    constant = is.place;
-    items = is.cells;
-    within = is.within;
-    small = is.small;
-  }
+  spot-taken spot is = grind (arith, defined-at ts vs _ is.table is.value is.is_table is.is_value, is.place)
 
   pub taken-spot : MayBeTaken true imported (defined_tables_of ts vs) (active_elements_of s) → (spot : Spot) × IsSpot imported ts vs s spot
-  taken-spot may =
-      let m : MadeOf ts vs ((active_elements_of s).table - imported) may.table = made-of ts vs _ may.table may.is_table in
-      let made = m.made in
-      let w = may.within in
-      let min : may.table.minimum ≡ m.table.limits.min = ap (λ (d : DefinedTable). d.minimum) made in (
-        record { table = (active_elements_of s).table - imported; place = may.place },
-        record {
-          table = m.table;
-          value = m.value;
-          defined = may.defined;
-          number = refl;
-          is_table = m.is_table;
-          is_value = m.is_value;
-          functions = ap (λ (d : DefinedTable). d.functions) (sym made) ∙ may.functions;
-          keeps_none = ap (kept_initial true) (sym made) ∙ may.keeps_none;
-          cells = may.items;
-          place = may.constant;
-          within = omega arith;
-          small = may.small;
-        },
-      )
+  taken-spot may = (record { table = (active_elements_of s).table - imported; place = may.place }, grind (arith, made-of ts vs _ may.table may.is_table))
 
 -- ---- images
 
@@ -102,25 +68,9 @@ module _ (imports : ℕ) (ds : List DefinedTable) (taken : List ActiveElements) 
       let within : place + length (image_cells a.items) ≤ d.minimum = omega arith in
       let end = end-here m taken a on in
       record {
-        reach = ⊎_elim
-            (λ (from : is_imaged_from_start true d ≡ true).
-            let one = cond-true (is_imaged_from_start true d) d.minimum (end_on m taken) from in
-            let two = cond-true (is_imaged_from_start true d) d.minimum (end_on m (taken ++ a ∷ [])) from in
-            omega (arith, one, two))
-            (λ (none : is_imaged_from_start true d ≡ false).
-            let one = cond-false (is_imaged_from_start true d) d.minimum (end_on m taken) none in
-            let two = cond-false (is_imaged_from_start true d) d.minimum (end_on m (taken ++ a ∷ [])) none in
-            omega (arith, one, two))
-            (cases_Bool (is_imaged_from_start true d));
+        reach = grind (arith, cases_Bool (is_imaged_from_start true d), cond-true, cond-false);
         cells = λ p l.
-            let behind : unwrap_or (slice_get old p) None ≡ last_item m p (initial_function d.initial) (map image_piece taken) = ⊎_elim
-            (λ (lt : p < length old). ap (λ o. unwrap_or o None) (prior.cells p lt))
-            (λ (ge : length old ≤ p). ap (λ o. unwrap_or o None) (slice_get_past old p ge)
-            ∙ sym (past-image true taken m p d keeps (omega arith) (subst (λ n. n ≤ p) was ge)))
-            (cases_lt p (length old)) in
-            lays.cells_at p l
-            ∙ ap Some (ap (λ o. unwrap_or o (unwrap_or (slice_get old p) None)) (item-moved a.table m (unwrap_or (constant_place a.offset) 0) place p (image_cells a.items) on (sym start))
-            ∙ ap (unwrap_or (item_at m p (image_piece a))) behind ∙ sym (last-push m p (initial_function d.initial) taken a));
+            grind (arith, cases_lt p (length old), slice_get_past, past-image true taken m p d keeps, lays.cells_at p l, prior.cells p, item-moved a.table m (unwrap_or (constant_place a.offset) 0) place p (image_cells a.items) on (sym start), last-push m p (initial_function d.initial) taken a);
       }
 
   -- any other image
@@ -130,32 +80,16 @@ module _ (imports : ℕ) (ds : List DefinedTable) (taken : List ActiveElements) 
   pub step : (images more : List (List (Option ℕ))) → LaysAt table place (image_cells a.items) images more → AreTableImages true imports ds taken images
       → AreTableImages true imports ds (taken ++ a ∷ []) more
   step images more lays prior =
-      let n = lays.count in
-      let count = prior.count in
       record {
-        count = omega arith;
+        count = lays.count ∙ prior.count;
         takes = All-push (MayBeTaken true imports ds) taken a prior.takes may;
-        each = λ i d image at found. ⊎_elim
-            (λ (here : i ≡ table).
-            let within = slice_get_within more i image found in
-            let old : List (Option ℕ) = get_or images i image in
-            let old_at : slice_get images i ≡ Some old = slice_get-get_or images i image (omega arith) in
-            let on : a.table ≡ imports + i = omega arith in
-            let number : i ≡ a.table - imports = omega arith in
-            let laid = lays.here old image (ap (slice_get images) (sym here) ∙ old_at) (ap (slice_get more) (sym here) ∙ found) in
-            step-here (imports + i) d old image on (ap (slice_get ds) (sym number) ∙ at) laid (prior.each i d old at old_at))
-            (λ (there : i ≢ table).
-            let off : a.table ≢ imports + i = omega arith in
-            step-there (imports + i) d image off (prior.each i d image at (sym (lays.there i there) ∙ found)))
-            (cases_eq i table);
+        each = λ i d image at found. grind (arith, cases_eq i table, slice_get_within more i image found, slice_get-get_or images i image, step-here (imports + i) d (get_or images i image) image, step-there (imports + i) d image, lays.here, lays.there i, prior.each i d);
       }
 
 -- ---- before any segment
 
-get-replicate : {A : Type 0} (x : A) (n p : ℕ) → p < n → slice_get (replicate n x) p ≡ Some x
-get-replicate x zero p l = absurd (omega arith)
-get-replicate x (suc n) zero l = refl
-get-replicate x (suc n) (suc p) l = get-replicate x n p (omega arith)
+pub get-replicate : {A : Type 0} (x : A) (n p : ℕ) → p < n → slice_get (replicate n x) p ≡ Some x
+get-replicate x n p l = grind (arith, slice_get-get_or (replicate n x) p x, length-replicate, get_or-replicate)
 
 first-reach : (b : Bool) (n : ℕ) (cell : Option ℕ) → length (if b then replicate n cell else []) ≡ (if b then n else 0)
 first-reach b n cell = grind (arith, length-replicate)
@@ -179,35 +113,25 @@ module _ (imported : ℕ) (ts : List Table) (vs : List TableInitialValue) (segme
       → AreTableImages true imported (defined_tables_of ts vs) (map active_elements_of (take i segments)) images
       → AreTableImages true imported (defined_tables_of ts vs) (map active_elements_of (take (i + 1) segments)) more
   advance images more spot is lays prior =
-      let number = is.number in
-      let low = is.defined in
-      let parts : map active_elements_of (take (i + 1) segments) ≡ map active_elements_of (take i segments) ++ active_elements_of s ∷ [] =
-      ap (map active_elements_of) (take_more segments i s within ∙ ap (λ x. take i segments ++ x ∷ []) (sym is_segment)) ∙ map-append active_elements_of (take i segments) (s ∷ []) in
-      rw parts (step imported (defined_tables_of ts vs) (map active_elements_of (take i segments)) (active_elements_of s) spot.table spot.place
-      (spot-taken imported ts vs s spot is) (omega arith) is.place images more lays prior)
+      rw (map_more active_elements_of segments i s within, ← is_segment)
+      (step imported (defined_tables_of ts vs) (map active_elements_of (take i segments)) (active_elements_of s) spot.table spot.place
+      (spot-taken imported ts vs s spot is) (grind arith) is.place images more lays prior)
 
   pub stopped : ((spot : Spot) → IsSpot imported ts vs s spot → ⊥) → (a : ActiveElements) (rest : List ActiveElements)
       → map active_elements_of (drop i segments) ≡ a ∷ rest → MayBeTaken true imported (defined_tables_of ts vs) a → ⊥
   stopped none a rest begins may =
-      let same : active_elements_of s ≡ a = same_Some (active_elements_of s) a
-      (sym (slice_get-map active_elements_of segments i ∙ ap (option_map active_elements_of) (slice_get-get_or segments i s within ∙ ap Some (sym is_segment)))
-      ∙ map-drop-at active_elements_of segments i a rest begins) in
-      let spot = taken-spot imported ts vs s (subst (MayBeTaken true imported (defined_tables_of ts vs)) (sym same) may) in
+      let same : active_elements_of s ≡ a = grind (arith, ap (map active_elements_of) (drop_more segments i s within)) in
+      let spot = taken-spot imported ts vs s (rw same may) in
       none spot.0 spot.1
 
 pub ended : (segments : List TableSegment) (a : ActiveElements) (rest : List ActiveElements) → map active_elements_of (drop (length segments) segments) ≡ a ∷ rest → ⊥
 ended segments a rest begins = grind (arith, slice_get_within, map-drop-at, length-map)
 
-map-take-drop : {A B : Type 0} (f : A → B) (n : ℕ) (xs : List A) → map f xs ≡ map f (take n xs) ++ map f (drop n xs)
-map-take-drop f zero xs = refl
-map-take-drop f (suc n) [] = refl
-map-take-drop f (suc n) (x ∷ xs) = ap (λ ys. f x ∷ ys) (map-take-drop f n xs)
-
 pub takes-prefix : (imported : ℕ) (ds : List DefinedTable) (segments : List TableSegment) (n : ℕ) (images : List (List (Option ℕ)))
     → AreTableImages true imported ds (map active_elements_of (take n segments)) images
     → ((a : ActiveElements) (rest : List ActiveElements) → map active_elements_of (drop n segments) ≡ a ∷ rest → MayBeTaken true imported ds a → ⊥)
     → TakesPrefix true imported ds (map active_elements_of segments) (map active_elements_of (take n segments)) (map active_elements_of (drop n segments))
-takes-prefix imported ds segments n images h stops = record { parts = map-take-drop active_elements_of n segments; takes = h.takes; longest = stops }
+takes-prefix imported ds segments n images h stops = grind (arith, map-append active_elements_of (take n segments) (drop n segments), take-append-drop n segments)
 
 -- where no image is wanted nothing is taken
 pub takes-none : (imported : ℕ) (ds : List DefinedTable) (active : List ActiveElements) → TakesPrefix false imported ds active [] active

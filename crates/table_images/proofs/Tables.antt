@@ -1,10 +1,10 @@
 -- Tables, initial values and images, side by side.
-use Rattle.std.proofs.Common.{◌≡◌, ℕ, zero, suc, ◌+◌, ◌<◌, List, [], ◌∷◌, ◌++◌, length, get_or, set, map, take, drop, replicate, add-one, Option, Some, refl, sym, ◌∙◌, ap, subst, arith, Bool, true, false}
+use Rattle.std.proofs.Common.{◌≡◌, ℕ, zero, suc, ◌+◌, ◌<◌, List, [], ◌∷◌, ◌++◌, length, get_or, set, map, take, drop, replicate, Option, Some, refl, sym, ◌∙◌, ap, subst, arith, Bool, true, false}
 use Rattle.std.specs.Prelude.{slice_get}
 use Rattle.std.specs.Global.{Vec}
-use Rattle.std.proofs.Math.Seq.{take-suc-set}
 use Rattle.std.proofs.lemmas.Bool.{cond-true}
-use Rattle.std.proofs.lemmas.List.{length-map, length-take-le, map-append, get_or-drop, drop-set-lt, drop_all}
+use Rattle.std.proofs.lemmas.List.{length-map, length-take-le, map-append, get_or-drop, drop-set-lt, take_more_set}
+use Rattle.std.proofs.lemmas.Grind.{drop_more_same}
 use Rattle.std.proofs.lemmas.List.Elements.{All-head, All-tail}
 use Rattle.std.proofs.lemmas.Option.{none-some, same_Some}
 use Rattle.wasm_index.specs.declared.index.Index.{Index}
@@ -20,7 +20,7 @@ pub defined-at : (ts : List Table) (vs : List TableInitialValue) (i : ℕ) (t : 
     → slice_get (defined_tables_of ts vs) i ≡ Some (defined_table_of t v)
 defined-at [] vs i t v at is = absurd (none-some t at)
 defined-at (x ∷ ts) [] i t v at is = absurd (none-some v is)
-defined-at (x ∷ ts) (y ∷ vs) zero t v at is = ap (λ a. Some (defined_table_of a y)) (same_Some x t at) ∙ ap (λ b. Some (defined_table_of t b)) (same_Some y v is)
+defined-at (x ∷ ts) (y ∷ vs) zero t v at is = grind arith
 defined-at (x ∷ ts) (y ∷ vs) (suc i) t v at is = defined-at ts vs i t v at is
 
 -- what a defined table is made of
@@ -43,15 +43,12 @@ length-defined [] (v ∷ vs) e = absurd (omega arith)
 length-defined (t ∷ ts) [] e = refl
 length-defined (t ∷ ts) (v ∷ vs) e = ap suc (length-defined ts vs (omega arith))
 
-sucs : (i : ℕ) → suc i + 1 ≡ suc (i + 1)
-sucs i = omega arith
-
 pub defined-more : (ts : List Table) (vs : List TableInitialValue) (i : ℕ) (t : Table) (v : TableInitialValue) → i < length ts → i < length vs
     → defined_tables_of (take (i + 1) ts) (take (i + 1) vs) ≡ defined_tables_of (take i ts) (take i vs) ++ defined_table_of (get_or ts i t) (get_or vs i v) ∷ []
 defined-more [] vs i t v l m = absurd (omega arith)
 defined-more (x ∷ ts) [] i t v l m = absurd (omega arith)
 defined-more (x ∷ ts) (y ∷ vs) zero t v l m = refl
-defined-more (x ∷ ts) (y ∷ vs) (suc i) t v l m = rw (sucs i) (ap (λ ds. defined_table_of x y ∷ ds) (defined-more ts vs i t v (omega arith) (omega arith)))
+defined-more (x ∷ ts) (y ∷ vs) (suc i) t v l m = grind (arith, defined-more ts vs i t v)
 
 -- ---- what is planned
 
@@ -112,33 +109,18 @@ pub first-step : (lazy : Bool) (ts : List Table) (vs : List TableInitialValue) (
     → images_of images ≡ map (first_image lazy) (defined_tables_of (take i ts) (take i vs))
     → image_of image.items ≡ first_image lazy (defined_table_of (get_or ts i t) v)
     → images_of new ≡ map (first_image lazy) (defined_tables_of (take (i + 1) ts) (take (i + 1) vs))
-first-step lazy ts vs i t v images new image l m is pushed before here =
-    ap images_of pushed ∙ map-append (λ (x : Vec (Index FuncSpace)). image_of x.items) images (image ∷ [])
-    ∙ ap (λ xs. xs ++ image_of image.items ∷ []) before
-    ∙ ap (λ x. map (first_image lazy) (defined_tables_of (take i ts) (take i vs)) ++ x ∷ []) (here ∙ ap (λ w. first_image lazy (defined_table_of (get_or ts i t) w)) is)
-    ∙ sym (map-append (first_image lazy) (defined_tables_of (take i ts) (take i vs)) (defined_table_of (get_or ts i t) (get_or vs i v) ∷ []))
-    ∙ ap (map (first_image lazy)) (sym (defined-more ts vs i t v l m))
+first-step lazy ts vs i t v images new image l m is pushed before here = grind (arith, map-append, defined-more ts vs i t v l m)
 
 -- ---- initialisers that are dropped
 
 same-rest : (xs ys : List TableInitialValue) (i : ℕ) (d : TableInitialValue) → drop i xs ≡ drop i ys → get_or xs i d ≡ get_or ys i d
 same-rest xs ys i d e = grind (arith, get_or-drop i xs 0 d, get_or-drop i ys 0 d)
 
-drop-more : (xs : List TableInitialValue) (i : ℕ) → drop (i + 1) xs ≡ drop 1 (drop i xs)
-drop-more xs zero = refl
-drop-more [] (suc i) = drop_all (suc i + 1) [] (omega arith)
-drop-more (x ∷ xs) (suc i) = rw (sucs i) (drop-more xs i)
-
 pub rest-step : (vs ws : List TableInitialValue) (i : ℕ) (x : TableInitialValue) → drop i ws ≡ drop i vs → drop (i + 1) (set ws i x) ≡ drop (i + 1) vs
-rest-step vs ws i x e = drop-set-lt (i + 1) ws i x (omega arith) ∙ drop-more ws i ∙ ap (drop 1) e ∙ sym (drop-more vs i)
+rest-step vs ws i x e = drop-set-lt (i + 1) ws i x (omega arith) ∙ drop_more_same ws vs i e
 
 pub done-step : (ts : List Table) (vs ws : List TableInitialValue) (i : ℕ) (t : Table) (v x : TableInitialValue) → i < length ts → i < length vs → i < length ws
     → drop i ws ≡ drop i vs → map initial_of (take i ws) ≡ map (kept_initial true) (defined_tables_of (take i ts) (take i vs))
     → initial_of x ≡ kept_initial true (defined_table_of (get_or ts i t) (get_or ws i v))
     → map initial_of (take (i + 1) (set ws i x)) ≡ map (kept_initial true) (defined_tables_of (take (i + 1) ts) (take (i + 1) vs))
-done-step ts vs ws i t v x l m n rest before here =
-    let one : take (i + 1) (set ws i x) ≡ take i ws ++ x ∷ [] = ap (λ k. take k (set ws i x)) (add-one i) ∙ take-suc-set ws i x n in
-    ap (map initial_of) one ∙ map-append initial_of (take i ws) (x ∷ []) ∙ ap (λ xs. xs ++ initial_of x ∷ []) before
-    ∙ ap (λ y. map (kept_initial true) (defined_tables_of (take i ts) (take i vs)) ++ y ∷ []) (here ∙ ap (λ w. kept_initial true (defined_table_of (get_or ts i t) w)) (same-rest ws vs i v rest))
-    ∙ sym (map-append (kept_initial true) (defined_tables_of (take i ts) (take i vs)) (defined_table_of (get_or ts i t) (get_or vs i v) ∷ []))
-    ∙ ap (map (kept_initial true)) (sym (defined-more ts vs i t v l m))
+done-step ts vs ws i t v x l m n rest before here = grind (arith, take_more_set, map-append, same-rest ws vs i v rest, defined-more ts vs i t v l m)

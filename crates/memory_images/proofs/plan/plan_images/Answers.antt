@@ -9,21 +9,13 @@ pub returns-in_ok-images-in-Some-clause-images : goal.returns-in_ok-images-in-So
 returns-in_ok-images-in-Some-clause-images c =
     let laid = rw (c.in-Some.is, take_rest) at c.in_ok-static_layout.ensures.laid in
     let images = rw c.as_slice.ensures.value at c.in_ok-images-in-Some.ensures.images in
-    let a = length-map (drop c.args.imported c.args.memories.now) image_memory in
-    let b = length-drop c.args.imported c.args.memories.now in
-    let n = laid.count in
-    let i = c.requires.imports in
     are_images c.args.imported (map image_memory (drop c.args.imported c.args.memories.now)) (map active_segment_of c.args.segments.now) c.in-Some.all.items laid (length c.args.memories.now)
-    c.args.settings.page_size (omega (arith, a, b, n, i)) _ images
+    c.args.settings.page_size (grind (arith, length-map, length-drop, laid.count, c.requires.imports)) _ images
 
 pub returns-in_err-images-in-Some-clause-too_large : goal.returns-in_err-images-in-Some-clause-too_large
 returns-in_err-images-in-Some-clause-too_large c = λ is images are.
     let laid = rw (c.in-Some.is, take_rest) at c.in_ok-static_layout.ensures.laid in
     let much = rw c.as_slice.ensures.value at c.in_err-images-in-Some.ensures.too_large in
-    let a = length-map (drop c.args.imported c.args.memories.now) image_memory in
-    let b = length-drop c.args.imported c.args.memories.now in
-    let n = laid.count in
-    let i = c.requires.imports in
     much (grind (arith, common_steps, c.from_residual-in_err-images-in-Some.ensures, is)) images
     (of_laid c.args.imported (map image_memory (drop c.args.imported c.args.memories.now)) (map active_segment_of c.args.segments.now) c.in-Some.all.items laid (length c.args.memories.now)
-    c.args.settings.page_size (omega (arith, a, b, n, i)) images are)
+    c.args.settings.page_size (grind (arith, length-map, length-drop, laid.count, c.requires.imports)) images are)

@@ -1,10 +1,10 @@
-use Rattle.std.proofs.Common.{◌+◌, map, refl, arith}
+use Rattle.std.proofs.Common.{◌+◌, map, refl, arith, below_more}
 use Rattle.std.proofs.lemmas.Bool.{false≢true}
 use Rattle.std.proofs.lemmas.List.{length-map}
-use Rattle.std.proofs.lemmas.Option.{slice_get_read, slice_get_within}
+use Rattle.std.proofs.lemmas.Option.{slice_get_within}
 use Rattle.replay_spec.specs.Images.{bytes_on}
 use Rattle.memory_images.specs.Views.{image_memory, active_segment_of, options_of}
-use Rattle.memory_images.proofs.ImageRule.{fit_on, laid_same, memory_at, may_more}
+use Rattle.memory_images.proofs.ImageRule.{all_fit, laid_same, memory_at, may_here}
 use Rattle.memory_images.proofs.rule.may_be_images.Goals as goal
 
 pub may_be_image-requires-clause-fits : goal.may_be_image-requires-clause-fits
@@ -12,10 +12,8 @@ may_be_image-requires-clause-fits c =
     let t = c.memories-test.true in
     let n = c.requires.laid.count in
     let k = length-map c.args.defined.now image_memory in
-    let m = c.args.imported + c.memories.m in
-    let at = slice_get_read c.args.all.now _ m c.index-all-imported.result refl (omega arith) c.index-all-imported.is in
-    rw c.as_slice.ensures.value
-    (fit_on c.args.imported (map image_memory c.args.defined.now) (map active_segment_of c.args.segments.now) c.args.all.now c.requires.laid m c.index-all-imported.result at)
+    rw (c.as_slice.ensures.value, c.index-all-imported.is)
+    (all_fit c.args.imported (map image_memory c.args.defined.now) (map active_segment_of c.args.segments.now) c.args.all.now c.requires.laid (c.args.imported + c.memories.m) _ (omega arith))
 
 pub returns-then-not-may_be_image : goal.returns-then-not-may_be_image
 returns-then-not-may_be_image c =
@@ -23,8 +21,7 @@ returns-then-not-may_be_image c =
     let n = c.requires.laid.count in
     let k = length-map c.args.defined.now image_memory in
     let m = c.args.imported + c.memories.m in
-    let at = slice_get_read c.args.all.now _ m c.index-all-imported.result refl (omega arith) c.index-all-imported.is in
-    let same = laid_same c.args.imported (map image_memory c.args.defined.now) (map active_segment_of c.args.segments.now) c.args.all.now c.requires.laid m c.index-all-imported.result at in
+    let same = laid_same c.args.imported (map image_memory c.args.defined.now) (map active_segment_of c.args.segments.now) c.args.all.now c.requires.laid m c.index-all-imported.result (omega arith) c.index-all-imported.is in
     let both = c.if-not-may_be_image.ensures (bytes_on m (map active_segment_of c.args.segments.now)) (rw c.as_slice.ensures.value same) in
     ((λ f. absurd (false≢true f)), (λ all. both.1 (λ some. all c.memories.m _ (memory_at c.args.defined.now c.memories.m _ t) some)))
 
@@ -34,16 +31,15 @@ memories-preserved c =
     let n = c.requires.laid.count in
     let k = length-map c.args.defined.now image_memory in
     let m = c.args.imported + c.memories.m in
-    let at = slice_get_read c.args.all.now _ m c.index-all-imported.result refl (omega arith) c.index-all-imported.is in
-    let same = laid_same c.args.imported (map image_memory c.args.defined.now) (map active_segment_of c.args.segments.now) c.args.all.now c.requires.laid m c.index-all-imported.result at in
+    let same = laid_same c.args.imported (map image_memory c.args.defined.now) (map active_segment_of c.args.segments.now) c.args.all.now c.requires.laid m c.index-all-imported.result (omega arith) c.index-all-imported.is in
     let both = c.if-not-may_be_image.ensures (bytes_on m (map active_segment_of c.args.segments.now)) (rw c.as_slice.ensures.value same) in
-    may_more (options_of c.args.settings) c.args.imported (map image_memory c.args.defined.now) (map active_segment_of c.args.segments.now) c.memories.m _ (memory_at c.args.defined.now c.memories.m _ t)
-    (both.0 refl) c.memories.invariant
+    below_more _ c.memories.m c.memories.invariant (λ memory at.
+    may_here (options_of c.args.settings) (map image_memory c.args.defined.now) c.memories.m _ memory _ (memory_at c.args.defined.now c.memories.m _ t) at (both.0 refl))
 
 pub returns : goal.returns
 returns c =
     let k = length-map c.args.defined.now image_memory in
     let t = c.memories-test.false in (
-      (λ _ m memory at some. c.memories.invariant m memory (let l = slice_get_within (map image_memory c.args.defined.now) m memory at in omega arith) at some),
+      (λ _ m memory at some. c.memories.invariant m (let l = slice_get_within (map image_memory c.args.defined.now) m memory at in omega arith) memory at some),
       (λ _. refl),
     )

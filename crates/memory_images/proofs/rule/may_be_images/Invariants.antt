@@ -6,5 +6,5 @@ use Rattle.memory_images.proofs.rule.may_be_images.Given as goal
 
 -- the memories so far may have images
 abbrev pub invariant-memories : goal.invariant-memories
-invariant-memories l = (k : ℕ) (memory : ImageMemory) → k < l.m → slice_get (map image_memory l.defined) k ≡ Some memory
+invariant-memories l = (k : ℕ) → k < l.m → (memory : ImageMemory) → slice_get (map image_memory l.defined) k ≡ Some memory
     → bytes_on (l.imported + k) (map active_segment_of l.segments) ≢ [] → MayBeImage (options_of l.settings) memory (bytes_on (l.imported + k) (map active_segment_of l.segments))

@@ -1,10 +1,6 @@
-use Rattle.std.proofs.Common.{[], sym, ◌∙◌}
-use Rattle.memory_images.specs.declared.laid.Laid.{Laid}
+use Rattle.std.proofs.Common.{sym, ◌∙◌}
 use Rattle.memory_images.proofs.Filling.{contents_more}
 use Rattle.memory_images.proofs.span.byte_at.Goals as goal
 
-abbrev no_bytes : Laid
-no_bytes = record { start = 0; bytes = record { ref_ptr = (0, 0); now = [] } }
-
 pub laid-preserved : goal.laid-preserved
-laid-preserved c = (rw c.laid.invariant at c.byte_over-byte.ensures) ∙ sym (contents_more c.args.laid.now c.laid.x-index c.args.place no_bytes c.laid-test.true)
+laid-preserved c = (rw c.laid.invariant at c.byte_over-byte.ensures) ∙ sym (contents_more c.args.laid.now c.laid.x-index c.args.place _ c.laid-test.true)

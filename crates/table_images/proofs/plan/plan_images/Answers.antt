@@ -1,9 +1,7 @@
-use Rattle.std.proofs.Common.{map, arith, sym, subst, true}
+use Rattle.std.proofs.Common.{arith}
 use Rattle.std.proofs.lemmas.List.{length-map}
 use Rattle.entity_map.proofs.LentLemmas.{refill-same_length}
 use Rattle.table_images.specs.Steps.{images_of}
-use Rattle.table_images.specs.Views.{active_elements_of, defined_tables_of, table_plan_of}
-use Rattle.replay_spec.specs.Tables.{IsTablePlan}
 use Rattle.table_images.proofs.Tables.{length-defined}
 use Rattle.table_images.proofs.Planned.{planned-images}
 use Rattle.table_images.proofs.plan.plan_images.Goals as goal
@@ -29,7 +27,6 @@ returns-clause-planned c =
     let stops = rw (is_values, is_segments) at c.in_ok-taken.ensures.stops in
     let kept = rw was at c.drop_imaged.ensures.kept in
     let count = rw was at c.drop_imaged.ensures.count in
-    subst (λ ws. IsTablePlan true c.args.imported (defined_tables_of ts vs) (map active_elements_of c.args.initialization.now.segments.items)
-    (table_plan_of ts ws c.in_ok-initialization.field-0.items (images_of c.take_segments.new.images))) (sym (refill-same_length vs new count))
+    rw (refill-same_length vs new count)
     (planned-images c.args.imported ts vs new c.args.initialization.now.segments.items c.in_ok-initialization.field-0.items c.in_ok-taken.taken (images_of c.args.images.now)
     (images_of c.take_segments.new.images) c.requires.paired count kept c.in_ok-initialization.ensures.tail c.requires.first taken stops)
