@@ -229,8 +229,7 @@ entire-group b e ts =
                 elim (cases_lt j (length b.types)) [
                   | inl old ↦ kept-group b ts j (e.called j f (sym (composite-before b.types ts j old) ∙ at))
                   | inr in_group ↦
-                      let p = j - length b.types in
-                      let place : length b.types + p ≡ j = omega (arith, in_group) in
+                      let place : length b.types + (j - length b.types) ≡ j = omega (arith, in_group) in
                       grind (arith, called-member, composite-behind)
                 ]
             | inr new ↦ k.from (length (b.types ++ ts)) opened_sized (λ n low lt. absurd (omega (arith, low, lt))) j new (within (with_group b ts).types j f is)
@@ -245,9 +244,8 @@ called-taken ms i f lt is = (entire ms).called i f is
 
 pub called-interned : (ms : List (Group ℕ ℕ)) (tags : List ℕ) (startup : Bool) → HaveTrampolines (length (taken ms).built.types) (interned ms tags startup)
 called-interned ms tags startup i f lt is =
-    let b = (taken ms).built in
     let x = extends-interned ms tags startup in
-    let at = sym (composite-before b.types x.types_more i lt) ∙ ap (λ us. composite_at us i) (sym x.types) ∙ is in
+    let at = sym (composite-before (taken ms).built.types x.types_more i lt) ∙ ap (λ us. composite_at us i) (sym x.types) ∙ is in
     through-alone (λ c. HasTrampoline c i) (λ c t has. kept-alone c t None i has) ms tags startup (called-taken ms i f lt at)
 
 -- ---- builders

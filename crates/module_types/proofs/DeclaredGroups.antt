@@ -105,9 +105,7 @@ module _ (m : plain.Module) (t : TypesData) (are : AreNumbered m t) (near : Name
   -- groups with ids of one group are equal
   pub group-same : (i j : ℕ) → i < size all → j < size all → i - (home all i).start ≡ j - (home all j).start → group i ≡ group j → SameType all all i j
   group-same i j lt lt' place same =
-      let x = id-at i lt in
-      let y = id-at j lt' in
-      (are.exact i j (inside i lt) (inside j lt')).0 (x.at ∙ (λ k. first_id t.groups (same k) + place k) ∙ sym y.at)
+      (are.exact i j (inside i lt) (inside j lt')).0 ((id-at i lt).at ∙ (λ k. first_id t.groups (same k) + place k) ∙ sym (id-at j lt').at)
 
   -- the type of a declared type's id is of its kind
   pub kind-held : (i : ℕ) → i < size all → kind_in (slice_get (types_by_id t.groups) (id i)) ≡ kind_at all i
@@ -210,8 +208,7 @@ module _ (m : plain.Module) (t : TypesData) (are : AreNumbered m t) (near : Name
           elim (cases_lt r here.start) [
             | inl low ↦ let x = before r low in index-held b r x.0 (has.held r x.0 x.1)
             | inr high ↦
-                let w = home-within all n lt in
-                let lt' : r < size all = omega (arith, below, w.high) in
+                let lt' : r < size all = omega (arith, below, (home-within all n lt).high) in
                 let x = member-group r high below in
                 let place : id r - first_id t.groups (group r) ≡ r - (home all r).start = omega (arith, (id-at r lt').at) in
                 ap (λ o. start_by t (length b.built.types) b.built.groups b.ids o + (id r - first_id t.groups (group r))) (ap b.ids x.1 ∙ unheld)
@@ -220,7 +217,6 @@ module _ (m : plain.Module) (t : TypesData) (are : AreNumbered m t) (near : Name
 
       next-is : next ≡ interned_group all (take_group all s here).number here.members
       next-is =
-          let w = home-within all n lt in
           let look = λ (i : UnpackedIndex). name_by_id t (length b.built.types) b.built.groups b.ids (id_number i) in
           let index = λ (i : UnpackedIndex). index_by_id t (length b.built.types) b.built.groups b.ids (id_number i) in
           let kind : ℕ → NameKind = λ r. kind_in (slice_get (types_by_id t.groups) (id r)) in
@@ -229,7 +225,7 @@ module _ (m : plain.Module) (t : TypesData) (are : AreNumbered m t) (near : Name
           ∙ names-same kind (kind_at all) (λ r. interned_index t b (id r)) number here.members here.members (record {
             frames = refl;
             edges = zip-known-itself (λ r. r < here.start + length here.members) _
-                (λ r below. λ i. record { kind = kind-held r (omega (arith, below, w.high)) i; index = index-next r below i })
+                (λ r below. λ i. record { kind = kind-held r (omega (arith, below, (home-within all n lt).high)) i; index = index-next r below i })
                 (group_edges (λ r. r) here.members) (near-here all n lt unmet near);
           })
           ∙ sym (form-here all n lt unmet near)
@@ -319,11 +315,10 @@ module _ (m : plain.Module) (t : TypesData) (are : AreNumbered m t) (near : Name
     pub can-intern : (gs rest : List (Group ℕ ℕ)) (g : Group ℕ ℕ) → all ≡ gs ++ g ∷ rest → 0 < length g
         → CanIntern t (interns_declared t (new_builder validator) 0 gs) (group (size gs))
     can-intern gs rest g is some =
-        let joined = flat_map-append (λ (h : Group ℕ ℕ). h) gs (g ∷ rest) in
         let lt : size gs < size all = omega (
           arith,
           ap size is,
-          ap length joined,
+          ap length (flat_map-append (λ (h : Group ℕ ℕ). h) gs (g ∷ rest)),
           length-append (flat_map (λ (h : Group ℕ ℕ). h) gs)
               (flat_map (λ (h : Group ℕ ℕ). h) (g ∷ rest)),
           size-cons g rest,

@@ -96,8 +96,6 @@ module _ (ms ns : List (Group ℕ ℕ)) (number number' : ℕ
       → ((i : ℕ) → i < size ms → IsMet ms done i → Bridge i)
       → (map (form ms number) hs ≡ map (form ns number') ks) ↔ AllZip (SameGroup Same) hs ks
   all-told [] [] b done x covers y bridged = (λ same. tt, λ same. refl)
-  all-told [] (k ∷ ks) b done x covers y bridged = grind arith
-  all-told (h ∷ hs) [] b done x covers y bridged = grind arith
   all-told (h ∷ hs) (k ∷ ks) b done x covers y bridged =
       let bridges : (i : ℕ) → i < size ms → i < h.start → Bridge i = λ i lt before. bridged i lt (covers.0 i before) in
       let one = forms-told b h k x.0 y.0 bridges in
@@ -113,9 +111,9 @@ module _ (ms ns : List (Group ℕ ℕ)) (number number' : ℕ
             (one.0 first, (rest first (one.0 first)).0 others)),
         (λ same.
             let first = one.1 same.0 in
-            let others = (rest first same.0).1 same.1 in
-            λ i. first i ∷ others i),
+            λ i. first i ∷ ((rest first same.0).1 same.1) i),
       )
+  all-told _ _ _ _ _ _ _ _ = grind arith
 
 pub groups_determined : (b : Built) (tss uss : List (List Interned)) → AllFilled tss → AllFilled uss
     → (with_groups b tss).types ≡ (with_groups b uss).types → (with_groups b tss).groups ≡ (with_groups b uss).groups → tss ≡ uss

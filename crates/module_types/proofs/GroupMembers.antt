@@ -216,8 +216,7 @@ module _ (P : Built → Type 0) (group : (b : Built) → P b → (ts : List Inte
   through-groups : (all : List (Group ℕ ℕ)) (hs : List Home) (t : Taking) → P t.built → P (fold (take_group all) t hs).built
   through-groups all [] t p = p
   through-groups all (h ∷ hs) t p =
-      let number = numbered all t.number h (length t.built.types) in
-      through-groups all hs (take_group all t h) (group t.built p (interned_group all number h.members))
+      through-groups all hs (take_group all t h) (group t.built p (interned_group all (numbered all t.number h (length t.built.types)) h.members))
 
   pub through-taken : P empty → (ms : List (Group ℕ ℕ)) → P (taken ms).built
   through-taken p ms = through-groups ms (taken_groups ms) none_taken p

@@ -71,9 +71,8 @@ well-group b ts some w below kinds =
 module _ (index : ℕ → Named ℕ) where
   composite-named : (ts : List Interned) (i : ℕ) → composite_at (map_group index (λ r. r) (unkinded ts)) i
       ≡ map_composite index (λ r. r) (map_composite (index_of {R = ℕ}) (λ r. r) (composite_at ts i))
-  composite-named [] i = refl
-  composite-named (t ∷ ts) zero = refl
   composite-named (t ∷ ts) (suc i) = composite-named ts i
+  composite-named _ _ = refl
 
   -- the parameters of the function type at an index
   params-at : (ts : List Interned) (i : ℕ) (f : Called) → map_group index (λ r. r) (unkinded ts) ≡ ts → composite_at ts i ≡ Func f

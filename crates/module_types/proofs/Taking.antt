@@ -75,12 +75,11 @@ module _ (all : List (Group ℕ ℕ)) where
     same : SameType all all i (h.start + (i - (home all i).start))
     same =
         let r = h.start + (i - (home all i).start) in
-        let w = home-within all h.start inside in
         let from = ap (λ (g : Home). g.start) at in
         let to = ap (λ (g : Home). length g.members) at in
         let again : home all r ≡ h = home-again all h.start r inside (record { from = omega (arith, from); to = omega (arith, from, to, long) }) ∙ at in
         let place : r - (home all r).start ≡ i - (home all i).start = ap (λ (g : Home). r - g.start) again ∙ omega arith in
-        same-by-starts i r lt (omega (arith, from, to, long, w.high))
+        same-by-starts i r lt (omega (arith, from, to, long, (home-within all h.start inside).high))
         (subst (λ (g : Home). SameType all all (home all i).start g.start) (sym again) (type-turned all all h.start (home all i).start (equal-same h i e)))
         (sym place)
 
@@ -313,11 +312,10 @@ module _ (all : List (Group ℕ ℕ)) where
 
       pub form-here : interned_group all later.number here.members ≡ form number_in here
       form-here =
-          let w = home-within all n inside in
           names-same (kind_at all) (kind_at all) later.number number_in here.members here.members (record {
             frames = refl;
             edges = zip-known-itself (λ i. i < here.start + length here.members) _
-                (λ i lt. ap (λ k. name_by (kind_at all) (λ j. k) i) (sym (reads-here i (omega (arith, lt, w.high))
+                (λ i lt. ap (λ k. name_by (kind_at all) (λ j. k) i) (sym (reads-here i (omega (arith, lt, (home-within all n inside).high))
                 (elim (cases_lt i here.start) [
                   | inl low ↦ met-before d here i (before-here i low).1
                   | inr high ↦ met-now d here i (equal-home here i (member-here i high lt))

@@ -55,11 +55,10 @@ module _ (b : Built) (w : IsWellNamed b) (k : ℕ) (lt : k < length b.groups) wh
   pub span-home : (r : ℕ) → (span_at b k).start ≤ r → InSpan r → home (list_groups b) r ≡ group_at b k
   span-home r low p =
       let s = stands-at b w k lt in
-      let long = span-long b w k lt in
       let from = ap (λ (g : Home). g.start) s.at in
       let members = ap (λ (g : Home). length g.members) s.at in
       home-again (list_groups b) (span_at b k).start r (in-size (span_at b k).start s.some)
-      (record { from = omega (arith, from, low); to = omega (arith, from, members, long, low, p, s.some) }) ∙ s.at
+      (record { from = omega (arith, from, low); to = omega (arith, from, members, span-long b w k lt, low, p, s.some) }) ∙ s.at
 
   pub span-place : (r : ℕ) → (span_at b k).start ≤ r → InSpan r → r - (home (list_groups b) r).start ≡ r - (span_at b k).start
   span-place r low p = ap (λ (g : Home). r - g.start) (span-home r low p)

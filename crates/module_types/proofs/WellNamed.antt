@@ -102,13 +102,12 @@ module _ (ts us : List Interned) (ss : List Span) (well : Well ts ss) (some : 0 
   pub well-next : Well (ts ++ us) (ss ++ span ∷ [])
   well-next =
       let sized = groups-size ts ss 0 (length ts) well.orderly (omega arith) in
-      let long = length-append ts us in
       let at : length ts + length us ≡ 0 + size (groups_of ts ss) + length (unkinded us) = omega (arith, sized, unkinded-long us) in
       let joined : unkinded (ts ++ us) ≡ unkinded ts ++ unkinded us = map-append (map_sub_type (index_of {R = ℕ}) (λ (r : ℕ). r)) ts us in
       record {
         orderly = orderly-next;
         earlier = grind (arith, groups-next, earlier-more);
-        below = subst (λ n. AllBelow n (unkinded (ts ++ us))) (sym long)
+        below = subst (λ n. AllBelow n (unkinded (ts ++ us))) (sym (length-append ts us))
             (subst (λ g. AllBelow (length ts + length us) g) (sym joined)
             (subst (λ rs. All (λ r. r < length ts + length us) rs) (sym (flat_map-append (sub_type_edges (λ r. r)) (unkinded ts) (unkinded us)))
             (All-append (λ r. r < length ts + length us) (group_edges (λ r. r) (unkinded ts)) (group_edges (λ r. r) (unkinded us))

@@ -45,18 +45,16 @@ convert_members-requires-clause-can c =
 
 pub returns : goal.returns
 returns c =
-    let t = c.args.types.now in
     let k = c.args.id.0 in
     let b = builder_view c.args.self.now in
     let list = c.looking_up-converter.ensures.list in
-    let ids = c.looking_up-converter.ensures.ids in
     let types = c.looking_up-converter.ensures.types in
     let next : length c.looking_up-converter.result.list.now.types ≡ length b.built.types = ap (λ (l : TypeList). length l.types) list ∙ sym (length-map c.args.self.now.list.types interned_of) in
     let converter = c.looking_up-converter.result in
     let members : members_of converter.types.now k ≡ map form.sub_type_of c.members.result.now =
-    ap (λ (d : TypesData). members_of d k) types ∙ get_or_from_slice_get t.groups k _ [] c.members.ensures.members in
+    ap (λ (d : TypesData). members_of d k) types ∙ get_or_from_slice_get c.args.types.now.groups k _ [] c.members.ensures.members in
     IfOk-weaker c.convert_members.result _ _
     (λ made is. made-is converter.types.now (length converter.list.now.types) (map span_of converter.list.now.groups)
     (noted_at converter.ids.now) k c.members.result.now members made.items is
-    ∙ (λ j. members_by_index (types j) (next j) (map span_of (list j).groups) (noted_at (ids j)) k))
+    ∙ (λ j. members_by_index (types j) (next j) (map span_of (list j).groups) (noted_at (c.looking_up-converter.ensures.ids j)) k))
     c.convert_members.ensures

@@ -1,21 +1,15 @@
-use Rattle.std.proofs.Common.{◌∙◌, sym, ap}
+use Rattle.std.proofs.lemmas.Grind.{common_steps}
+use Rattle.std.proofs.Common.{arith}
 use Rattle.std.specs.Option.{option_map}
-use Rattle.wasm_spec.specs.TypeData.{Concrete}
-use Rattle.wasm_convert.specs.Known.{CanLookUp}
-use Rattle.module_types.specs.Converter.{KnowsIndex, look_index}
 use Rattle.module_types.proofs.Convertible.{known-by}
 use Rattle.module_types.proofs.Steps.{name-is}
 use Rattle.module_types.proofs.converter.WasmparserTypeConverterTypeConvert.lookup_heap_type.Goals as goal
 
 pub interned-index-requires-clause-below : goal.interned-index-requires-clause-below
-interned-index-requires-clause-below g c =
-    let s = c.args.self.now in
-    (coe 0 1 (j. CanLookUp (KnowsIndex (λ i. g.F.TypeLookUp.callable s.lookup_type_idx i) s.types.now s.count (option_map (λ p. (p.0.now, p.1.0)) s.rec_group)) (c.in-Module.is j)) c.requires).0
+interned-index-requires-clause-below g c = grind (arith, common_steps)
 
 pub interned-index-requires-clause-callable : goal.interned-index-requires-clause-callable
-interned-index-requires-clause-callable g c =
-    let s = c.args.self.now in
-    (coe 0 1 (j. CanLookUp (KnowsIndex (λ i. g.F.TypeLookUp.callable s.lookup_type_idx i) s.types.now s.count (option_map (λ p. (p.0.now, p.1.0)) s.rec_group)) (c.in-Module.is j)) c.requires).1
+interned-index-requires-clause-callable g c = grind (arith, common_steps)
 
 pub lookup_heap_type-requires : goal.lookup_heap_type-requires
 lookup_heap_type-requires g c =
@@ -26,8 +20,4 @@ lookup_heap_type-requires g c =
     c.looking_up.ensures.types c.looking_up.ensures.list c.looking_up.ensures.ids
 
 pub returns-in-Module : goal.returns-in-Module
-returns-in-Module g c =
-    let s = c.args.self.now in
-    c.reference_to_interned.ensures
-    ∙ ap Concrete (name-is s.types.now c.interned-index.result c.index.result.now c.index.ensures _ c.interned-index.ensures.answered
-    ∙ ap (λ i. look_index (λ i r. g.F.TypeLookUp.gives s.lookup_type_idx i r) s.types.now s.count s.answers (option_map (λ p. (p.0.now, p.1.0)) s.rec_group) i) (sym c.in-Module.is))
+returns-in-Module g c = grind (arith, common_steps, name-is)

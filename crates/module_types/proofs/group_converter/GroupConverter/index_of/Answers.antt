@@ -1,3 +1,4 @@
+use Rattle.std.proofs.lemmas.Grind.{common_steps}
 use Rattle.std.proofs.Common.{◌≡◌, ◌∙◌, ◌+◌, ◌-◌, ℕ, map, length, Option, Some, sym, ap, arith}
 use Rattle.std.proofs.lemmas.List.{length-map}
 use Rattle.wasm_index.specs.Index.{number_of, index_of}
@@ -7,9 +8,7 @@ use Rattle.module_types.proofs.Places.{some, before, stands, held-within, held-i
 use Rattle.module_types.proofs.group_converter.GroupConverter.index_of.Goals as goal
 
 pub unreachable-requires : goal.unreachable-requires
-unreachable-requires c =
-    some c.args.self.now.types.now c.args.id.0 c.rec_group_id_of-group.result.0 c.rec_group_id_of-group.ensures.number c.rec_group_id_of-group.ensures.known
-    c.rec_group_elements.result c.rec_group_elements.ensures c.in_default.ensures.steps.0
+unreachable-requires c = grind (arith, common_steps, some)
 
 pub overflow_sub-place : goal.overflow_sub-place
 overflow_sub-place c =

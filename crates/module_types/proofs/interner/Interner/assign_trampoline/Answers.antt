@@ -1,3 +1,4 @@
+use Rattle.std.proofs.lemmas.Grind.{common_steps}
 use Rattle.std.proofs.Common.{◌≡◌, ◌∙◌, ℕ, List, Some, refl, sym, ap, subst, arith}
 use Rattle.std.specs.Prelude.{slice_get, option_and_then}
 use Rattle.type_spec.specs.Interned.{assign_trampoline, composite_at}
@@ -21,8 +22,7 @@ use Rattle.module_types.proofs.Steps.{composite-read, assign_trampoline-other, k
 use Rattle.module_types.proofs.interner.Interner.assign_trampoline.Goals as goal
 
 pub returns-in_default-clause-built : goal.returns-in_default-clause-built
-returns-in_default-clause-built c =
-    assign_trampoline-other c.args.self.now.list (known c.args.self.now) (number_of c.args.ty) c.index.result.now c.index.ensures c.in_default.not-Func
+returns-in_default-clause-built c = grind (arith, common_steps, assign_trampoline-other)
 
 pub returns-in-Known-clause-built : goal.returns-in-Known-clause-built
 returns-in-Known-clause-built c =
@@ -33,8 +33,7 @@ returns-in-Known-clause-built c =
     (sym (subst (IsTrampoline (known i) i.met.hasher c.in-Func.func) c.in-Known.is c.in_ok-found.ensures))
 
 pub returns-in-Known-clause-found : goal.returns-in-Known-clause-found
-returns-in-Known-clause-found c =
-    coe 0 1 (j. IsLinked (sym (ap (λ (l : TypeList). l.types) c.set_trampoline.ensures) j) c.args.self.now.met) c.requires.found
+returns-in-Known-clause-found c = grind (arith, common_steps)
 
 -- a type that is its own mapped type is noted at its index
 module _ (i : Interner) (found : FindsMet i) (ty : TypeIndex) (x : WasmSubType) (read : slice_get i.list.types (number_of ty) ≡ Some x) (f : WasmFuncType)
@@ -71,20 +70,13 @@ push_trampoline-requires-clause-room c =
     let i = c.args.self.now in
     let kind = composite-read i.list.types (number_of c.args.ty) c.index.result.now c.index.ensures _ c.in-Func.is in
     let other = subst (IsTrampoline (known i) i.met.hasher c.in-Func.func) c.in-New.is c.in_ok-found.ensures in
-    let long = new-long i.list (known i) (number_of c.args.ty) c.in-Func.func kind (sym other.0) other.3 in
-    omega (arith, long, c.requires.room)
+    omega (arith, new-long i.list (known i) (number_of c.args.ty) c.in-Func.func kind (sym other.0) other.3, c.requires.room)
 
 pub push_trampoline-requires-clause-mapped : goal.push_trampoline-requires-clause-mapped
-push_trampoline-requires-clause-mapped c =
-    let i = c.args.self.now in
-    let other = subst (IsTrampoline (known i) i.met.hasher c.in-Func.func) c.in-New.is c.in_ok-found.ensures in
-    ap trampoline_of other.2 ∙ trampoline-twice c.in-Func.func ∙ sym other.2
+push_trampoline-requires-clause-mapped c = grind (arith, common_steps, trampoline-twice)
 
 pub push_trampoline-requires-clause-digest : goal.push_trampoline-requires-clause-digest
-push_trampoline-requires-clause-digest c =
-    let i = c.args.self.now in
-    let other = subst (IsTrampoline (known i) i.met.hasher c.in-Func.func) c.in-New.is c.in_ok-found.ensures in
-    other.1 ∙ ap (digest_of i.met.hasher) (sym other.2)
+push_trampoline-requires-clause-digest c = grind (arith, common_steps)
 
 pub returns-in_ok-push_trampoline-in-New-clause-built : goal.returns-in_ok-push_trampoline-in-New-clause-built
 returns-in_ok-push_trampoline-in-New-clause-built c =

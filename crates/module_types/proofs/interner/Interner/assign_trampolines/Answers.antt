@@ -13,8 +13,7 @@ pub assign_trampoline-requires-clause-room : goal.assign_trampoline-requires-cla
 assign_trampoline-requires-clause-room c =
     let room = along-room (built c.args.self.now) (built c.loop-i.self) c.args.first c.loop-i.i c.loop-i.invariant.along (grind (arith, common_steps)) in
     let now = built c.loop-i.self in
-    let at = ap number_of c.new.ensures in
-    omega (arith, room, c.requires.room, ap (λ n. length (assign_trampoline now n (composite_at now.types n)).types) at)
+    omega (arith, room, c.requires.room, ap (λ n. length (assign_trampoline now n (composite_at now.types n)).types) (ap number_of c.new.ensures))
 
 pub loop-i-preserved : goal.loop-i-preserved
 loop-i-preserved c = record {

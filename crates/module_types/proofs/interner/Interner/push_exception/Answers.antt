@@ -1,4 +1,5 @@
-use Rattle.std.proofs.Common.{◌∙◌, map, ap}
+use Rattle.std.proofs.lemmas.Grind.{common_steps}
+use Rattle.std.proofs.Common.{arith, ◌∙◌, map, ap}
 use Rattle.std.proofs.lemmas.Result.{on_ok_weaker}
 use Rattle.wasm_index.specs.Index.{number_of}
 use Rattle.module_types.specs.Views.{field_at}
@@ -7,8 +8,7 @@ use Rattle.module_types.proofs.Steps.{composite-read, no-function, exception-mad
 use Rattle.module_types.proofs.interner.Interner.push_exception.Goals as goal
 
 pub unreachable-requires : goal.unreachable-requires
-unreachable-requires c =
-    no-function c.args.self.now.list.types (number_of c.args.function) c.index.result.now c.index.ensures c.in_default.not-Func c.requires.function
+unreachable-requires c = grind (arith, common_steps, no-function)
 
 pub returns-clause-built : goal.returns-clause-built
 returns-clause-built c =

@@ -1,4 +1,5 @@
-use Rattle.std.proofs.Common.{◌≡◌, ◌∙◌, ℕ, List, [], ◌∷◌, ◌++◌, length, map, Some, OnOk, sym, ap}
+use Rattle.std.proofs.lemmas.Grind.{common_steps}
+use Rattle.std.proofs.Common.{arith, ◌≡◌, ◌∙◌, ℕ, List, [], ◌∷◌, ◌++◌, length, Some, OnOk, sym, ap}
 use Rattle.std.proofs.lemmas.List.{length-map}
 use Rattle.std.proofs.lemmas.Result.{on_ok_weaker}
 use Rattle.wasm_spec.specs.TypeData.{Func}
@@ -10,8 +11,7 @@ use Rattle.module_types.specs.declared.interner.Interner.{Interner}
 use Rattle.module_types.specs.declared.met.MetTypes.{MetTypes}
 use Rattle.wasm_types.specs.declared.sub.WasmSubType.{WasmSubType}
 use Rattle.wasm_types.specs.Views.{func_in}
-use Rattle.module_types.specs.Views.{TypeIndex, interned_of, called_of, span_of}
-use Rattle.module_types.specs.Orderly.{LieBetween}
+use Rattle.module_types.specs.Views.{TypeIndex, interned_of, called_of}
 use Rattle.module_types.specs.TypeList.{TypeList, called_by}
 use Rattle.module_types.specs.TypeParts.{part_at}
 use Rattle.module_types.specs.Held.{built_of}
@@ -23,14 +23,10 @@ use Rattle.module_types.proofs.interner.Interner.push_trampoline.Goals as goal
 
 -- where the list stands still
 pub push_alone-requires-clause-found : goal.push_alone-requires-clause-found
-push_alone-requires-clause-found c =
-    let types = ap (λ (l : TypeList). l.types) c.set_trampoline.ensures in
-    coe 0 1 (j. IsLinked (sym types j) c.args.self.now.met) c.requires.found
+push_alone-requires-clause-found c = grind (arith, common_steps)
 
 pub push_alone-requires-clause-orderly : goal.push_alone-requires-clause-orderly
-push_alone-requires-clause-orderly c =
-    let back = sym c.set_trampoline.ensures in
-    coe 0 1 (j. LieBetween 0 (map span_of (back j).groups) (length (map interned_of (back j).types))) c.requires.orderly
+push_alone-requires-clause-orderly c = grind (arith, common_steps)
 
 -- what follows once the type is noted
 module _ (i now : Interner) (met : MetTypes) (ty : ℕ) (k : TypeIndex) (mapped : WasmFuncType) (digest : ℕ) (own : trampoline_of mapped ≡ mapped)

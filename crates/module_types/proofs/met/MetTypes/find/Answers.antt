@@ -1,4 +1,5 @@
-use Rattle.std.proofs.Common.{◌≡◌, ◌∙◌, ◌<◌, ◌-◌, ℕ, true, false, List, length, get_or, Some, sym, ap}
+use Rattle.std.proofs.lemmas.Grind.{common_steps}
+use Rattle.std.proofs.Common.{arith, ◌≡◌, ◌∙◌, ◌<◌, ◌-◌, ℕ, true, false, List, length, get_or, Some, sym, ap}
 use Rattle.std.specs.Prelude.{slice_get, option_and_then, IsSome}
 use Rattle.std.proofs.lemmas.List.{length-map}
 use Rattle.std.proofs.lemmas.Option.{slice_get_read}
@@ -53,9 +54,7 @@ index-requires c =
     c.index-met.result.now c.index-met.ensures)
 
 pub unwrap_func-requires : goal.unwrap_func-requires
-unwrap_func-requires c =
-    is-function c.args.list.now.types c.args.self.now c.requires.linked (trampoline_of c.args.func.now) c.loop-left.left c.loop-left.invariant c.loop-left-test.true
-    c.index-met.result.now c.index-met.ensures c.index.result.now c.index.ensures
+unwrap_func-requires c = grind (arith, common_steps, is-function)
 
 pub returns-then-is_mapped : goal.returns-then-is_mapped
 returns-then-is_mapped c =

@@ -1,4 +1,5 @@
-use Rattle.std.proofs.Common.{◌≡◌, ◌∙◌, ℕ, suc, ◌+◌, length, Bool, true, false, cond, Option, Some, refl, ap, arith}
+use Rattle.std.proofs.lemmas.Bool.{cases_Bool}
+use Rattle.std.proofs.Common.{◌≡◌, ◌∙◌, ℕ, suc, ◌+◌, length, Bool, cond, Option, Some, refl, ap, arith}
 use Rattle.std.specs.Prelude.{nat_eq, if◌then◌else◌}
 use Rattle.std.specs.HashMap.{get}
 use Rattle.std.specs.Option.{unwrap_or}
@@ -6,8 +7,7 @@ use Rattle.module_types.proofs.Chaining.{is-noted}
 use Rattle.module_types.proofs.met.MetTypes.note.Goals as goal
 
 count-or : (b : Bool) (n m : ℕ) (o : Option ℕ) → n ≡ m → unwrap_or (cond b (Some n) o) 0 ≡ (if b then m else unwrap_or o 0)
-count-or true n m o e = e
-count-or false n m o e = refl
+count-or b n m o e = grind (arith, cases_Bool)
 
 counted : (b : Bool) (n m : ℕ) (o later : Option ℕ) → later ≡ cond b (Some n) o → n ≡ m → unwrap_or later 0 ≡ (if b then m else unwrap_or o 0)
 counted b n m o later e same = ap (λ x. unwrap_or x 0) e ∙ count-or b n m o same
