@@ -1,6 +1,6 @@
 //! The sections of a module as a translation holds them: all but types, tags, code and custom sections.
 
-ghost use Rattle.std.specs.Prelude.{◌≡◌, ◌<◌, ◌^◌, ◌++◌, ℕ, [], length, map, OnOk};
+ghost use Rattle.std.specs.Prelude.{◌≡◌, ◌<◌, ◌^◌, ◌++◌, ℕ, List, [], length, map, OnOk};
 ghost use Rattle.wasm_spec.specs.Module.{imports, function_import};
 ghost use Rattle.rule_spec.specs.Lists.{lists_of_module};
 ghost use Rattle.form_rules.specs.Names.{imported_names, exported_names};

@@ -34,8 +34,8 @@ convert_globals-requires-clause-known g c =
 pub split_at-requires : goal.split_at-requires
 split_at-requires g c =
     let dyn = goal.TypeConvert-dyn g c.args.env.now in
-    let within = imported-within c.args.lists.now c.requires.gathered c.as_slice.result.now c.as_slice.ensures.value c.in_ok-entities-2.field-0
-    (dyn.look_up c.args.env.now.1) c.in_ok-entities-2.ensures in
+    let within = imported-within c.args.lists.now c.requires.gathered c.as_slice.result.now c.as_slice.ensures.value c.in_ok-entities.field-0
+    (dyn.look_up c.args.env.now.1) c.in_ok-entities.ensures in
     omega (arith, within, c.in_ok-initializers.ensures.counts.tables, ap length c.as_slice-4.ensures)
 
 pub returns : goal.returns
@@ -50,10 +50,10 @@ returns g c =
       pooled = c.in_ok-initializers.ensures.pooled;
       texts = c.in_ok-initializers.ensures.pool ∙ ap (λ (ts : List (List ℕ)). with_texts ts (imported_names (module_in l))) c.requires.names;
       counts = c.in_ok-initializers.ensures.counts;
-      tables = c.in_ok-entities-2.ensures
+      tables = c.in_ok-entities.ensures
           ∙ tables-filled l gathered knows look c.requires.looks c.as_slice.result.now c.as_slice.ensures.value;
-      memories = c.in_ok-entities-3.ensures ∙ memories-filled l gathered c.as_slice-2.result.now c.as_slice-2.ensures.value;
-      globals = c.in_ok-entities-4.ensures
+      memories = c.in_ok-entities-2.ensures ∙ memories-filled l gathered c.as_slice-2.result.now c.as_slice-2.ensures.value;
+      globals = c.in_ok-entities-3.ensures
           ∙ globals-filled l gathered knows look c.requires.looks c.as_slice-3.result.now c.as_slice-3.ensures.value;
       heap = c.hold_collected-entities.ensures ∙ ap (list_any (λ (table : Table). heap_is_collected table.ref_type.heap_type))
           (c.split_at.ensures.back ∙ ap (drop c.in_ok-initializers.counts.tables) c.as_slice-4.ensures);
