@@ -36,21 +36,7 @@ pub(crate) fn kind_of(op: ConstOp) -> Kind
         | ConstOp::ArrayNewDefault { .. }
         | ConstOp::ArrayNewFixed { .. } => Kind::Object,
         ConstOp::ExternConvertAny | ConstOp::AnyConvertExtern => Kind::Conversion,
-        ConstOp::I32Const(_)
-        | ConstOp::I64Const(_)
-        | ConstOp::F32Const(_)
-        | ConstOp::F64Const(_)
-        | ConstOp::V128Const(_)
-        | ConstOp::GlobalGet(_)
-        | ConstOp::RefI31
-        | ConstOp::RefNull(_)
-        | ConstOp::RefFunc(_)
-        | ConstOp::I32Add
-        | ConstOp::I32Sub
-        | ConstOp::I32Mul
-        | ConstOp::I64Add
-        | ConstOp::I64Sub
-        | ConstOp::I64Mul => Kind::Simple,
+        _ => Kind::Simple,
     }
 }
 
@@ -89,26 +75,6 @@ pub(crate) fn taken(translation: &ModuleTranslation<'_>, types: &ModuleTypes, op
         ConstOp::StructNew { struct_type_index } => {
             field_count(translation, types, struct_type_index)
         }
-        ConstOp::ArrayNewFixed { array_size, .. } => array_size as usize,
-        ConstOp::ArrayNew { .. }
-        | ConstOp::I32Add
-        | ConstOp::I32Sub
-        | ConstOp::I32Mul
-        | ConstOp::I64Add
-        | ConstOp::I64Sub
-        | ConstOp::I64Mul => 2,
-        ConstOp::ArrayNewDefault { .. }
-        | ConstOp::RefI31
-        | ConstOp::ExternConvertAny
-        | ConstOp::AnyConvertExtern => 1,
-        ConstOp::StructNewDefault { .. }
-        | ConstOp::I32Const(_)
-        | ConstOp::I64Const(_)
-        | ConstOp::F32Const(_)
-        | ConstOp::F64Const(_)
-        | ConstOp::V128Const(_)
-        | ConstOp::GlobalGet(_)
-        | ConstOp::RefNull(_)
-        | ConstOp::RefFunc(_) => 0,
+        _ => op.takes(),
     }
 }

@@ -1,54 +1,71 @@
 //! Operators that need no node.
 
-ghost use Rattle.std.specs.Prelude.{◌≡◌, ℕ, List, ◌∷◌, [], ◌%◌, ◌^◌, All, IfSome};
+ghost use Rattle.std.specs.Prelude.{◌≡◌, ℕ, List, ◌∷◌, [], true, All, IfSome, MatchOption};
 ghost use Rattle.std.specs.Option.{option_map};
-ghost use Rattle.wasm_convert.specs.Operators.{operator_of};
+ghost use Rattle.wasm_convert.specs.Constants.{plain_value_of};
+ghost use Rattle.wasm_convert.specs.Operators.{operator_of, plain_result};
 ghost use Rattle.replay_spec.specs.Values as plain;
-ghost use Rattle.replay_spec.specs.Values.{Term, action, joined_i32, joined_i64, i31_of};
+ghost use Rattle.replay_spec.specs.Values.{Term, action, is_plain, i31_of};
 ghost use Rattle.plan_run.specs.declared.kinds.Kind.TheVariants.{Simple};
 ghost use Rattle.plan_run.specs.Kinds.{kind_of};
-ghost use Rattle.plan_run.specs.Values.{value_in, values_in, NamesBelow};
+ghost use Rattle.plan_run.specs.Values.{value_in, values_in, IsReference, NamesBelow};
 
 use crate::value::Value;
 use entity_map::EntityRef;
-use wasm_convert::ConstOp;
+use wasm_convert::{ConstOp, GlobalConstValue};
 
-fn both_i32(first: Value, second: Value) -> Option<(u32, u32)>
-    ensures { (f : ℕ → ℕ → ℕ) (terms : List Term) → joined_i32 f (value_in terms first ∷ value_in terms second ∷ [])
-        ≡ option_map (λ p. plain.I32 (f p.0 p.1 % 2 ^ 32)) result }
+/// A constant value.
+fn from_constant(value: GlobalConstValue) -> Value
+    ensures means { (terms : List Term) → value_in terms result ≡ plain_value_of value }
+    ensures below { (k : ℕ) → NamesBelow k result }
 {
-    match (first, second) {
-        (Value::I32(a), Value::I32(b)) => Some((a, b)),
+    match value {
+        GlobalConstValue::I32(n) => Value::I32(n.cast_unsigned()),
+        GlobalConstValue::I64(n) => Value::I64(n.cast_unsigned()),
+        GlobalConstValue::F32(bits) => Value::F32(bits),
+        GlobalConstValue::F64(bits) => Value::F64(bits),
+        GlobalConstValue::V128(bits) => Value::V128(bits),
+    }
+}
+
+/// The constant value that a value is; none of a reference.
+fn to_constant(value: Value) -> Option<GlobalConstValue>
+    ensures { MatchOption result (IsReference value) (λ v. (terms : List Term) → plain_value_of v ≡ value_in terms value) }
+{
+    match value {
+        Value::I32(n) => Some(GlobalConstValue::I32(n.cast_signed())),
+        Value::I64(n) => Some(GlobalConstValue::I64(n.cast_signed())),
+        Value::F32(bits) => Some(GlobalConstValue::F32(bits)),
+        Value::F64(bits) => Some(GlobalConstValue::F64(bits)),
+        Value::V128(bits) => Some(GlobalConstValue::V128(bits)),
         _ => None,
     }
 }
 
-fn both_i64(first: Value, second: Value) -> Option<(u64, u64)>
-    ensures { (f : ℕ → ℕ → ℕ) (terms : List Term) → joined_i64 f (value_in terms first ∷ value_in terms second ∷ [])
-        ≡ option_map (λ p. plain.I64 (f p.0 p.1 % 2 ^ 64)) result }
+/// What a sum, a difference or a product makes of two values; none of another operator or of other values.
+fn joined(op: &ConstOp, first: Value, second: Value) -> Option<Value>
+    ensures means { (terms : List Term) → option_map (value_in terms) result
+        ≡ plain_result op.now (value_in terms first ∷ value_in terms second ∷ []) }
+    ensures below { (k : ℕ) → IfSome result (NamesBelow k) }
 {
-    match (first, second) {
-        (Value::I64(a), Value::I64(b)) => Some((a, b)),
-        _ => None,
-    }
+    let first = to_constant(first)?;
+    let second = to_constant(second)?;
+    let value = op.joined(first, second)?;
+    Some(from_constant(value))
 }
 
-/// The two arguments, where they are i32 values.
-fn two_i32(args: &[Value]) -> Option<(u32, u32)>
-    ensures { (f : ℕ → ℕ → ℕ) (terms : List Term) → joined_i32 f (values_in terms args.now) ≡ option_map (λ p. plain.I32 (f p.0 p.1 % 2 ^ 32)) result }
+/// What a constant, a sum, a difference or a product makes of its arguments.
+fn plain_value(op: &ConstOp, args: &[Value]) -> Option<Value>
+    requires { is_plain (operator_of op.now) ≡ true }
+    ensures means { (terms : List Term) (globals : List plain.Value) (fields : ℕ → ℕ) → option_map (value_in terms) result
+        ≡ (action globals fields (operator_of op.now)).makes (values_in terms args.now) }
+    ensures below { (k : ℕ) → IfSome result (NamesBelow k) }
 {
+    if let Some(value) = op.constant() {
+        return Some(from_constant(value));
+    }
     match args {
-        [first, second] => both_i32(*first, *second),
-        _ => None,
-    }
-}
-
-/// The two arguments, where they are i64 values.
-fn two_i64(args: &[Value]) -> Option<(u64, u64)>
-    ensures { (f : ℕ → ℕ → ℕ) (terms : List Term) → joined_i64 f (values_in terms args.now) ≡ option_map (λ p. plain.I64 (f p.0 p.1 % 2 ^ 64)) result }
-{
-    match args {
-        [first, second] => both_i64(*first, *second),
+        [first, second] => joined(op, *first, *second),
         _ => None,
     }
 }
@@ -71,11 +88,6 @@ pub(crate) fn simple(globals: &[Value], op: ConstOp, args: &[Value]) -> Option<V
     ensures below { (k : ℕ) → All (NamesBelow k) globals.now → IfSome result (NamesBelow k) }
 {
     match op {
-        ConstOp::I32Const(value) => Some(Value::I32(value.cast_unsigned())),
-        ConstOp::I64Const(value) => Some(Value::I64(value.cast_unsigned())),
-        ConstOp::F32Const(bits) => Some(Value::F32(bits)),
-        ConstOp::F64Const(bits) => Some(Value::F64(bits)),
-        ConstOp::V128Const(bits) => Some(Value::V128(bits)),
         ConstOp::GlobalGet(index) => globals.get(index.index()).copied(),
         ConstOp::RefNull(_) => Some(Value::Null),
         ConstOp::RefFunc(index) => Some(Value::Func(index)),
@@ -83,36 +95,6 @@ pub(crate) fn simple(globals: &[Value], op: ConstOp, args: &[Value]) -> Option<V
             let n = one_i31(args)?;
             Some(Value::I31(n))
         }
-        ConstOp::I32Add => {
-            let (a, b) = two_i32(args)?;
-            Some(Value::I32(a.wrapping_add(b)))
-        }
-        ConstOp::I32Sub => {
-            let (a, b) = two_i32(args)?;
-            Some(Value::I32(a.wrapping_sub(b)))
-        }
-        ConstOp::I32Mul => {
-            let (a, b) = two_i32(args)?;
-            Some(Value::I32(a.wrapping_mul(b)))
-        }
-        ConstOp::I64Add => {
-            let (a, b) = two_i64(args)?;
-            Some(Value::I64(a.wrapping_add(b)))
-        }
-        ConstOp::I64Sub => {
-            let (a, b) = two_i64(args)?;
-            Some(Value::I64(a.wrapping_sub(b)))
-        }
-        ConstOp::I64Mul => {
-            let (a, b) = two_i64(args)?;
-            Some(Value::I64(a.wrapping_mul(b)))
-        }
-        ConstOp::StructNew { .. }
-        | ConstOp::StructNewDefault { .. }
-        | ConstOp::ArrayNew { .. }
-        | ConstOp::ArrayNewDefault { .. }
-        | ConstOp::ArrayNewFixed { .. }
-        | ConstOp::ExternConvertAny
-        | ConstOp::AnyConvertExtern => None,
+        _ => plain_value(&op, args),
     }
 }

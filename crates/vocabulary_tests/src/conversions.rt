@@ -9,7 +9,7 @@ ghost use Rattle.wasm_types.specs.declared.index.EngineOrModuleTypeIndex.TheVari
 use entity_map::EntityRef;
 use form_data::FuncType;
 use std::test::Fail;
-use wasm_convert::{ConstExpr, ConstOp, TypeConvert};
+use wasm_convert::{ConstExpr, ConstOp, GlobalConstValue, Operands, TypeConvert};
 use wasm_index::ModuleInternedTypeIndex;
 use wasm_spec::{AbstractHeapType, HeapType, Operator, RefType, UnpackedIndex, ValType};
 use wasm_types::{EngineOrModuleTypeIndex, WasmHeapType};
@@ -30,6 +30,24 @@ fn one_constant_is_zero_or_not(rt: HostRuntime) -> Result<(), Fail> {
             }
         )
     );
+    Ok(())
+}
+
+#[test]
+fn operator_tells_its_parts(rt: HostRuntime) -> Result<(), Fail> {
+    let sum = ConstOp::I32Add;
+    assert_eq!(rt; sum.name(), "i32.add");
+    assert_eq!(rt; sum.number(), 9);
+    assert_eq!(rt; sum.takes(), 2);
+    assert!(rt; matches!(ConstOp::F32Const(7).operands(), Operands::Bits32(7)));
+    assert!(rt;
+        matches!(
+            ConstOp::I32Const(5).constant(),
+            Some(GlobalConstValue::I32(5))
+        )
+    );
+    let total = sum.joined(GlobalConstValue::I32(5), GlobalConstValue::I32(-9));
+    assert!(rt; matches!(total, Some(GlobalConstValue::I32(-4))));
     Ok(())
 }
 
