@@ -122,8 +122,7 @@ module _ (r : Registry) (b : IsBalanced r) where
       ap (list_any (nat_eq first)) (sym g.at) ∙ any-place g.group.indices first 0 start in
       let x = listed-in key m first is (any-drop m.indices s.start first (any-take (drop s.start m.indices) (size_of s) first part)) in
       let p = place-any x.group.indices first x.has in
-      let same = (b.sound.owned first x.first 0 p.place first g.group x.group g.kept x.kept start p.at).0 in
-      subst (λ n. 0 < times n m.groups) (sym same) x.is_in
+      subst (λ n. 0 < times n m.groups) (sym (b.sound.owned first x.first 0 p.place first g.group x.group g.kept x.kept start p.at).0) x.is_in
 
 -- ---- a module is released
 
@@ -179,8 +178,7 @@ module _ (r : Registry) (b : IsBalanced r) (key : ℕ) (m : Module) (is : r.held
         count = st.count;
         groups = λ j s at.
             let g = st.groups j s at in
-            let first = get_or st.listed.indices s.start 0 in
-            let w = still-kept k st.listed first here (first-listed r b k st.listed l s st.held g) in
+            let w = still-kept k st.listed (get_or st.listed.indices s.start 0) here (first-listed r b k st.listed l s st.held g) in
             let old : w.old ≡ g.group = same_Some w.old g.group (sym w.was ∙ g.kept) in
             record {
               group = w.group;

@@ -46,11 +46,9 @@ remove-at (Some x ∷ gs) k (suc m) n g e at = grind (arith, nat_eq, ne_eqb, (re
 
 pub set-other : {A : Type 0} (xs : List (Option A)) (f n : ℕ) (o : Option A) → (n ≡ f → ⊥)
     → option_and_then (λ (x : Option A). x) (slice_get (set xs f o) n) ≡ option_and_then (λ (x : Option A). x) (slice_get xs n)
-set-other [] f n o apart = refl
 set-other (x ∷ xs) zero zero o apart = absurd (apart refl)
-set-other (x ∷ xs) zero (suc n) o apart = refl
-set-other (x ∷ xs) (suc f) zero o apart = refl
 set-other (x ∷ xs) (suc f) (suc n) o apart = set-other xs f n o (λ e. apart (ap suc e))
+set-other _ _ _ _ _ = refl
 
 pub set-here : {A : Type 0} (xs : List (Option A)) (n : ℕ) (o : Option A) → n < length xs → option_and_then (λ (x : Option A). x) (slice_get (set xs n o) n) ≡ o
 set-here [] n o lt = absurd (omega (arith, lt))
@@ -58,15 +56,13 @@ set-here (x ∷ xs) zero o lt = refl
 set-here (x ∷ xs) (suc n) o lt = set-here xs n o (omega (arith, lt))
 
 pub set-none : (gs : List (Option Group)) (f : ℕ) → group_in (set gs f None) f ≡ None
-set-none [] f = refl
-set-none (x ∷ gs) zero = refl
 set-none (x ∷ gs) (suc f) = set-none gs f
+set-none _ _ = refl
 
 pub set-nothing : (gs : List (Option Group)) (f : ℕ) → group_in gs f ≡ None → set gs f None ≡ gs
-set-nothing [] f at = refl
-set-nothing (None ∷ gs) zero at = refl
 set-nothing (Some g ∷ gs) zero at = let no : nothing ≡ Some g = sym at in cc
 set-nothing (x ∷ gs) (suc f) at = ap (λ l. x ∷ l) (set-nothing gs f at)
+set-nothing _ _ _ = refl
 
 -- ---- what a contract says of the list by first indices
 
@@ -96,11 +92,10 @@ length-counted (Some h ∷ gs) k (suc f) n g at = grind (arith, length-append, s
 
 pub length-removed : (gs : List (Option Group)) (k f : ℕ) (g : Group) → group_in gs f ≡ Some g
     → length (indices_of (kept_from k (set gs f None))) + length g.indices ≡ length (indices_of (kept_from k gs))
-length-removed [] k f g at = let no : nothing ≡ Some g = at in cc
-length-removed (None ∷ gs) k zero g at = let no : nothing ≡ Some g = at in cc
 length-removed (None ∷ gs) k (suc f) g at = length-removed gs (k + 1) f g at
 length-removed (Some h ∷ gs) k zero g at = grind (arith, length-append)
 length-removed (Some h ∷ gs) k (suc f) g at = grind (arith, length-append, set, (length-removed gs (k + 1) f g at))
+length-removed _ _ _ g at = let no : nothing ≡ Some g = at in cc
 
 pub group-within : (gs : List (Option Group)) (f : ℕ) (g : Group) → group_in gs f ≡ Some g → f < length gs
 group-within [] f g at = let none : nothing ≡ Some g = at in cc

@@ -94,8 +94,7 @@ free-same : (xs ys : List ℕ) (n : ℕ) → ((m : ℕ) → has xs m ≡ has ys 
 free-same xs ys zero same = refl
 free-same xs ys (suc n) same =
     let j = least-same xs ys same in
-    let rest = free-same (least_free xs ∷ xs) (least_free ys ∷ ys) n (λ m. λ i. nat_eq m (j i) || same m i) in
-    λ i. j i ∷ rest i
+    λ i. j i ∷ (free-same (least_free xs ∷ xs) (least_free ys ∷ ys) n (λ m. λ i. nat_eq m (j i) || same m i)) i
 
 -- the least that is free is not below an index below which all are taken
 not-below : (now : List ℕ) (i : ℕ) → ((m : ℕ) → m < i → has now m ≡ true) → i ≤ least_free now
@@ -179,14 +178,12 @@ not-taken taken n x is = let p = place-any (free_indices taken n) x is in (free-
 pub free-low : (taken : List ℕ) (n x : ℕ) → has (free_indices taken n) x ≡ true → x < length taken + n
 free-low taken n x is =
     let p = place-any (free_indices taken n) x is in
-    let f = free-at taken n p.place x p.at in
-    omega (arith, f.1, rank-high taken x, slice_get_within (free_indices taken n) p.place x p.at, free-length taken n)
+    omega (arith, (free-at taken n p.place x p.at).1, rank-high taken x, slice_get_within (free_indices taken n) p.place x p.at, free-length taken n)
 
 pub free-once : (taken : List ℕ) (n : ℕ) → IsOnce (free_indices taken n)
 free-once taken zero = tt
 free-once taken (suc n) =
-    let first = least_free taken in
-    grind (arith, eq-eqb, not-taken, true-false, false_from_ne_true, (free-once (first ∷ taken) n))
+    grind (arith, eq-eqb, not-taken, true-false, false_from_ne_true, (free-once (least_free taken ∷ taken) n))
 
 -- ---- numbers that are counted where they are free
 

@@ -29,17 +29,14 @@ none-of o not = grind arith
 
 pub has-index : (gs : List (Option Group)) (k f p n : ℕ) (g : Group) → group_in gs f ≡ Some g → slice_get g.indices p ≡ Some n
     → list_any (nat_eq n) (indices_of (kept_from k gs)) ≡ true
-has-index [] k f p n g at is = absurd (none-some g at)
-has-index (None ∷ gs) k zero p n g at is = absurd (none-some g at)
 has-index (Some x ∷ gs) k zero p n g at is = grind (arith, any-left, any-place, slice_get, same_Some)
 has-index (None ∷ gs) k (suc f) p n g at is = has-index gs (k + 1) f p n g at is
 has-index (Some x ∷ gs) k (suc f) p n g at is = grind (arith, any-right, (has-index gs (k + 1) f p n g at is))
+has-index _ _ _ _ _ g at _ = absurd (none-some g at)
 
 -- the one kept group that is equal is found
 find-some : (gs : List (Option Group)) (k f : ℕ) (g : Group) (c : List WasmSubType) → group_in gs f ≡ Some g → Eq g.canonical c ≡ true
     → ((n : ℕ) (h : Group) → group_in gs n ≡ Some h → Eq h.canonical c ≡ true → n ≡ f) → find_group c (kept_from k gs) ≡ Some g
-find-some [] k f g c at holds only = absurd (none-some g at)
-find-some (None ∷ gs) k zero g c at holds only = absurd (none-some g at)
 find-some (None ∷ gs) k (suc f) g c at holds only =
     find-some gs (k + 1) f g c at holds (λ n h here is. let e : suc n ≡ suc f = only (suc n) h here is in omega (arith, e))
 find-some (Some x ∷ gs) k zero g c at holds only = grind arith
@@ -48,6 +45,7 @@ find-some (Some x ∷ gs) k (suc f) g c at holds only =
     let equal = cases_Bool (Eq x.canonical c) in
     let first = only 0 x refl in
     grind arith
+find-some _ _ _ g _ at _ _ = absurd (none-some g at)
 
 -- where none is equal none is found
 find-none : (gs : List (Option Group)) (k : ℕ) (c : List WasmSubType) → ((n : ℕ) (h : Group) → group_in gs n ≡ Some h → Eq h.canonical c ≡ true → ⊥)

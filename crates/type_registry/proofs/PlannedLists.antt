@@ -54,11 +54,10 @@ module _ (equal : (x y : List WasmSubType) → (Eq x y ≡ true) ↔ (x ≡ y)) 
   is-taken : (p : Plan) (s : Span) → IsTaken p.listed (plan_group gs l p s).listed (plan_group gs l p s).fresh
   is-taken p s =
       let c = canonical_of l p.listed.indices s in
-      let new = next_group gs p.fresh c (size_of s) in
       either-planned gs l p s (λ q. IsTaken p.listed q.listed q.fresh)
       (λ g is. grind (arith, found-equal (gs ++ p.fresh) c g is))
       (λ none. record {
-        group = new;
+        group = next_group gs p.fresh c (size_of s);
         listed = refl;
         among = grind (arith, append_assoc, find-none);
       })

@@ -22,9 +22,8 @@ use Rattle.type_registry.proofs.Copies.{get-dropped, members-are}
 
 pub take-get : {A : Type 0} (xs : List A) (n p : ℕ) → p < n → slice_get (take n xs) p ≡ slice_get xs p
 take-get xs zero p h = absurd (omega (arith, h))
-take-get [] (suc n) p h = refl
-take-get (x ∷ xs) (suc n) zero h = refl
 take-get (x ∷ xs) (suc n) (suc p) h = take-get xs n p (omega (arith, h))
+take-get _ _ _ _ = refl
 
 abbrev canonical_in : Option Group → WasmRecGroup
 canonical_in None = []

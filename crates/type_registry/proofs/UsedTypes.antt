@@ -21,20 +21,18 @@ lookup-both n [] ys = refl
 lookup-both n (x ∷ xs) ys = let rest = lookup-both n xs ys in grind (arith, nat_tests)
 
 zip-none : (n : ℕ) (is : List ℕ) (ts : List UsedType) → list_any (nat_eq n) is ≡ false → lookup (nat_eq n) (zip is ts) ≡ None
-zip-none n [] ts e = refl
-zip-none n (i ∷ is) [] e = refl
 zip-none n (i ∷ is) (t ∷ ts) e = let rest = zip-none n is ts in grind (arith, nat_tests)
+zip-none _ _ _ _ = refl
 
 zip-at : (n : ℕ) (is : List ℕ) (ts : List UsedType) (p : ℕ) → slice_get is p ≡ Some n → ((q : ℕ) → slice_get is q ≡ Some n → q ≡ p)
     → lookup (nat_eq n) (zip is ts) ≡ slice_get ts p
 zip-at n [] ts p at one = absurd (none-some n at)
-zip-at n (i ∷ is) [] zero at one = refl
-zip-at n (i ∷ is) [] (suc p) at one = refl
 zip-at n (i ∷ is) (t ∷ ts) zero at one = grind arith
 zip-at n (i ∷ is) (t ∷ ts) (suc p) at one =
     let rest = zip-at n is ts p at (λ q here. let more : suc q ≡ suc p = one (suc q) here in omega (arith, more)) in
     let first : n ≡ i → 0 ≡ suc p = (λ same. one 0 (ap Some (sym same))) in
     grind (arith, nat_tests)
+zip-at _ _ _ _ _ _ = refl
 
 abbrev used_in : Group → List UsedType
 used_in g = map (used_type g.indices) g.canonical
@@ -56,8 +54,6 @@ hit : (gs : List (Option Group)) (k m n p : ℕ) (g : Group) → group_in gs m �
     → ((q : ℕ) → slice_get g.indices q ≡ Some n → q ≡ p)
     → ((j : ℕ) (h : Group) → (j ≡ m → ⊥) → group_in gs j ≡ Some h → list_any (nat_eq n) h.indices ≡ false)
     → lookup (nat_eq n) (used_types (kept_from k gs)) ≡ slice_get (used_in g) p
-hit [] k m n p g at is one others = absurd (none-some g at)
-hit (None ∷ gs) k zero n p g at is one others = absurd (none-some g at)
 hit (None ∷ gs) k (suc m) n p g at is one others = hit gs (k + 1) m n p g at is one (λ j h apart here. others (suc j) h (λ e. apart (omega (arith, e))) here)
 hit (Some x ∷ gs) k zero n p g at is one others =
     let same : x ≡ g = same_Some x g at in
@@ -71,6 +67,7 @@ hit (Some x ∷ gs) k (suc m) n p g at is one others =
     ∙ ap (λ o. or_else o (lookup (nat_eq n) (used_types (kept_from (k + 1) gs))))
     (zip-none n x.indices (used_in x) (others 0 x (λ e. absurd (omega (arith, e))) refl))
     ∙ hit gs (k + 1) m n p g at is one (λ j h apart here. others (suc j) h (λ e. apart (omega (arith, e))) here)
+hit _ _ _ _ _ g at _ _ _ = absurd (none-some g at)
 
 module _ {Key : Type 0} (content : Key → List WasmSubType) (live : ℕ) (known : Key → Option ℕ) (gs : List (Option Group)) (os : List (Option Owner))
     (free : List ℕ) (k : AreKept content live known gs os free) (now : Groups) (seen : kept_from 0 gs ≡ now) (n : ℕ) where

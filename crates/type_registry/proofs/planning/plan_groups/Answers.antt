@@ -61,14 +61,13 @@ returns-in_err-take_group-clause-full c =
     let first : spans_left c.loop-group._group-iterator ≡ s ∷ left = ap spans_left c.in-Some.ensures.steps in
     let old = plan c.loop-group.listed c.loop-group.fresh in
     let full : IsErrOf c.from_residual-in_err-take_group.result refused.Full → c.args.source.room < length (indices_of (plan_group gs l old s').fresh) = search rules in
-    let all = sym c.loop-group.invariant.rest ∙ ap (plan_groups gs l old) first in
     λ is.
     omega (
       arith,
       full is,
       ap (λ x. length (indices_of (plan_group gs l old x).fresh)) same,
       groups-grow gs l (plan_group gs l old s) left,
-      ap (λ (p : Plan). length (indices_of p.fresh)) all,
+      ap (λ (p : Plan). length (indices_of p.fresh)) (sym c.loop-group.invariant.rest ∙ ap (plan_groups gs l old) first),
     )
 
 pub returns-clause-few : goal.returns-clause-few

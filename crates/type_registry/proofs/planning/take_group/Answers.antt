@@ -100,13 +100,10 @@ returns-clause-long c =
 
 pub returns-clause-fits : goal.returns-clause-fits
 returns-clause-fits c =
-    let gs = c.args.source.groups.now.groups in
-    let es = c.args.fresh.now in
-    let m = c.in_ok-canonical.canonical.value in
     omega (
       arith,
       ap (λ (x : Groups). length (indices_of x)) c.in_ok-take_new.ensures.fresh,
-      next-length gs es m (c.args.end - c.args.start),
+      next-length c.args.source.groups.now.groups c.args.fresh.now c.in_ok-canonical.canonical.value (c.args.end - c.args.start),
       c.if-end-start.false,
       c.members.ensures,
       c.requires.room,

@@ -2,22 +2,11 @@ use Rattle.std.proofs.Common.{◌∙◌, nat_eq, sym, ap, get_or, take, arith}
 use Rattle.std.proofs.lemmas.List.{take_more, length-take-le}
 use Rattle.std.specs.Map.{lookup}
 use Rattle.type_registry.specs.Changes.{count_group, count_groups}
-use Rattle.type_registry.specs.Counted.{counted}
 use Rattle.type_registry.proofs.Counting.{counted_push, counted-all}
 use Rattle.type_registry.proofs.registry.count_all.Goals as goal
 
 pub count-requires : goal.count-requires
-count-requires c =
-    let fs = c.args.firsts.now in
-    let k = c.loop-first.first-index in
-    omega (
-      arith,
-      c.requires,
-      ap counted c.loop-first.invariant,
-      counted-all c.args.groups.now.groups (take k fs),
-      length-take-le k fs (omega (arith, c.loop-first-test.true)),
-      c.loop-first-test.true,
-    )
+count-requires c = grind (arith, counted-all, length-take-le)
 
 pub loop-first-preserved : goal.loop-first-preserved
 loop-first-preserved c =

@@ -20,11 +20,9 @@ at c = sym c.take_at.ensures.taken ∙ c.in-Some.is ∙ ap Some (sym c.group.vie
 
 pub invariant_of-self : goal.invariant_of-self
 invariant_of-self c =
-    let gs = c.self.inside.kept.items in
-    let f = c.args.first in
     let none = none (goal.at.invariant_of-self c).In_default in
     subst (λ (l : List (Option Group)). AreKept shared_content c.self.inside.live (first_of c.self.inside.known) l c.self.inside.owners.items c.self.inside.free)
-    (sym (c.take_at.ensures.left ∙ set-nothing gs f none)) c.self.invariant
+    (sym (c.take_at.ensures.left ∙ set-nothing c.self.inside.kept.items c.args.first none)) c.self.invariant
 
 pub returns-in_default : goal.returns-in_default
 returns-in_default c =

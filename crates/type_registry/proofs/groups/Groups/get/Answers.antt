@@ -27,12 +27,11 @@ returns-in_err-kept c =
     let os = c.self.inside.owners.items in
     let n = number_of c.args.index in
     let o = c.in_ok-owner.owner in
-    let is = is (goal.at.returns-in_err-kept c).After-owner_of in
     let some : c.owner_of.result ≡ Some o = search rules in
     let none : option_copied c.group_at.result ≡ None = search rules in
     let at : group_in gs o.first ≡ None = sym (c.group_at.ensures ∙ ap (λ l. group_in l o.first) c.deref-2.ensures.value) ∙ none in
     absurd (no-group shared_content c.self.inside.live (first_of c.self.inside.known) gs os c.self.inside.free c.self.invariant c.args.self.now.groups (ap (λ s. s.groups) c.self.view_is) n o
-    (sym is ∙ some) at)
+    (sym (is (goal.at.returns-in_err-kept c).After-owner_of) ∙ some) at)
 
 pub returns : goal.returns
 returns c =
@@ -41,10 +40,9 @@ returns c =
     let n = number_of c.args.index in
     let o = c.in_ok-owner.owner in
     let g = c.in_ok-kept.kept.now in
-    let is = is (goal.at.returns c).After-owner_of in
     let some : c.owner_of.result ≡ Some o = search rules in
     let one : option_copied c.group_at.result ≡ Some g = search rules in
     let at : group_in gs o.first ≡ Some g = sym (c.group_at.ensures ∙ ap (λ l. group_in l o.first) c.deref-2.ensures.value) ∙ one in
     c.type_at.ensures
     ∙ sym (some-type shared_content c.self.inside.live (first_of c.self.inside.known) gs os c.self.inside.free c.self.invariant c.args.self.now.groups (ap (λ s. s.groups) c.self.view_is) n o g
-    (sym is ∙ some) at)
+    (sym (is (goal.at.returns c).After-owner_of) ∙ some) at)

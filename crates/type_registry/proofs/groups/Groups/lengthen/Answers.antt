@@ -4,7 +4,7 @@ use Rattle.std.proofs.lemmas.List.{take_all}
 use Rattle.type_registry.specs.declared.owners.Owner.{Owner}
 use Rattle.type_registry.specs.Registry.{Group}
 use Rattle.type_registry.specs.Owners.{free_count}
-use Rattle.type_registry.specs.Keeping.{kept_from, AreKept, shared_content, first_of}
+use Rattle.type_registry.specs.Keeping.{AreKept, shared_content, first_of}
 use Rattle.type_registry.proofs.Roomier.{kept-more, kept-roomier}
 use Rattle.type_registry.proofs.groups.Groups.lengthen.Goals as goal
 
@@ -33,8 +33,4 @@ invariant_of-self-2 c =
     (subst (λ (l : List ℕ). AreKept shared_content s.live known (gs ++ replicate n None) (os ++ replicate n None) l) (sym free) roomier))
 
 pub returns-clause-groups : goal.returns-clause-groups
-returns-clause-groups c =
-    let gs = c.self.inside.kept.items in
-    let kept : c.fill.new.kept.items ≡ gs ++ replicate (c.args.room - length gs) None =
-    c.fill.ensures ∙ ap (λ (l : List (Option Group)). l ++ replicate (c.args.room - length l) None) c.reserve.ensures.items in
-    ap (kept_from 0) kept ∙ kept-more gs 0 (c.args.room - length gs) ∙ ap (λ s. s.groups) c.self.view_is
+returns-clause-groups c = grind (arith, kept-more)

@@ -18,11 +18,9 @@ at c = sym c.take_at.ensures.taken ∙ c.in-Some.is ∙ ap Some (sym c.group.vie
 
 pub invariant_of-self : goal.invariant_of-self
 invariant_of-self c =
-    let gs = c.self.inside.kept.items in
-    let f = c.args.first in
     let none = none (goal.at.invariant_of-self c).In_default in
     subst (λ (l : List (Option Group)). AreKept shared_content c.self.inside.live (first_of c.self.inside.known) l c.self.inside.owners.items c.self.inside.free)
-    (sym (c.take_at.ensures.left ∙ set-nothing gs f none)) c.self.invariant
+    (sym (c.take_at.ensures.left ∙ set-nothing c.self.inside.kept.items c.args.first none)) c.self.invariant
 
 pub returns-in_default : goal.returns-in_default
 returns-in_default c =
@@ -36,10 +34,9 @@ pub index_mut-requires : goal.index_mut-requires
 index_mut-requires c =
     let gs = c.self.inside.kept.items in
     let f = c.args.first in
-    let g = kept.the_view c.group.inside in
     let at = at (goal.at.index_mut-requires c).After-group in
     let now : length c.take_at.new.kept.items ≡ length (set gs f None) = ap length c.take_at.ensures.left in
-    omega (arith, now, length-set gs f None, group-within gs f g at, c.take_at.new.kept.ok)
+    omega (arith, now, length-set gs f None, group-within gs f (kept.the_view c.group.inside) at, c.take_at.new.kept.ok)
 
 pub invariant_of-self-2 : goal.invariant_of-self-2
 invariant_of-self-2 c =
@@ -60,8 +57,7 @@ returns c =
     let f = c.args.first in
     let g = kept.the_view c.group.inside in
     let h : Group = record g { count = c.args.count } in
-    let at = at (goal.at.returns c).After-group in
     let now : set c.take_at.new.kept.items f (Some h) ≡ set gs f (Some h) =
     ap (λ (l : List (Option Group)). set l f (Some h)) c.take_at.ensures.left ∙ set-set gs f None (Some h) in
-    ap (kept_from 0) now ∙ count-at gs f c.args.count g at
+    ap (kept_from 0) now ∙ count-at gs f c.args.count g (at (goal.at.returns c).After-group)
     ∙ ap (λ (es : Groups). with_count es f c.args.count (lookup (nat_eq f) es)) (ap (λ s. s.groups) c.self.view_is)

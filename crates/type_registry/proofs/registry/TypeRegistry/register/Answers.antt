@@ -31,10 +31,9 @@ keep_planned-requires-clause-may c =
     let new = subst (λ (gs : Groups). AreNew gs es) (sym groups) (subst (λ (fs : Groups). AreNew r.groups fs) (sym items) (planned-new r.groups l)) in
     let live = ap (λ (gs : Groups). length (indices_of gs)) groups in
     let more = ap (λ (fs : Groups). length (indices_of fs)) items in
-    let most = ap (λ (x : RegistryState). x.max_types) c.self.view_is in
     let fits = c.in_ok-listed.ensures.fits in
     may-keep-all es st
-    (new-may-keep st es new (omega (arith, fits, live, more, most, c.self.invariant.1))
+    (new-may-keep st es new (omega (arith, fits, live, more, ap (λ (x : RegistryState). x.max_types) c.self.view_is, c.self.invariant.1))
     (omega (arith, ap length c.into_groups.ensures, c.len.ensures, c.in_ok-make_room.ensures.spare))
     (omega (
       arith,
@@ -77,9 +76,8 @@ now-is : (c : goal.After-self-2-1) → registry_of (after c) ≡ registered (reg
 now-is c =
     let s = c.self.inside in
     let r = c.args.self.now in
-    let l = c.args.types.now in
     let listed = c.listed.inside.listed in
-    let p = planned (registry_of r) l in
+    let p = planned (registry_of r) c.args.types.now in
     let whole : plan listed c.listed.inside.fresh ≡ p = c.listed.view_is ∙ c.in_ok-listed.ensures.ok in
     let items : c.into_groups.result.items ≡ p.fresh = c.into_groups.ensures ∙ ap (λ (x : Plan). x.fresh) whole in
     let done = ok-is c.insert.result (c.insert.ensures.succeeds (omega (arith, c.in_ok-reserve.ensures.ok))) c.insert.ensures.updates in

@@ -2,7 +2,7 @@ use Rattle.std.proofs.Common.{rules, arith, ◌≡◌, ◌∙◌, ℕ, length, L
 use Rattle.std.specs.Prelude.{IfNone}
 use Rattle.type_registry.specs.contracts.kept.Held as held
 use Rattle.type_registry.specs.contracts.registry.TypeRegistry as seen
-use Rattle.type_registry.specs.Registry.{Groups, Module, Registry, RegistryState, registry_of, index_at, indices_of}
+use Rattle.type_registry.specs.Registry.{Groups, Module, Registry, RegistryState, registry_of, indices_of}
 use Rattle.type_registry.specs.Changes.{leave_groups, released_by}
 use Rattle.type_registry.specs.Standing.{LiveWhereHeld, Stands}
 use Rattle.type_registry.specs.Balanced.{IsBalanced}
@@ -59,10 +59,7 @@ returns-clause-others c = λ k l differ st.
     (subst (λ (r : RegistryState). Stands (registry_of r) k l) (sym c.self.view_is) st))
 
 pub returns-clause-indices : goal.returns-clause-indices
-returns-clause-indices c = λ k i differ.
-    ap (λ (r : Registry). index_at r k i) (now-is c)
-    ∙ left-index (registry_of (seen.the_view c.self.inside)) c.args.key.0 (gone c) k i differ
-    ∙ ap (λ (r : RegistryState). index_at (registry_of r) k i) c.self.view_is
+returns-clause-indices c = grind (arith, now-is, left-index)
 
 pub returns-clause-live : goal.returns-clause-live
 returns-clause-live c = live-held (registry_of (after c)) (balanced c)
