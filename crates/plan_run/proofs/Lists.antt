@@ -1,5 +1,5 @@
 -- Items of lists.
-use Rattle.std.proofs.Common.{◌≡◌, ◌≢◌, ℕ, zero, suc, ◌+◌, ◌<◌, ◌≤◌, List, [], ◌∷◌, ◌++◌, length, get_or, set, take, drop, replicate, Option, None, Some, refl, sym, ◌∙◌, ap, subst, arith, ◌-◌}
+use Rattle.std.proofs.Common.{◌≡◌, ◌≢◌, ℕ, zero, suc, ◌+◌, ◌<◌, ◌≤◌, List, [], ◌∷◌, ◌++◌, length, set, take, drop, replicate, Option, None, Some, refl, sym, ◌∙◌, ap, subst, arith, ◌-◌}
 use Rattle.std.specs.Prelude.{slice_get, All, MatchOption}
 use Rattle.std.specs.Borrow.{Bor}
 use Rattle.std.specs.List.{HoldsAt}
@@ -51,13 +51,6 @@ pub get-replicate : {A : Type 0} (x : A) (n p : ℕ) → p < n → slice_get (re
 get-replicate x zero p l = absurd (omega arith)
 get-replicate x (suc n) zero l = refl
 get-replicate x (suc n) (suc p) l = get-replicate x n p (omega arith)
-
--- a list of two is of its two items
-pub two-is : {A : Type 0} (xs : List A) (d : A) → 2 ≤ length xs → length xs < 3 → xs ≡ get_or xs 0 d ∷ get_or xs 1 d ∷ []
-two-is [] d low high = absurd (omega arith)
-two-is (x ∷ []) d low high = absurd (omega arith)
-two-is (x ∷ y ∷ []) d low high = refl
-two-is (x ∷ y ∷ z ∷ zs) d low high = absurd (omega arith)
 
 -- what `get` copies out of a slice
 pub copied-is : {A : Type 0} (xs : List A) (i : ℕ) (o : Option (Bor A)) → MatchOption o (length xs ≤ i) (λ x. (i < length xs) × HoldsAt (λ y. x.now ≡ y) xs i)
