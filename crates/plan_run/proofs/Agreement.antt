@@ -1,19 +1,15 @@
 -- A plan that agrees with a module lays what the module's initialisers give.
-use Rattle.std.proofs.Common.{◌≡◌, ℕ, List, length, map, Option, ap, subst, ◌∙◌, arith}
+use Rattle.std.proofs.Common.{◌≡◌, ℕ, List, length, map, Option, ap, ◌∙◌, arith}
 use Rattle.std.proofs.lemmas.List.{length-map}
 use Rattle.module_types.specs.TypeList.{TypeList}
 use Rattle.replay_spec.specs.Phases.{Phase, SamePhase}
-use Rattle.replay_spec.specs.Values.{Value, offset_over}
+use Rattle.replay_spec.specs.Values.{Value}
 use Rattle.plan_run.specs.Values.{imported_value}
 use Rattle.init_plan.specs.declared.translation.ModuleTranslation.{ModuleTranslation}
-use Rattle.init_plan.specs.Agreement.{fields_of, globals_of, module_elements_phase}
+use Rattle.init_plan.specs.Agreement.{fields_of, globals_of}
 use Rattle.init_plan.specs.Held.{plan_of_globals}
-use Rattle.init_plan.specs.Tables.{plan_of_tables}
-use Rattle.init_plan.specs.Views.{memory_plan_of}
 use Rattle.replay_spec.specs.Data.{module_phase}
 use Rattle.replay_spec.specs.Globals.{planned_globals}
-use Rattle.replay_spec.specs.Plan.{phase_by_map, phase_by_list}
-use Rattle.replay_spec.specs.Tables.{planned_elements_phase}
 use Rattle.plan_run.specs.declared.laid.Imports.{Imports}
 use Rattle.plan_run.specs.declared.laid.Laid.{Laid}
 use Rattle.plan_run.specs.declared.laid.Way.{Way}
@@ -40,26 +36,17 @@ agreement t types w imports laid m agrees fields counted globals memories tables
     record {
       globals = globals ∙ ap (λ f. globals_with f t imports) same ∙ agrees.on_globals (imported_globals imports) many;
       memories = memories_of w same memories;
-      tables = lays-same (module_elements_phase (globals_of m (imported_globals imports)) (imported_tables imports) m)
-          (planned_elements_phase (globals_with (fields_of m) t imports) (fields_of m) (imported_tables imports) (plan_of_tables t))
-          (length t.module.tables) (laid_tables laid) laid.table_trap
-          (agrees.on_tables (imported_globals imports) (imported_tables imports) many (length-map imports.tables.items (λ table. map imported_value table.items) ∙ counted.tables))
-          (subst (λ f. Lays (planned_elements_phase (globals_with f t imports) f (imported_tables imports) (plan_of_tables t)) (length t.module.tables) (laid_tables laid) laid.table_trap) same tables);
+      tables = lays-same _ _ (length t.module.tables) (laid_tables laid) laid.table_trap
+          (agrees.on_tables (imported_globals imports) (imported_tables imports) many (length-map imports.tables.items (λ table. map imported_value table.items) ∙ counted.tables)) (rw same at tables);
     }
   where
     memories_of : (w : Way) → field_count_in t types ≡ fields_of m → Lays (data_phase t types w imports) (length t.module.memories) (bytes_in laid.memories.items) laid.memory_trap
         → Lays (module_phase (globals_of m (imported_globals imports)) (fields_of m) (bytes_in imports.memories.items) m) (length t.module.memories) (bytes_in laid.memories.items) laid.memory_trap
     memories_of way.Map same lays =
-        lays-same (module_phase (globals_of m (imported_globals imports)) (fields_of m) (bytes_in imports.memories.items) m)
-        (phase_by_map (offset_over (globals_with (fields_of m) t imports) (fields_of m)) (bytes_in imports.memories.items) (memory_plan_of t))
-        (length t.module.memories) (bytes_in laid.memories.items) laid.memory_trap
+        lays-same _ _ (length t.module.memories) (bytes_in laid.memories.items) laid.memory_trap
         (agrees.by_map (imported_globals imports) (bytes_in imports.memories.items) (length-map imports.globals.items imported_value ∙ counted.globals)
-        (length-map imports.memories.items (λ memory. memory.bytes) ∙ counted.memories))
-        (subst (λ f. Lays (phase_by_map (offset_over (globals_with f t imports) f) (bytes_in imports.memories.items) (memory_plan_of t)) (length t.module.memories) (bytes_in laid.memories.items) laid.memory_trap) same lays)
+        (length-map imports.memories.items (λ memory. memory.bytes) ∙ counted.memories)) (rw same at lays)
     memories_of way.Copy same lays =
-        lays-same (module_phase (globals_of m (imported_globals imports)) (fields_of m) (bytes_in imports.memories.items) m)
-        (phase_by_list (offset_over (globals_with (fields_of m) t imports) (fields_of m)) (bytes_in imports.memories.items) (memory_plan_of t))
-        (length t.module.memories) (bytes_in laid.memories.items) laid.memory_trap
+        lays-same _ _ (length t.module.memories) (bytes_in laid.memories.items) laid.memory_trap
         (agrees.by_list (imported_globals imports) (bytes_in imports.memories.items) (length-map imports.globals.items imported_value ∙ counted.globals)
-        (length-map imports.memories.items (λ memory. memory.bytes) ∙ counted.memories))
-        (subst (λ f. Lays (phase_by_list (offset_over (globals_with f t imports) f) (bytes_in imports.memories.items) (memory_plan_of t)) (length t.module.memories) (bytes_in laid.memories.items) laid.memory_trap) same lays)
+        (length-map imports.memories.items (λ memory. memory.bytes) ∙ counted.memories)) (rw same at lays)

@@ -1,23 +1,22 @@
 -- Memories as they begin hold what their phase begins with.
-use Rattle.std.proofs.Common.{◌≡◌, ◌≢◌, ℕ, zero, suc, ◌+◌, ◌-◌, ◌<◌, ◌≤◌, List, [], ◌∷◌, ◌++◌, length, map, replicate, Option, None, Some, refl, sym, ◌∙◌, ap, subst, arith}
-use Rattle.std.specs.Prelude.{slice_get, slice_index, unwrap_or}
+use Rattle.std.proofs.Common.{◌≡◌, ◌≢◌, ℕ, zero, suc, ◌+◌, ◌-◌, ◌<◌, ◌≤◌, List, [], ◌∷◌, ◌++◌, length, map, replicate, Option, None, Some, refl, sym, subst, arith}
+use Rattle.std.specs.Prelude.{slice_get, unwrap_or}
 use Rattle.std.specs.Option.{option_map}
-use Rattle.std.proofs.Math.Logic.{⊎_elim}
 use Rattle.std.proofs.lemmas.List.{length-map, length-replicate, get_or_append_left}
-use Rattle.std.proofs.lemmas.Option.{none-some, same_Some, slice_get-map, slice_get-get_or, slice_get_past, get_or_from_slice_get}
+use Rattle.std.proofs.lemmas.Option.{none-some, slice_get-map, slice_get-get_or, slice_get_past, get_or_from_slice_get}
 use Rattle.wasm_spec.specs.Module.{Expression}
 use Rattle.wasm_types.specs.declared.memory.Memory.{Memory}
 use Rattle.wasm_types.specs.Memories.{minimum_bytes}
 use Rattle.replay_spec.specs.Phases.{Piece, item_at, last_item}
 use Rattle.replay_spec.specs.Data.{memory_sizes, memory_base}
 use Rattle.replay_spec.specs.Plan.{MemoryPlan, runtime_bytes, image_pieces}
-use Rattle.replay_spec.proofs.Covering.{CoversAt, item-cover}
+use Rattle.replay_spec.proofs.Covering.{item-cover}
 use Rattle.paged_memory.specs.Memory.{Contents, count_lent}
 use Rattle.plan_run.specs.declared.laid.Way.{Way}
 use Rattle.plan_run.specs.declared.laid.Way.TheVariants as way
 use Rattle.plan_run.specs.Lays.{Hold}
 use Rattle.plan_run.specs.Memories.{bytes_in, plan_phase, image_in, first_bytes, image_pages, seen, begun, ImageIsWithin, ImagesAreWithin}
-use Rattle.plan_run.proofs.Lists.{get-append-low, get-append-high, get-replicate, each-half}
+use Rattle.plan_run.proofs.Lists.{get-replicate, get-append-low, get-append-high, each-half}
 use Rattle.plan_run.proofs.Writing.{written-item, length-written}
 
 -- ---- images
@@ -31,7 +30,7 @@ laid_over None object place d = d
 laid_over (Some image) object place d = unwrap_or (item_at object place (image_piece object image)) d
 
 item-elsewhere : (object place : ℕ) (p : Piece ℕ) → p.object ≢ object → item_at object place p ≡ None
-item-elsewhere object place p ne = ⊎_elim (λ e. e) (λ (c : CoversAt object place p). absurd (ne c.on)) (item-cover object place p)
+item-elsewhere object place p ne = grind (arith, item-cover object place p)
 
 module _ (plan : MemoryPlan) where
   abbrev read : ℕ × ℕ → ℕ × List ℕ
@@ -80,9 +79,7 @@ module _ (w : Way) (plan : MemoryPlan) (page : ℕ) where
   begun-at : (n j : ℕ) (ms : List Memory) (p : List ℕ × ℕ) → slice_get (begun w plan page n ms) j ≡ Some p
       → (m : Memory) × (slice_get ms j ≡ Some m) × (p ≡ (first_bytes (minimum_bytes m) (image_in w plan (n + j)), image_pages page (image_in w plan (n + j))))
   begun-at n j [] p at = absurd (none-some p at)
-  begun-at n zero (m ∷ ms) p at =
-      let here : n ≡ n + 0 = omega arith in
-      (m, refl, sym (same_Some _ p at) ∙ ap (λ k. (first_bytes (minimum_bytes m) (image_in w plan k), image_pages page (image_in w plan k))) here)
+  begun-at n zero (m ∷ ms) p at = (m, refl, grind arith)
   begun-at n (suc j) (m ∷ ms) p at = grind (arith, (begun-at (n + 1) j ms p at))
 
   pub within-at : (n j : ℕ) (ms : List Memory) (m : Memory) → slice_get ms j ≡ Some m → ImagesAreWithin w plan page n ms → ImageIsWithin page (minimum_bytes m) (image_in w plan (n + j))
@@ -99,11 +96,7 @@ module _ (w : Way) (plan : MemoryPlan) (page : ℕ) where
     seen-high j memory at = grind (arith, get-append-high, length-map, slice_get-map)
 
     low-bytes : (i : ℕ) (memory : Contents) → i < length imported → slice_get memories i ≡ Some memory → slice_get (bytes_in imported) i ≡ Some memory.bytes
-    low-bytes i memory low at =
-        slice_get-map (λ (m : Contents). m.bytes) imported i ∙ over (slice_get imported i) (sym (slice_get-map seen imported i) ∙ seen-low i memory low at) where
-          over : (o : Option Contents) → option_map seen o ≡ Some (seen memory) → option_map (λ (m : Contents). m.bytes) o ≡ Some memory.bytes
-          over None e = absurd (none-some (seen memory) e)
-          over (Some m) e = ap (λ p. Some p.0) (same_Some (seen m) (seen memory) e)
+    low-bytes i memory low at = grind (arith, slice_get-map (λ (m : Contents). m.bytes) imported i, slice_get-map seen imported i, seen-low i memory low at)
 
     memory-at : (i : ℕ) (object : List ℕ) → slice_get (bytes_in memories) i ≡ Some object → (memory : Contents) × (slice_get memories i ≡ Some memory) × (memory.bytes ≡ object)
     memory-at i object at = grind (arith, slice_get-map)
@@ -111,9 +104,7 @@ module _ (w : Way) (plan : MemoryPlan) (page : ℕ) where
     -- the pages that a defined memory lends
     pub begun-lent : (i : ℕ) (memory : Contents) → length imported ≤ i → slice_get memories i ≡ Some memory → count_lent memory.lent ≡ image_pages page (image_in w plan i)
     begun-lent i memory high at =
-        let there : length imported + (i - length imported) ≡ i = omega arith in
-        let found = begun-at (length imported) (i - length imported) ms (seen memory) (seen-high (i - length imported) memory (ap (slice_get memories) there ∙ at)) in
-        ap (λ p. p.1) found.2 ∙ ap (λ k. image_pages page (image_in w plan k)) there
+        grind (arith, seen-high (i - length imported) memory, begun-at (length imported) (i - length imported) ms (seen memory))
 
     module _ (place_of : Expression → ℕ) (sizes : plan.sizes ≡ map minimum_bytes ms) (none : (i : ℕ) → i < length imported → image_in w plan i ≡ None)
         (within : ImagesAreWithin w plan page (length imported) ms) where
@@ -129,12 +120,15 @@ module _ (w : Way) (plan : MemoryPlan) (page : ℕ) where
       -- an imported memory
       low-size : (i : ℕ) (memory : Contents) → i < length imported → slice_get memories i ≡ Some memory → length memory.bytes ≡ size_at i
       low-size i memory low at =
-          let bytes : slice_get (bytes_in imported) i ≡ Some memory.bytes = low-bytes i memory low at in
-          let long = length-map imported (λ (m : Contents). m.bytes) in
-          let longs = length-map (bytes_in imported) (λ (xs : List ℕ). length xs) in
-          sym (sizes-are plan w place_of (bytes_in imported) i
-          ∙ get_or_append_left (map length (bytes_in imported)) plan.sizes 0 i (omega arith)
-          ∙ get_or_from_slice_get (map length (bytes_in imported)) i (length memory.bytes) 0 (slice_get-map length (bytes_in imported) i ∙ ap (option_map length) bytes))
+          grind (
+            arith,
+            low-bytes i memory low at,
+            sizes-are plan w place_of (bytes_in imported) i,
+            length-map,
+            get_or_append_left lengths plan.sizes 0 i,
+            get_or_from_slice_get lengths i (length memory.bytes) 0,
+            slice_get-map length (bytes_in imported) i,
+          )
 
       low-item : (i place : ℕ) (memory : Contents) → i < length imported → slice_get memories i ≡ Some memory → place < size_at i
           → slice_get memory.bytes place ≡ Some (base_at i place)
@@ -144,27 +138,31 @@ module _ (w : Way) (plan : MemoryPlan) (page : ℕ) where
       high-size : (j : ℕ) (memory : Contents) → slice_get memories (length imported + j) ≡ Some memory → length memory.bytes ≡ size_at (length imported + j)
       high-size j memory at =
           let found = begun-at (length imported) j ms (seen memory) (seen-high j memory at) in
-          let long : length lengths ≡ length imported = length-map (bytes_in imported) length ∙ length-map imported (λ (m : Contents). m.bytes) in
-          ap (λ p. length p.0) found.2 ∙ length-first page (minimum_bytes found.0) (image_in w plan (length imported + j)) (within-at (length imported) j ms found.0 found.1 within)
-          ∙ sym (sizes-are plan w place_of (bytes_in imported) (length imported + j)
-          ∙ ap (λ k. slice_index (lengths ++ plan.sizes) (k + j)) (sym long)
-          ∙ get_or_from_slice_get (lengths ++ plan.sizes) (length lengths + j) (minimum_bytes found.0) 0
-          (get-append-high lengths plan.sizes j ∙ ap (λ xs. slice_get xs j) sizes ∙ slice_get-map minimum_bytes ms j ∙ ap (option_map minimum_bytes) found.1))
+          let first = length-first page (minimum_bytes found.0) (image_in w plan (length imported + j)) (within-at (length imported) j ms found.0 found.1 within) in
+          grind (
+            arith,
+            first,
+            sizes-are plan w place_of (bytes_in imported) (length imported + j),
+            length-map,
+            get-append-high lengths plan.sizes j,
+            slice_get-map minimum_bytes ms j,
+            get_or_from_slice_get (lengths ++ plan.sizes) (length lengths + j) (minimum_bytes found.0) 0,
+          )
 
       high-item : (j place : ℕ) (memory : Contents) → slice_get memories (length imported + j) ≡ Some memory → place < size_at (length imported + j)
           → slice_get memory.bytes place ≡ Some (base_at (length imported + j) place)
       high-item j place memory at within_size =
           let found = begun-at (length imported) j ms (seen memory) (seen-high j memory at) in
-          let size = high-size j memory at in
-          let i : ℕ = length imported + j in
           let is_within = within-at (length imported) j ms found.0 found.1 within in
-          let same : memory.bytes ≡ first_bytes (minimum_bytes found.0) (image_in w plan (length imported + j)) = ap (λ p. p.0) found.2 in
-          let long : length memory.bytes ≡ minimum_bytes found.0 = ap length same ∙ length-first page (minimum_bytes found.0) (image_in w plan (length imported + j)) is_within in
-          let past : slice_get (bytes_in imported) (length imported + j) ≡ None = slice_get_past (bytes_in imported) (length imported + j) (omega (arith, length-map imported (λ (m : Contents). m.bytes))) in
-          ap (λ xs. slice_get xs place) same
-          ∙ first-item page (minimum_bytes found.0) (length imported + j) place (image_in w plan (length imported + j)) is_within (omega arith)
-          ∙ ap (λ o. Some (laid_over (image_in w plan (length imported + j)) (length imported + j) place (slice_index (unwrap_or o []) place))) (sym past)
-          ∙ ap Some (sym (base-is plan w place_of (bytes_in imported) (length imported + j) place))
+          grind (
+            arith,
+            high-size j memory at,
+            length-map,
+            length-first page (minimum_bytes found.0) (image_in w plan (length imported + j)) is_within,
+            slice_get_past (bytes_in imported) (length imported + j),
+            first-item page (minimum_bytes found.0) (length imported + j) place (image_in w plan (length imported + j)) is_within,
+            base-is plan w place_of (bytes_in imported) (length imported + j) place,
+          )
 
       any-size : (i : ℕ) (memory : Contents) → slice_get memories i ≡ Some memory → length memory.bytes ≡ size_at i
       any-size = each-half memories (length imported) (λ i m. length m.bytes ≡ size_at i) low-size high-size

@@ -1,12 +1,11 @@
 -- Cells that are written to a table.
-use Rattle.std.proofs.Common.{◌≡◌, ℕ, zero, suc, ◌+◌, ◌≤◌, List, [], ◌∷◌, ◌++◌, length, map, take, drop, Option, Some, sym, ◌∙◌, ap, arith}
+use Rattle.std.proofs.Common.{◌≡◌, ℕ, zero, suc, ◌+◌, ◌≤◌, List, [], ◌∷◌, ◌++◌, length, map, take, drop, Option, Some, sym, ◌∙◌, arith}
 use Rattle.std.specs.Prelude.{slice_get, All}
 use Rattle.std.specs.Global.{Vec}
 use Rattle.std.specs.Vec.{with_items}
 use borrow.Rule.Slice.PartMut.{post_of}
 use Rattle.std.proofs.lemmas.List.{length-map, map-append, take-map, drop-map, drop-drop, with_items_is}
 use Rattle.std.proofs.lemmas.List.Elements.{All-take, All-drop, All-append}
-use Rattle.std.specs.Option.{option_map}
 use Rattle.std.proofs.lemmas.Option.{none-some, same_Some, slice_get-map}
 use Rattle.wasm_index.specs.declared.index.Index.{Index}
 use Rattle.wasm_index.specs.declared.spaces.FuncSpace.{FuncSpace}
@@ -56,8 +55,7 @@ module _ (t : ModuleTranslation) (number : ℕ) (d : Table) (value : TableInitia
   is-planned : slice_get (plan_of_tables t).tables number ≡ Some its
   is-planned =
       planned-at (own_tables t) t.table_initialization.initial_values (images_of t.module.table_initialization) number d value (image_of image.items)
-      (get-drop t.module.num_imported_tables t.module.tables number ∙ table_at) value_at
-      (slice_get-map (λ (x : Vec (Index FuncSpace)). image_of x.items) t.module.table_initialization number ∙ ap (option_map (λ (x : Vec (Index FuncSpace)). image_of x.items)) image_at)
+      (grind (arith, get-drop)) value_at (grind (arith, slice_get-map))
 
   -- what is planned of a table, by its type, initial value and image
   pub planned-is : (planned : PlannedTable) → slice_get (plan_of_tables t).tables number ≡ Some planned → planned ≡ its

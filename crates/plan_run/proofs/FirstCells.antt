@@ -1,17 +1,16 @@
 -- Tables as they begin hold what their phase begins with.
-use Rattle.std.proofs.Common.{◌≡◌, ℕ, zero, suc, ◌+◌, ◌-◌, ◌<◌, ◌≤◌, List, [], ◌∷◌, ◌++◌, length, map, get_or, Option, None, Some, refl, sym, ◌∙◌, ap, arith}
-use Rattle.std.specs.Prelude.{slice_get, slice_index, unwrap_or, All}
-use Rattle.std.specs.Option.{option_map}
+use Rattle.std.proofs.Common.{◌≡◌, ℕ, zero, suc, ◌+◌, ◌-◌, ◌<◌, ◌≤◌, List, [], ◌∷◌, ◌++◌, length, map, Option, None, Some, refl, arith}
+use Rattle.std.specs.Prelude.{slice_get, unwrap_or, All}
 use Rattle.std.proofs.lemmas.Bool.{lt-ltb, le-ltb, cond-true, cond-false}
 use Rattle.std.proofs.lemmas.List.{length-map, length-append, length-replicate, get_or_append_left}
 use Rattle.std.proofs.lemmas.Option.{slice_get-map, slice_get-get_or, get_or_from_slice_get}
 use Rattle.wasm_spec.specs.Module.{Expression}
-use Rattle.replay_spec.specs.Elements.{cell_of, value_or_null, table_sizes, table_base}
+use Rattle.replay_spec.specs.Elements.{cell_of, table_sizes, table_base}
 use Rattle.replay_spec.specs.Tables.{PlannedTable, TablePlan, reference_of, planned_cell, planned_first, planned_elements_phase}
 use Rattle.replay_spec.specs.Values as plain
 use Rattle.plan_run.specs.Lays.{Hold}
 use Rattle.plan_run.specs.Tables.{image_cells, cells_from, first_cells}
-use Rattle.plan_run.proofs.Lists.{get-append-low, get-append-high, get-replicate, all-at, each-half}
+use Rattle.plan_run.proofs.Lists.{get-replicate, get-append-low, get-append-high, all-at, each-half}
 
 -- ---- one table
 
@@ -48,22 +47,16 @@ module _ (globals : List plain.Value) (fields : ℕ → ℕ) where
     minimums = map (λ t. t.minimum) plan.tables
 
     low-at : (i : ℕ) (object : List plain.Value) → i < length imported → slice_get objects i ≡ Some object → slice_get imported i ≡ Some object
-    low-at i object low at = sym (get-append-low imported (map (first_cells globals fields) plan.tables) i low) ∙ ap (λ xs. slice_get xs i) (sym are) ∙ at
+    low-at i object low at = grind (arith, get-append-low)
 
     low-size : (i : ℕ) (object : List plain.Value) → i < length imported → slice_get objects i ≡ Some object → length object ≡ size_at i
     low-size i object low at =
-        let long = length-map imported (λ (xs : List plain.Value). length xs) in
-        sym (get_or_append_left lengths minimums 0 i (omega arith)
-        ∙ get_or_from_slice_get lengths i (length object) 0 (slice_get-map length imported i ∙ ap (option_map length) (low-at i object low at)))
+        grind (arith, low-at i object low at, length-map, get_or_append_left lengths minimums 0 i, get_or_from_slice_get lengths i (length object) 0, slice_get-map length imported i)
 
     low-item : (i place : ℕ) (object : List plain.Value) → i < length imported → slice_get objects i ≡ Some object → place < size_at i
         → slice_get object place ≡ Some (base_at i place)
     low-item i place object low at l =
-        let size = low-size i object low at in
-        let null : plain.Value = plain.Ref plain.Null in
-        let found : slice_get object place ≡ Some (get_or object place null) = slice_get-get_or object place null (omega arith) in
-        let read : base_at i place ≡ value_or_null (slice_get (unwrap_or (slice_get imported i) []) place) = grind (arith, lt-ltb, cond-true) in
-        found ∙ sym (ap Some (read ∙ ap (λ o. value_or_null (slice_get (unwrap_or o []) place)) (low-at i object low at) ∙ ap value_or_null found))
+        grind (arith, low-size i object low at, low-at i object low at, slice_get-get_or object place (plain.Ref plain.Null), lt-ltb, cond-true)
 
     high-at : (j : ℕ) (object : List plain.Value) → slice_get objects (length imported + j) ≡ Some object
         → (t : PlannedTable) × (slice_get plan.tables j ≡ Some t) × (object ≡ first_cells globals fields t)
@@ -73,26 +66,23 @@ module _ (globals : List plain.Value) (fields : ℕ → ℕ) where
     high-size j object at =
         let found = high-at j object at in
         let t : PlannedTable = found.0 in
-        let long = length-map imported (λ (xs : List plain.Value). length xs) in
         let image = all-at (λ (x : PlannedTable). length x.image ≤ x.minimum) plan.tables j t short found.1 in
-        ap length found.2 ∙ length-cells t.minimum t.initial t.image image
-        ∙ sym (ap (λ k. slice_index (lengths ++ minimums) (k + j)) (sym long)
-        ∙ get_or_from_slice_get (lengths ++ minimums) (length lengths + j) t.minimum 0
-        (get-append-high lengths minimums j ∙ slice_get-map (λ (x : PlannedTable). x.minimum) plan.tables j ∙ ap (option_map (λ (x : PlannedTable). x.minimum)) found.1))
+        grind (
+          arith,
+          length-cells t.minimum t.initial t.image image,
+          length-map imported length,
+          get_or_from_slice_get (lengths ++ minimums) (length lengths + j) t.minimum 0,
+          get-append-high lengths minimums j,
+          slice_get-map (λ (x : PlannedTable). x.minimum) plan.tables j,
+        )
 
     high-item : (j place : ℕ) (object : List plain.Value) → slice_get objects (length imported + j) ≡ Some object → place < size_at (length imported + j)
         → slice_get object place ≡ Some (base_at (length imported + j) place)
     high-item j place object at l =
         let found = high-at j object at in
         let t : PlannedTable = found.0 in
-        let size = high-size j object at in
         let image = all-at (λ (x : PlannedTable). length x.image ≤ x.minimum) plan.tables j t short found.1 in
-        let long : length object ≡ t.minimum = ap length found.2 ∙ length-cells t.minimum t.initial t.image image in
-        let number : length imported + j - length imported ≡ j = omega arith in
-        let read : base_at (length imported + j) place ≡ planned_first globals fields (slice_get plan.tables (length imported + j - length imported)) place =
-        grind (arith, le-ltb, cond-false) in
-        ap (λ xs. slice_get xs place) found.2 ∙ cell-at t.minimum t.initial t.image place (omega arith)
-        ∙ sym (ap Some (read ∙ ap (λ k. planned_first globals fields (slice_get plan.tables k) place) number ∙ ap (λ o. planned_first globals fields o place) found.1))
+        grind (arith, high-size j object at, length-cells t.minimum t.initial t.image image, cell-at t.minimum t.initial t.image place, le-ltb, cond-false)
 
     pub tables-hold : Hold (planned_elements_phase globals fields imported plan).sizes (planned_elements_phase globals fields imported plan).base objects
     tables-hold = record {

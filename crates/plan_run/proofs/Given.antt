@@ -2,14 +2,14 @@
 use Rattle.std.proofs.Common.{◌≡◌, ℕ, suc, ◌+◌, ◌-◌, ◌^◌, ◌<◌, ◌≤◌, List, [], ◌∷◌, ◌++◌, length, map, get_or, Option, None, Some, refl, sym, ◌∙◌, ap, subst, arith}
 use Rattle.std.specs.Prelude.{slice_get, sum_by, All}
 use Rattle.std.proofs.lemmas.List.{length-map, length-append, length-drop}
-use Rattle.std.proofs.lemmas.List.Elements.{All-nil, All-cons, All-head, All-tail, All-same, All-map}
+use Rattle.std.proofs.lemmas.List.Elements.{All-nil, All-cons, All-head, All-tail, All-map}
 use Rattle.std.proofs.lemmas.List.Sums.{get_or-le-sum_by}
 use Rattle.std.proofs.lemmas.Option.{slice_get-get_or, slice_get_within}
 use Rattle.wasm_spec.specs.Module.{Expression}
 use Rattle.wasm_types.specs.declared.memory.Memory.{Memory}
 use Rattle.wasm_types.specs.Memories.{minimum_bytes}
 use Rattle.replay_spec.specs.Phases.{Piece, Phase}
-use Rattle.replay_spec.specs.Plan.{MemoryPlan, PlannedSegment, PlannedOffset, Expr, Static, runtime_bytes}
+use Rattle.replay_spec.specs.Plan.{MemoryPlan, PlannedSegment, PlannedOffset, Expr, Static}
 use Rattle.replay_spec.specs.Elements.{ActiveElements, elements_piece}
 use Rattle.replay_spec.specs.Values as plain
 use Rattle.replay_spec.specs.Values.{Term}
@@ -48,13 +48,7 @@ each-small ms few k d l = omega (arith, get_or-le-sum_by minimum_bytes ms k d l)
 within-each : (w : Way) (plan : MemoryPlan) (page n : ℕ) (ms : List Memory)
     → ((j : ℕ) (m : Memory) → slice_get ms j ≡ Some m → ImageIsWithin page (minimum_bytes m) (image_in w plan (n + j))) → ImagesAreWithin w plan page n ms
 within-each w plan page n [] each = tt
-within-each w plan page n (m ∷ ms) each =
-    let here : n + 0 ≡ n = omega arith in (
-      subst (λ k. ImageIsWithin page (minimum_bytes m) (image_in w plan k)) here (each 0 m refl),
-      within-each w plan page (n + 1) ms (λ j o at.
-          let there : n + suc j ≡ n + 1 + j = omega arith in
-          subst (λ k. ImageIsWithin page (minimum_bytes o) (image_in w plan k)) there (each (suc j) o at)),
-    )
+within-each w plan page n (m ∷ ms) each = (grind (arith, each 0 m refl), within-each w plan page (n + 1) ms (λ j o at. grind (arith, each (suc j) o at)))
 
 module _ (t : ModuleTranslation) (f : Finished t) where
   within-one : (w : Way) (i : ℕ) (m : Memory) → slice_get t.module.memories i ≡ Some m
@@ -75,10 +69,8 @@ pub within-of : (t : ModuleTranslation) (w : Way) (page i : ℕ) (ms : List Memo
     → ImageIsWithin page (minimum_bytes (get_or ms i d)) (image_in w (memory_plan_of t) i)
 within-of t w page i ms d same low high within =
     let n : ℕ = t.module.num_imported_memories in
-    let there : n + (i - n) ≡ i = omega arith in
     let at : slice_get (own_memories t) (i - n) ≡ Some (get_or ms i d) = grind (arith, get-drop, slice_get-get_or) in
-    subst (λ k. ImageIsWithin page (minimum_bytes (get_or ms i d)) (image_in w (memory_plan_of t) k)) there
-    (within-at w (memory_plan_of t) page n (i - n) (own_memories t) (get_or ms i d) at within)
+    grind (arith, within-at w (memory_plan_of t) page n (i - n) (own_memories t) (get_or ms i d) at within)
 
 -- so many memories
 pub begun-count : (w : Way) (plan : MemoryPlan) (page n : ℕ) (ms : List Memory) → length (begun w plan page n ms) ≡ length ms
@@ -98,24 +90,17 @@ module _ (place_of : Expression → ℕ) (plan : MemoryPlan) where
 
   pub left-below : (w : Way) (n : ℕ) (segments : List PlannedSegment) → All (λ s. s.memory < n) segments → All (λ p. p.object < n) (left_pieces w place_of plan segments)
   left-below w n [] all = All-nil (Below n)
-  left-below w n (s ∷ ss) all = over w s.memory s.index s.offset (All-head (λ (x : PlannedSegment). x.memory < n) s ss all)
-      (left-below w n ss (All-tail (λ (x : PlannedSegment). x.memory < n) s ss all)) where
-        over : (w : Way) (memory index : ℕ) (offset : PlannedOffset) → memory < n → All (λ p. p.object < n) (left_pieces w place_of plan ss)
-            → All (λ p. p.object < n) (left_pieces w place_of plan (record { memory = memory; offset = offset; index = index } ∷ ss))
-        over way.Map memory index (Expr e) l rest = All-cons (Below n) (record { object = memory; offset = place_of e; items = runtime_bytes plan index }) (left_pieces way.Map place_of plan ss) l rest
-        over way.Copy memory index (Expr e) l rest = All-cons (Below n) (record { object = memory; offset = place_of e; items = runtime_bytes plan index }) (left_pieces way.Copy place_of plan ss) l rest
-        over way.Map memory index (Static place) l rest = rest
-        over way.Copy memory index (Static place) l rest = All-cons (Below n) (record { object = memory; offset = place; items = runtime_bytes plan index }) (left_pieces way.Copy place_of plan ss) l rest
+  left-below w n (s ∷ ss) all = over w s.offset (All-head (λ (x : PlannedSegment). x.memory < n) s ss all) (left-below w n ss (All-tail (λ (x : PlannedSegment). x.memory < n) s ss all)) where
+    over : (w : Way) (offset : PlannedOffset) → s.memory < n → All (λ p. p.object < n) (left_pieces w place_of plan ss)
+        → All (λ p. p.object < n) (left_pieces w place_of plan (record { memory = s.memory; offset = offset; index = s.index } ∷ ss))
+    over w (Expr e) l rest = All-cons (Below n) _ (left_pieces w place_of plan ss) l rest
+    over way.Map (Static place) l rest = rest
+    over way.Copy (Static place) l rest = All-cons (Below n) _ (left_pieces way.Copy place_of plan ss) l rest
 
   -- images alone leave nothing to be written
   pub none-left : (segments : List PlannedSegment) → All (λ s. IsStatic s.offset) segments → left_pieces way.Map place_of plan segments ≡ []
   none-left [] all = refl
-  none-left (s ∷ ss) all = over s.memory s.index s.offset (All-head (λ (x : PlannedSegment). IsStatic x.offset) s ss all)
-      (none-left ss (All-tail (λ (x : PlannedSegment). IsStatic x.offset) s ss all)) where
-        over : (memory index : ℕ) (offset : PlannedOffset) → IsStatic offset → left_pieces way.Map place_of plan ss ≡ []
-            → left_pieces way.Map place_of plan (record { memory = memory; offset = offset; index = index } ∷ ss) ≡ []
-        over memory index (Expr e) is rest = absurd is
-        over memory index (Static place) is rest = rest
+  none-left (s ∷ ss) all = grind (arith, All-head (λ (x : PlannedSegment). IsStatic x.offset) s ss all, none-left ss (All-tail (λ (x : PlannedSegment). IsStatic x.offset) s ss all))
 
 -- ---- phases
 
@@ -138,16 +123,19 @@ module _ (t : ModuleTranslation) (f : Finished t) (w : Way) (place_of : Expressi
 
   pub shared-after : (new : List Contents) → LendNoMore memories new → (left_pieces w place_of (memory_plan_of t) (memory_plan_of t).segments ≡ [] → new ≡ memories) → LendImages t w new
   shared-after new less still i memory at high =
-      let low = slice_get_within new i memory at in
-      let count = less.count in
-      let before : Contents = get_or memories i memory in
-      let there : slice_get memories i ≡ Some before = slice_get-get_or memories i memory (omega arith) in
-      let begun_pages = begun-lent w (memory_plan_of t) (page_size_of t) imported memories (own_memories t) are-so i before (omega arith) there in
-      grind (arith, alone-at, none-left)
+      grind (
+        arith,
+        slice_get_within new i memory at,
+        less.count,
+        slice_get-get_or memories i memory,
+        begun-lent w (memory_plan_of t) (page_size_of t) imported memories (own_memories t) are-so i (get_or memories i memory),
+        alone-at,
+        none-left,
+      )
 
 pub nil-mapped : {A B : Type 0} (f : A → B) (xs : List A) → map f xs ≡ [] → xs ≡ []
 nil-mapped f [] is = refl
-nil-mapped f (x ∷ xs) is = absurd (let e = ap length is in omega arith)
+nil-mapped f (x ∷ xs) is = absurd cc
 
 -- ---- tables
 
@@ -166,10 +154,7 @@ tables-planned t counted = planned-count (own_tables t) t.table_initialization.i
 pub elements-below : (globals : List plain.Value) (fields : ℕ → ℕ) (terms : List Term) (n : ℕ) (segments : List ActiveElements) (pieces : List ElementPiece)
     → All (λ s. s.table < n) segments → map (element_piece terms) pieces ≡ map (elements_piece globals fields) segments → All (λ p. p.table < n) pieces
 elements-below globals fields terms n segments pieces all are =
-    All-from_map (λ (q : Piece plain.Value). q.object < n) (element_piece terms) pieces
-    (All-same (λ (q : Piece plain.Value). q.object < n) (map (element_piece terms) pieces) (map (elements_piece globals fields) segments) are
-    (All-map (λ (q : Piece plain.Value). q.object < n) (elements_piece globals fields) segments all))
+    All-from_map (λ (q : Piece plain.Value). q.object < n) (element_piece terms) pieces (rw are (All-map (λ (q : Piece plain.Value). q.object < n) (elements_piece globals fields) segments all))
 
 pub data-below : (n : ℕ) (left : List (Piece ℕ)) (pieces : List DataPiece) → All (λ q. q.object < n) left → map data_piece pieces ≡ left → All (λ p. p.memory < n) pieces
-data-below n left pieces all are =
-    All-from_map (λ (q : Piece ℕ). q.object < n) data_piece pieces (All-same (λ (q : Piece ℕ). q.object < n) (map data_piece pieces) left are all)
+data-below n left pieces all are = All-from_map (λ (q : Piece ℕ). q.object < n) data_piece pieces (rw are all)

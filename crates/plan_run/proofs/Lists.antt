@@ -1,27 +1,21 @@
 -- Items of lists.
-use Rattle.std.proofs.Common.{◌≡◌, ◌≢◌, ℕ, zero, suc, ◌+◌, ◌<◌, ◌≤◌, List, [], ◌∷◌, ◌++◌, length, get_or, set, take, drop, replicate, Option, None, Some, refl, sym, ◌∙◌, ap, subst, arith, ◌-◌}
+use Rattle.std.proofs.Common.{◌≡◌, ◌≢◌, ℕ, zero, suc, ◌+◌, ◌<◌, ◌≤◌, List, [], ◌∷◌, ◌++◌, length, set, take, drop, replicate, Option, None, Some, refl, sym, ◌∙◌, ap, subst, arith, ◌-◌}
 use Rattle.std.specs.Prelude.{slice_get, All, MatchOption}
 use Rattle.std.specs.Borrow.{Bor}
 use Rattle.std.specs.List.{HoldsAt}
 use Rattle.std.specs.Option.{option_copied}
+use Rattle.std.proofs.lemmas.List.{length-set, length-replicate, get_or-replicate, get_or-set_same, get_or-set_other}
 use Rattle.std.proofs.lemmas.List.Elements.{All-get_or}
 use Rattle.std.proofs.lemmas.Option.{get_or_from_slice_get, slice_get_within, slice_get_past, slice_get-get_or}
-use Rattle.std.proofs.Math.Logic.{⊎_elim}
 use Rattle.std.proofs.lemmas.Bool.{cases_lt}
 
 -- ---- lists
 
 pub get-set-same : {A : Type 0} (xs : List A) (k : ℕ) (x : A) → k < length xs → slice_get (set xs k x) k ≡ Some x
-get-set-same [] k x l = absurd (omega arith)
-get-set-same (y ∷ ys) zero x l = refl
-get-set-same (y ∷ ys) (suc k) x l = get-set-same ys k x (omega arith)
+get-set-same xs k x l = grind (arith, slice_get-get_or (set xs k x) k x, length-set, get_or-set_same)
 
 pub get-set-other : {A : Type 0} (xs : List A) (k j : ℕ) (x : A) → j ≢ k → slice_get (set xs k x) j ≡ slice_get xs j
-get-set-other [] k j x ne = refl
-get-set-other (y ∷ ys) zero zero x ne = absurd (ne refl)
-get-set-other (y ∷ ys) zero (suc j) x ne = refl
-get-set-other (y ∷ ys) (suc k) zero x ne = refl
-get-set-other (y ∷ ys) (suc k) (suc j) x ne = get-set-other ys k j x (λ e. ne (ap suc e))
+get-set-other xs k j x ne = grind (arith, cases_lt j (length xs), slice_get-get_or xs j x, slice_get-get_or (set xs k x) j x, slice_get_past, length-set, get_or-set_other)
 
 pub get-append-low : {A : Type 0} (xs ys : List A) (k : ℕ) → k < length xs → slice_get (xs ++ ys) k ≡ slice_get xs k
 get-append-low [] ys k l = absurd (omega arith)
@@ -48,16 +42,7 @@ pub all-at : {X : Type 0} (P : X → Type 0) (xs : List X) (i : ℕ) (x : X) →
 all-at P xs i x all at = subst P (get_or_from_slice_get xs i x x at) (All-get_or P xs i x (slice_get_within xs i x at) all)
 
 pub get-replicate : {A : Type 0} (x : A) (n p : ℕ) → p < n → slice_get (replicate n x) p ≡ Some x
-get-replicate x zero p l = absurd (omega arith)
-get-replicate x (suc n) zero l = refl
-get-replicate x (suc n) (suc p) l = get-replicate x n p (omega arith)
-
--- a list of two is of its two items
-pub two-is : {A : Type 0} (xs : List A) (d : A) → 2 ≤ length xs → length xs < 3 → xs ≡ get_or xs 0 d ∷ get_or xs 1 d ∷ []
-two-is [] d low high = absurd (omega arith)
-two-is (x ∷ []) d low high = absurd (omega arith)
-two-is (x ∷ y ∷ []) d low high = refl
-two-is (x ∷ y ∷ z ∷ zs) d low high = absurd (omega arith)
+get-replicate x n p l = grind (arith, slice_get-get_or (replicate n x) p x, length-replicate, get_or-replicate)
 
 -- what `get` copies out of a slice
 pub copied-is : {A : Type 0} (xs : List A) (i : ℕ) (o : Option (Bor A)) → MatchOption o (length xs ≤ i) (λ x. (i < length xs) × HoldsAt (λ y. x.now ≡ y) xs i)
@@ -73,5 +58,4 @@ some-at (x ∷ xs) (suc i) l = some-at xs i (omega arith)
 -- what the first of some have and all behind them, each has
 pub each-half : {X : Type 0} (xs : List X) (n : ℕ) (P : ℕ → X → Type 0) → ((i : ℕ) (x : X) → i < n → slice_get xs i ≡ Some x → P i x)
     → ((j : ℕ) (x : X) → slice_get xs (n + j) ≡ Some x → P (n + j) x) → (i : ℕ) (x : X) → slice_get xs i ≡ Some x → P i x
-each-half xs n P low high i x at = ⊎_elim (λ (l : i < n). low i x l at)
-    (λ (h : n ≤ i). let there : n + (i - n) ≡ i = omega arith in subst (λ k. P k x) there (high (i - n) x (ap (slice_get xs) there ∙ at))) (cases_lt i n)
+each-half xs n P low high i x at = grind (arith, cases_lt i n, low i x, high (i - n) x)

@@ -1,8 +1,8 @@
 -- Operators on a stack of values, and expressions.
-use Rattle.std.proofs.Common.{◌≡◌, ℕ, ◌+◌, ◌-◌, ◌<◌, ◌≤◌, true, List, [], ◌∷◌, ◌++◌, length, get_or, take, drop, Option, None, Some, sym, ◌∙◌, ap, subst, arith}
-use Rattle.std.specs.Prelude.{nat_le, All, IfSome}
+use Rattle.std.proofs.Common.{◌≡◌, ℕ, ◌+◌, ◌-◌, ◌<◌, ◌≤◌, true, List, [], ◌∷◌, ◌++◌, length, get_or, take, drop, Option, None, Some, sym, ◌∙◌, ap, arith}
+use Rattle.std.specs.Prelude.{All, IfSome}
 use Rattle.std.specs.Option.{option_map, option_and_then}
-use Rattle.std.proofs.lemmas.Bool.{le-leb, cond-true}
+use Rattle.std.proofs.lemmas.Bool.{le-leb}
 use Rattle.std.proofs.lemmas.List.{length-map, map-append, take-map, drop-map, drop_more}
 use Rattle.std.proofs.lemmas.List.Elements.{All-take, All-push}
 use Rattle.wasm_spec.specs.declared.operators.Operator.{Operator}
@@ -25,7 +25,7 @@ module _ (a : Action) (vs : List plain.Value) where
   taken-from n = option_map (λ v. take n vs ++ v ∷ []) (a.makes (drop n vs))
 
   acted-taken : (n : ℕ) → a.takes ≤ length vs → n ≡ length vs - a.takes → acted a vs ≡ taken-from n
-  acted-taken n l is = cond-true (nat_le a.takes (length vs)) (taken-from (length vs - a.takes)) None (le-leb a.takes (length vs) l) ∙ ap taken-from (sym is)
+  acted-taken n l is = grind (arith, le-leb)
 
 module _ (a : Action) (nodes : List Node) (stack args : List Value) (takes rest : ℕ) (is : takes ≡ a.takes) where
   module _ (l : takes ≤ length stack) (at : rest ≡ length stack - takes) (top : args ≡ drop rest stack) where
@@ -42,14 +42,9 @@ module _ (a : Action) (nodes : List Node) (stack args : List Value) (takes rest 
         → after ≡ between ++ v ∷ [] → MeansOption new (Some v) (a.makes (values_in (terms_of nodes) args)) → Acts a nodes new stack after true
     acts-some new between after v extends below cut pushed made =
         let front : List Value = take rest stack in
-        let all : after ≡ front ++ v ∷ [] = pushed ∙ ap (λ xs. xs ++ v ∷ []) cut in
-        let below_front : All (NamesBelow (length nodes)) front = All-take (NamesBelow (length nodes)) rest stack below in
-        let same : values_in (terms_of nodes) front ≡ values_in (terms_of new) front = sym (kept-values nodes new extends front below_front) in (
-          subst (λ xs. All (NamesBelow (length new)) xs) (sym all)
-              (All-push (NamesBelow (length new)) front v (all-names-more (length nodes) (length new) front (longer nodes new extends) below_front) made.0),
-          acts-on ∙ ap (option_map (λ x. values_in (terms_of nodes) front ++ x ∷ [])) made.1
-              ∙ ap (λ xs. Some (xs ++ value_in (terms_of new) v ∷ [])) same
-              ∙ ap Some (sym (map-append (value_in (terms_of new)) front (v ∷ [])) ∙ ap (values_in (terms_of new)) (sym all)),
+        let below_front : All (NamesBelow (length nodes)) front = All-take (NamesBelow (length nodes)) rest stack below in (
+          rw (pushed, cut) (All-push (NamesBelow (length new)) front v (all-names-more (length nodes) (length new) front (longer nodes new extends) below_front) made.0),
+          grind (arith, acts-on, kept-values nodes new extends front below_front, map-append (value_in (terms_of new)) front (v ∷ [])),
         )
 
 -- ---- an expression

@@ -11,7 +11,7 @@ use Rattle.plan_run.specs.declared.value.Value.{Value}
 use Rattle.plan_run.specs.declared.value.Node.{Node}
 use Rattle.plan_run.specs.Nodes.{Extends, Means, AllMean}
 use Rattle.plan_run.specs.Tables.{cells_in, TablesBelow, TablesMean, element_piece, PiecesMean}
-use Rattle.plan_run.specs.Values.{value_in, values_in, terms_of, imported_value, IsPlain, NamesBelow}
+use Rattle.plan_run.specs.Values.{values_in, terms_of, imported_value, IsPlain, NamesBelow}
 use Rattle.plan_run.proofs.Terms.{longer, kept-values, all-mean-on, all-names-more, plain-mean}
 
 -- ---- two maps, one more item
@@ -24,8 +24,7 @@ map-two-more h k ys i d l = sym (ap (map h) (map_more k ys i d l) ∙ map_push h
 -- one more item, as a map of a map
 pub one-more : {A B C D : Type 0} (f : A → C) (h : D → C) (k : B → D) (xs : List A) (ys : List B) (i : ℕ) (d : B) (x : A) → i < length ys → f x ≡ h (k (get_or ys i d))
     → map f xs ≡ map h (map k (take i ys)) → map f (xs ++ x ∷ []) ≡ map h (map k (take (i + 1) ys))
-one-more f h k xs ys i d x l e before =
-    map_push f xs x ∙ ap (λ l. l ++ f x ∷ []) before ∙ ap (λ z. map h (map k (take i ys)) ++ z ∷ []) e ∙ map-two-more h k ys i d l
+one-more f h k xs ys i d x l e before = grind (arith, map_push f xs x, map-two-more h k ys i d l)
 
 -- ---- values
 
@@ -33,18 +32,14 @@ module _ (old new : List Node) (e : Extends old new) where
   pub mean-more : (vs : List Value) (meant : List plain.Value) (v : Value) (m : plain.Value) → AllMean old vs meant → Means new v m → AllMean new (vs ++ v ∷ []) (meant ++ m ∷ [])
   mean-more vs meant v m before one =
       let on = all-mean-on old new e vs meant before in
-      record {
-        below = All-push (NamesBelow (length new)) vs v on.below one.below;
-        are = map_push (value_in (terms_of new)) vs v ∙ ap (λ l. l ++ value_in (terms_of new) v ∷ []) on.are ∙ ap (λ z. meant ++ z ∷ []) one.is;
-      }
+      record { below = All-push (NamesBelow (length new)) vs v on.below one.below; are = grind (arith, map_push) }
 
   -- ---- tables
 
   cells-on : (tables : List (Vec Value)) → TablesBelow (length old) tables → cells_in (terms_of new) tables ≡ cells_in (terms_of old) tables
   cells-on [] below = refl
   cells-on (t ∷ ts) below =
-      ap (λ c. c ∷ cells_in (terms_of new) ts) (kept-values old new e t.items (All-head (λ (x : Vec Value). All (NamesBelow (length old)) x.items) t ts below))
-      ∙ ap (λ cs. values_in (terms_of old) t.items ∷ cs) (cells-on ts (All-tail (λ (x : Vec Value). All (NamesBelow (length old)) x.items) t ts below))
+      grind (arith, kept-values old new e t.items (All-head (λ (x : Vec Value). All (NamesBelow (length old)) x.items) t ts below), cells-on ts (All-tail (λ (x : Vec Value). All (NamesBelow (length old)) x.items) t ts below))
 
   pub tables-on : (tables : List (Vec Value)) (meant : List (List plain.Value)) → TablesMean old tables meant → TablesMean new tables meant
   tables-on tables meant before = grind (arith, longer, all-names-more, All-weaker, cells-on)
@@ -64,9 +59,7 @@ module _ (old new : List Node) (e : Extends old new) where
       → map (element_piece (terms_of new)) pieces ≡ map (element_piece (terms_of old)) pieces
   pieces-same [] below = refl
   pieces-same (p ∷ ps) below =
-      ap (λ c. record { object = p.table; offset = p.place; items = c } ∷ map (element_piece (terms_of new)) ps)
-      (kept-values old new e p.items.items (All-head (λ (x : ElementPiece). All (NamesBelow (length old)) x.items.items) p ps below))
-      ∙ ap (λ cs. element_piece (terms_of old) p ∷ cs) (pieces-same ps (All-tail (λ (x : ElementPiece). All (NamesBelow (length old)) x.items.items) p ps below))
+      grind (arith, kept-values old new e p.items.items (All-head (λ (x : ElementPiece). All (NamesBelow (length old)) x.items.items) p ps below), pieces-same ps (All-tail (λ (x : ElementPiece). All (NamesBelow (length old)) x.items.items) p ps below))
 
   pub pieces-on : (pieces : List ElementPiece) (meant : List (Piece plain.Value)) → PiecesMean old pieces meant → PiecesMean new pieces meant
   pieces-on pieces meant before = grind (arith, longer, all-names-more, All-weaker, pieces-same)
@@ -75,10 +68,7 @@ module _ (old new : List Node) (e : Extends old new) where
       → All (NamesBelow (length new)) p.items.items → element_piece (terms_of new) p ≡ m → PiecesMean new (pieces ++ p ∷ []) (meant ++ m ∷ [])
   pieces-more pieces meant p m before below one =
       let on = pieces-on pieces meant before in
-      record {
-        below = All-push (λ (x : ElementPiece). All (NamesBelow (length new)) x.items.items) pieces p on.below below;
-        are = map_push (element_piece (terms_of new)) pieces p ∙ ap (λ l. l ++ element_piece (terms_of new) p ∷ []) on.are ∙ ap (λ z. meant ++ z ∷ []) one;
-      }
+      record { below = All-push (λ (x : ElementPiece). All (NamesBelow (length new)) x.items.items) pieces p on.below below; are = grind (arith, map_push) }
 
 -- equal cells
 pub equal-mean : (nodes : List Node) (v : Value) (m : plain.Value) (n : ℕ) → Means nodes v m → AllMean nodes (replicate n v) (replicate n m)
@@ -99,9 +89,7 @@ plain-tables nodes (t ∷ ts) none =
 -- cells that are filled up to a size
 pub filled : {A B C : Type 0} (f : A → C) (h : B → C) (xs : List A) (ys : List B) (n count : ℕ) (x : A) (y : B) → f x ≡ h y → map f xs ≡ map h ys → length xs ≤ n
     → n - count ≡ n - length ys → map f (take n xs ++ replicate (n - count) x) ≡ map h ys ++ replicate (n - length ys) (h y)
-filled f h xs ys n count x y one before short same =
-    ap (λ zs. map f (zs ++ replicate (n - count) x)) (take_all n xs short) ∙ map-append f xs (replicate (n - count) x) ∙ ap (λ zs. zs ++ map f (replicate (n - count) x)) before
-    ∙ ap (λ zs. map h ys ++ zs) (over (n - count) ∙ ap (λ k. replicate k (h y)) same)
+filled f h xs ys n count x y one before short same = grind (arith, take_all n xs short, map-append f xs (replicate (n - count) x), over (n - count))
   where
     over : (k : ℕ) → map f (replicate k x) ≡ replicate k (h y)
     over zero = refl

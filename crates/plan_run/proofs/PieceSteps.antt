@@ -1,10 +1,9 @@
 -- Pieces one by one.
-use Rattle.std.proofs.Common.{◌≡◌, ℕ, zero, suc, ◌+◌, ◌-◌, ◌<◌, ◌≤◌, Bool, true, false, List, [], ◌∷◌, ◌++◌, length, map, get_or, set, drop, replicate, Some, refl, sym, ◌∙◌, ap, subst, arith}
+use Rattle.std.proofs.Common.{◌≡◌, ℕ, zero, suc, ◌+◌, ◌-◌, ◌<◌, ◌≤◌, Bool, true, false, List, [], ◌∷◌, ◌++◌, length, map, get_or, set, drop, replicate, Some, refl, ◌∙◌, ap, arith}
 use Rattle.std.specs.Prelude.{slice_get}
-use Rattle.std.specs.Option.{option_map}
 use Rattle.std.proofs.Math.ListN.{length-set}
 use Rattle.std.proofs.lemmas.List.{length-map, length-drop, map-set, drop_more, drop-drop, take-append-drop, length-replicate}
-use Rattle.std.proofs.lemmas.Option.{same_Some, slice_get-map, slice_get-get_or, slice_get_within}
+use Rattle.std.proofs.lemmas.Option.{slice_get-map, slice_get-get_or, slice_get_within}
 use Rattle.replay_spec.specs.Phases.{Piece, Phase}
 use Rattle.paged_memory.specs.Memory.{Contents, count_lent, not_lent}
 use Rattle.paged_memory.specs.Writing.{written}
@@ -15,9 +14,6 @@ use Rattle.plan_run.proofs.Writing.{IsWriting, next-written, next-traps}
 
 -- ---- what is left of a list
 
-drop-mapped : {A B : Type 0} (f : A → B) (xs : List A) (i : ℕ) (d : A) → i < length xs → map f (drop i xs) ≡ f (get_or xs i d) ∷ map f (drop (i + 1) xs)
-drop-mapped f xs i d l = ap (map f) (drop_more xs i d l)
-
 left-count : {A B : Type 0} (f : A → B) (xs : List A) (i : ℕ) → i < length xs → length xs - i ≡ suc (length (map f (drop (i + 1) xs)))
 left-count f xs i l = omega (arith, length-map (drop (i + 1) xs) f, length-drop (i + 1) xs)
 
@@ -25,7 +21,7 @@ left-count f xs i l = omega (arith, length-map (drop (i + 1) xs) f, length-drop 
 
 module _ {A X : Type 0} (f : X → List A) (xs : List X) (k : ℕ) (x : X) (at : slice_get xs k ≡ Some x) (p : Piece A) (on : p.object ≡ k) where
   the-object : (object : List A) → slice_get (map f xs) p.object ≡ Some object → object ≡ f x
-  the-object object is = same_Some object (f x) (sym is ∙ ap (slice_get (map f xs)) on ∙ slice_get-map f xs k ∙ ap (option_map f) at)
+  the-object object is = grind (arith, slice_get-map f xs k)
 
   pub writes-true : (new : X) → p.offset + length p.items ≤ length (f x) → f new ≡ written p.offset p.items (f x) → WritesPiece p (map f xs) (map f (set xs k new)) true
   writes-true new l is object found = grind (arith, the-object, map-set)
@@ -39,21 +35,18 @@ module _ {A : Type 0} (phase : Phase A) (p : Piece A) (rest : List (Piece A)) (o
   found = slice_get-get_or old p.object [] l
 
   writing-on : WritesPiece p old new true → IsWriting phase rest new
-  writing-on writes =
-      let done = writes object found in
-      subst (λ objects. IsWriting phase rest objects) (sym done.1) (next-written phase old p rest w object found done.0)
+  writing-on writes = rw (writes object found).1 (next-written phase old p rest w object found (writes object found).0)
 
   writing-traps : (n m : ℕ) → length old ≡ n → m ≡ suc (length rest) → WritesPiece p old new false → Lays phase n new (Some m)
   writing-traps n m many is writes =
       let done = writes object found in
-      subst (λ k. Lays phase n new (Some k)) (sym is) (subst (λ objects. Lays phase n objects (Some (suc (length rest)))) (sym done.1)
-      (subst (λ k. Lays phase k old (Some (suc (length rest)))) many (next-traps phase old p rest w object found done.0)))
+      rw (is, done.1, ← many) (next-traps phase old p rest w object found done.0)
 
 -- of some pieces the next one is written, and those behind it are left; or it does not fit, and the trap is how many are left
 module _ {A X : Type 0} (phase : Phase A) (f : X → Piece A) (xs : List X) (i : ℕ) (d p : X) (l : i < length xs) (is : get_or xs i d ≡ p)
     (old new : List (List A)) (w : IsWriting phase (map f (drop i xs)) old) (within : (f p).object < length old) where
   writing : IsWriting phase (f p ∷ map f (drop (i + 1) xs)) old
-  writing = subst (λ ps. IsWriting phase ps old) (drop-mapped f xs i d l ∙ ap (λ x. f x ∷ map f (drop (i + 1) xs)) is) w
+  writing = rw (drop_more xs i d l, is) at w
 
   pub item-written : WritesPiece (f p) old new true → IsWriting phase (map f (drop (i + 1) xs)) new
   item-written = writing-on phase (f p) (map f (drop (i + 1) xs)) old new writing within
@@ -91,10 +84,5 @@ lend-set memories k memory new at less = grind (arith, length-set, slice_get_wit
 pub lend-on : (a b c : List Contents) → LendNoMore a b → LendNoMore b c → LendNoMore a c
 lend-on a b c one two = record {
   count = two.count ∙ one.count;
-  lent = λ i before after at is.
-      let low = slice_get_within c i after is in
-      let many = two.count in
-      let between : Contents = get_or b i before in
-      let there : slice_get b i ≡ Some between = slice_get-get_or b i before (omega arith) in
-      omega (arith, one.lent i before between at there, two.lent i between after there is);
+  lent = λ i before after at is. grind (arith, two.count, slice_get_within c i after is, slice_get-get_or b i before, one.lent i before (get_or b i before), two.lent i (get_or b i before));
 }

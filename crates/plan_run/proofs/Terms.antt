@@ -1,7 +1,6 @@
 -- Terms stay when nodes are appended.
-use Rattle.std.proofs.Common.{◌≡◌, ℕ, zero, suc, ◌+◌, ◌<◌, ◌≤◌, List, [], ◌∷◌, ◌++◌, length, map, Some, refl, sym, ◌∙◌, ap, subst, arith}
+use Rattle.std.proofs.Common.{◌≡◌, ℕ, zero, suc, ◌+◌, ◌<◌, ◌≤◌, List, [], ◌∷◌, ◌++◌, length, map, Some, refl, sym, ◌∙◌, ap, arith, zero-add}
 use Rattle.std.specs.Prelude.{slice_get, All}
-use Rattle.std.proofs.Math.Logic.{⊎_elim}
 use Rattle.std.proofs.lemmas.Bool.{cases_lt}
 use Rattle.std.proofs.lemmas.List.{append_assoc, append-nil, length-append, length_push}
 use Rattle.std.proofs.lemmas.List.Elements.{All-head, All-tail, All-weaker}
@@ -61,22 +60,14 @@ term-from terms (m ∷ ms) zero n at below =
     let long = length_push terms t in
     let same : m ≡ n = same_Some m n at in
     let here : slice_get (terms ++ t ∷ []) (length terms + 0) ≡ Some t = get-append-high terms (t ∷ []) 0 in
-    let agree : (i : ℕ) → i < length terms + 0 → slice_get terms i ≡ slice_get all i =
-    λ i l. sym (terms-low (terms ++ t ∷ []) ms i (omega arith) ∙ get-append-low terms (t ∷ []) i (omega arith)) in
-    terms-low (terms ++ t ∷ []) ms (length terms + 0) (omega arith) ∙ here
-    ∙ ap (λ x. Some (term_of terms x)) same ∙ ap (λ vs. Some (kept n vs)) (values-same terms all (length terms + 0) n.args.items agree below)
+    let agree : (i : ℕ) → i < length terms + 0 → slice_get terms i ≡ slice_get all i = grind (arith, terms-low (terms ++ t ∷ []) ms, get-append-low) in
+    grind (arith, terms-low (terms ++ t ∷ []) ms (length terms + 0), values-same terms all (length terms + 0) n.args.items agree below)
 term-from terms (m ∷ ms) (suc k) n at below =
-    let t : Term = term_of terms m in
-    let long = length_push terms t in
-    let there : length (terms ++ t ∷ []) + k ≡ length terms + suc k = omega arith in
-    ap (slice_get (terms_after (terms ++ t ∷ []) ms)) (sym there)
-    ∙ term-from (terms ++ t ∷ []) ms k n at (subst (λ j. All (NamesBelow j) n.args.items) (sym there) below)
+    let there : length (terms ++ term_of terms m ∷ []) + k ≡ length terms + suc k = omega (arith, length_push terms (term_of terms m)) in
+    rw (← there) (term-from (terms ++ term_of terms m ∷ []) ms k n at (rw there below))
 
 pub node-term : (nodes : List Node) (k : ℕ) (n : Node) → AreOrdered nodes → slice_get nodes k ≡ Some n → slice_get (terms_of nodes) k ≡ Some (term_of (terms_of nodes) n)
-node-term nodes k n ordered at =
-    let zero_plus : length {A = Term} [] + k ≡ k = omega arith in
-    ap (slice_get (terms_of nodes)) (sym zero_plus)
-    ∙ term-from [] nodes k n at (subst (λ j. All (NamesBelow j) n.args.items) (sym zero_plus) (ordered k n at).below)
+node-term nodes k n ordered at = grind (arith, term-from [] nodes k n at (rw zero-add (ordered k n at).below))
 
 -- ---- nodes that are appended
 
@@ -112,16 +103,11 @@ pub terms-push : (nodes : List Node) (n : Node) → terms_of (nodes ++ n ∷ [])
 terms-push nodes n = terms-append [] nodes (n ∷ [])
 
 pub push-means : (nodes : List Node) (n : Node) → Means (nodes ++ n ∷ []) (value.Term (length nodes)) (plain.Ref (term_of (terms_of nodes) n))
-push-means nodes n =
-    let t : Term = term_of (terms_of nodes) n in
-    let long : length (terms_of nodes) + 0 ≡ length nodes = omega (arith, length-terms [] nodes) in
-    grind (arith, length_push, terms-push, get-append-high)
+push-means nodes n = grind (arith, length-terms [] nodes, length_push, terms-push, get-append-high (terms_of nodes) (term_of (terms_of nodes) n ∷ []) 0)
 
 pub push-ordered : (nodes : List Node) (n : Node) → AreOrdered nodes → IsNodeAt (length nodes) n → AreOrdered (nodes ++ n ∷ [])
-push-ordered nodes n ordered is k m at = ⊎_elim
-    (λ (low : k < length nodes). ordered k m (sym (get-append-low nodes (n ∷ []) k low) ∙ at))
-    (λ (high : length nodes ≤ k). grind (arith, slice_get_within (nodes ++ n ∷ []) k m at, length_push nodes n, get-append-high nodes (n ∷ []) 0))
-    (cases_lt k (length nodes))
+push-ordered nodes n ordered is k m at =
+    grind (arith, cases_lt k (length nodes), ordered k m, get-append-low nodes (n ∷ []) k, slice_get_within (nodes ++ n ∷ []) k m at, length_push nodes n, get-append-high nodes (n ∷ []) 0)
 
 pub push-grows : (nodes : List Node) (n : Node) → AreOrdered nodes → IsNodeAt (length nodes) n → Grows nodes (nodes ++ n ∷ [])
 push-grows nodes n ordered is = record { extends = record { more = n ∷ []; is = refl }; ordered = push-ordered nodes n ordered is }
@@ -132,7 +118,4 @@ pushed-means old new n k is at = grind (arith, push-means old n)
 -- ---- values that name no node
 
 pub plain-mean : (nodes : List Node) (vs : List Value) → All IsPlain vs → AllMean nodes vs (map imported_value vs)
-plain-mean nodes vs none = record {
-  below = all-names-more 0 (length nodes) vs (omega arith) none;
-  are = values-same (terms_of nodes) [] 0 vs (λ i l. absurd (omega arith)) none;
-}
+plain-mean nodes vs none = grind (arith, all-names-more 0 (length nodes) vs (omega arith) none, values-same (terms_of nodes) [] 0 vs)

@@ -24,7 +24,7 @@ use Rattle.plan_run.specs.Finished.{IsStatic}
 use Rattle.plan_run.proofs.CellSteps.{planned-at}
 use Rattle.plan_run.proofs.Given.{planned-count}
 use Rattle.plan_run.proofs.LeftSteps.{view_image}
-use Rattle.plan_run.proofs.Lists.{all-at, some-at}
+use Rattle.plan_run.proofs.Lists.{some-at, all-at}
 
 -- ---- segments
 

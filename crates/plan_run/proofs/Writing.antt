@@ -1,12 +1,12 @@
 -- Objects to which pieces are written in order.
-use Rattle.std.proofs.Common.{◌≡◌, ℕ, suc, ◌+◌, ◌-◌, ◌<◌, ◌≤◌, true, List, [], ◌∷◌, ◌++◌, length, get_or, set, take, drop, None, Some, sym, ◌∙◌, ap, arith}
-use Rattle.std.specs.Prelude.{slice_get, unwrap_or, nat_le, ◌==◌}
+use Rattle.std.proofs.Common.{◌≡◌, ℕ, suc, ◌+◌, ◌-◌, ◌<◌, ◌≤◌, true, List, ◌∷◌, ◌++◌, length, set, take, drop, Some, arith}
+use Rattle.std.specs.Prelude.{slice_get, unwrap_or}
 use Rattle.std.proofs.Math.Logic.{⊎_elim}
-use Rattle.std.proofs.lemmas.Bool.{cases_lt, le-leb, lt-leb, eq-eqb, cond-true, cond-false}
+use Rattle.std.proofs.lemmas.Bool.{cases_lt, le-leb, lt-leb, eq-eqb, cond-false}
 use Rattle.std.proofs.lemmas.List.{length-append, length-take, length-drop}
 use Rattle.std.proofs.lemmas.Option.{slice_get-get_or, slice_get_within}
 use Rattle.replay_spec.specs.Phases.{Piece, Phase, item_at, last_item, fits, before_trap, trap, trap_of, content_of}
-use Rattle.replay_spec.proofs.Covering.{CoversAt, item-cover}
+use Rattle.replay_spec.proofs.Covering.{item-cover}
 use Rattle.paged_memory.specs.Writing.{written}
 use Rattle.plan_run.specs.Lays.{Lays, Hold}
 use Rattle.plan_run.proofs.Lists.{get-set-same, get-set-other, get-append-low, get-append-high, get-take, get-drop}
@@ -37,20 +37,8 @@ written-item i place p old d on l is = ⊎_elim
     grind (arith, item-cover, written-before))
     (λ (from : p.offset ≤ place). ⊎_elim
     (λ (upto : place < p.offset + length p.items).
-    let k : ℕ = place - p.offset in
-    let there : p.offset + k ≡ place = omega arith in
-    let low : k < length p.items = omega arith in
-    let one : (p.object == i) ≡ true = eq-eqb p.object i on in
-    let two : nat_le p.offset place ≡ true = le-leb p.offset place from in
-    let item : item_at i place p ≡ Some (get_or p.items k d) = rw (one, two) (slice_get-get_or p.items k d low) in
-    ap (slice_get (written p.offset p.items old)) (sym there) ∙ written-in p.offset p.items old l k low ∙ slice_get-get_or p.items k d low
-    ∙ sym (ap (λ o. Some (unwrap_or o d)) item))
-    (λ (behind : p.offset + length p.items ≤ place).
-    let k : ℕ = place - (p.offset + length p.items) in
-    let there : p.offset + length p.items + k ≡ place = omega arith in
-    let none : item_at i place p ≡ None = ⊎_elim (λ e. e) (λ (c : CoversAt i place p). let u = c.upto in absurd (omega arith)) (item-cover i place p) in
-    ap (slice_get (written p.offset p.items old)) (sym there) ∙ written-behind p.offset p.items old l k ∙ ap (slice_get old) there ∙ is
-    ∙ sym (ap (λ o. Some (unwrap_or o d)) none))
+    grind (arith, eq-eqb p.object i on, le-leb p.offset place from, slice_get-get_or p.items (place - p.offset) d, written-in p.offset p.items old l (place - p.offset)))
+    (λ (behind : p.offset + length p.items ≤ place). grind (arith, item-cover, written-behind p.offset p.items old l (place - (p.offset + length p.items))))
     (cases_lt place (p.offset + length p.items)))
     (cases_lt place p.offset)
 
@@ -76,8 +64,8 @@ module _ {A : Type 0} (phase : Phase A) (objects : List (List A)) where
         record {
           item = λ i place. unwrap_or (item_at i place p) (w.item i place);
           hold = grind (arith, get-set-same, length-written, get-set-other, written-item, item-cover);
-          content = λ i place. sym (ap (last_item i place (w.item i place)) (cond-true (fits phase.sizes p) (p ∷ before_trap phase.sizes rest) [] fit)) ∙ w.content i place;
-          trap = sym (cond-true (fits phase.sizes p) (trap phase.sizes rest) (Some (suc (length rest))) fit) ∙ w.trap;
+          content = λ i place. grind (arith, fit, w.content i place);
+          trap = grind (arith, fit, w.trap);
         }
 
     -- or it does not fit

@@ -38,9 +38,7 @@ pub first-globals : (terms : List Term) (imported all : List Value) (n count : �
     → values_in terms imported ≡ map imported_value imported
     → values_in terms all ≡ map imported_value imported ++ replicate count (plain.Ref plain.Null)
 first-globals terms imported all n count null is few many are same =
-    ap (values_in terms) (are ∙ ap (λ xs. xs ++ replicate (n - length imported) null) (take_all n imported few) ∙ ap (λ k. imported ++ replicate k null) many)
-    ∙ map-append (value_in terms) imported (replicate count null) ∙ ap (λ xs. xs ++ values_in terms (replicate count null)) same
-    ∙ ap (λ xs. map imported_value imported ++ xs) (nulls count)
+    grind (arith, take_all n imported few, map-append (value_in terms) imported (replicate count null), nulls count)
   where
     nulls : (k : ℕ) → values_in terms (replicate k null) ≡ replicate k (plain.Ref plain.Null)
     nulls zero = refl

@@ -2,36 +2,21 @@
 
 ghost use Rattle.std.specs.Prelude.{◌≡◌, ◌+◌, ◌-◌, ◌<◌, ◌≤◌, ℕ, List, length, map, All, IfOk, OnOk};
 ghost use Rattle.wasm_index.specs.Index.{number_of};
-ghost use Rattle.wasm_convert.specs.Constants.{plain_value_of};
 ghost use Rattle.replay_spec.specs.Globals.{simple_written, kept_written, planned_globals};
 ghost use Rattle.replay_spec.specs.Values.{Term};
 ghost use Rattle.init_plan.specs.Held.{simple_global_of, kept_global_of, plan_of_globals};
 ghost use Rattle.plan_run.specs.Fields.{field_count_in};
 ghost use Rattle.plan_run.specs.Nodes.{Grows, AllMean};
-ghost use Rattle.plan_run.specs.Values.{value_in, values_in, terms_of, imported_value, IsPlain, NamesBelow, AreOrdered};
+ghost use Rattle.plan_run.specs.Values.{values_in, terms_of, imported_value, IsPlain, NamesBelow, AreOrdered};
 
 use crate::evaluation::evaluate;
-use crate::value::{Node, Value};
+use crate::value::{Node, Value, from_constant};
 use entity_map::{EntityRef, OutOfMemory};
 use init_plan::ModuleTranslation;
 use module_types::ModuleTypes;
 use std::alloc::Global;
 use wasm_convert::{ConstExpr, GlobalConstValue};
 use wasm_index::DefinedGlobalIndex;
-
-/// The value of a global that is known before any code runs.
-fn simple_value(value: GlobalConstValue) -> Value
-    ensures means { (terms : List Term) → value_in terms result ≡ plain_value_of value }
-    ensures plain { IsPlain result }
-{
-    match value {
-        GlobalConstValue::I32(n) => Value::I32(n.cast_unsigned()),
-        GlobalConstValue::I64(n) => Value::I64(n.cast_unsigned()),
-        GlobalConstValue::F32(bits) => Value::F32(bits),
-        GlobalConstValue::F64(bits) => Value::F64(bits),
-        GlobalConstValue::V128(bits) => Value::V128(bits),
-    }
-}
 
 /// Writes the values of globals that are known before any code runs; the first `imports` globals are imported.
 fn write_simple(
@@ -46,7 +31,7 @@ fn write_simple(
     ensures count { length globals.new.items ≡ length globals.old.items }
 {
     for (index, value) in values {
-        globals[imports + index.index()] = simple_value(*value);
+        globals[imports + index.index()] = from_constant(*value);
     }
 }
 

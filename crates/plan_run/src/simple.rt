@@ -1,46 +1,17 @@
 //! Operators that need no node.
 
-ghost use Rattle.std.specs.Prelude.{◌≡◌, ℕ, List, ◌∷◌, [], true, All, IfSome, MatchOption};
+ghost use Rattle.std.specs.Prelude.{◌≡◌, ℕ, List, ◌∷◌, [], true, All, IfSome};
 ghost use Rattle.std.specs.Option.{option_map};
-ghost use Rattle.wasm_convert.specs.Constants.{plain_value_of};
 ghost use Rattle.wasm_convert.specs.Operators.{operator_of, plain_result};
 ghost use Rattle.replay_spec.specs.Values as plain;
 ghost use Rattle.replay_spec.specs.Values.{Term, action, is_plain, i31_of};
 ghost use Rattle.plan_run.specs.declared.kinds.Kind.TheVariants.{Simple};
 ghost use Rattle.plan_run.specs.Kinds.{kind_of};
-ghost use Rattle.plan_run.specs.Values.{value_in, values_in, IsReference, NamesBelow};
+ghost use Rattle.plan_run.specs.Values.{value_in, values_in, NamesBelow};
 
-use crate::value::Value;
+use crate::value::{Value, from_constant, to_constant};
 use entity_map::EntityRef;
-use wasm_convert::{ConstOp, GlobalConstValue};
-
-/// A constant value.
-fn from_constant(value: GlobalConstValue) -> Value
-    ensures means { (terms : List Term) → value_in terms result ≡ plain_value_of value }
-    ensures below { (k : ℕ) → NamesBelow k result }
-{
-    match value {
-        GlobalConstValue::I32(n) => Value::I32(n.cast_unsigned()),
-        GlobalConstValue::I64(n) => Value::I64(n.cast_unsigned()),
-        GlobalConstValue::F32(bits) => Value::F32(bits),
-        GlobalConstValue::F64(bits) => Value::F64(bits),
-        GlobalConstValue::V128(bits) => Value::V128(bits),
-    }
-}
-
-/// The constant value that a value is; none of a reference.
-fn to_constant(value: Value) -> Option<GlobalConstValue>
-    ensures { MatchOption result (IsReference value) (λ v. (terms : List Term) → plain_value_of v ≡ value_in terms value) }
-{
-    match value {
-        Value::I32(n) => Some(GlobalConstValue::I32(n.cast_signed())),
-        Value::I64(n) => Some(GlobalConstValue::I64(n.cast_signed())),
-        Value::F32(bits) => Some(GlobalConstValue::F32(bits)),
-        Value::F64(bits) => Some(GlobalConstValue::F64(bits)),
-        Value::V128(bits) => Some(GlobalConstValue::V128(bits)),
-        _ => None,
-    }
-}
+use wasm_convert::ConstOp;
 
 /// What a sum, a difference or a product makes of two values; none of another operator or of other values.
 fn joined(op: &ConstOp, first: Value, second: Value) -> Option<Value>

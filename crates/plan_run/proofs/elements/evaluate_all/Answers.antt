@@ -1,8 +1,7 @@
-use Rattle.std.proofs.Common.{◌+◌, map, take, sym, subst, arith}
+use Rattle.std.proofs.Common.{arith}
 use Rattle.wasm_convert.specs.Constants.{expression_of}
 use Rattle.replay_spec.specs.Elements.{cell_of}
 use Rattle.plan_run.specs.Fields.{field_count_in}
-use Rattle.plan_run.specs.Nodes.{AllMean, Means}
 use Rattle.plan_run.specs.Values.{values_in, terms_of}
 use Rattle.plan_run.proofs.OneMore.{mean-more, map-two-more}
 use Rattle.plan_run.proofs.Terms.{grows-on, kept-values}
@@ -18,11 +17,9 @@ loop-expression-preserved c =
     let e = c.expression-item.result in
     let globals = values_in (terms_of start) c.args.globals.now in
     let kept = kept-values start before c.loop-expression.invariant.grows.extends c.args.globals.now c.requires.globals in
-    let one = subst (λ x. Means new c.in_ok-value.value (cell_of globals fields (expression_of x))) c.expression-item.is
-    (subst (λ xs. Means new c.in_ok-value.value (cell_of xs fields (expression_of e))) kept c.in_ok-value.ensures.means) in
+    let one = rw (kept, c.expression-item.is) at c.in_ok-value.ensures.means in
     record {
       grows = grows-on start before new c.loop-expression.invariant.grows c.in_ok-value.ensures.grows;
-      means = subst (λ vs. AllMean new vs (map (cell_of globals fields) (map expression_of (take (i + 1) c.args.expressions.now)))) (sym c.in_ok-push.ensures.items)
-          (subst (AllMean new _) (map-two-more (cell_of globals fields) expression_of c.args.expressions.now i e (omega arith))
-          (mean-more before new c.in_ok-value.ensures.grows.extends c.loop-expression.items.items _ c.in_ok-value.value _ c.loop-expression.invariant.means one));
+      means = rw (c.in_ok-push.ensures.items, ← map-two-more (cell_of globals fields) expression_of c.args.expressions.now i e (omega arith))
+          (mean-more before new c.in_ok-value.ensures.grows.extends c.loop-expression.items.items _ c.in_ok-value.value _ c.loop-expression.invariant.means one);
     }

@@ -1,4 +1,4 @@
-use Rattle.std.proofs.Common.{◌≡◌, ◌+◌, ◌∙◌, map, take, ap, sym, subst, arith}
+use Rattle.std.proofs.Common.{◌≡◌, ◌∙◌, ap, arith}
 use Rattle.wasm_convert.specs.Constants.{expression_of}
 use Rattle.wasm_index.specs.Index.{number_of}
 use Rattle.replay_spec.specs.Elements.{item_cells, elements_piece}
@@ -6,7 +6,7 @@ use Rattle.replay_spec.specs.Values.{offset_over}
 use Rattle.table_images.specs.Views.{items_of, active_elements_of}
 use Rattle.plan_run.specs.declared.elements.ElementPiece.{ElementPiece}
 use Rattle.plan_run.specs.Fields.{field_count_in}
-use Rattle.plan_run.specs.Tables.{element_piece, PiecesMean}
+use Rattle.plan_run.specs.Tables.{element_piece}
 use Rattle.plan_run.specs.Values.{values_in, terms_of}
 use Rattle.plan_run.proofs.OneMore.{pieces-more, map-two-more}
 use Rattle.plan_run.proofs.Terms.{grows-on, extends-on, kept-values}
@@ -36,8 +36,7 @@ loop-segment-preserved c =
     ∙ ap (λ xs. record { object = number_of s.table_index; offset = offset_over globals fields (expression_of s.offset); items = xs }) cells in
     record {
       grows = grows-on start between new grown c.in_ok-items.ensures.grows;
-      means = subst (λ ps. PiecesMean new ps (map (elements_piece globals fields) (map active_elements_of (take (i + 1) c.deref-segment-items.result.now)))) (sym c.in_ok-push.ensures.items)
-          (subst (PiecesMean new _) (map-two-more (elements_piece globals fields) active_elements_of c.deref-segment-items.result.now i s (omega arith))
+      means = rw (c.in_ok-push.ensures.items, ← map-two-more (elements_piece globals fields) active_elements_of c.deref-segment-items.result.now i s (omega arith))
           (pieces-more before new (extends-on before between new c.in_ok-place.ensures.grows.extends c.in_ok-items.ensures.grows.extends) c.loop-segment.pieces.items _ p _
-          c.loop-segment.invariant.means items.below (one ∙ ap (λ x. elements_piece globals fields (active_elements_of x)) c.segment-item.is)));
+          c.loop-segment.invariant.means items.below (one ∙ ap (λ x. elements_piece globals fields (active_elements_of x)) c.segment-item.is));
     }

@@ -1,5 +1,4 @@
-use Rattle.std.proofs.Common.{◌∙◌, map, ap, sym, subst, arith}
-use Rattle.std.specs.Prelude.{All}
+use Rattle.std.proofs.Common.{◌∙◌, map, ap, arith}
 use Rattle.std.proofs.lemmas.List.{take_all}
 use Rattle.std.proofs.lemmas.List.Elements.{All-push}
 use Rattle.wasm_index.specs.Index.{number_of}
@@ -13,7 +12,7 @@ loop-function-preserved c = record {
   means = λ terms. ap (values_in terms) c.in_ok-push.ensures.items
       ∙ one-more (value_in terms) (λ k. plain.Ref (plain.Func k)) number_of c.loop-function.items.items c.args.functions.now c.loop-function.function-index c.function-item.result _
       c.loop-function-test.true (ap (λ x. plain.Ref (plain.Func (number_of x))) c.function-item.is) (c.loop-function.invariant.means terms);
-  plain = subst (All IsPlain) (sym c.in_ok-push.ensures.items) (All-push IsPlain c.loop-function.items.items _ c.loop-function.invariant.plain tt);
+  plain = rw c.in_ok-push.ensures.items (All-push IsPlain c.loop-function.items.items _ c.loop-function.invariant.plain tt);
 }
 
 pub returns-clause-means : goal.returns-clause-means

@@ -1,7 +1,6 @@
 use Rattle.std.proofs.Common.{◌<◌, ◌∙◌, length, sym, subst, arith}
 use Rattle.std.specs.Prelude.{All}
 use Rattle.std.proofs.lemmas.List.{length-map}
-use Rattle.plan_run.specs.Segments.{WritesPiece}
 use Rattle.plan_run.specs.Tables.{cells_in, element_piece}
 use Rattle.plan_run.specs.Values.{values_in, NamesBelow}
 use Rattle.plan_run.proofs.PieceSteps.{item-written, item-traps}
@@ -17,7 +16,7 @@ returns-then-not-write_cells-clause-writes c = λ terms phase is hold.
     let within = subst (λ x. x.table < length c.args.tables.now.items) (sym c.index-pieces-i.is) (c.requires c.loop-i.i p c.loop-i-test.true) in
     item-traps phase (element_piece terms) c.args.pieces.now c.loop-i.i p p c.loop-i-test.true (sym c.index-pieces-i.is) before after
     (c.loop-i.invariant.writing terms phase is hold) (omega arith) (length c.args.tables.now.items) (omega arith)
-    (subst (WritesPiece (element_piece terms p) before after) c.if-not-write_cells.true (c.write_cells.ensures.writes terms))
+    (rw c.if-not-write_cells.true at (c.write_cells.ensures.writes terms))
 
 pub returns-then-not-write_cells-clause-below : goal.returns-then-not-write_cells-clause-below
 returns-then-not-write_cells-clause-below c = λ k below all.
@@ -37,7 +36,7 @@ loop-i-preserved c =
           let long = length-map c.loop-i.tables.items (λ t. values_in terms t.items) in
           item-written phase (element_piece terms) c.args.pieces.now c.loop-i.i p p c.loop-i-test.true (sym c.index-pieces-i.is) before after
           (c.loop-i.invariant.writing terms phase is hold) (omega arith)
-          (subst (WritesPiece (element_piece terms p) before after) c.if-not-write_cells.false (c.write_cells.ensures.writes terms));
+          (rw c.if-not-write_cells.false at (c.write_cells.ensures.writes terms));
       below = λ k below all.
           c.write_cells.ensures.below k (c.loop-i.invariant.below k below all)
           (subst (λ x. All (NamesBelow k) x.items.items) (sym c.index-pieces-i.is) (all c.loop-i.i c.index-pieces-i.result c.loop-i-test.true));

@@ -1,12 +1,10 @@
-use Rattle.std.proofs.Common.{◌≡◌, ◌∙◌, Some, [], length, drop, ap, sym, subst, arith}
+use Rattle.std.proofs.Common.{◌≡◌, ◌∙◌, Some, [], length, drop, ap, sym, arith}
 use Rattle.std.proofs.lemmas.List.{drop_all}
 use Rattle.replay_spec.specs.Elements.{value_or_null}
 use Rattle.replay_spec.specs.Values.{action, acted, run, only_value}
 use Rattle.wasm_convert.specs.declared.operators.ConstOp.{ConstOp}
 use Rattle.wasm_convert.specs.Constants.{expression_of}
-use Rattle.wasm_convert.specs.Operators.{operator_of}
 use Rattle.plan_run.specs.Fields.{field_count_in}
-use Rattle.plan_run.specs.Nodes.{Acts}
 use Rattle.plan_run.specs.Values.{values_in, terms_of}
 use Rattle.plan_run.proofs.Machine.{Step, runs-more, runs-none, no-value, the-value}
 use Rattle.plan_run.proofs.Terms.{grows-on, kept-values}
@@ -21,10 +19,9 @@ returns-then-not-branch-clause-means c =
     let items = c.ops-op-items.result.now in
     let op : ConstOp = c.op-item.result in
     let kept = kept-values c.args.nodes.now.items c.loop-op.nodes.items c.loop-op.invariant.grows.extends c.args.globals.now c.requires.globals in
-    let acts = subst (λ xs. Acts (action xs fields (operator_of op)) c.loop-op.nodes.items c.step.new.nodes.items c.loop-op.stack.items c.step.new.stack.items c.in_ok-step.field-0) kept
-    c.in_ok-step.ensures.acts in
+    let acts = rw kept at c.in_ok-step.ensures.acts in
     let none = runs-none step items c.loop-op.op-index op d (omega arith) c.op-item.is (values_in (terms_of c.loop-op.nodes.items) c.loop-op.stack.items)
-    (subst (Acts (action globals fields (operator_of op)) c.loop-op.nodes.items c.step.new.nodes.items c.loop-op.stack.items c.step.new.stack.items) c.if-not-branch.true acts) in
+    (rw c.if-not-branch.true at acts) in
     record {
       below = tt;
       is = sym (no-value step (expression_of c.args.expression.now) (sym c.loop-op.invariant.runs ∙ none));
@@ -39,9 +36,8 @@ loop-op-preserved c =
     let items = c.ops-op-items.result.now in
     let op : ConstOp = c.op-item.result in
     let kept = kept-values c.args.nodes.now.items c.loop-op.nodes.items c.loop-op.invariant.grows.extends c.args.globals.now c.requires.globals in
-    let acts = subst (λ xs. Acts (action xs fields (operator_of op)) c.loop-op.nodes.items c.step.new.nodes.items c.loop-op.stack.items c.step.new.stack.items c.in_ok-step.field-0) kept
-    c.in_ok-step.ensures.acts in
-    let done = subst (Acts (action globals fields (operator_of op)) c.loop-op.nodes.items c.step.new.nodes.items c.loop-op.stack.items c.step.new.stack.items) c.if-not-branch.false acts in
+    let acts = rw kept at c.in_ok-step.ensures.acts in
+    let done = rw c.if-not-branch.false at acts in
     record {
       grows = grows-on c.args.nodes.now.items c.loop-op.nodes.items c.step.new.nodes.items c.loop-op.invariant.grows c.in_ok-step.ensures.grows;
       stack = done.0;

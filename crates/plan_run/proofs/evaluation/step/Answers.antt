@@ -1,8 +1,7 @@
-use Rattle.std.proofs.Common.{◌-◌, ◌∙◌, drop, ap, subst, arith}
+use Rattle.std.proofs.Common.{◌-◌, ◌∙◌, drop, ap, arith}
 use Rattle.replay_spec.specs.Values.{Action, action}
 use Rattle.wasm_convert.specs.Operators.{operator_of}
 use Rattle.plan_run.specs.Fields.{field_count_in}
-use Rattle.plan_run.specs.Nodes.{MeansOption}
 use Rattle.plan_run.specs.Values.{values_in, terms_of}
 use Rattle.plan_run.proofs.Machine.{acts-none, acts-some}
 use Rattle.plan_run.proofs.evaluation.step.Goals as goal
@@ -21,7 +20,7 @@ returns-in-None-clause-acts c =
     let few = c.if-len-takes.false in
     acts-none a nodes stack c.split_at.result.1.now takes (c.len-2.result - takes) (c.taken-takes.ensures globals) (omega arith) (omega arith)
     (c.split_at.ensures.back ∙ ap (drop (c.len-2.result - takes)) c.as_slice.ensures.value)
-    (subst (λ o. MeansOption c.make.new.nodes.items o (a.makes (values_in (terms_of nodes) c.split_at.result.1.now))) c.in-None.is (c.in_ok-make.ensures.means fields))
+    (rw c.in-None.is at (c.in_ok-make.ensures.means fields))
 
 pub returns-in_ok-push-in-Some-clause-acts : goal.returns-in_ok-push-in-Some-clause-acts
 returns-in_ok-push-in-Some-clause-acts c =
@@ -39,4 +38,4 @@ returns-in_ok-push-in-Some-clause-acts c =
     (c.split_at.ensures.back ∙ ap (drop (c.len-2.result - takes)) c.as_slice.ensures.value)
     c.make.new.nodes.items c.truncate.new.self.items c.push.new.self.items c.in-Some.value c.in_ok-make.ensures.grows.extends c.requires.stack c.truncate.ensures.items
     c.in_ok-push-in-Some.ensures.items
-    (subst (λ o. MeansOption c.make.new.nodes.items o (a.makes (values_in (terms_of nodes) c.split_at.result.1.now))) c.in-Some.is (c.in_ok-make.ensures.means fields))
+    (rw c.in-Some.is at (c.in_ok-make.ensures.means fields))

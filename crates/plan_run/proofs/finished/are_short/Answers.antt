@@ -1,7 +1,7 @@
-use Rattle.std.proofs.Common.{◌≡◌, ◌∙◌, length, sym, ap, refl, arith, ⊎_elim}
-use Rattle.std.specs.Prelude.{slice_get, ◌≢◌}
+use Rattle.std.proofs.Common.{length, refl, arith}
+use Rattle.std.specs.Prelude.{◌≢◌}
 use Rattle.std.proofs.lemmas.Bool.{cases_eq, false≢true}
-use Rattle.std.proofs.lemmas.Option.{slice_get_read, same_Some}
+use Rattle.std.proofs.lemmas.Option.{slice_get_read}
 use Rattle.plan_run.proofs.Lists.{some-at}
 use Rattle.plan_run.proofs.Tested.{not-short, all-short}
 use Rattle.plan_run.proofs.finished.are_short.Goals as goal
@@ -26,21 +26,9 @@ returns-then-minimum_of-len c = λ values many.
 
 pub loop-i-preserved : goal.loop-i-preserved
 loop-i-preserved c = λ k t image l table_at image_at.
-    let tables = c.args.tables.now in
-    let images = c.args.images.now in
-    let i = c.loop-i.i in
     let own = c.index-images-i.result in
-    ⊎_elim
-    (λ (here : k ≡ i).
-    let minimum = c.minimum_of.ensures t (ap (slice_get tables) (sym here) ∙ table_at) in
-    let own_at = slice_get_read images (length images) i own refl c.loop-i-test.true c.index-images-i.is in
-    let same = ap (λ v. length v.items) (same_Some image own (sym image_at ∙ ap (slice_get images) here ∙ own_at)) in
-    let len = c.len.ensures in
-    let ok = own.ok.0 in
-    let short = c.if-minimum_of-len.false in
-    omega arith)
-    (λ (there : k ≢ i). c.loop-i.invariant k t image (omega arith) table_at image_at)
-    (cases_eq k i)
+    let own_at = slice_get_read c.args.images.now (length c.args.images.now) c.loop-i.i own refl c.loop-i-test.true c.index-images-i.is in
+    grind (arith, cases_eq k c.loop-i.i, c.minimum_of.ensures t, own_at, c.len.ensures, own.ok.0, c.if-minimum_of-len.false, c.loop-i.invariant k t image)
 
 pub returns : goal.returns
 returns c = λ values many.

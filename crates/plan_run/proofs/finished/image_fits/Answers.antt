@@ -1,26 +1,20 @@
-use Rattle.std.proofs.Common.{◌∙◌, Some, sym, subst, arith}
+use Rattle.std.proofs.Common.{arith}
 use Rattle.std.proofs.lemmas.Bool.{false≢true}
-use Rattle.wasm_types.specs.Memories.{minimum_bytes}
 use Rattle.init_plan.specs.Views.{processed_of}
-use Rattle.plan_run.specs.Limits.{page_size_of}
-use Rattle.plan_run.specs.Memories.{ImageIsWithin}
 use Rattle.plan_run.proofs.Tested.{static-on, static-back}
 use Rattle.plan_run.proofs.finished.image_fits.Goals as goal
 
 pub returns-then-not-are_images : goal.returns-then-not-are_images
-returns-then-not-are_images c = (
-  λ e. absurd (false≢true e),
-  λ f. absurd (false≢true (sym c.if-not-are_images.true
-      ∙ c.are_images.ensures.1 (static-back c.args.segments.now (processed_of c.args.translation.now.memory_init) c.requires.segments f.alone))),
-)
+returns-then-not-are_images c =
+    grind (arith, false≢true, c.are_images.ensures, static-back c.args.segments.now (processed_of c.args.translation.now.memory_init) c.requires.segments)
 
 pub returns : goal.returns
 returns c =
     let t = c.args.translation.now in (
       λ e. record {
         defined = omega (arith, c.if-memory-translation.false);
-        within = λ m at. subst (λ xs. ImageIsWithin (page_size_of t) (minimum_bytes m) (Some (c.args.start, xs))) c.bytes_of.ensures (c.fits_memory.ensures.0 e m at);
+        within = λ m at. rw c.bytes_of.ensures at (c.fits_memory.ensures.0 e m at);
         alone = static-on c.args.segments.now (processed_of t.memory_init) c.requires.segments (c.are_images.ensures.0 c.if-not-are_images.false);
       },
-      λ f. c.fits_memory.ensures.1 (λ m at. subst (λ xs. ImageIsWithin (page_size_of t) (minimum_bytes m) (Some (c.args.start, xs))) (sym c.bytes_of.ensures) (f.within m at)),
+      λ f. c.fits_memory.ensures.1 (λ m at. rw c.bytes_of.ensures (f.within m at)),
     )

@@ -1,10 +1,8 @@
-use Rattle.std.proofs.Common.{◌≡◌, ◌<◌, ◌∙◌, None, get_or, map, ap, sym, subst, refl, arith}
-use Rattle.std.specs.Prelude.{slice_get}
-use Rattle.std.specs.Option.{option_map, IfSome}
+use Rattle.std.proofs.Common.{◌≡◌, ◌∙◌, None, get_or, map, ap, sym, refl, arith}
+use Rattle.std.specs.Option.{option_map}
 use Rattle.std.proofs.lemmas.Bool.{false≢true}
 use Rattle.std.proofs.lemmas.List.{length-map}
 use Rattle.std.proofs.lemmas.Option.{slice_get_within, get_or_from_slice_get, slice_get-get_or}
-use Rattle.wasm_index.specs.Index.{number_of}
 use Rattle.init_plan.specs.Views.{images_of}
 use Rattle.plan_run.specs.Finished.{ImageFits}
 use Rattle.plan_run.proofs.LeftSteps.{view_image}
@@ -18,12 +16,9 @@ returns-then-not-is_none_or_fits c =
     let i = c.loop-i.i in
     let is : images_of t.«module».memory_initialization ≡ map (option_map view_image) images =
     ap images_of c.in-Static.is ∙ ap (map (option_map view_image)) (sym c.as_slice-images.ensures) in
-    let r = c.index-images-i.result in
-    let read : get_or images i None ≡ r = get_or_from_slice_get images i (get_or images i r) None (slice_get-get_or images i r (omega arith)) ∙ sym c.index-images-i.is in (
+    let read : get_or images i None ≡ c.index-images-i.result = grind (arith, get_or_from_slice_get, slice_get-get_or) in (
       λ e. absurd (false≢true e),
-      λ all. absurd (false≢true (sym c.if-not-is_none_or_fits.true
-          ∙ c.is_none_or_fits.ensures.1 (subst (λ o. IfSome o (λ image. ImageFits t i (image.0, number_of image.1))) read
-          (image-from (ImageFits t i) images i (λ image at. all i image (ap (λ xs. slice_get xs i) is ∙ at)))))),
+      λ all. absurd (false≢true (sym c.if-not-is_none_or_fits.true ∙ c.is_none_or_fits.ensures.1 (rw read at (image-from (ImageFits t i) images i (λ image at. all i image (rw is at)))))),
     )
 
 pub returns : goal.returns
@@ -33,11 +28,8 @@ returns c =
     let is : images_of t.«module».memory_initialization ≡ map (option_map view_image) images =
     ap images_of c.in-Static.is ∙ ap (map (option_map view_image)) (sym c.as_slice-images.ensures) in (
       λ e i image at.
-          let here = sym (ap (λ xs. slice_get xs i) is) ∙ at in
+          let here = rw is at at in
           let within = slice_get_within (map (option_map view_image) images) i _ here in
-          let count = length-map images (option_map view_image) in
-          let end = c.loop-i-test.false in
-          let low : i < c.loop-i.i = omega arith in
-          image-of (ImageFits t i) images i image here (c.loop-i.invariant i low),
+          image-of (ImageFits t i) images i image here (c.loop-i.invariant i (omega (arith, within, length-map images (option_map view_image), c.loop-i-test.false))),
       λ all. refl,
     )

@@ -1,20 +1,15 @@
-use Rattle.std.proofs.Common.{◌≡◌, ◌<◌, ◌⊎◌, ◌∙◌, map, length, ap, sym, subst, arith}
-use Rattle.std.specs.Prelude.{All}
+use Rattle.std.proofs.Common.{◌∙◌, map, length, ap, sym, subst, arith}
 use Rattle.std.proofs.lemmas.Bool.{false≢true}
-use Rattle.wasm_index.specs.Index.{number_of}
 use Rattle.init_plan.specs.Views.{IsProcessed, processed_of, planned_segment_of}
 use Rattle.plan_run.proofs.Tested.{below-on, below-back}
 use Rattle.plan_run.proofs.finished.memories_are_finished.Goals as goal
 
 pub returns-then-not-segments_are_within : goal.returns-then-not-segments_are_within
 returns-then-not-segments_are_within c =
-    let t = c.args.translation.now in
-    let segments = c.deref.result.now in
     let is = ap processed_of c.in-Processed.is ∙ ap (map planned_segment_of) (sym c.deref.ensures.value) in (
       λ e. absurd (false≢true e),
       λ f. absurd (false≢true (sym c.if-not-segments_are_within.true
-          ∙ c.segments_are_within.ensures.1 (subst (λ n. All (λ s. number_of s.0 < n) segments) (ap length (sym c.as_slice-memories.ensures))
-          (below-back segments (processed_of t.memory_init) is (length t.«module».memories) f.segments)))),
+          ∙ c.segments_are_within.ensures.1 (below-back c.deref.result.now (processed_of c.args.translation.now.memory_init) is _ (rw c.as_slice-memories.ensures f.segments)))),
     )
 
 pub returns : goal.returns
@@ -29,11 +24,9 @@ returns c =
       λ e. record {
         processed = subst IsProcessed (sym c.in-Processed.is) tt;
         imports = omega arith;
-        page_sizes = subst (All (λ memory. (memory.page_size_log2 ≡ 0) ⊎ (memory.page_size_log2 ≡ 16))) c.as_slice-memories.ensures
-            (c.have_page_sizes.ensures.0 c.if-not-have_page_sizes.false);
+        page_sizes = rw c.as_slice-memories.ensures at (c.have_page_sizes.ensures.0 c.if-not-have_page_sizes.false);
         page = omega arith;
-        segments = subst (λ n. All (λ s. s.memory < n) (processed_of t.memory_init)) count
-            (below-on segments (processed_of t.memory_init) is (length c.as_slice-memories.result.now) (c.segments_are_within.ensures.0 c.if-not-segments_are_within.false));
+        segments = rw count at (below-on segments (processed_of t.memory_init) is (length c.as_slice-memories.result.now) (c.segments_are_within.ensures.0 c.if-not-segments_are_within.false));
         images = c.images_fit.ensures.0 e;
       },
       λ f. c.images_fit.ensures.1 f.images,

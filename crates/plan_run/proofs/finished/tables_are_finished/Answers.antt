@@ -1,10 +1,7 @@
-use Rattle.std.proofs.Common.{◌≡◌, ◌<◌, ◌≤◌, ◌∙◌, length, drop, ap, sym, subst, arith}
-use Rattle.std.specs.Prelude.{All}
+use Rattle.std.proofs.Common.{◌≡◌, ◌<◌, ◌∙◌, length, drop, ap, arith}
 use Rattle.std.proofs.lemmas.List.Elements.{All-map}
-use Rattle.wasm_index.specs.Index.{number_of}
 use Rattle.replay_spec.specs.Elements.{ActiveElements}
-use Rattle.table_images.specs.Steps.{images_of}
-use Rattle.table_images.specs.Views.{active_elements_of, planned_tables_of}
+use Rattle.table_images.specs.Views.{active_elements_of}
 use Rattle.init_plan.specs.Tables.{own_tables}
 use Rattle.form_lists.proofs.AllSections.{All-from_map}
 use Rattle.plan_run.proofs.finished.tables_are_finished.Goals as goal
@@ -26,14 +23,9 @@ returns c =
       λ e. record {
         imports = omega arith;
         counted = record { values = omega arith; images = omega arith };
-        images = subst (λ xs. All (λ table. length table.image ≤ table.minimum) (planned_tables_of (own_tables t) values (images_of xs))) c.as_slice-images.ensures
-            (subst (λ xs. All (λ table. length table.image ≤ table.minimum) (planned_tables_of xs values (images_of c.as_slice-images.result.now))) own
-            ((c.are_short.ensures values (omega arith)).0 c.if-not-are_short.false));
-        elements = All-map (λ (s : ActiveElements). s.table < length t.«module».tables) active_elements_of segments
-            (subst (λ k. All (λ s. number_of s.table_index < k) segments) count
-            (subst (All (λ s. number_of s.table_index < length c.as_slice-tables.result.now)) c.deref.ensures.value (c.elements_are_within.ensures.0 e)));
+        images = rw (c.as_slice-images.ensures, own) at ((c.are_short.ensures values (omega arith)).0 c.if-not-are_short.false);
+        elements = All-map (λ (s : ActiveElements). s.table < length t.«module».tables) active_elements_of segments (rw (count, c.deref.ensures.value) at (c.elements_are_within.ensures.0 e));
       },
-      λ f. c.elements_are_within.ensures.1 (subst (All (λ s. number_of s.table_index < length c.as_slice-tables.result.now)) (sym c.deref.ensures.value)
-          (subst (λ k. All (λ s. number_of s.table_index < k) segments) (sym count)
-          (All-from_map (λ (s : ActiveElements). s.table < length t.«module».tables) active_elements_of segments f.elements))),
+      λ f. c.elements_are_within.ensures.1
+          (rw (count, c.deref.ensures.value) (All-from_map (λ (s : ActiveElements). s.table < length t.«module».tables) active_elements_of segments f.elements)),
     )

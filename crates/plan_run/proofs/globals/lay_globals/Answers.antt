@@ -1,5 +1,4 @@
-use Rattle.std.proofs.Common.{◌≡◌, ◌-◌, ◌++◌, ◌∙◌, length, map, take, replicate, ap, sym, subst, refl, arith}
-use Rattle.std.specs.Prelude.{All}
+use Rattle.std.proofs.Common.{◌≡◌, ◌-◌, ◌++◌, ◌∙◌, length, map, take, replicate, ap, subst, refl, arith}
 use Rattle.std.proofs.lemmas.List.{length-map}
 use Rattle.std.proofs.lemmas.List.Elements.{All-append, All-take, All-replicate}
 use Rattle.replay_spec.specs.Globals.{simple_written, kept_written}
@@ -18,7 +17,7 @@ write_kept-requires-clause-below c =
     let n = length c.args.nodes.now.items in
     let imported = c.args.imported.items in
     c.write_simple.ensures.below n
-    (subst (All (NamesBelow n)) (sym c.in_ok-resize.ensures.items)
+    (rw c.in_ok-resize.ensures.items
     (All-append (NamesBelow n) (take c.len.result imported) (replicate (c.len.result - c.args.imported.len) value.Null)
     (All-take (NamesBelow n) c.len.result imported (all-names-more 0 n imported (omega arith) c.requires.plain))
     (All-replicate (NamesBelow n) (c.len.result - c.args.imported.len) value.Null tt)))

@@ -1,12 +1,9 @@
-use Rattle.std.proofs.Common.{◌+◌, ◌∙◌, length, map, set, drop, ap, subst}
+use Rattle.std.proofs.Common.{◌+◌, ◌∙◌, length, map, set, drop, ap}
 use Rattle.std.proofs.Math.ListN.{length-set}
 use Rattle.std.proofs.lemmas.List.Elements.{All-set}
-use Rattle.wasm_convert.specs.Constants.{expression_of}
-use Rattle.replay_spec.specs.Elements.{cell_of}
 use Rattle.replay_spec.specs.Globals.{kept_written}
 use Rattle.init_plan.specs.Held.{kept_global_of}
 use Rattle.plan_run.specs.Fields.{field_count_in}
-use Rattle.plan_run.specs.Nodes.{Means}
 use Rattle.plan_run.specs.Values.{values_in, terms_of, NamesBelow}
 use Rattle.plan_run.proofs.Terms.{grows-on, all-names-more, longer}
 use Rattle.plan_run.proofs.Written.{kept-step}
@@ -23,7 +20,7 @@ loop-index-preserved c =
     let old = c.loop-index.globals.items in
     let v = c.in_ok-value.value in
     let extends = c.in_ok-value.ensures.grows.extends in
-    let means = subst (λ xs. Means new v (cell_of (values_in (terms_of before) xs) fields (expression_of g.1))) c.as_slice.ensures.value c.in_ok-value.ensures.means in
+    let means = rw c.as_slice.ensures.value at c.in_ok-value.ensures.means in
     record {
       grows = grows-on c.args.nodes.now.items before new c.loop-index.invariant.grows c.in_ok-value.ensures.grows;
       below = All-set (NamesBelow (length new)) old (c.args.imports + c.index.result) v means.below

@@ -16,14 +16,14 @@ loop-index-preserved c =
     let values = c.args.values.now in
     let i = c.loop-index.index-index in
     let old = c.loop-index.globals.items in
-    let v = c.simple_value.result in
+    let v = c.from_constant.result in
     record {
       count = length-set old (c.args.imports + c.index.result) v ∙ c.loop-index.invariant.count;
       written = λ terms.
           ap (λ k. simple_written c.args.imports (values_in terms (set old (c.args.imports + k) v)) (map simple_global_of (drop (i + 1) values))) (c.index.ensures.number ∙ ap (λ g. number_of g.0) c.loop-index-item.is)
           ∙ simple-step terms c.args.imports values i c.loop-index-item.result old v c.loop-index-test.true
-          (c.simple_value.ensures.means terms ∙ ap (λ g. plain_value_of g.1) c.loop-index-item.is) ∙ c.loop-index.invariant.written terms;
-      below = λ k all. All-set (NamesBelow k) old (c.args.imports + c.index.result) v (names-more 0 k v (omega arith) c.simple_value.ensures.plain) (c.loop-index.invariant.below k all);
+          (c.from_constant.ensures.means terms ∙ ap (λ g. plain_value_of g.1) c.loop-index-item.is) ∙ c.loop-index.invariant.written terms;
+      below = λ k all. All-set (NamesBelow k) old (c.args.imports + c.index.result) v (names-more 0 k v (omega arith) c.from_constant.ensures.plain) (c.loop-index.invariant.below k all);
     }
 
 pub returns-clause-written : goal.returns-clause-written

@@ -1,5 +1,4 @@
-use Rattle.std.proofs.Common.{◌<◌, ◌^◌, drop, sym, subst, arith}
-use Rattle.std.specs.Prelude.{All}
+use Rattle.std.proofs.Common.{◌<◌, ◌^◌, arith}
 use Rattle.wasm_types.specs.Memories.{minimum_bytes}
 use Rattle.plan_run.specs.Limits.{page_size_of}
 use Rattle.plan_run.proofs.Given.{within-of}
@@ -16,7 +15,7 @@ first_memory-requires-clause-small c =
     let from = c.loop-i.auto.i in
     let upto = c.loop-i-test.true in
     last-at (λ m. minimum_bytes m < 2 ^ 64) c.as_slice-types.result.now n c.loop-i.i _ (omega arith) (omega arith)
-    (subst (λ xs. All (λ m. minimum_bytes m < 2 ^ 64) (drop n xs)) (sym c.as_slice-types.ensures) c.requires.small)
+    (rw c.as_slice-types.ensures c.requires.small)
 
 pub first_memory-requires-clause-within : goal.first_memory-requires-clause-within
 first_memory-requires-clause-within c =

@@ -1,6 +1,6 @@
-use Rattle.std.proofs.Common.{◌≤◌, ◌/◌, ◌∙◌, length, ap, sym, subst, refl, arith}
+use Rattle.std.proofs.Common.{◌/◌, ◌∙◌, length, ap, sym, refl, arith}
 use Rattle.std.proofs.lemmas.Option.{slice_get_read, same_Some}
-use Rattle.paged_memory.specs.Memory.{count_lent, reached}
+use Rattle.paged_memory.specs.Memory.{reached}
 use Rattle.plan_run.specs.Memories.{data_piece}
 use Rattle.plan_run.proofs.PieceSteps.{writes-true, lend-set, not-lent-less}
 use Rattle.plan_run.proofs.segments.write_piece.Goals as goal
@@ -23,4 +23,4 @@ returns-clause-lent c =
     let memory = c.index_mut.result.now in
     let two = slice_get_read memories (length memories) piece.memory memory refl c.requires c.index_mut.ensures.value in
     lend-set memories piece.memory memory c.write.new.self two
-    (subst (λ xs. count_lent xs ≤ count_lent memory.lent) (sym c.in_ok-write.ensures.lent) (not-lent-less (piece.place / memory.page) (reached memory.page piece.place piece.bytes.now) memory.lent))
+    (rw c.in_ok-write.ensures.lent (not-lent-less (piece.place / memory.page) (reached memory.page piece.place piece.bytes.now) memory.lent))

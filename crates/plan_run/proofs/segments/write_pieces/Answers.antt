@@ -1,8 +1,7 @@
-use Rattle.std.proofs.Common.{[], length, get_or, ap, refl, subst, arith}
+use Rattle.std.proofs.Common.{[], length, get_or, ap, refl, arith}
 use Rattle.std.proofs.lemmas.List.{length-map}
 use Rattle.plan_run.specs.declared.segments.DataPiece.{DataPiece}
 use Rattle.plan_run.specs.Memories.{bytes_in, data_piece}
-use Rattle.plan_run.specs.Segments.{WritesPiece}
 use Rattle.plan_run.proofs.PieceSteps.{item-written, item-traps, lend-on}
 use Rattle.plan_run.proofs.segments.write_pieces.Goals as goal
 
@@ -19,7 +18,7 @@ returns-then-not-branch-clause-writes c = λ phase is hold.
     let within = c.requires c.loop-i.i none c.loop-i-test.true in
     item-traps phase data_piece c.args.pieces.now c.loop-i.i none p c.loop-i-test.true refl before after (c.loop-i.invariant.writing phase is hold) (omega arith)
     (length c.args.memories.now.items) (omega arith)
-    (subst (WritesPiece (data_piece p) before after) c.if-not-branch.true c.in_ok-write_piece.ensures.writes)
+    (rw c.if-not-branch.true at c.in_ok-write_piece.ensures.writes)
 
 pub returns-then-not-branch-clause-lent : goal.returns-then-not-branch-clause-lent
 returns-then-not-branch-clause-lent c =
@@ -36,7 +35,7 @@ loop-i-preserved c =
     record {
       writing = λ phase is hold.
           item-written phase data_piece c.args.pieces.now c.loop-i.i none p c.loop-i-test.true refl before after (c.loop-i.invariant.writing phase is hold) (omega arith)
-          (subst (WritesPiece (data_piece p) before after) c.if-not-branch.false c.in_ok-write_piece.ensures.writes);
+          (rw c.if-not-branch.false at c.in_ok-write_piece.ensures.writes);
       lent = lend-on c.args.memories.now.items c.loop-i.memories.items c.write_piece.new.memories.items c.loop-i.invariant.lent c.in_ok-write_piece.ensures.lent;
       still = λ none. absurd (let e = ap length none in omega arith);
     }

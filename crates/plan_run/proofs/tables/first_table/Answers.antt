@@ -1,15 +1,11 @@
-use Rattle.std.proofs.Common.{◌+◌, ◌∙◌, length, get_or, replicate, ap, sym, subst, refl, arith}
-use Rattle.std.specs.Prelude.{slice_get}
+use Rattle.std.proofs.Common.{◌+◌, ◌∙◌, length, ap, refl, arith}
 use Rattle.std.proofs.lemmas.List.{length-drop}
 use Rattle.std.proofs.lemmas.Option.{slice_get_read}
-use Rattle.wasm_module.specs.declared.table_initialization.TableInitialValue.{TableInitialValue}
 use Rattle.wasm_convert.specs.Constants.{expression_of}
 use Rattle.replay_spec.specs.Elements.{cell_of}
-use Rattle.replay_spec.specs.Tables.{PlannedTable}
-use Rattle.table_images.specs.Views.{image_of, initial_of}
+use Rattle.table_images.specs.Views.{image_of}
 use Rattle.plan_run.specs.Fields.{field_count_in}
-use Rattle.plan_run.specs.Nodes.{AllMean}
-use Rattle.plan_run.specs.Tables.{first_cells, image_cells}
+use Rattle.plan_run.specs.Tables.{image_cells}
 use Rattle.plan_run.specs.Values.{values_in, terms_of}
 use Rattle.plan_run.proofs.CellSteps.{planned-is, image-short}
 use Rattle.plan_run.proofs.Lists.{some-at}
@@ -28,11 +24,9 @@ image_cells-requires c =
     let value = c.index-as_slice-number.result in
     let image = c.index-as_slice-number-in-Null.result in
     let found = some-at t.«module».tables n (omega arith) in
-    let minimum = c.minimum_of-minimum.ensures found.0 (ap (λ xs. slice_get xs n) c.as_slice-tables.ensures ∙ found.1) in
-    let value_at = slice_get_read t.table_initialization.initial_values (length t.table_initialization.initial_values) c.args.number value refl (omega arith)
-    (c.index-as_slice-number.is ∙ ap (λ xs. get_or xs c.args.number value) c.as_slice.ensures) in
-    let image_at = slice_get_read t.«module».table_initialization (length t.«module».table_initialization) c.args.number image refl (omega arith)
-    (c.index-as_slice-number-in-Null.is ∙ ap (λ xs. get_or xs c.args.number image) c.as_slice-in-Null.ensures) in
+    let minimum = c.minimum_of-minimum.ensures found.0 (rw c.as_slice-tables.ensures found.1) in
+    let value_at = slice_get_read t.table_initialization.initial_values _ c.args.number value refl (omega arith) (rw c.as_slice.ensures at c.index-as_slice-number.is) in
+    let image_at = slice_get_read t.«module».table_initialization _ c.args.number image refl (omega arith) (rw c.as_slice-in-Null.ensures at c.index-as_slice-number-in-Null.is) in
     let short = image-short t c.args.number found.0 value image found.1 value_at image_at c.requires.images in
     let same = ap length c.deref.ensures.value in
     omega arith
@@ -52,14 +46,10 @@ returns-in_ok-cells-in-Null-clause-means c = λ planned at.
     let image = c.index-as_slice-number-in-Null.result in
     let cells = c.in_ok-cells-in-Null.cells.items in
     let found = some-at t.«module».tables n (omega arith) in
-    let minimum = c.minimum_of-minimum.ensures found.0 (ap (λ xs. slice_get xs n) c.as_slice-tables.ensures ∙ found.1) in
-    let value_at = slice_get_read t.table_initialization.initial_values (length t.table_initialization.initial_values) c.args.number value refl (omega arith)
-    (c.index-as_slice-number.is ∙ ap (λ xs. get_or xs c.args.number value) c.as_slice.ensures) in
-    let image_at = slice_get_read t.«module».table_initialization (length t.«module».table_initialization) c.args.number image refl (omega arith)
-    (c.index-as_slice-number-in-Null.is ∙ ap (λ xs. get_or xs c.args.number image) c.as_slice-in-Null.ensures) in
-    let is = planned-is t c.args.number found.0 value image found.1 value_at image_at planned at
-    ∙ ap (λ (v : TableInitialValue). record { minimum = found.0.limits.min; initial = initial_of v; image = image_of image.items }) c.in-Null.is in
-    subst (λ (p : PlannedTable). AllMean nodes cells (first_cells globals fields p)) (sym is) (record {
+    let minimum = c.minimum_of-minimum.ensures found.0 (rw c.as_slice-tables.ensures found.1) in
+    let value_at = slice_get_read t.table_initialization.initial_values _ c.args.number value refl (omega arith) (rw c.as_slice.ensures at c.index-as_slice-number.is) in
+    let image_at = slice_get_read t.«module».table_initialization _ c.args.number image refl (omega arith) (rw c.as_slice-in-Null.ensures at c.index-as_slice-number-in-Null.is) in
+    rw (planned-is t c.args.number found.0 value image found.1 value_at image_at planned at, c.in-Null.is) (record {
       below = all-names-more 0 (length nodes) cells (omega arith) c.in_ok-cells-in-Null.ensures.plain;
       are = c.in_ok-cells-in-Null.ensures.means (terms_of nodes) ∙ ap (λ xs. image_cells c.minimum_of-minimum.result (image_of xs)) c.deref.ensures.value
           ∙ ap (λ k. image_cells k (image_of image.items)) minimum;
@@ -81,12 +71,7 @@ returns-in_ok-cells-in-Expr-clause-means c = λ planned at.
     let cells = c.in_ok-cells-in-Expr.cells.items in
     let found = some-at t.«module».tables n (omega arith) in
     let image_found = some-at t.«module».table_initialization c.args.number (omega arith) in
-    let minimum = c.minimum_of-minimum.ensures found.0 (ap (λ xs. slice_get xs n) c.as_slice-tables.ensures ∙ found.1) in
-    let value_at = slice_get_read t.table_initialization.initial_values (length t.table_initialization.initial_values) c.args.number value refl (omega arith)
-    (c.index-as_slice-number.is ∙ ap (λ xs. get_or xs c.args.number value) c.as_slice.ensures) in
-    let is = planned-is t c.args.number found.0 value image_found.0 found.1 value_at image_found.1 planned at
-    ∙ ap (λ (v : TableInitialValue). record { minimum = found.0.limits.min; initial = initial_of v; image = image_of image_found.0.items }) c.in-Expr.is in
-    subst (λ (p : PlannedTable). AllMean new cells (first_cells globals fields p)) (sym is)
-    (subst (λ vs. AllMean new vs (replicate found.0.limits.min (cell_of globals fields (expression_of c.in-Expr.initial)))) (sym c.in_ok-cells-in-Expr.ensures)
-    (subst (λ k. AllMean new (replicate c.minimum_of-minimum.result c.in_ok-value-in-Expr.value) (replicate k (cell_of globals fields (expression_of c.in-Expr.initial)))) minimum
-    (equal-mean new c.in_ok-value-in-Expr.value (cell_of globals fields (expression_of c.in-Expr.initial)) c.minimum_of-minimum.result c.in_ok-value-in-Expr.ensures.means)))
+    let minimum = c.minimum_of-minimum.ensures found.0 (rw c.as_slice-tables.ensures found.1) in
+    let value_at = slice_get_read t.table_initialization.initial_values _ c.args.number value refl (omega arith) (rw c.as_slice.ensures at c.index-as_slice-number.is) in
+    rw (planned-is t c.args.number found.0 value image_found.0 found.1 value_at image_found.1 planned at, c.in-Expr.is, c.in_ok-cells-in-Expr.ensures, ← minimum)
+    (equal-mean new c.in_ok-value-in-Expr.value (cell_of globals fields (expression_of c.in-Expr.initial)) c.minimum_of-minimum.result c.in_ok-value-in-Expr.ensures.means)

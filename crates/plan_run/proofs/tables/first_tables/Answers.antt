@@ -15,7 +15,7 @@ use Rattle.plan_run.proofs.tables.first_tables.Goals as goal
 pub loop-number-init : goal.loop-number-init
 loop-number-init c = record {
   grows = grows-same c.args.nodes.now.items c.requires.ordered;
-  means = subst (TablesMean c.args.nodes.now.items c.args.imported.items) (sym (append-nil (map (λ table. map imported_value table.items) c.args.imported.items)))
+  means = rw (append-nil (map (λ table. map imported_value table.items) c.args.imported.items))
       (plain-tables c.args.nodes.now.items c.args.imported.items c.requires.plain);
 }
 
@@ -54,13 +54,10 @@ loop-number-preserved c =
 pub returns-clause-means : goal.returns-clause-means
 returns-clause-means c =
     let t = c.args.translation.now in
-    let plan = plan_of_tables t in
-    let fields = field_count_in t c.args.types.now in
-    let globals = values_in (terms_of c.args.nodes.now.items) c.args.globals.now in
-    let imported = map (λ table. map imported_value table.items) c.args.imported.items in
-    let own = length-drop t.«module».num_imported_tables t.«module».tables in
-    let planned = tables-planned t c.requires.counted in
-    let many = c.len.ensures.length in
-    let end = c.loop-number-test.false in
-    subst (λ xs. TablesMean c.loop-number.nodes.items c.loop-number.tables.items (imported ++ map (first_cells globals fields) xs))
-    (take_all c.loop-number.number plan.tables (omega arith)) c.loop-number.invariant.means
+    rw (take_all c.loop-number.number (plan_of_tables t).tables (omega (
+      arith,
+      length-drop t.«module».num_imported_tables t.«module».tables,
+      tables-planned t c.requires.counted,
+      c.len.ensures.length,
+      c.loop-number-test.false,
+    ))) at c.loop-number.invariant.means

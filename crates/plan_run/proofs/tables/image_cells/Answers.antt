@@ -1,5 +1,4 @@
-use Rattle.std.proofs.Common.{◌≡◌, ◌∙◌, None, map, take, ap, sym, subst, refl, arith}
-use Rattle.std.specs.Prelude.{All}
+use Rattle.std.proofs.Common.{◌≡◌, ◌∙◌, None, map, take, ap, refl, arith}
 use Rattle.std.proofs.lemmas.List.{take_all, length-map}
 use Rattle.std.proofs.lemmas.List.Elements.{All-push}
 use Rattle.replay_spec.specs.Tables.{reference_of}
@@ -15,7 +14,7 @@ loop-function-preserved c = record {
   means = λ terms. ap (values_in terms) c.in_ok-push.ensures.items
       ∙ one-more (value_in terms) reference_of cell_of c.loop-function.cells.items c.args.image.now c.loop-function.function-index c.function-item.result c.cell.result
       c.loop-function-test.true (c.cell.ensures.means terms ∙ ap (λ f. reference_of (cell_of f)) c.function-item.is) (c.loop-function.invariant.means terms);
-  plain = subst (All IsPlain) (sym c.in_ok-push.ensures.items) (All-push IsPlain c.loop-function.cells.items c.cell.result c.loop-function.invariant.plain c.cell.ensures.plain);
+  plain = rw c.in_ok-push.ensures.items (All-push IsPlain c.loop-function.cells.items c.cell.result c.loop-function.invariant.plain c.cell.ensures.plain);
 }
 
 pub returns-clause-means : goal.returns-clause-means

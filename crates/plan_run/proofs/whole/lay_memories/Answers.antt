@@ -1,5 +1,4 @@
-use Rattle.std.proofs.Common.{◌<◌, ◌∙◌, inl, length, map, ap, sym, subst}
-use Rattle.std.specs.Prelude.{All}
+use Rattle.std.proofs.Common.{◌∙◌, inl, length, map, ap, sym}
 use Rattle.replay_spec.specs.Values.{offset_over}
 use Rattle.init_plan.specs.Views.{memory_plan_of}
 use Rattle.plan_run.specs.Fields.{field_count_in}
@@ -26,7 +25,7 @@ write_pieces-requires c =
     let many = memory-count t c.args.way plan (page_size_of t) t.«module».num_imported_memories c.args.imported.items c.in_ok-memories.memories.items
     c.requires.finished.memories.imports c.requires.imports c.in_ok-memories.ensures in
     data-below n (left_pieces c.args.way place_of plan plan.segments) c.deref.result.now
-    (left-below place_of plan c.args.way n plan.segments (subst (λ k. All (λ s. s.memory < k) plan.segments) (sym many) c.requires.finished.memories.segments))
+    (left-below place_of plan c.args.way n plan.segments (rw many c.requires.finished.memories.segments))
     (ap (map data_piece) c.deref.ensures.value ∙ c.in_ok-pieces.ensures.pieces)
 
 pub returns-clause-laid : goal.returns-clause-laid
