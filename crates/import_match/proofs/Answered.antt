@@ -40,11 +40,9 @@ found-mismatch i want o x h = grind arith
 
 -- only a missing definition or one that does not match is told of an import
 abbrev pub IsOfImport : LinkError → Type 0
-IsOfImport error.Duplicate = ⊥
-IsOfImport error.NotHeld = ⊥
 IsOfImport (error.Missing i) = Unit {0}
 IsOfImport (error.Mismatch i x) = Unit {0}
-IsOfImport error.OutOfMemory = ⊥
+IsOfImport _ = ⊥
 
 pub error-of_import : (i : ℕ) (want : EntityType) (o : Option (ℕ × EntityType)) (e : LinkError) → answer_at i want o ≡ Err e → IsOfImport e
 error-of_import i want o e is = grind arith

@@ -1,14 +1,9 @@
 pub mod Answered
-pub mod Appending
 pub mod Engine
-pub mod Exporting
 pub mod Finding
 pub mod Keeping
 pub mod Named
-pub mod Numbered
 pub mod Linked
 pub mod Listing
 pub mod Matched
-pub mod FunctionTypes
 pub mod ModuleTypes
-pub mod FoundOnce

@@ -1,13 +1,13 @@
--- What a module exports and imports, item by item.
-use Rattle.std.proofs.Common.{◌≡◌, ℕ, List, length, slice_get, All, Option, Some, None, refl, sym, ap, ◌∙◌, eq-eqb}
-use Rattle.std.specs.Prelude.{IsSome, is_some, option_and_then}
-use Rattle.std.specs.List.{IsDistinct}
+-- What a module exports and imports, item by item, and exports that are planned one by one.
+use Rattle.std.proofs.Common.{◌≡◌, ℕ, List, length, slice_get, All, Option, Some, None, refl, sym, ap, ◌∙◌, eq-eqb, ◌<◌, [], ◌∷◌, ◌++◌, map, get_or, subst, arith, length-append}
+use Rattle.std.specs.Prelude.{IsSome, is_some, option_and_then, Any}
+use Rattle.std.specs.List.{IsDistinct, filter_map, cons_option}
 use Rattle.std.specs.Borrow.{Bor}
 use Rattle.std.specs.Map.{keys_of}
 use Rattle.std.specs.Option.{option_map}
 use Rattle.std.proofs.lemmas.Option.{none-some, same_Some, slice_get-map}
-use Rattle.std.proofs.lemmas.List.{length-map}
-use Rattle.std.proofs.lemmas.List.Elements.{All-weaker}
+use Rattle.std.proofs.lemmas.List.{length-map, append_assoc, get_or_at, map_push}
+use Rattle.std.proofs.lemmas.List.Elements.{All-weaker, All-head, All-tail}
 use Rattle.entity_map.specs.Pool.{HasEachOnce, atom_number}
 use Rattle.entity_map.specs.declared.pool.Atom.{Atom}
 use Rattle.entity_map.specs.contracts.pool.AtomPartialEq.TheImpl as atoms
@@ -22,9 +22,11 @@ use Rattle.wasm_module.specs.Imports.{text_of, import_of, imports_of, lent_impor
 use Rattle.type_registry.specs.Keys.{key_number}
 use Rattle.type_registry.specs.Registry.{RegistryState, registry_of}
 use Rattle.type_registry.specs.declared.key.ModuleKey.{ModuleKey}
-use Rattle.import_match.specs.Definitions.{Definition, TwoNames, AreOnce}
-use Rattle.import_match.specs.Linking.{engine_definition, export_of, exports_of, wants_of, exported, IsExportResolved, wanted}
+use Rattle.import_match.specs.Definitions.{Definition, TwoNames, AreOnce, names_of}
+use Rattle.import_match.specs.Linking.{engine_definition, export_of, exports_of, wants_of, exported, IsExportResolved, wanted, engine_definitions, engine_type}
 use Rattle.import_match.proofs.Listing.{value_of, slice_get-filter_map, length-filter_map, slice_get-from_map, one-place}
+use Rattle.import_match.specs.declared.names.Names.{Names}
+use Rattle.import_match.specs.Kept.{definition_of}
 
 -- ---- exports
 
@@ -46,9 +48,8 @@ export-text m from x d is = by (text_of m x.0) (entity_type m x.1) is
   where
     by : (o : Option (List ℕ)) (t : Option EntityType)
         → option_and_then (λ (own : List ℕ). option_map (λ (u : EntityType). ((from, own), u)) t) o ≡ Some d → o ≡ Some d.0.1
-    by None t h = absurd (none-some d h)
-    by (Some own) None h = absurd (none-some d h)
     by (Some own) (Some u) h = ap (λ (c : Definition). Some c.0.1) (same_Some ((from, own), u) d h)
+    by _ _ h = absurd (none-some d h)
 
 -- an export at a place
 pub record ExportAt (m : ModuleRecord) (from : List ℕ) (i : ℕ) (d : Definition) : Type 0 where
@@ -92,11 +93,10 @@ pub import-some : (m : ModuleRecord) (x : Initializer) → IsResolved m x → Is
 import-some m (initializer.Import name field index) h =
     let from = value_of (text_of m name) h.0 in
     let own = value_of (text_of m field) h.1 in
-    let t = value_of (entity_type m index) h.2 in
     ap is_some (
     ap (option_and_then (λ (f : List ℕ). option_and_then (λ (o : List ℕ). option_map (λ (u : EntityType). (f, o, u)) (entity_type m index)) (text_of m field))) from.1
     ∙ ap (option_and_then (λ (o : List ℕ). option_map (λ (u : EntityType). (from.0, o, u)) (entity_type m index))) own.1
-    ∙ ap (option_map (λ (u : EntityType). (from.0, own.0, u))) t.1
+    ∙ ap (option_map (λ (u : EntityType). (from.0, own.0, u))) (value_of (entity_type m index) h.2).1
     )
 
 abbrev pub Import : Type 0
@@ -135,3 +135,43 @@ module _ (registry : RegistryState) (key : ModuleKey) (m : Record) (all : All (I
   wanted-at =
       let engine = engine_definition (registry_of registry) (key_number key) in
       slice_get-map engine (wants_of (record_of m)) k ∙ ap (option_map engine) read-at
+
+-- ---- exports that are planned one by one
+
+-- some item, between others
+pub any-at : {X : Type 0} (P : X → Type 0) (xs ys all : List X) (x : X) → xs ++ x ∷ ys ≡ all → P x → Any P all
+any-at P xs ys all x is holds =
+    let less : length xs < length (xs ++ x ∷ ys) = omega (arith, length-append xs (x ∷ ys)) in
+    (length xs, x, subst (λ l. length xs < length l) is less, subst (λ l. get_or l (length xs) x ≡ x) is (get_or_at xs x ys x (length xs) refl), holds)
+
+module _ (registry : RegistryState) (key : ModuleKey) (m : Record) (from : List ℕ) where
+  abbrev pub listing : List (Atom × EntityIndex) → List Definition
+  listing es = filter_map (export_of (record_of m) from) es
+
+  abbrev pub planned : List (Atom × EntityIndex) → List Definition
+  planned es = engine_definitions (registry_of registry) (key_number key) (listing es)
+
+  -- the next export is the first of those that are left
+  module _ (it rest : List (Atom × EntityIndex)) (x : Atom × EntityIndex) (own : List ℕ) (t : EntityType) (is : it ≡ x ∷ rest)
+      (text : text_of (record_of m) x.0 ≡ Some own) (type : entity_type (record_of m) x.1 ≡ Some t) where
+    listing-cons : listing it ≡ ((from, own), t) ∷ listing rest
+    listing-cons = ap listing is ∙ ap (λ o. cons_option o (listing rest)) (export-is (record_of m) from own x t text type)
+
+    pub next : (ds : List Definition) → ds ++ planned it ≡ exported registry key m from
+        → ds ++ ((from, own), engine_type (registry_of registry) (key_number key) t) ∷ planned rest ≡ exported registry key m from
+    next ds listed = sym (ap (λ l. ds ++ engine_definitions (registry_of registry) (key_number key) l) listing-cons) ∙ listed
+
+    pub types-next : (P : Definition → Type 0) → All P (listing it) → P ((from, own), t) × All P (listing rest)
+    types-next P all =
+        let both = subst (All P) listing-cons all in
+        (All-head P ((from, own), t) (listing rest) both, All-tail P ((from, own), t) (listing rest) both)
+
+    -- once it is planned
+    pub pushed : (ps qs : List (Names × EntityType)) (names : Names) (u : EntityType) → qs ≡ ps ++ (names, u) ∷ [] → names_of names ≡ (from, own)
+        → u ≡ engine_type (registry_of registry) (key_number key) t → map definition_of ps ++ planned it ≡ exported registry key m from
+        → map definition_of qs ++ planned rest ≡ exported registry key m from
+    pushed ps qs names u grown named is-type listed =
+        let both : definition_of (names, u) ≡ ((from, own), engine_type (registry_of registry) (key_number key) t) = λ i. (named i, is-type i) in
+        ap (λ l. map definition_of l ++ planned rest) grown ∙ ap (λ l. l ++ planned rest) (map_push definition_of ps (names, u))
+        ∙ append_assoc (map definition_of ps) (definition_of (names, u) ∷ []) (planned rest)
+        ∙ ap (λ d. map definition_of ps ++ d ∷ planned rest) both ∙ next (map definition_of ps) listed

@@ -53,7 +53,6 @@ one-place {K = K} eq ks distinct i j a b at_i at_j same same' =
   where
     apart : (p q : ℕ) (x y : K) → slice_get ks p ≡ Some x → slice_get ks q ≡ Some y → p < q → eq x y ≡ true → ⊥
     apart p q x y at_p at_q less e =
-        let differ = apart_from_distinct eq ks p q x distinct less (slice_get_within ks q y at_q) in
         let first : get_or ks p x ≡ x = get_or_from_slice_get ks p x x at_p in
         let second : get_or ks q x ≡ y = get_or_from_slice_get ks q y x at_q in
-        true≢false (sym e ∙ sym (λ t. eq (first t) (second t)) ∙ differ)
+        true≢false (sym e ∙ sym (λ t. eq (first t) (second t)) ∙ apart_from_distinct eq ks p q x distinct less (slice_get_within ks q y at_q))

@@ -101,9 +101,8 @@ module _ (P : EngineOrModuleTypeIndex → Type 0) (m : Record) (all : All P (typ
     where
       by : (o : Option (List ℕ)) (t : Option EntityType) → entity_type (record_of m) x.1 ≡ t
           → option_and_then (λ (own : List ℕ). option_map (λ (u : EntityType). ((from, own), u)) t) o ≡ Some d → NamesOwn d
-      by None t at h = absurd (none-some d h)
-      by (Some own) None at h = absurd (none-some d h)
       by (Some own) (Some u) at h = subst NamesOwn (same_Some ((from, own), u) d h) (entity-types x.1 u at)
+      by _ _ _ h = absurd (none-some d h)
 
   pub exported-types : (from : List ℕ) → All NamesOwn (exports_of (record_of m) from)
   exported-types from = all-given NamesOwn (export_of (record_of m) from) (export-types from) m.exports.entries
@@ -115,10 +114,8 @@ module _ (P : EngineOrModuleTypeIndex → Type 0) (m : Record) (all : All P (typ
       by : (f o : Option (List ℕ)) (t : Option EntityType) → entity_type (record_of m) e ≡ t
           → option_and_then (λ (from : List ℕ). option_and_then (λ (own : List ℕ). option_map (λ (u : EntityType). (from, own, u)) t) o) f ≡ Some i
           → NamesOwn (want_of i)
-      by None o t at h = absurd (none-some i h)
-      by (Some from) None t at h = absurd (none-some i h)
-      by (Some from) (Some own) None at h = absurd (none-some i h)
       by (Some from) (Some own) (Some u) at h = subst (λ j. NamesOwn (want_of j)) (same_Some (from, own, u) i h) (entity-types e u at)
+      by _ _ _ _ h = absurd (none-some i h)
 
   pub wanted-types : All NamesOwn (wants_of (record_of m))
   wanted-types =

@@ -7,8 +7,7 @@ use Rattle.import_match.specs.contracts.names.NamesOrd.TheImpl as ordered
 use Rattle.wasm_types.specs.declared.entity.EntityType.{EntityType}
 use Rattle.import_match.specs.Kept.{in_order, is_below}
 use Rattle.std.proofs.lemmas.Bool.{le-ltb}
-use Rattle.import_match.proofs.Keeping.{kept-grown, listed, new-key}
-use Rattle.import_match.proofs.Numbered.{insert-filter}
+use Rattle.import_match.proofs.Keeping.{kept-grown, listed, new-key, insert-filter}
 use Rattle.import_match.proofs.definitions.insert.Goals as goal
 
 -- the map with the new entry, whose number is the count

@@ -4,8 +4,7 @@ use Rattle.std.proofs.lemmas.List.{append_assoc}
 use Rattle.std.proofs.lemmas.List.Elements.{All-head}
 use Rattle.import_match.specs.Definitions.{AreOnce}
 use Rattle.import_match.specs.Kept.{definition_of, in_order}
-use Rattle.import_match.proofs.Appending.{IsNew, once-rest, new-rest}
-use Rattle.import_match.proofs.Keeping.{below-all}
+use Rattle.import_match.proofs.Keeping.{IsNew, once-rest, new-rest, below-all}
 use Rattle.import_match.proofs.definitions.insert_all.Goals as goal
 
 pub insert-requires-clause-kept : goal.insert-requires-clause-kept

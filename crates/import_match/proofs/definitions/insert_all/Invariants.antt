@@ -3,7 +3,7 @@ use Rattle.std.specs.Prelude.{filter}
 use Rattle.std.specs.Vec.Iter.{into_iter_items}
 use Rattle.import_match.specs.Definitions.{AreOnce}
 use Rattle.import_match.specs.Kept.{definition_of, in_order, is_below, AreKept}
-use Rattle.import_match.proofs.Appending.{IsNew}
+use Rattle.import_match.proofs.Keeping.{IsNew}
 use Rattle.import_match.proofs.definitions.insert_all.Given as goal
 
 abbrev pub invariant-loop-names : goal.invariant-loop-names

@@ -13,9 +13,8 @@ use Rattle.import_match.specs.Definitions.{Definition, found, IsDefined, AreOnce
 use Rattle.import_match.specs.Kept.{definition_of}
 use Rattle.import_match.specs.Linking.{engine_type, exported, IsExportResolved}
 use Rattle.import_match.specs.Held.{IsTypeOf}
-use Rattle.import_match.proofs.Appending.{IsNew}
-use Rattle.import_match.proofs.Exporting.{any-at, planned, next, types-next, pushed}
-use Rattle.import_match.proofs.Linked.{exported-once}
+use Rattle.import_match.proofs.Keeping.{IsNew}
+use Rattle.import_match.proofs.Linked.{any-at, planned, next, types-next, pushed, exported-once}
 use Rattle.import_match.proofs.Listing.{value_of}
 use Rattle.import_match.proofs.exports.planned_exports.Goals as goal
 

@@ -1,4 +1,4 @@
-use Rattle.import_match.proofs.FunctionTypes.{same-indices}
+use Rattle.import_match.proofs.Engine.{same-indices}
 use Rattle.import_match.proofs.laws.function_law.Goals as goal
 
 pub returns : goal.returns
