@@ -17,8 +17,9 @@ entries_left seen of_section walk = map seen walk.entries.now ++ flat_map of_sec
 -- what no section lists that may stay in the input is listed by none that does
 pub none_in_input : {X : Type 0} (f : plain.Payload → List X)
     → ((types : List (Group UnpackedIndex UnpackedIndex)) → f (plain.Types types) ≡ []) → ((globals : List plain.GlobalDef) → f (plain.Globals globals) ≡ [])
-    → ((elements : List plain.Element) → f (plain.Elements elements) ≡ [])
+    → ((elements : List plain.Element) → f (plain.Elements elements) ≡ []) → ((segments : List plain.Segment) → f (plain.Segments segments) ≡ [])
     → (entries : InputEntries) → f (input_payload_of entries) ≡ []
-none_in_input f types globals elements (entries.Types list) = types _
-none_in_input f types globals elements (entries.Globals list) = globals _
-none_in_input f types globals elements (entries.Elements list) = elements _
+none_in_input f types globals elements segments (entries.Types list) = types _
+none_in_input f types globals elements segments (entries.Globals list) = globals _
+none_in_input f types globals elements segments (entries.Elements list) = elements _
+none_in_input f types globals elements segments (entries.Segments list) = segments _

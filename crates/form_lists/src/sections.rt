@@ -4,14 +4,14 @@ ghost use Rattle.std.specs.Prelude.{◌≡◌, ℕ, List, [], map, refl};
 ghost use Rattle.std.specs.List.{flat_map};
 ghost use Rattle.std.specs.Iterator.{YieldsFirstBy, item_count};
 ghost use Rattle.wasm_spec.specs.Module as plain;
-ghost use Rattle.form_data.specs.Views.{payload_of, import_of, table_of, export_of, body_of, segment_of};
+ghost use Rattle.form_data.specs.Views.{payload_of, import_of, table_of, export_of, body_of};
 ghost use Rattle.form_reader.specs.declared.input.InputEntries.{InputEntries};
 ghost use Rattle.form_reader.specs.Input.{input_payload_of};
 ghost use Rattle.form_lists.specs.Source.{source_module, sections_in, sections_left};
 ghost use Rattle.form_lists.specs.Sections.{entries_left, none_in_input};
 
 use crate::source::{Section, Sections, Source, sections_of};
-use form_data::{DataSegment, Export, FunctionBody, Import, Payload, TableDef};
+use form_data::{Export, FunctionBody, Import, Payload, TableDef};
 
 /// What sections of one kind list, and never stays in the input.
 pub trait Entry<'d>: Sized {
@@ -97,7 +97,7 @@ impl<'d> Entry<'d> for Import<'d> {
         }
     }
 
-    ghost no_input = { none_in_input plain.imports_of_section (λ types. refl) (λ globals. refl) (λ elements. refl) };
+    ghost no_input = { none_in_input plain.imports_of_section (λ types. refl) (λ globals. refl) (λ elements. refl) (λ segments. refl) };
 
     ghost no_customs = { λ name bytes. refl };
 }
@@ -117,7 +117,7 @@ impl<'d> Entry<'d> for TableDef {
         }
     }
 
-    ghost no_input = { none_in_input plain.tables_of_section (λ types. refl) (λ globals. refl) (λ elements. refl) };
+    ghost no_input = { none_in_input plain.tables_of_section (λ types. refl) (λ globals. refl) (λ elements. refl) (λ segments. refl) };
 
     ghost no_customs = { λ name bytes. refl };
 }
@@ -137,7 +137,7 @@ impl<'d> Entry<'d> for Export<'d> {
         }
     }
 
-    ghost no_input = { none_in_input plain.exports_of_section (λ types. refl) (λ globals. refl) (λ elements. refl) };
+    ghost no_input = { none_in_input plain.exports_of_section (λ types. refl) (λ globals. refl) (λ elements. refl) (λ segments. refl) };
 
     ghost no_customs = { λ name bytes. refl };
 }
@@ -157,27 +157,7 @@ impl<'d> Entry<'d> for FunctionBody<'d> {
         }
     }
 
-    ghost no_input = { none_in_input plain.bodies_of_section (λ types. refl) (λ globals. refl) (λ elements. refl) };
-
-    ghost no_customs = { λ name bytes. refl };
-}
-
-impl<'d> Entry<'d> for DataSegment<'d> {
-    ghost Seen = { plain.Segment };
-
-    ghost seen = { segment_of };
-
-    ghost of_section = { plain.segments_of_section };
-
-    #[inline]
-    fn in_section<'f>(payload: &'f Payload<'d>) -> &'f [Self] {
-        match payload {
-            Payload::Segments(segments) => segments.as_slice(),
-            _ => &[],
-        }
-    }
-
-    ghost no_input = { none_in_input plain.segments_of_section (λ types. refl) (λ globals. refl) (λ elements. refl) };
+    ghost no_input = { none_in_input plain.bodies_of_section (λ types. refl) (λ globals. refl) (λ elements. refl) (λ segments. refl) };
 
     ghost no_customs = { λ name bytes. refl };
 }

@@ -7,7 +7,7 @@ use Rattle.form_data.specs.declared.types.RecGroup.{RecGroup}
 use Rattle.form_data.specs.Views.{payload_of, group_of}
 use Rattle.form_reader.specs.Reading.{Fault, Reader}
 use Rattle.form_reader.specs.TypeRows.{group}
-use Rattle.form_reader.specs.SectionRows.{global_entry, element_segment, custom_section}
+use Rattle.form_reader.specs.SectionRows.{global_entry, element_segment, data_segment, custom_section}
 use Rattle.form_reader.specs.declared.customs.InputCustoms.{InputCustoms}
 use Rattle.form_reader.specs.declared.input_vectors.InputVector.{InputVector}
 use Rattle.form_reader.specs.declared.input.InputEntries.{InputEntries}
@@ -36,6 +36,7 @@ abbrev pub input_payload_of : InputEntries → plain.Payload
 input_payload_of (entries.Types groups) = plain.Types (vector_in group.read groups)
 input_payload_of (entries.Globals globals) = plain.Globals (vector_in global_entry.read globals)
 input_payload_of (entries.Elements elements) = plain.Elements (vector_in element_segment.read elements)
+input_payload_of (entries.Segments segments) = plain.Segments (vector_in data_segment.read segments)
 
 abbrev pub input_section_of : InputSection → plain.Payload
 input_section_of (sections.Input entries) = input_payload_of entries

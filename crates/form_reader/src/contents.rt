@@ -12,7 +12,7 @@ use crate::cursor::Cursor;
 use crate::customs::CUSTOM;
 use crate::entity_types::TagType;
 use crate::error::ReadError;
-use crate::input::InputEntries::{self, Elements, Globals, Types};
+use crate::input::InputEntries::{self, Elements, Globals, Segments, Types};
 use crate::input::InputSection::{self, Input, Read};
 use crate::vectors::Index;
 use form_data::{DataSegment, Element, Export, GlobalDef, Import, Payload, RecGroup, TableDef};
@@ -47,6 +47,7 @@ fn entries_id(entries: &InputEntries<'_>) -> u8
         Types(_) => 1,
         Globals(_) => 6,
         Elements(_) => 9,
+        Segments(_) => 11,
     }
 }
 
@@ -122,7 +123,7 @@ impl<'d> Cursor<'d> {
             9 => Ok(Input(Elements(self.input_vector::<Element>(alloc)?))),
             12 => Ok(Read(Payload::DataCount(self.number()?))),
             10 => Ok(Read(self.code(alloc, place)?)),
-            11 => Ok(Read(Payload::Segments(self.section_of::<DataSegment<'d>>(alloc)?))),
+            11 => Ok(Input(Segments(self.input_vector::<DataSegment<'d>>(alloc)?))),
             _ => Err(ReadError::Malformed),
         }
     }

@@ -1,4 +1,4 @@
-//! Modules whose types, globals, element segments and custom sections stay in the input.
+//! Modules whose types, globals, segments and custom sections stay in the input.
 
 ghost use Rattle.std.specs.Prelude.{◌≡◌, ◌++◌, map, IfOk, OnOk};
 ghost use Rattle.form_data.specs.Views.{payload_of};
@@ -6,7 +6,7 @@ ghost use Rattle.form_reader.specs.Input.{customs_in, input_payload_of, input_se
 
 use crate::customs::InputCustoms;
 use crate::input_vectors::InputVector;
-use form_data::{Element, GlobalDef, Payload, RecGroup};
+use form_data::{DataSegment, Element, GlobalDef, Payload, RecGroup};
 use std::alloc::{AllocError, Global};
 
 /// The entries of a section, which stay in the input, by its kind.
@@ -15,6 +15,7 @@ pub enum InputEntries<'d> {
     Types(InputVector<'d>),
     Globals(InputVector<'d>),
     Elements(InputVector<'d>),
+    Segments(InputVector<'d>),
 }
 
 /// A section that is no custom one: its entries stay in the input, or were read into lists.
@@ -31,7 +32,7 @@ pub enum InputPart<'d> {
     Section(InputSection<'d>),
 }
 
-/// The sections of a module in order; its types, globals, element segments and custom sections stay in the input.
+/// The sections of a module in order; its types, globals, segments and custom sections stay in the input.
 ///
 /// Of sections that are no custom ones there is at most one of each kind, and so at most 27 parts, whatever the input.
 #[derive(Drop)]
@@ -54,6 +55,9 @@ impl<'d> InputEntries<'d> {
             }
             InputEntries::Elements(elements) => {
                 Ok(Payload::Elements(elements.collected::<Element>(alloc)?))
+            }
+            InputEntries::Segments(segments) => {
+                Ok(Payload::Segments(segments.collected::<DataSegment<'d>>(alloc)?))
             }
         }
     }

@@ -1,65 +1,118 @@
 //! Data segments (core specification, 5.5, data section).
 
+ghost use Rattle.std.specs.Prelude.{refl};
 ghost use Rattle.wasm_spec.specs.Module as plain;
 ghost use Rattle.form_data.specs.Views.{segment_of};
 ghost use Rattle.form_reader.specs.Reading.{Reads};
-ghost use Rattle.form_reader.specs.SectionRows.{active_segment, passive_segment, data_segment};
+ghost use Rattle.form_reader.specs.SectionRows.{active_segment, passive_segment, flagged_segment, data_segment};
 
 use crate::cursor::Cursor;
 use crate::error::ReadError;
-use crate::vectors::Entry;
-use form_data::{DataKind, DataSegment};
+use crate::input::InputEntries;
+use crate::input_vectors::{InputEntry, InputVector};
+use form_data::{ConstExpr, DataKind, DataSegment, Payload};
 use std::alloc::Global;
+use std::mem;
+use wasm_spec::Operator;
 
-impl<'d> Entry<'d> for DataSegment<'d> {
-    type Value = DataSegment<'d>;
-
+impl<'d> InputEntry<'d> for DataSegment<'d> {
     ghost Seen = { plain.Segment };
 
     ghost form = { data_segment.read };
 
     ghost view = { segment_of };
 
-    #[tactic(auto, unfolding(crate::specs::SectionRows::data_segment, crate::specs::SectionRows::flagged_segment))]
-    fn read(alloc: Global, cursor: &mut Cursor<'d>) -> Result<DataSegment<'d>, ReadError> {
-        match cursor.u32()? {
-            0 => cursor.active_segment(alloc, 0),
-            1 => cursor.passive_segment(),
+    ghost of_section = { plain.segments_of_section };
+
+    ghost no_customs = { λ name bytes. refl };
+
+    fn in_payload<'f>(payload: &'f Payload<'d>) -> &'f [Self] {
+        match payload {
+            Payload::Segments(segments) => segments.as_slice(),
+            _ => &[],
+        }
+    }
+
+    #[tactic(auto, using(crate::proofs::Listed::none_there))]
+    fn in_input(entries: InputEntries<'d>) -> InputVector<'d> {
+        match entries {
+            InputEntries::Segments(segments) => segments,
+            _ => InputVector::none(),
+        }
+    }
+
+    fn none(_alloc: Global) -> DataSegment<'d> {
+        DataSegment {
+            kind: DataKind::Passive,
+            bytes: &[],
+        }
+    }
+
+    #[tactic(auto, unfolding(crate::specs::SectionRows::data_segment))]
+    fn read_into(&mut self, alloc: Global, cursor: &mut Cursor<'d>) -> Result<(), ReadError> {
+        let flag = cursor.u32()?;
+        cursor.flagged_segment(alloc, flag, self)
+    }
+}
+
+/// A list for the operators of an offset: that of an offset that is no longer asked for, where there is one.
+fn list_of_operators(alloc: Global, kind: &mut DataKind) -> Vec<Operator> {
+    match mem::replace(kind, DataKind::Passive) {
+        DataKind::Active { offset, .. } => offset.ops,
+        DataKind::Passive => Vec::new(alloc),
+    }
+}
+
+// Each of these reads in the place of a segment that is no longer asked for, whose list is used again.
+impl<'d> Cursor<'d> {
+    /// A data segment, after its flag.
+    #[tactic(auto, unfolding(crate::specs::SectionRows::flagged_segment))]
+    fn flagged_segment(
+        &mut self,
+        alloc: Global,
+        flag: u32,
+        segment: &mut DataSegment<'d>,
+    ) -> Result<(), ReadError>
+        ensures { Reads (flagged_segment flag).read (λ u. segment_of segment.new) self.old.rest.now self.new.rest.now result }
+    {
+        match flag {
+            0 => self.active_segment(alloc, 0, segment),
+            1 => self.passive_segment(segment),
             2 => {
-                let memory_index = cursor.u32()?;
-                cursor.active_segment(alloc, memory_index)
+                let memory_index = self.u32()?;
+                self.active_segment(alloc, memory_index, segment)
             }
             _ => Err(ReadError::Malformed),
         }
     }
-}
 
-impl<'d> Cursor<'d> {
     /// An offset into a memory, and bytes.
     #[tactic(auto, unfolding(crate::specs::SectionRows::active_segment))]
     fn active_segment(
         &mut self,
         alloc: Global,
         memory_index: u32,
-    ) -> Result<DataSegment<'d>, ReadError>
-        ensures { Reads (active_segment memory_index).read segment_of self.old.rest.now self.new.rest.now result }
+        segment: &mut DataSegment<'d>,
+    ) -> Result<(), ReadError>
+        ensures { Reads (active_segment memory_index).read (λ u. segment_of segment.new) self.old.rest.now self.new.rest.now result }
     {
-        let offset = self.expression(alloc)?;
-        let bytes = self.counted_bytes()?;
-        let kind = DataKind::Active {
+        let mut ops = list_of_operators(alloc, &mut segment.kind);
+        self.expression_into(&mut ops)?;
+        segment.bytes = self.counted_bytes()?;
+        segment.kind = DataKind::Active {
             memory_index,
-            offset,
+            offset: ConstExpr { ops },
         };
-        Ok(DataSegment { kind, bytes })
+        Ok(())
     }
 
     /// Bytes that are kept for later.
     #[tactic(auto, unfolding(crate::specs::SectionRows::passive_segment))]
-    fn passive_segment(&mut self) -> Result<DataSegment<'d>, ReadError>
-        ensures { Reads passive_segment.read segment_of self.old.rest.now self.new.rest.now result }
+    fn passive_segment(&mut self, segment: &mut DataSegment<'d>) -> Result<(), ReadError>
+        ensures { Reads passive_segment.read (λ u. segment_of segment.new) self.old.rest.now self.new.rest.now result }
     {
-        let bytes = self.counted_bytes()?;
-        let kind = DataKind::Passive;
-        Ok(DataSegment { kind, bytes })
+        segment.bytes = self.counted_bytes()?;
+        segment.kind = DataKind::Passive;
+        Ok(())
     }
 }

@@ -1,5 +1,5 @@
 -- Tests of all entries, while a walk has some of them left.
-use Rattle.std.proofs.Common.{◌≡◌, ◌↔◌, ℕ, ◌+◌, Bool, false, IsTrue, List, [], ◌∷◌, All, sym, subst}
+use Rattle.std.proofs.Common.{◌≡◌, ◌↔◌, ℕ, ◌+◌, Bool, false, IsTrue, List, [], ◌∷◌, length, All, sym, ap, subst, arith}
 use Rattle.std.proofs.lemmas.List.Elements.{All-nil, All-cons, All-head, All-tail}
 use Rattle.wasm_spec.specs.Module.{GlobalDef}
 use Rattle.rule_spec.specs.Lists.{Lists}
@@ -36,3 +36,10 @@ module _ {X : Type 0} {Now Next : List X → Type 0} {One : X → Type 0} (by : 
   asked_all more ended takes =
       let none : left ≡ [] = (subst (Takes left x rest) ended takes).0 in
       (λ answered. tells.0 (answered, subst Now (sym none) by.none), λ all. (tells.1 all).0)
+
+-- all were counted
+pub all_counted : {X : Type 0} (count all : ℕ) (left rest : List X) (x : X) (more : Bool) → more ≡ false → Takes left x rest more → count + length left ≡ all
+    → count ≡ all
+all_counted count all left rest x more ended takes so_far =
+    let none : left ≡ [] = (subst (Takes left x rest) ended takes).0 in
+    omega (arith, ap length none, so_far)

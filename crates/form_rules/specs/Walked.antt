@@ -1,13 +1,16 @@
--- What the rules ask of globals and of element segments, each found for all of them by one walk.
-use Rattle.std.specs.Prelude.{◌↔◌, ℕ, length, All, IsTrue}
-use Rattle.wasm_spec.specs.Module.{Element, GlobalDef}
+-- What the rules ask of globals and of segments, each found for all of a kind by one walk.
+use Rattle.std.specs.Prelude.{◌≡◌, ◌↔◌, ◌+◌, ℕ, length, All, IsTrue}
+use Rattle.wasm_spec.specs.Module.{Element, GlobalDef, Segment}
 use Rattle.rule_spec.specs.Lists.{Lists}
-use Rattle.rule_spec.specs.Expressions.{AreGlobalsTyped, IsElementTyped}
-use Rattle.rule_spec.specs.Indices.{IsElementInRange}
-use Rattle.rule_spec.specs.References.{ElementRefersIn, GlobalRefersIn}
+use Rattle.rule_spec.specs.Rules.{AreDistinct}
+use Rattle.rule_spec.specs.Expressions.{AreGlobalsTyped, HasMemoryOffset, IsElementTyped}
+use Rattle.rule_spec.specs.Indices.{IsElementInRange, NamesMemory}
+use Rattle.rule_spec.specs.References.{DataKindRefersIn, ElementRefersIn, GlobalRefersIn}
 use Rattle.form_typing.specs.Globals.{IsGlobalTyped}
 use Rattle.form_rules.specs.declared.elements.ElementsKeep.{ElementsKeep}
 use Rattle.form_rules.specs.declared.globals.GlobalsKeep.{GlobalsKeep}
+use Rattle.form_rules.specs.declared.segments.SegmentsKeep.{SegmentsKeep}
+use Rattle.form_rules.specs.declared.rules.Asked.{Asked}
 
 -- of each rule it is known whether all globals keep it
 pub record AreGlobalsWalked (l : Lists) (kept : GlobalsKeep) : Type 0 where
@@ -30,3 +33,24 @@ pub record IsElementAdded (l : Lists) (before : ElementsKeep) (e : Element) (kep
   pub typed : IsTrue kept.typed ↔ (IsTrue before.typed × IsElementTyped l e)
   pub in_range : IsTrue kept.in_range ↔ (IsTrue before.in_range × IsElementInRange l e)
   pub refer : IsTrue kept.refer ↔ (IsTrue before.refer × ElementRefersIn (length l.types) e)
+
+-- of data segments the number is known, and of each rule whether all of them keep it
+pub record AreSegmentsWalked (l : Lists) (kept : SegmentsKeep) : Type 0 where
+  pub count : kept.count ≡ length l.segments
+  pub typed : IsTrue kept.typed ↔ All (λ (s : Segment). HasMemoryOffset l s.kind) l.segments
+  pub in_range : IsTrue kept.in_range ↔ All (λ (s : Segment). NamesMemory l s.kind) l.segments
+  pub refer : IsTrue kept.refer ↔ All (λ (s : Segment). DataKindRefersIn (length l.types) s.kind) l.segments
+
+-- one segment more was asked
+pub record IsSegmentAdded (l : Lists) (before : SegmentsKeep) (s : Segment) (kept : SegmentsKeep) : Type 0 where
+  pub count : kept.count ≡ before.count + 1
+  pub typed : IsTrue kept.typed ↔ (IsTrue before.typed × HasMemoryOffset l s.kind)
+  pub in_range : IsTrue kept.in_range ↔ (IsTrue before.in_range × NamesMemory l s.kind)
+  pub refer : IsTrue kept.refer ↔ (IsTrue before.refer × DataKindRefersIn (length l.types) s.kind)
+
+-- what all entries of a kind were asked before the rules are
+pub record AreAsked (l : Lists) (asked : Asked) : Type 0 where
+  pub globals : AreGlobalsWalked l asked.globals
+  pub elements : AreElementsWalked l asked.elements
+  pub segments : AreSegmentsWalked l asked.segments
+  pub distinct : IsTrue asked.distinct ↔ AreDistinct l.exports

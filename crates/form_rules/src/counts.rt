@@ -8,15 +8,16 @@ ghost use Rattle.rule_spec.specs.Rules.{CountsAgree, locals};
 ghost use Rattle.form_lists.specs.Source.{source_module, sections_in};
 ghost use Rattle.form_lists.specs.Views.{lists_of};
 
-use form_data::{DataSegment, FunctionBody, Payload};
+use form_data::{FunctionBody, Payload};
 use form_lists::{Entry, Lists, Section, Source, entries_in, entries_of, sections_of};
 use wasm_spec::ValType;
 
-/// Whether bodies, data segments and locals are as many as is stated or allowed.
-pub fn counts_agree(lists: &Lists<'_, '_>) -> bool
+/// Whether bodies, data segments and locals are as many as is stated or allowed. There are `count` data segments.
+pub fn counts_agree(lists: &Lists<'_, '_>, count: usize) -> bool
+    requires { count ≡ length (segments (source_module lists.now.source)) }
     ensures { IsTrue result ↔ CountsAgree (lists_of lists.now) }
 {
-    bodies_hold(lists) && data_counts_hold(lists) && locals_hold(lists)
+    bodies_hold(lists) && data_counts_hold(lists.source, count) && locals_hold(lists)
 }
 
 /// Whether there is a body for each function that is not imported.
@@ -45,30 +46,23 @@ fn has_entries<'d, T: Entry<'d>>(source: Source<'_, 'd>, count: usize) -> bool
     left == 0
 }
 
-/// Whether each stated number of data segments is the number of data segments.
-fn data_counts_hold(lists: &Lists<'_, '_>) -> bool
-    ensures { IsTrue result
-        ↔ All (λ count. count ≡ length (segments (source_module lists.now.source)))
-        (flat_map data_counts_of_section (source_module lists.now.source)) }
+/// Whether each stated number of data segments is their number.
+fn data_counts_hold(source: Source<'_, '_>, count: usize) -> bool
+    ensures { IsTrue result ↔ All (λ stated. stated ≡ count) (flat_map data_counts_of_section (source_module source.entry)) }
 {
-    for section in sections_of(lists.source) {
-        if !data_count_holds(lists, section) {
+    for section in sections_of(source) {
+        if !data_count_holds(section, count) {
             return false;
         }
     }
     true
 }
 
-fn data_count_holds(lists: &Lists<'_, '_>, section: Section<'_, '_>) -> bool
-    ensures { IsTrue result
-        ↔ All (λ count. count ≡ length (segments (source_module lists.now.source)))
-        (flat_map data_counts_of_section (sections_in section.entry)) }
+fn data_count_holds(section: Section<'_, '_>, count: usize) -> bool
+    ensures { IsTrue result ↔ All (λ stated. stated ≡ count) (flat_map data_counts_of_section (sections_in section.entry)) }
 {
     match section {
-        Section::Read(Payload::DataCount(count)) => {
-            let count = *count as usize;
-            has_entries::<DataSegment<'_>>(lists.source, count)
-        }
+        Section::Read(Payload::DataCount(stated)) => *stated as usize == count,
         Section::Customs(_) => true,
         _ => true,
     }

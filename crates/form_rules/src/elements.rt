@@ -6,7 +6,7 @@ ghost use Rattle.form_lists.specs.Views.{lists_of};
 ghost use Rattle.form_typing.specs.Defaults.{defaults as defaults_of_types};
 ghost use Rattle.form_rules.specs.Walked.{AreElementsWalked, IsElementAdded};
 
-use crate::indices::is_in_range;
+use crate::indices::element_is_in_range;
 use crate::references::element_refers;
 use form_data::Element;
 use form_lists::{Lists, walk_of};
@@ -61,7 +61,7 @@ fn with_element(
     let typed = element_is_typed(lists, defaults, element, stack)?;
     Ok(ElementsKeep {
         typed: before.typed && typed,
-        in_range: before.in_range && is_in_range(lists, element),
+        in_range: before.in_range && element_is_in_range(lists, element),
         refer: before.refer && element_refers(lists.types.len(), element),
     })
 }

@@ -1,28 +1,15 @@
 //! Indices of segments (core specification, 3.5, element and data segments).
 
-ghost use Rattle.std.specs.Prelude.{◌≡◌, ◌↔◌, ◌<◌, length, All, IsTrue};
-ghost use Rattle.std.specs.List.{flat_map};
-ghost use Rattle.wasm_spec.specs.Module.{segments, elements_of_section};
+ghost use Rattle.std.specs.Prelude.{◌↔◌, ◌<◌, All, IsTrue};
 ghost use Rattle.form_data.specs.Views.{element_of, element_kind_of, items_of, data_kind_of};
 ghost use Rattle.rule_spec.specs.Indices.{NamesMemory, NamesTable, NamesFunctions, IsElementInRange};
-ghost use Rattle.rule_spec.specs.Rules.{AreInRange};
-ghost use Rattle.form_lists.specs.Source.{source_module};
 ghost use Rattle.form_lists.specs.Views.{lists_of};
 
-use form_data::{DataKind, DataSegment, Element, ElementItems, ElementKind};
-use form_lists::{Lists, entries_of};
-
-/// Whether what segments name is in range. `elements_hold` says it of element segments, by `is_in_range` of each.
-pub fn indices_hold(lists: &Lists<'_, '_>, elements_hold: bool) -> bool
-    requires { IsTrue elements_hold
-        ↔ All (IsElementInRange (lists_of lists.now)) (flat_map elements_of_section (source_module lists.now.source)) }
-    ensures { IsTrue result ↔ AreInRange (lists_of lists.now) }
-{
-    elements_hold && segments_hold(lists)
-}
+use form_data::{DataKind, Element, ElementItems, ElementKind};
+use form_lists::Lists;
 
 /// Whether the table and the functions that an element segment names are there.
-pub fn is_in_range(lists: &Lists<'_, '_>, element: &Element) -> bool
+pub fn element_is_in_range(lists: &Lists<'_, '_>, element: &Element) -> bool
     ensures { IsTrue result ↔ IsElementInRange (lists_of lists.now) (element_of element.now) }
 {
     names_table(lists, &element.kind) && names_functions(lists, &element.items)
@@ -54,14 +41,8 @@ fn all_below(indices: &[u32], bound: usize) -> bool
     indices.iter().all(|index| (*index as usize) < bound)
 }
 
-fn segments_hold(lists: &Lists<'_, '_>) -> bool
-    ensures { IsTrue result
-        ↔ All (λ s. NamesMemory (lists_of lists.now) s.kind) (segments (source_module lists.now.source)) }
-{
-    entries_of::<DataSegment<'_>>(lists.source).all(|segment| names_memory(lists, &segment.kind))
-}
-
-fn names_memory(lists: &Lists<'_, '_>, kind: &DataKind) -> bool
+/// Whether the memory that a data segment names is there.
+pub fn names_memory(lists: &Lists<'_, '_>, kind: &DataKind) -> bool
     ensures { IsTrue result ↔ NamesMemory (lists_of lists.now) (data_kind_of kind.now) }
 {
     match kind {

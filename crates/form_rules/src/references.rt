@@ -11,27 +11,35 @@ ghost use Rattle.form_lists.specs.Views.{lists_of};
 
 use crate::type_rules::{heap_is_below, value_is_below};
 use form_data::{
-    ConstExpr, DataKind, DataSegment, Element, ElementItems, ElementKind, FunctionBody, GlobalDef,
-    Import, TableDef,
+    ConstExpr, DataKind, Element, ElementItems, ElementKind, FunctionBody, GlobalDef, Import,
+    TableDef,
 };
 use form_lists::{Lists, entries_of};
 use wasm_spec::{Operator, TypeRef};
 
-/// Whether each concrete reference outside the type section names one of the declared types. `globals_refer` says it of globals and `elements_refer` of element segments, by `global_refers` and `element_refers` of each.
-pub fn references_hold(lists: &Lists<'_, '_>, globals_refer: bool, elements_refer: bool) -> bool
+/// Whether each concrete reference outside the type section names one of the declared types. `globals_refer`, `elements_refer` and `segments_refer` say it of globals and segments,
+/// by `global_refers`, `element_refers` and `data_kind_refers` of each.
+pub fn references_hold(
+    lists: &Lists<'_, '_>,
+    globals_refer: bool,
+    elements_refer: bool,
+    segments_refer: bool,
+) -> bool
     requires globals { IsTrue globals_refer
         ↔ All (GlobalRefersIn (length lists.now.types.items)) (flat_map globals_of_section (source_module lists.now.source)) }
     requires elements { IsTrue elements_refer
         ↔ All (ElementRefersIn (length lists.now.types.items)) (flat_map elements_of_section (source_module lists.now.source)) }
+    requires segments { IsTrue segments_refer
+        ↔ All (λ s. DataKindRefersIn (length lists.now.types.items) s.kind) (segments (source_module lists.now.source)) }
     ensures { IsTrue result ↔ AllReferIn (length lists.now.types.items) (lists_of lists.now) }
 {
     let types = lists.types.len();
     globals_refer
         && elements_refer
+        && segments_refer
         && imports_refer(types, lists)
         && tables_refer(types, lists)
         && bodies_refer(types, lists)
-        && segments_refer(types, lists)
 }
 
 // ---- expressions
@@ -149,17 +157,8 @@ fn body_refers(types: usize, body: &FunctionBody<'_>) -> bool
     body.locals.iter().all(|run| value_is_below(types, &run.1))
 }
 
-fn segments_refer(types: usize, lists: &Lists<'_, '_>) -> bool
-    ensures { IsTrue result
-        ↔ All (λ s. DataKindRefersIn types s.kind) (segments (source_module lists.now.source)) }
-{
-    entries_of::<DataSegment<'_>>(lists.source).all(|segment| data_kind_refers(
-        types,
-        &segment.kind,
-    ))
-}
-
-fn data_kind_refers(types: usize, kind: &DataKind) -> bool
+/// Whether the concrete references of a data segment are below a bound.
+pub fn data_kind_refers(types: usize, kind: &DataKind) -> bool
     ensures { IsTrue result ↔ DataKindRefersIn types (data_kind_of kind.now) }
 {
     match kind {

@@ -5,11 +5,11 @@ ghost use Rattle.wasm_spec.specs.Module.{groups};
 ghost use Rattle.rule_spec.specs.declared.rules.Rule.{Rule};
 ghost use Rattle.form_data.specs.Views.{module_of};
 ghost use Rattle.rule_spec.specs.Lists.{declared_groups, lists_of_module};
-ghost use Rattle.rule_spec.specs.Rules.{AreDistinct, Satisfies, Keeps, KeepsBefore};
+ghost use Rattle.rule_spec.specs.Rules.{Satisfies, Keeps, KeepsBefore};
 ghost use Rattle.form_lists.specs.Source.{source_module};
 ghost use Rattle.form_lists.specs.Views.{declared_of, lists_of};
 ghost use Rattle.form_typing.specs.Defaults.{defaults as defaults_of_types};
-ghost use Rattle.form_rules.specs.Walked.{AreElementsWalked, AreGlobalsWalked};
+ghost use Rattle.form_rules.specs.Walked.{AreAsked};
 ghost use Rattle.form_rules.specs.Names.{exported_names};
 ghost use Rattle.form_rules.specs.Outcomes.{ChecksOrNoMemory, HasGlobals};
 
@@ -18,10 +18,10 @@ use crate::elements::{ElementsKeep, walk_elements};
 use crate::error::CheckError;
 use crate::exports::exports_hold;
 use crate::globals::{GlobalsKeep, walk_globals};
-use crate::indices::indices_hold;
 use crate::limits::limits_hold;
 use crate::names::pool_of_exports;
 use crate::references::references_hold;
+use crate::segments::{SegmentsKeep, walk_segments};
 use crate::start::starts_hold;
 use crate::tables::initialisers_hold;
 use crate::type_rules::{types_are_named, types_hold};
@@ -45,6 +45,16 @@ const RULES: [Rule; 10] = [
     Rule::L9,
     Rule::L10,
 ];
+
+/// What the rules ask of all entries of a kind, which is found before the rules are asked.
+#[derive(Clone, Copy)]
+pub struct Asked {
+    pub globals: GlobalsKeep,
+    pub elements: ElementsKeep,
+    pub segments: SegmentsKeep,
+    /// No two exports have one name (L7).
+    pub distinct: bool,
+}
 
 /// Whether the module keeps the listed rules.
 ///
@@ -83,12 +93,15 @@ pub fn checked_lists<'f, 'd>(
 {
     let lists = gather_lists(alloc, source, types)?;
     let defaults = struct_defaults(alloc, &lists)?;
-    let globals = walk_globals(alloc, &lists, &defaults)?;
-    let elements = walk_elements(alloc, &lists, &defaults)?;
     let names = pool_of_exports(alloc, source)?;
-    let distinct = names.is_some();
+    let asked = Asked {
+        globals: walk_globals(alloc, &lists, &defaults)?,
+        elements: walk_elements(alloc, &lists, &defaults)?,
+        segments: walk_segments(alloc, &lists, &defaults)?,
+        distinct: names.is_some(),
+    };
     for rule in RULES {
-        if !keeps(alloc, rule, &lists, &defaults, globals, elements, distinct)? {
+        if !keeps(alloc, rule, &lists, &defaults, asked)? {
             return Err(CheckError::Invalid(rule));
         }
     }
@@ -98,33 +111,42 @@ pub fn checked_lists<'f, 'd>(
     }
 }
 
-/// What is asked of globals, of element segments and of the names of exports was asked before, of all of them by one walk.
+/// Whether a rule is kept; what all entries of a kind are asked was asked before.
 fn keeps(
     alloc: Global,
     rule: Rule,
     lists: &Lists<'_, '_>,
     defaults: &[bool],
-    globals: GlobalsKeep,
-    elements: ElementsKeep,
-    distinct: bool,
+    asked: Asked,
 ) -> Result<bool, AllocError>
     requires counted { HasGlobals (lists_of lists.now) }
     requires noted { defaults.now ≡ defaults_of_types (lists_of lists.now) }
-    requires globals { AreGlobalsWalked (lists_of lists.now) globals }
-    requires elements { AreElementsWalked (lists_of lists.now) elements }
-    requires distinct { IsTrue distinct ↔ AreDistinct (lists_of lists.now).exports }
+    requires asked { AreAsked (lists_of lists.now) asked }
     ensures { IfOk result (λ kept. IsTrue kept ↔ Satisfies rule (lists_of lists.now)) }
 {
+    let Asked {
+        globals,
+        elements,
+        segments,
+        distinct,
+    } = asked;
     match rule {
         Rule::L1 => Ok(types_hold(lists)),
         Rule::L2 => Ok(types_are_named(lists)),
-        Rule::L3 => Ok(counts_agree(lists)),
+        Rule::L3 => Ok(counts_agree(lists, segments.count)),
         Rule::L4 => Ok(limits_hold(lists)),
         Rule::L5 => Ok(initialisers_hold(lists)),
-        Rule::L6 => expressions_hold(alloc, lists, defaults, globals.typed, elements.typed),
+        Rule::L6 => expressions_hold(
+            alloc,
+            lists,
+            defaults,
+            globals.typed,
+            elements.typed,
+            segments.typed,
+        ),
         Rule::L7 => Ok(exports_hold(lists, distinct)),
         Rule::L8 => Ok(starts_hold(lists)),
-        Rule::L9 => Ok(indices_hold(lists, elements.in_range)),
-        Rule::L10 => Ok(references_hold(lists, globals.refer, elements.refer)),
+        Rule::L9 => Ok(elements.in_range && segments.in_range),
+        Rule::L10 => Ok(references_hold(lists, globals.refer, elements.refer, segments.refer)),
     }
 }

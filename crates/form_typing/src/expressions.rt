@@ -3,7 +3,7 @@
 ghost use Rattle.std.specs.Prelude.{◌≡◌, ◌↔◌, ◌≤◌, take, length, map, All, IsTrue, IfOk};
 ghost use Rattle.std.specs.List.{flat_map};
 ghost use Rattle.wasm_spec.specs.Module.{segments, tables_of_section, globals_of_section, elements_of_section};
-ghost use Rattle.form_data.specs.Views.{table_of, global_of, element_of, element_kind_of, items_of, expression_of, data_kind_of};
+ghost use Rattle.form_data.specs.Views.{table_of, global_of, element_of, element_kind_of, items_of, expression_of, data_kind_of, segment_of};
 ghost use Rattle.rule_spec.specs.declared.classes.Class.TheVariants as class;
 ghost use Rattle.rule_spec.specs.Typing.{HasClass};
 ghost use Rattle.rule_spec.specs.Expressions.{address_class, HasTypedInitialiser, AreGlobalsTyped, HasTableOffset, HasTypedItems, IsElementTyped, HasMemoryOffset, AreExpressionsTyped};
@@ -24,13 +24,14 @@ use wasm_spec::GlobalType;
 
 /// Whether each constant expression has the class of its place.
 ///
-/// Of globals and element segments this is found where they are walked: `globals_hold` and `elements_hold` say it, by `global_is_typed` and `element_is_typed` of each.
+/// Of globals and segments this is found where they are walked: `globals_hold`, `elements_hold` and `segments_hold` say it, by `global_is_typed`, `element_is_typed` and `segment_is_typed` of each.
 pub fn expressions_hold(
     alloc: Global,
     lists: &Lists<'_, '_>,
     defaults: &[bool],
     globals_hold: bool,
     elements_hold: bool,
+    segments_hold: bool,
 ) -> Result<bool, AllocError>
     requires imported { lists.now.imported_globals ≤ length lists.now.spaces.global_types.items }
     requires noted { defaults.now ≡ defaults_of_types (lists_of lists.now) }
@@ -38,16 +39,18 @@ pub fn expressions_hold(
         ↔ AreGlobalsTyped (lists_of lists.now) lists.now.imported_globals (flat_map globals_of_section (source_module lists.now.source)) }
     requires elements { IsTrue elements_hold
         ↔ All (IsElementTyped (lists_of lists.now)) (flat_map elements_of_section (source_module lists.now.source)) }
+    requires segments { IsTrue segments_hold
+        ↔ All (λ s. HasMemoryOffset (lists_of lists.now) s.kind) (segments (source_module lists.now.source)) }
     ensures { IfOk result (λ hold. IsTrue hold ↔ AreExpressionsTyped (lists_of lists.now)) }
 {
-    if !globals_hold || !elements_hold {
+    if !globals_hold || !elements_hold || !segments_hold {
         return Ok(false);
     }
     let mut stack = Vec::new(alloc);
     if !tables_hold(lists, defaults, &mut stack)? {
         return Ok(false);
     }
-    segments_hold(lists, defaults, &mut stack)
+    Ok(true)
 }
 
 fn globals_below<'a>(lists: &'a Lists<'_, '_>, index: usize) -> &'a [GlobalType]
@@ -207,21 +210,19 @@ fn item_holds(
 
 // ---- data segments
 
-fn segments_hold(
+/// Whether the offset of a data segment has the class of its place.
+///
+/// `defaults` are the types' `struct_defaults`. What `stack` holds does not count.
+pub fn segment_is_typed(
     lists: &Lists<'_, '_>,
     defaults: &[bool],
+    segment: &DataSegment<'_>,
     stack: &mut Vec<Class>,
 ) -> Result<bool, AllocError>
     requires noted { defaults.now ≡ defaults_of_types (lists_of lists.now) }
-    ensures { IfOk result (λ hold. IsTrue hold
-        ↔ All (λ s. HasMemoryOffset (lists_of lists.now) s.kind) (segments (source_module lists.now.source))) }
+    ensures { IfOk result (λ typed. IsTrue typed ↔ HasMemoryOffset (lists_of lists.now) (segment_of segment.now).kind) }
 {
-    for segment in entries_of::<DataSegment<'_>>(lists.source) {
-        if !memory_offset_holds(lists, defaults, &segment.kind, stack)? {
-            return Ok(false);
-        }
-    }
-    Ok(true)
+    memory_offset_holds(lists, defaults, &segment.kind, stack)
 }
 
 /// An offset has the class of the memory's addresses, where there is such a memory.

@@ -1,6 +1,6 @@
 //! Data segments.
 
-ghost use Rattle.std.specs.Prelude.{◌≡◌, ◌++◌, ◌<◌, ◌^◌, ◌∷◌, [], length, map, IfOk, OnOk};
+ghost use Rattle.std.specs.Prelude.{◌≡◌, ◌++◌, ◌<◌, ◌∷◌, [], map, OnOk};
 ghost use Rattle.std.specs.List.{filter_map};
 ghost use Rattle.wasm_spec.specs.Module.{segments, HasFewEntries};
 ghost use Rattle.form_data.specs.Views.{segment_of};
@@ -13,7 +13,7 @@ ghost use Rattle.module_environ.specs.Segments.{AreDataConvertible, IsDataConver
 use crate::offsets::convert_offset;
 use entity_map::{EntityRef, OutOfMemory};
 use form_data::{DataKind, DataSegment};
-use form_lists::{Source, entries_of};
+use form_lists::{Source, walk_of};
 use init_plan::{MemoryInit, MemoryInitializer, ModuleTranslation};
 use std::alloc::Global;
 use wasm_convert::TypeConvert;
@@ -37,80 +37,53 @@ pub(crate) fn add_segments<'d>(
       private_parts = record translation.old.private_parts { passive_data = translation.new.private_parts.passive_data };
     }) }
 {
-    let active = convert_active(alloc, env, source)?;
-    translation.memory_init = MemoryInit::Unprocessed(active);
-    add_passive(source, translation)
-}
-
-fn convert_active<'d>(
-    alloc: Global,
-    env: &dyn TypeConvert,
-    source: Source<'_, 'd>,
-) -> Result<Vec<MemoryInitializer<'d>>, OutOfMemory>
-    requires { AreDataConvertible (knows env.now) (segments (source_module source)) }
-    ensures { IfOk result (λ active. map active_segment_of active.items ≡ active_segments (source_module source.entry)) }
-{
     let mut active = Vec::new(alloc);
-    for segment in entries_of::<DataSegment<'_>>(source) {
-        add_active(alloc, env, &mut active, segment)?;
-    }
-    Ok(active)
-}
-
-fn add_active<'d>(
-    alloc: Global,
-    env: &dyn TypeConvert,
-    active: &mut Vec<MemoryInitializer<'d>>,
-    segment: &DataSegment<'d>,
-) -> Result<(), OutOfMemory>
-    requires { IsDataConvertible (knows env.now) (segment_of segment.now).kind }
-    ensures { OnOk result (map active_segment_of active.new.items ≡ map active_segment_of active.old.items
-        ++ filter_map (λ s. active_of_kind s.kind s.bytes) (segment_of segment.now ∷ [])) }
-{
-    if let DataKind::Active {
-        memory_index,
-        offset,
-    } = &segment.kind
-    {
-        active.push(MemoryInitializer {
-            memory_index: MemoryIndex::from_u32(*memory_index),
-            offset: convert_offset(alloc, env, offset)?,
-            bytes: segment.bytes,
-        })?;
-    }
-    Ok(())
-}
-
-/// Notes the passive segments by their indices.
-fn add_passive<'d>(
-    source: Source<'_, 'd>,
-    translation: &mut ModuleTranslation<'d>,
-) -> Result<(), OutOfMemory>
-    requires few { length (segments (source_module source)) < 2 ^ 30 }
-    ensures passive { OnOk result (passive_data_of translation.new
-        ≡ passive_data_of translation.old ++ passive_data_from 0 (segments (source_module source.entry))) }
-    ensures same { SameButPassive translation.old translation.new }
-{
     let mut index = 0;
-    for segment in entries_of::<DataSegment<'_>>(source) {
-        note_passive(translation, index, segment)?;
+    let mut segments = walk_of::<DataSegment<'d>>(alloc, source);
+    while segments.advance()? {
+        add_segment(
+            alloc,
+            env,
+            index,
+            segments.entry(),
+            &mut active,
+            translation,
+        )?;
         index += 1;
     }
+    translation.memory_init = MemoryInit::Unprocessed(active);
     Ok(())
 }
 
-fn note_passive<'d>(
-    translation: &mut ModuleTranslation<'d>,
+/// Adds the segment that has this index: an active one to be planned, and a passive one by that index.
+fn add_segment<'d>(
+    alloc: Global,
+    env: &dyn TypeConvert,
     index: usize,
     segment: &DataSegment<'d>,
+    active: &mut Vec<MemoryInitializer<'d>>,
+    translation: &mut ModuleTranslation<'d>,
 ) -> Result<(), OutOfMemory>
-    requires { index < u32.MAX }
+    requires few { index < u32.MAX }
+    requires convertible { IsDataConvertible (knows env.now) (segment_of segment.now).kind }
+    ensures active { OnOk result (map active_segment_of active.new.items ≡ map active_segment_of active.old.items
+        ++ filter_map (λ s. active_of_kind s.kind s.bytes) (segment_of segment.now ∷ [])) }
     ensures passive { OnOk result (passive_data_of translation.new
         ≡ passive_data_of translation.old ++ passive_data_from index (segment_of segment.now ∷ [])) }
     ensures same { SameButPassive translation.old translation.new }
 {
-    if let DataKind::Passive = segment.kind {
-        translation.push_passive_data(DataIndex::new(index), segment.bytes)?;
+    match &segment.kind {
+        DataKind::Active {
+            memory_index,
+            offset,
+        } => active.push(MemoryInitializer {
+            memory_index: MemoryIndex::from_u32(*memory_index),
+            offset: convert_offset(alloc, env, offset)?,
+            bytes: segment.bytes,
+        })?,
+        DataKind::Passive => {
+            translation.push_passive_data(DataIndex::new(index), segment.bytes)?;
+        }
     }
     Ok(())
 }

@@ -2,9 +2,8 @@
 -- joined list.
 use Rattle.std.specs.Prelude.{◌≡◌, ℕ, zero, suc, ◌+◌, ◌-◌, Bool, true, false, nat_eq, nat_le, nat_lt, ◌&&◌, List, [], ◌∷◌, length, if◌then◌else◌}
 use Rattle.std.specs.Cmp.Lexicographic.{pointwise}
-use Rattle.wasm_spec.specs.TypeData.{Group}
-use Rattle.type_data.specs.TypeShapes.{group_shape}
-use Rattle.type_data.specs.Names.{plainly, Alike, frame}
+use Rattle.wasm_spec.specs.TypeData.{Group, map_group, group_edges}
+use Rattle.type_data.specs.Shapes.{erased, AreAlike}
 use Rattle.type_spec.specs.Same.{same_frame}
 
 -- a reference out of a group that starts at a place of the joined list: to a place of the group, or to an earlier type
@@ -32,6 +31,13 @@ home_from start (g ∷ gs) i = if nat_lt i (start + length g) then record { star
 abbrev pub home : List (Group ℕ ℕ) → ℕ → Home
 home gs i = home_from 0 gs i
 
+-- its members without their references, and those references in order
+abbrev pub group_frame : Home → Group (Unit {0}) (Unit {0})
+group_frame g = map_group erased erased g.members
+
+abbrev pub references : Home → List ℕ
+references g = group_edges (λ r. r) g.members
+
 -- ---- what equality is
 
 -- two references are equal where both stay in their groups at equal places, or both leave them and the types they name are equal
@@ -43,7 +49,8 @@ SameTarget Same _ _ = ⊥
 -- groups are equal where they differ in their references alone, and those are equal one by one
 abbrev pub SameGroup : (ℕ → ℕ → Type 0) → Home → Home → Type 0
 SameGroup Same g h =
-    Alike (plainly group_shape) (λ r s. SameTarget Same (target (λ i. i) g.start r) (target (λ i. i) h.start s)) g.members h.members
+    AreAlike (λ r s. SameTarget Same (target (λ i. i) g.start r) (target (λ i. i) h.start s))
+    (group_frame g) (group_frame h) (references g) (references h)
 
 -- types are equal where they stand at the same place of equal groups, down to a number of groups
 abbrev pub SameDown : ℕ → List (Group ℕ ℕ) → List (Group ℕ ℕ) → ℕ → ℕ → Type 0
@@ -68,8 +75,7 @@ same_reference same g h r s = same_target same (target (λ i. i) g.start r) (tar
 -- the frames are compared, and the references one by one
 abbrev pub same_group : (ℕ → ℕ → Bool) → Home → Home → Bool
 same_group same g h =
-    same_frame (frame (plainly group_shape) g.members) (frame (plainly group_shape) h.members)
-    && pointwise (same_reference same g h) ((plainly group_shape).edges g.members) ((plainly group_shape).edges h.members)
+    same_frame (group_frame g) (group_frame h) && pointwise (same_reference same g h) (references g) (references h)
 
 abbrev pub same_down : ℕ → List (Group ℕ ℕ) → List (Group ℕ ℕ) → ℕ → ℕ → Bool
 same_down zero ms ns i j = false
@@ -83,4 +89,4 @@ same_type ms ns i j = same_down (suc i) ms ns i j
 
 -- a group in which each earlier type is given by a number, and each reference that stays by its place
 abbrev pub canonical : (ℕ → ℕ) → Home → Group (Target ℕ) (Target ℕ)
-canonical number g = (plainly group_shape).map (target number g.start) g.members
+canonical number g = map_group (target number g.start) (target number g.start) g.members

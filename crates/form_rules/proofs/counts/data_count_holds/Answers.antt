@@ -1,8 +1,8 @@
-use Rattle.std.proofs.Common.{◌≡◌, length, refl}
-use Rattle.wasm_spec.specs.Module.{segments, data_counts_of_section}
+use Rattle.std.proofs.Common.{◌≡◌, refl}
+use Rattle.wasm_spec.specs.Module.{data_counts_of_section}
 use Rattle.form_lists.specs.Source.{source_module}
 use Rattle.form_lists.proofs.AllSections.{customs_hold}
 use Rattle.form_rules.proofs.counts.data_count_holds.Goals as goal
 
 pub returns-in-Customs : goal.returns-in-Customs
-returns-in-Customs c = rw c.in-Customs.is (customs_hold (λ count. count ≡ length (segments (source_module c.args.lists.now.source))) data_counts_of_section (λ name bytes. refl) c.in-Customs.field-0)
+returns-in-Customs c = rw c.in-Customs.is (customs_hold (λ stated. stated ≡ c.args.count) data_counts_of_section (λ name bytes. refl) c.in-Customs.field-0)

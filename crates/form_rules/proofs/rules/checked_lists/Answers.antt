@@ -18,5 +18,5 @@ pub unreachable-requires : goal.unreachable-requires
 unreachable-requires c =
     let kept = c.loop-rule.invariant.kept L7 (omega (arith, c.loop-rule-test.false)) in
     let some = c.in_ok-names.ensures.distinct.1 (subst (λ (l : Lists). AreDistinct l.exports) c.in_ok-lists.ensures.lists kept.distinct) in
-    let none = sym c.is_some-distinct.ensures ∙ c.loop-rule.invariant.distinct ∙ ap is_some c.in-None.is in
+    let none = sym c.is_some.ensures ∙ c.loop-rule.invariant.distinct ∙ ap is_some c.in-None.is in
     absurd (cc)

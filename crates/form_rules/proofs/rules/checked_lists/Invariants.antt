@@ -13,5 +13,5 @@ abbrev pub invariant-loop-rule : goal.invariant-loop-rule
 invariant-loop-rule l = record {
   kept : (r : Rule) → number_of r < l.rule-index + 1 → Satisfies r (lists_of l.lists);
   pooled : IfSome l.names (λ texts. texts ≡ exported_names (lists_of_module (source_module l.source)).exports);
-  distinct : l.distinct ≡ is_some l.names;
+  distinct : l.asked.distinct ≡ is_some l.names;
 }

@@ -14,5 +14,5 @@ returns-in-L6 c =
 
 pub references_hold-requires-clause-globals : goal.references_hold-requires-clause-globals
 references_hold-requires-clause-globals c =
-    subst (λ (types : ℕ). IsTrue c.args.globals.refer ↔ All (GlobalRefersIn types) (lists_of c.args.lists.now).globals)
-    (length-map c.args.lists.now.types.items declared_of) c.requires.globals.refer
+    subst (λ (types : ℕ). IsTrue c.args.asked.globals.refer ↔ All (GlobalRefersIn types) (lists_of c.args.lists.now).globals)
+    (length-map c.args.lists.now.types.items declared_of) c.requires.asked.globals.refer

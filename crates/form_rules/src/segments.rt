@@ -1,0 +1,71 @@
+//! What the rules ask of data segments, found for all of them by one walk, as it is of element segments.
+
+ghost use Rattle.std.specs.Prelude.{◌≡◌, ◌↔◌, IsTrue, IfOk};
+ghost use Rattle.form_data.specs.Views.{segment_of};
+ghost use Rattle.form_lists.specs.Views.{lists_of};
+ghost use Rattle.form_typing.specs.Defaults.{defaults as defaults_of_types};
+ghost use Rattle.form_rules.specs.Walked.{AreSegmentsWalked, IsSegmentAdded};
+
+use crate::indices::names_memory;
+use crate::references::data_kind_refers;
+use form_data::DataSegment;
+use form_lists::{Lists, walk_of};
+use form_typing::segment_is_typed;
+use rule_spec::Class;
+use std::alloc::{AllocError, Global};
+
+/// How many data segments there are, and of each rule that asks something of them, whether all of them keep it.
+#[derive(Clone, Copy)]
+pub struct SegmentsKeep {
+    pub count: usize,
+    /// Their offsets have the classes of their places (L6).
+    pub typed: bool,
+    /// The memories that they name are there (L9).
+    pub in_range: bool,
+    /// Their concrete references name declared types (L10).
+    pub refer: bool,
+}
+
+/// Walks through the data segments. `defaults` are the types' `struct_defaults`.
+pub fn walk_segments<'d>(
+    alloc: Global,
+    lists: &Lists<'_, 'd>,
+    defaults: &[bool],
+) -> Result<SegmentsKeep, AllocError>
+    requires { defaults.now ≡ defaults_of_types (lists_of lists.now) }
+    ensures { IfOk result (λ kept. AreSegmentsWalked (lists_of lists.now) kept) }
+{
+    let mut stack = Vec::new(alloc);
+    let mut kept = SegmentsKeep {
+        count: 0,
+        typed: true,
+        in_range: true,
+        refer: true,
+    };
+    let mut segments = walk_of::<DataSegment<'d>>(alloc, lists.source);
+    while segments.advance()? {
+        kept = with_segment(lists, defaults, kept, segments.entry(), &mut stack)?;
+    }
+    Ok(kept)
+}
+
+/// What holds of one segment more. More than a `usize` counts fit in no memory.
+fn with_segment(
+    lists: &Lists<'_, '_>,
+    defaults: &[bool],
+    before: SegmentsKeep,
+    segment: &DataSegment<'_>,
+    stack: &mut Vec<Class>,
+) -> Result<SegmentsKeep, AllocError>
+    requires { defaults.now ≡ defaults_of_types (lists_of lists.now) }
+    ensures { IfOk result (λ kept. IsSegmentAdded (lists_of lists.now) before (segment_of segment.now) kept) }
+{
+    let count = before.count.checked_add(1).ok_or(AllocError)?;
+    let typed = segment_is_typed(lists, defaults, segment, stack)?;
+    Ok(SegmentsKeep {
+        count,
+        typed: before.typed && typed,
+        in_range: before.in_range && names_memory(lists, &segment.kind),
+        refer: before.refer && data_kind_refers(lists.types.len(), &segment.kind),
+    })
+}
