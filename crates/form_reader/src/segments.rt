@@ -10,10 +10,8 @@ use crate::cursor::Cursor;
 use crate::error::ReadError;
 use crate::input::InputEntries;
 use crate::input_vectors::{InputEntry, InputVector};
-use form_data::{ConstExpr, DataKind, DataSegment, Payload};
+use form_data::{DataKind, DataSegment, Payload};
 use std::alloc::Global;
-use std::mem;
-use wasm_spec::Operator;
 
 impl<'d> InputEntry<'d> for DataSegment<'d> {
     ghost Seen = { plain.Segment };
@@ -55,14 +53,6 @@ impl<'d> InputEntry<'d> for DataSegment<'d> {
     }
 }
 
-/// A list for the operators of an offset: that of an offset that is no longer asked for, where there is one.
-fn list_of_operators(alloc: Global, kind: &mut DataKind) -> Vec<Operator> {
-    match mem::replace(kind, DataKind::Passive) {
-        DataKind::Active { offset, .. } => offset.ops,
-        DataKind::Passive => Vec::new(alloc),
-    }
-}
-
 // Each of these reads in the place of a segment that is no longer asked for, whose list is used again.
 impl<'d> Cursor<'d> {
     /// A data segment, after its flag.
@@ -96,13 +86,21 @@ impl<'d> Cursor<'d> {
     ) -> Result<(), ReadError>
         ensures { Reads (active_segment memory_index).read (λ u. segment_of segment.new) self.old.rest.now self.new.rest.now result }
     {
-        let mut ops = list_of_operators(alloc, &mut segment.kind);
-        self.expression_into(&mut ops)?;
+        if let DataKind::Active {
+            memory_index: memory,
+            offset,
+        } = &mut segment.kind
+        {
+            *memory = memory_index;
+            self.expression_into(&mut offset.ops)?;
+        } else {
+            let offset = self.expression(alloc)?;
+            segment.kind = DataKind::Active {
+                memory_index,
+                offset,
+            };
+        }
         segment.bytes = self.counted_bytes()?;
-        segment.kind = DataKind::Active {
-            memory_index,
-            offset: ConstExpr { ops },
-        };
         Ok(())
     }
 
