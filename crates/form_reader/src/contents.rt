@@ -123,6 +123,10 @@ impl<'d> Cursor<'d> {
             9 => Ok(Input(Elements(self.input_vector::<Element>(alloc)?))),
             12 => Ok(Read(Payload::DataCount(self.number()?))),
             10 => Ok(Read(self.code(alloc, place)?)),
+            // Few are listed, so that a long offset is not read again.
+            11 if self.counts_few() => {
+                Ok(Read(Payload::Segments(self.listed_vector::<DataSegment<'d>>(alloc)?)))
+            }
             11 => Ok(Input(Segments(self.input_vector::<DataSegment<'d>>(alloc)?))),
             _ => Err(ReadError::Malformed),
         }

@@ -15,6 +15,9 @@ use form_data::Payload;
 use std::alloc::{AllocError, Global};
 use std::mem;
 
+/// How many entries are many. Fewer may be listed, whatever stands in them.
+const MANY_ENTRIES: u32 = 1024;
+
 /// What a section lists that stays in the input.
 pub trait InputEntry<'d>: Sized + Drop {
     ghost Seen: { Type 0 };
@@ -105,6 +108,27 @@ impl<'d> Cursor<'d> {
             return Err(ReadError::Malformed);
         }
         Ok(vector)
+    }
+
+    /// As `input_vector`, but for the entries, which are in a list.
+    pub(crate) fn listed_vector<E: InputEntry<'d>>(
+        &mut self,
+        alloc: Global,
+    ) -> Result<Vec<E>, ReadError>
+        ensures { Reads (sized_at (whole (vector_at E.form))) (λ all. map E.view all.items) self.old.rest.now self.new.rest.now result }
+    {
+        let mut all = Vec::new(alloc);
+        self.kept_vector(alloc, &mut all)?;
+        Ok(all)
+    }
+
+    /// Whether a size and a count come next, and the count is small.
+    pub(crate) fn counts_few(&self) -> bool {
+        let mut ahead = Cursor { rest: self.rest };
+        match ahead.sized() {
+            Ok(mut body) => matches!(body.u32(), Ok(count) if count < MANY_ENTRIES),
+            Err(_) => false,
+        }
     }
 
     /// A size, and a count and entries that fill it.
