@@ -35,8 +35,8 @@ home gs i = home_from 0 gs i
 abbrev pub group_frame : Home → Group (Unit {0}) (Unit {0})
 group_frame g = map_group erased erased g.members
 
-abbrev pub references : Home → List ℕ
-references g = group_edges (λ r. r) g.members
+abbrev pub group_references : Home → List ℕ
+group_references g = group_edges (λ r. r) g.members
 
 -- ---- what equality is
 
@@ -50,7 +50,7 @@ SameTarget Same _ _ = ⊥
 abbrev pub SameGroup : (ℕ → ℕ → Type 0) → Home → Home → Type 0
 SameGroup Same g h =
     AreAlike (λ r s. SameTarget Same (target (λ i. i) g.start r) (target (λ i. i) h.start s))
-    (group_frame g) (group_frame h) (references g) (references h)
+    (group_frame g) (group_frame h) (group_references g) (group_references h)
 
 -- types are equal where they stand at the same place of equal groups, down to a number of groups
 abbrev pub SameDown : ℕ → List (Group ℕ ℕ) → List (Group ℕ ℕ) → ℕ → ℕ → Type 0
@@ -75,7 +75,7 @@ same_reference same g h r s = same_target same (target (λ i. i) g.start r) (tar
 -- the frames are compared, and the references one by one
 abbrev pub same_group : (ℕ → ℕ → Bool) → Home → Home → Bool
 same_group same g h =
-    same_frame (group_frame g) (group_frame h) && pointwise (same_reference same g h) (references g) (references h)
+    same_frame (group_frame g) (group_frame h) && pointwise (same_reference same g h) (group_references g) (group_references h)
 
 abbrev pub same_down : ℕ → List (Group ℕ ℕ) → List (Group ℕ ℕ) → ℕ → ℕ → Bool
 same_down zero ms ns i j = false
