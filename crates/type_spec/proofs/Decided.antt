@@ -8,7 +8,7 @@ use Rattle.wasm_spec.specs.TypeData.{Group}
 use Rattle.type_data.specs.TypeShapes.{group_shape}
 use Rattle.type_data.specs.Names.{plainly, frame}
 use Rattle.type_spec.specs.Same.{same_frame}
-use Rattle.type_spec.specs.Equality.{Target, Inside, Earlier, target, Home, home, SameTarget, SameGroup, SameDown, same_target, same_reference, same_group, same_down}
+use Rattle.type_spec.specs.Equality.{Target, Inside, Earlier, target, Home, home, SameTarget, SameGroup, SameDown, same_target, same_edge, same_group, same_down}
 use Rattle.type_spec.proofs.Tests.{frame-decides}
 
 module _ (test : ℕ → ℕ → Bool) (Same : ℕ → ℕ → Type 0) (decides : (i j : ℕ) → (test i j ≡ true) ↔ Same i j) where
@@ -19,13 +19,13 @@ module _ (test : ℕ → ℕ → Bool) (Same : ℕ → ℕ → Type 0) (decides 
   target-decided (Earlier i) (Inside q) = (λ same. let no : false ≡ true = same in cc, λ same. absurd same)
 
   module _ (g h : Home) where
-    zip-decided : (rs ss : List ℕ) → Decides (pointwise (same_reference test g h) rs ss)
+    zip-decided : (rs ss : List ℕ) → Decides (pointwise (same_edge test g h) rs ss)
         (AllZip (λ r s. SameTarget Same (target (λ i. i) g.start r) (target (λ i. i) h.start s)) rs ss)
     zip-decided [] [] = (λ same. tt, λ all. refl)
     zip-decided [] (s ∷ ss) = (λ same. cc, λ all. absurd all)
     zip-decided (r ∷ rs) [] = (λ same. cc, λ all. absurd all)
     zip-decided (r ∷ rs) (s ∷ ss) =
-        Decides-and (same_reference test g h r s) (pointwise (same_reference test g h) rs ss)
+        Decides-and (same_edge test g h r s) (pointwise (same_edge test g h) rs ss)
         (target-decided (target (λ i. i) g.start r) (target (λ i. i) h.start s)) (zip-decided rs ss)
 
     pub group-decided : (same_group test g h ≡ true) ↔ SameGroup Same g h

@@ -69,13 +69,13 @@ same_target same (Inside p) (Inside q) = nat_eq p q
 same_target same (Earlier i) (Earlier j) = same i j
 same_target same _ _ = false
 
-abbrev pub same_reference : (ℕ → ℕ → Bool) → Home → Home → ℕ → ℕ → Bool
-same_reference same g h r s = same_target same (target (λ i. i) g.start r) (target (λ i. i) h.start s)
+abbrev pub same_edge : (ℕ → ℕ → Bool) → Home → Home → ℕ → ℕ → Bool
+same_edge same g h r s = same_target same (target (λ i. i) g.start r) (target (λ i. i) h.start s)
 
 -- the frames are compared, and the references one by one
 abbrev pub same_group : (ℕ → ℕ → Bool) → Home → Home → Bool
 same_group same g h =
-    same_frame (group_frame g) (group_frame h) && pointwise (same_reference same g h) (group_references g) (group_references h)
+    same_frame (group_frame g) (group_frame h) && pointwise (same_edge same g h) (group_references g) (group_references h)
 
 abbrev pub same_down : ℕ → List (Group ℕ ℕ) → List (Group ℕ ℕ) → ℕ → ℕ → Bool
 same_down zero ms ns i j = false
