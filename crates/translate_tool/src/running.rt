@@ -14,6 +14,7 @@ ghost use Rattle.translate_tool.specs.Ends.{HasPlanned, HasRefused, HasPrintedPa
 use crate::adapters::{StdSink, StdSource, Telling};
 use std::alloc::Global;
 use std::io::{Read, Write};
+use std::mem;
 use std::process::ExitCode;
 use translate::{Report, run};
 
@@ -28,11 +29,13 @@ pub struct Ended<R: Read + Drop, W: Write + Drop, T: Telling> {
     pub sink: StdSink<W, T>,
 }
 
-/// What the program ends with after a run: its status.
+/// What the program ends with after a run: its status. A plan is not taken apart, since the system takes back all memory where the program ends.
 fn end_of(report: Report<'_>) -> ExitCode
     ensures { exit_status result ≡ report.entry.status }
 {
-    ExitCode::from(report.into_status())
+    let status = report.status;
+    mem::forget(report);
+    ExitCode::from(status)
 }
 
 /// Runs from the reader to the writer, once, and ends with the status of the run. The words are those after the program's name.
