@@ -1,5 +1,5 @@
 -- What the record of a translated module imports and exports has its names in the pool, and its entity in the record.
-use Rattle.std.proofs.Common.{◌≡◌, ◌∙◌, ◌<◌, ℕ, List, [], ◌∷◌, ◌++◌, length, get_or, map, slice_get, All, Option, Some, refl, ap, subst, arith, length-append, append_assoc}
+use Rattle.std.proofs.Common.{◌≡◌, ◌∙◌, ◌<◌, ℕ, List, [], ◌∷◌, ◌++◌, length, get_or, map, slice_get, All, Option, Some, refl, ap, arith, length-append, append_assoc}
 use Rattle.std.specs.Prelude.{IsSome, is_some}
 use Rattle.std.specs.List.{cons_option, filter_map, flat_map, enumerate_from}
 use Rattle.std.specs.Option.{option_map}
@@ -53,12 +53,9 @@ module _ (before : List Import) (i : Import) (after : List Import) where
   counted : {A : Type 0} (kind : TypeRef → Option A) (a : A) → kind i.type ≡ Some a → count_of kind before < count_of kind (before ++ i ∷ after)
   counted kind a is =
       let rest = filter_map (λ (j : Import). kind j.type) after in
-      omega (
-        arith,
-        ap length (filter_map-append (λ (j : Import). kind j.type) before (i ∷ after)),
-        length-append (filter_map (λ (j : Import). kind j.type) before) (cons_option (kind i.type) rest),
-        ap (λ o. length (cons_option o rest)) is,
-      )
+      let joined = filter_map-append (λ (j : Import). kind j.type) before (i ∷ after) in
+      let long = length-append (filter_map (λ (j : Import). kind j.type) before) (cons_option (kind i.type) rest) in
+      omega (arith, ap length joined, long, ap (λ o. length (cons_option o rest)) is)
 
   among : IsAmong (before ++ i ∷ after) (brought before i.type)
   among = by i.type refl where
@@ -73,9 +70,7 @@ all-among : (before is : List Import) → All (λ (x : NamedEntity). IsAmong (be
 all-among before [] = All-nil (λ (x : NamedEntity). IsAmong (before ++ []) x.2)
 all-among before (i ∷ is) =
     All-cons (λ (x : NamedEntity). IsAmong (before ++ i ∷ is) x.2) (i.space, i.name, brought before i.type) (imports_after (before ++ i ∷ []) is)
-    (among before i is)
-    (subst (λ (all : List Import). All (λ (x : NamedEntity). IsAmong all x.2) (imports_after (before ++ i ∷ []) is))
-    (append_assoc before (i ∷ []) is) (all-among (before ++ i ∷ []) is))
+    (among before i is) (rw (← append_assoc before (i ∷ []) is) (all-among (before ++ i ∷ []) is))
 
 -- ---- the record has as many entities as the module
 

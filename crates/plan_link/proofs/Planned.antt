@@ -90,13 +90,8 @@ module _ (o : Options) (bytes : List ℕ) (plan : Plan) (is : IsPlanned o bytes 
       let r = plan.translation.module in
       let es = (lists_of_module m).exports in
       let exported : Export → List ℕ × EntityIndex = λ e. (e.name, entity_at e.kind e.index) in
-      omega (
-        arith,
-        length-map r.exports.entries (resolved_export r.strings),
-        ap length has.exports,
-        length-map es exported,
-        (few_entries bytes m is.read.spelled is.read.short).exports,
-      )
+      let few = (few_entries bytes m is.read.spelled is.read.short).exports in
+      omega (arith, length-map r.exports.entries (resolved_export r.strings), ap length has.exports, length-map es exported, few)
 
   pub planned-linkable : MayBeListed → AreWellNamed → IsLinkable plan.translation.module plan.types
   planned-linkable may well =
