@@ -85,7 +85,8 @@ module _ (i : InitOptions) {bytes : List ℕ} {old mid new : ModuleTranslation} 
     (startup_law : (l : Lists) (tables : TablePlan) (memories : MemoryPlan)
     → raised_by_tables tables (raised_by_memories memories (first_startup l)) ≡ startup_of l tables memories)
     (plans : Plans i told.meaning old mid new b mid_types new_types) where
-  last_started : IsStarted (interned_list told.meaning false) (startup_by told.meaning (memory_plan_of new) (plan_of_tables new)) new.module.startup (builder_view new_types)
+  last_started : IsStarted (interned_list told.meaning false) (startup_by told.meaning (memory_plan_of new) (plan_of_tables new)) new.module.startup
+      (builder_view new_types)
   last_started =
       subst (λ (k : Startup). IsStarted (interned_list told.meaning false) k new.module.startup (builder_view new_types))
       (startup_law (lists_of_module told.meaning) (plan_of_tables new) (memory_plan_of mid)

@@ -67,7 +67,8 @@ module _ {K : Type 0} (header : ℕ) where
 
       pub laid-large : 4294967295 < fixed_size (gc_layout_of header t.composite_type.inner)
           → Any (λ t. 4294967295 < fixed_size (gc_layout_of header t.composite_type.inner)) types
-      laid-large large = rw whole (length laid.done, t, omega (arith, length-append laid.done (t ∷ types_of rest)), get_or-append_seam laid.done t (types_of rest) t, large)
+      laid-large large =
+          rw whole (length laid.done, t, omega (arith, length-append laid.done (t ∷ types_of rest)), get_or-append_seam laid.done t (types_of rest) t, large)
 
     module _ (is : left ≡ []) where
       all-done : laid.done ≡ types

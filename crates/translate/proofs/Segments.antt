@@ -60,4 +60,8 @@ finds plan ss start found others index None e = rw (others index (not_contained 
 finds plan ss start found others index (Some s) e = by_kind s.kind refl where
   by_kind : (kind : DataKind) → s.kind ≡ kind → Finds plan.runtime (plan.passive index) (bytes_if_passive s.kind s.bytes)
   by_kind Passive is = rw is (found_at plan start 0 index index ss s (omega arith) found e is)
-  by_kind (Active memory offset) is = rw (is, others index (not_contained index ss (rw e (λ (h : s.kind ≡ Passive). let k : Active memory offset ≡ Passive = sym is ∙ h in absurd cc)))) tt
+  by_kind (Active memory offset) is = rw (
+    is,
+    others index (not_contained index ss (rw e (λ (h : s.kind ≡ Passive).
+        let k : Active memory offset ≡ Passive = sym is ∙ h in absurd cc))),
+  ) tt

@@ -10,4 +10,5 @@ memory-requires c =
     (λ e. c.in-Err.ensures.held (ap Err e))
 
 pub returns-in-Ok-clause-live : goal.returns-in-Ok-clause-live
-returns-in-Ok-clause-live c = omega (arith, ap (λ (s : Registry). length (live s)) c.in-Ok.ensures.ok, live-few (registry_of c.args.registry.now) c.args.types.now c.requires.listed)
+returns-in-Ok-clause-live c =
+    omega (arith, ap (λ (s : Registry). length (live s)) c.in-Ok.ensures.ok, live-few (registry_of c.args.registry.now) c.args.types.now c.requires.listed)

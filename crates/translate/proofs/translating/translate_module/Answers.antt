@@ -28,12 +28,14 @@ layouts_for-requires c = rw c.finish-types.ensures c.in_ok-translation.ensures.i
 pub returns-in-Err-clause-cause : goal.returns-in-Err-clause-cause
 returns-in-Err-clause-cause c =
     let o = with_options c.args.tunables.now c.args.collector c.args.ptr c.args.page_size c.args.max_image in
-    layout-cause o c.in_ok-translation.ensures.initialised c.finish-types.ensures (λ is. c.layouts_for.ensures.overflow (c.in-Err.is ∙ ap Err is)) c.in-Err.ensures.causes
+    layout-cause o c.in_ok-translation.ensures.initialised c.finish-types.ensures
+    (λ is. c.layouts_for.ensures.overflow (c.in-Err.is ∙ ap Err is)) c.in-Err.ensures.causes
 
 pub returns-in-Err-clause-complete : goal.returns-in-Err-clause-complete
 returns-in-Err-clause-complete c =
     let o = with_options c.args.tunables.now c.args.collector c.args.ptr c.args.page_size c.args.max_image in
-    layout-complete o c.in_ok-translation.ensures.initialised c.finish-types.ensures (λ is. c.layouts_for.ensures.overflow (c.in-Err.is ∙ ap Err is)) c.in-Err.ensures.causes
+    layout-complete o c.in_ok-translation.ensures.initialised c.finish-types.ensures
+    (λ is. c.layouts_for.ensures.overflow (c.in-Err.is ∙ ap Err is)) c.in-Err.ensures.causes
 
 -- ---- the context is too large
 
