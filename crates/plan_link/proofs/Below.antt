@@ -13,7 +13,6 @@ use Rattle.wasm_module.specs.declared.module.Module.{Module}
 use Rattle.type_registry.specs.declared.key.ModuleKey.{ModuleKey}
 use Rattle.type_registry.specs.Keys.{key_number}
 use Rattle.type_registry.specs.Registry.{RegistryState, registry_of}
-use Rattle.import_match.specs.declared.error.Mismatch.{Mismatch}
 use Rattle.import_match.specs.Rules.{mismatch}
 use Rattle.import_match.specs.Definitions.{Definition, TwoNames, names_eq, found_from, found}
 use Rattle.import_match.specs.Linking.{engine_definition, export_of, exports_of, exported, CanExport, IsExportResolved}
@@ -29,15 +28,13 @@ found-below k (d ∷ ds) names have is =
     let equal = cases_Bool (names_eq names d.0) in
     grind arith
 
-judged-below : (count number : ℕ) (m : Option Mismatch) → number < count → IsBelow count (judged number m)
-judged-below count number None lt = lt
-judged-below count number (Some rule) lt = tt
-
 answer-below : (ds : List Definition) (count : ℕ) → length ds ≤ count → (want : Definition) → IsBelow count (answer_to ds want)
 answer-below ds count few want = by (found ds want.0) refl where
   by : (o : Option (ℕ × EntityType)) → found ds want.0 ≡ o → IsBelow count (answer_by want.1 o)
   by None is = tt
-  by (Some have) is = judged-below count have.0 (mismatch have.1 want.1) (omega (arith, few, found-below 0 ds want.0 have is))
+  by (Some have) is =
+      let lt : have.0 < count = omega (arith, few, found-below 0 ds want.0 have is) in
+      elim (mismatch have.1 want.1) as (λ m. IsBelow count (judged have.0 m)) [ None ↦ lt | Some rule ↦ tt ]
 
 pub answers-below : (ds wants : List Definition) (count : ℕ) → length ds ≤ count → All (IsBelow count) (import_answers ds wants)
 answers-below ds wants count few =

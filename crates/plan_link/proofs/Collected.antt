@@ -17,10 +17,7 @@ use Rattle.plan_link.specs.Answers.{answer_to, import_answers}
 -- one more
 pub one-more : (some all : List ImportAnswer) (i : ℕ) (a : ImportAnswer) → some ≡ take i all → slice_get all i ≡ Some a
     → some ++ a ∷ [] ≡ take (i + 1) all
-one-more some all i a is at =
-    ap (λ (xs : List ImportAnswer). xs ++ a ∷ []) is
-    ∙ ap (λ (x : ImportAnswer). take i all ++ x ∷ []) (sym (get_or_from_slice_get all i a a at))
-    ∙ sym (take_more all i a (slice_get_within all i a at))
+one-more some all i a is at = rw (is, ← get_or_from_slice_get all i a a at) (sym (take_more all i a (slice_get_within all i a at)))
 
 -- all of them
 pub all-of : (some all : List ImportAnswer) (i : ℕ) → some ≡ take i all → i ≡ length all → some ≡ all

@@ -1,9 +1,7 @@
 -- A module that is read has fewer than 2 ^ 31 interned types.
-use Rattle.std.proofs.Common.{◌≤◌, ◌<◌, ◌+◌, ◌^◌, ℕ, Bool, true, false, List, [], ◌∷◌, ◌++◌, length, map, arith, length-append}
-use Rattle.std.specs.Prelude.{◌==◌}
-use Rattle.std.specs.List.{list_any, flat_map}
+use Rattle.std.proofs.Common.{◌≤◌, ◌<◌, ◌+◌, ◌^◌, ℕ, Bool, true, false, List, [], ◌∷◌, length, map, arith, length-append}
+use Rattle.std.specs.List.{flat_map}
 use Rattle.std.proofs.lemmas.List.{length-map}
-use Rattle.std.proofs.lemmas.Bool.{cases_Bool}
 use Rattle.wasm_spec.specs.Module.{tag_import, imported_of, tags_of_section}
 use Rattle.wasm_spec.specs.Module as plain
 use Rattle.type_spec.specs.Interned.{startup_type, taken}

@@ -31,20 +31,13 @@ groups-add gs l p (s ∷ ss) first end lie =
 
 fresh-few : (r : Registry) (l : TypeList) → Listed l → fresh r l ≤ length l.types
 fresh-few r l listed =
-    omega (
-      arith,
-      groups-add r.groups l begun (map span_of l.groups) 0 (length (list_of l).types) listed.well_named.orderly,
-      length-map l.types interned_of,
-    )
+    let added = groups-add r.groups l begun (map span_of l.groups) 0 (length (list_of l).types) listed.well_named.orderly in
+    omega (arith, added, length-map l.types interned_of)
 
 pub live-few : (r : Registry) (l : TypeList) → Listed l → length (live (registered r l)) ≤ length (live r) + length l.types
 live-few r l listed =
-    omega (
-      arith,
-      fresh-few r l listed,
-      counted-long (keep_groups r.groups (planned r l).fresh) (planned r l).listed.groups,
-      length-both r.groups (planned r l).fresh,
-    )
+    let p = planned r l in
+    omega (arith, fresh-few r l listed, counted-long (keep_groups r.groups p.fresh) p.listed.groups, length-both r.groups p.fresh)
 
 -- a registry that has room is not full
 pub not-full : (r : Registry) (l : TypeList) → Listed l → HasRoom r (length l.types) → IsFull r l → ⊥

@@ -1,5 +1,5 @@
 -- What the record of a translated module imports and exports has its names in the pool, and its entity in the record.
-use Rattle.std.proofs.Common.{◌≡◌, ◌∙◌, ◌<◌, ℕ, List, [], ◌∷◌, ◌++◌, length, get_or, map, slice_get, All, Option, Some, refl, sym, ap, subst, arith, length-append, append_assoc}
+use Rattle.std.proofs.Common.{◌≡◌, ◌∙◌, ◌<◌, ℕ, List, [], ◌∷◌, ◌++◌, length, get_or, map, slice_get, All, Option, Some, refl, ap, arith, length-append, append_assoc}
 use Rattle.std.specs.Prelude.{IsSome, is_some}
 use Rattle.std.specs.List.{cons_option, filter_map, flat_map, enumerate_from}
 use Rattle.std.specs.Option.{option_map}
@@ -20,7 +20,7 @@ use Rattle.rule_spec.specs.Indices.{space_size, IsInSpace}
 use Rattle.rule_spec.specs.Lists.{lists_of_module}
 use Rattle.rule_spec.specs.Rules.{Keeps}
 use Rattle.form_lists.proofs.AllSections.{All-from_map}
-use Rattle.wasm_index.specs.Index.{number_of, index_of}
+use Rattle.wasm_index.specs.Index.{number_of}
 use Rattle.wasm_types.specs.declared.entity.EntityIndex.{EntityIndex}
 use Rattle.wasm_types.specs.declared.entity.EntityIndex.TheVariants as entity
 use Rattle.wasm_types.specs.declared.entity.EntityType.TheVariants as type
@@ -53,12 +53,9 @@ module _ (before : List Import) (i : Import) (after : List Import) where
   counted : {A : Type 0} (kind : TypeRef → Option A) (a : A) → kind i.type ≡ Some a → count_of kind before < count_of kind (before ++ i ∷ after)
   counted kind a is =
       let rest = filter_map (λ (j : Import). kind j.type) after in
-      omega (
-        arith,
-        ap length (filter_map-append (λ (j : Import). kind j.type) before (i ∷ after)),
-        length-append (filter_map (λ (j : Import). kind j.type) before) (cons_option (kind i.type) rest),
-        ap (λ o. length (cons_option o rest)) is,
-      )
+      let joined = filter_map-append (λ (j : Import). kind j.type) before (i ∷ after) in
+      let long = length-append (filter_map (λ (j : Import). kind j.type) before) (cons_option (kind i.type) rest) in
+      omega (arith, ap length joined, long, ap (λ o. length (cons_option o rest)) is)
 
   among : IsAmong (before ++ i ∷ after) (brought before i.type)
   among = by i.type refl where
@@ -73,9 +70,7 @@ all-among : (before is : List Import) → All (λ (x : NamedEntity). IsAmong (be
 all-among before [] = All-nil (λ (x : NamedEntity). IsAmong (before ++ []) x.2)
 all-among before (i ∷ is) =
     All-cons (λ (x : NamedEntity). IsAmong (before ++ i ∷ is) x.2) (i.space, i.name, brought before i.type) (imports_after (before ++ i ∷ []) is)
-    (among before i is)
-    (subst (λ (all : List Import). All (λ (x : NamedEntity). IsAmong all x.2) (imports_after (before ++ i ∷ []) is))
-    (append_assoc before (i ∷ []) is) (all-among (before ++ i ∷ []) is))
+    (among before i is) (rw (← append_assoc before (i ∷ []) is) (all-among (before ++ i ∷ []) is))
 
 -- ---- the record has as many entities as the module
 
@@ -98,59 +93,36 @@ HasEntitiesOf m r = record {
 }
 
 module _ (m : plain.Module) (keeps : Keeps m) (r : Module) (has : HasEntitiesOf m r) where
-  functions-long : length r.functions ≡ length (plain.functions m)
-  functions-long = ap length has.types.functions
-      ∙ length-map (enumerate_from 0 (plain.functions m)) _ ∙ length-enumerate_from 0 (plain.functions m)
-
-  tables-long : length r.tables ≡ length (plain.tables m)
-  tables-long = sym (length-map r.tables table_of) ∙ ap length has.types.tables ∙ length-map (plain.tables m) _
-
-  memories-long : length r.memories ≡ length (plain.memories m)
-  memories-long = ap length has.memories ∙ length-map (plain.memories m) memory_of
-
-  globals-long : length r.globals ≡ length (plain.globals m)
-  globals-long = sym (length-map r.globals global_of) ∙ ap length has.types.globals ∙ length-map (plain.globals m) _
-
-  tags-long : length r.tags ≡ length (plain.tags m)
-  tags-long = ap length has.types.tags ∙ length-map (plain.tags m) _
-
   abbrev IsThere : EntityIndex → Type 0
   IsThere e = IsSome (entity_type (record_of r) e)
 
-  -- by its number
-  function-there : (n : ℕ) → n < length (plain.functions m) → IsThere (entity.Function (index_of n))
-  function-there n lt = is-there (λ (f : FunctionType). type.Function f.signature) r.functions n (omega (arith, lt, functions-long))
-
-  table-there : (n : ℕ) → n < length (plain.tables m) → IsThere (entity.Table (index_of n))
-  table-there n lt = is-there type.Table r.tables n (omega (arith, lt, tables-long))
-
-  memory-there : (n : ℕ) → n < length (plain.memories m) → IsThere (entity.Memory (index_of n))
-  memory-there n lt = is-there type.Memory r.memories n (omega (arith, lt, memories-long))
-
-  global-there : (n : ℕ) → n < length (plain.globals m) → IsThere (entity.Global (index_of n))
-  global-there n lt = is-there type.Global r.globals n (omega (arith, lt, globals-long))
-
-  tag-there : (n : ℕ) → n < length (plain.tags m) → IsThere (entity.Tag (index_of n))
-  tag-there n lt = is-there type.Tag r.tags n (omega (arith, lt, tags-long))
+  there-at : (k : ExternalKind) (n : ℕ) → n < space_size (lists_of_module m) k → IsThere (entity_at k n)
+  there-at kind.Func n lt =
+      let long = ap length has.types.functions ∙ length-map (enumerate_from 0 (plain.functions m)) _ ∙ length-enumerate_from 0 (plain.functions m) in
+      is-there (λ (f : FunctionType). type.Function f.signature) r.functions n (omega (arith, lt, long))
+  there-at kind.Table n lt =
+      is-there type.Table r.tables n (omega (arith, lt, length-map r.tables table_of, ap length has.types.tables ∙ length-map (plain.tables m) _))
+  there-at kind.Memory n lt =
+      is-there type.Memory r.memories n (omega (arith, lt, ap length has.memories ∙ length-map (plain.memories m) memory_of))
+  there-at kind.Global n lt =
+      is-there type.Global r.globals n (omega (arith, lt, length-map r.globals global_of, ap length has.types.globals ∙ length-map (plain.globals m) _))
+  there-at kind.Tag n lt = is-there type.Tag r.tags n (omega (arith, lt, ap length has.types.tags ∙ length-map (plain.tags m) _))
 
   -- ---- imports
 
   import-there : (e : EntityIndex) → IsAmong (plain.imports m) e → IsThere e
   import-there (entity.Function i) lt =
-      is-there (λ (f : FunctionType). type.Function f.signature) r.functions (number_of i)
-      (omega (arith, lt, functions-long, length-append (plain.imported_of function_import m) (flat_map plain.function_types_of_section m)))
+      there-at kind.Func (number_of i) (omega (arith, lt, length-append (plain.imported_of function_import m) (flat_map plain.function_types_of_section m)))
   import-there (entity.Table i) lt =
-      is-there type.Table r.tables (number_of i)
-      (omega (arith, lt, tables-long, length-append (plain.imported_of table_import m) (map (λ (t : TableDef). t.type) (flat_map plain.tables_of_section m))))
+      there-at kind.Table (number_of i)
+      (omega (arith, lt, length-append (plain.imported_of table_import m) (map (λ (t : TableDef). t.type) (flat_map plain.tables_of_section m))))
   import-there (entity.Memory i) lt =
-      is-there type.Memory r.memories (number_of i)
-      (omega (arith, lt, memories-long, length-append (plain.imported_memories m) (plain.defined_memories m)))
+      there-at kind.Memory (number_of i) (omega (arith, lt, length-append (plain.imported_memories m) (plain.defined_memories m)))
   import-there (entity.Global i) lt =
-      is-there type.Global r.globals (number_of i)
-      (omega (arith, lt, globals-long, length-append (plain.imported_of global_import m) (map (λ (g : GlobalDef). g.type) (flat_map plain.globals_of_section m))))
+      there-at kind.Global (number_of i)
+      (omega (arith, lt, length-append (plain.imported_of global_import m) (map (λ (g : GlobalDef). g.type) (flat_map plain.globals_of_section m))))
   import-there (entity.Tag i) lt =
-      is-there type.Tag r.tags (number_of i)
-      (omega (arith, lt, tags-long, length-append (plain.imported_of tag_import m) (flat_map plain.tags_of_section m)))
+      there-at kind.Tag (number_of i) (omega (arith, lt, length-append (plain.imported_of tag_import m) (flat_map plain.tags_of_section m)))
 
   imports-there : All (λ (x : Initializer). IsThere (resolved_import r.strings x).2) r.initializers.items
   imports-there =
@@ -167,13 +139,6 @@ module _ (m : plain.Module) (keeps : Keeps m) (r : Module) (has : HasEntitiesOf 
 
   -- ---- exports
 
-  export-there : (k : ExternalKind) (n : ℕ) → n < space_size (lists_of_module m) k → IsThere (entity_at k n)
-  export-there kind.Func n lt = function-there n lt
-  export-there kind.Table n lt = table-there n lt
-  export-there kind.Memory n lt = memory-there n lt
-  export-there kind.Global n lt = global-there n lt
-  export-there kind.Tag n lt = tag-there n lt
-
   exports-there : All (λ (x : Atom × EntityIndex). IsThere x.1) r.exports.entries
   exports-there =
       let Q : List ℕ × EntityIndex → Type 0 = λ x. IsThere x.1 in
@@ -181,7 +146,7 @@ module _ (m : plain.Module) (keeps : Keeps m) (r : Module) (has : HasEntitiesOf 
       All-from_map Q (resolved_export r.strings) r.exports.entries
       (All-same Q (map (resolved_export r.strings) r.exports.entries) (exported_entities es) has.exports
       (All-map Q (λ (e : Export). (e.name, entity_at e.kind e.index)) es
-      (All-weaker (IsInSpace (lists_of_module m)) (λ (e : Export). IsThere (entity_at e.kind e.index)) (λ e. export-there e.kind e.index) es (keeps L7).in_space)))
+      (All-weaker (IsInSpace (lists_of_module m)) (λ (e : Export). IsThere (entity_at e.kind e.index)) (λ e. there-at e.kind e.index) es (keeps L7).in_space)))
 
   pub exports-resolved : All (IsExportResolved (record_of r)) r.exports.entries
   exports-resolved k d lt = (text-there r.strings (get_or r.exports.entries k d).0 (has.export_names k d lt), exports-there k d lt)

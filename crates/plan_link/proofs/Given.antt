@@ -21,18 +21,12 @@ Answer = Result ℕ LinkError
 -- the same without the place of the import
 abbrev pub told : Answer → ImportAnswer
 told (Ok number) = answer.Given number
-told (Err (error.Missing i)) = answer.Missing
 told (Err (error.Mismatch i rule)) = answer.Mismatch rule
-told (Err error.Duplicate) = answer.Missing
-told (Err error.NotHeld) = answer.Missing
-told (Err error.OutOfMemory) = answer.Missing
+told (Err e) = answer.Missing
 
 told-at : (i : ℕ) (want : EntityType) (o : Option (ℕ × EntityType)) → told (linker.answer_at i want o) ≡ answer_by want o
 told-at i want None = refl
-told-at i want (Some have) = by (mismatch have.1 want) where
-  by : (m : Option Mismatch) → told (linker.judged i have.0 m) ≡ judged have.0 m
-  by None = refl
-  by (Some rule) = refl
+told-at i want (Some have) = elim (mismatch have.1 want) as (λ m. told (linker.judged i have.0 m) ≡ judged have.0 m) [ None ↦ refl | Some rule ↦ refl ]
 
 told-from : (k : ℕ) (ds wants : List Definition) → map told (map (linker.answer_to ds) (enumerate_from k wants)) ≡ import_answers ds wants
 told-from k ds [] = refl
@@ -52,10 +46,7 @@ Comes (Err e) = CanCome e
 
 can-come : (i : ℕ) (want : EntityType) (o : Option (ℕ × EntityType)) → Comes (linker.answer_at i want o)
 can-come i want None = tt
-can-come i want (Some have) = by (mismatch have.1 want) where
-  by : (m : Option Mismatch) → Comes (linker.judged i have.0 m)
-  by None = tt
-  by (Some rule) = tt
+can-come i want (Some have) = elim (mismatch have.1 want) as (λ m. Comes (linker.judged i have.0 m)) [ None ↦ tt | Some rule ↦ tt ]
 
 come-at : (ds wants : List Definition) (i : ℕ) (r : Answer) → slice_get (linker.answers ds wants) i ≡ Some r → Comes r
 come-at ds wants i r is = by (slice_get (enumerate_from 0 wants) i) (sym (slice_get-map (linker.answer_to ds) (enumerate_from 0 wants) i) ∙ is) where
@@ -73,18 +64,12 @@ number-given ds wants i number (inl memory) = absurd cc
 number-given ds wants i number (inr at) = given-at ds wants i (Ok number) at
 
 told-is : (e : LinkError) (a : ImportAnswer) → told_by e ≡ Some a → told (Err e) ≡ a
-told-is (error.Missing i) a is = same_Some answer.Missing a is
-told-is (error.Mismatch i rule) a is = same_Some (answer.Mismatch rule) a is
-told-is error.Duplicate a is = absurd (none-some a is)
-told-is error.NotHeld a is = absurd (none-some a is)
-told-is error.OutOfMemory a is = absurd (none-some a is)
+told-is (error.Missing i) a is = cc
+told-is e a is = cc
 
 pub refusal-told : (ds wants : List Definition) (i : ℕ) (e : LinkError) (a : ImportAnswer) → linker.IsAnswerAt (Err e) ds wants i
     → told_by e ≡ Some a → slice_get (import_answers ds wants) i ≡ Some a
-refusal-told ds wants i e a (inl memory) is = absurd (none-some a (sym (ap by memory) ∙ is)) where
-  by : Answer → Option ImportAnswer
-  by (Ok number) = None
-  by (Err x) = told_by x
+refusal-told ds wants i e a (inl memory) is = let same : e ≡ error.OutOfMemory = cc in absurd (none-some a (rw same at is))
 refusal-told ds wants i e a (inr at) is = given-at ds wants i (Err e) at ∙ ap Some (told-is e a is)
 
 -- ---- where all imports are given
@@ -96,23 +81,18 @@ given-ok i want (Some have) n e = by (mismatch have.1 want) e where
   by None e' = ap Ok cc
   by (Some rule) e' = absurd cc
 
-ok-given : (i : ℕ) (want : EntityType) (o : Option (ℕ × EntityType)) (n : ℕ) → linker.answer_at i want o ≡ Ok n → answer_by want o ≡ answer.Given n
-ok-given i want o n e = sym (told-at i want o) ∙ ap told e
+-- the answers are the values, where there are all
+values-are : (rs : List Answer) (ns : List ℕ) → linker.all_values rs ≡ Ok ns → rs ≡ map Ok ns
+values-are [] ns e = let none : [] ≡ ns = cc in ap (map Ok) none
+values-are (Err x ∷ rs) ns e = absurd cc
+values-are (Ok n ∷ rs) ns e = by (linker.all_values rs) e (λ ms. values-are rs ms) where
+  by : (o : Result (List ℕ) LinkError) → linker.with_value n o ≡ Ok ns → ((ms : List ℕ) → o ≡ Ok ms → rs ≡ map Ok ms) → Ok n ∷ rs ≡ map Ok ns
+  by (Err x) e rest = absurd cc
+  by (Ok ms) e rest = let same : n ∷ ms ≡ ns = cc in ap (λ (xs : List Answer). Ok n ∷ xs) (rest ms refl) ∙ ap (map Ok) same
 
--- the first value and those after it
-record IsParted (r : Answer) (rs : List Answer) (ns : List ℕ) : Type 0 where
-  first : ℕ
-  rest : List ℕ
-  here : r ≡ Ok first
-  after : linker.all_values rs ≡ Ok rest
-  both : first ∷ rest ≡ ns
-
-parted : (r : Answer) (rs : List Answer) (ns : List ℕ) → linker.all_values (r ∷ rs) ≡ Ok ns → IsParted r rs ns
-parted (Err e) rs ns is = absurd cc
-parted (Ok n) rs ns is = by (linker.all_values rs) refl is where
-  by : (o : Result (List ℕ) LinkError) → linker.all_values rs ≡ o → linker.with_value n o ≡ Ok ns → IsParted (Ok n) rs ns
-  by (Err e) after is' = absurd cc
-  by (Ok ms) after is' = record { first = n; rest = ms; here = refl; after = after; both = cc }
+told-values : (ns : List ℕ) → map told (map Ok ns) ≡ map answer.Given ns
+told-values [] = refl
+told-values (n ∷ ns) = ap (λ (xs : List ImportAnswer). answer.Given n ∷ xs) (told-values ns)
 
 abbrev from : ℕ → List Definition → List Definition → Result (List ℕ) LinkError
 from k ds wants = linker.all_values (map (linker.answer_to ds) (enumerate_from k wants))
@@ -127,11 +107,8 @@ all-ok k ds (want ∷ wants) (n ∷ ns) e =
     ap (λ (r : Answer). linker.all_values (r ∷ map (linker.answer_to ds) (enumerate_from (k + 1) wants))) (given-ok k want.1 (found ds want.0) n first)
     ∙ ap (linker.with_value n) (all-ok (k + 1) ds wants ns rest)
 
-all-given : (k : ℕ) (ds wants : List Definition) (ns : List ℕ) → from k ds wants ≡ Ok ns → import_answers ds wants ≡ map answer.Given ns
-all-given k ds [] ns e = let none : [] ≡ ns = cc in ap (map answer.Given) none
-all-given k ds (want ∷ wants) ns e =
-    let p = parted (linker.answer_at k want.1 (found ds want.0)) (map (linker.answer_to ds) (enumerate_from (k + 1) wants)) ns e in
-    (λ i. ok-given k want.1 (found ds want.0) p.first p.here i ∷ all-given (k + 1) ds wants p.rest p.after i) ∙ ap (map answer.Given) p.both
-
 pub given-resolved : (ds wants : List Definition) (ns : List ℕ) → (import_answers ds wants ≡ map answer.Given ns) ↔ (linker.resolved ds wants ≡ Ok ns)
-given-resolved ds wants ns = (all-ok 0 ds wants ns, all-given 0 ds wants ns)
+given-resolved ds wants ns = (
+  all-ok 0 ds wants ns,
+  λ e. sym (told-from 0 ds wants) ∙ ap (map told) (values-are (linker.answers ds wants) ns e) ∙ told-values ns,
+)

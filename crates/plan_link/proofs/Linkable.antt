@@ -22,7 +22,6 @@ use Rattle.init_plan.specs.declared.translation.ModuleTranslation.{ModuleTransla
 use Rattle.module_environ.specs.Escapes.{escaping}
 use Rattle.module_environ.specs.Translated.{IsTranslated, starts_always}
 use Rattle.module_environ.specs.Translation.{HasSections, HasTypes}
-use Rattle.module_environ.specs.Types.{interned_list}
 use Rattle.type_registry.specs.Listed.{Listed}
 use Rattle.type_registry.specs.Registry.{registry_of, count_of}
 use Rattle.type_registry.specs.Keys.{key_number}
@@ -90,24 +89,13 @@ BuiltMayBeListed = (s : BuilderState) (ms : List (Group ℕ ℕ)) (tags : List �
 
 module _ (may : BuiltMayBeListed) (tunables : Tunables) (module_index : Index StaticModuleSpace) (validator : ℕ) (bytes : List ℕ)
     (t : ModuleTranslation) (b : BuilderState) (is : IsTranslated tunables module_index validator bytes t b) where
-  abbrev m : plain.Module
-  m = is.meaning
-
-  counted : length (interned_list m (starts_always m)).types ≡ length b.list.types
-  counted = ap (λ (c : Built). length c.types) (sym is.types.built) ∙ length-map b.list.types interned_of
-
-  few : length b.list.types < 4294967295
-  few = omega (arith, length-map b.list.types interned_of, is.types.room)
-
-  has : HasEntitiesOf m t.module
-  has = entities-of tunables.debug_guest m validator t is.translation.types is.translation.sections
-
-  below : All (IsTypeBelow (length b.list.types)) (types_of t.module)
-  below =
-      all-below m is.keeps (starts_always m) (length b.list.types) counted t.module has.types
-      (startup-below m is.keeps (starts_always m) (length b.list.types) counted t.module.startup is.translation.startup)
-
   pub linkable : IsLinkable t.module b.list
   linkable =
-      linkable-of m is.keeps t.module has b.list below
+      let m = is.meaning in
+      let counted = ap (λ (c : Built). length c.types) (sym is.types.built) ∙ length-map b.list.types interned_of in
+      let few : length b.list.types < 4294967295 = omega (arith, length-map b.list.types interned_of, is.types.room) in
+      let has = entities-of tunables.debug_guest m validator t is.translation.types is.translation.sections in
+      linkable-of m is.keeps t.module has b.list
+      (all-below m is.keeps (starts_always m) (length b.list.types) counted t.module has.types
+      (startup-below m is.keeps (starts_always m) (length b.list.types) counted t.module.startup is.translation.startup))
       (may b (placed_groups m) (plain.tags m) (starts_always m) (keeps-earlier m is.keeps) is.types.built few) few

@@ -26,7 +26,6 @@ use Rattle.translate.specs.Options.{Options, startup_by, runs}
 use Rattle.translate.specs.Planned.{IsPlanned, nothing_met}
 use Rattle.type_registry.specs.Listed.{Listed, list_of}
 use Rattle.wasm_types.specs.declared.entity.EntityIndex.{EntityIndex}
-use Rattle.wasm_types.specs.declared.index.EngineOrModuleTypeIndex.{EngineOrModuleTypeIndex}
 use Rattle.import_match.specs.Linking.{IsTypeBelow}
 use Rattle.import_match.specs.ModuleTypes.{types_of}
 use Rattle.plan_link.specs.Linkable.{IsLinkable}
@@ -34,9 +33,6 @@ use Rattle.plan_link.proofs.FewTypes.{few-types}
 use Rattle.plan_link.proofs.TypesBelow.{raised-below, all-below}
 use Rattle.plan_link.proofs.Found.{HasEntitiesOf}
 use Rattle.plan_link.proofs.Linkable.{entities-of, linkable-of}
-use Rattle.wasm_module.specs.declared.startup.ModuleStartup.{ModuleStartup}
-use Rattle.wasm_module.specs.ModuleData.{startup_of}
-use Rattle.wasm_module.specs.ModuleShapes.{startup_edges}
 
 -- a list whose groups are well named may be registered, and those of an interned list are
 abbrev pub MayBeListed : Type 0
@@ -71,42 +67,31 @@ module _ (o : Options) (bytes : List ℕ) (plan : Plan) (is : IsPlanned o bytes 
   well-named : AreWellNamed → IsWellNamed held
   well-named well =
       let w = well (placed_groups m) (keeps-earlier m is.keeps) (plain.tags m) (runs kind) in
-      let without : Built = record list { known_trampolines = held.known_trampolines } in
-      let named : IsWellNamed without = record { orderly = w.orderly; earlier = w.earlier; kinds = w.kinds } in
-      let same : without ≡ held = λ i. record {
-        types = sym is.planned.types.types i;
-        groups = sym is.planned.types.groups i;
-        trampolines = sym is.planned.types.trampolines i;
-        known_trampolines = held.known_trampolines;
-      } in
-      subst (λ (b : Built). IsWellNamed b) same named
+      let same = is.planned.types in
+      record {
+        orderly = rw (same.types, same.groups) w.orderly;
+        earlier = rw (same.types, same.groups) w.earlier;
+        kinds = rw same.types w.kinds;
+      }
 
   -- planning leaves the entities
   has : HasEntitiesOf m plan.translation.module
   has =
-      let translated = init.rest.translation in
       subst (λ (t : ModuleTranslation). HasEntitiesOf m t.module) (sym init.rest.same)
-      (entities-of o.init.tunables.debug_guest m _ init.rest.before translated.types translated.sections)
+      (entities-of o.init.tunables.debug_guest m _ init.rest.before init.rest.translation.types init.rest.translation.sections)
 
   below : All (IsTypeBelow (length plan.types.types)) (types_of plan.translation.module)
   below =
-      let P : EngineOrModuleTypeIndex → Type 0 = λ e. IsTypeBelow (length plan.types.types) e in
       all-below m is.keeps (runs kind) (length plan.types.types) counted plan.translation.module has.types
-      (subst (λ (s : ModuleStartup). All P (startup_edges (startup_of s))) (sym init.startup)
-      (raised-below m is.keeps (runs kind) (length plan.types.types) counted kind counted))
+      (rw init.startup (raised-below m is.keeps (runs kind) (length plan.types.types) counted kind counted))
 
   pub planned-exports : length plan.translation.module.exports.entries < 2 ^ 30
   planned-exports =
       let r = plan.translation.module in
       let es = (lists_of_module m).exports in
       let exported : Export → List ℕ × EntityIndex = λ e. (e.name, entity_at e.kind e.index) in
-      omega (
-        arith,
-        length-map r.exports.entries (resolved_export r.strings),
-        ap length has.exports,
-        length-map es exported,
-        (few_entries bytes m is.read.spelled is.read.short).exports,
-      )
+      let few = (few_entries bytes m is.read.spelled is.read.short).exports in
+      omega (arith, length-map r.exports.entries (resolved_export r.strings), ap length has.exports, length-map es exported, few)
 
   pub planned-linkable : MayBeListed → AreWellNamed → IsLinkable plan.translation.module plan.types
   planned-linkable may well =

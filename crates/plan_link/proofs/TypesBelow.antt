@@ -24,10 +24,9 @@ use Rattle.wasm_types.specs.declared.index.EngineOrModuleTypeIndex.{EngineOrModu
 use Rattle.wasm_types.specs.declared.table.Table.{Table}
 use Rattle.wasm_types.specs.declared.global.Global.{Global}
 use Rattle.wasm_types.specs.declared.tag.Tag.{Tag}
-use Rattle.wasm_types.specs.EntityData.{TableData, GlobalData, table_edges, global_edges, tag_edges, map_table, map_global}
+use Rattle.wasm_types.specs.EntityData.{table_edges, global_edges, tag_edges, map_table, map_global}
 use Rattle.wasm_types.specs.EntityShapes.{table_shape, global_shape}
 use Rattle.wasm_types.specs.EntityViews.{table_of, global_of, tag_of}
-use Rattle.wasm_types.specs.ValueViews.{Name}
 use Rattle.wasm_convert.specs.Conversion.{table_type_of, global_type_of}
 use Rattle.wasm_convert.specs.Known.{CanLookUp, Known}
 use Rattle.wasm_module.specs.declared.function.FunctionType.{FunctionType}
@@ -104,11 +103,17 @@ module _ (m : plain.Module) (keeps : Keeps m) (startup : Bool) (count : ℕ) (co
   alone : (e : EngineOrModuleTypeIndex) → P e → All P (e ∷ [])
   alone e below = All-cons P e [] below (All-nil P)
 
+  -- entities that are made of the module's name what each of these names
+  made-below : {D T : Type 0} (edges : D → List EngineOrModuleTypeIndex) (make : T → D) (ds : List D) (ts : List T) → ds ≡ map make ts
+      → All (λ t. All P (edges (make t))) ts → All P (flat_map edges ds)
+  made-below edges make ds ts is all =
+      (All-parts P edges ds).1 (All-same (λ d. All P (edges d)) ds (map make ts) is (All-map (λ d. All P (edges d)) make ts all))
+
   spaces-below : (es : List EngineOrModuleTypeIndex) → es ≡ map type_index (declared m)
       → All P (flat_map (λ (x : EngineOrModuleTypeIndex). x ∷ []) (map type_of_space es))
   spaces-below es is =
-      (All-parts P (λ (x : EngineOrModuleTypeIndex). x ∷ []) (map type_of_space es)).1
-      (All-map (λ x. All P (x ∷ [])) type_of_space es (All-weaker P (λ x. All P (x ∷ [])) alone es (All-same P es (map type_index (declared m)) is listed)))
+      made-below (λ (x : EngineOrModuleTypeIndex). x ∷ []) type_of_space (map type_of_space es) es refl
+      (All-weaker P (λ x. All P (x ∷ [])) alone es (All-same P es (map type_index (declared m)) is listed))
 
   -- ---- functions
 
@@ -119,12 +124,11 @@ module _ (m : plain.Module) (keeps : Keeps m) (startup : Bool) (count : ℕ) (co
       → All P (flat_map (λ (f : FunctionData EngineOrModuleTypeIndex). f.signature ∷ []) (map function_of fs))
   functions-below order fs is =
       let Q : FunctionType → Type 0 = λ f. All P (f.signature ∷ []) in
-      let all : All Q (function_types m order) = All-map Q (function_in order) (enumerate_from 0 (plain.functions m))
+      made-below (λ (f : FunctionData EngineOrModuleTypeIndex). f.signature ∷ []) function_of (map function_of fs) fs refl
+      (All-same Q fs (function_types m order) is (All-map Q (function_in order) (enumerate_from 0 (plain.functions m))
       (all-numbered (λ i. All P (declared_type m i ∷ [])) 0 (plain.functions m)
       (All-weaker (NamesFunctionType (lists_of_module m)) (λ i. All P (declared_type m i ∷ []))
-      (λ i named. alone (declared_type m i) (function-type-below i named)) (plain.functions m) (keeps L2).functions)) in
-      (All-parts P (λ (f : FunctionData EngineOrModuleTypeIndex). f.signature ∷ []) (map function_of fs)).1
-      (All-map (λ f. All P (f.signature ∷ [])) function_of fs (All-same Q fs (function_types m order) is all))
+      (λ i named. alone (declared_type m i) (function-type-below i named)) (plain.functions m) (keeps L2).functions))))
 
   -- ---- tables and globals
 
@@ -133,18 +137,12 @@ module _ (m : plain.Module) (keeps : Keeps m) (startup : Bool) (count : ℕ) (co
 
   knows : (i : ℕ) → i < known_types → known (unpacked.Module i)
   knows i lt =
-      let inside : i < length (plain.types m) =
-      omega (
-        arith,
-        lt,
-        length-map (declared_groups 0 (plain.groups m)) (λ (d : Declared). d.type),
-        ap length (declared-types 0 (plain.groups m)),
-      ) in declared-below i inside
+      let long = length-map (declared_groups 0 (plain.groups m)) (λ (d : Declared). d.type) in
+      declared-below i (omega (arith, lt, long, ap length (declared-types 0 (plain.groups m))))
 
   looked : (i : UnpackedIndex) → CanLookUp known i → known i
-  looked (unpacked.Module i) can = can
-  looked (unpacked.Id i) can = can
   looked (unpacked.RecGroup i) can = absurd can
+  looked i can = can
 
   edges-below : (es : List UnpackedIndex) → Known known es → All P (map (λ i. (look_up_in m i).index) es)
   edges-below es all = All-map P (λ i. (look_up_in m i).index) es (All-weaker (CanLookUp known) known looked es all)
@@ -157,12 +155,8 @@ module _ (m : plain.Module) (keeps : Keeps m) (startup : Bool) (count : ℕ) (co
 
   tables-below : (ts : List Table) → map table_of ts ≡ tables_data m → All P (flat_map (table_edges index_in) (map table_of ts))
   tables-below ts is =
-      let Q : TableData Name → Type 0 = λ d. All P (table_edges index_in d) in
-      (All-parts P (table_edges index_in) (map table_of ts)).1
-      (All-same Q (map table_of ts) (tables_data m) is
-      (All-map Q (λ (t : TableType). map_table (look_up_in m) (table_type_of t)) (plain.tables m)
-      (All-weaker (λ (t : TableType). RefersIn known_types t.element_type) (λ (t : TableType). Q (map_table (look_up_in m) (table_type_of t))) table-below
-      (plain.tables m) (all-tables known_types m (keeps L10)))))
+      made-below (table_edges index_in) (λ (t : TableType). map_table (look_up_in m) (table_type_of t)) (map table_of ts) (plain.tables m) is
+      (All-weaker (λ (t : TableType). RefersIn known_types t.element_type) _ table-below (plain.tables m) (all-tables known_types m (keeps L10)))
 
   global-below : (t : GlobalType) → ValueRefersIn known_types t.content_type → All P (global_edges index_in (map_global (look_up_in m) (global_type_of t)))
   global-below t refers =
@@ -172,12 +166,8 @@ module _ (m : plain.Module) (keeps : Keeps m) (startup : Bool) (count : ℕ) (co
 
   globals-below : (ts : List Global) → map global_of ts ≡ globals_data m → All P (flat_map (global_edges index_in) (map global_of ts))
   globals-below ts is =
-      let Q : GlobalData Name → Type 0 = λ d. All P (global_edges index_in d) in
-      (All-parts P (global_edges index_in) (map global_of ts)).1
-      (All-same Q (map global_of ts) (globals_data m) is
-      (All-map Q (λ (t : GlobalType). map_global (look_up_in m) (global_type_of t)) (plain.globals m)
-      (All-weaker (λ (t : GlobalType). ValueRefersIn known_types t.content_type) (λ (t : GlobalType). Q (map_global (look_up_in m) (global_type_of t))) global-below
-      (plain.globals m) (all-globals known_types m (keeps L10)))))
+      made-below (global_edges index_in) (λ (t : GlobalType). map_global (look_up_in m) (global_type_of t)) (map global_of ts) (plain.globals m) is
+      (All-weaker (λ (t : GlobalType). ValueRefersIn known_types t.content_type) _ global-below (plain.globals m) (all-globals known_types m (keeps L10)))
 
   -- ---- tags, each with the type of the objects that carry its exceptions
 
@@ -194,26 +184,24 @@ module _ (m : plain.Module) (keeps : Keeps m) (startup : Bool) (count : ℕ) (co
   tags-below : (ts : List Tag) → ts ≡ tags_of m → All P (flat_map tag_edges (map tag_of ts))
   tags-below ts is =
       let Q : Tag → Type 0 = λ t. All P (tag_edges (tag_of t)) in
-      (All-parts P tag_edges (map tag_of ts)).1
-      (All-map (λ d. All P (tag_edges d)) tag_of ts (All-same Q ts (tags_of m) is (All-map Q tag_in (plain.tags m) tags-of-module)))
+      made-below tag_edges tag_of (map tag_of ts) ts refl (All-same Q ts (tags_of m) is (All-map Q tag_in (plain.tags m) tags-of-module))
 
   -- ---- startup
 
+  last-below : length (interned_list m true).types ≡ count → All P (type_index (length (interned_list m false).types) ∷ [])
+  last-below long = alone _ (omega (arith, long, length-append (interned_list m false).types (startup_type ∷ [])))
+
   pub startup-below : (s : ModuleStartup) → s ≡ startup_when m startup → All P (startup_edges (startup_of s))
-  startup-below s is = All-same P _ _ (ap (λ x. startup_edges (startup_of x)) is) (by startup counted) where
+  startup-below s is = rw is (by startup counted) where
     by : (b : Bool) → length (interned_list m b).types ≡ count → All P (startup_edges (startup_of (startup_when m b)))
     by false long = All-nil P
-    by true long =
-        let last : P (type_index (length (interned_list m false).types)) =
-        omega (arith, long, length-append (interned_list m false).types (startup_type ∷ [])) in
-        alone (type_index (length (interned_list m false).types)) last
+    by true long = last-below long
 
   -- the same of a startup that planning raised, with the last type
   pub raised-below : (k : Startup) → length (interned_list m (runs k)).types ≡ count
       → All P (startup_edges (startup_of (startup_with k (type_index (length (interned_list m false).types)))))
   raised-below Never long = All-nil P
-  raised-below _ long =
-      alone (type_index (length (interned_list m false).types)) (omega (arith, long, length-append (interned_list m false).types (startup_type ∷ [])))
+  raised-below _ long = last-below long
 
   -- ---- all together
 

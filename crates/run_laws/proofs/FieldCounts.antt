@@ -4,7 +4,7 @@ use Rattle.std.specs.Prelude.{slice_get, unwrap_or, option_and_then}
 use Rattle.std.specs.Option.{option_map}
 use Rattle.std.proofs.lemmas.List.{length-map, get_or-map}
 use Rattle.wasm_spec.specs.declared.types.UnpackedIndex.{UnpackedIndex}
-use Rattle.wasm_spec.specs.TypeData.{Composite, Func, Array, Struct, Cont, Exn, SubType, Group, map_composite, map_sub_type, map_group}
+use Rattle.wasm_spec.specs.TypeData.{Composite, Struct, SubType, Group, map_composite, map_sub_type, map_group}
 use Rattle.wasm_spec.specs.Module as plain
 use Rattle.type_data.specs.Shapes.{erased}
 use Rattle.type_data.specs.Names.{index_of}
@@ -35,21 +35,15 @@ use Rattle.plan_run.specs.Fields.{length_or_zero}
 
 -- how many fields a struct type has, and 0 for another type
 abbrev pub fields_in : {H R : Type 0} → Composite H R → ℕ
-fields_in (Func f) = 0
-fields_in (Array f) = 0
 fields_in (Struct fs) = length fs
-fields_in (Cont f) = 0
-fields_in (Exn e) = 0
+fields_in c = 0
 
 abbrev pub fields_at : {H R : Type 0} → Group H R → ℕ → SubType H R → ℕ
 fields_at g p d = fields_in (get_or g p d).composite.inner
 
 fields-mapped : {H R K S : Type 0} (f : H → K) (g : R → S) (c : Composite H R) → fields_in (map_composite f g c) ≡ fields_in c
-fields-mapped f g (Func x) = refl
-fields-mapped f g (Array x) = refl
 fields-mapped f g (Struct fs) = length-map fs _
-fields-mapped f g (Cont x) = refl
-fields-mapped f g (Exn x) = refl
+fields-mapped f g c = refl
 
 -- ---- equal types have equally many fields
 
@@ -106,21 +100,15 @@ module _ (gs : List (Group ℕ ℕ)) (near : NameEarlier 0 gs) (tags : List ℕ)
 pub view-fields : (t : WasmSubType) → length_or_zero (struct_in t.composite_type.inner) ≡ fields_in (interned_of t).composite.inner
 view-fields t = by t.composite_type.inner where
   by : (c : WasmCompositeInnerType) → length_or_zero (struct_in c) ≡ fields_in (interned_of (record t { composite_type = record t.composite_type { inner = c } })).composite.inner
-  by (inner.Func x) = refl
-  by (inner.Array x) = refl
   by (inner.Struct x) = sym (length-map (struct_of x) _ ∙ length-map x _)
-  by (inner.Cont x) = refl
-  by (inner.Exn x) = refl
+  by c = refl
 
 abbrev type_of : Declared → SubType UnpackedIndex UnpackedIndex
 type_of d = d.type
 
 struct-read : (c : Composite UnpackedIndex UnpackedIndex) → length (unwrap_or (struct_fields c) []) ≡ fields_in (map_composite place_of place_of c)
-struct-read (Func x) = refl
-struct-read (Array x) = refl
 struct-read (Struct fs) = sym (length-map fs _)
-struct-read (Cont x) = refl
-struct-read (Exn x) = refl
+struct-read c = refl
 
 fields-read : (ds : List Declared) (i : ℕ) → i < length ds
     → length (unwrap_or (option_and_then struct_fields (option_map (λ (d : Declared). d.type.composite.inner) (slice_get ds i))) [])

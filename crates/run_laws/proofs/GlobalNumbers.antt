@@ -1,8 +1,9 @@
 -- The globals that a plan names are defined ones.
-use Rattle.std.proofs.Common.{◌≡◌, ℕ, ◌+◌, ◌<◌, Bool, true, false, List, [], ◌∷◌, length, Option, None, Some, refl, sym, ap, subst, arith}
-use Rattle.std.specs.Prelude.{All, is_none, if◌then◌else◌}
+use Rattle.std.proofs.Common.{◌≡◌, ℕ, ◌+◌, ◌<◌, List, [], ◌∷◌, length, Option, None, Some, inl, inr, refl, sym, ap, subst, arith}
+use Rattle.std.specs.Prelude.{All, is_none}
 use Rattle.std.specs.List.{cons_option, filter_map, enumerate_from}
 use Rattle.std.specs.Option.{option_map}
+use Rattle.std.proofs.lemmas.Bool.{cases_Bool}
 use Rattle.std.proofs.lemmas.List.Elements.{All-nil, All-cons}
 use Rattle.std.proofs.lemmas.Option.{none-some, same_Some}
 use Rattle.wasm_spec.specs.Module.{Expression}
@@ -29,10 +30,7 @@ simple-keeps g x at = over (const_value g.1) at where
   over (Some v) e = sym (ap (λ (p : ℕ × Value). p.0) (same_Some (g.0, v) x e))
 
 kept-keeps : (g x : ℕ × Expression) → kept_of g ≡ Some x → x.0 ≡ g.0
-kept-keeps g x at = over (is_none (const_value g.1)) at where
-  over : (b : Bool) → (if b then Some g else None) ≡ Some x → x.0 ≡ g.0
-  over true e = sym (ap (λ (p : ℕ × Expression). p.0) (same_Some g x e))
-  over false e = absurd (none-some x e)
+kept-keeps g x is = elim (cases_Bool (is_none (const_value g.1))) [ inl e ↦ let h = rw e at is in cc | inr e ↦ let h = rw e at is in absurd (cc) ]
 
 pub simple-low : (initialisers : List Expression) (plan : GlobalPlan) → IsGlobalPlan initialisers plan → All (λ g. g.0 < plan.count) plan.simple
 simple-low initialisers plan is =

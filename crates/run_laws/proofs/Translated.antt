@@ -1,20 +1,18 @@
 -- A translation whose memories and then tables are planned can be laid.
-use Rattle.std.proofs.Common.{◌≡◌, ℕ, ◌<◌, ◌≤◌, ◌⊎◌, Bool, List, length, sym, subst, arith}
-use Rattle.std.specs.Prelude.{All, None, Some}
+use Rattle.std.proofs.Common.{◌≡◌, ℕ, ◌≤◌, Bool, List, length, sym, subst, arith}
 use Rattle.std.specs.Int.{IsPowerOfTwo}
-use Rattle.wasm_spec.specs.Module.{Module, globals}
+use Rattle.wasm_spec.specs.Module.{Module}
 use Rattle.rule_spec.specs.Lists.{lists_of_module}
 use Rattle.wasm_index.specs.declared.index.Index.{Index}
 use Rattle.wasm_index.specs.declared.spaces.StaticModuleSpace.{StaticModuleSpace}
 use Rattle.wasm_types.specs.declared.tunables.Tunables.{Tunables}
-use Rattle.replay_spec.specs.Globals.{IsGlobalPlan, initialisers}
+use Rattle.replay_spec.specs.Globals.{initialisers}
 use Rattle.replay_spec.specs.Images.{ImageOptions, IsMemoryPlan}
 use Rattle.replay_spec.specs.Tables.{IsTablePlan}
 use Rattle.module_types.specs.Builder.{BuilderState}
 use Rattle.init_plan.specs.declared.translation.ModuleTranslation.{ModuleTranslation}
-use Rattle.init_plan.specs.Views.{memory_plan_of, initializers_of, passive_bytes, IsSegmented, IsProcessed}
+use Rattle.init_plan.specs.Views.{memory_plan_of, initializers_of, passive_bytes}
 use Rattle.init_plan.specs.Images.{image_memories}
-use Rattle.init_plan.specs.Held.{plan_of_globals}
 use Rattle.init_plan.specs.Tables.{tables_of, elements_of, plan_of_tables}
 use Rattle.module_environ.specs.Translation.{HasEntities, CountsImports}
 use Rattle.module_environ.specs.Translated.{IsTranslated}
@@ -38,31 +36,22 @@ module _ (tunables : Tunables) (index : Index StaticModuleSpace) (validator : �
       (tables_of mid) (elements_of mid) new
   planned-so = record {
     page = page;
-    imported_globals = subst (λ (t : ModuleTranslation). t.module.num_imported_globals ≤ length t.module.globals) (sym same)
-        (globals-among told.meaning old told.translation.sections.entities told.translation.sections.counts);
-    global_plan = subst (λ (t : ModuleTranslation). IsGlobalPlan (initialisers (lists_of_module told.meaning)) (plan_of_globals t)) (sym same)
-        told.ready.holds_globals;
-    imported_memories = subst (λ (t : ModuleTranslation). t.module.num_imported_memories ≤ length t.module.memories) (sym same) told.ready.memories.imports;
-    page_sizes = subst (λ (t : ModuleTranslation). All (λ memory. (memory.page_size_log2 ≡ 0) ⊎ (memory.page_size_log2 ≡ 16)) t.module.memories) (sym same)
-        told.ready.memories.page_sizes;
-    active_low = subst (λ (t : ModuleTranslation). All (λ s. s.memory < length t.module.memories) (initializers_of old)) (sym same) told.ready.memories.in_range;
-    memory_plan = subst (λ (t : ModuleTranslation). IsMemoryPlan options t.module.num_imported_memories (image_memories t.module) (initializers_of old)
-        (passive_bytes old) (memory_plan_of t)) (sym tables.same)
-        (subst (λ (t : ModuleTranslation). IsMemoryPlan options t.module.num_imported_memories (image_memories t.module) (initializers_of old)
-        (passive_bytes old) (memory_plan_of mid)) (sym memories.same) memories.planned);
-    processed = subst (λ (t : ModuleTranslation). IsProcessed t.memory_init) (sym tables.same) memories.processed;
-    segmented = subst (λ (t : ModuleTranslation). IsSegmented t.module.memory_initialization → t.data_align ≡ None) (sym tables.same)
-        (λ is. (memories.begins.segmented is).1);
-    imaged = subst (λ (t : ModuleTranslation). (IsSegmented t.module.memory_initialization → ⊥) → t.data_align ≡ Some options.page) (sym tables.same)
-        (λ is. (memories.begins.images is).1);
-    imported_tables = subst (λ (t : ModuleTranslation). t.module.num_imported_tables ≤ length t.module.tables) (sym same) told.ready.tables.imports;
-    elements_low = subst (λ (t : ModuleTranslation). All (λ s. s.table < length t.module.tables) (elements_of mid)) (sym tables.same)
-        (subst (λ (t : ModuleTranslation). All (λ s. s.table < length t.module.tables) (elements_of t)) (sym memories.same) told.ready.tables.in_range);
+    imported_globals = rw same (globals-among told.meaning old told.translation.sections.entities told.translation.sections.counts);
+    global_plan = rw same told.ready.holds_globals;
+    imported_memories = rw same told.ready.memories.imports;
+    page_sizes = rw same told.ready.memories.page_sizes;
+    active_low = rw same told.ready.memories.in_range;
+    memory_plan = rw tables.same (subst (λ (t : ModuleTranslation). IsMemoryPlan options t.module.num_imported_memories (image_memories t.module)
+        (initializers_of old) (passive_bytes old) (memory_plan_of mid)) (sym memories.same) memories.planned);
+    processed = rw tables.same memories.processed;
+    segmented = rw tables.same (λ is. (memories.begins.segmented is).1);
+    imaged = rw tables.same (λ is. (memories.begins.images is).1);
+    imported_tables = rw same told.ready.tables.imports;
+    elements_low = rw (tables.same, memories.same) told.ready.tables.in_range;
     table_plan = subst (λ (t : ModuleTranslation). IsTablePlan lazy t.module.num_imported_tables (tables_of mid) (elements_of mid) (plan_of_tables new)) (sym tables.same)
         tables.planned;
     counted = tables.counts;
   }
 
   pub translated-finished : Finished new
-  translated-finished = finished options lazy (initialisers (lists_of_module told.meaning)) (initializers_of old) (passive_bytes old)
-      (tables_of mid) (elements_of mid) new planned-so
+  translated-finished = finished _ _ _ _ _ _ _ new planned-so

@@ -3,8 +3,6 @@ use Rattle.std.proofs.Common.{◌≡◌, ◌<◌, ◌+◌, ℕ, false, List, len
 use Rattle.std.proofs.lemmas.List.{length-map}
 use Rattle.wasm_spec.specs.Module.{Module}
 use Rattle.rule_spec.specs.Lists.{Lists, lists_of_module}
-use Rattle.wasm_index.specs.declared.index.Index.{Index}
-use Rattle.wasm_index.specs.declared.spaces.StaticModuleSpace.{StaticModuleSpace}
 use Rattle.wasm_index.specs.Index.{index_of}
 use Rattle.wasm_types.specs.declared.tunables.Tunables.{Tunables}
 use Rattle.replay_spec.specs.Globals.{AgreesOnGlobals, initialisers}
@@ -12,7 +10,7 @@ use Rattle.replay_spec.specs.Plan.{MemoryPlan, Agrees}
 use Rattle.replay_spec.specs.Startup.{Startup, startup_of, first_startup, raised_by_tables, raised_by_memories}
 use Rattle.replay_spec.specs.Tables.{TablePlan, IsTablePlan}
 use Rattle.type_spec.specs.Interned.{Built}
-use Rattle.module_types.specs.Builder.{BuilderState, builder_view}
+use Rattle.module_types.specs.Builder.{BuilderState, builder_view, starts}
 use Rattle.module_types.specs.Views.{interned_of}
 use Rattle.init_plan.specs.declared.translation.ModuleTranslation.{ModuleTranslation}
 use Rattle.init_plan.specs.Agreement.{AgreesOnElements, AgreesInAll}
@@ -29,16 +27,8 @@ use Rattle.translate.specs.Options.{InitOptions, startup_by}
 use Rattle.translate.specs.Initialised.{Initialises}
 use Rattle.translate.proofs.PlannedMemories.{HoldsData, MemoriesTell, initialises_memories}
 use Rattle.translate.proofs.PlannedTables.{holds_still, plans_tables}
-use Rattle.translate.proofs.Started.{IsStarted, next, starts_first, first_room, few_types, raised-memories, raised-tables}
+use Rattle.translate.proofs.Started.{IsStarted, next, starts_first, first_room, has_room, few_types, raised-memories, raised-tables}
 use Rattle.translate.proofs.Unchanged.{changes_both}
-
--- what was translated with equal words is translated with these
-pub translated_with : (a b : Tunables) (i j : Index StaticModuleSpace) (v w : ℕ) (bytes : List ℕ) (t : ModuleTranslation) (before types : BuilderState)
-    → a ≡ b → i ≡ j → v ≡ w → before ≡ types → IsTranslated a i v bytes t before → IsTranslated b j w bytes t types
-translated_with a b i j v w bytes t before types ab ij vw same h =
-    subst (IsTranslated b j w bytes t) same (subst (λ (x : ℕ). IsTranslated b j x bytes t before) vw
-    (subst (λ (x : Index StaticModuleSpace). IsTranslated b x v bytes t before) ij
-    (subst (λ (x : Tunables). IsTranslated x i v bytes t before) ab h)))
 
 -- the plan of the memories of a translation, and then that of its tables
 pub record Plans (i : InitOptions) (m : Module) (old mid new : ModuleTranslation) (b mid_types new_types : BuilderState) : Type 0 where
@@ -56,18 +46,22 @@ pub record Plans (i : InitOptions) (m : Module) (old mid new : ModuleTranslation
   pub agree_memories : Agrees m (memory_plan_of mid)
   pub agree_tables : AgreesOnElements m (plan_of_tables new)
 
-module _ (i : InitOptions) (bytes : List ℕ) (old : ModuleTranslation) (b : BuilderState) (told : IsTranslated i.tunables (index_of 0) 0 bytes old b) where
+module _ {tunables : Tunables} {bytes : List ℕ} {old : ModuleTranslation} {b : BuilderState} (told : IsTranslated tunables (index_of 0) 0 bytes old b) where
   abbrev listed : Built
   listed = interned_list told.meaning false
 
   abbrev kind : Startup
   kind = first_startup (lists_of_module told.meaning)
 
-  pub started : IsStarted listed kind old.module.startup (builder_view b)
+  started : IsStarted listed kind old.module.startup (builder_view b)
   started = starts_first told.meaning old.module.startup (builder_view b) told.translation.startup told.types
 
-  pub room : length listed.types + 1 < 4294967295
+  room : length listed.types + 1 < 4294967295
   room = first_room told.meaning (builder_view b) told.types
+
+  -- there is room for the startup type, before the memories are planned and once they are
+  pub room_first : length (starts (builder_view b)).built.types < 4294967295
+  room_first = has_room listed kind old.module.startup (builder_view b) started room
 
   pub holds_data : HoldsData told.meaning old
   holds_data = record {
@@ -76,64 +70,59 @@ module _ (i : InitOptions) (bytes : List ℕ) (old : ModuleTranslation) (b : Bui
     passive = told.translation.sections.data_segments.passive;
   }
 
-  -- startup, once the memories are planned
-  pub started_memories : (mid : ModuleTranslation) (types : BuilderState)
-      → mid.module.startup ≡ raised (raised_by_memories (memory_plan_of mid) (startup_kind old.module.startup)) old.module.startup (builder_view b)
-      → builder_view types ≡ types_after (raised_by_memories (memory_plan_of mid) (startup_kind old.module.startup)) old.module.startup (builder_view b)
-      → IsStarted listed (raised_by_memories (memory_plan_of mid) kind) mid.module.startup (builder_view types)
-  started_memories mid types startup grown =
-      next listed (raised_by_memories (memory_plan_of mid)) kind old.module.startup mid.module.startup (builder_view b) (builder_view types)
-      (raised-memories (memory_plan_of mid)) started startup grown
+  module _ (mid : ModuleTranslation) (types : BuilderState)
+      (startup : mid.module.startup ≡ raised (raised_by_memories (memory_plan_of mid) (startup_kind old.module.startup)) old.module.startup (builder_view b))
+      (grown : builder_view types ≡ types_after (raised_by_memories (memory_plan_of mid) (startup_kind old.module.startup)) old.module.startup (builder_view b)) where
+    started_memories : IsStarted listed (raised_by_memories (memory_plan_of mid) kind) mid.module.startup (builder_view types)
+    started_memories = next listed (raised_by_memories (memory_plan_of mid)) kind old.module.startup mid.module.startup (builder_view b) (builder_view types)
+        (raised-memories (memory_plan_of mid)) started startup grown
 
-  module _ (mid new : ModuleTranslation) (mid_types new_types : BuilderState)
-      (startup_law : (l : Lists) (tables : TablePlan) (memories : MemoryPlan)
-      → raised_by_tables tables (raised_by_memories memories (first_startup l)) ≡ startup_of l tables memories)
-      (plans : Plans i told.meaning old mid new b mid_types new_types) where
-    -- the plan of the tables keeps that of the memories, and both the globals
-    plan_same : memory_plan_of new ≡ memory_plan_of mid
-    plan_same = ap memory_plan_of plans.tables_same
+    pub room_next : length (starts (builder_view types)).built.types < 4294967295
+    room_next = has_room listed (raised_by_memories (memory_plan_of mid) kind) mid.module.startup (builder_view types) started_memories room
 
-    globals_same : plan_of_globals new ≡ plan_of_globals old
-    globals_same = ap plan_of_globals plans.tables_same ∙ ap plan_of_globals plans.memories_same
+module _ (i : InitOptions) {bytes : List ℕ} {old mid new : ModuleTranslation} {b mid_types new_types : BuilderState}
+    (told : IsTranslated i.tunables (index_of 0) 0 bytes old b)
+    (startup_law : (l : Lists) (tables : TablePlan) (memories : MemoryPlan)
+    → raised_by_tables tables (raised_by_memories memories (first_startup l)) ≡ startup_of l tables memories)
+    (plans : Plans i told.meaning old mid new b mid_types new_types) where
+  last_started : IsStarted (interned_list told.meaning false) (startup_by told.meaning (memory_plan_of new) (plan_of_tables new)) new.module.startup
+      (builder_view new_types)
+  last_started =
+      subst (λ (k : Startup). IsStarted (interned_list told.meaning false) k new.module.startup (builder_view new_types))
+      (startup_law (lists_of_module told.meaning) (plan_of_tables new) (memory_plan_of mid)
+      ∙ ap (λ t. startup_by told.meaning (memory_plan_of t) (plan_of_tables new)) (sym plans.tables_same))
+      (next (interned_list told.meaning false) (raised_by_tables (plan_of_tables new)) _ mid.module.startup new.module.startup
+      (builder_view mid_types) (builder_view new_types) (raised-tables (plan_of_tables new))
+      (started_memories told mid mid_types plans.memories_startup plans.memories_types) plans.tables_startup plans.tables_types)
 
-    abbrev last_kind : Startup
-    last_kind = startup_by told.meaning (memory_plan_of new) (plan_of_tables new)
+  -- the plan of the tables keeps that of the memories, and both the globals
+  agreed : AgreesInAll told.meaning (plan_of_globals new) (memory_plan_of new) (plan_of_tables new)
+  agreed = agree_in_all told.meaning (plan_of_globals new) (memory_plan_of new) (plan_of_tables new)
+      (subst (AgreesOnGlobals (lists_of_module told.meaning).imported_globals (initialisers (lists_of_module told.meaning)))
+      (sym (ap plan_of_globals plans.tables_same ∙ ap plan_of_globals plans.memories_same)) plans.agree_globals)
+      (subst (λ t. Agrees told.meaning (memory_plan_of t)) (sym plans.tables_same) plans.agree_memories) plans.agree_tables
 
-    last_started : IsStarted listed last_kind new.module.startup (builder_view new_types)
-    last_started =
-        let raised_to = startup_law (lists_of_module told.meaning) (plan_of_tables new) (memory_plan_of mid)
-        ∙ ap (startup_of (lists_of_module told.meaning) (plan_of_tables new)) (sym plan_same) in
-        subst (λ (k : Startup). IsStarted listed k new.module.startup (builder_view new_types)) raised_to
-        (next listed (raised_by_tables (plan_of_tables new)) (raised_by_memories (memory_plan_of mid) kind) mid.module.startup new.module.startup
-        (builder_view mid_types) (builder_view new_types) (raised-tables (plan_of_tables new))
-        (started_memories mid mid_types plans.memories_startup plans.memories_types) plans.tables_startup plans.tables_types)
-
-    agreed : AgreesInAll told.meaning (plan_of_globals new) (memory_plan_of new) (plan_of_tables new)
-    agreed = agree_in_all told.meaning (plan_of_globals new) (memory_plan_of new) (plan_of_tables new)
-        (subst (AgreesOnGlobals (lists_of_module told.meaning).imported_globals (initialisers (lists_of_module told.meaning))) (sym globals_same) plans.agree_globals)
-        (subst (Agrees told.meaning) (sym plan_same) plans.agree_memories) plans.agree_tables
-
-    pub all_planned : Initialises i bytes new new_types
-    all_planned = record {
-      meaning = told.meaning;
-      read = told.read;
-      keeps = told.keeps;
-      initialised = record {
-        rest = record {
-          before = old;
-          translation = told.translation;
-          same = changes_both old mid new plans.memories_same plans.tables_same;
-          left = subst (λ (t : ModuleTranslation). IsLeft t.table_initialization new.table_initialization) plans.memories_same plans.tables_left;
-          counts = plans.tables_counted;
-        };
-        agrees = agreed;
-        memories = initialises_memories i told.meaning old holds_data mid new plans.memories plans.tables_same;
-        tables = plans_tables i told.meaning mid (plan_of_tables new)
-            (holds_still told.meaning old mid plans.memories_same told.ready.holds_tables) plans.tables;
-        startup = last_started.startup;
+  pub all_planned : Initialises i bytes new new_types
+  all_planned = record {
+    meaning = told.meaning;
+    read = told.read;
+    keeps = told.keeps;
+    initialised = record {
+      rest = record {
+        before = old;
+        translation = told.translation;
+        same = changes_both old mid new plans.memories_same plans.tables_same;
+        left = subst (λ (t : ModuleTranslation). IsLeft t.table_initialization new.table_initialization) plans.memories_same plans.tables_left;
+        counts = plans.tables_counted;
       };
-      types = last_started.built;
-      sound = last_started.sound;
-      few = let fewer = few_types listed last_kind new.module.startup (builder_view new_types) last_started room in
-          subst (λ (n : ℕ). n < 4294967295) (length-map new_types.list.types interned_of) fewer;
-    }
+      agrees = agreed;
+      memories = initialises_memories i told.meaning old (holds_data told) mid new plans.memories plans.tables_same;
+      tables = plans_tables i told.meaning mid (plan_of_tables new)
+          (holds_still told.meaning old mid plans.memories_same told.ready.holds_tables) plans.tables;
+      startup = last_started.startup;
+    };
+    types = last_started.built;
+    sound = last_started.sound;
+    few = let fewer = few_types _ _ new.module.startup (builder_view new_types) last_started (room told) in
+        subst (λ (n : ℕ). n < 4294967295) (length-map new_types.list.types interned_of) fewer;
+  }

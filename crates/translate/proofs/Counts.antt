@@ -2,7 +2,8 @@
 use Rattle.std.proofs.Common.{◌≡◌, ◌≤◌, ◌+◌, ◌-◌, ℕ, false, not, cond, List, [], ◌∷◌, ◌++◌, length, length-append, map, drop, refl, sym, ap, ◌∙◌, arith}
 use Rattle.std.specs.Prelude.{count_by}
 use Rattle.std.specs.List.{enumerate_from, flat_map}
-use Rattle.std.proofs.lemmas.List.{length-map}
+use Rattle.std.proofs.Math.Seq.{drop-append_seam}
+use Rattle.std.proofs.lemmas.List.{length-map, map-append}
 use Rattle.std.proofs.lemmas.List.FromFn.{length-enumerate_from}
 use Rattle.std.proofs.lemmas.List.Sums.{sum_by-cons}
 use Rattle.wasm_spec.specs.declared.entities.MemoryType.{MemoryType}
@@ -17,7 +18,7 @@ use Rattle.wasm_module.specs.declared.module.Module.{Module}
 use Rattle.wasm_module.specs.Record.{record_of}
 use Rattle.form_reader.proofs.Entries.{few_entries}
 use Rattle.replay_spec.specs.Plan.{MemoryPlan, ranges_from}
-use Rattle.replay_spec.specs.Startup.{Startup, Never, Always, IfMemoriesNeedInit}
+use Rattle.replay_spec.specs.Startup.{Startup, Never}
 use Rattle.replay_spec.specs.Tables.{TablePlan}
 use Rattle.vm_offsets.specs.Modules.{HoldsImports, has_startup, module_counts}
 use Rattle.init_plan.specs.declared.translation.ModuleTranslation.{ModuleTranslation}
@@ -32,11 +33,6 @@ use Rattle.translate.specs.Initialised.{IsInitialised}
 use Rattle.translate.specs.Options.{InitOptions, Options, startup_by, runs}
 
 -- ---- lists
-
--- what follows the imports
-after_imports : {X Y : Type 0} (f : X → Y) (imported defined : List X) → drop (length imported) (map f (imported ++ defined)) ≡ map f defined
-after_imports f [] defined = refl
-after_imports f (x ∷ imported) defined = after_imports f imported defined
 
 -- as many memories are shared as types of memories
 owned_same : (ts : List MemoryType) → count_by (λ (memory : Memory). not memory.shared) (map memory_of ts) ≡ count_by (λ (t : MemoryType). not t.shared) ts
@@ -56,8 +52,7 @@ within xs ys n k few all = let l = length-append xs ys in omega (arith, few, all
 -- a startup function stands where it may run
 runs_same : (kind : Startup) (ty : EngineOrModuleTypeIndex) → has_startup (startup_with kind ty) ≡ runs kind
 runs_same Never ty = refl
-runs_same Always ty = refl
-runs_same IfMemoriesNeedInit ty = refl
+runs_same kind ty = refl
 
 -- ---- a record
 
@@ -88,8 +83,8 @@ module _ (m : plain.Module) (x : Module) (has : HasCounts m x) where
   }
 
   owned : count_by (λ (memory : Memory). not memory.shared) (drop x.num_imported_memories x.memories) ≡ count_by (λ (t : MemoryType). not t.shared) (defined_memories m)
-  owned = rw (has.imported_memories, has.memories) (ap (count_by (λ (memory : Memory). not memory.shared)) (after_imports memory_of (imported_memories m) (defined_memories m))
-      ∙ owned_same (defined_memories m))
+  owned = rw (has.imported_memories, has.memories, map-append memory_of (imported_memories m), ← length-map (imported_memories m) memory_of, drop-append_seam)
+      (owned_same (defined_memories m))
 
   own_memories : length x.memories - x.num_imported_memories ≡ length (defined_memories m)
   own_memories = let l = length-append (imported_memories m) (defined_memories m) in omega (arith, all_memories, has.imported_memories, l)
@@ -98,63 +93,44 @@ module _ (m : plain.Module) (x : Module) (has : HasCounts m x) where
       → x.num_escaped_funcs ≡ length (escaping o.init.tunables.debug_guest (lists_of_module m))
       → length (record_of x).runtime_data ≡ length memory_plan.runtime → has_startup x.startup ≡ runs (startup_by m memory_plan table_plan)
       → module_counts o.pointer (record_of x) ≡ context_of o m memory_plan table_plan
-  record_counted o memory_plan table_plan escaped runtime starts = rw (
-    owned,
-    own_memories,
-    has.imported_functions,
-    has.imported_tables,
-    has.imported_memories,
-    has.imported_globals,
-    has.imported_tags,
-    has.tables,
-    has.globals,
-    has.tags,
-    escaped,
-    runtime,
-    starts,
-  ) refl
+  record_counted o memory_plan table_plan escaped runtime starts = cc (owned, own_memories)
 
 -- ---- a planned translation
 
-module _ (i : InitOptions) (bytes : List ℕ) (m : plain.Module) (t : ModuleTranslation) (is : IsInitialised i bytes m t) where
+module _ {i : InitOptions} {bytes : List ℕ} {m : plain.Module} {t : ModuleTranslation} (is : IsInitialised i bytes m t) where
   has_counts : HasCounts m t.module
   has_counts =
       let before = is.rest.before.module in
-      let translation = is.rest.translation in
-      let counts = translation.sections.counts in
-      let entities = translation.sections.entities in
-      record {
-        imported_functions = ap (λ (x : ModuleTranslation). x.module.num_imported_funcs) is.rest.same ∙ counts.functions;
-        imported_tables = ap (λ (x : ModuleTranslation). x.module.num_imported_tables) is.rest.same ∙ counts.tables;
-        imported_memories = ap (λ (x : ModuleTranslation). x.module.num_imported_memories) is.rest.same ∙ counts.memories;
-        imported_globals = ap (λ (x : ModuleTranslation). x.module.num_imported_globals) is.rest.same ∙ counts.globals;
-        imported_tags = ap (λ (x : ModuleTranslation). x.module.num_imported_tags) is.rest.same ∙ counts.tags;
-        functions = ap (λ (x : ModuleTranslation). length x.module.functions) is.rest.same ∙ ap length translation.sections.escapes.functions
-            ∙ length-map (enumerate_from 0 (plain.functions m)) _ ∙ length-enumerate_from 0 (plain.functions m);
-        tables = ap (λ (x : ModuleTranslation). length x.module.tables) is.rest.same ∙ sym (length-map before.tables table_of)
-            ∙ ap length entities.tables ∙ length-map (plain.tables m) _;
-        memories = ap (λ (x : ModuleTranslation). x.module.memories) is.rest.same ∙ entities.memories;
-        globals = ap (λ (x : ModuleTranslation). length x.module.globals) is.rest.same ∙ sym (length-map before.globals global_of)
-            ∙ ap length entities.globals ∙ length-map (plain.globals m) _;
-        tags = ap (λ (x : ModuleTranslation). length x.module.tags) is.rest.same ∙ ap length translation.types.tags ∙ length-map (plain.tags m) _;
-      }
+      let sections = is.rest.translation.sections in
+      rw is.rest.same (record {
+        imported_functions = sections.counts.functions;
+        imported_tables = sections.counts.tables;
+        imported_memories = sections.counts.memories;
+        imported_globals = sections.counts.globals;
+        imported_tags = sections.counts.tags;
+        functions = ap length sections.escapes.functions ∙ length-map (enumerate_from 0 (plain.functions m)) _ ∙ length-enumerate_from 0 (plain.functions m);
+        tables = sym (length-map before.tables table_of) ∙ ap length sections.entities.tables ∙ length-map (plain.tables m) _;
+        memories = sections.entities.memories;
+        globals = sym (length-map before.globals global_of) ∙ ap length sections.entities.globals ∙ length-map (plain.globals m) _;
+        tags = ap length is.rest.translation.types.tags ∙ length-map (plain.tags m) _;
+      })
 
   pub holds_imports : HoldsImports (record_of t.module)
   holds_imports = record_holds m t.module has_counts
 
-  pub counts_same : (o : Options) → o.init ≡ i → module_counts o.pointer (record_of t.module) ≡ context_of o m (memory_plan_of t) (plan_of_tables t)
-  counts_same o init =
-      let debugged = ap (λ (j : InitOptions). length (escaping j.tunables.debug_guest (lists_of_module m))) init in
-      let kind = startup_by m (memory_plan_of t) (plan_of_tables t) in
-      record_counted m t.module has_counts o (memory_plan_of t) (plan_of_tables t)
-      (ap (λ (x : ModuleTranslation). x.module.num_escaped_funcs) is.rest.same ∙ is.rest.translation.sections.escapes.count ∙ sym debugged)
-      (ap length is.memories.ranges ∙ ranges_counted 0 (map length (memory_plan_of t).runtime) ∙ length-map (memory_plan_of t).runtime length)
-      (ap has_startup is.startup ∙ runs_same kind (type_index (length (interned_list m false).types)))
-
   -- no more functions escape than there are
-  pub few_escape : IsReadable bytes m → is.rest.before.module.num_escaped_funcs ≤ length is.rest.before.module.functions → t.module.num_escaped_funcs ≤ 4294967295
-  few_escape read below =
+  pub few_escape : IsReadable bytes m → t.module.num_escaped_funcs ≤ 4294967295
+  few_escape read =
       let few = few_entries bytes m read.spelled read.short in
       let escaped = ap (λ (x : ModuleTranslation). x.module.num_escaped_funcs) is.rest.same in
       let all = ap (λ (x : ModuleTranslation). length x.module.functions) is.rest.same in
-      omega (arith, few.functions, escaped, all, has_counts.functions, below)
+      omega (arith, few.functions, escaped, all, has_counts.functions, is.rest.translation.sections.escapes.below)
+
+pub counts_same : (o : Options) {bytes : List ℕ} {m : plain.Module} {t : ModuleTranslation} → IsInitialised o.init bytes m t
+    → module_counts o.pointer (record_of t.module) ≡ context_of o m (memory_plan_of t) (plan_of_tables t)
+counts_same o {m = m} {t = t} is =
+    let kind = startup_by m (memory_plan_of t) (plan_of_tables t) in
+    record_counted m t.module (has_counts is) o (memory_plan_of t) (plan_of_tables t)
+    (ap (λ (x : ModuleTranslation). x.module.num_escaped_funcs) is.rest.same ∙ is.rest.translation.sections.escapes.count)
+    (ap length is.memories.ranges ∙ ranges_counted 0 (map length (memory_plan_of t).runtime) ∙ length-map (memory_plan_of t).runtime length)
+    (ap has_startup is.startup ∙ runs_same kind (type_index (length (interned_list m false).types)))

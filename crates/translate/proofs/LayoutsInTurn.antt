@@ -1,5 +1,5 @@
 -- The layouts of the types so far.
-use Rattle.std.proofs.Common.{◌≡◌, ◌∙◌, ℕ, ◌+◌, ◌<◌, ◌≤◌, List, [], ◌∷◌, ◌++◌, length, map, slice_index_or, Option, All, Any, refl, sym, ap, subst, arith, length-append}
+use Rattle.std.proofs.Common.{◌≡◌, ◌∙◌, ℕ, ◌+◌, ◌<◌, ◌≤◌, List, [], ◌∷◌, ◌++◌, length, map, Option, All, Any, refl, sym, ap, subst, arith, length-append}
 use Rattle.std.specs.Option.{option_map}
 use Rattle.std.proofs.lemmas.List.{map-append, length-map, append_assoc, append-nil}
 use Rattle.std.proofs.lemmas.List.Elements.{All-nil, All-push}
@@ -35,54 +35,50 @@ module _ {K : Type 0} (header : ℕ) where
     pub layouts : map (option_map object_layout) so_far ≡ map (λ t. gc_layout_of header t.composite_type.inner) done
     pub fits : All (λ t. fixed_size (gc_layout_of header t.composite_type.inner) ≤ 4294967295) done
 
-  module _ (types : List WasmSubType) where
-    pub laid-none : (at : ℕ → K) (left : List (K × WasmSubType)) → left ≡ keyed_from at 0 types → AreLaidOut types [] left
-    laid-none at left is = record {
-      done = [];
-      parts = types-keyed at 0 types ∙ ap types_of (sym is);
-      layouts = refl;
-      fits = All-nil (IsSmall header);
-    }
+  pub laid-none : (at : ℕ → K) (types : List WasmSubType) (left : List (K × WasmSubType)) → left ≡ keyed_from at 0 types → AreLaidOut types [] left
+  laid-none at types left is = record {
+    done = [];
+    parts = types-keyed at 0 types ∙ ap types_of (sym is);
+    layouts = refl;
+    fits = All-nil (IsSmall header);
+  }
 
-    module _ (layouts : List (Option GcLayout)) where
-      pub laid-more : (layout : Option GcLayout) (left rest : List (K × WasmSubType)) (k : K) (t : WasmSubType) → left ≡ (k, t) ∷ rest
-          → AreLaidOut types layouts left → option_map object_layout layout ≡ gc_layout_of header t.composite_type.inner
+  module _ {types : List WasmSubType} {layouts : List (Option GcLayout)} {left : List (K × WasmSubType)} (laid : AreLaidOut types layouts left) where
+    module _ {rest : List (K × WasmSubType)} {k : K} {t : WasmSubType} (is : left ≡ (k, t) ∷ rest) where
+      whole : types ≡ laid.done ++ t ∷ types_of rest
+      whole = laid.parts ∙ ap (λ ts. laid.done ++ types_of ts) is
+
+      pub laid-more : (layout : Option GcLayout) → option_map object_layout layout ≡ gc_layout_of header t.composite_type.inner
           → fixed_size (gc_layout_of header t.composite_type.inner) ≤ 4294967295 → AreLaidOut types (layouts ++ layout ∷ []) rest
-      laid-more next left rest k t is laid exact small = record {
+      laid-more next exact small = record {
         done = laid.done ++ t ∷ [];
-        parts = laid.parts ∙ ap (λ ts. laid.done ++ types_of ts) is ∙ sym (append_assoc laid.done (t ∷ []) (types_of rest));
+        parts = whole ∙ sym (append_assoc laid.done (t ∷ []) (types_of rest));
         layouts = map-append (option_map object_layout) layouts (next ∷ [])
             ∙ (λ i. laid.layouts i ++ exact i ∷ []) ∙ sym (map-append (layout_by header) laid.done (t ∷ []));
         fits = All-push (IsSmall header) laid.done t laid.fits small;
       }
 
-      module _ (left : List (K × WasmSubType)) (laid : AreLaidOut types layouts left) where
-        count : length layouts ≡ length laid.done
-        count = sym (length-map layouts (option_map object_layout)) ∙ ap length laid.layouts ∙ length-map laid.done (layout_by header)
+      count : length layouts ≡ length laid.done
+      count = sym (length-map layouts (option_map object_layout)) ∙ ap length laid.layouts ∙ length-map laid.done (layout_by header)
 
-        -- there are fewer layouts than types
-        pub laid-fewer : (rest : List (K × WasmSubType)) (k : K) (t : WasmSubType) → left ≡ (k, t) ∷ rest → length layouts < length types
-        laid-fewer rest k t is =
-            let whole : length types ≡ length (laid.done ++ t ∷ types_of rest) = ap length (laid.parts ∙ ap (λ ts. laid.done ++ types_of ts) is) in
-            omega (arith, count, whole, simp length-append at whole)
+      -- there are fewer layouts than types
+      pub laid-fewer : length layouts < length types
+      laid-fewer = omega (arith, count, simp length-append at (ap length whole))
 
-        pub laid-large : (rest : List (K × WasmSubType)) (k : K) (t : WasmSubType) → left ≡ (k, t) ∷ rest
-            → 4294967295 < fixed_size (gc_layout_of header t.composite_type.inner)
-            → Any (λ t. 4294967295 < fixed_size (gc_layout_of header t.composite_type.inner)) types
-        laid-large rest k t is large =
-            let whole : types ≡ laid.done ++ t ∷ types_of rest = laid.parts ∙ ap (λ ts. laid.done ++ types_of ts) is in
-            let place : slice_index_or types (length laid.done) t ≡ t = ap (λ ts. slice_index_or ts (length laid.done) t) whole ∙ get_or-append_seam laid.done t (types_of rest) t in
-            let fewer = laid-fewer rest k t is in
-            (length laid.done, t, omega (arith, count, fewer), place, large)
+      pub laid-large : 4294967295 < fixed_size (gc_layout_of header t.composite_type.inner)
+          → Any (λ t. 4294967295 < fixed_size (gc_layout_of header t.composite_type.inner)) types
+      laid-large large =
+          rw whole (length laid.done, t, omega (arith, length-append laid.done (t ∷ types_of rest)), get_or-append_seam laid.done t (types_of rest) t, large)
 
-        all-done : left ≡ [] → laid.done ≡ types
-        all-done is = sym (laid.parts ∙ ap (λ ts. laid.done ++ types_of ts) is ∙ append-nil laid.done)
+    module _ (is : left ≡ []) where
+      all-done : laid.done ≡ types
+      all-done = sym (laid.parts ∙ ap (λ ts. laid.done ++ types_of ts) is ∙ append-nil laid.done)
 
-        pub laid-all : left ≡ [] → map (option_map object_layout) layouts ≡ map (λ t. gc_layout_of header t.composite_type.inner) types
-        laid-all is = laid.layouts ∙ ap (map (layout_by header)) (all-done is)
+      pub laid-all : map (option_map object_layout) layouts ≡ map (λ t. gc_layout_of header t.composite_type.inner) types
+      laid-all = laid.layouts ∙ ap (map (layout_by header)) all-done
 
-        pub laid-small : left ≡ [] → All (λ t. fixed_size (gc_layout_of header t.composite_type.inner) ≤ 4294967295) types
-        laid-small is = subst (All (IsSmall header)) (all-done is) laid.fits
+      pub laid-small : All (λ t. fixed_size (gc_layout_of header t.composite_type.inner) ≤ 4294967295) types
+      laid-small = subst (All (IsSmall header)) all-done laid.fits
 
 -- only an overflow becomes one
 pub overflow-only : (e : LayoutError) (error : TranslateError) → error ≡ error_of_layout e → error ≡ refusal.OffsetOverflow → e ≡ layout.OffsetOverflow

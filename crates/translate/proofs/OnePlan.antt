@@ -1,13 +1,13 @@
 -- There is one plan of memories and one of tables, but for where passive segments are found and for cells of images.
-use Rattle.std.proofs.Common.{◌≡◌, ◌∙◌, ℕ, Bool, List, [], ◌∷◌, ◌++◌, map, refl, sym, ap, inl, inr}
-use Rattle.std.specs.Prelude.{◌⊎◌, ◌&&◌, Option, None, is_none, if◌then◌else◌}
+use Rattle.std.proofs.Common.{◌≡◌, ◌∙◌, ℕ, Bool, List, [], ◌∷◌, map, refl, sym, ap, inl, inr}
+use Rattle.std.specs.Prelude.{◌⊎◌, ◌&&◌, Option, is_none, if◌then◌else◌}
 use Rattle.std.specs.List.{cons_option, filter_map, list_all}
 use Rattle.std.proofs.lemmas.List.{append_cancel_left}
 use Rattle.rule_spec.specs.Lists.{Lists}
 use Rattle.replay_spec.specs.Data.{ActiveSegment}
 use Rattle.replay_spec.specs.Elements.{DefinedTable, ActiveElements}
-use Rattle.replay_spec.specs.Plan.{MemoryPlan, PlannedSegment, kept_segments}
-use Rattle.replay_spec.specs.Images.{ImageOptions, ImageMemory, IsMemoryPlan, PlansImages, PlansSegments, image_map, image_bytes, entries_of}
+use Rattle.replay_spec.specs.Plan.{MemoryPlan, kept_segments}
+use Rattle.replay_spec.specs.Images.{ImageOptions, ImageMemory, IsMemoryPlan, PlansImages, PlansSegments}
 use Rattle.replay_spec.specs.Tables.{TablePlan, IsTablePlan}
 use Rattle.replay_spec.specs.Startup.{Never, Always, IfMemoriesNeedInit, is_empty, leaves_nothing, kept_initials, startup_of}
 use Rattle.replay_spec.proofs.One.{one-list}
@@ -22,29 +22,14 @@ pub record SameMemories (p q : MemoryPlan) : Type 0 where
   pub runtime : p.runtime ≡ q.runtime
 
 module _ (options : ImageOptions) (imports : ℕ) (memories : List ImageMemory) (active : List ActiveSegment) (passive : List (List ℕ)) (p q : MemoryPlan) where
-  both-images : PlansImages options imports memories active passive p → PlansImages options imports memories active passive q → SameMemories p q
-  both-images x y =
-      let same : x.images ≡ y.images = one-list _ _ active x.images y.images x.are_images y.are_images in
-      let maps : p.images ≡ q.images = x.in_map ∙ ap (image_map 0) same ∙ sym y.in_map in
-      record {
-        images = maps;
-        segments = x.in_list ∙ ap (entries_of 0) maps ∙ sym y.in_list;
-        runtime = x.runtime ∙ ap (λ images. image_bytes images ++ passive) same ∙ sym y.runtime;
-      }
-
-  both-segments : PlansSegments options imports memories active passive p → PlansSegments options imports memories active passive q → SameMemories p q
-  both-segments x y = record {
-    images = x.in_map ∙ sym y.in_map;
-    segments = x.in_list ∙ sym y.in_list;
-    runtime = x.runtime ∙ sym y.runtime;
-  }
-
   by-rule : PlansImages options imports memories active passive p ⊎ PlansSegments options imports memories active passive p
       → PlansImages options imports memories active passive q ⊎ PlansSegments options imports memories active passive q → SameMemories p q
-  by-rule (inl x) (inl y) = both-images x y
+  by-rule (inl x) (inl y) =
+      let same : x.images ≡ y.images = one-list _ _ active x.images y.images x.are_images y.are_images in
+      record { images = cc; segments = cc; runtime = cc }
   by-rule (inl x) (inr y) = absurd (y.not_static x.static)
   by-rule (inr x) (inl y) = absurd (x.not_static y.static)
-  by-rule (inr x) (inr y) = both-segments x y
+  by-rule (inr x) (inr y) = record { images = cc; segments = cc; runtime = cc }
 
   pub same-memories : IsMemoryPlan options imports memories active passive p → IsMemoryPlan options imports memories active passive q → SameMemories p q
   same-memories a b = by-rule a.segments b.segments
@@ -60,23 +45,9 @@ pub same-tables : (lazy : Bool) (imports : ℕ) (tables : List DefinedTable) (ac
     → IsTablePlan lazy imports tables active s → IsTablePlan lazy imports tables active t → SameTables s t
 same-tables lazy imports tables active s t a b =
     let taken : a.taken ≡ b.taken = one-prefix lazy imports tables active a.taken s.segments b.taken t.segments a.prefix b.prefix in
-    record {
-      segments = append_cancel_left a.taken s.segments t.segments
-          (sym a.prefix.parts ∙ b.prefix.parts ∙ ap (λ front. front ++ t.segments) (sym taken));
-      initials = a.initials ∙ sym b.initials;
-    }
+    record { segments = append_cancel_left a.taken s.segments t.segments (cc); initials = cc }
 
 -- ---- startup
-
-kept-parts : List PlannedSegment → List (List ℕ) → List ActiveSegment
-kept-parts segments runtime = kept_segments (record { sizes = []; images = []; segments = segments; runtime = runtime; passive = λ n. None })
-
-kept-by-parts : (p : MemoryPlan) → kept_segments p ≡ kept-parts p.segments p.runtime
-unfolding kept-parts
-kept-by-parts p = refl
-
-same-kept : (p q : MemoryPlan) → SameMemories p q → kept_segments p ≡ kept_segments q
-same-kept p q same = kept-by-parts p ∙ (λ i. kept-parts (same.segments i) (same.runtime i)) ∙ sym (kept-by-parts q)
 
 kept-of-map : {X Y : Type 0} (f : X → Option Y) (xs : List X) → filter_map f xs ≡ filter_map (λ o. o) (map f xs)
 kept-of-map f [] = refl
@@ -88,7 +59,7 @@ same-initials s t same =
 
 pub same-startup : (l : Lists) (p q : MemoryPlan) (s t : TablePlan) → SameMemories p q → SameTables s t → startup_of l s p ≡ startup_of l t q
 same-startup l p q s t memories tables =
-    let kept = same-kept p q memories in
     let initials = same-initials s t tables in
-    λ i. if leaves_nothing l && (is_empty (initials i) && is_empty (tables.segments i)) && is_empty (kept i)
+    λ i. if leaves_nothing l && (is_empty (initials i) && is_empty (tables.segments i))
+    && is_empty (kept_segments (record p { segments = memories.segments i; runtime = memories.runtime i }))
     then (if list_all is_none (memories.images i) then Never else IfMemoriesNeedInit) else Always

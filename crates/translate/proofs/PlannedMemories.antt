@@ -1,5 +1,5 @@
 -- What the plan of a translation's memories promises of the module whose lists the translation holds.
-use Rattle.std.proofs.Common.{◌≡◌, ◌<◌, ◌-◌, ◌^◌, ℕ, List, length, map, None, refl, sym, ap, subst}
+use Rattle.std.proofs.Common.{◌≡◌, ◌<◌, ◌-◌, ◌^◌, ℕ, List, length, map, None, refl, ap}
 use Rattle.std.specs.Prelude.{Contains, slice_get, sum_by}
 use Rattle.wasm_spec.specs.Module.{Module, imported_memories, defined_memories, segments}
 use Rattle.replay_spec.specs.Data.{ActiveSegment, active_segments}
@@ -12,17 +12,9 @@ use Rattle.init_plan.specs.Images.{image_memories, BeginsByRule, HasTightImages,
 use Rattle.init_plan.specs.Held.{HoldsMemories}
 use Rattle.init_plan.specs.Tables.{OnlyTableInitChanges}
 use Rattle.module_environ.specs.Initialisers.{passive_data_from}
-use Rattle.translate.specs.Options.{InitOptions, images, passive_bytes, BecomesImages, HasDataSize}
+use Rattle.translate.specs.Options.{InitOptions, images, passive_bytes, HasDataSize}
 use Rattle.translate.specs.Initialised.{InitialisesMemories}
 use Rattle.translate.proofs.Segments.{finds}
-use Rattle.translate.proofs.Unchanged.{with_tables}
-
--- what holds of four lists holds of lists that are equal to these
-moved : (P : ℕ → List ImageMemory → List ActiveSegment → List (List ℕ) → Type 0) (a b : ℕ) (c d : List ImageMemory) (e f : List ActiveSegment)
-    (g h : List (List ℕ)) → a ≡ b → c ≡ d → e ≡ f → g ≡ h → P a c e g → P b d f h
-moved P a b c d e f g h ab cd ef gh x =
-    subst (P b d f) gh (subst (λ (s : List ActiveSegment). P b d s g) ef
-    (subst (λ (m : List ImageMemory). P b m e g) cd (subst (λ (n : ℕ). P n c e g) ab x)))
 
 -- passive segments are found at the last of the runtime data
 abbrev pub IsFoundLast : MemoryPlan → List (ℕ × List ℕ) → Type 0
@@ -53,40 +45,28 @@ module _ (i : InitOptions) (m : Module) (old : ModuleTranslation) (has : HoldsDa
   to_module : (P : ℕ → List ImageMemory → List ActiveSegment → List (List ℕ) → Type 0)
       → P old.module.num_imported_memories (image_memories old.module) (initializers_of old) (held.passive_bytes old)
       → P (length (imported_memories m)) (map image_memory_of (defined_memories m)) (active_segments m) (passive_bytes m)
-  to_module P h = moved P _ _ _ _ _ _ _ _ has.holds.imports has.memories has.holds.active passive_same h
-
-  from_module : (P : ℕ → List ImageMemory → List ActiveSegment → List (List ℕ) → Type 0)
-      → P (length (imported_memories m)) (map image_memory_of (defined_memories m)) (active_segments m) (passive_bytes m)
-      → P old.module.num_imported_memories (image_memories old.module) (initializers_of old) (held.passive_bytes old)
-  from_module P h = moved P _ _ _ _ _ _ _ _ (sym has.holds.imports) (sym has.memories) (sym has.holds.active) (sym passive_same) h
+  to_module P h = rw (← has.holds.imports, ← has.memories, ← has.holds.active, ← passive_same) h
 
   -- the runtime data of both have the same sizes
   pub data_size : (P : ℕ → Type 0) → WillHaveRuntimeSize (images i) old P → HasDataSize i m P
   data_size P h = to_module (λ n ms active passive. HasRuntimeSize (images i) n ms active passive P) h
 
   module _ (mid new : ModuleTranslation) (tell : MemoriesTell i old mid) where
-    becomes : IsStatic (images i) old.module.num_imported_memories (image_memories old.module) (initializers_of old) → BecomesImages i m
-    becomes h = to_module (λ n ms ss ps. IsStatic (images i) n ms ss) h
-
-    became : BecomesImages i m → IsStatic (images i) old.module.num_imported_memories (image_memories old.module) (initializers_of old)
-    became h = from_module (λ n ms ss ps. IsStatic (images i) n ms ss) h
-
-    with_any_tables : InitialisesMemories i m (with_tables new mid)
-    with_any_tables = record {
+    -- the plan of the tables keeps it
+    pub initialises_memories : OnlyTableInitChanges mid new → InitialisesMemories i m new
+    initialises_memories same = rw same (record {
       plan = to_module (λ n ms ss ps. IsMemoryPlan (images i) n ms ss ps (memory_plan_of mid)) tell.planned;
-      segmented = λ is. ((λ h. (tell.begins.segmented is).0 (became h)), (tell.begins.segmented is).1);
-      imaged = λ is. (becomes (tell.begins.images is).0, (tell.begins.images is).1);
+      segmented = λ is. (
+        λ h. (tell.begins.segmented is).0 (rw (has.memories, has.holds.imports, has.holds.active) h),
+        (tell.begins.segmented is).1,
+      );
+      imaged = λ is. (to_module (λ n ms ss ps. IsStatic (images i) n ms ss) (tell.begins.images is).0, (tell.begins.images is).1);
       processed = tell.processed;
       tight = to_module (λ n ms ss ps. HasTightImages (images i) n ms ss ps (memory_plan_of mid)) tell.tight;
       ranges = tell.ranges;
       whole_ranges = tell.whole_ranges;
       fits = tell.fits;
-      passive = λ index. finds (memory_plan_of mid) (segments m) _ (subst (IsFoundLast (memory_plan_of mid)) has.passive tell.found)
-          (λ k none. tell.others k (subst (λ (ps : List (ℕ × List ℕ)). ¬ Contains (map (λ p. p.0) ps) k) (sym has.passive) none))
-          index (slice_get (segments m) index) refl;
-      in_order = subst (IsFoundLast (memory_plan_of mid)) has.passive tell.found;
-    }
-
-    -- the plan of the tables keeps it
-    pub initialises_memories : OnlyTableInitChanges mid new → InitialisesMemories i m new
-    initialises_memories same = subst (InitialisesMemories i m) (sym same) with_any_tables
+      passive = λ index. finds (memory_plan_of mid) (segments m) _ (rw has.passive at tell.found)
+          (λ k none. tell.others k (rw has.passive none)) index (slice_get (segments m) index) refl;
+      in_order = rw has.passive at tell.found;
+    })

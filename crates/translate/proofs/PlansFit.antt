@@ -6,12 +6,11 @@ use Rattle.rule_spec.specs.Lists.{lists_of_module}
 use Rattle.replay_spec.specs.Plan.{MemoryPlan}
 use Rattle.replay_spec.specs.Tables.{TablePlan}
 use Rattle.vm_offsets.specs.Context.{context_size}
-use Rattle.wasm_types.specs.declared.sub.WasmSubType.{WasmSubType}
 use Rattle.module_types.specs.Views.{interned_of}
 use Rattle.module_environ.specs.Types.{interned_list}
 use Rattle.form_reader.proofs.SectionLaws.{module_once}
 use Rattle.translate.specs.Options.{Options, runs, startup_by, PlansMemories, PlansTables}
-use Rattle.translate.specs.Contexts.{context_of, IsInterned, HasLargeObject, HasSizes, size_of_context, Overflows, Fits}
+use Rattle.translate.specs.Contexts.{context_of, HasLargeObject, HasSizes, size_of_context, Overflows}
 use Rattle.translate.specs.Planned.{KeepsAnd}
 use Rattle.translate.specs.Valid.{IsValid, CanBeInitialised}
 use Rattle.translate.proofs.OnePlan.{SameMemories, same-memories, same-tables, same-startup}
@@ -27,23 +26,18 @@ module _ (o : Options) (m : Module) (p q : MemoryPlan) (s t : TablePlan) (is_p :
   pub one-context : context_of o m p s ≡ context_of o m q t
   one-context = λ i. record (context_of o m p s) { num_runtime_data = length (one-memories.runtime i); has_startup_func = runs (one-startup i) }
 
-  interned-too : (type : WasmSubType) → IsInterned o m p s type → IsInterned o m q t type
-  interned-too type is = subst (λ kind. Contains (interned_list m (runs kind)).types (interned_of type)) one-startup is
-
   one-fits : HasLargeObject o m p s ⊎ (4294967295 < size_of_context o m p s) → HasSizes o m q t → ⊥
-  one-fits (inl object) sizes = let small = sizes.objects object.type (interned-too object.type object.interned) in omega (arith, small, object.large)
-  one-fits (inr large) sizes =
-      let same : size_of_context o m p s ≡ size_of_context o m q t = ap (context_size o.pointer) one-context in
-      omega (arith, same, large, sizes.context)
-
-overflows-not : (o : Options) (m : Module) → Overflows o m → Fits o m → ⊥
-overflows-not o m over fits =
-    one-fits o m over.memories fits.memories over.tables fits.tables over.memory_plan fits.memory_plan over.table_plan fits.table_plan over.large fits.sizes
+  one-fits (inl object) sizes =
+      let interned = subst (λ kind. Contains (interned_list m (runs kind)).types (interned_of object.type)) one-startup object.interned in
+      omega (arith, sizes.objects object.type interned, object.large)
+  one-fits (inr large) sizes = omega (arith, ap (context_size o.pointer) one-context, large, sizes.context)
 
 -- valid input does not overflow
 pub valid-fits : (o : Options) (bytes : List ℕ) → KeepsAnd bytes (Overflows o) → IsValid o bytes → ⊥
 valid-fits o bytes over valid =
-    overflows-not o valid.meaning (subst (Overflows o) (module_once bytes over.meaning valid.meaning over.read.spelled valid.read.spelled) over.fact) valid.fits
+    let it = subst (Overflows o) (module_once bytes over.meaning valid.meaning over.read.spelled valid.read.spelled) over.fact in
+    let fits = valid.fits in
+    one-fits o valid.meaning it.memories fits.memories it.tables fits.tables it.memory_plan fits.memory_plan it.table_plan fits.table_plan it.large fits.sizes
 
 -- and can be initialised
 pub valid-begins : (o : Options) (bytes : List ℕ) → IsValid o bytes → CanBeInitialised o.init bytes

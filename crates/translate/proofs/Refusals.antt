@@ -17,9 +17,8 @@ use Rattle.translate.proofs.OnePlan.{same-memories}
 pub memories_cause : (i : InitOptions) (o : Options) (bytes : List ℕ) (m : Module) (e : PlanError) → o.init ≡ i → IsReadable bytes m → Keeps m
     → (e ≡ plan.TooLarge → HasMuchData i m) → HasCause o bytes (error_of_plan e)
 memories_cause i o bytes m plan.TooLarge is read keeps much =
-    inr (record { meaning = m; read = read; keeps = keeps; fact = subst (λ (j : InitOptions). HasMuchData j m) (sym is) (much refl) })
-memories_cause i o bytes m plan.OutOfMemory is read keeps much = tt
-memories_cause i o bytes m plan.Poisoned is read keeps much = tt
+    inr (record { meaning = m; read = read; keeps = keeps; fact = rw is (much refl) })
+memories_cause i o bytes m e is read keeps much = tt
 
 -- where its data fit, memory ran out
 pub memories_complete : (i : InitOptions) (bytes : List ℕ) (m : Module) (e : PlanError) (can : CanBeInitialised i bytes) → can.meaning ≡ m
@@ -28,11 +27,9 @@ memories_complete i bytes m plan.TooLarge can same much =
     let large = subst (HasMuchData i) (sym same) (much refl) in
     let one = ap (sum_by length) (same-memories _ _ _ _ _ large.plan can.memories large.is_plan can.memory_plan).runtime in
     absurd (omega (arith, large.size, one, can.runtime))
-memories_complete i bytes m plan.OutOfMemory can same much = refl
-memories_complete i bytes m plan.Poisoned can same much = refl
+memories_complete i bytes m e can same much = refl
 
 -- the tables have no plan only where memory ran out
 pub tables_error : (e : PlanError) → (e ≡ plan.TooLarge → ⊥) → error_of_plan e ≡ refusal.OutOfMemory
 tables_error plan.TooLarge never = absurd (never refl)
-tables_error plan.OutOfMemory never = refl
-tables_error plan.Poisoned never = refl
+tables_error e never = refl

@@ -1,13 +1,13 @@
 -- Startup, as it is raised from one call to the next, and the builder beside it.
-use Rattle.std.proofs.Common.{◌≡◌, ◌<◌, ◌+◌, ℕ, Bool, true, false, not, [], ◌∷◌, length, length-append, Option, Some, None, refl, sym, ap, subst, ◌∙◌, arith}
+use Rattle.std.proofs.Common.{◌≡◌, ◌<◌, ◌+◌, ℕ, Bool, true, false, not, [], ◌∷◌, length, length-append, Option, Some, None, refl, ap, arith}
 use Rattle.std.specs.Prelude.{if◌then◌else◌}
+use Rattle.std.proofs.lemmas.Bool.{cases_Bool}
 use Rattle.wasm_spec.specs.Module.{Module}
 use Rattle.rule_spec.specs.Lists.{lists_of_module}
 use Rattle.type_spec.specs.Interned.{Built, startup_type, with_startup}
-use Rattle.wasm_types.specs.declared.index.EngineOrModuleTypeIndex.{EngineOrModuleTypeIndex}
 use Rattle.wasm_module.specs.declared.startup.ModuleStartup.{ModuleStartup}
 use Rattle.replay_spec.specs.Plan.{MemoryPlan}
-use Rattle.replay_spec.specs.Startup.{Startup, Never, Always, IfMemoriesNeedInit, leaves_nothing, keeps_no_table, keeps_no_data, first_startup, raised_by_tables, raised_by_images, raised_by_memories}
+use Rattle.replay_spec.specs.Startup.{Startup, Never, Always, leaves_nothing, keeps_no_table, keeps_no_data, first_startup, raised_by_tables, raised_by_memories}
 use Rattle.replay_spec.specs.Tables.{TablePlan}
 use Rattle.module_types.specs.Builder.{Builder, starts}
 use Rattle.init_plan.specs.Startup.{startup_kind, startup_with, raised, types_after}
@@ -30,84 +30,51 @@ pub record IsStarted (types : Built) (kind : Startup) (s : ModuleStartup) (b : B
 
 -- when it runs
 pub kind_of : (types : Built) (kind : Startup) (s : ModuleStartup) (b : Builder) → IsStarted types kind s b → startup_kind s ≡ kind
-kind_of types kind s b h = ap startup_kind h.startup ∙ by kind (type_index (length types.types)) where
-  by : (k : Startup) (ty : EngineOrModuleTypeIndex) → startup_kind (startup_with k ty) ≡ k
-  by Never ty = refl
-  by Always ty = refl
-  by IfMemoriesNeedInit ty = refl
+kind_of types Never s b h = ap startup_kind h.startup
+kind_of types kind s b h = ap startup_kind h.startup
 
 -- one type more has room where two have
 pub has_room : (types : Built) (kind : Startup) (s : ModuleStartup) (b : Builder) → IsStarted types kind s b → length types.types + 1 < 4294967295
     → length (starts b).built.types < 4294967295
 has_room types Never s b h room = rw (h.index, h.built) (let l = length-append types.types (startup_type ∷ []) in omega (arith, l))
-has_room types Always s b h room = rw (h.index, h.built) (let l = length-append types.types (startup_type ∷ []) in omega (arith, l))
-has_room types IfMemoriesNeedInit s b h room = rw (h.index, h.built) (let l = length-append types.types (startup_type ∷ []) in omega (arith, l))
+has_room types kind s b h room = rw (h.index, h.built) (let l = length-append types.types (startup_type ∷ []) in omega (arith, l))
 
 -- it is never lowered
 abbrev IsRaised : Startup → Startup → Type 0
 IsRaised before after = after ≡ Never → before ≡ Never
 
-pub raise : (types : Built) (before after : Startup) (s : ModuleStartup) (b : Builder) → IsStarted types before s b → IsRaised before after
+raise : (types : Built) (before after : Startup) (s : ModuleStartup) (b : Builder) → IsStarted types before s b → IsRaised before after
     → IsStarted types after (raised after s b) (types_after after s b)
 raise types Never Never s b h up = record { startup = refl; built = h.built; index = h.index; sound = h.sound }
-raise types Never Always s b h up = rw h.startup (record {
+raise types Never after s b h up = rw h.startup (record {
   startup = rw (h.index, h.built) refl;
   built = rw (h.index, h.built) refl;
   index = rw (h.index, h.built) refl;
   sound = rw h.index h.sound;
 })
-raise types Never IfMemoriesNeedInit s b h up = rw h.startup (record {
-  startup = rw (h.index, h.built) refl;
-  built = rw (h.index, h.built) refl;
-  index = rw (h.index, h.built) refl;
-  sound = rw h.index h.sound;
-})
-raise types Always Never s b h up = let e : Always ≡ Never = up refl in absurd cc
-raise types Always Always s b h up = rw h.startup (record { startup = refl; built = h.built; index = h.index; sound = h.sound })
-raise types Always IfMemoriesNeedInit s b h up = rw h.startup (record { startup = refl; built = h.built; index = h.index; sound = h.sound })
-raise types IfMemoriesNeedInit Never s b h up = let e : IfMemoriesNeedInit ≡ Never = up refl in absurd cc
-raise types IfMemoriesNeedInit Always s b h up = rw h.startup (record { startup = refl; built = h.built; index = h.index; sound = h.sound })
-raise types IfMemoriesNeedInit IfMemoriesNeedInit s b h up = rw h.startup (record { startup = refl; built = h.built; index = h.index; sound = h.sound })
+raise types before Never s b h up = let e = up refl in absurd cc
+raise types before after s b h up = rw h.startup (record { startup = refl; built = h.built; index = h.index; sound = h.sound })
 
 -- raised by a plan, from the startup that stands
 pub next : (types : Built) (by : Startup → Startup) (kind : Startup) (s after : ModuleStartup) (b gained : Builder)
     → ((k : Startup) → IsRaised k (by k)) → IsStarted types kind s b → after ≡ raised (by (startup_kind s)) s b
     → gained ≡ types_after (by (startup_kind s)) s b → IsStarted types (by kind) after gained
-next types by kind s after b gained up h startup grown =
-    let same = kind_of types kind s b h in
-    let is_after : after ≡ raised (by kind) s b = startup ∙ ap (λ (k : Startup). raised (by k) s b) same in
-    let is_gained : gained ≡ types_after (by kind) s b = grown ∙ ap (λ (k : Startup). types_after (by k) s b) same in
-    subst (IsStarted types (by kind) after) (sym is_gained)
-    (subst (λ (x : ModuleStartup). IsStarted types (by kind) x (types_after (by kind) s b)) (sym is_after)
-    (raise types kind (by kind) s b h (up kind)))
+next types by kind s after b gained up h startup grown = rw (startup, grown, kind_of types kind s b h) (raise types kind (by kind) s b h (up kind))
 
 -- the types are few, with the startup type too
 pub few_types : (types : Built) (kind : Startup) (s : ModuleStartup) (b : Builder) → IsStarted types kind s b → length types.types + 1 < 4294967295
     → length b.built.types < 4294967295
-few_types types kind s b h room = rw h.built (by (runs kind)) where
-  by : (r : Bool) → length (with_startup types r).types < 4294967295
-  by true = let l = length-append types.types (startup_type ∷ []) in omega (arith, l)
-  by false = omega arith
+few_types types Never s b h room = rw h.built (omega arith)
+few_types types kind s b h room = rw h.built (let l = length-append types.types (startup_type ∷ []) in omega (arith, l))
 
 -- ---- by the plans
 
 pub raised-memories : (plan : MemoryPlan) (k : Startup) → IsRaised k (raised_by_memories plan k)
-raised-memories plan k = by (keeps_no_data plan) k where
-  images : (v : Bool) (k : Startup) → (let s : Startup = if v then raised_by_images plan k else Always in s) ≡ Never → k ≡ Never
-  images v Never e = refl
-  images true Always e = e
-  images false Always e = e
-  images true IfMemoriesNeedInit e = e
-  images false IfMemoriesNeedInit e = absurd (let h : Always ≡ Never = e in cc)
-
-  by : (v : Bool) (k : Startup) → (if v then raised_by_images plan k else Always) ≡ Never → k ≡ Never
-  by v k e = images v k e
+raised-memories plan Never e = refl
+raised-memories plan k e = let v = cases_Bool (keeps_no_data plan) in grind arith
 
 pub raised-tables : (plan : TablePlan) (k : Startup) → IsRaised k (raised_by_tables plan k)
-raised-tables plan k = by (keeps_no_table plan) where
-  by : (v : Bool) → (if v then k else Always) ≡ Never → k ≡ Never
-  by true e = e
-  by false e = absurd (let h : Always ≡ Never = e in cc)
+raised-tables plan k e = let v = cases_Bool (keeps_no_table plan) in grind arith
 
 -- ---- before the plans
 

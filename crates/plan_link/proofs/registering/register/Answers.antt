@@ -1,4 +1,4 @@
-use Rattle.std.proofs.Common.{◌≤◌, ◌+◌, length, Err, sym, ap, subst}
+use Rattle.std.proofs.Common.{length, Err, ap, arith}
 use Rattle.type_registry.specs.Registry.{Registry, registry_of, live}
 use Rattle.plan_link.proofs.Fitting.{live-few, not-full, only-memory}
 use Rattle.plan_link.proofs.registering.register.Goals as goal
@@ -11,6 +11,4 @@ memory-requires c =
 
 pub returns-in-Ok-clause-live : goal.returns-in-Ok-clause-live
 returns-in-Ok-clause-live c =
-    let r = registry_of c.args.registry.now in
-    let n = length (live r) + length c.args.types.now.types in
-    subst (λ (s : Registry). length (live s) ≤ n) (sym c.in-Ok.ensures.ok) (live-few r c.args.types.now c.requires.listed)
+    omega (arith, ap (λ (s : Registry). length (live s)) c.in-Ok.ensures.ok, live-few (registry_of c.args.registry.now) c.args.types.now c.requires.listed)

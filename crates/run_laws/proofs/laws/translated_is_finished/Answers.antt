@@ -4,8 +4,7 @@ use Rattle.module_environ.proofs.HoldsLists.{holds_memories}
 use Rattle.run_laws.proofs.laws.translated_is_finished.Goals as goal
 
 pub returns-clause-translated : goal.returns-clause-translated
-returns-clause-translated c = λ tunables index validator bytes types options lazy old mid new told page memories tables.
-    translated-finished tunables index validator bytes types options lazy old mid new told page memories tables
+returns-clause-translated c = translated-finished
 
 pub returns-clause-planned : goal.returns-clause-planned
 returns-clause-planned c = λ o bytes plan page is.

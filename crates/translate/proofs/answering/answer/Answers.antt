@@ -1,17 +1,5 @@
-use Rattle.std.proofs.Common.{refl, rules}
+use Rattle.std.proofs.Common.{rules}
 use Rattle.translate.proofs.answering.answer.Goals as goal
 
-pub returns-in-Err : goal.returns-in-Err
-returns-in-Err g c = record {
-  bytes = refl;
-  statuses = search rules;
-  success = search rules;
-  refused = search rules;
-  cut_short = search rules;
-  write_failed = search rules;
-  no_write_failed = search rules;
-  nothing = search rules;
-  counted = search rules;
-  too_long = search rules;
-  complete = search rules;
-}
+pub returns-in-Err-clause-cut_short : goal.returns-in-Err-clause-cut_short
+returns-in-Err-clause-cut_short g c = search rules

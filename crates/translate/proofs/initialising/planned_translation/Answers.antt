@@ -1,21 +1,17 @@
-use Rattle.std.proofs.Common.{◌≡◌, ◌≤◌, ◌^◌, ap, ◌∙◌, refl, Bor, Err, rules}
+use Rattle.std.proofs.Common.{◌≡◌, ◌≤◌, ◌^◌, ap, ◌∙◌, Err, rules}
 use Rattle.std.proofs.lemmas.Result.{err_from_is_err_and}
 use Rattle.rule_spec.specs.declared.rules.Rule.TheVariants.{L6}
-use Rattle.wasm_index.specs.Index.{index_of}
-use Rattle.wasm_types.specs.declared.tunables.Tunables.{Tunables}
 use Rattle.module_types.specs.Builder.{Builder, BuilderState}
 use Rattle.init_plan.specs.Views.{memory_plan_of}
-use Rattle.init_plan.specs.Tables.{plan_of_tables}
 use Rattle.init_plan.specs.declared.error.PlanError.TheVariants as plan
 use Rattle.form_reader.proofs.SectionLaws.{module_once}
 use Rattle.init_plan.proofs.Holding.{data_agree, elements_agree, globals_agree}
 use Rattle.plan.specs.Errors.{error_of_translation}
 use Rattle.translate.specs.Options.{init_options}
-use Rattle.translate.proofs.AllPlanned.{translated_with, started, room, started_memories, holds_data, all_planned}
+use Rattle.translate.proofs.AllPlanned.{room_first, room_next, holds_data, all_planned}
 use Rattle.translate.proofs.PlannedMemories.{data_size}
 use Rattle.translate.proofs.PlannedTables.{holds_still}
 use Rattle.translate.proofs.Refusals.{memories_cause, memories_complete, tables_error}
-use Rattle.translate.proofs.Started.{has_room}
 use Rattle.translate.proofs.initialising.planned_translation.Goals as goal
 
 -- ---- there is no translation
@@ -31,56 +27,36 @@ returns-in_err-translation-clause-complete c = λ can.
 
 pub finalize_memory_init-requires-clause-room : goal.finalize_memory_init-requires-clause-room
 finalize_memory_init-requires-clause-room c = λ sound.
-    let i = init_options c.args.tunables.now c.args.page_size c.args.max_image in
-    let bytes = c.args.bytes.now in
-    let old = c.in_ok-translation.translation in
+    let e = c.in_ok-environment.ensures in
     let back : c.translate.new.self.1.1.0 ≡ c.types-2-1.given.0 = search rules in
-    let told = translated_with _ c.args.tunables.now _ (index_of 0) _ 0 bytes old _ _
-    (ap (λ (r : Bor Tunables). r.now) c.in_ok-environment.ensures.tunables) (c.in_ok-environment.ensures.index ∙ c.from_u32-index.ensures)
-    (ap (λ r. r.now) c.in_ok-environment.ensures.validator ∙ c.requires.number) back c.in_ok-translation.ensures.translated in
-    has_room _ _ _ _ (started i bytes old _ told) (room i bytes old _ told)
+    room_first (rw (e.tunables, e.index, c.from_u32-index.ensures, e.validator, c.requires.number, back) at c.in_ok-translation.ensures.translated)
 
 pub returns-in-Err-clause-cause : goal.returns-in-Err-clause-cause
 returns-in-Err-clause-cause c =
     let i = init_options c.args.tunables.now c.args.page_size c.args.max_image in
-    let bytes = c.args.bytes.now in
-    let old = c.in_ok-translation.translation in
-    let told = translated_with _ c.args.tunables.now _ (index_of 0) _ 0 bytes old _ _
-    (ap (λ (r : Bor Tunables). r.now) c.in_ok-environment.ensures.tunables) (c.in_ok-environment.ensures.index ∙ c.from_u32-index.ensures)
-    (ap (λ r. r.now) c.in_ok-environment.ensures.validator ∙ c.requires.number) refl c.in_ok-translation.ensures.translated in
-    let e = c.in-Err in
-    let much = λ (is : e.error ≡ plan.TooLarge). data_size i told.meaning old (holds_data i bytes old _ told) (λ size. 2 ^ 32 ≤ size)
-    (c.finalize_memory_init.ensures.too_large (e.is ∙ ap Err is)) in
-    rw c.into.ensures (λ o same. memories_cause i o bytes told.meaning e.error same told.read told.keeps much)
+    let e = c.in_ok-environment.ensures in
+    let told = rw (e.tunables, e.index, c.from_u32-index.ensures, e.validator, c.requires.number) at c.in_ok-translation.ensures.translated in
+    let much = λ (is : c.in-Err.error ≡ plan.TooLarge). data_size i told.meaning _ (holds_data told) (λ size. 2 ^ 32 ≤ size)
+    (c.finalize_memory_init.ensures.too_large (c.in-Err.is ∙ ap Err is)) in
+    rw c.into.ensures (λ o same. memories_cause i o _ told.meaning c.in-Err.error same told.read told.keeps much)
 
 pub returns-in-Err-clause-complete : goal.returns-in-Err-clause-complete
 returns-in-Err-clause-complete c = λ can.
     let i = init_options c.args.tunables.now c.args.page_size c.args.max_image in
-    let bytes = c.args.bytes.now in
-    let old = c.in_ok-translation.translation in
-    let told = translated_with _ c.args.tunables.now _ (index_of 0) _ 0 bytes old _ _
-    (ap (λ (r : Bor Tunables). r.now) c.in_ok-environment.ensures.tunables) (c.in_ok-environment.ensures.index ∙ c.from_u32-index.ensures)
-    (ap (λ r. r.now) c.in_ok-environment.ensures.validator ∙ c.requires.number) refl c.in_ok-translation.ensures.translated in
-    let e = c.in-Err in
-    let much = λ (is : e.error ≡ plan.TooLarge). data_size i told.meaning old (holds_data i bytes old _ told) (λ size. 2 ^ 32 ≤ size)
-    (c.finalize_memory_init.ensures.too_large (e.is ∙ ap Err is)) in
-    let one = module_once bytes can.meaning told.meaning can.read.spelled told.read.spelled in
-    c.into.ensures ∙ memories_complete i bytes told.meaning e.error can one much
+    let e = c.in_ok-environment.ensures in
+    let told = rw (e.tunables, e.index, c.from_u32-index.ensures, e.validator, c.requires.number) at c.in_ok-translation.ensures.translated in
+    let much = λ (is : c.in-Err.error ≡ plan.TooLarge). data_size i told.meaning _ (holds_data told) (λ size. 2 ^ 32 ≤ size)
+    (c.finalize_memory_init.ensures.too_large (c.in-Err.is ∙ ap Err is)) in
+    c.into.ensures ∙ memories_complete i _ told.meaning c.in-Err.error can (module_once _ can.meaning told.meaning can.read.spelled told.read.spelled) much
 
 -- ---- the tables are planned
 
 pub finalize_table_init-requires-clause-room : goal.finalize_table_init-requires-clause-room
 finalize_table_init-requires-clause-room c = λ sound.
-    let i = init_options c.args.tunables.now c.args.page_size c.args.max_image in
-    let bytes = c.args.bytes.now in
-    let old = c.in_ok-translation.translation in
+    let e = c.in_ok-environment.ensures in
     let back : c.translate.new.self.1.1.0 ≡ c.types-2-1.given.0 = search rules in
-    let told = translated_with _ c.args.tunables.now _ (index_of 0) _ 0 bytes old _ _
-    (ap (λ (r : Bor Tunables). r.now) c.in_ok-environment.ensures.tunables) (c.in_ok-environment.ensures.index ∙ c.from_u32-index.ensures)
-    (ap (λ r. r.now) c.in_ok-environment.ensures.validator ∙ c.requires.number) back c.in_ok-translation.ensures.translated in
-    let m = c.in_default.ensures in
-    has_room _ _ _ _ (started_memories i bytes old _ told c.finalize_memory_init.new.self c.finalize_memory_init.new.types m.startup m.types)
-    (room i bytes old _ told)
+    room_next (rw (e.tunables, e.index, c.from_u32-index.ensures, e.validator, c.requires.number, back) at c.in_ok-translation.ensures.translated)
+    c.finalize_memory_init.new.self c.finalize_memory_init.new.types c.in_default.ensures.startup c.in_default.ensures.types
 
 pub returns-in-Err-finalize_table_init-clause-cause : goal.returns-in-Err-finalize_table_init-clause-cause
 returns-in-Err-finalize_table_init-clause-cause c =
@@ -96,40 +72,18 @@ returns-in-Err-finalize_table_init-clause-complete c = λ can.
 
 pub returns-clause-initialised : goal.returns-clause-initialised
 returns-clause-initialised c =
-    let i = init_options c.args.tunables.now c.args.page_size c.args.max_image in
-    let bytes = c.args.bytes.now in
-    let old = c.in_ok-translation.translation in
+    let e = c.in_ok-environment.ensures in
     let back : c.translate.new.self.1.1.0 ≡ c.types-2-1.given.0 = search rules in
-    let told = translated_with _ c.args.tunables.now _ (index_of 0) _ 0 bytes old _ _
-    (ap (λ (r : Bor Tunables). r.now) c.in_ok-environment.ensures.tunables) (c.in_ok-environment.ensures.index ∙ c.from_u32-index.ensures)
-    (ap (λ r. r.now) c.in_ok-environment.ensures.validator ∙ c.requires.number) back c.in_ok-translation.ensures.translated in
+    let told = rw (e.tunables, e.index, c.from_u32-index.ensures, e.validator, c.requires.number, back) at c.in_ok-translation.ensures.translated in
+    let old = c.in_ok-translation.translation in
     let mid = c.finalize_memory_init.new.self in
-    let new = c.finalize_table_init.new.self in
     let m = c.in_default.ensures in
     let t = c.in_default-finalize_table_init.ensures in
-    all_planned i bytes old _ told mid new c.finalize_memory_init.new.types c.finalize_table_init.new.types
-    c.startup_law.ensures.memories_first (record {
-      memories = record {
-        planned = m.planned;
-        begins = m.begins;
-        processed = m.processed;
-        tight = m.tight;
-        ranges = m.ranges;
-        whole_ranges = m.whole_ranges;
-        found = m.found;
-        others = m.others;
-        fits = m.fits;
-      };
-      memories_same = m.same;
-      memories_startup = m.startup;
-      memories_types = m.types;
-      tables = t.planned;
-      tables_same = t.same;
-      tables_left = t.left;
-      tables_counted = t.counts;
-      tables_startup = t.startup;
-      tables_types = t.types;
-      agree_globals = globals_agree told.meaning old told.ready.holds_globals (told.keeps L6).globals;
-      agree_memories = data_agree told.meaning old told.ready.holds_memories (memory_plan_of mid) m.agrees;
-      agree_tables = elements_agree told.meaning mid (plan_of_tables new) (holds_still told.meaning old mid m.same told.ready.holds_tables) t.agrees;
-    })
+    all_planned (init_options c.args.tunables.now c.args.page_size c.args.max_image) {mid = mid} {mid_types = c.finalize_memory_init.new.types} told
+    c.startup_law.ensures.memories_first (assumption (
+      m,
+      t,
+      globals_agree told.meaning old told.ready.holds_globals (told.keeps L6).globals,
+      data_agree told.meaning old told.ready.holds_memories (memory_plan_of mid) m.agrees,
+      elements_agree told.meaning mid _ (holds_still told.meaning old mid m.same told.ready.holds_tables) t.agrees,
+    ))

@@ -1,11 +1,10 @@
-use Rattle.std.proofs.Common.{◌≡◌, ◌≢◌, ◌⊎◌, ◌≤◌, ◌<◌, ℕ, List, length, Some, IsNone, IsSome, sym, subst, ap, ◌∙◌, arith}
+use Rattle.std.proofs.Common.{◌≡◌, ◌≢◌, ◌⊎◌, ◌≤◌, ◌<◌, ℕ, length, Some, sym, subst, ap, ◌∙◌, arith}
 use Rattle.std.specs.Prelude.{◌^◌}
 use Rattle.std.proofs.lemmas.Result.{IfErr-at_err}
 use Rattle.command_words.specs.declared.command.Command.{Command}
-use Rattle.devices.specs.Device.{TellsFront}
 use Rattle.translate.specs.Options.{options_of}
 use Rattle.translate.specs.Valid.{IsValid}
-use Rattle.translate.specs.Runs.{IsInput, IsAnswer}
+use Rattle.translate.specs.Runs.{IsAnswer}
 use Rattle.translate.proofs.WholeInput.{whole_input}
 use Rattle.translate.proofs.running.run.Goals as goal
 
@@ -14,8 +13,8 @@ no_usage : (status : ℕ) → IsAnswer status → status ≡ 2 → ⊥
 no_usage status answer wrong = grind arith
 
 -- a command that is named is the one that was read
-same : (read command : Command) → Some read ≡ Some command → command ≡ read
-same read command e = cc
+same : {read command : Command} → Some read ≡ Some command → command ≡ read
+same e = cc
 
 -- an answer that is no refusal and no failed write
 ends_well : (status : ℕ) → IsAnswer status → status ≢ 1 → status ≢ 4 → (status ≡ 0) ⊎ (status ≡ 5)
@@ -48,17 +47,12 @@ returns-in-Ok-clause-usage g c = (
 )
 
 pub returns-in-Ok-clause-bytes : goal.returns-in-Ok-clause-bytes
-returns-in-Ok-clause-bytes g c = λ command names none.
-    let read = same c.in-Some.command command (c.in-Some.ensures.complete command names) in
-    subst (λ bytes. TellsFront (g.S.Source.left c.args.source.now) bytes (g.S.Source.left c.fill_store-outcome.new.source))
-    (sym (c.answer.ensures.bytes ∙ c.as_slice-bytes.ensures.value))
-    (c.fill_store-outcome.ensures.bytes (subst (λ (d : Command). IsNone d.generate) read none))
+returns-in-Ok-clause-bytes g c = λ command names.
+    rw (same (c.in-Some.ensures.complete command names), c.answer.ensures.bytes, c.as_slice-bytes.ensures.value) c.fill_store-outcome.ensures.bytes
 
 pub returns-in-Ok-clause-within : goal.returns-in-Ok-clause-within
-returns-in-Ok-clause-within g c = λ command names none.
-    let read = same c.in-Some.command command (c.in-Some.ensures.complete command names) in
-    subst (λ (bytes : List ℕ). length bytes ≤ 2 ^ 30) (sym (c.answer.ensures.bytes ∙ c.as_slice-bytes.ensures.value))
-    (c.fill_store-outcome.ensures.within (subst (λ (d : Command). IsNone d.generate) read none))
+returns-in-Ok-clause-within g c = λ command names.
+    rw (same (c.in-Some.ensures.complete command names), c.answer.ensures.bytes, c.as_slice-bytes.ensures.value) c.fill_store-outcome.ensures.within
 
 pub returns-in-Ok-clause-too_long : goal.returns-in-Ok-clause-too_long
 returns-in-Ok-clause-too_long g c = λ command names none long. c.answer.ensures.too_long (omega (arith, ap length c.answer.ensures.bytes, long))
@@ -72,58 +66,44 @@ returns-in-Ok-clause-to_the_end g c = λ success untold fresh. record {
 }
 
 pub returns-in-Ok-clause-made : goal.returns-in-Ok-clause-made
-returns-in-Ok-clause-made g c = λ command names some.
-    let read = same c.in-Some.command command (c.in-Some.ensures.complete command names) in
-    c.fill_store-outcome.ensures.made (subst (λ (d : Command). IsSome d.generate) read some)
+returns-in-Ok-clause-made g c = λ command names. rw (same (c.in-Some.ensures.complete command names)) c.fill_store-outcome.ensures.made
 
 pub returns-in-Ok-clause-complete : goal.returns-in-Ok-clause-complete
-returns-in-Ok-clause-complete g c = λ command input names is valid no_read_failed no_write_failed.
-    let read = same c.in-Some.command command (c.in-Some.ensures.complete command names) in
+returns-in-Ok-clause-complete g c = λ command input names. rw (same (c.in-Some.ensures.complete command names))
+    (λ is valid no_read_failed no_write_failed.
     let whole = whole_input c.in-Some.command.generate (g.S.Source.left c.args.source.now) (g.S.Source.left c.fill_store-outcome.new.source)
-    c.fill_store-outcome.new.store.items input c.in-Ok.ensures.enough c.fill_store-outcome.ensures.bytes (subst (λ (d : Command). IsInput d.generate (g.S.Source.left c.args.source.now) input) read is) valid.read.short in
-    let taken = whole ∙ sym c.as_slice-bytes.ensures.value in
-    let is_valid : IsValid (options_of c.in-Some.command) c.as_slice-bytes.result.now =
-    subst (λ bytes. IsValid (options_of c.in-Some.command) bytes) taken (subst (λ (d : Command). IsValid (options_of d) input) read valid) in
-    ends_well c.answer.result.status c.answer.ensures.statuses (c.answer.ensures.complete is_valid)
-    (λ failed. no_write_failed (c.answer.ensures.write_failed failed))
+    c.fill_store-outcome.new.store.items input c.in-Ok.ensures.enough c.fill_store-outcome.ensures.bytes is valid.read.short in
+    ends_well c.answer.result.status c.answer.ensures.statuses
+    (c.answer.ensures.complete (subst (IsValid (options_of c.in-Some.command)) (whole ∙ sym c.as_slice-bytes.ensures.value) valid))
+    (λ failed. no_write_failed (c.answer.ensures.write_failed failed)))
 
 pub returns-in-Err-Failed-clause-within : goal.returns-in-Err-Failed-clause-within
-returns-in-Err-Failed-clause-within g c = λ command names none.
-    let read = same c.in-Some.command command (c.in-Some.ensures.complete command names) in
-    subst (λ (bytes : List ℕ). length bytes ≤ 2 ^ 30) (sym (ap (λ r. r.bytes.now) c.empty_report-in-Err-Failed.ensures ∙ c.as_slice-bytes.ensures.value))
-    (c.fill_store-outcome.ensures.within (subst (λ (d : Command). IsNone d.generate) read none))
+returns-in-Err-Failed-clause-within g c = λ command names.
+    rw (same (c.in-Some.ensures.complete command names), c.empty_report-in-Err-Failed.ensures, c.as_slice-bytes.ensures.value)
+    c.fill_store-outcome.ensures.within
 
 pub returns-in-Err-Failed-clause-too_long : goal.returns-in-Err-Failed-clause-too_long
-returns-in-Err-Failed-clause-too_long g c = λ command names none long.
-    let read = same c.in-Some.command command (c.in-Some.ensures.complete command names) in
-    let cut = IfErr-at_err _ c.in-Err-Failed.is c.fill_store-outcome.ensures.stopped (subst (λ (d : Command). IsNone d.generate) read none) in
-    absurd (omega (arith, cut, long, ap (λ r. length r.bytes.now) c.empty_report-in-Err-Failed.ensures, ap length c.as_slice-bytes.ensures.value))
+returns-in-Err-Failed-clause-too_long g c = λ command names. rw (same (c.in-Some.ensures.complete command names)) (λ none long.
+    let cut = IfErr-at_err _ c.in-Err-Failed.is c.fill_store-outcome.ensures.stopped none in
+    absurd (omega (arith, cut, long, ap (λ r. length r.bytes.now) c.empty_report-in-Err-Failed.ensures, ap length c.as_slice-bytes.ensures.value)))
 
 pub returns-in-Err-Failed-clause-made : goal.returns-in-Err-Failed-clause-made
-returns-in-Err-Failed-clause-made g c = λ command names some.
-    let read = same c.in-Some.command command (c.in-Some.ensures.complete command names) in
-    c.fill_store-outcome.ensures.made (subst (λ (d : Command). IsSome d.generate) read some)
+returns-in-Err-Failed-clause-made g c = λ command names. rw (same (c.in-Some.ensures.complete command names)) c.fill_store-outcome.ensures.made
 
 pub returns-in-Err-OutOfMemory-clause-bytes : goal.returns-in-Err-OutOfMemory-clause-bytes
-returns-in-Err-OutOfMemory-clause-bytes g c = λ command names none.
-    let read = same c.in-Some.command command (c.in-Some.ensures.complete command names) in
-    subst (λ bytes. TellsFront (g.S.Source.left c.args.source.now) bytes (g.S.Source.left c.fill_store-outcome.new.source))
-    (sym (ap (λ r. r.bytes.now) c.empty_report-in-Err-OutOfMemory.ensures ∙ c.as_slice-bytes.ensures.value))
-    (c.fill_store-outcome.ensures.bytes (subst (λ (d : Command). IsNone d.generate) read none))
+returns-in-Err-OutOfMemory-clause-bytes g c = λ command names.
+    rw (same (c.in-Some.ensures.complete command names), c.empty_report-in-Err-OutOfMemory.ensures, c.as_slice-bytes.ensures.value)
+    c.fill_store-outcome.ensures.bytes
 
 pub returns-in-Err-OutOfMemory-clause-within : goal.returns-in-Err-OutOfMemory-clause-within
-returns-in-Err-OutOfMemory-clause-within g c = λ command names none.
-    let read = same c.in-Some.command command (c.in-Some.ensures.complete command names) in
-    subst (λ (bytes : List ℕ). length bytes ≤ 2 ^ 30) (sym (ap (λ r. r.bytes.now) c.empty_report-in-Err-OutOfMemory.ensures ∙ c.as_slice-bytes.ensures.value))
-    (c.fill_store-outcome.ensures.within (subst (λ (d : Command). IsNone d.generate) read none))
+returns-in-Err-OutOfMemory-clause-within g c = λ command names.
+    rw (same (c.in-Some.ensures.complete command names), c.empty_report-in-Err-OutOfMemory.ensures, c.as_slice-bytes.ensures.value)
+    c.fill_store-outcome.ensures.within
 
 pub returns-in-Err-OutOfMemory-clause-too_long : goal.returns-in-Err-OutOfMemory-clause-too_long
-returns-in-Err-OutOfMemory-clause-too_long g c = λ command names none long.
-    let read = same c.in-Some.command command (c.in-Some.ensures.complete command names) in
-    let cut = IfErr-at_err _ c.in-Err-OutOfMemory.is c.fill_store-outcome.ensures.stopped (subst (λ (d : Command). IsNone d.generate) read none) in
-    absurd (omega (arith, cut, long, ap (λ r. length r.bytes.now) c.empty_report-in-Err-OutOfMemory.ensures, ap length c.as_slice-bytes.ensures.value))
+returns-in-Err-OutOfMemory-clause-too_long g c = λ command names. rw (same (c.in-Some.ensures.complete command names)) (λ none long.
+    let cut = IfErr-at_err _ c.in-Err-OutOfMemory.is c.fill_store-outcome.ensures.stopped none in
+    absurd (omega (arith, cut, long, ap (λ r. length r.bytes.now) c.empty_report-in-Err-OutOfMemory.ensures, ap length c.as_slice-bytes.ensures.value)))
 
 pub returns-in-Err-OutOfMemory-clause-made : goal.returns-in-Err-OutOfMemory-clause-made
-returns-in-Err-OutOfMemory-clause-made g c = λ command names some.
-    let read = same c.in-Some.command command (c.in-Some.ensures.complete command names) in
-    c.fill_store-outcome.ensures.made (subst (λ (d : Command). IsSome d.generate) read some)
+returns-in-Err-OutOfMemory-clause-made g c = λ command names. rw (same (c.in-Some.ensures.complete command names)) c.fill_store-outcome.ensures.made
