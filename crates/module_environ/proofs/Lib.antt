@@ -25,21 +25,18 @@ mod ExportsInTurn
 mod ImportPlaces
 mod FilledEntities
 mod Filling
-pub mod GatheredTables
 mod GatheredGlobals
 pub mod HeldExpressions
 pub mod HoldsLists
 pub mod BySection
 pub mod HeldElements
 pub mod DataSteps
-pub mod ElementsNoted
 pub mod MemoriesReady
 pub mod TablesReady
 pub mod Bodies
 pub mod DeclaredKinds
 pub mod DeclaredLooks
 pub mod Naming
-mod Places
 pub mod Excepting
 pub mod Tagging
 pub mod Agreeing

@@ -1,13 +1,10 @@
 -- A translation of all sections still is one when its module has a name and its custom sections are filled in.
-use Rattle.std.proofs.Common.{◌≡◌, ◌∙◌, Bool, List, sym, subst}
+use Rattle.std.proofs.Common.{◌≡◌, ◌∙◌, Bool, List, get_or, sym, subst}
 use Rattle.std.specs.Prelude.{IfSome, ℕ}
-use Rattle.std.proofs.lemmas.List.Elements.{All-weaker}
-use Rattle.entity_map.specs.declared.pool.Atom.{Atom}
 use Rattle.wasm_spec.specs.Module as plain
-use Rattle.wasm_types.specs.declared.entity.EntityIndex.{EntityIndex}
 use Rattle.init_plan.specs.declared.translation.ModuleTranslation.{ModuleTranslation}
 use Rattle.module_environ.specs.Filling.{OnlyCustomsChange}
-use Rattle.module_environ.specs.Pooled.{with_texts, own_name, HasText, HasTexts}
+use Rattle.module_environ.specs.Pooled.{with_texts, own_name, HasText}
 use Rattle.module_environ.specs.Translation.{HasEntities, HasSections}
 use Rattle.module_environ.proofs.GrownPool.{GrowsBy, grows-within, length-own, imports-grown, exports-grown, names-grown, pooled-grown}
 
@@ -21,7 +18,6 @@ sections-named t u same debugged native m put pooled s =
     let grows : GrowsBy 1 old new = grows-within 1 (own_name native m) old new put (length-own native m) in
     let initializers = t.module.initializers.items in
     let exports = t.module.exports.entries in
-    let Exported : List (List ℕ) → Atom × EntityIndex → Type 0 = λ texts e. HasText texts e.0 in
     subst (HasSections debugged m) (sym same) (record {
       entities = record {
         imports = imports-grown 1 old new grows initializers e.pooled.imports ∙ e.imports;
@@ -31,8 +27,8 @@ sections-named t u same debugged native m put pooled s =
         globals = e.globals;
         start = e.start;
         pooled = record {
-          imports = All-weaker (HasTexts old) (HasTexts new) (names-grown 1 old new grows) initializers e.pooled.imports;
-          exports = All-weaker (Exported old) (Exported new) (λ e. pooled-grown 1 old new grows e.0) exports e.pooled.exports;
+          imports = λ k d lt. names-grown 1 old new grows (get_or initializers k d) (e.pooled.imports k d lt);
+          exports = λ k d lt. pooled-grown 1 old new grows (get_or exports k d).0 (e.pooled.exports k d lt);
           name = pooled;
         };
       };

@@ -1,5 +1,5 @@
 -- Indices that are sorted, each once, ascend by their numbers.
-use Rattle.std.proofs.Common.{◌≡◌, ℕ, ◌+◌, ◌<◌, Bool, true, false, cond, eqb, List, [], ◌∷◌, length, get_or, map, refl, ap, sym, ◌∙◌, subst, arith}
+use Rattle.std.proofs.Common.{◌≡◌, ℕ, ◌+◌, ◌<◌, Bool, eqb, List, [], ◌∷◌, length, get_or, map, refl, ap, sym, ◌∙◌, subst, arith}
 use Rattle.std.specs.Prelude.{Contains}
 use Rattle.std.specs.List.{dedup, dedup_from}
 use Rattle.std.specs.List.Sorted.{IsPermutation, IsSorted}
@@ -24,13 +24,7 @@ module _ {X : Type 0} (number : X → ℕ) (some : X) where
 
   dedup-from : (k : X) (xs : List X) → map number (dedup_from same k xs) ≡ dedup_from eqb (number k) (map number xs)
   dedup-from k [] = refl
-  dedup-from k (x ∷ xs) = by (same x k) (dedup-from k xs) (dedup-from x xs) where
-    by : (c : Bool) → map number (dedup_from same k xs) ≡ dedup_from eqb (number k) (map number xs)
-        → map number (dedup_from same x xs) ≡ dedup_from eqb (number x) (map number xs)
-        → map number (cond c (dedup_from same k xs) (k ∷ dedup_from same x xs))
-        ≡ cond c (dedup_from eqb (number k) (map number xs)) (number k ∷ dedup_from eqb (number x) (map number xs))
-    by true old new = old
-    by false old new = ap (λ l. number k ∷ l) new
+  dedup-from k (x ∷ xs) = grind (arith, dedup-from k xs, dedup-from x xs)
 
   dedup-numbers : (xs : List X) → map number (dedup same xs) ≡ dedup eqb (map number xs)
   dedup-numbers [] = refl

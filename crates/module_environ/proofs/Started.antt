@@ -1,7 +1,7 @@
 -- When startup is known to run, of a module and of its translation.
-use Rattle.std.proofs.Common.{◌≡◌, ℕ, ◌+◌, Bool, true, false, List, [], ◌∷◌, map, Option, Some, None, refl, sym, ap, ◌∙◌}
-use Rattle.std.specs.Prelude.{is_none, slice_get, not, ◌&&◌, if◌then◌else◌}
-use Rattle.std.specs.List.{filter, filter_map, enumerate_from, cons_option}
+use Rattle.std.proofs.Common.{◌≡◌, ℕ, ◌+◌, Bool, List, [], ◌∷◌, map, Option, None, refl, sym, ap, ◌∙◌, arith}
+use Rattle.std.specs.Prelude.{is_none, slice_get, not, ◌&&◌}
+use Rattle.std.specs.List.{filter, filter_map, enumerate_from}
 use Rattle.std.specs.Option.{option_map}
 use Rattle.wasm_spec.specs.Module.{Expression, GlobalDef}
 use Rattle.wasm_spec.specs.Module as plain
@@ -22,18 +22,11 @@ empty-map f (x ∷ xs) = refl
 -- the initialisers that are left, with and without their numbers
 pub empty-left : (n : ℕ) (es : List Expression) → is_empty (filter_map kept_of (enumerate_from n es)) ≡ is_empty (filter (λ e. is_none (const_value e)) es)
 empty-left n [] = refl
-empty-left n (e ∷ es) = by (is_none (const_value e)) (empty-left (n + 1) es) where
-  by : (b : Bool) → is_empty (filter_map kept_of (enumerate_from (n + 1) es)) ≡ is_empty (filter (λ e. is_none (const_value e)) es)
-      → is_empty (cons_option (if b then Some (n, e) else None) (filter_map kept_of (enumerate_from (n + 1) es)))
-      ≡ is_empty (if b then e ∷ filter (λ e. is_none (const_value e)) es else filter (λ e. is_none (const_value e)) es)
-  by true rest = refl
-  by false rest = rest
+empty-left n (e ∷ es) = grind (arith, empty-left (n + 1) es)
 
 pub none-first : {A : Type 0} (f : A → ℕ) (o : Option A) (ns : List ℕ) → option_map f o ≡ slice_get ns 0 → is_none o ≡ is_empty ns
 none-first f None [] e = refl
-none-first f (Some x) [] e = let no : Some (f x) ≡ None = e in cc
-none-first f None (n ∷ ns) e = let no : None ≡ Some n = e in cc
-none-first f (Some x) (n ∷ ns) e = refl
+none-first f _ _ e = grind arith
 
 -- a translation that holds the sections of a module starts where the module does
 module _ (debugged : Bool) (m : plain.Module) (t : ModuleTranslation) (s : HasSections debugged m t) where

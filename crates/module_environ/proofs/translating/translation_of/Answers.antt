@@ -1,6 +1,5 @@
-use Rattle.std.proofs.Common.{◌≡◌, refl, sym, ap, ◌∙◌, subst, map, Ok}
+use Rattle.std.proofs.Common.{refl, ap, ◌∙◌, map}
 use Rattle.std.proofs.lemmas.Result.{err_from_is_err_and}
-use Rattle.rule_spec.specs.Rules.{Keeps}
 use Rattle.form_data.specs.Views.{body_of}
 use Rattle.form_reader.specs.Input.{input_module_of}
 use Rattle.init_plan.specs.declared.translation.ModuleTranslation.{ModuleTranslation}
@@ -38,15 +37,11 @@ returns-in-Err-clause-cause c =
 
 pub returns-in-Err-clause-complete : goal.returns-in-Err-clause-complete
 returns-in-Err-clause-complete c = λ m can kept sound.
-    let e = c.in_ok-form.ensures in
-    let same : input_module_of c.in_ok-form.form ≡ m = e.complete can.short m can.spelled can.no_interface_types in
-    c.in-Err.ensures.complete (subst Keeps (sym same) kept) sound
+    c.in-Err.ensures.complete (rw (c.in_ok-form.ensures.complete can.short m can.spelled can.no_interface_types) kept) sound
 
 pub returns-in-Err-clause-poisoned : goal.returns-in-Err-clause-poisoned
 returns-in-Err-clause-poisoned c = λ m can kept was.
-    let e = c.in_ok-form.ensures in
-    let same : input_module_of c.in_ok-form.form ≡ m = e.complete can.short m can.spelled can.no_interface_types in
-    c.in-Err.ensures.poisoned (subst Keeps (sym same) kept) was
+    c.in-Err.ensures.poisoned (rw (c.in_ok-form.ensures.complete can.short m can.spelled can.no_interface_types) kept) was
 
 pub returns-in-Err-clause-stops : goal.returns-in-Err-clause-stops
 returns-in-Err-clause-stops c =
@@ -75,9 +70,7 @@ returns-in-Err-take_bodies-clause-poisoned c = λ m can kept was. rw c.into.ensu
 
 pub returns-in-Ok-clause-poisoned : goal.returns-in-Ok-clause-poisoned
 returns-in-Ok-clause-poisoned c = λ m can kept was.
-    let e = c.in_ok-form.ensures in
-    let same : input_module_of c.in_ok-form.form ≡ m = e.complete can.short m can.spelled can.no_interface_types in
-    absurd (c.in_default.ensures.poisoned (subst Keeps (sym same) kept) was)
+    absurd (c.in_default.ensures.poisoned (rw (c.in_ok-form.ensures.complete can.short m can.spelled can.no_interface_types) kept) was)
 
 pub returns-in-Ok-clause-translated : goal.returns-in-Ok-clause-translated
 returns-in-Ok-clause-translated c =
