@@ -1,4 +1,3 @@
-mod Looking
 mod InTurn
 mod FromRules
 mod ReferencesInRange
@@ -6,8 +5,6 @@ mod RuledSections
 mod FilledInitialisers
 mod FilledSections
 mod Started
-mod BuilderAfterTags
-mod Named
 mod AskedHints
 mod WayPlaces
 mod WholeTranslation
@@ -15,7 +12,6 @@ pub mod Answering
 pub mod Numbering
 pub mod NotingEscapes
 pub mod Typed
-pub mod Signatures
 pub mod Referring
 pub mod FirstCauses
 pub mod Escaped
@@ -33,7 +29,6 @@ pub mod HeldElements
 pub mod DataSteps
 pub mod MemoriesReady
 pub mod TablesReady
-pub mod Bodies
 pub mod DeclaredKinds
 pub mod DeclaredLooks
 pub mod Naming

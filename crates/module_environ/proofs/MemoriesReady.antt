@@ -4,7 +4,7 @@ use Rattle.std.specs.Prelude.{All, IfSome, unwrap_or, nat_eq}
 use Rattle.std.specs.List.{IsDistinct, filter_map}
 use Rattle.std.proofs.lemmas.Bool.{ne_eqb}
 use Rattle.std.proofs.lemmas.List.{length-map, length-append}
-use Rattle.std.proofs.lemmas.List.Elements.{All-nil, All-cons, All-map, recursion_from_All}
+use Rattle.std.proofs.lemmas.List.Elements.{All-append, All-nil, All-cons, All-map, recursion_from_All}
 use Rattle.std.proofs.lemmas.Map.Keys.{IsDistinct-cons}
 use Rattle.wasm_spec.specs.declared.entities.MemoryType.{MemoryType}
 use Rattle.wasm_spec.specs.Module.{DataKind, Passive, Active, Segment, Module, imported_memories, defined_memories, memories, segments, HasFewEntries}
@@ -48,11 +48,11 @@ IsWithin low high p = (low ≤ p.0) × (p.0 < high)
 
 passive_within : (low high n : ℕ) (ss : List Segment) → low ≤ n → n + length ss ≤ high → All (IsWithin low high) (passive_data_from n ss)
 passive_within low high n [] from to = All-nil (IsWithin low high)
-passive_within low high n (s ∷ ss) from to = with_kind s.kind (passive_within low high (n + 1) ss (omega arith) (omega arith)) where
-  with_kind : (kind : DataKind) → All (IsWithin low high) (passive_data_from (n + 1) ss)
-      → All (IsWithin low high) (passive_data_in kind n s.bytes ++ passive_data_from (n + 1) ss)
-  with_kind Passive others = All-cons (IsWithin low high) (n, s.bytes) (passive_data_from (n + 1) ss) (omega arith, omega arith) others
-  with_kind (Active memory offset) others = others
+passive_within low high n (s ∷ ss) from to =
+    All-append (IsWithin low high) (passive_data_in s.kind n s.bytes) _ (here s.kind) (passive_within low high (n + 1) ss (omega arith) (omega arith)) where
+      here : (kind : DataKind) → All (IsWithin low high) (passive_data_in kind n s.bytes)
+      here Passive = All-cons (IsWithin low high) (n, s.bytes) [] (omega arith, omega arith) (All-nil (IsWithin low high))
+      here _ = All-nil (IsWithin low high)
 
 passive_distinct : (n : ℕ) (ss : List Segment) → IsDistinct nat_eq (map (λ p. p.0) (passive_data_from n ss))
 unfolding IsDistinct

@@ -32,8 +32,7 @@ returns-in_err-form-clause-poisoned c = λ m can kept was.
 pub returns-in-Err-clause-cause : goal.returns-in-Err-clause-cause
 returns-in-Err-clause-cause c =
     let e = c.in_ok-form.ensures in
-    form_cause c.args.bytes.now (input_module_of c.in_ok-form.form) c.args.types.now.is_poisoned _
-    (was_readable c.args.bytes.now c.in_ok-form.form c.in_ok-form.groups e.too_large e.read e.no_interface_types) c.in-Err.ensures.cause
+    form_cause _ _ _ _ (was_readable _ c.in_ok-form.form c.in_ok-form.groups e.too_large e.read e.no_interface_types) c.in-Err.ensures.cause
 
 pub returns-in-Err-clause-complete : goal.returns-in-Err-clause-complete
 returns-in-Err-clause-complete c = λ m can kept sound.
@@ -46,16 +45,14 @@ returns-in-Err-clause-poisoned c = λ m can kept was.
 pub returns-in-Err-clause-stops : goal.returns-in-Err-clause-stops
 returns-in-Err-clause-stops c =
     let e = c.in_ok-form.ensures in
-    stops-read c.args.validator.now c.args.bytes.now (input_module_of c.in_ok-form.form) c.args.types.now c.translate_form.new.types
-    (was_readable c.args.bytes.now c.in_ok-form.form c.in_ok-form.groups e.too_large e.read e.no_interface_types) c.translate_form.ensures.stops
+    stops-read _ _ _ _ _ (was_readable _ c.in_ok-form.form c.in_ok-form.groups e.too_large e.read e.no_interface_types) c.translate_form.ensures.stops
 
 -- ---- memory runs out for its code
 
 pub returns-in-Err-take_bodies-clause-stops : goal.returns-in-Err-take_bodies-clause-stops
 returns-in-Err-take_bodies-clause-stops c =
     let e = c.in_ok-form.ensures in
-    stops-read c.args.validator.now c.args.bytes.now (input_module_of c.in_ok-form.form) c.args.types.now c.translate_form.new.types
-    (was_readable c.args.bytes.now c.in_ok-form.form c.in_ok-form.groups e.too_large e.read e.no_interface_types) c.translate_form.ensures.stops
+    stops-read _ _ _ _ _ (was_readable _ c.in_ok-form.form c.in_ok-form.groups e.too_large e.read e.no_interface_types) c.translate_form.ensures.stops
 
 pub returns-in-Err-take_bodies-clause-cause : goal.returns-in-Err-take_bodies-clause-cause
 returns-in-Err-take_bodies-clause-cause c = rw c.into.ensures tt
