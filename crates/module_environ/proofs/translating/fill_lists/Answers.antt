@@ -49,14 +49,12 @@ fill_sections-requires-clause-held c = (_, c.requires.held)
 pub fill_sections-requires-clause-looks : goal.fill_sections-requires-clause-looks
 fill_sections-requires-clause-looks c =
     carried-looks _ _ _ same-1-1 (record { ref_ptr = _; now = c.in_ok-env.env })
-    (looks-declared (module_in c.args.lists.now) c.requires.of_module.1.earlier c.args.indices.now c.requires.listed c.args.types.now c.requires.built
-    c.in_ok-env.env.names.items c.in_ok-env.ensures)
+    (looks-declared (module_in c.args.lists.now) c.requires.of_module.1.earlier _ c.requires.listed _ c.requires.built _ c.in_ok-env.ensures)
 
 pub fill_customs-requires-clause-looks : goal.fill_customs-requires-clause-looks
 fill_customs-requires-clause-looks c =
     carried-looks _ _ _ same-1-1 (record { ref_ptr = _; now = c.in_ok-env.env })
-    (looks-declared (module_in c.args.lists.now) c.requires.of_module.1.earlier c.args.indices.now c.requires.listed c.args.types.now c.requires.built
-    c.in_ok-env.env.names.items c.in_ok-env.ensures)
+    (looks-declared (module_in c.args.lists.now) c.requires.of_module.1.earlier _ c.requires.listed _ c.requires.built _ c.in_ok-env.ensures)
 
 pub fill_customs-requires-clause-few_texts : goal.fill_customs-requires-clause-few_texts
 fill_customs-requires-clause-few_texts c =
