@@ -4,7 +4,6 @@ mod ReferencesInRange
 mod RuledSections
 mod FilledInitialisers
 mod FilledSections
-mod Started
 mod AskedHints
 mod WayPlaces
 mod WholeTranslation

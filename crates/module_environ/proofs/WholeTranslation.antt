@@ -1,7 +1,9 @@
 -- The parts of a translation together: all but its bytes and its code.
-use Rattle.std.proofs.Common.{◌≡◌, ℕ, ◌+◌, ◌<◌, ◌^◌, Bool, true, false, List, length, map, Some, Result, Err, sym, ap, subst, ◌∙◌, [], ◌∷◌, None, arith, length-append}
-use Rattle.std.specs.Prelude.{not, ◌&&◌, is_none}
-use Rattle.wasm_spec.specs.Module.{function_import}
+use Rattle.std.proofs.Common.{◌≡◌, ℕ, ◌+◌, ◌<◌, ◌^◌, Bool, true, false, List, length, map, Some, Result, Err, sym, ap, subst, ◌∙◌, [], ◌∷◌, None, arith, length-append, Option, refl}
+use Rattle.std.specs.Prelude.{not, ◌&&◌, is_none, slice_get}
+use Rattle.std.specs.List.{filter, filter_map, enumerate_from}
+use Rattle.std.specs.Option.{option_map}
+use Rattle.wasm_spec.specs.Module.{function_import, Expression, GlobalDef}
 use Rattle.wasm_spec.specs.Module as plain
 use Rattle.rule_spec.specs.declared.rules.Rule.{Rule}
 use Rattle.rule_spec.specs.Lists.{lists_of_module}
@@ -11,7 +13,7 @@ use Rattle.form_rules.specs.declared.error.CheckError.{CheckError}
 use Rattle.form_rules.specs.declared.error.CheckError.TheVariants as checks
 use Rattle.form_types.specs.Numbered.{AreNumbered}
 use Rattle.form_types.specs.Types.{TypesData}
-use Rattle.wasm_index.specs.Index.{index_of}
+use Rattle.wasm_index.specs.Index.{index_of, number_of}
 use Rattle.wasm_types.specs.declared.index.EngineOrModuleTypeIndex.{EngineOrModuleTypeIndex}
 use Rattle.wasm_types.specs.declared.index.EngineOrModuleTypeIndex.TheVariants.{Module}
 use Rattle.wasm_types.specs.declared.tag.Tag.{Tag}
@@ -20,7 +22,9 @@ use Rattle.wasm_module.specs.declared.startup.ModuleStartup.{ModuleStartup}
 use Rattle.wasm_module.specs.declared.startup.ModuleStartup.TheVariants as startup
 use Rattle.wasm_module.specs.Record.{ModuleRecord}
 use Rattle.module_types.specs.Builder.{Builder, BuilderState, builder_view, starts, starts_by, or_next}
-use Rattle.replay_spec.specs.Startup.{Always, is_empty}
+use Rattle.replay_spec.specs.Startup.{Always, is_empty, kept_globals, passive_elements}
+use Rattle.replay_spec.specs.Globals.{kept_of}
+use Rattle.replay_spec.specs.Values.{const_value}
 use Rattle.init_plan.specs.declared.translation.ModuleTranslation.{ModuleTranslation}
 use Rattle.init_plan.specs.Startup.{raised, types_after, with_startup}
 use Rattle.init_plan.specs.Views.{types_of, IsNewTranslation}
@@ -34,7 +38,44 @@ use Rattle.module_environ.specs.Translation.{startup_when, HasSections}
 use Rattle.module_environ.specs.Translated.{starts_always, HoldsTypes, startup_index_when}
 use Rattle.module_environ.specs.Filling.{LeavesRest}
 use Rattle.module_environ.specs.Forming.{IsFormed, FormCause}
-use Rattle.module_environ.proofs.Started.{starts-is}
+use Rattle.module_environ.specs.Initialisers.{initialisers, view_initialiser, view_items}
+
+-- ---- when startup is known to run, of a module and of its translation
+
+empty-map : {A B : Type 0} (f : A → B) (xs : List A) → is_empty (map f xs) ≡ is_empty xs
+empty-map f [] = refl
+empty-map f (x ∷ xs) = refl
+
+-- the initialisers that are left, with and without their numbers
+empty-left : (n : ℕ) (es : List Expression) → is_empty (filter_map kept_of (enumerate_from n es)) ≡ is_empty (filter (λ e. is_none (const_value e)) es)
+empty-left n [] = refl
+empty-left n (e ∷ es) = grind (arith, empty-left (n + 1) es)
+
+none-first : {A : Type 0} (f : A → ℕ) (o : Option A) (ns : List ℕ) → option_map f o ≡ slice_get ns 0 → is_none o ≡ is_empty ns
+none-first f None [] e = refl
+none-first f _ _ e = grind arith
+
+-- a translation that holds the sections of a module starts where the module does
+module _ (debugged : Bool) (m : plain.Module) (t : ModuleTranslation) (s : HasSections debugged m t) where
+  left-empty : is_empty t.global_initializers.items ≡ is_empty (kept_globals (lists_of_module m).globals)
+  left-empty =
+      let globals = (lists_of_module m).globals in
+      sym (empty-map (view_initialiser (λ e. e)) t.global_initializers.items) ∙ ap is_empty s.globals.left
+      ∙ empty-map _ (filter_map kept_of (initialisers globals))
+      ∙ empty-left 0 (map (λ (g : GlobalDef). g.init) globals)
+
+  start-none : is_none t.start_func ≡ is_empty (lists_of_module m).starts
+  start-none = none-first number_of t.start_func (lists_of_module m).starts s.entities.start
+
+  passive-empty : is_empty t.passive_elements ≡ is_empty (passive_elements (lists_of_module m).elements)
+  passive-empty =
+      sym (empty-map view_items t.passive_elements) ∙ ap is_empty s.elements.passive ∙ empty-map _ (passive_elements (lists_of_module m).elements)
+
+  abbrev starting : Bool → Bool → Bool → Bool
+  starting a b c = not (a && b && c)
+
+  starts-is : starting (is_empty t.global_initializers.items) (is_none t.start_func) (is_empty t.passive_elements) ≡ starts_always m
+  starts-is = λ i. starting (left-empty i) (start-none i) (passive-empty i)
 
 -- ---- the builder and startup, once tags are converted
 
