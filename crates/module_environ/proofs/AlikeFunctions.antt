@@ -1,14 +1,14 @@
 -- The metadata of the functions of a module, by what its declared types are looked up to.
-use Rattle.std.proofs.Common.{◌≡◌, ◌∙◌, ℕ, ◌+◌, ◌<◌, ◌≤◌, ◌⊎◌, List, [], ◌∷◌, ◌++◌, Option, Some, None, length, map, get_or, refl, sym, ap, subst, arith, inl, inr, length-append}
+use Rattle.std.proofs.Common.{◌≡◌, ◌∙◌, ℕ, ◌+◌, ◌<◌, ◌≤◌, List, [], ◌∷◌, ◌++◌, Option, Some, None, length, map, get_or, refl, sym, ap, subst, arith, length-append, append_assoc}
 use Rattle.std.specs.Prelude.{All, slice_get, unwrap_or}
 use Rattle.std.specs.List.{flat_map, enumerate_from}
 use Rattle.std.specs.Option.{option_map}
 use Rattle.std.proofs.lemmas.List.{length_push, map_push}
 use Rattle.std.proofs.lemmas.List.Elements.{All-nil, All-cons, All-append, All-map, All-weaker}
-use Rattle.std.proofs.lemmas.Option.{none-some, same_Some, slice_get_cases, slice_get-get_or, slice_get-map}
+use Rattle.std.proofs.lemmas.Option.{slice_get_past, slice_get-get_or, slice_get-map}
 use Rattle.std.proofs.lemmas.Simd.{map-map}
 use Rattle.wasm_spec.specs.declared.types.UnpackedIndex.{UnpackedIndex}
-use Rattle.wasm_spec.specs.declared.types.UnpackedIndex.TheVariants.{Module, RecGroup, Id}
+use Rattle.wasm_spec.specs.declared.types.UnpackedIndex.TheVariants.{Module}
 use Rattle.wasm_spec.specs.declared.types.ValType.{ValType}
 use Rattle.wasm_spec.specs.TypeData.{Value, Composite, Func, Group, SubType, value_edges, map_value, value_of}
 use Rattle.wasm_spec.specs.Module.{Body}
@@ -16,7 +16,7 @@ use Rattle.wasm_spec.specs.Module as plain
 use Rattle.rule_spec.specs.declared.rules.Rule.TheVariants.{L1, L3}
 use Rattle.rule_spec.specs.Lists.{Declared, declared_from, declared_groups, lists_of_module, kind_at}
 use Rattle.rule_spec.specs.Lists as rule
-use Rattle.rule_spec.specs.References.{ValueRefersIn, BodyRefersIn}
+use Rattle.rule_spec.specs.References.{BodyRefersIn}
 use Rattle.rule_spec.specs.TypeRules.{IsBelow, KindIsBelow, ValueIsBelow, IsDeclaredWell}
 use Rattle.form_lists.specs.declared.lists.Lists.{Lists}
 use Rattle.form_lists.proofs.AllSections.{All-joined, All-parts}
@@ -30,7 +30,6 @@ use Rattle.module_environ.specs.Filling.{module_in, IsGathered, LooksUpTypes}
 use Rattle.module_environ.specs.Metadata.{FunctionData, params_of, KnowsParams, params_to, params_at, params_of_types, function_data, view_function}
 use Rattle.module_environ.specs.Types.{look_up_in}
 use Rattle.module_environ.proofs.Agreeing.{known-edges}
-use Rattle.module_environ.proofs.Filling.{added_more}
 
 -- ---- no group ends past the last type
 
@@ -48,8 +47,7 @@ groups-end bound index (g ∷ gs) le =
     let end = index + length g in
     let members = declared_from end index g in
     let rest = declared_groups end gs in
-    let long : length (members ++ rest) ≡ length g + length rest =
-    length-append members rest ∙ ap (λ (n : ℕ). n + length rest) (length-declared_from end index g) in
+    let long : length (members ++ rest) ≡ length g + length rest = omega (arith, length-append members rest, length-declared_from end index g) in
     All-append (EndsBy bound) members rest
     (from-end bound end index g (omega (arith, le, long)))
     (groups-end bound end gs (omega (arith, le, long)))
@@ -60,8 +58,7 @@ groups-end bound index (g ∷ gs) le =
 module _ (count : ℕ) where
   below-more : (bound : ℕ) → bound ≤ count → (i : UnpackedIndex) → IsBelow bound i → IsBelow count i
   below-more bound le (Module i) below = omega (arith, below, le)
-  below-more bound le (RecGroup i) below = absurd below
-  below-more bound le (Id i) below = absurd below
+  below-more bound le _ below = absurd below
 
   params-below : (bound : ℕ) (kind : Composite UnpackedIndex UnpackedIndex) → bound ≤ count → KindIsBelow bound kind
       → All (ValueIsBelow count) (params_of kind)
@@ -84,50 +81,28 @@ params-declared m well =
     let d = get_or ds i x in
     params-below count d.group_end d.type.composite.inner (groups-end count 0 (plain.groups m) (omega arith) i x lt) (well i x lt).indices))
 
--- the parameters of a function are those of the kind of its type
-pub params-found : (l : rule.Lists) (fs : List ℕ) (f d : ℕ) → fs ≡ l.functions → f < length fs
-    → unwrap_or (option_map params_of (kind_at l (get_or fs f d))) [] ≡ params_at l f
-params-found l fs f d same lt = rw (sym same, slice_get-get_or fs f d lt) refl
+-- of a list that has what the types are looked up to, the entry at the type of a function has its parameters
+module _ (look : LookUp) (l : rule.Lists) {X : Type 0} (see : X → List (Value Name)) (xs : List X) (listed : map see xs ≡ params_of_types look l)
+    (fs : List ℕ) (f t d : ℕ) (same : fs ≡ l.functions) (lt : f < length fs) (is : t ≡ get_or fs f d) where
+  entry : unwrap_or (option_map see (slice_get xs t)) [] ≡ map (map_value look) (params_at l f)
+  entry =
+      let at : slice_get l.functions f ≡ Some t = cc (slice_get-get_or fs f d lt) in
+      let looked-up : Declared → List (Value Name) = λ d. params_to look d.type in
+      let same : option_map see (slice_get xs t) ≡ option_map looked-up (slice_get l.types t) =
+      cc (slice_get-map see xs t, slice_get-map looked-up l.types t) in
+      rw (same, at) (by (slice_get l.types t)) where
+        by : (o : Option Declared) → unwrap_or (option_map (λ (d : Declared). params_to look d.type) o) []
+            ≡ map (map_value look) (unwrap_or (option_map params_of (option_map (λ (d : Declared). d.type.composite.inner) o)) [])
+        by None = refl
+        by (Some d) = refl
 
-module _ (look : LookUp) (l : rule.Lists) where
-  abbrev looked-up : Declared → List (Value Name)
-  looked-up d = map (map_value look) (params_of d.type.composite.inner)
+  pub params-some : (x : X) → t < length xs → x ≡ get_or xs t x → see x ≡ map (map_value look) (params_at l f)
+  params-some x within at =
+      let here : slice_get xs t ≡ Some x = cc (slice_get-get_or xs t x within) in
+      ap (λ (o : Option X). unwrap_or (option_map see o) []) (sym here) ∙ entry
 
-  abbrev params-at-type : ℕ → List (Value UnpackedIndex)
-  params-at-type t = unwrap_or (option_map params_of (kind_at l t)) []
-
-  by-type : (t : ℕ) (o : Option Declared) → slice_get l.types t ≡ o → slice_get (params_of_types look l) t ≡ option_map looked-up o
-  by-type t o e = slice_get-map looked-up l.types t ∙ ap (option_map looked-up) e
-
-  at-type : (t : ℕ) (o : Option Declared) → slice_get l.types t ≡ o → (ps : List (Value Name)) → slice_get (params_of_types look l) t ≡ Some ps
-      → ps ≡ map (map_value look) (params-at-type t)
-  at-type t None e ps at = absurd (none-some ps (sym (by-type t None e) ∙ at))
-  at-type t (Some d) e ps at = rw e (sym (same_Some (looked-up d) ps (sym (by-type t (Some d) e) ∙ at)))
-
-  past-types : (t : ℕ) (o : Option Declared) → slice_get l.types t ≡ o → slice_get (params_of_types look l) t ≡ None
-      → [] ≡ map (map_value look) (params-at-type t)
-  past-types t None e at = rw e refl
-  past-types t (Some d) e at = absurd (none-some (looked-up d) (sym at ∙ by-type t (Some d) e))
-
-  -- of a list that has what is looked up, the entry at the type of a function
-  module _ {X : Type 0} (see : X → List (Value Name)) (xs : List X) (listed : map see xs ≡ params_of_types look l) (fs : List ℕ) (f t d : ℕ)
-      (same : fs ≡ l.functions) (lt : f < length fs) (is : t ≡ get_or fs f d) where
-    found-at : (o : Option X) → slice_get xs t ≡ o → slice_get (params_of_types look l) t ≡ option_map see o
-    found-at o e = ap (λ ys. slice_get ys t) (sym listed) ∙ slice_get-map see xs t ∙ ap (option_map see) e
-
-    of-function : map (map_value look) (params-at-type t) ≡ map (map_value look) (params_at l f)
-    of-function = ap (λ n. map (map_value look) (params-at-type n)) is ∙ ap (map (map_value look)) (params-found l fs f d same lt)
-
-    pub params-some : (x : X) → t < length xs → x ≡ get_or xs t x → see x ≡ map (map_value look) (params_at l f)
-    params-some x within at =
-        at-type t (slice_get l.types t) refl (see x) (found-at (Some x) (slice_get-get_or xs t x within ∙ ap Some (sym at))) ∙ of-function
-
-    pub params-none : length xs ≤ t → [] ≡ map (map_value look) (params_at l f)
-    params-none past = by (slice_get_cases xs t).1 where
-      by : ((x : X) × (t < length xs) × (slice_get xs t ≡ Some x) × (get_or xs t x ≡ x)) ⊎ ((length xs ≤ t) × (slice_get xs t ≡ None))
-          → [] ≡ map (map_value look) (params_at l f)
-      by (inl here) = let lower = here.1 in absurd (omega (arith, lower, past))
-      by (inr none) = past-types t (slice_get l.types t) refl (found-at None none.1) ∙ of-function
+  pub params-none : length xs ≤ t → [] ≡ map (map_value look) (params_at l f)
+  params-none past = ap (λ (o : Option X). unwrap_or (option_map see o) []) (sym (slice_get_past xs t past)) ∙ entry
 
 -- ---- what was gathered
 
@@ -159,10 +134,8 @@ module _ (lists : Lists) (gathered : IsGathered lists) where
     -- ---- parameters and locals can be converted
 
     pub types-known : All (KnowsParams known) (plain.types m)
-    types-known =
-        All-weaker (λ (type : SubType UnpackedIndex UnpackedIndex). All (ValueIsBelow count) (params_of type.composite.inner)) (KnowsParams known)
-        (λ type. All-weaker (ValueIsBelow count) KnowsValue known-value (params_of type.composite.inner)) (plain.types m)
-        (params-declared m (gathered.keeps L1))
+    types-known = λ i x lt k d in'.
+        known-value (get_or (params_of (get_or (plain.types m) i x).composite.inner) k d) (params-declared m (gathered.keeps L1) i x lt k d in')
 
     -- what they are converted to
     pub types-alike : map (params_to look) (plain.types m) ≡ params_of_types (look_up_in m) all
@@ -172,10 +145,7 @@ module _ (lists : Lists) (gathered : IsGathered lists) where
 
     pub locals-known : (body : Body) → BodyRefersIn count body → (runs : List (ℕ × ValType)) → runs ≡ body.locals
         → All (λ (run : ℕ × ValType). KnowsValue (value_of run.1)) runs
-    locals-known body refers runs are =
-        All-weaker (λ (run : ℕ × ValType). ValueRefersIn count run.1) (λ run. KnowsValue (value_of run.1))
-        (λ run below. known-value (value_of run.1) below) runs
-        (subst (All (λ (run : ℕ × ValType). ValueRefersIn count run.1)) (sym are) refers)
+    locals-known body refers runs are = rw are (λ k d lt. known-value (value_of (get_or body.locals k d).1) (refers k d lt))
 
     -- ---- what locals are converted to
 
@@ -201,7 +171,4 @@ pub metadata_more : {Z : Type 0} (seen : Z → FunctionData) (made : ℕ × Body
     (all : List FunctionData) → left ≡ b ∷ rest → seen z ≡ made (length now, b) → after ≡ now ++ z ∷ []
     → map seen now ++ map made (enumerate_from (length now) left) ≡ all → map seen after ++ map made (enumerate_from (length after) rest) ≡ all
 metadata_more seen made now after z left rest b all at is pushed before =
-    let long : length now + 1 ≡ length after = sym (ap length pushed ∙ length_push now z) in
-    added_more (map seen now) (map seen after) (seen z ∷ []) _ (map made (enumerate_from (length after) rest)) all
-    (ap (map seen) pushed ∙ map_push seen now z)
-    (ap (λ (bs : List Body). map made (enumerate_from (length now) bs)) at ∙ (λ i. sym is i ∷ map made (enumerate_from (long i) rest))) before
+    cc (map_push seen now z, length_push now z, append_assoc (map seen now) (seen z ∷ []) (map made (enumerate_from (length after) rest)))

@@ -67,9 +67,7 @@ form_cause bytes m poisoned (refusal.Invalid rule) readable cause =
     record { meaning = m; read = readable; broken = cause.0; first = cause.1 }
 form_cause bytes m poisoned refusal.Poisoned readable cause = cause
 form_cause bytes m poisoned refusal.OutOfMemory readable cause = tt
-form_cause bytes m poisoned refusal.Malformed readable cause = absurd cause
-form_cause bytes m poisoned (refusal.Unsupported what) readable cause = absurd cause
-form_cause bytes m poisoned refusal.TooLarge readable cause = absurd cause
+form_cause bytes m poisoned _ readable cause = absurd cause
 
 -- ---- the translation
 

@@ -1,6 +1,6 @@
 -- Branch hints, as they are asked for.
-use Rattle.std.proofs.Common.{◌≡◌, ◌∙◌, ℕ, Bool, true, false, List, [], ◌∷◌, map, cond, Option, Some, None, refl, sym, ap}
-use Rattle.std.specs.Prelude.{nat_eq, ◌==◌}
+use Rattle.std.proofs.Common.{◌≡◌, ◌∙◌, ℕ, Bool, true, false, List, [], ◌∷◌, map, None, refl, sym, ap, arith}
+use Rattle.std.specs.Prelude.{nat_eq}
 use Rattle.std.specs.Global.{Vec}
 use Rattle.std.specs.BTreeMap.{BTreeMap}
 use Rattle.std.specs.Map.{lookup}
@@ -9,7 +9,7 @@ use Rattle.wasm_spec.specs.Module as plain
 use Rattle.wasm_index.specs.declared.index.Index.{Index}
 use Rattle.wasm_index.specs.declared.spaces.FuncSpace.{FuncSpace}
 use Rattle.wasm_index.specs.Index.{number_of}
-use Rattle.module_customs.specs.Kept.{kept_hint, no_function}
+use Rattle.module_customs.specs.Kept.{kept_hint}
 use Rattle.custom_sections.specs.declared.hints.Hint.{Hint}
 use Rattle.module_customs.specs.Hints.{HasFirst, branch_hint_of}
 use Rattle.module_customs.specs.Names.{at_number}
@@ -28,12 +28,7 @@ seen e = (number_of e.0, e.1.items)
 seen-at : (f : ℕ) (es : Entries) → option_map (λ (hints : Vec BranchHint). hints.items) (lookup (λ index. nat_eq f (number_of index)) es)
     ≡ lookup (nat_eq f) (map seen es)
 seen-at f [] = refl
-seen-at f (e ∷ es) = by (nat_eq f (number_of e.0)) (seen-at f es) where
-  by : (b : Bool) → option_map (λ (hints : Vec BranchHint). hints.items) (lookup (λ index. nat_eq f (number_of index)) es) ≡ lookup (nat_eq f) (map seen es)
-      → option_map (λ (hints : Vec BranchHint). hints.items) (cond b (Some e.1) (lookup (λ index. nat_eq f (number_of index)) es))
-      ≡ cond b (Some e.1.items) (lookup (nat_eq f) (map seen es))
-  by true rest = refl
-  by false rest = rest
+seen-at f (e ∷ es) = grind (arith, seen-at f es)
 
 pub hints-set : (asked : Bool) (m : plain.Module) (t : ModuleTranslation) (kept : BTreeMap (Index FuncSpace) (Vec BranchHint))
     → hint_entries_of t ≡ map seen kept.entries → HasFirst (hints_asked asked m) (at_number number_of kept) → HasHints asked m t
@@ -43,14 +38,11 @@ hints-set asked m t kept same first f =
 -- no hints of any function
 none-kept : (f : ℕ) → kept_hint {H = List Hint} [] f ≡ None
 unfolding kept_hint
-none-kept f = by (f == no_function) where
-  by : (b : Bool) → cond b None None ≡ (let none : Option (List Hint) = None in none)
-  by true = refl
-  by false = refl
+none-kept f = grind arith
 
 pub no-hints : (asked : Bool) → asked ≡ false → (m : plain.Module) (kept : BTreeMap (Index FuncSpace) (Vec BranchHint)) → kept.entries ≡ []
     → HasFirst (hints_asked asked m) (at_number number_of kept)
 no-hints false is m kept empty f =
     ap (λ (es : Entries). option_map (λ (hints : Vec BranchHint). hints.items) (lookup (λ index. nat_eq f (number_of index)) es)) empty
     ∙ sym (ap (option_map (map branch_hint_of)) (none-kept f))
-no-hints true is m kept empty f = absurd (let no : true ≡ false = is in cc)
+no-hints true is m kept empty f = absurd (cc)

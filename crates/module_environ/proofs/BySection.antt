@@ -13,28 +13,21 @@ at-item P view xs i x lt is all =
 
 pub item-more : {X Y : Type 0} (view : X → Y) (xs : List X) (i : ℕ) (x : X) → i < length xs → x ≡ get_or xs i x
     → map view (take (i + 1) xs) ≡ map view (take i xs) ++ view x ∷ []
-item-more {X} view xs i x lt is = map_more view xs i x lt ∙ ap (λ (y : X). map view (take i xs) ++ view y ∷ []) (sym is)
+item-more view xs i x lt is = cc (map_more view xs i x lt)
 
 -- what is made of one item more is added
 pub made-more : {X Y Z W : Type 0} (see : Z → W) (made : Y → W) (view : X → Y) (start now after : List Z) (z : Z) (xs : List X) (i : ℕ) (x : X)
     → i < length xs → x ≡ get_or xs i x → see z ≡ made (view x) → after ≡ now ++ z ∷ []
     → map see now ≡ map see start ++ map made (map view (take i xs)) → map see after ≡ map see start ++ map made (map view (take (i + 1) xs))
-made-more {W = W} see made view start now after z xs i x lt at is pushed before =
+made-more see made view start now after z xs i x lt at is pushed before =
     let front = map view (take i xs) in
-    let more = ap (map made) (item-more view xs i x lt at) ∙ map_push made front (view x) in
-    ap (map see) pushed ∙ map_push see now z
-    ∙ (λ k. before k ++ is k ∷ [])
-    ∙ append_assoc (map see start) (map made front) (made (view x) ∷ [])
-    ∙ ap (λ (ws : List W). map see start ++ ws) (sym more)
+    cc (item-more view xs i x lt at, map_push see now z, map_push made front (view x), append_assoc (map see start) (map made front) (made (view x) ∷ []))
 
 -- what one section more gives
 pub section-push : {X Y A : Type 0} (f : Y → List A) (view : X → Y) (xs : List X) (x : X)
     → flat_map f (map view (xs ++ x ∷ [])) ≡ flat_map f (map view xs) ++ f (view x)
-section-push f view xs x = ap (flat_map f) (map_push view xs x) ∙ flat_map-append f (map view xs) (view x ∷ [])
-    ∙ ap (λ l. flat_map f (map view xs) ++ l) (append-nil (f (view x)))
+section-push f view xs x = rw (map_push view xs x, flat_map-append f (map view xs) (view x ∷ [])) (simp append-nil)
 
 pub section-more : {X Y A : Type 0} (f : Y → List A) (view : X → Y) (xs : List X) (i : ℕ) (x : X) → i < length xs → x ≡ get_or xs i x
     → flat_map f (map view (take (i + 1) xs)) ≡ flat_map f (map view (take i xs)) ++ f (view x)
-section-more {X} f view xs i x lt is =
-    ap (λ (l : List X). flat_map f (map view l)) (take_more xs i x lt ∙ ap (λ (y : X). take i xs ++ y ∷ []) (sym is))
-    ∙ section-push f view (take i xs) x
+section-more f view xs i x lt is = cc (take_more xs i x lt, section-push f view (take i xs) x)

@@ -1,7 +1,7 @@
 -- Data segments, added one after another.
-use Rattle.std.proofs.Common.{◌≡◌, ◌∙◌, ℕ, ◌+◌, List, [], ◌∷◌, ◌++◌, map, sym, ap}
+use Rattle.std.proofs.Common.{◌≡◌, ◌∙◌, ℕ, ◌+◌, List, [], ◌∷◌, ◌++◌, map, ap}
 use Rattle.std.specs.List.{cons_option}
-use Rattle.std.proofs.lemmas.List.{append-nil, map-append}
+use Rattle.std.proofs.lemmas.List.{append-nil, map_push}
 use Rattle.wasm_spec.specs.Module.{Segment}
 use Rattle.form_data.specs.declared.form.ConstExpr.{ConstExpr}
 use Rattle.form_data.specs.declared.form.DataKind.{DataKind}
@@ -12,10 +12,10 @@ use Rattle.wasm_convert.specs.Conversion.{LookUp}
 use Rattle.wasm_convert.specs.Constants.{const_ops_of, expression_of}
 use Rattle.wasm_module.specs.declared.memory_initialization.MemoryInitializer.{MemoryInitializer}
 use Rattle.replay_spec.specs.Values.{any_nulls}
-use Rattle.replay_spec.specs.Data.{ActiveSegment, active_of_kind}
+use Rattle.replay_spec.specs.Data.{active_of_kind}
 use Rattle.init_plan.specs.declared.translation.ModuleTranslation.{ModuleTranslation}
 use Rattle.init_plan.specs.Views.{active_segment_of, SameButPassive}
-use Rattle.module_environ.specs.Initialisers.{passive_data_in, passive_data_from}
+use Rattle.module_environ.specs.Initialisers.{passive_data_from}
 use Rattle.module_environ.proofs.HeldExpressions.{seen-is}
 
 -- an active segment more
@@ -26,14 +26,12 @@ pub active-added : (look : LookUp) (old new : List MemoryInitializer) (x : Memor
 active-added look old new x kind memory offset bytes is grows at place these =
     let seen : active_segment_of x ≡ record { memory = memory; offset = any_nulls offset.ops.items; bytes = bytes } =
     λ i. record { memory = at i; offset = (ap expression_of place ∙ seen-is look offset.ops.items) i; bytes = these i } in
-    ap (map active_segment_of) grows ∙ map-append active_segment_of old (x ∷ [])
-    ∙ ap (λ (s : ActiveSegment). map active_segment_of old ++ s ∷ []) seen
-    ∙ ap (λ (k : DataKind). map active_segment_of old ++ cons_option (active_of_kind (data_kind_of k) bytes) []) (sym is)
+    rw (grows, is) (cc (map_push active_segment_of old x, seen))
 
 -- the passive data of one segment, and of those after it
 pub passive_data-cons : (n : ℕ) (x : Segment) (xs : List Segment)
     → passive_data_from n (x ∷ xs) ≡ passive_data_from n (x ∷ []) ++ passive_data_from (n + 1) xs
-passive_data-cons n x xs = ap (λ (ps : List (ℕ × List ℕ)). ps ++ passive_data_from (n + 1) xs) (sym (append-nil (passive_data_in x.kind n x.bytes)))
+passive_data-cons n x xs = simp append-nil
 
 pub same-both : (a b c : ModuleTranslation) → SameButPassive a b → SameButPassive b c → SameButPassive a c
 same-both a b c ab bc =

@@ -4,7 +4,7 @@ use Rattle.std.specs.Prelude.{slice_get, IsSomeAnd}
 use Rattle.std.specs.Option.{option_map}
 use Rattle.std.proofs.lemmas.List.{length-map}
 use Rattle.wasm_spec.specs.declared.types.UnpackedIndex.{UnpackedIndex}
-use Rattle.wasm_spec.specs.TypeData.{Composite, Func, Array, Struct, Cont, Exn, SubType, Group, map_composite, map_sub_type}
+use Rattle.wasm_spec.specs.TypeData.{Composite, Func, SubType, Group, map_composite, map_sub_type}
 use Rattle.wasm_spec.specs.Module as plain
 use Rattle.type_data.specs.Names.{Named, FuncName}
 use Rattle.type_spec.specs.Interned.{kind_of_type, kind_at, composite_at, taken, interned}
@@ -43,17 +43,11 @@ types-long m = sym (length-map (lists_of_module m).types type_of) ∙ ap length 
 
 function-kind : (c : Composite UnpackedIndex UnpackedIndex) → IsFunction c → kind_of_type (map_composite place_of place_of c) ≡ FuncName
 function-kind (Func f) is = refl
-function-kind (Array f) is = absurd is
-function-kind (Struct fs) is = absurd is
-function-kind (Cont f) is = absurd is
-function-kind (Exn e) is = absurd is
+function-kind _ is = absurd is
 
 pub function-is : (c : Composite (Named ℕ) ℕ) → kind_of_type c ≡ FuncName → IsTrue (is_function c)
 function-is (Func f) e = refl
-function-is (Array f) e = absurd cc
-function-is (Struct fs) e = absurd cc
-function-is (Cont f) e = absurd cc
-function-is (Exn t) e = absurd cc
+function-is _ e = absurd (cc)
 
 -- a declared function type, read by places
 pub record IsFunctionAt (ts : List (SubType ℕ ℕ)) (i count : ℕ) : Type 0 where

@@ -1,9 +1,8 @@
 -- The number that each function of a translated module has.
-use Rattle.std.proofs.Common.{◌≡◌, ℕ, ◌<◌, Bool, List, Some, length, get_or, map, ap, ◌∙◌, arith, inl, inr}
+use Rattle.std.proofs.Common.{◌≡◌, ℕ, ◌<◌, Bool, List, Some, length, get_or, map, ap, ◌∙◌, arith}
 use Rattle.std.specs.Prelude.{All, Contains}
 use Rattle.std.specs.List.{enumerate_from}
 use Rattle.std.specs.Option.{option_map}
-use Rattle.std.proofs.lemmas.Bool.{cases_lt}
 use Rattle.std.proofs.lemmas.List.{get_or-map, length-map}
 use Rattle.std.proofs.lemmas.List.Elements.{All-contains, Contains-get_or}
 use Rattle.std.proofs.lemmas.List.FromFn.{length-enumerate_from, get_or-enumerate_from}
@@ -56,9 +55,5 @@ pub others-reserved : (debugged : Bool) (m : Module) (t : ModuleTranslation) →
 others-reserved debugged m t h f lt none =
     let causes = references debugged (lists_of_module m) in
     let order = escaping debugged (lists_of_module m) in
-    let unmet : place order f ≡ length order =
-    elim (cases_lt (place order f) (length order)) [
-      | inl met ↦ absurd (none ((contains-firsts causes f).0 (contained-met order f met)))
-      | inr ge ↦ omega (arith, place-le order f)
-    ] in
+    let unmet : place order f ≡ length order = grind (arith, place-le order f, contained-met order f, (contains-firsts causes f).0, none) in
     translated-number debugged m t h f lt ∙ ap (λ n. Some n) (number-none order f unmet)

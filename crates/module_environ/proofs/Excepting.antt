@@ -1,14 +1,43 @@
 -- Exception types in turn: what a builder makes of function types is what the definition makes of them.
 use Rattle.std.proofs.Common.{◌≡◌, ◌∙◌, ◌≤◌, ℕ, suc, ◌+◌, Bool, true, false, nat_eq, Some, None, List, [], ◌∷◌, ◌++◌, length, position, refl, sym, ap, subst, arith, length-append, append_assoc}
-use Rattle.std.specs.Prelude.{cond, ◌==◌, unwrap_or, if◌then◌else◌}
-use Rattle.std.specs.List.{fold, list_any, position_from}
-use Rattle.std.proofs.lemmas.Bool.{cases_Bool, eqb-true, eq-eqb}
+use Rattle.std.specs.Prelude.{◌==◌, unwrap_or, if◌then◌else◌}
+use Rattle.std.specs.List.{fold, list_any, position_from, position_or_len}
+use Rattle.std.proofs.lemmas.Bool.Decides.{nat_tests}
+use Rattle.std.proofs.lemmas.Iterator.Adapters.{position_from-zero}
 use Rattle.std.proofs.lemmas.List.{append-nil}
 use Rattle.std.proofs.lemmas.List.Sums.{fold-append, fold_push}
 use Rattle.type_spec.specs.Firsts.{with_first, firsts, firsts_after}
 use Rattle.type_spec.specs.Interned.{Interned, Built, plain, exception_for, composite_at, with_exception, with_exceptions}
-use Rattle.module_types.specs.Builder.{Builder, or_next, exception_index, excepts_by, excepts}
-use Rattle.module_environ.proofs.Places.{from-behind, from-front, from-none, from-some, place-is}
+use Rattle.module_types.specs.Builder.{Builder, exception_index, excepts_by, excepts}
+
+-- ---- the first place of a list at which a test passes
+
+module _ (t : ℕ → Bool) where
+  -- after some that fail
+  from-behind : (xs ys : List ℕ) (i : ℕ) → list_any t xs ≡ false → position_from t i (xs ++ ys) ≡ position_from t (i + length xs) ys
+  from-behind [] ys i none = grind arith
+  from-behind (x ∷ xs) ys i none = grind (arith, from-behind xs ys (i + 1))
+
+  -- where one passes, those after it do not count
+  from-front : (xs ys : List ℕ) (i : ℕ) → list_any t xs ≡ true → position_from t i (xs ++ ys) ≡ position_from t i xs
+  from-front [] ys i some = grind arith
+  from-front (x ∷ xs) ys i some = grind (arith, from-front xs ys (i + 1))
+
+  from-none : (xs : List ℕ) (i : ℕ) → list_any t xs ≡ false → position_from t i xs ≡ None
+  from-none [] i none = refl
+  from-none (x ∷ xs) i none = grind (arith, from-none xs (i + 1))
+
+  from-some : (xs : List ℕ) (i : ℕ) → list_any t xs ≡ true → position_from t i xs ≡ Some (i + position_or_len t xs)
+  from-some [] i some = grind arith
+  from-some (x ∷ xs) i some = grind (arith, from-some xs (i + 1))
+
+  from-start : (xs : List ℕ) (base i k : ℕ) → position_from t (base + i) xs ≡ Some k → base + unwrap_or (position_from t i xs) 0 ≡ k
+  from-start [] base i k e = grind arith
+  from-start (x ∷ xs) base i k e = grind (arith, from-start xs base (i + 1) k)
+
+  -- counted from a number on
+  place-is : (xs : List ℕ) (base k : ℕ) → position_from t base xs ≡ Some k → base + unwrap_or (position t xs) 0 ≡ k
+  place-is xs base k e = grind (arith, position_from-zero t xs, from-start xs base 0 k)
 
 -- ---- the first of some numbers stay
 
@@ -27,11 +56,7 @@ longer (n ∷ ns) known = by (list_any (λ k. k == n) known) (longer ns) where
 
 pub firsts-few : (ns known : List ℕ) → length (firsts_after known ns) ≤ length known + length ns
 firsts-few [] known = omega arith
-firsts-few (n ∷ ns) known = by (list_any (λ k. k == n) known) (firsts-few ns) where
-  by : (b : Bool) → ((ks : List ℕ) → length (firsts_after ks ns) ≤ length ks + length ns)
-      → length (firsts_after (if b then known else known ++ n ∷ []) ns) ≤ length known + suc (length ns)
-  by true rest = omega (arith, rest known)
-  by false rest = omega (arith, rest (known ++ n ∷ []), length-append known (n ∷ []))
+firsts-few (n ∷ ns) known = grind (arith, firsts-few ns known, firsts-few ns (known ++ n ∷ []), length-append known (n ∷ []))
 
 -- ---- exception types come after the others, one for each function type
 
@@ -59,7 +84,7 @@ module _ (start : Built) where
   pub excepts-none : (b : Builder) → b.built ≡ start → ((n : ℕ) → b.exceptions n ≡ None) → Excepts [] b
   excepts-none b built none = record { built = built; at = none }
 
-  module _ (so_far : List ℕ) (b : Builder) (x : Excepts so_far b) where
+  module _ {so_far : List ℕ} {b : Builder} (x : Excepts so_far b) where
     abbrev known : List ℕ
     known = firsts so_far
 
@@ -83,17 +108,12 @@ module _ (start : Built) where
       ordered : (is : List ℕ) → firsts (so_far ++ n ∷ is) ≡ firsts_after (firsts (so_far ++ n ∷ [])) is
       ordered is = ap firsts (sym (append_assoc so_far (n ∷ []) is)) ∙ fold-append (with_first (λ k n. k == n)) [] (so_far ++ n ∷ []) is
 
-      noted-at : list_any test known ≡ false → (m : ℕ) → (there same : Bool) → list_any (λ k. k == m) known ≡ there → nat_eq n m ≡ same
-          → (if same then Some (length b.built.types) else b.exceptions m) ≡ position_from (λ k. k == m) base (known ++ n ∷ [])
-      noted-at none m true true e g =
-          let no : true ≡ false = sym e ∙ ap (λ i. list_any (λ k. k == i) known) (sym (eqb-true n m g)) ∙ none in
-          absurd cc
-      noted-at none m true false e g = x.at m ∙ sym (from-front (λ k. k == m) known (n ∷ []) base e)
-      noted-at none m false true e g =
-          ap (λ k. Some k) long ∙ sym (from-behind (λ k. k == m) known (n ∷ []) base e ∙ ap (λ c. cond c (Some (base + length known)) None) g)
-      noted-at none m false false e g =
-          x.at m ∙ from-none (λ k. k == m) known base e
-          ∙ sym (from-behind (λ k. k == m) known (n ∷ []) base e ∙ ap (λ c. cond c (Some (base + length known)) None) g)
+      noted-at : list_any test known ≡ false → (m : ℕ)
+          → (if nat_eq n m then Some (length b.built.types) else b.exceptions m) ≡ position_from (λ k. k == m) base (known ++ n ∷ [])
+      noted-at none m =
+          let t : ℕ → Bool = λ k. k == m in
+          let same : n ≡ m → list_any t known ≡ false = λ e. subst (λ i. list_any (λ k. k == i) known ≡ false) e none in
+          grind (arith, nat_tests, long, x.at m, same, from-front t known (n ∷ []) base, from-behind t known (n ∷ []) base, from-none t known base)
 
       unheld : list_any test known ≡ false → b.exceptions n ≡ None
       unheld e = x.at n ∙ from-none test known base e
@@ -103,7 +123,7 @@ module _ (start : Built) where
         by : (there : Bool) → list_any test known ≡ there → Excepts (so_far ++ n ∷ []) (excepts b n)
         by true e =
             let same = sym (next true e) in
-            let held = x.at n ∙ (from-some test known base e).is in
+            let held = x.at n ∙ from-some test known base e in
             subst (Excepts (so_far ++ n ∷ [])) (sym (ap (excepts_by b n) held)) (record {
               built = x.built ∙ ap (fold with_exception start) same;
               at = λ m. x.at m ∙ ap (position_from (λ k. k == m) base) same;
@@ -112,7 +132,7 @@ module _ (start : Built) where
             let more = sym (next false e) in
             subst (Excepts (so_far ++ n ∷ [])) (sym (ap (excepts_by b n) (unheld e))) (record {
               built = ap (λ c. with_exception c n) x.built ∙ sym (fold_push with_exception start known n) ∙ ap (fold with_exception start) more;
-              at = λ m. noted-at e m (list_any (λ k. k == m) known) (nat_eq n m) refl refl ∙ ap (position_from (λ k. k == m) base) more;
+              at = λ m. noted-at e m ∙ ap (position_from (λ k. k == m) base) more;
             })
 
       -- the index of the exception type is that of the function type among all that are asked for
@@ -121,16 +141,25 @@ module _ (start : Built) where
         by : (there : Bool) → list_any test known ≡ there
             → exception_index b n ≡ base + unwrap_or (position test (firsts (so_far ++ n ∷ is))) 0
         by true e =
-            let p = from-some test known base e in
             let l = longer is known in
-            let at : position_from test base (firsts (so_far ++ n ∷ is)) ≡ Some p.place =
-            ap (position_from test base) (ordered is ∙ ap (λ ks. firsts_after ks is) (next true e) ∙ l.is) ∙ from-front test known l.more base e ∙ p.is in
-            ap (λ o. or_next o (length b.built.types)) (x.at n ∙ p.is) ∙ sym (place-is test (firsts (so_far ++ n ∷ is)) base p.place at)
+            let all : firsts (so_far ++ n ∷ is) ≡ known ++ l.more = ordered is ∙ ap (λ ks. firsts_after ks is) (next true e) ∙ l.is in
+            rw all (grind (
+              arith,
+              x.at n,
+              from-front test known l.more base e,
+              from-some test known base e,
+              place-is test (known ++ l.more) base (base + position_or_len test known),
+            ))
         by false e =
             let l = longer is (known ++ n ∷ []) in
-            let k = base + length known in
-            let at : position_from test base (firsts (so_far ++ n ∷ is)) ≡ Some k =
-            ap (position_from test base) (ordered is ∙ ap (λ ks. firsts_after ks is) (next false e) ∙ l.is ∙ append_assoc known (n ∷ []) l.more)
-            ∙ from-behind test known (n ∷ l.more) base e
-            ∙ ap (λ c. cond c (Some k) (position_from test (k + 1) l.more)) (eq-eqb n n refl) in
-            ap (λ o. or_next o (length b.built.types)) (unheld e) ∙ long ∙ sym (place-is test (firsts (so_far ++ n ∷ is)) base k at)
+            let all : firsts (so_far ++ n ∷ is) ≡ known ++ n ∷ l.more =
+            ordered is ∙ ap (λ ks. firsts_after ks is) (next false e) ∙ l.is ∙ append_assoc known (n ∷ []) l.more in
+            rw all (grind (
+              arith,
+              nat_tests,
+              long,
+              x.at n,
+              from-none test known base e,
+              from-behind test known (n ∷ l.more) base e,
+              place-is test (known ++ n ∷ l.more) base (base + length known),
+            ))

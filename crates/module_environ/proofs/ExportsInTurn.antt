@@ -1,5 +1,5 @@
 -- Exports, entered one after another.
-use Rattle.std.proofs.Common.{◌≡◌, ℕ, ◌+◌, ◌≤◌, Bool, true, false, cond, List, [], ◌∷◌, ◌++◌, suc, length, map, slice_get, unwrap_or, All, Some, nat_eq, inl, inr, refl, sym, ap, subst, ◌∙◌, arith, append_assoc}
+use Rattle.std.proofs.Common.{◌≡◌, ℕ, ◌+◌, ◌≤◌, Bool, true, List, [], ◌∷◌, ◌++◌, suc, length, map, slice_get, All, Some, nat_eq, inl, inr, refl, sym, ap, subst, ◌∙◌, arith, append_assoc}
 use Rattle.std.proofs.lemmas.List.{length-append, length-map}
 use Rattle.std.proofs.lemmas.List.Elements.{All-cons}
 use Rattle.std.proofs.lemmas.Bool.Decides.{eqb_tells}
@@ -28,18 +28,12 @@ insert-behind : (eq : Atom → Atom → Bool) → ((x y : Atom) → eq x y ≡ t
     → n + length es ≤ atom_number k → insert_entry eq (entered_from n es) k v ≡ entered_from n es ++ (k, v) ∷ []
 insert-behind eq same n [] k v behind = refl
 insert-behind eq same n (e ∷ es) k v behind =
-    let first : Atom = record { 0 = n } in
-    by first refl (same k first) (insert-behind eq same (n + 1) es k v (omega (arith, behind))) (eq k first) refl where
-      by : (first : Atom) → atom_number first ≡ n → (eq k first ≡ true → k ≡ first) → insert_entry eq (entered_from (n + 1) es) k v ≡ entered_from (n + 1) es ++ (k, v) ∷ []
-          → (b : Bool) → eq k first ≡ b → cond b ((first, v) ∷ entered_from (n + 1) es)
-          ((first, entity_at e.kind e.index) ∷ insert_entry eq (entered_from (n + 1) es) k v) ≡ (first, entity_at e.kind e.index) ∷ (entered_from (n + 1) es ++ (k, v) ∷ [])
-      by first at equal rest true is = absurd (let far = ap atom_number (equal is) in omega (arith, at, far, behind))
-      by first at equal rest false is = ap (λ (xs : List (Atom × EntityIndex)). (first, entity_at e.kind e.index) ∷ xs) rest
+    grind (arith, insert-behind eq same (n + 1) es k v, same k (record { 0 = n }), ap atom_number)
 
 entered-push : (n : ℕ) (es : List Export) (e : Export) (k : Atom) → atom_number k ≡ n + length es
     → entered_from n (es ++ e ∷ []) ≡ entered_from n es ++ (k, entity_at e.kind e.index) ∷ []
 entered-push n [] e k is = λ j. (record { 0 = (let same : n ≡ atom_number k = omega (arith, is) in same) j }, entity_at e.kind e.index) ∷ []
-entered-push n (d ∷ es) e k is = ap (λ (xs : List (Atom × EntityIndex)). (record { 0 = n }, entity_at d.kind d.index) ∷ xs) (entered-push (n + 1) es e k (omega (arith, is)))
+entered-push n (d ∷ es) e k is = grind (arith, entered-push (n + 1) es e k)
 
 pub entered-more : (eq : Atom → Atom → Bool) → ((x y : Atom) → eq x y ≡ true → x ≡ y) → (before : List Export) (e : Export) (now after : List (Atom × EntityIndex))
     (k : Atom) (v : EntityIndex) → atom_number k ≡ length now → v ≡ entity_at e.kind e.index → after ≡ insert_entry eq now k v → now ≡ entered before
@@ -59,11 +53,13 @@ resolved-from : (texts before : List (List ℕ)) (es : List Export) (others : Li
     → map (resolved_export texts) (entered_from (length before) es) ≡ exported_entities es
 resolved-from texts before [] others is = refl
 resolved-from texts before (e ∷ es) others is =
-    let named = ap (λ (ts : List (List ℕ)). unwrap_or (slice_get ts (length before)) []) is
-    ∙ ap (λ o. unwrap_or o []) (behind before e.name (exported_names es ++ others)) in
-    let rest = resolved-from texts (before ++ e.name ∷ []) es others (is ∙ sym (append_assoc before (e.name ∷ []) (exported_names es ++ others))) in
-    let long : length (before ++ e.name ∷ []) ≡ length before + 1 = omega (arith, length-append before (e.name ∷ [])) in
-    λ j. (named j, entity_at e.kind e.index) ∷ (ap (λ n. map (resolved_export texts) (entered_from n es)) (sym long) ∙ rest) j
+    let others_too = exported_names es ++ others in
+    grind (
+      arith,
+      resolved-from texts (before ++ e.name ∷ []) es others (is ∙ sym (append_assoc before (e.name ∷ []) others_too)),
+      behind before e.name others_too,
+      length-append before (e.name ∷ []),
+    )
 
 pub entered-resolved : (texts : List (List ℕ)) (es : List Export) (others : List (List ℕ)) → texts ≡ exported_names es ++ others
     → (entries : List (Atom × EntityIndex)) → entries ≡ entered es → map (resolved_export texts) entries ≡ exported_entities es

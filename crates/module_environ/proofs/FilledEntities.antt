@@ -1,8 +1,7 @@
 -- The types of what was gathered are known, and the entities converted from them are those of the module.
-use Rattle.std.proofs.Common.{◌≡◌, ◌∙◌, ℕ, ◌≤◌, List, length, map, sym, ap, subst, arith}
+use Rattle.std.proofs.Common.{◌≡◌, ◌∙◌, ℕ, ◌≤◌, List, length, map, get_or, ap, arith}
 use Rattle.std.specs.Prelude.{All}
 use Rattle.std.proofs.lemmas.List.{length-map, length-append}
-use Rattle.std.proofs.lemmas.List.Elements.{All-weaker}
 use Rattle.wasm_spec.specs.declared.entities.GlobalType.{GlobalType}
 use Rattle.wasm_spec.specs.declared.entities.MemoryType.{MemoryType}
 use Rattle.wasm_spec.specs.declared.entities.TableType.{TableType}
@@ -10,10 +9,8 @@ use Rattle.wasm_spec.specs.declared.types.UnpackedIndex.{UnpackedIndex}
 use Rattle.wasm_spec.specs.Module.{TableDef, table_import}
 use Rattle.wasm_spec.specs.Module as plain
 use Rattle.rule_spec.specs.declared.rules.Rule.TheVariants.{L4, L10}
-use Rattle.rule_spec.specs.Limits.{HasLimits}
 use Rattle.rule_spec.specs.Lists.{lists_of_module}
 use Rattle.rule_spec.specs.Lists as rule
-use Rattle.rule_spec.specs.References.{RefersIn, ValueRefersIn}
 use Rattle.form_lists.specs.declared.lists.Lists.{Lists}
 use Rattle.wasm_types.specs.declared.table.Table.{Table}
 use Rattle.wasm_types.specs.EntityData.{global_edges, table_edges, map_global, map_table}
@@ -42,8 +39,7 @@ module _ (l : Lists) (gathered : IsGathered l) where
 
   pub pages : (ts : List MemoryType) → ts ≡ l.spaces.memories.items → All HasPageSize ts
   pages ts are =
-      subst (All HasPageSize) (sym (are ∙ memories-are))
-      (All-weaker HasLimits HasPageSize (λ t limits. limits.page_size) (plain.memories m) (gathered.keeps L4).memories)
+      rw (are, memories-are) (λ k d lt. ((gathered.keeps L4).memories k d lt).page_size)
 
   pub memories-filled : (ts : List MemoryType) → ts ≡ l.spaces.memories.items → map memory_of ts ≡ map memory_of (plain.memories m)
   memories-filled ts are = ap (map memory_of) (are ∙ memories-are)
@@ -61,16 +57,12 @@ module _ (l : Lists) (gathered : IsGathered l) where
     KnowsGlobal t = Known known (global_edges (λ i. i) (global_type_of t))
 
     pub tables-looked : (ts : List TableType) → ts ≡ l.spaces.table_types.items → All KnowsTable ts
-    tables-looked ts are =
-        subst (All KnowsTable) (sym (are ∙ tables-are))
-        (All-weaker (λ (t : TableType). RefersIn count t.element_type) KnowsTable (known-table known count looks.knows)
-        (plain.tables m) (all-tables count m (gathered.keeps L10)))
+    tables-looked ts are = rw (are, tables-are) (λ k d lt.
+        known-table known count looks.knows (get_or (plain.tables m) k d) (all-tables count m (gathered.keeps L10) k d lt))
 
     pub globals-looked : (ts : List GlobalType) → ts ≡ l.spaces.global_types.items → All KnowsGlobal ts
-    globals-looked ts are =
-        subst (All KnowsGlobal) (sym (are ∙ globals-are))
-        (All-weaker (λ (t : GlobalType). ValueRefersIn count t.content_type) KnowsGlobal (known-global known count looks.knows)
-        (plain.globals m) (all-globals count m (gathered.keeps L10)))
+    globals-looked ts are = rw (are, globals-are) (λ k d lt.
+        known-global known count looks.knows (get_or (plain.globals m) k d) (all-globals count m (gathered.keeps L10) k d lt))
 
     pub tables-filled : (ts : List TableType) → ts ≡ l.spaces.table_types.items
         → map (λ t. map_table look (table_type_of t)) ts ≡ tables_data m
@@ -85,11 +77,12 @@ module _ (l : Lists) (gathered : IsGathered l) where
   pub imported-within : (ts : List TableType) → ts ≡ l.spaces.table_types.items → (tables : List Table) → (look : LookUp)
       → map table_of tables ≡ map (λ t. map_table look (table_type_of t)) ts → count_of table_import (plain.imports m) ≤ length tables
   imported-within ts are tables look filled =
+      let long = length-map ts (λ (t : TableType). map_table look (table_type_of t)) in
       omega (
         arith,
         length-map tables table_of,
         ap length filled,
-        length-map ts (λ (t : TableType). map_table look (table_type_of t)),
+        long,
         ap length (are ∙ tables-are),
         length-append (plain.imported_of table_import m) (map (λ (d : TableDef). d.type) (lists_of_module m).tables),
       )

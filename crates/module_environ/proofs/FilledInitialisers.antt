@@ -1,8 +1,9 @@
 -- What a translation holds after its initialisers, exports and segments are filled in.
-use Rattle.std.proofs.Common.{◌≡◌, ℕ, List, [], ◌++◌, length, map, Result, Ok, Err, replicate, sym, ap, ◌∙◌}
+use Rattle.std.proofs.Common.{◌≡◌, ℕ, List, [], ◌++◌, length, map, Result, Ok, Err, replicate, ap, ◌∙◌, arith}
 use Rattle.std.specs.Prelude.{OnOk}
 use Rattle.std.specs.Option.{option_map}
 use Rattle.std.proofs.lemmas.List.{length-map}
+use Rattle.std.proofs.lemmas.Simd.{splat_is_map}
 use Rattle.wasm_spec.specs.Module.{TableDef}
 use Rattle.wasm_convert.specs.Conversion.{LookUp}
 use Rattle.wasm_convert.specs.Constants.{const_ops_of}
@@ -12,7 +13,6 @@ use Rattle.wasm_module.specs.declared.table_initialization.TableInitialValue.{Ta
 use Rattle.module_environ.specs.EscapeLog.{EscapeLog, after_escapes}
 use Rattle.module_environ.specs.Initialisers.{first_values, view_first_value}
 use Rattle.module_environ.proofs.NotingEscapes.{firsts-append}
-use Rattle.module_environ.proofs.GatheredTables.{none_of_each}
 
 -- what follows from four facts of a value
 pub on_ok : {T E A B C D P : Type 0} → (r : Result T E) → OnOk r A → OnOk r B → OnOk r C → OnOk r D → (A → B → C → D → P) → OnOk r P
@@ -29,5 +29,5 @@ pub no_images_of : (look : LookUp) (tables : List TableDef) (values : List Table
     → map view_first_value values ≡ first_values look tables → (n : ℕ) → n ≡ length values → images ≡ replicate n []
     → images ≡ map (λ table. []) tables
 no_images_of look tables values images first n is none =
-    none_of_each tables images (none ∙ ap (λ k. replicate k []) (is ∙ sym (length-map values view_first_value)
-    ∙ ap length first ∙ length-map tables (λ t. option_map (const_ops_of look) t.init)))
+    let long = length-map tables (λ (t : TableDef). option_map (const_ops_of look) t.init) in
+    none ∙ splat_is_map tables n [] (omega (arith, is, ap length first, long, length-map values view_first_value))

@@ -1,6 +1,6 @@
 -- A translation that is filled in, step by step, holds the sections of the module.
-use Rattle.std.proofs.Common.{◌≡◌, ◌∙◌, ℕ, ◌+◌, ◌-◌, ◌<◌, Bool, true, false, Option, List, [], ◌++◌}
-use Rattle.std.proofs.Common.{length, map, append_assoc, refl, sym, ap, subst, arith}
+use Rattle.std.proofs.Common.{◌≡◌, ◌∙◌, ℕ, ◌-◌, ◌<◌, Bool, true, false, Option, List, []}
+use Rattle.std.proofs.Common.{length, map, get_or, append_assoc, sym, ap, subst, arith}
 use borrow.Pointer.Hide.{carry_now, carried_same}
 use denote.Param.Table.{Entry}
 use mir.Syntax.{Dict}
@@ -8,13 +8,11 @@ use Rattle.std.specs.Borrow.{Bor}
 use Rattle.std.specs.Prelude.{All, IfSome, IsSomeAnd, slice_get, if◌then◌else◌}
 use Rattle.std.specs.List.{range_with_len}
 use Rattle.std.specs.Option.{option_map, option_and_then}
-use Rattle.std.proofs.lemmas.List.Elements.{All-weaker}
 use Rattle.wasm_spec.specs.Module as plain
 use Rattle.rule_spec.specs.declared.rules.Rule.TheVariants.{L2, L8}
 use Rattle.rule_spec.specs.Lists.{lists_of_module, kind_at}
 use Rattle.rule_spec.specs.Lists as rule
-use Rattle.rule_spec.specs.TypeRules.{NamesFunctionType}
-use Rattle.rule_spec.specs.Indices.{TakesAndGivesNothing, CanStart}
+use Rattle.rule_spec.specs.Indices.{TakesAndGivesNothing}
 use Rattle.form_types.specs.Types.{TypesData}
 use Rattle.form_lists.specs.declared.lists.Lists.{Lists}
 use Rattle.wasm_index.specs.declared.index.Index.{Index}
@@ -39,7 +37,6 @@ use Rattle.module_environ.proofs.DeclaredKinds.{function-below}
 use Rattle.module_environ.proofs.DeclaredLooks.{listed-long}
 use Rattle.module_environ.proofs.NotingEscapes.{firsts-append}
 use Rattle.module_environ.proofs.FromRules.{below-by}
-use Rattle.module_environ.proofs.GrownPool.{GrowsBy, grows-within, texts-then, imports-grown, names-grown}
 
 -- what is lent as a trait object looks up what it did
 pub carried-looks : (m : plain.Module) (e f : Entry Ghosts Dict) (same : e ≡ f) (x : Bor e.0.Denot)
@@ -65,11 +62,10 @@ module _ (l : rule.Lists) (filled after : EscapeLog) where
   pub noted-where : (debugged : Bool) → debugged ≡ true → (start count : ℕ) → start ≡ l.imported_functions
       → count ≡ length l.functions - l.imported_functions → after ≡ after_escapes filled (range_with_len start count)
       → after ≡ after_escapes filled (behind debugged l)
-  noted-where debugged is start count first rest noted =
-      noted ∙ (λ i. after_escapes filled (range_with_len (first i) (rest i))) ∙ ap (λ b. after_escapes filled (behind b l)) (sym is)
+  noted-where debugged is start count first rest noted = rw (is, noted, first, rest)
 
   pub noted-not : (debugged : Bool) → debugged ≡ false → after ≡ filled → after ≡ after_escapes filled (behind debugged l)
-  noted-not debugged is same = same ∙ ap (λ b. after_escapes filled (behind b l)) (sym is)
+  noted-not debugged is same = rw (is, same)
 
 -- ---- what was gathered
 
@@ -86,17 +82,15 @@ module _ (l : Lists) (gathered : IsGathered l) where
   pub functions-named : (of : (t : TypesData) × AreTypesOf m t) (types : List EngineOrModuleTypeIndex) → types ≡ map type_index (declared m)
       → (fs : List ℕ) → fs ≡ l.spaces.functions.items → All (λ ty. ty < length types) fs
   functions-named of types listed fs are =
-      subst (All (λ ty. ty < length types)) (sym (are ∙ functions-are))
-      (All-weaker (NamesFunctionType (lists_of_module m)) (λ ty. ty < length types)
-      (λ i named. omega (arith, function-below m i named, listed-long m of.1.earlier types listed)) (plain.functions m) (gathered.keeps L2).functions)
+      rw (are, functions-are) (λ k d lt.
+      let below = function-below m (get_or (plain.functions m) k d) ((gathered.keeps L2).functions k d lt) in
+      omega (arith, below, listed-long m of.1.earlier types listed))
 
   pub starts-below : All (λ f. f < 4294967295) (lists_of_module m).starts
-  starts-below = All-weaker (CanStart (lists_of_module m)) (λ f. f < 4294967295) (λ f can. omega (
-    arith,
-    below-by
-        (λ (o : Option ℕ). IsSomeAnd (option_and_then (kind_at (lists_of_module m)) o) TakesAndGivesNothing) (plain.functions m) f (λ q. q) can,
-    gathered.few.functions,
-  )) (lists_of_module m).starts (gathered.keeps L8)
+  starts-below = λ k d lt.
+      let below = below-by (λ (o : Option ℕ). IsSomeAnd (option_and_then (kind_at (lists_of_module m)) o) TakesAndGivesNothing) (plain.functions m)
+      (get_or (lists_of_module m).starts k d) (λ q. q) (gathered.keeps L8 k d lt) in
+      omega (arith, below, gathered.few.functions)
 
 -- ---- the whole
 
@@ -118,8 +112,7 @@ module _ (m : plain.Module) (index : Index StaticModuleSpace) (empty : ModuleTra
 
   -- the empty record has no name
   unnamed : IfSome entities.name (HasText entities.strings)
-  unnamed = subst (λ n. IfSome n (HasText entities.strings))
-      (sym (ap (λ (x : Module). x.name) first.same ∙ ap (λ (r : ModuleRecord). r.name) new.record_of_module)) tt
+  unnamed = rw (ap (λ (x : Module). x.name) first.same ∙ ap (λ (r : ModuleRecord). r.name) new.record_of_module) tt
 
   pub entities-filled : (start : Option (Index FuncSpace)) → option_map number_of start ≡ slice_get (lists_of_module m).starts 0
       → HasEntities m (record t { start_func = start })

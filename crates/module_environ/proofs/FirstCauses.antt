@@ -1,30 +1,22 @@
 -- The first places of numbers: each number of a list is listed once, in the order of their first places.
-use Rattle.std.proofs.Common.{◌≡◌, ◌≢◌, ◌⊎◌, ℕ, ◌<◌, Bool, append-nil, true, false, List, [], ◌∷◌, ◌++◌, length, get_or, refl, ap, sym, ◌∙◌, subst, arith, inl, inr, length-append, append_assoc}
+use Rattle.std.proofs.Common.{◌≡◌, ◌≢◌, ◌⊎◌, ℕ, ◌<◌, Bool, append-nil, true, false, List, [], ◌∷◌, ◌++◌, length, get_or, refl, ap, subst, arith, length-append, append_assoc}
 use Rattle.std.specs.Prelude.{◌==◌, ◌↔◌, All, Contains, if◌then◌else◌}
 use Rattle.std.specs.List.{list_any, AllPairs}
-use Rattle.std.proofs.lemmas.Bool.{cases_lt, cases_eq, eqb-true, eq-eqb, ne_eqb, false≢true}
-use Rattle.std.proofs.lemmas.List.Elements.{All-push, All-weaker}
+use Rattle.std.proofs.lemmas.Bool.{eqb-true, eq-eqb, ne_eqb}
+use Rattle.std.proofs.lemmas.List.Elements.{All-push}
 use Rattle.std.proofs.lemmas.List.Folds.{list_any_at}
 use Rattle.std.proofs.lemmas.List.Quantifiers.{all_pairs_push}
 use Rattle.std.proofs.lemmas.List.Sums.{position_or_len_is, passes_at_first}
 use Rattle.type_spec.specs.Firsts.{firsts_after, firsts}
 use Rattle.module_environ.specs.Numbers.{StandOnce}
-use Rattle.module_environ.proofs.Numbering.{place, place-le, place-new, place-old, place-other, unmet-place}
+use Rattle.module_environ.proofs.Numbering.{place, place-le, place-new, place-old, place-other, met-place, unmet-place}
 
 -- whether a number is in a list is told by its first place
 pub met-any : (ns : List ℕ) (f : ℕ) → list_any (λ k. k == f) ns ≡ true → place ns f < length ns
-met-any ns f any =
-    elim (cases_lt (place ns f) (length ns)) [
-      | inl lt ↦ lt
-      | inr ge ↦ absurd (false≢true (sym (unmet-place ns f (omega (arith, place-le ns f))) ∙ any))
-    ]
+met-any ns f any = grind (arith, unmet-place ns f, place-le ns f)
 
 unmet-any : (ns : List ℕ) (f : ℕ) → list_any (λ k. k == f) ns ≡ false → place ns f ≡ length ns
-unmet-any ns f none =
-    elim (cases_lt (place ns f) (length ns)) [
-      | inl lt ↦ absurd (false≢true (sym none ∙ list_any_at (λ k. k == f) ns (place ns f) 0 lt (passes_at_first (λ k. k == f) ns 0 lt)))
-      | inr ge ↦ omega (arith, place-le ns f)
-    ]
+unmet-any ns f none = grind (arith, met-place ns f, place-le ns f)
 
 pub met-contained : (ns : List ℕ) (f : ℕ) → Contains ns f → place ns f < length ns
 met-contained ns f h = met-any ns f (list_any_at (λ k. k == f) ns h.0 f h.1 (eq-eqb (get_or ns h.0 f) f h.2))
@@ -43,14 +35,7 @@ still : (ns : List ℕ) (n f : ℕ) → place ns f < length ns → place (ns ++ 
 still ns n f lt = omega (arith, lt, place-old ns n f lt, length-append ns (n ∷ []))
 
 before-or-last : (ns : List ℕ) (n f : ℕ) → place (ns ++ n ∷ []) f < length (ns ++ n ∷ []) → (place ns f < length ns) ⊎ (n ≡ f)
-before-or-last ns n f lt =
-    elim (cases_lt (place ns f) (length ns)) [
-      | inl old ↦ inl old
-      | inr ge ↦ elim (cases_eq n f) [
-        | inl same ↦ inr same
-        | inr apart ↦ absurd (omega (arith, lt, place-other ns n f apart (omega (arith, place-le ns f)), length-append ns (n ∷ [])))
-      ]
-    ]
+before-or-last ns n f lt = grind (arith, place-other ns n f, place-le ns f, length-append ns (n ∷ []))
 
 rising-still : (ns listed : List ℕ) (n : ℕ) → AreFirsts ns listed → AllPairs (λ f g. place (ns ++ n ∷ []) f < place (ns ++ n ∷ []) g) listed
 rising-still ns listed n h i j d lt in' =
@@ -60,53 +45,34 @@ rising-still ns listed n h i j d lt in' =
 
 known-again : (ns listed : List ℕ) (n : ℕ) → AreFirsts ns listed → place listed n < length listed → AreFirsts (ns ++ n ∷ []) listed
 known-again ns listed n h met = record {
-  among = All-weaker (λ f. place ns f < length ns) (λ f. place (ns ++ n ∷ []) f < length (ns ++ n ∷ [])) (still ns n) listed h.among;
-  all = λ f lt.
-      elim (before-or-last ns n f lt) [
-        | inl old ↦ h.all f old
-        | inr same ↦ subst (λ k. place listed k < length listed) same met
-      ];
+  among = λ k d lt. still ns n _ (h.among k d lt);
+  all = λ f lt. grind (arith, before-or-last ns n f lt, h.all f, met);
   rising = rising-still ns listed n h;
 }
 
 listed-new : (ns listed : List ℕ) (n : ℕ) → AreFirsts ns listed → place listed n ≡ length listed → AreFirsts (ns ++ n ∷ []) (listed ++ n ∷ [])
 listed-new ns listed n h unmet =
-    let new : place ns n ≡ length ns =
-    elim (cases_lt (place ns n) (length ns)) [ inl old ↦ absurd (omega (arith, h.all n old, unmet)) | inr ge ↦ omega (arith, place-le ns n) ] in
+    let new : place ns n ≡ length ns = grind (arith, h.all n, place-le ns n) in
     let last = place-new ns n new in
     record {
-      among = All-push (λ f. place (ns ++ n ∷ []) f < length (ns ++ n ∷ [])) listed n
-          (All-weaker (λ f. place ns f < length ns) (λ f. place (ns ++ n ∷ []) f < length (ns ++ n ∷ [])) (still ns n) listed h.among)
+      among = All-push (λ f. place (ns ++ n ∷ []) f < length (ns ++ n ∷ [])) listed n (λ k d lt. still ns n _ (h.among k d lt))
           (omega (arith, last, length-append ns (n ∷ [])));
-      all = λ f lt.
-          elim (before-or-last ns n f lt) [
-            | inl old ↦ still listed n f (h.all f old)
-            | inr same ↦ subst (λ k. place (listed ++ n ∷ []) k < length (listed ++ n ∷ [])) same
-                (omega (arith, place-new listed n unmet, length-append listed (n ∷ [])))
-          ];
+      all = λ f lt. grind (arith, before-or-last ns n f lt, h.all f, still listed n f, place-new listed n unmet, length-append listed (n ∷ []));
       rising = all_pairs_push (λ f g. place (ns ++ n ∷ []) f < place (ns ++ n ∷ []) g) listed n (rising-still ns listed n h)
           (λ k d lt. omega (arith, last, place-old ns n (get_or listed k d) (h.among k d lt), h.among k d lt));
     }
 
 firsts-are : (ns listed rest : List ℕ) → AreFirsts ns listed → AreFirsts (ns ++ rest) (firsts_after listed rest)
-firsts-are ns listed [] h = subst (λ l. AreFirsts l listed) (sym (append-nil ns)) h
+firsts-are ns listed [] h = rw append-nil h
 firsts-are ns listed (n ∷ rest) h =
-    subst (λ l. AreFirsts l (firsts_after listed (n ∷ rest))) (append_assoc ns (n ∷ []) rest)
-    (by (list_any (λ k. k == n) listed) refl (firsts-are (ns ++ n ∷ []) listed rest) (firsts-are (ns ++ n ∷ []) (listed ++ n ∷ []) rest))
+    rw (← append_assoc ns (n ∷ []) rest) (firsts-are (ns ++ n ∷ []) _ rest (by (list_any (λ k. k == n) listed) refl))
   where
-    by : (c : Bool) → list_any (λ k. k == n) listed ≡ c
-        → (AreFirsts (ns ++ n ∷ []) listed → AreFirsts ((ns ++ n ∷ []) ++ rest) (firsts_after listed rest))
-        → (AreFirsts (ns ++ n ∷ []) (listed ++ n ∷ []) → AreFirsts ((ns ++ n ∷ []) ++ rest) (firsts_after (listed ++ n ∷ []) rest))
-        → AreFirsts ((ns ++ n ∷ []) ++ rest) (firsts_after (if c then listed else listed ++ n ∷ []) rest)
-    by true e old new = old (known-again ns listed n h (met-any listed n e))
-    by false e old new = new (listed-new ns listed n h (unmet-any listed n e))
+    by : (c : Bool) → list_any (λ k. k == n) listed ≡ c → AreFirsts (ns ++ n ∷ []) (if c then listed else listed ++ n ∷ [])
+    by true e = known-again ns listed n h (met-any listed n e)
+    by false e = listed-new ns listed n h (unmet-any listed n e)
 
 pub are-firsts : (ns : List ℕ) → AreFirsts ns (firsts ns)
-are-firsts ns = firsts-are [] [] ns (record {
-  among = λ k d lt. absurd (omega (arith, lt));
-  all = λ f lt. absurd (omega (arith, lt));
-  rising = λ i j d lt in'. absurd (omega (arith, in'));
-})
+are-firsts ns = firsts-are [] [] ns (record { among = λ k d lt. absurd (omega arith); all = λ f lt. absurd (omega arith); rising = λ i j d lt in'. absurd (omega arith) })
 
 pub contains-firsts : (ns : List ℕ) (f : ℕ) → Contains (firsts ns) f ↔ Contains ns f
 contains-firsts ns f = (
@@ -118,7 +84,7 @@ pub firsts-rise : (ns : List ℕ) → AllPairs (λ f g. place ns f < place ns g)
 firsts-rise ns = (are-firsts ns).rising
 
 pub firsts-apart : (ns : List ℕ) → AllPairs (λ f g. f ≢ g) (firsts ns)
-firsts-apart ns i j d lt in' same = omega (arith, firsts-rise ns i j d lt in', ap (place ns) same)
+firsts-apart ns i j d lt in' same = omega (arith, (are-firsts ns).rising i j d lt in', ap (place ns) same)
 
 pub firsts-once : (ns : List ℕ) → StandOnce (firsts ns)
 firsts-once ns k lt =

@@ -1,5 +1,5 @@
 -- The first values of globals, gathered one global at a time.
-use Rattle.std.proofs.Common.{◌≡◌, ℕ, List, ◌∷◌, ◌++◌, map, Option, Some, None, refl, sym, ap, ◌∙◌}
+use Rattle.std.proofs.Common.{◌≡◌, ℕ, List, ◌∷◌, ◌++◌, map, Option, Some, None, sym, ap, ◌∙◌, append_assoc, arith}
 use Rattle.std.specs.Prelude.{is_none, if◌then◌else◌}
 use Rattle.std.specs.List.{filter_map, cons_option, enumerate_from}
 use Rattle.std.specs.Option.{option_map}
@@ -11,7 +11,6 @@ use Rattle.replay_spec.specs.Values.{Value, const_value}
 use Rattle.replay_spec.specs.Globals.{simple_of, kept_of}
 use Rattle.module_environ.specs.declared.globals.FirstGlobals.{FirstGlobals}
 use Rattle.module_environ.specs.FirstGlobals.{seen_globals, view_known, view_left, known_next, left_next, AddsInitialiser}
-use Rattle.module_environ.proofs.Filling.{added_more}
 use Rattle.module_environ.proofs.HeldExpressions.{const_value_converted}
 
 -- an initialiser with its number
@@ -23,13 +22,11 @@ abbrev pub next_initialisers : FirstGlobals → List GlobalDef → List (ℕ × 
 next_initialisers first globals = enumerate_from (seen_globals first) (map (λ g. g.init) globals)
 
 known-one : (n : ℕ) (v : Option Value) (others : List (ℕ × Value)) → cons_option (option_map (λ v. (n, v)) v) others ≡ known_next n v ++ others
-known-one n None others = refl
-known-one n (Some v) others = refl
+known-one n v others = grind arith
 
 left-one : (look : LookUp) (n : ℕ) (e : Expression) (v : Option Value) (others : List (ℕ × Expression))
     → map (converted look) (cons_option (if is_none v then Some (n, e) else None) others) ≡ left_next n (const_ops_of look e) v ++ map (converted look) others
-left-one look n e None others = refl
-left-one look n e (Some v) others = refl
+left-one look n e v others = grind arith
 
 -- one global more
 module _ (look : LookUp) (a b : FirstGlobals) (g : GlobalDef) (left rest : List GlobalDef) (ops : List ConstOp) (at : left ≡ g ∷ rest)
@@ -45,15 +42,13 @@ module _ (look : LookUp) (a b : FirstGlobals) (g : GlobalDef) (left rest : List 
       → view_known b ++ filter_map simple_of (next_initialisers b rest) ≡ all
   known_more all before =
       let others = filter_map simple_of (next_initialisers b rest) in
-      added_more (view_known a) (view_known b) _ _ others all adds.known
-      (ap (filter_map simple_of) next ∙ known-one (seen_globals a) (const_value g.init) others
-      ∙ ap (λ (v : Option Value). known_next (seen_globals a) v ++ others) (sym value)) before
+      let one = ap (filter_map simple_of) next ∙ known-one (seen_globals a) (const_value g.init) others in
+      cc (one, value, adds.known, append_assoc (view_known a) (known_next (seen_globals a) (const_value g.init)) others)
 
   pub left_more : (all : List (ℕ × List ConstOp)) → view_left a ++ map (converted look) (filter_map kept_of (next_initialisers a left)) ≡ all
       → view_left b ++ map (converted look) (filter_map kept_of (next_initialisers b rest)) ≡ all
   left_more all before =
       let others = filter_map kept_of (next_initialisers b rest) in
-      added_more (view_left a) (view_left b) _ _ (map (converted look) others) all adds.left
-      (ap (λ (es : List (ℕ × Expression)). map (converted look) (filter_map kept_of es)) next
-      ∙ left-one look (seen_globals a) g.init (const_value g.init) others
-      ∙ sym (λ i. left_next (seen_globals a) (is i) (value i) ++ map (converted look) others)) before
+      let one = ap (λ (es : List (ℕ × Expression)). map (converted look) (filter_map kept_of es)) next
+      ∙ left-one look (seen_globals a) g.init (const_value g.init) others in
+      cc (one, value, is, adds.left, append_assoc (view_left a) (left_next (seen_globals a) ops (const_value g.init)) (map (converted look) others))

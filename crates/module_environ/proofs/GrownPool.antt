@@ -1,6 +1,6 @@
 -- A text stays where it stands in a pool that grows.
-use Rattle.std.proofs.Common.{◌≡◌, ◌≤◌, ◌<◌, ◌^◌, ◌*◌, ℕ, ◌+◌, Bool, true, false, zero, suc, List, [], ◌∷◌, ◌++◌, length, map, slice_get, unwrap_or, All, Option, None, Some, refl, sym, ap, ◌∙◌, cond, append_assoc, arith}
-use Rattle.std.specs.List.{list_any, flat_map, cons_option}
+use Rattle.std.proofs.Common.{◌≡◌, ◌≤◌, ◌<◌, ◌^◌, ◌*◌, ℕ, ◌+◌, Bool, true, false, zero, suc, List, [], ◌∷◌, ◌++◌, length, map, slice_get, unwrap_or, All, refl, sym, ap, ◌∙◌, cond, append_assoc, arith}
+use Rattle.std.specs.List.{list_any, flat_map}
 use Rattle.std.specs.Str.{bytes_eq}
 use Rattle.std.proofs.lemmas.List.Sums.{fold-append}
 use Rattle.std.proofs.lemmas.List.{append-nil, length-append, length-map}
@@ -13,7 +13,6 @@ use Rattle.rule_spec.specs.Lists.{lists_of_module}
 use Rattle.wasm_types.specs.declared.entity.EntityIndex.{EntityIndex}
 use Rattle.wasm_module.specs.declared.initializer.Initializer.{Initializer}
 use Rattle.wasm_module.specs.declared.initializer.Initializer.TheVariants as initializer
-use Rattle.module_customs.specs.Names.{module_names}
 use Rattle.module_environ.specs.Entities.{text_at, resolved_import, resolved_export}
 use Rattle.form_rules.specs.Names.{import_names, imported_names, exported_names}
 use Rattle.module_environ.specs.Pooled.{with_texts, own_name, pool_of, HasText, HasTexts}
@@ -60,7 +59,7 @@ length-grown n old new grows = omega (arith, grows.few, ap length grows.whole �
 pub texts-then : (old now new : List (List ℕ)) (first second both : List (List ℕ)) → both ≡ first ++ second → now ≡ with_texts old first
     → new ≡ with_texts now second → new ≡ with_texts old both
 texts-then old now new first second both whole is then =
-    then ∙ ap (λ (ts : List (List ℕ)). with_texts ts second) is ∙ sym (fold-append with_text old first second) ∙ ap (with_texts old) (sym whole)
+    cc (fold-append with_text old first second)
 
 pub imported-few : (is : List Import) → length (flat_map import_names is) ≡ 2 * length is
 imported-few [] = refl
@@ -82,10 +81,7 @@ names-pooled m few texts whole =
     omega (arith, imports-pooled (exported_names (lists_of_module m).exports) (plain.imports m) texts whole, few.imports, exported-few m few)
 
 pub length-own : (native : Bool) (m : plain.Module) → length (own_name native m) ≤ 1
-length-own native m = by (module_names native m).module_name where
-  by : (o : Option (List ℕ)) → length (cons_option o []) ≤ 1
-  by None = omega arith
-  by (Some name) = omega arith
+length-own native m = grind arith
 
 -- all names, the module's own last
 pub pooled-all : (native : Bool) (m : plain.Module) (old new : List (List ℕ))
@@ -123,9 +119,7 @@ module _ (n : ℕ) (old new : List (List ℕ)) (grows : GrowsBy n old new) where
   pub imports-grown : (is : List Initializer) → All (HasTexts old) is → map (resolved_import new) is ≡ map (resolved_import old) is
   imports-grown [] pooled = refl
   imports-grown (i ∷ is) pooled =
-      let first = import-grown i (All-head (HasTexts old) i is pooled) in
-      let rest = imports-grown is (All-tail (HasTexts old) i is pooled) in
-      λ j. first j ∷ rest j
+      cc (import-grown i (All-head (HasTexts old) i is pooled), imports-grown is (All-tail (HasTexts old) i is pooled))
 
   -- ---- exports
 
@@ -133,6 +127,4 @@ module _ (n : ℕ) (old new : List (List ℕ)) (grows : GrowsBy n old new) where
   exports-grown [] pooled = refl
   exports-grown (e ∷ es) pooled =
       let P : Atom × EntityIndex → Type 0 = λ x. HasText old x.0 in
-      let first = text-grown e.0 (All-head P e es pooled) in
-      let rest = exports-grown es (All-tail P e es pooled) in
-      λ j. (first j, e.1) ∷ rest j
+      cc (text-grown e.0 (All-head P e es pooled), exports-grown es (All-tail P e es pooled))

@@ -1,14 +1,13 @@
 -- Element segments, held one after another.
-use Rattle.std.proofs.Common.{◌≡◌, ◌≢◌, ◌∙◌, ℕ, ◌+◌, ◌<◌, ◌≤◌, zero, suc, Bool, true, false, List, [], ◌∷◌, ◌++◌, length, map, Option, None, Some, refl, sym, ap, subst, arith, inl, inr}
-use Rattle.std.specs.Prelude.{slice_get, unwrap_or, if◌then◌else◌}
+use Rattle.std.proofs.Common.{◌≡◌, ◌≢◌, ◌∙◌, ℕ, ◌+◌, ◌<◌, ◌≤◌, zero, suc, false, List, [], ◌∷◌, ◌++◌, length, map, Option, None, Some, refl, sym, ap, subst, arith, inl, inr}
+use Rattle.std.specs.Prelude.{slice_get, unwrap_or}
 use Rattle.std.specs.Option.{option_map}
-use Rattle.std.specs.List.{cons_option}
 use Rattle.std.proofs.lemmas.Bool.Decides.{eqb_tells}
-use Rattle.std.proofs.lemmas.List.{append-nil, length_push, length-map, map-append}
+use Rattle.std.proofs.lemmas.List.{append-nil, length_push, length-map, map-append, map_push}
 use Rattle.std.proofs.lemmas.List.Elements.{filter-append, filter_map-append}
-use Rattle.entity_map.specs.Secondary.{Defaulted, value_at, with_value}
+use Rattle.entity_map.specs.Secondary.{value_at, with_value}
 use Rattle.entity_map.proofs.SecondaryLemmas.{value_at-with_value, value_at-with_value_elsewhere}
-use Rattle.wasm_spec.specs.Module.{Expression, ElementKind, PassiveElement, DeclaredElement, ActiveElement, Element}
+use Rattle.wasm_spec.specs.Module.{Expression, PassiveElement, DeclaredElement, ActiveElement, Element}
 use Rattle.wasm_index.specs.declared.index.Index.{Index}
 use Rattle.wasm_index.specs.declared.spaces.PassiveElemSpace.{PassiveElemSpace}
 use Rattle.wasm_index.specs.Index.{index_of, number_of}
@@ -20,40 +19,23 @@ use Rattle.wasm_module.specs.declared.table_initialization.TableSegmentElements.
 use Rattle.wasm_module.specs.Elements.{element_type, element_count}
 use Rattle.replay_spec.specs.Startup.{is_passive, passive_elements}
 use Rattle.module_environ.specs.declared.elements.ElementSegments.{ElementSegments}
-use Rattle.module_environ.specs.Initialisers.{ActiveItems, Items, active_in, active_elements, view_segment, passive_items, items_in, view_items, passive_numbers}
+use Rattle.module_environ.specs.Initialisers.{active_in, active_elements, view_segment, passive_items, items_in, view_items, passive_numbers}
 use Rattle.module_environ.specs.Segments.{HoldsElements, HasRoom}
 
 -- ---- numbers among the passive ones
 
 passive_numbers-append : (n m : ℕ) (xs ys : List Element) → m ≡ n + length (passive_elements xs)
     → passive_numbers n (xs ++ ys) ≡ passive_numbers n xs ++ passive_numbers m ys
-passive_numbers-append n m [] ys is = ap (λ k. passive_numbers k ys) (let same : n ≡ m = omega (arith, is) in same)
-passive_numbers-append n m (x ∷ xs) ys is =
-    by (is_passive x.kind) is (λ e. passive_numbers-append (n + 1) m xs ys e) (λ e. passive_numbers-append n m xs ys e)
-  where
-    by : (b : Bool) → m ≡ n + length (if b then x ∷ passive_elements xs else passive_elements xs)
-        → (m ≡ n + 1 + length (passive_elements xs) → passive_numbers (n + 1) (xs ++ ys) ≡ passive_numbers (n + 1) xs ++ passive_numbers m ys)
-        → (m ≡ n + length (passive_elements xs) → passive_numbers n (xs ++ ys) ≡ passive_numbers n xs ++ passive_numbers m ys)
-        → (if b then Some n ∷ passive_numbers (n + 1) (xs ++ ys) else None ∷ passive_numbers n (xs ++ ys))
-        ≡ (if b then Some n ∷ passive_numbers (n + 1) xs else None ∷ passive_numbers n xs) ++ passive_numbers m ys
-    by true e passes other = ap (λ (l : List (Option ℕ)). Some n ∷ l) (passes (omega (arith, e)))
-    by false e passes other = ap (λ (l : List (Option ℕ)). None ∷ l) (other e)
+passive_numbers-append n m [] ys is = grind arith
+passive_numbers-append n m (x ∷ xs) ys is = grind (arith, passive_numbers-append (n + 1) m xs ys, passive_numbers-append n m xs ys)
 
 length-passive_numbers : (n : ℕ) (xs : List Element) → length (passive_numbers n xs) ≡ length xs
 length-passive_numbers n [] = refl
-length-passive_numbers n (x ∷ xs) = by (is_passive x.kind) (length-passive_numbers (n + 1) xs) (length-passive_numbers n xs) where
-  by : (b : Bool) → length (passive_numbers (n + 1) xs) ≡ length xs → length (passive_numbers n xs) ≡ length xs
-      → length (if b then Some n ∷ passive_numbers (n + 1) xs else None ∷ passive_numbers n xs) ≡ suc (length xs)
-  by true passes other = ap suc passes
-  by false passes other = ap suc other
+length-passive_numbers n (x ∷ xs) = grind (arith, length-passive_numbers (n + 1) xs, length-passive_numbers n xs)
 
 few_passive : (xs : List Element) → length (passive_elements xs) ≤ length xs
 few_passive [] = omega arith
-few_passive (x ∷ xs) = by (is_passive x.kind) (few_passive xs) where
-  by : (b : Bool) → length (passive_elements xs) ≤ length xs
-      → length (if b then x ∷ passive_elements xs else passive_elements xs) ≤ length (x ∷ xs)
-  by true le = omega arith
-  by false le = omega arith
+few_passive (x ∷ xs) = grind (arith, few_passive xs)
 
 -- the number at a place of a longer list
 abbrev number_in : List (Option ℕ) → ℕ → Option ℕ
@@ -99,11 +81,11 @@ module _ (look : LookUp) (before : List Element) (e : Element) (old : ElementSeg
       → ((i : ℕ) → option_map number_of (value_at new.numbers i) ≡ number_in (earlier ++ passive_numbers next (e ∷ [])) i)
       → new.count ≡ old.count + 1 → HoldsElements look (before ++ e ∷ []) new
   holds-more new active passive kinds numbers count = record {
-    active = active ∙ ap (λ (l : List ActiveItems). l ++ active_elements look (e ∷ [])) holds.active
-        ∙ sym (filter_map-append (λ (x : Element). active_in look x.kind x.items) before (e ∷ []));
-    passive = passive ∙ ap (λ (l : List Items). l ++ passive_items look (e ∷ [])) holds.passive
-        ∙ sym (map-append (λ (x : Element). items_in look x.items) (passive_elements before) (passive_elements (e ∷ [])))
-        ∙ ap (map (λ (x : Element). items_in look x.items)) (sym (filter-append (λ (x : Element). is_passive x.kind) before (e ∷ [])));
+    active = cc (filter_map-append (λ (x : Element). active_in look x.kind x.items) before (e ∷ []));
+    passive = cc (
+      map-append (λ (x : Element). items_in look x.items) (passive_elements before) (passive_elements (e ∷ [])),
+      filter-append (λ (x : Element). is_passive x.kind) before (e ∷ []),
+    );
     kinds = kinds;
     numbers = λ i. numbers i ∙ ap (λ (ns : List (Option ℕ)). number_in ns i) (sym (passive_numbers-append 0 next before (e ∷ []) (omega arith)));
     count = omega (arith, count, holds.count, length_push before e);
@@ -116,12 +98,9 @@ module _ (look : LookUp) (before : List Element) (e : Element) (old : ElementSeg
       → HoldsElements look (before ++ e ∷ []) new
   holds-other new isnt active passive kinds numbers count =
       holds-more new active
-      (ap (map view_items) passive ∙ sym (append-nil (map view_items old.passive))
-      ∙ ap (λ (b : Bool). map view_items old.passive ++ map (λ (x : Element). items_in look x.items) (if b then e ∷ [] else [])) (sym isnt))
+      (rw (isnt, passive) (simp append-nil))
       (kinds ∙ holds.kinds ∙ ap (map view_kind) (sym passive))
-      (λ i. ap (λ (d : Defaulted (Option (Index PassiveElemSpace))). option_map number_of (value_at d i)) numbers ∙ holds.numbers i
-      ∙ sym (number_in-none earlier i)
-      ∙ ap (λ (b : Bool). number_in (earlier ++ (if b then Some next ∷ [] else None ∷ [])) i) (sym isnt))
+      (λ i. rw (isnt, numbers, number_in-none earlier i) (holds.numbers i))
       count
 
   pub holds-active : (table : Option ℕ) (offset : Expression) (s : TableSegment) (new : ElementSegments) → e.kind ≡ ActiveElement table offset
@@ -132,18 +111,12 @@ module _ (look : LookUp) (before : List Element) (e : Element) (old : ElementSeg
   holds-active table offset s new is at place items active =
       let seen : view_segment s ≡ record { table = unwrap_or table 0; offset = const_ops_of look offset; items = items_in look e.items } =
       λ i. record { table = at i; offset = place i; items = items i } in
-      holds-other new (ap is_passive is)
-      (ap (map view_segment) active ∙ map-append view_segment old.active.items (s ∷ [])
-      ∙ ap (λ (a : ActiveItems). map view_segment old.active.items ++ a ∷ []) seen
-      ∙ ap (λ (k : ElementKind). map view_segment old.active.items ++ cons_option (active_in look k e.items) []) (sym is))
+      holds-other new (ap is_passive is) (rw (active, is) (cc (map_push view_segment old.active.items s, seen)))
 
   pub holds-declared : (new : ElementSegments) → e.kind ≡ DeclaredElement → new.active.items ≡ old.active.items
       → new.passive ≡ old.passive → new.kinds ≡ old.kinds → new.numbers ≡ old.numbers → new.count ≡ old.count + 1
       → HoldsElements look (before ++ e ∷ []) new
-  holds-declared new is active =
-      holds-other new (ap is_passive is)
-      (ap (map view_segment) active ∙ sym (append-nil (map view_segment old.active.items))
-      ∙ ap (λ (k : ElementKind). map view_segment old.active.items ++ cons_option (active_in look k e.items) []) (sym is))
+  holds-declared new is active = holds-other new (ap is_passive is) (rw (active, is) (simp append-nil))
 
   numbers-passive : (n k i : ℕ) → n ≡ length before → k ≡ next
       → option_map number_of (value_at (with_value old.numbers n (Some (index_of {Space = PassiveElemSpace} k))) i)
@@ -166,18 +139,11 @@ module _ (look : LookUp) (before : List Element) (e : Element) (old : ElementSeg
       → new.numbers ≡ with_value old.numbers n (Some (index_of (length old.passive))) → new.count ≡ old.count + 1
       → HoldsElements look (before ++ e ∷ []) new
   holds-passive x n new is items at active passive kinds numbers count =
-      let passes : is_passive e.kind ≡ true = ap is_passive is in
       holds-more new
-      (ap (map view_segment) active ∙ sym (append-nil (map view_segment old.active.items))
-      ∙ ap (λ (k : ElementKind). map view_segment old.active.items ++ cons_option (active_in look k e.items) []) (sym is))
-      (ap (map view_items) passive ∙ map-append view_items old.passive (x ∷ [])
-      ∙ ap (λ (y : Items). map view_items old.passive ++ y ∷ []) items
-      ∙ ap (λ (b : Bool). map view_items old.passive ++ map (λ (x : Element). items_in look x.items) (if b then e ∷ [] else [])) (sym passes))
-      (kinds ∙ ap (λ (ks : List (WasmRefType × ℕ)). ks ++ view_kind x ∷ []) holds.kinds ∙ sym (map-append view_kind old.passive (x ∷ []))
-      ∙ ap (map view_kind) (sym passive))
-      (λ i. ap (λ (d : Defaulted (Option (Index PassiveElemSpace))). option_map number_of (value_at d i)) numbers
-      ∙ numbers-passive n (length old.passive) i (at ∙ holds.count) (counted look before old holds)
-      ∙ ap (λ (b : Bool). number_in (earlier ++ (if b then Some next ∷ [] else None ∷ [])) i) (sym passes))
+      (rw (active, is) (simp append-nil))
+      (rw (passive, is) (cc (map_push view_items old.passive x, items)))
+      (cc (holds.kinds, map_push view_kind old.passive x))
+      (λ i. rw (is, numbers) (numbers-passive n (length old.passive) i (at ∙ holds.count) (counted look before old holds)))
       count
 
 -- ---- few

@@ -1,6 +1,6 @@
 -- A translation holds the lists of its module, in the form in which plans are said to agree with a module.
 use Rattle.std.proofs.Common.{◌≡◌, ◌<◌, ◌+◌, ◌-◌, ℕ, zero, suc, Bool, true, false, List, [], ◌∷◌, ◌++◌, length, map, drop, All, Option, Some, None, refl, sym, ap, ◌∙◌, arith}
-use Rattle.std.specs.Prelude.{is_none, slice_get, unwrap_or, if◌then◌else◌}
+use Rattle.std.specs.Prelude.{slice_get, unwrap_or}
 use Rattle.std.specs.List.{filter_map, cons_option, enumerate_from}
 use Rattle.std.specs.Option.{option_map}
 use Rattle.std.proofs.lemmas.List.{drop-map, drop_at, length-map, map-append}
@@ -41,7 +41,7 @@ use Rattle.wasm_module.specs.declared.table_initialization.TableSegment.{TableSe
 use Rattle.wasm_module.specs.declared.table_initialization.TableSegmentElements.{TableSegmentElements}
 use Rattle.wasm_module.specs.declared.table_initialization.TableSegmentElements.TheVariants as elements
 use Rattle.table_images.specs.Views.{is_func, items_of, active_elements_of, initial_of, defined_table_of, defined_tables_of}
-use Rattle.replay_spec.specs.Values.{Value, any_nulls, const_value}
+use Rattle.replay_spec.specs.Values.{any_nulls}
 use Rattle.replay_spec.specs.Elements.{ActiveElements, is_function_type, has_functions_on_top, defined_table, items_of_element, active_of_element}
 use Rattle.replay_spec.specs.Elements as replay
 use Rattle.replay_spec.specs.Globals.{simple_of, kept_of}
@@ -57,12 +57,8 @@ use Rattle.module_environ.specs.Translation.{HasEntities, CountsImports, HasGlob
 -- ---- lists
 
 map_gathered : {X Y Z : Type 0} (f : Y → Z) (g : X → Option Y) (xs : List X) → map f (filter_map g xs) ≡ filter_map (λ x. option_map f (g x)) xs
-map_gathered {Y = Y} f g [] = refl
-map_gathered {Y = Y} f g (x ∷ xs) = by (filter_map g xs) (map_gathered f g xs) (g x) where
-  by : (ys : List Y) → map f ys ≡ filter_map (λ x. option_map f (g x)) xs → (o : Option Y)
-      → map f (cons_option o ys) ≡ cons_option (option_map f o) (filter_map (λ x. option_map f (g x)) xs)
-  by ys rest None = rest
-  by ys rest (Some y) = λ i. f y ∷ rest i
+map_gathered f g [] = refl
+map_gathered f g (x ∷ xs) = grind (arith, map_gathered f g xs)
 
 -- ---- globals
 
@@ -80,14 +76,7 @@ module _ (look : LookUp) where
       → map held_at (filter_map kept_of (enumerate_from n (map (λ g. g.init) gs))) ≡ filter_map kept_of (enumerate_from n (map (λ g. any_nulls g.init) gs))
   unfolding held_at
   kept_held n [] = refl
-  kept_held n (g ∷ gs) = by (filter_map kept_of (enumerate_from (n + 1) (map (λ g. g.init) gs))) (kept_held (n + 1) gs) (const_value g.init)
-      ∙ (λ i. cons_option (if is_none (sym (const-any g.init) i) then Some (n, any_nulls g.init) else None)
-      (filter_map kept_of (enumerate_from (n + 1) (map (λ g. any_nulls g.init) gs)))) where
-        by : (kept : List (ℕ × Expression)) → map held_at kept ≡ filter_map kept_of (enumerate_from (n + 1) (map (λ g. any_nulls g.init) gs)) → (v : Option Value)
-            → map held_at (cons_option (if is_none v then Some (n, g.init) else None) kept)
-            ≡ cons_option (if is_none v then Some (n, any_nulls g.init) else None) (filter_map kept_of (enumerate_from (n + 1) (map (λ g. any_nulls g.init) gs)))
-        by kept rest None = λ i. (n, seen-is look g.init i) ∷ rest i
-        by kept rest (Some v) = rest
+  kept_held n (g ∷ gs) = grind (arith, kept_held (n + 1) gs, const-any g.init, seen-is look g.init)
 
 pub holds_globals : (m : plain.Module) (t : ModuleTranslation) → HasGlobals m t
     → length t.module.globals - t.module.num_imported_globals ≡ length (lists_of_module m).globals → HoldsGlobals m t
@@ -134,10 +123,9 @@ items_held look (Expressions type items) =
 
 active_held : (look : LookUp) (kind : ElementKind) (items : ElementItems) → option_map plain_active (active_in look kind items) ≡ active_of_element kind items
 unfolding plain_active
-active_held look PassiveElement items = refl
-active_held look DeclaredElement items = refl
 active_held look (ActiveElement table offset) items =
     λ i. Some (record { table = unwrap_or table 0; offset = seen-is look offset i; items = items_held look items i })
+active_held look _ items = refl
 
 elements_held : (look : LookUp) (es : List Element) → map plain_active (active_elements look es) ≡ replay.active_elements es
 elements_held look es =
@@ -158,10 +146,7 @@ one_kind : (c : Composite UnpackedIndex UnpackedIndex)
     → is_function_type (Some c) ≡ names_function (interned.kind_of_type (map_composite place_of place_of c))
 unfolding names_function
 one_kind (Func f) = refl
-one_kind (Array f) = refl
-one_kind (Struct fs) = refl
-one_kind (Cont i) = refl
-one_kind (Exn t) = refl
+one_kind _ = refl
 
 -- a group before others
 within_group : (rest : List Declared) (hs : List (Group ℕ ℕ))
@@ -190,25 +175,8 @@ functions_on_top (types.Abstract _) = false
 
 view_on_top : (h : WasmHeapType) → is_func (top_of h) ≡ functions_on_top (view_heap h)
 unfolding functions_on_top names_function
-view_on_top heap.Extern = refl
-view_on_top heap.NoExtern = refl
 view_on_top heap.Func = refl
-view_on_top (heap.ConcreteFunc i) = refl
-view_on_top heap.NoFunc = refl
-view_on_top heap.Exn = refl
-view_on_top (heap.ConcreteExn i) = refl
-view_on_top heap.NoExn = refl
-view_on_top heap.Cont = refl
-view_on_top (heap.ConcreteCont i) = refl
-view_on_top heap.NoCont = refl
-view_on_top heap.Any = refl
-view_on_top heap.Eq = refl
-view_on_top heap.I31 = refl
-view_on_top heap.Array = refl
-view_on_top (heap.ConcreteArray i) = refl
-view_on_top heap.Struct = refl
-view_on_top (heap.ConcreteStruct i) = refl
-view_on_top heap.None = refl
+view_on_top _ = refl
 
 on_top_same : (m : plain.Module) (h : HeapType) → HeapIsBelow (length (lists_of_module m).types) (heap_of h)
     → functions_on_top (map_heap (look_up_in m) (heap_of h)) ≡ has_functions_on_top (lists_of_module m) h
@@ -216,22 +184,18 @@ unfolding functions_on_top function_at HeapIsBelow
 on_top_same m (Abstract h) below = by h where
   by : (h : AbstractHeapType) → functions_on_top (types.Abstract h) ≡ has_functions_on_top (lists_of_module m) (Abstract h)
   by abstract.Func = refl
-  by abstract.NoFunc = refl
   by _ = refl
 on_top_same m (Concrete (index.Module i)) below = sym (kinds_same (plain.groups m) 0 i (All-head (IsBelow _) (index.Module i) [] below))
-on_top_same m (Concrete (index.RecGroup i)) below = absurd (All-head (IsBelow (length (lists_of_module m).types)) (index.RecGroup i) [] below)
-on_top_same m (Concrete (index.Id i)) below = absurd (All-head (IsBelow (length (lists_of_module m).types)) (index.Id i) [] below)
+on_top_same m (Concrete i) below = absurd (All-head (IsBelow (length (lists_of_module m).types)) i [] below)
+
+pub initial-seen : (v : TableInitialValue) → initial_of v ≡ option_map expression_of (view_first_value v)
+initial-seen initial.Null = refl
+initial-seen (initial.Expr e) = refl
 
 initial_held : (look : LookUp) (v : TableInitialValue) (e : Option Expression) → view_first_value v ≡ option_map (const_ops_of look) e
     → initial_of v ≡ option_map any_nulls e
-initial_held look v e same = seen v ∙ ap (option_map expression_of) same ∙ back e where
-  seen : (v : TableInitialValue) → initial_of v ≡ option_map expression_of (view_first_value v)
-  seen initial.Null = refl
-  seen (initial.Expr e) = refl
-
-  back : (e : Option Expression) → option_map expression_of (option_map (const_ops_of look) e) ≡ option_map any_nulls e
-  back None = refl
-  back (Some e) = ap Some (seen-is look e)
+initial_held look v None same = initial-seen v ∙ ap (option_map expression_of) same
+initial_held look v (Some e) same = initial-seen v ∙ ap (option_map expression_of) same ∙ ap Some (seen-is look e)
 
 module _ (m : plain.Module) where
   table_in : TableType → TableData Name
@@ -251,18 +215,13 @@ module _ (m : plain.Module) where
       → map table_of ts ≡ map (λ (d : TableDef). table_in d.type) ds → map view_first_value vs ≡ first_values (look_up_in m) ds
       → defined_tables_of ts vs ≡ map (defined_table (lists_of_module m)) ds
   tables_held [] vs [] below same values = refl
-  tables_held [] vs (d ∷ ds) below same values = cc
-  tables_held (t ∷ ts) vs [] below same values = cc
-  tables_held (t ∷ ts) [] (d ∷ ds) below same values = cc
   tables_held (t ∷ ts) (v ∷ vs) (d ∷ ds) below same values =
-      let here : table_of t ≡ table_in d.type = cc in
-      let others : map table_of ts ≡ map (λ (d : TableDef). table_in d.type) ds = cc in
-      let value : view_first_value v ≡ option_map (const_ops_of (look_up_in m)) d.init = cc in
-      let others_values : map view_first_value vs ≡ first_values (look_up_in m) ds = cc in
       let P = TableRefersIn (length (lists_of_module m).types) in
-      let one = table_held t v d (All-head P d ds below) here value in
-      let rest = tables_held ts vs ds (All-tail P d ds below) others others_values in
+      let one = table_held t v d (All-head P d ds below) (cc) (cc) in
+      let rest = tables_held ts vs ds (All-tail P d ds below) (cc) (cc) in
       λ i. one i ∷ rest i
+  tables_held (t ∷ ts) [] (d ∷ ds) below same values = cc
+  tables_held _ _ _ below same values = cc
 
   pub holds_tables : (t : ModuleTranslation) → Keeps m → HasEntities m t → CountsImports m t.module → HasElements m t → HoldsTables m t
   unfolding table_in

@@ -17,7 +17,6 @@ use Rattle.wasm_module.specs.Imports.{imported_entity, entity_at, IsFirstImport}
 use Rattle.wasm_module.specs.Record.{record_of}
 use Rattle.init_plan.specs.declared.translation.ModuleTranslation.{ModuleTranslation}
 use Rattle.module_environ.specs.Entities.{NamedEntity, count_of, brought, imports_after, resolved_import}
-use Rattle.module_environ.specs.Imported.{one_if}
 use Rattle.module_environ.specs.Translation.{HasEntities, CountsImports}
 use Rattle.module_environ.proofs.ImportsInTurn.{count_of-push}
 
@@ -26,8 +25,10 @@ abbrev pub named_at : List NamedEntity → ℕ → Option EntityIndex
 named_at es place = option_map (λ (x : NamedEntity). x.2) (slice_get es place)
 
 -- an import of a kind brings the next entity of this kind
-module _ {A : Type 0} (kind : TypeRef → Option A) (make : ℕ → EntityIndex)
-    (makes : (before : List Import) (type : TypeRef) → IsSome (kind type) → brought before type ≡ make (count_of kind before)) where
+abbrev Makes : {A : Type 0} → (TypeRef → Option A) → (ℕ → EntityIndex) → Type 0
+Makes kind make = (before : List Import) (type : TypeRef) → IsSome (kind type) → brought before type ≡ make (count_of kind before)
+
+module _ {A : Type 0} (kind : TypeRef → Option A) (make : ℕ → EntityIndex) (makes : Makes kind make) where
   pub brought-at : (before is : List Import) (n : ℕ) → n < count_of kind is
       → (place : ℕ) × (named_at (imports_after before is) place ≡ Some (make (count_of kind before + n)))
   brought-at before [] n lt = absurd (omega arith)
@@ -41,48 +42,33 @@ module _ {A : Type 0} (kind : TypeRef → Option A) (make : ℕ → EntityIndex)
             → (place : ℕ) × (named_at (imports_after (before ++ i ∷ []) is) place ≡ Some (make (count_of kind (before ++ i ∷ []) + k))))
             → (place : ℕ) × (named_at (imports_after before (i ∷ is)) place ≡ Some (make (count_of kind before + m)))
         by None none m below others =
-            let found = others m below in
-            let same : count_of kind (before ++ i ∷ []) + m ≡ count_of kind before + m =
-            omega (arith, count_of-push kind before i, ap one_if none) in
-            (suc found.0, found.1 ∙ ap (λ (k : ℕ). Some (make k)) same)
-        by (Some x) is_one zero below others = (
-          zero,
-          ap Some (makes before i.type (ap is_some is_one)
-              ∙ ap make (let same : count_of kind before ≡ count_of kind before + 0 = omega arith in same)),
-        )
+            let found = others m below in (suc found.0, grind (arith, found.1, count_of-push kind before i, none))
+        by (Some x) is_one zero below others = (zero, grind (arith, makes before i.type (ap is_some is_one)))
         by (Some x) is_one (suc m) below others =
-            let found = others m (omega (arith, below)) in
-            let same : count_of kind (before ++ i ∷ []) + m ≡ count_of kind before + suc m =
-            omega (arith, count_of-push kind before i, ap one_if is_one) in
-            (suc found.0, found.1 ∙ ap (λ (k : ℕ). Some (make k)) same)
+            let found = others m (omega (arith, below)) in (suc found.0, grind (arith, found.1, count_of-push kind before i, is_one))
 
   pub placed : (is : List Import) (n : ℕ) → n < count_of kind is → (place : ℕ) × (named_at (imports_after [] is) place ≡ Some (make n))
   placed is n lt = let found = brought-at [] is n lt in (found.0, found.1 ∙ ap (λ (k : ℕ). Some (make k)) (zero-add n))
 
 -- ---- of each kind
 
-functions_make : (before : List Import) (type : TypeRef) → IsSome (function_import type)
-    → brought before type ≡ entity.Function (index_of (count_of function_import before))
+functions_make : Makes function_import (λ n. entity.Function (index_of n))
 functions_make before (imported.Func t) some = refl
 functions_make before _ some = absurd (cc)
 
-tables_make : (before : List Import) (type : TypeRef) → IsSome (table_import type)
-    → brought before type ≡ entity.Table (index_of (count_of table_import before))
+tables_make : Makes table_import (λ n. entity.Table (index_of n))
 tables_make before (imported.Table t) some = refl
 tables_make before _ some = absurd (cc)
 
-memories_make : (before : List Import) (type : TypeRef) → IsSome (memory_import type)
-    → brought before type ≡ entity.Memory (index_of (count_of memory_import before))
+memories_make : Makes memory_import (λ n. entity.Memory (index_of n))
 memories_make before (imported.Memory t) some = refl
 memories_make before _ some = absurd (cc)
 
-globals_make : (before : List Import) (type : TypeRef) → IsSome (global_import type)
-    → brought before type ≡ entity.Global (index_of (count_of global_import before))
+globals_make : Makes global_import (λ n. entity.Global (index_of n))
 globals_make before (imported.Global t) some = refl
 globals_make before _ some = absurd (cc)
 
-tags_make : (before : List Import) (type : TypeRef) → IsSome (tag_import type)
-    → brought before type ≡ entity.Tag (index_of (count_of tag_import before))
+tags_make : Makes tag_import (λ n. entity.Tag (index_of n))
 tags_make before (imported.Tag t) some = refl
 tags_make before _ some = absurd (cc)
 

@@ -1,9 +1,9 @@
 -- Imports, counted and given their entities one after another.
-use Rattle.std.proofs.Common.{◌≡◌, ◌≤◌, ◌<◌, ◌^◌, ℕ, ◌+◌, List, [], ◌∷◌, ◌++◌, length, Option, None, Some, suc, refl, sym, ap, subst, ◌∙◌, append_assoc, arith}
-use Rattle.std.specs.List.{filter_map, flat_map, cons_option}
+use Rattle.std.proofs.Common.{◌≡◌, ◌≤◌, ◌<◌, ◌^◌, ℕ, ◌+◌, List, [], ◌∷◌, ◌++◌, length, get_or, Option, sym, ap, subst, ◌∙◌, append_assoc, arith}
+use Rattle.std.specs.List.{filter_map, flat_map}
 use Rattle.std.proofs.lemmas.List.{append-nil, length-append, map_push}
 use Rattle.std.proofs.lemmas.List.Concat.{flat_map-append}
-use Rattle.std.proofs.lemmas.List.Elements.{All-push, All-weaker, filter_map-append}
+use Rattle.std.proofs.lemmas.List.Elements.{All-push, filter_map-append}
 use Rattle.wasm_spec.specs.declared.entities.TypeRef.{TypeRef}
 use Rattle.wasm_spec.specs.declared.entities.TypeRef.TheVariants as imported
 use Rattle.wasm_spec.specs.Module.{Import, function_import, table_import, memory_import, global_import, tag_import}
@@ -16,27 +16,18 @@ use Rattle.module_environ.specs.Entities.{NamedEntity, count_of, brought, import
 use Rattle.module_environ.specs.Imported.{AreCounted, HaveIndices, AreImported, one_if, counted, next_entity}
 use Rattle.form_rules.specs.Names.{import_names}
 use Rattle.module_environ.specs.Pooled.{with_texts, HasTexts}
+use Rattle.module_environ.proofs.Filling.{length-filter_map}
 use Rattle.module_environ.proofs.GrownPool.{GrowsBy, grows-within, texts-then, imports-pooled, names-grown, imports-grown}
 
 -- ---- counts
 
-length-one : {A : Type 0} (o : Option A) → length (cons_option o []) ≡ one_if o
-length-one None = refl
-length-one (Some x) = refl
-
 pub count_of-push : {A : Type 0} (kind : TypeRef → Option A) (is : List Import) (i : Import)
     → count_of kind (is ++ i ∷ []) ≡ count_of kind is + one_if (kind i.type)
 count_of-push kind is i =
-    ap length (filter_map-append (λ (j : Import). kind j.type) is (i ∷ []))
-    ∙ length-append (filter_map (λ (j : Import). kind j.type) is) (cons_option (kind i.type) [])
-    ∙ ap (λ (n : ℕ). count_of kind is + n) (length-one (kind i.type))
+    grind (arith, filter_map-append (λ (j : Import). kind j.type) is (i ∷ []), length-append {A = _} (filter_map (λ (j : Import). kind j.type) is))
 
-pub count_of-le : {A : Type 0} (kind : TypeRef → Option A) (is : List Import) → count_of kind is ≤ length is
-count_of-le kind [] = omega arith
-count_of-le {A = A} kind (i ∷ is) = by (kind i.type) (filter_map (λ (j : Import). kind j.type) is) (count_of-le kind is) where
-  by : (o : Option A) (others : List A) → length others ≤ length is → length (cons_option o others) ≤ suc (length is)
-  by None others le = omega (arith, le)
-  by (Some x) others le = omega (arith, le)
+count_of-le : {A : Type 0} (kind : TypeRef → Option A) (is : List Import) → count_of kind is ≤ length is
+count_of-le kind is = length-filter_map (λ (i : Import). kind i.type) is
 
 pub counted-push : (is : List Import) (i : Import) (c : ImportCounts) → AreCounted is c → AreCounted (is ++ i ∷ []) (counted c i.type)
 counted-push is i c h = record {
@@ -87,8 +78,7 @@ imported-push was is i old new before one c put pooled resolved h =
           ∙ ap (λ (e : NamedEntity). imports_after [] is ++ e ∷ []) (resolved
           ∙ ap (λ (x : EntityIndex). (let named : NamedEntity = (i.space, i.name, x) in named)) (next-brought is c h.counted i.type))
           ∙ sym (imports_after-push [] is i);
-      pooled = All-push (HasTexts new) before one
-          (All-weaker (HasTexts old) (HasTexts new) (names-grown 2 old new grows) before h.pooled) pooled;
+      pooled = All-push (HasTexts new) before one (λ k d lt. names-grown 2 old new grows (get_or before k d) (h.pooled k d lt)) pooled;
       counted = counted-push is i c h.counted;
       pool = texts-then was old new (flat_map import_names is) (import_names i) (flat_map import_names (is ++ i ∷ []))
           (flat_map-append import_names is (i ∷ [])) h.pool put;

@@ -1,13 +1,9 @@
-mod Looking
 mod InTurn
 mod FromRules
 mod ReferencesInRange
 mod RuledSections
 mod FilledInitialisers
 mod FilledSections
-mod Started
-mod BuilderAfterTags
-mod Named
 mod AskedHints
 mod WayPlaces
 mod WholeTranslation
@@ -15,7 +11,6 @@ pub mod Answering
 pub mod Numbering
 pub mod NotingEscapes
 pub mod Typed
-pub mod Signatures
 pub mod Referring
 pub mod FirstCauses
 pub mod Escaped
@@ -25,21 +20,17 @@ mod ExportsInTurn
 mod ImportPlaces
 mod FilledEntities
 mod Filling
-pub mod GatheredTables
 mod GatheredGlobals
 pub mod HeldExpressions
 pub mod HoldsLists
 pub mod BySection
 pub mod HeldElements
 pub mod DataSteps
-pub mod ElementsNoted
 pub mod MemoriesReady
 pub mod TablesReady
-pub mod Bodies
 pub mod DeclaredKinds
 pub mod DeclaredLooks
 pub mod Naming
-mod Places
 pub mod Excepting
 pub mod Tagging
 pub mod Agreeing

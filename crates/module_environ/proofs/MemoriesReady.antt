@@ -1,10 +1,10 @@
 -- The memories of a translated module may be planned.
-use Rattle.std.proofs.Common.{◌≡◌, ◌∙◌, ℕ, ◌+◌, ◌<◌, ◌≤◌, ◌⊎◌, List, [], ◌∷◌, ◌++◌, length, map, Option, Some, None, false, sym, ap, subst, arith, inr, refl}
+use Rattle.std.proofs.Common.{◌≡◌, ◌∙◌, ℕ, ◌+◌, ◌<◌, ◌≤◌, ◌⊎◌, List, [], ◌∷◌, ◌++◌, length, map, get_or, Option, Some, None, false, sym, ap, subst, arith, inr, refl}
 use Rattle.std.specs.Prelude.{All, IfSome, unwrap_or, nat_eq}
-use Rattle.std.specs.List.{IsDistinct, cons_option, filter_map}
+use Rattle.std.specs.List.{IsDistinct, filter_map}
 use Rattle.std.proofs.lemmas.Bool.{ne_eqb}
 use Rattle.std.proofs.lemmas.List.{length-map, length-append}
-use Rattle.std.proofs.lemmas.List.Elements.{All-nil, All-cons, All-head, All-tail, All-map, All-weaker, recursion_from_All}
+use Rattle.std.proofs.lemmas.List.Elements.{All-append, All-nil, All-cons, All-map, recursion_from_All}
 use Rattle.std.proofs.lemmas.Map.Keys.{IsDistinct-cons}
 use Rattle.wasm_spec.specs.declared.entities.MemoryType.{MemoryType}
 use Rattle.wasm_spec.specs.Module.{DataKind, Passive, Active, Segment, Module, imported_memories, defined_memories, memories, segments, HasFewEntries}
@@ -21,7 +21,7 @@ use Rattle.init_plan.specs.declared.translation.ModuleTranslation.{ModuleTransla
 use Rattle.init_plan.specs.Ready.{MemoryHalfIsReady}
 use Rattle.module_environ.specs.Initialisers.{passive_data_in, passive_data_from}
 use Rattle.module_environ.specs.Translation.{HasData, HasEntities, CountsImports}
-use Rattle.module_environ.proofs.Filling.{length-filter_map}
+use Rattle.module_environ.proofs.Filling.{length-filter_map, All-gathered}
 
 -- ---- active segments
 
@@ -30,24 +30,17 @@ active_among ss = filter_map (λ s. active_of_kind s.kind s.bytes) ss
 
 active_in_range : (n : ℕ) (l : Lists) (ss : List Segment) → length l.memories ≡ n
     → All (λ (s : Segment). NamesMemory l s.kind) ss → All (λ (s : ActiveSegment). s.memory < n) (active_among ss)
-active_in_range n l [] is named = All-nil (λ (s : ActiveSegment). s.memory < n)
-active_in_range n l (s ∷ ss) is named =
-    with_kind s.kind (All-head (λ (x : Segment). NamesMemory l x.kind) s ss named)
-    (active_in_range n l ss is (All-tail (λ (x : Segment). NamesMemory l x.kind) s ss named)) where
-      with_kind : (kind : DataKind) → NamesMemory l kind → All (λ (x : ActiveSegment). x.memory < n) (active_among ss)
-          → All (λ (x : ActiveSegment). x.memory < n) (cons_option (active_of_kind kind s.bytes) (active_among ss))
-      with_kind Passive named others = others
-      with_kind (Active memory offset) named others = All-cons (λ (x : ActiveSegment). x.memory < n) _ (active_among ss) (omega arith) others
+active_in_range n l ss is named =
+    All-gathered (λ (s : ActiveSegment). s.memory < n) (λ (s : Segment). active_of_kind s.kind s.bytes) ss (λ k d lt. each _ _ (named k d lt)) where
+      each : (kind : DataKind) (bytes : List ℕ) → NamesMemory l kind → IfSome (active_of_kind kind bytes) (λ (s : ActiveSegment). s.memory < n)
+      each Passive bytes named = tt
+      each (Active memory offset) bytes named = omega arith
 
 -- ---- passive segments
 
 few_passive : (n : ℕ) (ss : List Segment) → length (passive_data_from n ss) ≤ length ss
 few_passive n [] = omega arith
-few_passive n (s ∷ ss) = with_kind s.kind (few_passive (n + 1) ss) where
-  with_kind : (kind : DataKind) → length (passive_data_from (n + 1) ss) ≤ length ss
-      → length (passive_data_in kind n s.bytes ++ passive_data_from (n + 1) ss) ≤ length (s ∷ ss)
-  with_kind Passive few = omega arith
-  with_kind (Active memory offset) few = omega arith
+few_passive n (s ∷ ss) = grind (arith, few_passive (n + 1) ss)
 
 -- an index from low on and below high
 abbrev IsWithin : ℕ → ℕ → ℕ × List ℕ → Type 0
@@ -55,11 +48,11 @@ IsWithin low high p = (low ≤ p.0) × (p.0 < high)
 
 passive_within : (low high n : ℕ) (ss : List Segment) → low ≤ n → n + length ss ≤ high → All (IsWithin low high) (passive_data_from n ss)
 passive_within low high n [] from to = All-nil (IsWithin low high)
-passive_within low high n (s ∷ ss) from to = with_kind s.kind (passive_within low high (n + 1) ss (omega arith) (omega arith)) where
-  with_kind : (kind : DataKind) → All (IsWithin low high) (passive_data_from (n + 1) ss)
-      → All (IsWithin low high) (passive_data_in kind n s.bytes ++ passive_data_from (n + 1) ss)
-  with_kind Passive others = All-cons (IsWithin low high) (n, s.bytes) (passive_data_from (n + 1) ss) (omega arith, omega arith) others
-  with_kind (Active memory offset) others = others
+passive_within low high n (s ∷ ss) from to =
+    All-append (IsWithin low high) (passive_data_in s.kind n s.bytes) _ (here s.kind) (passive_within low high (n + 1) ss (omega arith) (omega arith)) where
+      here : (kind : DataKind) → All (IsWithin low high) (passive_data_in kind n s.bytes)
+      here Passive = All-cons (IsWithin low high) (n, s.bytes) [] (omega arith, omega arith) (All-nil (IsWithin low high))
+      here _ = All-nil (IsWithin low high)
 
 passive_distinct : (n : ℕ) (ss : List Segment) → IsDistinct nat_eq (map (λ p. p.0) (passive_data_from n ss))
 unfolding IsDistinct
@@ -72,10 +65,9 @@ passive_distinct n (s ∷ ss) = with_kind s.kind (passive_distinct (n + 1) ss) w
       → IsDistinct nat_eq (map (λ p. p.0) (passive_data_in kind n s.bytes ++ passive_data_from (n + 1) ss))
   with_kind Passive others =
       let within = passive_within (n + 1) (n + 1 + length ss) (n + 1) ss (omega arith) (omega arith) in
-      let differ = All-weaker (IsWithin (n + 1) (n + 1 + length ss)) (λ (p : ℕ × List ℕ). nat_eq n p.0 ≡ false) others_differ
-      (passive_data_from (n + 1) ss) within in
       IsDistinct-cons nat_eq n _ (recursion_from_All (λ (k : ℕ). nat_eq n k ≡ false) _
-      (All-map (λ (k : ℕ). nat_eq n k ≡ false) (λ (p : ℕ × List ℕ). p.0) (passive_data_from (n + 1) ss) differ)) others
+      (All-map (λ (k : ℕ). nat_eq n k ≡ false) (λ (p : ℕ × List ℕ). p.0) (passive_data_from (n + 1) ss)
+      (λ k d lt. others_differ (get_or (passive_data_from (n + 1) ss) k d) (within k d lt)))) others
   with_kind (Active memory offset) others = others
 
 -- ---- memories
@@ -86,10 +78,8 @@ page_size_of (Some log2) h = h
 
 page_sizes : (types : List MemoryType) → All HasLimits types
     → All (λ (m : Memory). (m.page_size_log2 ≡ 0) ⊎ (m.page_size_log2 ≡ 16)) (map memory_of types)
-page_sizes types h =
-    All-map (λ (m : Memory). (m.page_size_log2 ≡ 0) ⊎ (m.page_size_log2 ≡ 16)) memory_of types
-    (All-weaker HasLimits (λ (t : MemoryType). (unwrap_or t.page_size_log2 16 ≡ 0) ⊎ (unwrap_or t.page_size_log2 16 ≡ 16))
-    (λ t p. page_size_of t.page_size_log2 p.page_size) types h)
+page_sizes types h = All-map (λ (m : Memory). (m.page_size_log2 ≡ 0) ⊎ (m.page_size_log2 ≡ 16)) memory_of types
+    (λ k d lt. page_size_of (get_or types k d).page_size_log2 (h k d lt).page_size)
 
 -- ---- the whole
 
@@ -117,6 +107,5 @@ memories-ready m t data' entities counts kept few =
       few_passive = let le = few_passive 0 ss in omega (arith, passive, le, few.segments);
       distinct = subst (λ (ps : List (ℕ × List ℕ)). IsDistinct nat_eq (map (λ p. p.0) ps)) (sym data'.passive) (passive_distinct 0 ss);
       numbered = subst (All (λ (p : ℕ × List ℕ). p.0 < 4294967295)) (sym data'.passive)
-          (All-weaker (IsWithin 0 4294967295) (λ (p : ℕ × List ℕ). p.0 < 4294967295) (λ p within. within.1) (passive_data_from 0 ss)
-          (passive_within 0 4294967295 0 ss (omega arith) (omega (arith, few.segments))));
+          (λ k d lt. (passive_within 0 4294967295 0 ss (omega arith) (omega (arith, few.segments)) k d lt).1);
     }

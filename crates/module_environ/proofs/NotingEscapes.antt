@@ -1,8 +1,8 @@
 -- References that are noted one after another are noted in one.
-use Rattle.std.proofs.Common.{◌≡◌, ℕ, ◌+◌, ◌<◌, Bool, true, false, List, [], ◌∷◌, ◌++◌, length, get_or, map, take, set, refl, ap, sym, ◌∙◌, subst}
-use Rattle.std.specs.Prelude.{◌==◌, if◌then◌else◌}
-use Rattle.std.specs.List.{list_any, range_with_len}
-use Rattle.std.proofs.lemmas.List.{take_more, length-set, map-append, map-id}
+use Rattle.std.proofs.Common.{◌≡◌, ℕ, ◌+◌, ◌<◌, List, [], ◌∷◌, ◌++◌, length, get_or, map, take, set, refl, sym, ◌∙◌, subst}
+use Rattle.std.specs.Prelude.{◌==◌}
+use Rattle.std.specs.List.{range_with_len}
+use Rattle.std.proofs.lemmas.List.{length-set, map_more, map-id}
 use Rattle.std.proofs.lemmas.List.Sums.{fold-append}
 use Rattle.std.proofs.lemmas.List.FromFn.{map-range_with_len_more}
 use Rattle.type_spec.specs.Firsts.{with_first, firsts_after}
@@ -14,23 +14,23 @@ pub firsts-append : (known xs ys : List ℕ) → firsts_after (firsts_after know
 firsts-append known xs ys = sym (fold-append (with_first (λ k n. k == n)) known xs ys)
 
 pub after_escapes-append : (s : EscapeLog) (xs ys : List ℕ) → after_escapes (after_escapes s xs) ys ≡ after_escapes s (xs ++ ys)
-after_escapes-append s xs ys = λ i. record { count = s.count; order = firsts-append s.order xs ys i }
+after_escapes-append s xs ys = simp firsts-append
+
+-- noted twice, and so in one
+pub noted-both : (f g h : EscapeLog) (xs ys zs : List ℕ) → g ≡ after_escapes f xs → h ≡ after_escapes g ys → zs ≡ xs ++ ys → h ≡ after_escapes f zs
+noted-both f g h xs ys zs first second both = rw (second, first, both) (simp firsts-append)
 
 pub after_escapes-more : {A : Type 0} (number : A → ℕ) (s t u : EscapeLog) (xs : List A) (i : ℕ) (x : A) → i < length xs → x ≡ get_or xs i x
     → t ≡ after_escapes s (map number (take i xs)) → u ≡ after_escapes t (number x ∷ []) → u ≡ after_escapes s (map number (take (i + 1) xs))
 after_escapes-more number s t u xs i x lt is before now =
-    now ∙ ap (λ f. after_escapes f (number x ∷ [])) before ∙ after_escapes-append s (map number (take i xs)) (number x ∷ [])
-    ∙ ap (after_escapes s) (sym (map-append number (take i xs) (x ∷ [])) ∙ ap (map number) (ap (λ y. take i xs ++ y ∷ []) is ∙ sym (take_more xs i x lt)))
+    noted-both s t u (map number (take i xs)) (number x ∷ []) (map number (take (i + 1) xs)) before now (cc (map_more number xs i x lt))
 
 range-more : (start n : ℕ) → range_with_len start (n + 1) ≡ range_with_len start n ++ (start + n) ∷ []
-range-more start n = sym (map-id (range_with_len start (n + 1))) ∙ map-range_with_len_more (λ k. k) start n (start + n) refl
-    ∙ ap (λ xs. xs ++ (start + n) ∷ []) (map-id (range_with_len start n))
+range-more start n = cc (map-id (range_with_len start (n + 1)), map-range_with_len_more (λ k. k) start n (start + n) refl, map-id (range_with_len start n))
 
 pub after_escapes-next : (s t u : EscapeLog) (start n : ℕ) → t ≡ after_escapes s (range_with_len start n) → u ≡ after_escapes t ((start + n) ∷ [])
     → u ≡ after_escapes s (range_with_len start (n + 1))
-after_escapes-next s t u start n before now =
-    now ∙ ap (λ f. after_escapes f ((start + n) ∷ [])) before ∙ after_escapes-append s (range_with_len start n) ((start + n) ∷ [])
-    ∙ ap (after_escapes s) (sym (range-more start n))
+after_escapes-next s t u start n before now = noted-both s t u (range_with_len start n) ((start + n) ∷ []) (range_with_len start (n + 1)) before now (range-more start n)
 
 -- what is kept, seen as one record
 pub seen-new : (s : EscapeLog) (numbers order after : List ℕ) (f : ℕ) → AreNumbers numbers order → record { count = length numbers; order = order } ≡ s

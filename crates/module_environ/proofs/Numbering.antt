@@ -1,10 +1,10 @@
 -- One more function is met: it gets the next number, and the others keep theirs.
 use Rattle.std.proofs.Common.{◌≡◌, ◌≢◌, ℕ, ◌+◌, ◌<◌, ◌≤◌, true, false, eqb, List, [], ◌∷◌, ◌++◌, length, get_or, set, ap, sym, ◌∙◌, subst, arith, inl, inr, length-append}
-use Rattle.std.specs.Prelude.{◌==◌, All, if◌then◌else◌}
+use Rattle.std.specs.Prelude.{◌==◌, All}
 use Rattle.std.specs.List.{position_or_len, list_any, AllPairs, Any}
 use Rattle.std.proofs.lemmas.Bool.{cases_lt, cases_eq, eqb-true}
 use Rattle.std.proofs.lemmas.Bool.Decides.{nat_tests, Decides-eqb}
-use Rattle.std.proofs.lemmas.List.Elements.{All-from_get_or, All-push, All-weaker}
+use Rattle.std.proofs.lemmas.List.Elements.{All-from_get_or, All-push}
 use Rattle.std.proofs.lemmas.List.Folds.{position_or_len_push, list_any_none, list_any_at, Any-from_list_any}
 use Rattle.std.proofs.lemmas.List.Sums.{prefix_len-le-length, fails_before_first, passes_at_first}
 use Rattle.std.proofs.lemmas.List.{get_or_default, get_or_append_left, get_or_push, get_or-set_same, get_or-set_other, length-set}
@@ -28,22 +28,19 @@ pub number-none : (order : List ℕ) (f : ℕ) → place order f ≡ length orde
 number-none order f e = grind (arith, nat_tests)
 
 pub place-new : (order : List ℕ) (f : ℕ) → place order f ≡ length order → place (order ++ f ∷ []) f ≡ length order
-place-new order f e = position_or_len_push (λ k. k == f) order f ∙ grind (arith, nat_tests)
+place-new order f e = grind (arith, nat_tests, position_or_len_push (λ k. k == f) order f)
 
 pub place-old : (order : List ℕ) (f g : ℕ) → place order g < length order → place (order ++ f ∷ []) g ≡ place order g
-place-old order f g lt = position_or_len_push (λ k. k == g) order f ∙ grind (arith, nat_tests)
+place-old order f g lt = grind (arith, nat_tests, position_or_len_push (λ k. k == g) order f)
 
 pub place-other : (order : List ℕ) (f g : ℕ) → (f ≡ g → ⊥) → place order g ≡ length order → place (order ++ f ∷ []) g ≡ length order + 1
-place-other order f g apart e = position_or_len_push (λ k. k == g) order f ∙ grind (arith, nat_tests)
+place-other order f g apart e = grind (arith, nat_tests, position_or_len_push (λ k. k == g) order f)
 
 -- a list of numbers below a bound, each once, is no longer than the bound
 distinct : (order : List ℕ) → StandOnce order → AllPairs (λ x y. x ≢ y) order
 distinct order once i j d lt in' same =
-    let at-i : get_or order i d ≡ get_or order i 0 = get_or_default order i d 0 (omega arith) in
-    let at-j : get_or order j d ≡ get_or order j 0 = get_or_default order j d 0 in' in
-    let e : get_or order i 0 ≡ get_or order j 0 = cc in
-    let p : place order (get_or order i 0) ≡ place order (get_or order j 0) = ap (place order) e in
-    omega (arith, p, once i (omega arith), once j in')
+    let p : get_or order i 0 ≡ get_or order j 0 = cc (get_or_default order i d 0 (omega arith), get_or_default order j d 0 in') in
+    omega (arith, ap (place order) p, once i (omega arith), once j in')
 
 pub order-few : (order : List ℕ) (count : ℕ) → StandOnce order → All (λ f. f < count) order → length order ≤ count
 order-few order count once below =
@@ -51,7 +48,7 @@ order-few order count once below =
     (λ q e. Any-at (Any-from_list_any (eqb q) order e))
   where
     Any-at : {q : ℕ} → Any (λ x. eqb q x ≡ true) order → q < count
-    Any-at {q} a = subst (λ x. x < count) (a.3 ∙ sym (eqb-true q a.1 a.4)) (below a.0 a.1 a.2)
+    Any-at {q} a = grind (arith, a.3, eqb-true q a.1 a.4, below a.0 a.1 a.2)
 
 -- whether a function was met is told by its first place
 pub met-place : (order : List ℕ) (f : ℕ) → place order f < length order → list_any (λ k. k == f) order ≡ true
@@ -65,10 +62,7 @@ unmet-place order f e =
 StandOnce-more : (order : List ℕ) (f : ℕ) → StandOnce order → place order f ≡ length order → StandOnce (order ++ f ∷ [])
 StandOnce-more order f once new k lt =
     elim (cases_lt k (length order)) [
-      | inl old ↦
-          let g = get_or order k 0 in
-          let at : get_or (order ++ f ∷ []) k 0 ≡ g = get_or_append_left order (f ∷ []) 0 k old in
-          ap (place (order ++ f ∷ [])) at ∙ place-old order f g (omega (arith, once k old)) ∙ once k old
+      | inl old ↦ ap (place (order ++ f ∷ [])) (get_or_append_left order (f ∷ []) 0 k old) ∙ grind (arith, place-old order f (get_or order k 0), once k)
       | inr ge ↦
           let e : length order ≡ k = omega (arith, length-append order (f ∷ [])) in
           ap (place (order ++ f ∷ [])) (get_or_push order f 0 k e) ∙ place-new order f new ∙ e
@@ -78,31 +72,16 @@ StandOnce-more order f once new k lt =
 pub unmet : (numbers order : List ℕ) (f : ℕ) → AreNumbers numbers order → f < length numbers → get_or numbers f 0 ≡ 4294967295
     → place order f ≡ length order
 unmet numbers order f kept in' e =
-    elim (cases_lt (place order f) (length order)) [
-      | inl lt ↦ absurd (omega (arith, e, kept.number f in', number-met order f lt, order-few order (length numbers) kept.once kept.met, kept.few))
-      | inr ge ↦ omega (arith, place-le order f)
-    ]
+    grind (arith, kept.number f, number-met order f, order-few order (length numbers) kept.once kept.met, kept.few, place-le order f)
 
 pub met : (numbers order : List ℕ) (f : ℕ) → AreNumbers numbers order → f < length numbers → (get_or numbers f 0 ≡ 4294967295 → ⊥)
     → place order f < length order
-met numbers order f kept in' apart =
-    elim (cases_lt (place order f) (length order)) [
-      | inl lt ↦ lt
-      | inr ge ↦ absurd (apart (kept.number f in' ∙ number-none order f (omega (arith, place-le order f))))
-    ]
+met numbers order f kept in' apart = grind (arith, kept.number f, number-none order f, place-le order f)
 
 number-push : (numbers order : List ℕ) (f g : ℕ) → AreNumbers numbers order → place order f ≡ length order → (g ≡ f → ⊥) → g < length numbers
     → get_or numbers g 0 ≡ number_among (order ++ f ∷ []) g
 number-push numbers order f g kept new apart in' =
-    elim (cases_lt (place order g) (length order)) [
-      | inl lt ↦
-          let e = place-old order f g lt in
-          kept.number g in' ∙ number-met order g lt ∙ sym (number-met (order ++ f ∷ []) g (omega (arith, e, length-append order (f ∷ []))) ∙ e)
-      | inr ge ↦
-          let at : place order g ≡ length order = omega (arith, place-le order g) in
-          let e = place-other order f g (λ same. apart (sym same)) at in
-          kept.number g in' ∙ number-none order g at ∙ sym (number-none (order ++ f ∷ []) g (e ∙ sym (length-append order (f ∷ []))))
-    ]
+    grind (arith, kept.number g, nat_tests, position_or_len_push (λ k. k == g) order f, length-append order (f ∷ []), place-le order g)
 
 pub AreNumbers-more : (numbers order : List ℕ) (f : ℕ) → AreNumbers numbers order → f < length numbers → get_or numbers f 0 ≡ 4294967295
     → AreNumbers (set numbers f (length order)) (order ++ f ∷ [])
@@ -113,15 +92,12 @@ AreNumbers-more numbers order f kept in' e =
     record {
       number = λ g lt.
           elim (cases_eq g f) [
-            | inl same ↦
-                let at = place-new order f new in
-                ap (λ x. get_or (set numbers f (length order)) x 0) same ∙ get_or-set_same numbers f (length order) 0 in' ∙ sym at
-                ∙ sym (number-met (order ++ f ∷ []) f (omega (arith, at, one-more))) ∙ ap (number_among (order ++ f ∷ [])) (sym same)
+            | inl same ↦ subst (λ h. get_or (set numbers f (length order)) h 0 ≡ number_among (order ++ f ∷ []) h) (sym same)
+                (grind (arith, get_or-set_same numbers f (length order) 0, number-met (order ++ f ∷ []) f, place-new order f new))
             | inr apart ↦ get_or-set_other numbers f g (length order) 0 apart ∙ number-push numbers order f g kept new apart (omega (arith, lt, long))
           ];
       met = All-push (λ g. g < length (set numbers f (length order))) order f
-          (All-weaker (λ g. g < length numbers) (λ g. g < length (set numbers f (length order))) (λ g lt. omega (arith, lt, long)) order kept.met)
-          (omega (arith, in', long));
+          (λ k d lt. omega (arith, kept.met k d lt, long)) (omega (arith, in', long));
       once = StandOnce-more order f kept.once new;
       few = omega (arith, long, kept.few);
     }
@@ -129,10 +105,8 @@ AreNumbers-more numbers order f kept in' e =
 -- and so the functions that were met are as they are to be
 pub after_escapes-new : (numbers order : List ℕ) (f : ℕ) → AreNumbers numbers order → f < length numbers → get_or numbers f 0 ≡ 4294967295
     → order ++ f ∷ [] ≡ firsts_after order (f ∷ [])
-after_escapes-new numbers order f kept in' e =
-    ap (λ b. if b then order else order ++ f ∷ []) (sym (unmet-place order f (unmet numbers order f kept in' e)))
+after_escapes-new numbers order f kept in' e = grind (arith, unmet-place order f (unmet numbers order f kept in' e))
 
 pub after_escapes-old : (numbers order : List ℕ) (f : ℕ) → AreNumbers numbers order → f < length numbers → (get_or numbers f 0 ≡ 4294967295 → ⊥)
     → order ≡ firsts_after order (f ∷ [])
-after_escapes-old numbers order f kept in' apart =
-    ap (λ b. if b then order else order ++ f ∷ []) (sym (met-place order f (met numbers order f kept in' apart)))
+after_escapes-old numbers order f kept in' apart = grind (arith, met-place order f (met numbers order f kept in' apart))

@@ -1,9 +1,9 @@
 -- What a module that keeps the rules refers to are its functions.
 use Rattle.std.proofs.Common.{◌<◌, ◌≤◌, ℕ, ◌+◌, ◌-◌, Bool, true, false, List, [], ◌∷◌, length, get_or, take, Option, None, Some, arith}
 use Rattle.std.specs.Prelude.{All, IfSome, if◌then◌else◌}
-use Rattle.std.specs.List.{flat_map, filter_map, cons_option, range_with_len}
+use Rattle.std.specs.List.{flat_map, filter_map, range_with_len}
 use Rattle.std.proofs.lemmas.List.{length-append}
-use Rattle.std.proofs.lemmas.List.Elements.{All-nil, All-cons, All-head, All-tail, All-append, All-from_get_or}
+use Rattle.std.proofs.lemmas.List.Elements.{All-nil, All-append, All-from_get_or}
 use Rattle.std.proofs.lemmas.List.FromFn.{length-range_with_len, get_or-range_with_len}
 use Rattle.wasm_spec.specs.declared.entities.ExternalKind.{ExternalKind}
 use Rattle.wasm_spec.specs.declared.entities.ExternalKind.TheVariants as kind
@@ -18,6 +18,7 @@ use Rattle.rule_spec.specs.Expressions.{AreExpressionsTyped, AreGlobalsTyped, Ha
 use Rattle.rule_spec.specs.Typing.{HasClass}
 use Rattle.form_lists.proofs.AllSections.{All-parts}
 use Rattle.module_environ.specs.Escapes.{references, referred, referred_if_any, exported_function, item_functions, defined_functions}
+use Rattle.module_environ.proofs.Filling.{All-gathered}
 use Rattle.module_environ.proofs.FromRules.{functions-in-range}
 
 module _ (m : plain.Module) (keeps : Keeps m) where
@@ -61,20 +62,13 @@ module _ (m : plain.Module) (keeps : Keeps m) where
 
   -- ---- exports
 
-  with-export : (k : ExternalKind) (index : ℕ) (rest : List ℕ) → index < space_size l k → All InRange rest
-      → All InRange (cons_option (exported_function k index) rest)
-  with-export kind.Func index rest lt all = All-cons InRange index rest lt all
-  with-export kind.Table index rest lt all = all
-  with-export kind.Memory index rest lt all = all
-  with-export kind.Global index rest lt all = all
-  with-export kind.Tag index rest lt all = all
+  with-export : (k : ExternalKind) (index : ℕ) → index < space_size l k → IfSome (exported_function k index) InRange
+  with-export kind.Func index lt = lt
+  with-export _ index lt = tt
 
   exports : (es : List Export) → All (λ (e : Export). e.index < space_size l e.kind) es
       → All InRange (filter_map (λ (e : Export). exported_function e.kind e.index) es)
-  exports [] all = All-nil InRange
-  exports (e ∷ es) all =
-      let P : Export → Type 0 = λ x. x.index < space_size l x.kind in
-      with-export e.kind e.index _ (All-head P e es all) (exports es (All-tail P e es all))
+  exports es all = All-gathered InRange (λ (e : Export). exported_function e.kind e.index) es (λ k d lt. with-export _ _ (all k d lt))
 
   -- ---- element segments
 

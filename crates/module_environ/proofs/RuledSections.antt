@@ -1,7 +1,7 @@
 -- What the rules say of each section: its types are known, its expressions can be converted, and its indices are in range.
 use Rattle.std.proofs.Common.{◌≡◌, ℕ, ◌+◌, ◌<◌, ◌≤◌, ◌^◌, ◌⊎◌, List, [], ◌∷◌, length, take, Option, Some, None, sym, subst, arith, inl, inr, get_or, length-take}
 use Rattle.std.specs.Prelude.{All, IfSome, slice_get, unwrap_or}
-use Rattle.std.proofs.lemmas.List.Elements.{All-nil, All-cons, All-head, All-tail, All-weaker}
+use Rattle.std.proofs.lemmas.List.Elements.{All-nil, All-cons, All-head, All-tail}
 use Rattle.std.proofs.lemmas.Option.{slice_get_cases}
 use Rattle.wasm_spec.specs.declared.entities.GlobalType.{GlobalType}
 use Rattle.wasm_spec.specs.declared.entities.TableType.{TableType}
@@ -28,10 +28,6 @@ use Rattle.module_environ.specs.Exported.{CanExport}
 use Rattle.module_environ.specs.Segments.{IsOffset, IsDataConvertible, AreDataConvertible, IsKindConvertible, AreItemsConvertible, AreElementsConvertible}
 use Rattle.module_environ.proofs.DeclaredKinds.{types-long}
 use Rattle.module_environ.proofs.FromRules.{heap-known, convertible}
-
--- two facts of each of a list are one
-All-both : {A : Type 0} (P Q R : A → Type 0) → ((x : A) → P x → Q x → R x) → (xs : List A) → All P xs → All Q xs → All R xs
-All-both P Q R f xs p q k d lt = f _ (p k d lt) (q k d lt)
 
 -- what holds where an entry is there holds of an entry that is there
 at-entry : {A : Type 0} (Q : A → Type 0) (R : Type 0) (xs : List A) (i : ℕ) → i < length xs → ((x : A) → Q x → R) → IfSome (slice_get xs i) Q → R
@@ -68,7 +64,7 @@ module _ (m : plain.Module) (keeps : Keeps m) (few : HasFewEntries m) (known : U
   few-imported = omega (arith, length-take l.imported_globals l.global_types, few.globals)
 
   pub table-initialisers : All (λ (t : TableDef). IfSome t.init Converts) l.tables
-  table-initialisers = All-both (HasTypedInitialiser l) (TableRefersIn (length l.types)) (λ t. IfSome t.init Converts) each l.tables rule-typed.tables rule-refers.tables where
+  table-initialisers = λ k d lt. each (get_or l.tables k d) (rule-typed.tables k d lt) (rule-refers.tables k d lt) where
     each : (t : TableDef) → HasTypedInitialiser l t → TableRefersIn (length l.types) t → IfSome t.init Converts
     each t typed refers = by t.init typed refers.init where
       by : (o : Option plain.Expression) → IfSome o (λ e. HasClass l (take l.imported_globals l.global_types) e class.Ref)
@@ -107,12 +103,10 @@ module _ (m : plain.Module) (keeps : Keeps m) (few : HasFewEntries m) (known : U
   element-items : (i : ElementItems) → NamesFunctions l i → HasTypedItems l i → ItemsReferIn (length l.types) i
       → AreItemsConvertible known functions i
   element-items (Functions indices) named typed refers =
-      All-weaker (λ f. f < length l.functions) (λ f. (f < functions) × (f < 4294967295)) (λ f lt. (omega (arith, lt, counted), omega (arith, lt, few.functions)))
-      indices named
+      λ k d lt. (omega (arith, named k d lt, counted), omega (arith, named k d lt, few.functions))
   element-items (Expressions type items) named typed refers = (
     heap-known l known knows (heap_of type.heap) refers.0,
-    All-both (λ e. HasClass l l.global_types e class.Ref) (ExpressionRefersIn (length l.types)) Converts (λ e t r. convert l.global_types few.globals e class.Ref t r)
-        items typed refers.1,
+    (λ k d lt. convert l.global_types few.globals (get_or items k d) class.Ref (typed k d lt) (refers.1 k d lt)),
   )
 
   pub elements-convert : AreElementsConvertible known functions l.elements

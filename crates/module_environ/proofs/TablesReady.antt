@@ -1,11 +1,11 @@
 -- The tables of a translated module may be planned.
-use Rattle.std.proofs.Common.{◌≡◌, ◌∙◌, ℕ, ◌+◌, ◌<◌, Bool, List, [], ◌∷◌, length, map, take, Option, Some, None, sym, ap, subst, arith, refl}
+use Rattle.std.proofs.Common.{◌≡◌, ◌∙◌, ℕ, ◌+◌, ◌<◌, Bool, List, [], ◌∷◌, length, map, take, get_or, Option, Some, None, sym, ap, subst, arith, refl}
 use Rattle.std.specs.Prelude.{All, IfSome, unwrap_or, nat_lt}
 use Rattle.std.specs.Option.{option_map}
-use Rattle.std.specs.List.{cons_option, enumerate_from}
+use Rattle.std.specs.List.{enumerate_from}
 use Rattle.std.specs.Global.{Vec}
 use Rattle.std.proofs.lemmas.List.{length-map, length-append}
-use Rattle.std.proofs.lemmas.List.Elements.{All-nil, All-cons, All-head, All-tail, All-map, All-weaker}
+use Rattle.std.proofs.lemmas.List.Elements.{All-nil, All-cons, All-head, All-tail, All-map}
 use Rattle.std.proofs.lemmas.List.FromFn.{length-enumerate_from}
 use Rattle.form_lists.proofs.AllSections.{All-from_map}
 use Rattle.wasm_spec.specs.declared.entities.GlobalType.{GlobalType}
@@ -18,19 +18,17 @@ use Rattle.rule_spec.specs.declared.classes.Class.{Class}
 use Rattle.rule_spec.specs.declared.classes.Class.TheVariants as class
 use Rattle.rule_spec.specs.Lists.{Lists, lists_of_module}
 use Rattle.rule_spec.specs.Typing.{refers_to, HasClass}
-use Rattle.rule_spec.specs.Expressions.{HasTypedInitialiser, HasTypedItems, IsElementTyped}
+use Rattle.rule_spec.specs.Expressions.{HasTypedItems, IsElementTyped}
 use Rattle.rule_spec.specs.Indices.{NamesTable, NamesFunctions, IsElementInRange}
 use Rattle.rule_spec.specs.Rules.{Keeps}
 use Rattle.wasm_index.specs.declared.index.Index.{Index}
 use Rattle.wasm_index.specs.declared.spaces.FuncSpace.{FuncSpace}
-use Rattle.wasm_index.specs.Index.{number_of}
 use Rattle.wasm_types.specs.declared.table.Table.{Table}
 use Rattle.wasm_types.specs.EntityViews.{table_of}
 use Rattle.wasm_convert.specs.Conversion.{LookUp}
 use Rattle.wasm_convert.specs.Constants.{const_ops_of, expression_of}
 use Rattle.wasm_convert.specs.declared.operators.ConstOp.{ConstOp}
 use Rattle.wasm_module.specs.declared.table_initialization.TableInitialValue.{TableInitialValue}
-use Rattle.wasm_module.specs.declared.table_initialization.TableInitialValue.TheVariants as initial
 use Rattle.wasm_module.specs.declared.table_initialization.TableSegment.{TableSegment}
 use Rattle.wasm_module.specs.declared.table_initialization.TableSegmentElements.{TableSegmentElements}
 use Rattle.wasm_module.specs.declared.table_initialization.TableSegmentElements.TheVariants as elements
@@ -44,7 +42,8 @@ use Rattle.module_environ.specs.Types.{look_up_in}
 use Rattle.module_environ.specs.Initialisers.{ActiveItems, Items, FunctionItems, ExpressionItems, active_in, active_elements, view_segment, items_in, view_items, view_first_value}
 use Rattle.module_environ.specs.Translation.{HasElements, HasEntities, CountsImports, Escapes}
 use Rattle.module_environ.proofs.FromRules.{sized-below}
-use Rattle.module_environ.proofs.Filling.{length-filter_map}
+use Rattle.module_environ.proofs.Filling.{length-filter_map, All-gathered}
+use Rattle.module_environ.proofs.HoldsLists.{initial-seen}
 
 -- ---- functions in expressions
 
@@ -81,8 +80,7 @@ module _ (look : LookUp) (l : Lists) where
       All-map A cell (map expression_of (map (const_ops_of look) list))
       (All-map (λ (e : Expression). A (cell e)) expression_of (map (const_ops_of look) list)
       (All-map (λ (e : List ConstOp). A (cell (expression_of e))) (const_ops_of look) list
-      (All-weaker _ (λ (e : Expression). A (cell (expression_of (const_ops_of look e)))) (λ e t. cell-among look l l.global_types class.Ref e t)
-      list typed)))
+      (λ k d lt. cell-among look l l.global_types class.Ref (get_or list k d) (typed k d lt))))
 
   -- what is known of an active segment
   pub record IsActiveReady (a : ActiveItems) : Type 0 where
@@ -90,23 +88,16 @@ module _ (look : LookUp) (l : Lists) where
     pub functions : All (IsAmong (length l.functions)) (cells a.items)
 
   active-ready : (es : List Element) → All (IsElementInRange l) es → All (IsElementTyped l) es → All IsActiveReady (active_elements look es)
-  active-ready [] ranged typed = All-nil IsActiveReady
-  active-ready (e ∷ es) ranged typed =
-      with_kind e.kind (All-head (IsElementInRange l) e es ranged).table
-      (cells-among e.items (All-head (IsElementInRange l) e es ranged).items (All-head (IsElementTyped l) e es typed).items)
-      (active-ready es (All-tail (IsElementInRange l) e es ranged) (All-tail (IsElementTyped l) e es typed)) where
-        with_kind : (k : ElementKind) → NamesTable l k → All (IsAmong (length l.functions)) (cells (items_in look e.items))
-            → All IsActiveReady (active_elements look es) → All IsActiveReady (cons_option (active_in look k e.items) (active_elements look es))
-        with_kind PassiveElement table functions others = others
-        with_kind DeclaredElement table functions others = others
-        with_kind (ActiveElement table offset) in' functions others =
-            All-cons IsActiveReady _ (active_elements look es) (record { table = in'; functions = functions }) others
+  active-ready es ranged typed =
+      All-gathered IsActiveReady (λ (e : Element). active_in look e.kind e.items) es (λ k d lt.
+      let e = get_or es k d in
+      with_kind e.kind e.items (ranged k d lt).table (cells-among e.items (ranged k d lt).items (typed k d lt).items)) where
+        with_kind : (k : ElementKind) (items : ElementItems) → NamesTable l k → All (IsAmong (length l.functions)) (cells (items_in look items))
+            → IfSome (active_in look k items) IsActiveReady
+        with_kind (ActiveElement table offset) items in' functions = record { table = in'; functions = functions }
+        with_kind _ items in' functions = tt
 
 -- ---- initial values
-
-initial-seen : (v : TableInitialValue) → initial_of v ≡ option_map expression_of (view_first_value v)
-initial-seen initial.Null = refl
-initial-seen (initial.Expr e) = refl
 
 module _ (look : LookUp) (l : Lists) (visible : List GlobalType) (c : Class) where
   initial-among : (o : Option Expression) → IfSome o (λ e. HasClass l visible e c)
@@ -127,11 +118,9 @@ All-defined P (t ∷ ts) (v ∷ vs) h =
 no_images : {T : Type 0} (images : List (Vec (Index FuncSpace))) (tables : List T) → map (λ image. image.items) images ≡ map (λ table. []) tables
     → All (λ (image : List (Option ℕ)). image ≡ []) (images_of images)
 no_images {T} images tables none =
-    All-map (λ (image : List (Option ℕ)). image ≡ []) (λ (v : Vec (Index FuncSpace)). image_of v.items) images
-    (All-weaker (λ (v : Vec (Index FuncSpace)). v.items ≡ []) (λ (v : Vec (Index FuncSpace)). image_of v.items ≡ []) (λ v e. ap image_of e) images
-    (All-from_map (λ (l : List (Index FuncSpace)). l ≡ []) (λ (v : Vec (Index FuncSpace)). v.items) images
-    (subst (All (λ (l : List (Index FuncSpace)). l ≡ [])) (sym none)
-    (All-map (λ (l : List (Index FuncSpace)). l ≡ []) (λ (t : T). []) tables (λ k d lt. refl)))))
+    let none' = All-map (λ (l : List (Index FuncSpace)). l ≡ []) (λ (t : T). []) tables (λ k d lt. refl) in
+    let empty = All-from_map (λ (l : List (Index FuncSpace)). l ≡ []) (λ (v : Vec (Index FuncSpace)). v.items) images (rw none none') in
+    All-map (λ (image : List (Option ℕ)). image ≡ []) (λ (v : Vec (Index FuncSpace)). image_of v.items) images (λ k d lt. ap image_of (empty k d lt))
 
 -- ---- the whole
 
@@ -163,16 +152,12 @@ module _ (debugged : Bool) (m : Module) (t : ModuleTranslation) (has : HasElemen
       t.table_initialization.initial_values
   initials =
       let A : Option (List ConstOp) → Type 0 = λ o. IsAmong (length t.module.functions) (initial_function (option_map expression_of o)) in
-      let typed : All (λ (d : TableDef). A (option_map (const_ops_of look) d.init)) l.tables =
-      All-weaker (HasTypedInitialiser l) (λ (d : TableDef). A (option_map (const_ops_of look) d.init))
-      (λ d h. subst (λ n. IsAmong n (initial_function (option_map expression_of (option_map (const_ops_of look) d.init)))) (sym function_count)
-      (initial-among look l (take l.imported_globals l.global_types) class.Ref d.init h)) l.tables (kept L6).tables in
+      let typed : All (λ (d : TableDef). A (option_map (const_ops_of look) d.init)) l.tables = λ k d lt.
+      rw function_count (initial-among look l (take l.imported_globals l.global_types) class.Ref (get_or l.tables k d).init ((kept L6).tables k d lt)) in
       let seen : All A (map view_first_value t.table_initialization.initial_values) =
       subst (All A) (sym has.first) (All-map A (λ (d : TableDef). option_map (const_ops_of look) d.init) l.tables typed) in
-      All-weaker (λ (v : TableInitialValue). A (view_first_value v))
-      (λ (v : TableInitialValue). IsAmong (length t.module.functions) (initial_function (initial_of v)))
-      (λ v h. subst (λ o. IsAmong (length t.module.functions) (initial_function o)) (sym (initial-seen v)) h) t.table_initialization.initial_values
-      (All-from_map A view_first_value t.table_initialization.initial_values seen)
+      λ k d lt. rw (initial-seen (get_or t.table_initialization.initial_values k d))
+      (All-from_map A view_first_value t.table_initialization.initial_values seen k d lt)
 
   pub tables-ready : TableHalfIsReady t
   tables-ready =
@@ -194,14 +179,9 @@ module _ (debugged : Bool) (m : Module) (t : ModuleTranslation) (has : HasElemen
             let le = length-filter_map (λ (e : Element). active_in look e.kind e.items) l.elements in
             omega (arith, count, same, le, few.elements);
         in_range = All-map (λ (s : ActiveElements). s.table < length t.module.tables) active_elements_of segments
-            (All-weaker (λ (s : TableSegment). IsActiveReady look l (view_segment s))
-            (λ (s : TableSegment). number_of s.table_index < length t.module.tables)
-            (λ s h. let in' = h.table in omega (arith, in', table_count)) segments each);
+            (λ k d lt. let in' = (each k d lt).table in omega (arith, in', table_count));
         functions = All-map (λ (s : ActiveElements). All (IsAmong (length t.module.functions)) (image_cells s.items)) active_elements_of segments
-            (All-weaker (λ (s : TableSegment). IsActiveReady look l (view_segment s))
-            (λ (s : TableSegment). All (IsAmong (length t.module.functions)) (image_cells (items_of s.elements)))
-            (λ s h. subst (All (IsAmong (length t.module.functions))) (sym (cells-seen s.elements))
-            (subst (λ n. All (IsAmong n) (cells (view_items s.elements))) (sym function_count) h.functions)) segments each);
+            (λ k d lt. rw (cells-seen (get_or segments k d).elements, function_count) (each k d lt).functions);
         initial_functions = All-defined (λ o. IsAmong (length t.module.functions) (initial_function o)) (own_tables t)
             t.table_initialization.initial_values initials;
       }

@@ -5,7 +5,7 @@ use Rattle.std.specs.List.{enumerate_from}
 use Rattle.std.proofs.Math.ListN.{get_or-map}
 use Rattle.std.proofs.lemmas.Option.{slice_get-get_or}
 use Rattle.std.proofs.lemmas.List.Elements.{All-head, All-tail}
-use Rattle.std.proofs.lemmas.List.{get_or-map as get_or-map-in, take_more, map-append, get_or_default, length-take-le}
+use Rattle.std.proofs.lemmas.List.{get_or-map as get_or-map-in, take_more, map_push, map_more, get_or_default, length-take-le}
 use Rattle.wasm_spec.specs.Module.{Module}
 use Rattle.wasm_spec.specs.Module as plain
 use Rattle.wasm_index.specs.declared.index.Index.{Index}
@@ -29,21 +29,22 @@ abbrev pub interned_type : List EngineOrModuleTypeIndex → List ℕ → ℕ →
 interned_type declared functions function = number_or_zero (interned_in declared (get_or functions function 0))
 
 enumerate-push : (n : ℕ) (xs : List ℕ) (x : ℕ) → enumerate_from n (xs ++ x ∷ []) ≡ enumerate_from n xs ++ (n + length xs, x) ∷ []
-enumerate-push n [] x = ap (λ k. (k, x) ∷ []) (omega arith)
-enumerate-push n (y ∷ ys) x =
-    let e : n + 1 + length ys ≡ n + length (y ∷ ys) = omega arith in
-    ap (λ l. (n, y) ∷ l) (enumerate-push (n + 1) ys x ∙ ap (λ k. enumerate_from (n + 1) ys ++ (k, x) ∷ []) e)
+enumerate-push n [] x = grind arith
+enumerate-push n (y ∷ ys) x = grind (arith, enumerate-push (n + 1) ys x)
 
 pub typed-more : (indices : List EngineOrModuleTypeIndex) (order functions : List ℕ) (i : ℕ) (types after : List FunctionType) (x : FunctionType)
     → i < length functions → types ≡ map (typed indices order) (enumerate_from 0 (take i functions))
     → x ≡ typed indices order (i, get_or functions i 0) → after ≡ types ++ x ∷ []
     → after ≡ map (typed indices order) (enumerate_from 0 (take (i + 1) functions))
 typed-more indices order functions i types after x lt before is now =
-    let long : length (take i functions) ≡ i = length-take-le i functions (omega (arith, lt)) in
-    now ∙ ap (λ l. l ++ x ∷ []) before ∙ ap (λ y. map (typed indices order) (enumerate_from 0 (take i functions)) ++ y ∷ []) is
-    ∙ sym (map-append (typed indices order) (enumerate_from 0 (take i functions)) ((i, get_or functions i 0) ∷ []))
-    ∙ ap (map (typed indices order)) (ap (λ n. enumerate_from 0 (take i functions) ++ (n, get_or functions i 0) ∷ []) (sym (omega (arith, long)))
-    ∙ sym (enumerate-push 0 (take i functions) (get_or functions i 0)) ∙ ap (enumerate_from 0) (sym (take_more functions i 0 lt)))
+    let f = get_or functions i 0 in
+    grind (
+      arith,
+      enumerate-push 0 (take i functions) f,
+      take_more functions i 0,
+      length-take-le i functions,
+      map_push (typed indices order) (enumerate_from 0 (take i functions)) (i, f),
+    )
 
 pub typed-is : (indices given : List EngineOrModuleTypeIndex) (order : List ℕ) (i ty n : ℕ) (d : EngineOrModuleTypeIndex) (ref : Index FuncRefSpace)
     → ty < length indices → given ≡ indices → number_of ref ≡ number_among order n → n ≡ i
@@ -64,9 +65,7 @@ typed-all m indices order functions is of =
 
 map-agree : {A B : Type 0} (f g : A → B) (xs : List A) → All (λ x. f x ≡ g x) xs → map f xs ≡ map g xs
 map-agree f g [] h = refl
-map-agree f g (x ∷ xs) h =
-    let rest = map-agree f g xs (All-tail (λ y. f y ≡ g y) x xs h) in
-    λ i. All-head (λ y. f y ≡ g y) x xs h i ∷ rest i
+map-agree f g (x ∷ xs) h = cc (map-agree f g xs (All-tail (λ y. f y ≡ g y) x xs h), All-head (λ y. f y ≡ g y) x xs h)
 
 interned-at : (indices : List EngineOrModuleTypeIndex) (ty : ℕ) (d : EngineOrModuleTypeIndex) (k : TypeIndex) → ty < length indices
     → module_index (get_or indices ty d) ≡ Some k → number_or_zero (interned_in indices ty) ≡ number_of k
@@ -83,10 +82,7 @@ interned-more indices given functions order i d k types after lt same in' is bef
     let f = get_or order i 0 in
     let one : number_of k ≡ interned_type indices functions f =
     sym (interned-at indices (get_or functions f 0) d k in' (ap (λ l. module_index (get_or l (get_or functions f 0) d)) (sym same) ∙ is)) in
-    ap (map number_of) now ∙ map-append number_of types (k ∷ []) ∙ ap (λ l. l ++ number_of k ∷ []) before
-    ∙ ap (λ n. map (interned_type indices functions) (take i order) ++ n ∷ []) one
-    ∙ sym (map-append (interned_type indices functions) (take i order) (f ∷ []))
-    ∙ ap (map (interned_type indices functions)) (sym (take_more order i 0 lt))
+    cc (map_push number_of types k, map_more (interned_type indices functions) order i 0 lt)
 
 -- and of all of them, in a module
 pub interned-all : (m : Module) (indices : List EngineOrModuleTypeIndex) (order functions : List ℕ) → indices ≡ map type_index (declared m)

@@ -1,6 +1,7 @@
 -- Places at which a builder stands on its way through the types of a module, and what a call that stops there answers.
-use Rattle.std.proofs.Common.{◌≡◌, ◌≢◌, ◌∙◌, ◌⊎◌, inl, inr, ℕ, Bool, true, false, List, length, map, Result, Ok, Err, refl, sym, ap, subst}
+use Rattle.std.proofs.Common.{◌≡◌, ◌≢◌, ◌∙◌, ◌⊎◌, inl, inr, ℕ, Bool, true, false, List, length, map, Result, Ok, Err, refl, ap, arith}
 use Rattle.std.specs.Prelude.{IfErr, OnErr}
+use Rattle.std.proofs.lemmas.Bool.{cases_Bool}
 use Rattle.wasm_spec.specs.Module as plain
 use Rattle.rule_spec.specs.declared.rules.Rule.TheVariants.{L2}
 use Rattle.rule_spec.specs.Lists as rule
@@ -73,40 +74,25 @@ pub build-memory : (e : BuildError) → (e ≡ build.Poisoned → ⊥) → error
 build-memory build.OutOfMemory sound = refl
 build-memory build.Poisoned sound = absurd (sound refl)
 
-module _ {A : Type 0} (r : Result A EnvironError) where
-  pub none_else : (poisoned : Bool) → (poisoned ≡ true → r ≡ Err refusal.Poisoned) → (poisoned ≡ false → SucceedsOrNoMemory r) → (m : plain.Module)
-      → IfErr r (FormCause m poisoned)
-  none_else true told sound m = subst (λ (q : Result A EnvironError). IfErr q (FormCause m true)) (sym (told refl)) refl
-  none_else false told sound m = by r (sound refl) where
-    by : (q : Result A EnvironError) → SucceedsOrNoMemory q → IfErr q (FormCause m false)
-    by (Ok a) h = tt
-    by (Err e) h = subst (FormCause m false) (sym h) tt
+module _ {A : Type 0} where
+  pub none_else : (r : Result A EnvironError) (poisoned : Bool) → (poisoned ≡ true → r ≡ Err refusal.Poisoned)
+      → (poisoned ≡ false → SucceedsOrNoMemory r) → (m : plain.Module) → IfErr r (FormCause m poisoned)
+  none_else (Ok a) poisoned told sound m = tt
+  none_else (Err e) true told sound m = let same : e ≡ refusal.Poisoned = cc (told refl) in rw same refl
+  none_else (Err e) false told sound m = rw (sound refl) tt
 
-  pub unchanged : (old new : BuilderState) → (old.is_poisoned ≡ true → new ≡ old) → (old.is_poisoned ≡ false → SucceedsOrNoMemory r)
-      → OnErr r (r ≢ Err refusal.OutOfMemory → new ≡ old)
-  unchanged old new stays sound = by old.is_poisoned refl where
-    else_memory : (q : Result A EnvironError) → SucceedsOrNoMemory q → OnErr q (q ≢ Err refusal.OutOfMemory → new ≡ old)
-    else_memory (Ok a) h = tt
-    else_memory (Err e) h = λ other. absurd (other (ap Err h))
+  pub unchanged : (r : Result A EnvironError) (old new : BuilderState) → (old.is_poisoned ≡ true → new ≡ old)
+      → (old.is_poisoned ≡ false → SucceedsOrNoMemory r) → OnErr r (r ≢ Err refusal.OutOfMemory → new ≡ old)
+  unchanged (Ok a) old new stays sound = tt
+  unchanged (Err e) old new stays sound = λ other. grind (arith, cases_Bool old.is_poisoned, stays, sound, other)
 
-    any : (q : Result A EnvironError) → new ≡ old → OnErr q (q ≢ Err refusal.OutOfMemory → new ≡ old)
-    any (Ok a) same = tt
-    any (Err e) same = λ other. same
-
-    by : (poisoned : Bool) → old.is_poisoned ≡ poisoned → OnErr r (r ≢ Err refusal.OutOfMemory → new ≡ old)
-    by true is = any r (stays is)
-    by false is = else_memory r (sound is)
-
-  pub told_poisoned : r ≡ Err refusal.Poisoned → IsPoisonedOrNoMemory r
-  told_poisoned is = subst (λ (q : Result A EnvironError). IsPoisonedOrNoMemory q) (sym is) tt
+  pub told_poisoned : (r : Result A EnvironError) → r ≡ Err refusal.Poisoned → IsPoisonedOrNoMemory r
+  told_poisoned r is = rw is tt
 
 -- where the builder was poisoned it is as it was
 pub stops-anyhow : (old new : BuilderState) (P : Type 0) → (old.is_poisoned ≡ true → new ≡ old)
     → (old.is_poisoned ≡ false → new.is_poisoned ≡ false → (new ≡ old) ⊎ P) → new.is_poisoned ≡ false → (new ≡ old) ⊎ P
-stops-anyhow old new P stays stops sound = by old.is_poisoned refl where
-  by : (poisoned : Bool) → old.is_poisoned ≡ poisoned → (new ≡ old) ⊎ P
-  by true is = inl (stays is)
-  by false is = stops is sound
+stops-anyhow old new P stays stops sound = elim (cases_Bool old.is_poisoned) [ inl is ↦ inl (stays is) | inr is ↦ stops is sound ]
 
 -- over the bytes that spell the module
 pub stops-read : (validator : ℕ) (bytes : List ℕ) (m : plain.Module) (old new : BuilderState) → IsReadable bytes m

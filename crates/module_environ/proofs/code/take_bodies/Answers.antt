@@ -1,15 +1,31 @@
-use Rattle.std.proofs.Common.{◌∙◌, ◌++◌, List, ℕ, Option, length, map, ap, sym, append_assoc, arith}
+use Rattle.std.proofs.Common.{◌∙◌, ◌++◌, List, ℕ, Option, length, map, ap, sym, append_assoc, arith, ◌≡◌, ◌+◌, ◌≤◌, ◌∷◌}
 use Rattle.std.specs.Prelude.{slice_get}
 use Rattle.std.specs.List.{flat_map}
-use Rattle.std.specs.Option.{option_to_list}
+use Rattle.std.specs.Option.{option_to_list, option_or}
 use Rattle.std.specs.Vec.Iter.{into_iter_items}
-use Rattle.std.proofs.lemmas.List.{length-map}
-use Rattle.wasm_spec.specs.Module.{Body, bodies_of_section}
+use Rattle.std.proofs.lemmas.List.{length-map, length-append}
+use Rattle.std.proofs.lemmas.List.Concat.{flat_map-append}
+use Rattle.wasm_spec.specs.Module.{Body, bodies_of_section, Payload}
 use Rattle.form_data.specs.Views.{body_of}
 use Rattle.form_reader.specs.Input.{sections_of_part}
+use Rattle.form_reader.specs.declared.input.InputPart.{InputPart}
 use Rattle.module_environ.specs.Translation.{code_places}
-use Rattle.module_environ.proofs.Bodies.{next-part, first-more, bodies-few}
 use Rattle.module_environ.proofs.code.take_bodies.Goals as goal
+
+-- what the next part gives, and those after it
+next-part : {A : Type 0} (f : Payload → List A) (left : List InputPart) (p : InputPart) (rest : List InputPart) → left ≡ p ∷ rest
+    → flat_map f (flat_map sections_of_part left) ≡ flat_map f (sections_of_part p) ++ flat_map f (flat_map sections_of_part rest)
+next-part f left p rest at = rw at (flat_map-append f (sections_of_part p) (flat_map sections_of_part rest))
+
+-- the first of some, where one may have come before
+first-more : (before here : Option ℕ) (xs ys : List ℕ) → option_to_list here ≡ xs
+    → slice_get (option_to_list (option_or before here) ++ ys) 0 ≡ slice_get (option_to_list before ++ (xs ++ ys)) 0
+first-more before here xs ys e = grind arith
+
+-- there is room for some more of the bodies
+bodies-few : {A B : Type 0} (view : A → B) (taken : List A) (here rest all : List B) → map view taken ++ (here ++ rest) ≡ all
+    → length taken + length here ≤ length all
+bodies-few {B = B} view taken here rest all whole = omega (arith, ap length whole, length-append {A = B}, length-map taken view)
 
 pub add_bodies-requires : goal.add_bodies-requires
 add_bodies-requires c =

@@ -7,7 +7,7 @@ use Rattle.module_environ.specs.Convertible.{IsConvertible}
 use Rattle.module_environ.specs.Escapes.{referred}
 use Rattle.module_environ.specs.EscapeLog.{EscapeLog}
 use Rattle.module_environ.proofs.BySection.{at-item, item-more, section-more}
-use Rattle.module_environ.proofs.ElementsNoted.{noted-both}
+use Rattle.module_environ.proofs.NotingEscapes.{noted-both}
 use Rattle.module_environ.proofs.element_items.convert_expressions.Goals as goal
 
 pub convert_expression-requires : goal.convert_expression-requires

@@ -4,7 +4,7 @@ use Rattle.wasm_index.specs.declared.index.Index.{Index}
 use Rattle.wasm_index.specs.declared.spaces.FuncSpace.{FuncSpace}
 use Rattle.wasm_index.specs.Index.{number_of}
 use Rattle.module_environ.specs.EscapeLog.{after_escapes}
-use Rattle.module_environ.proofs.ElementsNoted.{noted-both}
+use Rattle.module_environ.proofs.NotingEscapes.{noted-both}
 use Rattle.module_environ.proofs.element_items.convert_functions.Goals as goal
 
 pub loop-index-preserved : goal.loop-index-preserved

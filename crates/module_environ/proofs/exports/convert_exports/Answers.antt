@@ -1,4 +1,4 @@
-use Rattle.std.proofs.Common.{◌∙◌, ◌++◌, ◌∷◌, [], List, length, sym, ap, arith, length-append}
+use Rattle.std.proofs.Common.{◌∙◌, ◌++◌, ◌∷◌, [], length, ap, arith, length-append}
 use Rattle.std.proofs.lemmas.List.Elements.{All-rest, filter_map-append}
 use Rattle.wasm_spec.specs.Module.{Export, exports_of_section}
 use Rattle.form_data.specs.Views.{export_of}

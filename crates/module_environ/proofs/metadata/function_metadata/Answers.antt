@@ -30,24 +30,21 @@ loop-body-init g c =
 
 pub convert_locals-requires : goal.convert_locals-requires
 convert_locals-requires g c =
-    let look = goal.TypeConvert-dyn g c.args.env.now in
     let refers = BodyRefersIn (length (lists_of_module (module_in c.args.lists.now)).types) in
     let body = body_of c.in-Some.body.now in
-    locals-known c.args.lists.now c.requires.gathered (look.knows c.args.env.now.1) (look.look_up c.args.env.now.1) c.requires.looks body
+    locals-known c.args.lists.now c.requires.gathered _ _ c.requires.looks body
     (All-head refers body _ (All-same refers (body ∷ _) _ (sym c.in-Some.ensures.steps) c.loop-body.invariant.refer)) c.deref-in-loop-body.result.now c.deref-in-loop-body.ensures.value
 
 pub loop-body-preserved : goal.loop-body-preserved
 loop-body-preserved g c =
     let lists = c.args.lists.now in
-    let look = goal.TypeConvert-dyn g c.args.env.now in
     let refers = BodyRefersIn (length (lists_of_module (module_in lists)).types) in
     let at = c.in-Some.ensures.steps in
     let body = body_of c.in-Some.body.now in
     let had = c.loop-body.invariant in
     let all = c.loop-body.all.items in
     let z : FunctionMetadata = record { params = c.in_ok-function_params.field-0; locals = c.in_ok-convert_locals.field-0 } in
-    let one = metadata lists c.requires.gathered (look.knows c.args.env.now.1) (look.look_up c.args.env.now.1) c.requires.looks
-    (length all) (lists.imported_functions + c.len.result) body c.deref-in-loop-body.result.now z
+    let one = metadata lists c.requires.gathered _ _ c.requires.looks (length all) (lists.imported_functions + c.len.result) body c.deref-in-loop-body.result.now z
     (omega (arith, c.len.ensures)) c.deref-in-loop-body.ensures.value c.in_ok-function_params.ensures c.in_ok-convert_locals.ensures in
     record {
       refer = All-rest refers body _ _ at had.refer;

@@ -18,18 +18,14 @@ convert_imports-requires-clause-few_texts g c =
 
 pub convert_tables-requires-clause-known : goal.convert_tables-requires-clause-known
 convert_tables-requires-clause-known g c =
-    let dyn = goal.TypeConvert-dyn g c.args.env.now in
-    tables-looked c.args.lists.now c.requires.gathered (dyn.knows c.args.env.now.1) (dyn.look_up c.args.env.now.1) c.requires.looks
-    c.as_slice.result.now c.as_slice.ensures.value
+    tables-looked c.args.lists.now c.requires.gathered _ _ c.requires.looks c.as_slice.result.now c.as_slice.ensures.value
 
 pub convert_memories-requires-clause-pages : goal.convert_memories-requires-clause-pages
 convert_memories-requires-clause-pages g c = pages c.args.lists.now c.requires.gathered c.as_slice-2.result.now c.as_slice-2.ensures.value
 
 pub convert_globals-requires-clause-known : goal.convert_globals-requires-clause-known
 convert_globals-requires-clause-known g c =
-    let dyn = goal.TypeConvert-dyn g c.args.env.now in
-    globals-looked c.args.lists.now c.requires.gathered (dyn.knows c.args.env.now.1) (dyn.look_up c.args.env.now.1) c.requires.looks
-    c.as_slice-3.result.now c.as_slice-3.ensures.value
+    globals-looked c.args.lists.now c.requires.gathered _ _ c.requires.looks c.as_slice-3.result.now c.as_slice-3.ensures.value
 
 pub split_at-requires : goal.split_at-requires
 split_at-requires g c =
@@ -40,21 +36,16 @@ split_at-requires g c =
 
 pub returns : goal.returns
 returns g c =
-    let dyn = goal.TypeConvert-dyn g c.args.env.now in
     let l = c.args.lists.now in
     let gathered = c.requires.gathered in
-    let knows = dyn.knows c.args.env.now.1 in
-    let look = dyn.look_up c.args.env.now.1 in
     record {
       imports = c.in_ok-initializers.ensures.imports;
       pooled = c.in_ok-initializers.ensures.pooled;
       texts = c.in_ok-initializers.ensures.pool ∙ ap (λ (ts : List (List ℕ)). with_texts ts (imported_names (module_in l))) c.requires.names;
       counts = c.in_ok-initializers.ensures.counts;
-      tables = c.in_ok-entities.ensures
-          ∙ tables-filled l gathered knows look c.requires.looks c.as_slice.result.now c.as_slice.ensures.value;
+      tables = c.in_ok-entities.ensures ∙ tables-filled l gathered _ _ c.requires.looks c.as_slice.result.now c.as_slice.ensures.value;
       memories = c.in_ok-entities-2.ensures ∙ memories-filled l gathered c.as_slice-2.result.now c.as_slice-2.ensures.value;
-      globals = c.in_ok-entities-3.ensures
-          ∙ globals-filled l gathered knows look c.requires.looks c.as_slice-3.result.now c.as_slice-3.ensures.value;
+      globals = c.in_ok-entities-3.ensures ∙ globals-filled l gathered _ _ c.requires.looks c.as_slice-3.result.now c.as_slice-3.ensures.value;
       heap = c.hold_collected-entities.ensures ∙ ap (list_any (λ (table : Table). heap_is_collected table.ref_type.heap_type))
           (c.split_at.ensures.back ∙ ap (drop c.in_ok-initializers.counts.tables) c.as_slice-4.ensures);
       same = refl;

@@ -20,13 +20,11 @@ use Rattle.module_environ.proofs.sections.fill_sections.Goals.{then-debugged+in_
 
 pub function_types-requires-clause-types : goal.function_types-requires-clause-types
 function_types-requires-clause-types g c =
-    functions-named c.args.lists.now c.requires.gathered c.requires.of_module c.args.indices.now c.requires.listed c.as_slice-functions.result.now
-    c.as_slice-functions.ensures.value
+    functions-named c.args.lists.now c.requires.gathered c.requires.of_module _ c.requires.listed _ c.as_slice-functions.ensures.value
 
 pub exported_signatures-requires-clause-types : goal.exported_signatures-requires-clause-types
 exported_signatures-requires-clause-types g c =
-    functions-named c.args.lists.now c.requires.gathered c.requires.of_module c.args.indices.now c.requires.listed c.as_slice-functions.result.now
-    c.as_slice-functions.ensures.value
+    functions-named c.args.lists.now c.requires.gathered c.requires.of_module _ c.requires.listed _ c.as_slice-functions.ensures.value
 
 pub fill_initialisers-requires-clause-names : goal.fill_initialisers-requires-clause-names
 fill_initialisers-requires-clause-names g c =
@@ -56,8 +54,7 @@ returns-clause-sections g c =
     elim c.if-debugged.branch [
       | then-debugged+in_ok-note_escape_range-2 w ↦
           noted-where (lists_of_module m) c.fill_initialisers.new.escaping c.if-debugged.escaping c.args.debugged w.if-debugged.true l.imported_functions
-          (w.len-then-debugged.result - l.imported_functions)
-          (imported-are l gathered)
+          (w.len-then-debugged.result - l.imported_functions) (imported-are l gathered)
           (omega (arith, w.len-then-debugged.ensures, ap length (functions-are l gathered), imported-are l gathered))
           (w.escaping-is ∙ w.in_ok-note_escape_range-2.ensures)
       | else-debugged w ↦
@@ -98,5 +95,4 @@ returns-clause-sections g c =
 
 pub returns-clause-texts : goal.returns-clause-texts
 returns-clause-texts g c =
-    texts-filled (module_in c.args.lists.now) _ _ c.requires.new _ c.in_ok-fill_entities.ensures _ _ c.fill_initialisers.new.translation
-    c.in_ok-fill_initialisers.ensures
+    texts-filled (module_in c.args.lists.now) _ _ c.requires.new _ c.in_ok-fill_entities.ensures _ _ _ c.in_ok-fill_initialisers.ensures

@@ -1,12 +1,47 @@
-use Rattle.std.proofs.Common.{◌∙◌, sym, ap, subst}
+use Rattle.std.proofs.Common.{◌∙◌, sym, ap, subst, ◌≡◌, Bool, List, get_or}
+use Rattle.std.specs.Prelude.{IfSome, ℕ}
+use Rattle.wasm_spec.specs.Module as plain
 use Rattle.init_plan.specs.declared.translation.ModuleTranslation.{ModuleTranslation}
-use Rattle.module_environ.specs.Filling.{module_in, LeavesRest}
+use Rattle.module_environ.specs.Filling.{module_in, LeavesRest, OnlyCustomsChange}
+use Rattle.module_environ.specs.Pooled.{with_texts, own_name, HasText}
+use Rattle.module_environ.specs.Translation.{HasEntities, HasSections}
 use Rattle.module_environ.proofs.DeclaredLooks.{looks-declared}
 use Rattle.module_environ.proofs.FilledSections.{carried-looks}
-use Rattle.module_environ.proofs.GrownPool.{names-pooled, pooled-all}
-use Rattle.module_environ.proofs.Named.{sections-named}
+use Rattle.module_environ.proofs.GrownPool.{names-pooled, pooled-all, GrowsBy, grows-within, length-own, imports-grown, exports-grown, names-grown, pooled-grown}
 use Rattle.module_environ.proofs.translating.fill_lists.OwnLists.{same-1-1}
 use Rattle.module_environ.proofs.translating.fill_lists.Goals as goal
+
+sections-named : (t u : ModuleTranslation) → OnlyCustomsChange t u → (debugged native : Bool) (m : plain.Module)
+    → u.module.strings ≡ with_texts t.module.strings (own_name native m)
+    → IfSome u.module.name (HasText u.module.strings) → HasSections debugged m t → HasSections debugged m u
+sections-named t u same debugged native m put pooled s =
+    let e : HasEntities m t = s.entities in
+    let old : List (List ℕ) = t.module.strings in
+    let new : List (List ℕ) = u.module.strings in
+    let grows : GrowsBy 1 old new = grows-within 1 (own_name native m) old new put (length-own native m) in
+    let initializers = t.module.initializers.items in
+    let exports = t.module.exports.entries in
+    subst (HasSections debugged m) (sym same) (record {
+      entities = record {
+        imports = imports-grown 1 old new grows initializers e.pooled.imports ∙ e.imports;
+        exports = exports-grown 1 old new grows exports e.pooled.exports ∙ e.exports;
+        tables = e.tables;
+        memories = e.memories;
+        globals = e.globals;
+        start = e.start;
+        pooled = record {
+          imports = λ k d lt. names-grown 1 old new grows (get_or initializers k d) (e.pooled.imports k d lt);
+          exports = λ k d lt. pooled-grown 1 old new grows (get_or exports k d).0 (e.pooled.exports k d lt);
+          name = pooled;
+        };
+      };
+      counts = s.counts;
+      escapes = s.escapes;
+      heap = s.heap;
+      globals = s.globals;
+      elements = s.elements;
+      data_segments = s.data_segments;
+    })
 
 pub fill_sections-requires-clause-held : goal.fill_sections-requires-clause-held
 fill_sections-requires-clause-held c = (_, c.requires.held)
@@ -14,14 +49,12 @@ fill_sections-requires-clause-held c = (_, c.requires.held)
 pub fill_sections-requires-clause-looks : goal.fill_sections-requires-clause-looks
 fill_sections-requires-clause-looks c =
     carried-looks _ _ _ same-1-1 (record { ref_ptr = _; now = c.in_ok-env.env })
-    (looks-declared (module_in c.args.lists.now) c.requires.of_module.1.earlier c.args.indices.now c.requires.listed c.args.types.now c.requires.built
-    c.in_ok-env.env.names.items c.in_ok-env.ensures)
+    (looks-declared (module_in c.args.lists.now) c.requires.of_module.1.earlier _ c.requires.listed _ c.requires.built _ c.in_ok-env.ensures)
 
 pub fill_customs-requires-clause-looks : goal.fill_customs-requires-clause-looks
 fill_customs-requires-clause-looks c =
     carried-looks _ _ _ same-1-1 (record { ref_ptr = _; now = c.in_ok-env.env })
-    (looks-declared (module_in c.args.lists.now) c.requires.of_module.1.earlier c.args.indices.now c.requires.listed c.args.types.now c.requires.built
-    c.in_ok-env.env.names.items c.in_ok-env.ensures)
+    (looks-declared (module_in c.args.lists.now) c.requires.of_module.1.earlier _ c.requires.listed _ c.requires.built _ c.in_ok-env.ensures)
 
 pub fill_customs-requires-clause-few_texts : goal.fill_customs-requires-clause-few_texts
 fill_customs-requires-clause-few_texts c =

@@ -1,5 +1,4 @@
 use Rattle.std.proofs.Common.{◌∙◌, [], inl, inr, sym, ap, subst}
-use Rattle.std.specs.Prelude.{OnOk}
 use Rattle.std.proofs.lemmas.Result.{err_from_is_err_and}
 use Rattle.wasm_spec.specs.Module as plain
 use Rattle.wasm_spec.specs.Module.{HasFewEntries}
@@ -9,7 +8,6 @@ use Rattle.rule_spec.specs.Rules.{Keeps}
 use Rattle.form_lists.specs.Source.{source_module}
 use Rattle.form_rules.specs.Names.{exported_names}
 use Rattle.module_types.specs.Builder.{builder_view}
-use Rattle.module_environ.specs.Forming.{IsFormed}
 use Rattle.module_environ.specs.OnTheWay.{IsOnTheWay}
 use Rattle.module_environ.proofs.WayPlaces.{none_else, unchanged, told_poisoned, stops-anyhow}
 use Rattle.module_environ.proofs.WholeTranslation.{check-cause}
@@ -39,10 +37,7 @@ translate_lists-requires-clause-names c =
 
 pub returns-clause-formed : goal.returns-clause-formed
 returns-clause-formed c =
-    let same = ap source_module (c.without_types-lists.ensures.of_source) in
-    subst (λ (m : plain.Module). OnOk c.translate_lists.result
-    (IsFormed c.args.tunables.now c.args.validator.now m c.args.translation.now c.translate_lists.new.translation c.translate_lists.new.types)) same
-    c.translate_lists.ensures.formed
+    rw (ap source_module (c.without_types-lists.ensures.of_source)) at c.translate_lists.ensures.formed
 
 pub returns-clause-cause : goal.returns-clause-cause
 returns-clause-cause c =
@@ -65,8 +60,5 @@ returns-clause-stops c =
     stops-anyhow c.args.types.now c.translate_lists.new.types P (λ is. (c.translate_lists.ensures.poisoned is).1) (λ was sound.
     elim (c.translate_lists.ensures.stops was sound) [
       | inl unchanged ↦ inl unchanged
-      | inr way ↦ inr (
-        c.in_ok-checked.ensures.kept,
-        subst (λ (n : plain.Module). IsOnTheWay n c.args.validator.now (builder_view c.translate_lists.new.types)) same way,
-      )
+      | inr way ↦ inr (c.in_ok-checked.ensures.kept, rw same at way)
     ])

@@ -1,6 +1,5 @@
-use Rattle.std.proofs.Common.{◌≡◌, refl, sym, ap, ◌∙◌, subst, map, Ok}
+use Rattle.std.proofs.Common.{refl, ap, ◌∙◌, map}
 use Rattle.std.proofs.lemmas.Result.{err_from_is_err_and}
-use Rattle.rule_spec.specs.Rules.{Keeps}
 use Rattle.form_data.specs.Views.{body_of}
 use Rattle.form_reader.specs.Input.{input_module_of}
 use Rattle.init_plan.specs.declared.translation.ModuleTranslation.{ModuleTranslation}
@@ -33,34 +32,27 @@ returns-in_err-form-clause-poisoned c = λ m can kept was.
 pub returns-in-Err-clause-cause : goal.returns-in-Err-clause-cause
 returns-in-Err-clause-cause c =
     let e = c.in_ok-form.ensures in
-    form_cause c.args.bytes.now (input_module_of c.in_ok-form.form) c.args.types.now.is_poisoned _
-    (was_readable c.args.bytes.now c.in_ok-form.form c.in_ok-form.groups e.too_large e.read e.no_interface_types) c.in-Err.ensures.cause
+    form_cause _ _ _ _ (was_readable _ c.in_ok-form.form c.in_ok-form.groups e.too_large e.read e.no_interface_types) c.in-Err.ensures.cause
 
 pub returns-in-Err-clause-complete : goal.returns-in-Err-clause-complete
 returns-in-Err-clause-complete c = λ m can kept sound.
-    let e = c.in_ok-form.ensures in
-    let same : input_module_of c.in_ok-form.form ≡ m = e.complete can.short m can.spelled can.no_interface_types in
-    c.in-Err.ensures.complete (subst Keeps (sym same) kept) sound
+    c.in-Err.ensures.complete (rw (c.in_ok-form.ensures.complete can.short m can.spelled can.no_interface_types) kept) sound
 
 pub returns-in-Err-clause-poisoned : goal.returns-in-Err-clause-poisoned
 returns-in-Err-clause-poisoned c = λ m can kept was.
-    let e = c.in_ok-form.ensures in
-    let same : input_module_of c.in_ok-form.form ≡ m = e.complete can.short m can.spelled can.no_interface_types in
-    c.in-Err.ensures.poisoned (subst Keeps (sym same) kept) was
+    c.in-Err.ensures.poisoned (rw (c.in_ok-form.ensures.complete can.short m can.spelled can.no_interface_types) kept) was
 
 pub returns-in-Err-clause-stops : goal.returns-in-Err-clause-stops
 returns-in-Err-clause-stops c =
     let e = c.in_ok-form.ensures in
-    stops-read c.args.validator.now c.args.bytes.now (input_module_of c.in_ok-form.form) c.args.types.now c.translate_form.new.types
-    (was_readable c.args.bytes.now c.in_ok-form.form c.in_ok-form.groups e.too_large e.read e.no_interface_types) c.translate_form.ensures.stops
+    stops-read _ _ _ _ _ (was_readable _ c.in_ok-form.form c.in_ok-form.groups e.too_large e.read e.no_interface_types) c.translate_form.ensures.stops
 
 -- ---- memory runs out for its code
 
 pub returns-in-Err-take_bodies-clause-stops : goal.returns-in-Err-take_bodies-clause-stops
 returns-in-Err-take_bodies-clause-stops c =
     let e = c.in_ok-form.ensures in
-    stops-read c.args.validator.now c.args.bytes.now (input_module_of c.in_ok-form.form) c.args.types.now c.translate_form.new.types
-    (was_readable c.args.bytes.now c.in_ok-form.form c.in_ok-form.groups e.too_large e.read e.no_interface_types) c.translate_form.ensures.stops
+    stops-read _ _ _ _ _ (was_readable _ c.in_ok-form.form c.in_ok-form.groups e.too_large e.read e.no_interface_types) c.translate_form.ensures.stops
 
 pub returns-in-Err-take_bodies-clause-cause : goal.returns-in-Err-take_bodies-clause-cause
 returns-in-Err-take_bodies-clause-cause c = rw c.into.ensures tt
@@ -75,9 +67,7 @@ returns-in-Err-take_bodies-clause-poisoned c = λ m can kept was. rw c.into.ensu
 
 pub returns-in-Ok-clause-poisoned : goal.returns-in-Ok-clause-poisoned
 returns-in-Ok-clause-poisoned c = λ m can kept was.
-    let e = c.in_ok-form.ensures in
-    let same : input_module_of c.in_ok-form.form ≡ m = e.complete can.short m can.spelled can.no_interface_types in
-    absurd (c.in_default.ensures.poisoned (subst Keeps (sym same) kept) was)
+    absurd (c.in_default.ensures.poisoned (rw (c.in_ok-form.ensures.complete can.short m can.spelled can.no_interface_types) kept) was)
 
 pub returns-in-Ok-clause-translated : goal.returns-in-Ok-clause-translated
 returns-in-Ok-clause-translated c =

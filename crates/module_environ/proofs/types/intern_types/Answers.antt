@@ -1,20 +1,16 @@
-use Rattle.std.proofs.Common.{◌≡◌, ◌∙◌, true, false, Err, OnErr, ℕ, ◌+◌, ◌<◌, length, refl, sym, ap, subst, arith}
+use Rattle.std.proofs.Common.{◌≡◌, ◌∙◌, true, false, Err, ◌+◌, ◌<◌, length, refl, sym, ap, arith}
 use Rattle.std.proofs.lemmas.Result.{err_from_is_err_and}
 use Rattle.std.proofs.lemmas.List.{length-map}
 use Rattle.wasm_spec.specs.Module.{Module}
 use Rattle.module_types.specs.Views.{interned_of}
 use Rattle.module_types.specs.Builder.{Builder, builder_view}
-use Rattle.module_environ.specs.declared.error.EnvironError.TheVariants as refusal
-use Rattle.module_environ.specs.Environment.{AreHeld}
 use Rattle.module_environ.specs.Types.{AreTypesOf}
 use Rattle.module_environ.proofs.InTurn.{Interns, interns-none, interns-next, names, room, listed-long, listed-all, built-all, few-all, held-all}
 use Rattle.module_environ.proofs.WayPlaces.{build-memory}
 use Rattle.module_environ.proofs.types.intern_types.Goals as goal
 
 pub loop-place-init : goal.loop-place-init
-loop-place-init c = λ m of.
-    subst (Interns m c.args.types.now of (builder_view c.args.builder.now) 0) (sym c.in_ok-indices.ensures)
-    (interns-none m c.args.types.now of (builder_view c.args.builder.now) c.requires.new)
+loop-place-init c = λ m of. rw c.in_ok-indices.ensures (interns-none of (builder_view c.args.builder.now) c.requires.new)
 
 pub intern_type-requires-clause-holds : goal.intern_type-requires-clause-holds
 intern_type-requires-clause-holds c = (c.loop-place.invariant c.requires.of_module.0 c.requires.of_module.1).holds
@@ -22,44 +18,34 @@ intern_type-requires-clause-holds c = (c.loop-place.invariant c.requires.of_modu
 pub intern_type-requires-clause-named : goal.intern_type-requires-clause-named
 intern_type-requires-clause-named c =
     let of = c.requires.of_module in
-    let lt : c.loop-place.place < length c.args.types.now.declared = omega
-    (arith, c.loop-place-test.true, c.core_type_count_in_module-count.ensures) in
-    names of.0 c.args.types.now of.1 (builder_view c.loop-place.builder) c.loop-place.place c.loop-place.indices (c.loop-place.invariant of.0 of.1) lt
-    c.core_type_at_in_module-id.result.0 c.core_type_at_in_module-id.ensures.id
+    names (c.loop-place.invariant of.0 of.1) (omega (arith, c.loop-place-test.true, c.core_type_count_in_module-count.ensures))
+    c.core_type_at_in_module-id.ensures.id
 
 pub intern_type-requires-clause-room : goal.intern_type-requires-clause-room
 intern_type-requires-clause-room c = λ sound.
     let of = c.requires.of_module in
-    let lt : c.loop-place.place < length c.args.types.now.declared = omega
-    (arith, c.loop-place-test.true, c.core_type_count_in_module-count.ensures) in
-    room of.0 c.args.types.now of.1 (builder_view c.loop-place.builder) c.loop-place.place c.loop-place.indices (c.loop-place.invariant of.0 of.1) lt
-    c.core_type_at_in_module-id.result.0 c.core_type_at_in_module-id.ensures.id
+    room (c.loop-place.invariant of.0 of.1) (omega (arith, c.loop-place-test.true, c.core_type_count_in_module-count.ensures))
+    c.core_type_at_in_module-id.ensures.id
 
 pub returns-in_err-index-clause-memory : goal.returns-in_err-index-clause-memory
 returns-in_err-index-clause-memory c =
-    let sound : c.loop-place.builder.is_poisoned ≡ false = ap (λ (b : Builder). b.is_poisoned)
-    (c.loop-place.invariant c.requires.of_module.0 c.requires.of_module.1).alone in
+    let sound = ap (λ (b : Builder). b.is_poisoned) (c.loop-place.invariant c.requires.of_module.0 c.requires.of_module.1).alone in
     let p = err_from_is_err_and c.from_residual-in_err-index.result c.from_residual-in_err-index.ensures.1 in
     let memory = build-memory c.in_err-index.field-0.0
     (λ same. absurd (let no : true ≡ false = sym (c.intern_type.ensures.poisoned.0 (c.in_err-index.was ∙ ap Err same)) ∙ sound in cc)) in
-    let is : c.from_residual-in_err-index.result ≡ Err refusal.OutOfMemory = p.1 ∙ ap Err (p.2 ∙ memory) in
-    subst (λ r. OnErr r (r ≡ Err refusal.OutOfMemory)) (sym is) refl
+    rw (p.1, p.2, memory) refl
 
 pub returns-in_err-indices-clause-stops : goal.returns-in_err-indices-clause-stops
 returns-in_err-indices-clause-stops c =
-    let p = err_from_is_err_and c.from_residual.result c.from_residual.ensures.1 in
-    rw p.1 (λ sound. (0, c.requires.new))
+    rw (err_from_is_err_and c.from_residual.result c.from_residual.ensures.1).1 (λ sound. (0, c.requires.new))
 
 pub returns-in_err-push-clause-stops : goal.returns-in_err-push-clause-stops
 returns-in_err-push-clause-stops c =
-    let m = c.requires.of_module.0 in
-    let of = c.requires.of_module.1 in
-    let t = c.args.types.now in
-    let lt : c.loop-place.place < length t.declared = omega (arith, c.loop-place-test.true, c.core_type_count_in_module-count.ensures) in
+    let of = c.requires.of_module in
     let p = err_from_is_err_and c.from_residual-in_err-push.result c.from_residual-in_err-push.ensures.1 in
-    let next = interns-next m t of (builder_view c.loop-place.builder) c.loop-place.place c.loop-place.indices (c.loop-place.invariant m of) lt
-    c.core_type_at_in_module-id.result.0 c.core_type_at_in_module-id.ensures.id (builder_view c.intern_type.new.self) c.in_ok-index.index
-    c.in_ok-index.ensures.interned c.in_ok-index.ensures.index in
+    let next = interns-next (c.loop-place.invariant of.0 of.1) (omega (arith, c.loop-place-test.true, c.core_type_count_in_module-count.ensures))
+    c.core_type_at_in_module-id.ensures.id (builder_view c.intern_type.new.self) c.in_ok-index.index c.in_ok-index.ensures.interned
+    c.in_ok-index.ensures.index in
     rw p.1 (λ sound. (c.loop-place.place + 1, next.after))
 
 pub push-requires : goal.push-requires
@@ -67,18 +53,13 @@ push-requires c =
     let of = c.requires.of_module in
     let lt : c.loop-place.place < length c.args.types.now.declared = omega
     (arith, c.loop-place-test.true, c.core_type_count_in_module-count.ensures) in
-    let long = listed-long of.0 c.args.types.now of.1 (builder_view c.loop-place.builder) c.loop-place.place c.loop-place.indices
-    (c.loop-place.invariant of.0 of.1) lt in
-    omega (arith, long, lt, of.1.numbered.each, of.1.few)
+    omega (arith, listed-long (c.loop-place.invariant of.0 of.1) lt, lt, of.1.numbered.each, of.1.few)
 
 pub loop-place-preserved : goal.loop-place-preserved
 loop-place-preserved c = λ m of.
-    let t = c.args.types.now in
-    let lt : c.loop-place.place < length t.declared = omega (arith, c.loop-place-test.true, c.core_type_count_in_module-count.ensures) in
-    subst (Interns m t of (builder_view c.intern_type.new.self) (c.loop-place.place + 1)) (sym c.in_ok-push.ensures.ok)
-    (interns-next m t of (builder_view c.loop-place.builder) c.loop-place.place c.loop-place.indices (c.loop-place.invariant m of) lt
-    c.core_type_at_in_module-id.result.0 c.core_type_at_in_module-id.ensures.id (builder_view c.intern_type.new.self) c.in_ok-index.index
-    c.in_ok-index.ensures.interned c.in_ok-index.ensures.index)
+    rw c.in_ok-push.ensures.ok (interns-next (c.loop-place.invariant m of) (omega (arith, c.loop-place-test.true, c.core_type_count_in_module-count.ensures))
+    c.core_type_at_in_module-id.ensures.id (builder_view c.intern_type.new.self) c.in_ok-index.index c.in_ok-index.ensures.interned
+    c.in_ok-index.ensures.index)
 
 -- ---- all were interned
 
@@ -88,30 +69,25 @@ module _ (c : goal.After-loop-place) where
   ended m of =
       let end : c.loop-place.place ≡ length c.args.types.now.declared =
       omega (arith, c.loop-place-test.false, c.loop-place.auto.place-end, c.core_type_count_in_module-count.ensures) in
-      subst (λ (n : ℕ). Interns m c.args.types.now of (builder_view c.loop-place.builder) n c.loop-place.indices) end (c.loop-place.invariant m of)
+      rw end at c.loop-place.invariant m of
 
   long : length (builder_view c.loop-place.builder).built.types ≡ length c.loop-place.builder.list.types
   long = length-map c.loop-place.builder.list.types interned_of
 
 pub returns-clause-indices : goal.returns-clause-indices
-returns-clause-indices c = λ m of. listed-all m c.args.types.now of (builder_view c.loop-place.builder) c.loop-place.indices (ended c m of)
+returns-clause-indices c = λ m of. listed-all (ended c m of)
 
 pub returns-clause-built : goal.returns-clause-built
-returns-clause-built c = λ m of. built-all m c.args.types.now of (builder_view c.loop-place.builder) c.loop-place.indices (ended c m of)
+returns-clause-built c = λ m of. built-all (ended c m of)
 
 pub returns-clause-whole : goal.returns-clause-whole
 returns-clause-whole c = (ended c c.requires.of_module.0 c.requires.of_module.1).after
 
 pub returns-clause-held : goal.returns-clause-held
-returns-clause-held c =
-    let of = c.requires.of_module in
-    subst (AreHeld c.loop-place.indices) (long c)
-    (held-all of.0 c.args.types.now of.1 (builder_view c.loop-place.builder) c.loop-place.indices (ended c of.0 of.1))
+returns-clause-held c = rw (← long c) (held-all (ended c c.requires.of_module.0 c.requires.of_module.1))
 
 pub returns-clause-few : goal.returns-clause-few
-returns-clause-few c =
-    let of = c.requires.of_module in
-    omega (arith, sym (long c), few-all of.0 c.args.types.now of.1 (builder_view c.loop-place.builder) c.loop-place.indices (ended c of.0 of.1))
+returns-clause-few c = omega (arith, long c, few-all (ended c c.requires.of_module.0 c.requires.of_module.1))
 
 pub returns-clause-alone : goal.returns-clause-alone
 returns-clause-alone c = (c.loop-place.invariant c.requires.of_module.0 c.requires.of_module.1).alone

@@ -10,12 +10,10 @@ use Rattle.module_environ.proofs.HeldElements.{room-counts, holds-active, holds-
 use Rattle.module_environ.proofs.elements.ElementSegments.add.Goals as goal
 
 pub add_passive-requires-clause-kinds : goal.add_passive-requires-clause-kinds
-add_passive-requires-clause-kinds g c =
-    (room-counts ((goal.TypeConvert-dyn g c.args.env.now).look_up c.args.env.now.1) c.args.self.now c.requires.room).1
+add_passive-requires-clause-kinds g c = (room-counts _ c.args.self.now c.requires.room).1
 
 pub add_passive-requires-clause-passive : goal.add_passive-requires-clause-passive
-add_passive-requires-clause-passive g c =
-    (room-counts ((goal.TypeConvert-dyn g c.args.env.now).look_up c.args.env.now.1) c.args.self.now c.requires.room).2
+add_passive-requires-clause-passive g c = (room-counts _ c.args.self.now c.requires.room).2
 
 pub returns-in-Passive-clause-added : goal.returns-in-Passive-clause-added
 returns-in-Passive-clause-added g c =
@@ -31,10 +29,9 @@ returns-in-Passive-clause-added g c =
 
 pub returns-in-Declared-clause-added : goal.returns-in-Declared-clause-added
 returns-in-Declared-clause-added g c before holds =
-    let look = (goal.TypeConvert-dyn g c.args.env.now).look_up c.args.env.now.1 in
     let old = c.args.self.now in
     let new : ElementSegments = record old { count = old.count + 1 } in
-    holds-declared look before (element_of c.args.element.now) old holds new (ap element_kind_of c.in-Declared.is) refl refl refl refl refl
+    holds-declared _ before (element_of c.args.element.now) old holds new (ap element_kind_of c.in-Declared.is) refl refl refl refl refl
 
 pub returns-in_ok-push-in-Active-clause-added : goal.returns-in_ok-push-in-Active-clause-added
 returns-in_ok-push-in-Active-clause-added g c before holds =

@@ -1,7 +1,5 @@
-use Rattle.std.proofs.Common.{◌≡◌, ◌<◌, ◌∷◌, [], ℕ, List, length, get_or, set, ap, sym, ◌∙◌, subst, arith}
+use Rattle.std.proofs.Common.{◌≡◌, ◌<◌, ℕ, List, length, get_or, ap, sym, ◌∙◌, arith}
 use Rattle.std.proofs.lemmas.List.{get_or_default}
-use Rattle.module_environ.specs.EscapeLog.{after_escapes}
-use Rattle.module_environ.specs.Numbers.{AreNumbers}
 use Rattle.module_environ.proofs.Numbering.{order-few, AreNumbers-more}
 use Rattle.module_environ.proofs.NotingEscapes.{seen-new, seen-old}
 use Rattle.module_environ.proofs.escapes.Escaping.note_escape_at.Goals as goal
@@ -20,9 +18,7 @@ invariant_of-self-then-index c =
     let in' : c.args.function < length kept.numbers.items = omega (arith, ap (λ s. s.count) c.self.view_is) in
     let next : length kept.order.items ≡ c.len-number.result = omega arith in
     let e = number-read kept.numbers.items c.args.function _ in' c.index.ensures ∙ c.if-index.true in
-    subst (λ n. AreNumbers (set kept.numbers.items c.args.function n) c.push.new.self.items) next
-    (subst (λ order. AreNumbers (set kept.numbers.items c.args.function (length kept.order.items)) order) (sym c.in_ok-push.ensures.items)
-    (AreNumbers-more kept.numbers.items kept.order.items c.args.function c.self.invariant in' e))
+    rw (← next, c.in_ok-push.ensures.items) (AreNumbers-more kept.numbers.items kept.order.items c.args.function c.self.invariant in' e)
 
 pub returns-in_ok-push : goal.returns-in_ok-push
 returns-in_ok-push c =
@@ -30,9 +26,7 @@ returns-in_ok-push c =
     let in' : c.args.function < length kept.numbers.items = omega (arith, ap (λ s. s.count) c.self.view_is) in
     let next : length kept.order.items ≡ c.len-number.result = omega arith in
     let e = number-read kept.numbers.items c.args.function _ in' c.index.ensures ∙ c.if-index.true in
-    subst (λ n. record { count = length (set kept.numbers.items c.args.function n); order = c.push.new.self.items }
-    ≡ after_escapes c.args.self.now (c.args.function ∷ [])) next
-    (seen-new c.args.self.now kept.numbers.items kept.order.items c.push.new.self.items c.args.function
+    rw (← next) (seen-new c.args.self.now kept.numbers.items kept.order.items c.push.new.self.items c.args.function
     c.self.invariant c.self.view_is in' e c.in_ok-push.ensures.items)
 
 pub returns-else-index : goal.returns-else-index
