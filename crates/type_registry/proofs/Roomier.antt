@@ -51,8 +51,8 @@ are-counts [] n = one-each n
 are-counts (None ∷ os) n = (omega arith, are-counts os n)
 are-counts (Some o ∷ os) n = (omega arith, are-counts os n)
 
-module _ {Key : Type 0} (content : Key → List WasmSubType) (live : ℕ) (known : Key → Option ℕ) (gs : List (Option Group)) (os : List (Option Owner)) (free : List ℕ)
-    (k : AreKept content live known gs os free) where
+module _ {Key : Type 0} {content : Key → List WasmSubType} {live : ℕ} {known : Key → Option ℕ} {gs : List (Option Group)} {os : List (Option Owner)}
+    {free : List ℕ} (k : AreKept content live known gs os free) where
   -- the map may be another that has the same
   pub kept-known : (known' : Key → Option ℕ) → ((key : Key) → known' key ≡ known key) → AreKept content live known' gs os free
   kept-known known' same = grind (arith, common_steps)
