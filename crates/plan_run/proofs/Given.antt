@@ -1,5 +1,5 @@
 -- What a finished translation gives its parts.
-use Rattle.std.proofs.Common.{◌≡◌, ℕ, suc, ◌+◌, ◌-◌, ◌^◌, ◌<◌, ◌≤◌, List, [], ◌∷◌, ◌++◌, length, map, get_or, Option, None, Some, refl, sym, ◌∙◌, ap, subst, arith}
+use Rattle.std.proofs.Common.{◌≡◌, ℕ, suc, ◌+◌, ◌-◌, ◌^◌, ◌<◌, ◌≤◌, List, [], ◌∷◌, ◌++◌, length, map, get_or, Option, None, Some, refl, ◌∙◌, ap, arith}
 use Rattle.std.specs.Prelude.{slice_get, sum_by, All}
 use Rattle.std.proofs.lemmas.List.{length-map, length-append, length-drop}
 use Rattle.std.proofs.lemmas.List.Elements.{All-nil, All-cons, All-head, All-tail, All-map}
@@ -8,8 +8,8 @@ use Rattle.std.proofs.lemmas.Option.{slice_get-get_or, slice_get_within}
 use Rattle.wasm_spec.specs.Module.{Expression}
 use Rattle.wasm_types.specs.declared.memory.Memory.{Memory}
 use Rattle.wasm_types.specs.Memories.{minimum_bytes}
-use Rattle.replay_spec.specs.Phases.{Piece, Phase}
-use Rattle.replay_spec.specs.Plan.{MemoryPlan, PlannedSegment, PlannedOffset, Expr, Static}
+use Rattle.replay_spec.specs.Phases.{Piece}
+use Rattle.replay_spec.specs.Plan.{MemoryPlan, PlannedSegment, PlannedOffset}
 use Rattle.replay_spec.specs.Elements.{ActiveElements, elements_piece}
 use Rattle.replay_spec.specs.Values as plain
 use Rattle.replay_spec.specs.Values.{Term}
@@ -31,7 +31,7 @@ use Rattle.plan_run.specs.declared.laid.Way.{Way}
 use Rattle.plan_run.specs.declared.laid.Way.TheVariants as way
 use Rattle.plan_run.specs.Finished.{Finished, IsStatic}
 use Rattle.plan_run.specs.Laid.{LendImages}
-use Rattle.plan_run.specs.Lays.{Lays, Hold}
+use Rattle.plan_run.specs.Lays.{Hold}
 use Rattle.plan_run.specs.Limits.{most_bytes, page_size_of, own_memories}
 use Rattle.plan_run.specs.Memories.{bytes_in, plan_phase, data_piece, image_in, begun, seen, ImageIsWithin, ImagesAreWithin}
 use Rattle.plan_run.specs.Segments.{left_pieces, LendNoMore}
@@ -56,8 +56,7 @@ module _ (t : ModuleTranslation) (f : Finished t) where
   within-one w i m at = grind arith
 
   pub images-within : (w : Way) → ImagesAreWithin w (memory_plan_of t) (page_size_of t) t.module.num_imported_memories (own_memories t)
-  images-within w = within-each w (memory_plan_of t) (page_size_of t) t.module.num_imported_memories (own_memories t)
-      (λ j m at. within-one w (t.module.num_imported_memories + j) m (sym (get-drop t.module.num_imported_memories t.module.memories j) ∙ at))
+  images-within w = within-each w (memory_plan_of t) (page_size_of t) t.module.num_imported_memories (own_memories t) (λ j m at. grind (arith, get-drop))
 
   -- no imported memory has an image
   pub none-imported : (w : Way) (i : ℕ) → i < t.module.num_imported_memories → image_in w (memory_plan_of t) i ≡ None
@@ -67,10 +66,12 @@ module _ (t : ModuleTranslation) (f : Finished t) where
 pub within-of : (t : ModuleTranslation) (w : Way) (page i : ℕ) (ms : List Memory) (d : Memory) → ms ≡ t.module.memories → t.module.num_imported_memories ≤ i → i < length ms
     → ImagesAreWithin w (memory_plan_of t) page t.module.num_imported_memories (own_memories t)
     → ImageIsWithin page (minimum_bytes (get_or ms i d)) (image_in w (memory_plan_of t) i)
-within-of t w page i ms d same low high within =
-    let n : ℕ = t.module.num_imported_memories in
-    let at : slice_get (own_memories t) (i - n) ≡ Some (get_or ms i d) = grind (arith, get-drop, slice_get-get_or) in
-    grind (arith, within-at w (memory_plan_of t) page n (i - n) (own_memories t) (get_or ms i d) at within)
+within-of t w page i ms d same low high within = grind (
+  arith,
+  get-drop,
+  slice_get-get_or,
+  within-at w (memory_plan_of t) page t.module.num_imported_memories (i - t.module.num_imported_memories) (own_memories t) (get_or ms i d),
+)
 
 -- so many memories
 pub begun-count : (w : Way) (plan : MemoryPlan) (page n : ℕ) (ms : List Memory) → length (begun w plan page n ms) ≡ length ms
@@ -93,45 +94,37 @@ module _ (place_of : Expression → ℕ) (plan : MemoryPlan) where
   left-below w n (s ∷ ss) all = over w s.offset (All-head (λ (x : PlannedSegment). x.memory < n) s ss all) (left-below w n ss (All-tail (λ (x : PlannedSegment). x.memory < n) s ss all)) where
     over : (w : Way) (offset : PlannedOffset) → s.memory < n → All (λ p. p.object < n) (left_pieces w place_of plan ss)
         → All (λ p. p.object < n) (left_pieces w place_of plan (record { memory = s.memory; offset = offset; index = s.index } ∷ ss))
-    over w (Expr e) l rest = All-cons (Below n) _ (left_pieces w place_of plan ss) l rest
-    over way.Map (Static place) l rest = rest
-    over way.Copy (Static place) l rest = All-cons (Below n) _ (left_pieces way.Copy place_of plan ss) l rest
+    over w offset l rest = grind (arith, All-cons)
 
   -- images alone leave nothing to be written
   pub none-left : (segments : List PlannedSegment) → All (λ s. IsStatic s.offset) segments → left_pieces way.Map place_of plan segments ≡ []
   none-left [] all = refl
   none-left (s ∷ ss) all = grind (arith, All-head (λ (x : PlannedSegment). IsStatic x.offset) s ss all, none-left ss (All-tail (λ (x : PlannedSegment). IsStatic x.offset) s ss all))
 
--- ---- phases
-
-pub lays-count : {A : Type 0} (phase : Phase A) (n m : ℕ) (objects : List (List A)) (trapped : Option ℕ) → n ≡ m → Lays phase n objects trapped → Lays phase m objects trapped
-lays-count phase n m objects trapped same lays = subst (λ k. Lays phase k objects trapped) same lays
-
 -- ---- what the memories hold, and lend
 
 module _ (t : ModuleTranslation) (f : Finished t) (w : Way) (place_of : Expression → ℕ) (imported memories : List Contents) (many : length imported ≡ t.module.num_imported_memories)
     (are : map seen memories ≡ map seen imported ++ begun w (memory_plan_of t) (page_size_of t) t.module.num_imported_memories (own_memories t)) where
   are-so : map seen memories ≡ map seen imported ++ begun w (memory_plan_of t) (page_size_of t) (length imported) (own_memories t)
-  are-so = subst (λ k. map seen memories ≡ map seen imported ++ begun w (memory_plan_of t) (page_size_of t) k (own_memories t)) (sym many) are
+  are-so = rw many are
 
   pub memories-hold : Hold (plan_phase w place_of (bytes_in imported) (memory_plan_of t)).sizes (plan_phase w place_of (bytes_in imported) (memory_plan_of t)).base (bytes_in memories)
   memories-hold = begun-hold w (memory_plan_of t) (page_size_of t) imported memories (own_memories t) are-so place_of refl
-      (λ i l. none-imported t f w i (subst (λ k. i < k) many l)) (subst (λ k. ImagesAreWithin w (memory_plan_of t) (page_size_of t) k (own_memories t)) (sym many) (images-within t f w))
+      (λ i l. none-imported t f w i (rw many at l)) (rw many (images-within t f w))
 
   alone-at : (i : ℕ) (image : ℕ × List ℕ) → image_in way.Map (memory_plan_of t) i ≡ Some image → All (λ s. IsStatic s.offset) (memory_plan_of t).segments
   alone-at i image is = grind arith
 
   pub shared-after : (new : List Contents) → LendNoMore memories new → (left_pieces w place_of (memory_plan_of t) (memory_plan_of t).segments ≡ [] → new ≡ memories) → LendImages t w new
-  shared-after new less still i memory at high =
-      grind (
-        arith,
-        slice_get_within new i memory at,
-        less.count,
-        slice_get-get_or memories i memory,
-        begun-lent w (memory_plan_of t) (page_size_of t) imported memories (own_memories t) are-so i (get_or memories i memory),
-        alone-at,
-        none-left,
-      )
+  shared-after new less still i memory at high = grind (
+    arith,
+    slice_get_within new i memory at,
+    less.count,
+    slice_get-get_or memories i memory,
+    alone-at,
+    none-left,
+    begun-lent w (memory_plan_of t) (page_size_of t) imported memories (own_memories t) are-so i (get_or memories i memory),
+  )
 
 pub nil-mapped : {A B : Type 0} (f : A → B) (xs : List A) → map f xs ≡ [] → xs ≡ []
 nil-mapped f [] is = refl
