@@ -76,9 +76,8 @@ module _ {Key : Type 0} {content : Key → List WasmSubType} {live : ℕ} {known
   was n h here = by (nat_eq n f) refl where
     by : (c : Bool) → nat_eq n f ≡ c → Alike gs n h
     by true e =
-        let same : n ≡ f = eqb-true n f e in
-        let is : h ≡ g' = same_Some h g' (sym here ∙ ap (group_in counted) same ∙ set-here gs f (Some g') (group-within gs f g at)) in
-        record { group = g; kept = ap (group_in gs) same ∙ at; indices = ap (λ (x : Group). x.indices) is; canonical = ap (λ (x : Group). x.canonical) is }
+        let is : h ≡ g' = grind (arith, eqb-true n f e, set-here gs f (Some g') (group-within gs f g at)) in
+        record { group = g; kept = ap (group_in gs) (eqb-true n f e) ∙ at; indices = ap (λ (x : Group). x.indices) is; canonical = ap (λ (x : Group). x.canonical) is }
     by false e = record { group = h; kept = sym (set-other gs f n (Some g') (eqb-false n f e)) ∙ here; indices = refl; canonical = refl }
 
   -- and the other way round
@@ -86,9 +85,9 @@ module _ {Key : Type 0} {content : Key → List WasmSubType} {live : ℕ} {known
   still n h here = by (nat_eq n f) refl where
     by : (c : Bool) → nat_eq n f ≡ c → Alike counted n h
     by true e =
-        let same : n ≡ f = eqb-true n f e in
-        let is : h ≡ g = same_Some h g (sym here ∙ ap (group_in gs) same ∙ at) in
-        record { group = g'; kept = ap (group_in counted) same ∙ set-here gs f (Some g') (group-within gs f g at); indices = ap (λ (x : Group). x.indices) is; canonical = ap (λ (x : Group). x.canonical) is }
+        let kept : group_in counted n ≡ Some g' = grind (arith, eqb-true n f e, set-here gs f (Some g') (group-within gs f g at)) in
+        let is : h ≡ g = grind (arith, eqb-true n f e) in
+        record { group = g'; kept = kept; indices = ap (λ (x : Group). x.indices) is; canonical = ap (λ (x : Group). x.canonical) is }
     by false e = record { group = h; kept = set-other gs f n (Some g') (eqb-false n f e) ∙ here; indices = refl; canonical = refl }
 
   pub kept-counted : AreKept content live known counted os free

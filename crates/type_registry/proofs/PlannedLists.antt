@@ -118,11 +118,11 @@ module _ (equal : (x y : List WasmSubType) → (Eq x y ≡ true) ↔ (x ≡ y)) 
   had-now : (first : ℕ) (g : Group) → kept_at now first ≡ Some g → 0 < g.count
   had-now first g is = grind (
     arith,
-    counted-was kept p.listed.groups first g is,
     kept-was,
-    counted-more kept p.listed.groups first listed-by.there,
-    count-kept first,
     b.had,
+    count-kept first,
+    counted-was kept p.listed.groups first g is,
+    counted-more kept p.listed.groups first listed-by.there,
     all-listed equal r.groups l begun (map span_of l.groups) first (omega arith),
   )
 

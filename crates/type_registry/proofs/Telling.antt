@@ -77,13 +77,11 @@ module _ {r : Registry} {a b : ℕ} {l m : TypeList} (listed : Listed l) (listed
   one k o i j lt lt' low high low' high' =
       let x = group-at listed st k lt in
       let y = group-at listed' st' o lt' in
-      let p = i - (span_at (list_of l) k).start in
-      let q = j - (span_at (list_of m) o).start in
       let first = get_or is (span_at (list_of l) k).start 0 in
       let first' = get_or js (span_at (list_of m) o).start 0 in
       let at = member listed st k lt i low high (short listed st k lt i high) in
       let at' = member listed' st' o lt' j low' high' (short listed' st' o lt' j high') in
-      let owned = st.sound.owned first first' p q (get_or js j 0) x.group y.group x.kept y.kept in
+      let owned = st.sound.owned first first' (i - (span_at (list_of l) k).start) (j - (span_at (list_of m) o).start) (get_or js j 0) x.group y.group x.kept y.kept in
       let groups = st.sound.groups first first' x.group y.group x.kept y.kept in
       grind arith
 

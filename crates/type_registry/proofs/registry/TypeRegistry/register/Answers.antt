@@ -1,4 +1,4 @@
-use Rattle.std.proofs.Common.{arith, ◌≡◌, ◌∙◌, ◌+◌, ℕ, nat_eq, length, map, refl, sym, ap, subst}
+use Rattle.std.proofs.Common.{arith, ◌≡◌, ◌∙◌, ◌+◌, ◌<◌, ℕ, nat_eq, length, map, refl, sym, ap, subst}
 use Rattle.std.specs.Map.{lookup}
 use Rattle.std.proofs.lemmas.Option.{none-some}
 use Rattle.module_types.specs.Views.{span_of}
@@ -75,40 +75,21 @@ balanced c = rw (now-is c) (registered-balanced c.equality_law.ensures.group (re
 
 pub invariant_of-self-2 : goal.invariant_of-self-2
 invariant_of-self-2 c =
-    let s = c.self.inside in
     let r = c.args.self.now in
     let l = c.args.types.now in
-    let gs = c.make_room.new.self.groups in
-    let es = c.into_groups.result.items in
-    let fs = c.listed.inside.listed.groups in
-    let whole : plan c.listed.inside.listed c.listed.inside.fresh ≡ planned (registry_of r) l = c.listed.view_is ∙ c.in_ok-listed.ensures.ok in
-    let items : es ≡ (planned (registry_of r) l).fresh = c.into_groups.ensures ∙ ap (λ (p : Plan). p.fresh) whole in
-    let groups : gs ≡ r.groups = c.make_room.ensures.groups ∙ ap (λ (x : RegistryState). x.groups) c.self.view_is in
-    let fits = c.in_ok-listed.ensures.fits in (
-      omega (
-        arith,
-        ap (λ (x : Groups). length (indices_of x)) c.keep_planned.ensures,
-        counted-long (keep_groups gs es) fs,
-        length-both gs es,
-        ap (λ (x : Groups). length (indices_of x)) groups,
-        ap (λ (x : Groups). length (indices_of x)) items,
-        ap (λ (x : RegistryState). x.max_types) c.self.view_is,
-        fits,
-      ),
+    let p = planned (registry_of r) l in
+    let kept = keep_groups r.groups p.fresh in
+    let now : c.keep_planned.new.groups.groups ≡ count_groups kept p.listed.groups = ap (λ (x : Registry). x.groups) (now-is c) in
+    let most = ap (λ (x : RegistryState). x.max_types) c.self.view_is in
+    let long = ap (λ (x : Groups). length (indices_of x)) now in
+    let tally = ap counted now in
+    let many = ap (λ (x : RegistryState). counted x.groups) c.self.view_is in
+    let few : length p.listed.groups < 4294967296 = omega (arith, ap (λ (x : Plan). length x.listed.groups) c.in_ok-listed.ensures.ok, c.in_ok-listed.ensures.few) in
+    let none = fresh-counted r.groups l begun (map span_of l.groups) refl in (
+      omega (arith, counted-long kept p.listed.groups, length-both r.groups p.fresh, c.in_ok-listed.ensures.fits),
       c.self.invariant.1,
       balanced c,
-      omega (
-        arith,
-        ap counted c.keep_planned.ensures,
-        counted-all (keep_groups gs es) fs,
-        counted-both gs es,
-        ap counted c.make_room.ensures.groups,
-        c.self.invariant.3,
-        ap counted items,
-        fresh-counted r.groups l begun (map span_of l.groups) refl,
-        ap (λ (p : Plan). length p.listed.groups) c.listed.view_is,
-        c.in_ok-listed.ensures.few,
-      ),
+      omega (arith, counted-all kept p.listed.groups, counted-both r.groups p.fresh, c.self.invariant.3),
     )
 
 pub returns-clause-ok : goal.returns-clause-ok
