@@ -66,12 +66,9 @@ module _ (t : ModuleTranslation) (f : Finished t) where
 pub within-of : (t : ModuleTranslation) (w : Way) (page i : ℕ) (ms : List Memory) (d : Memory) → ms ≡ t.module.memories → t.module.num_imported_memories ≤ i → i < length ms
     → ImagesAreWithin w (memory_plan_of t) page t.module.num_imported_memories (own_memories t)
     → ImageIsWithin page (minimum_bytes (get_or ms i d)) (image_in w (memory_plan_of t) i)
-within-of t w page i ms d same low high within = grind (
-  arith,
-  get-drop,
-  slice_get-get_or,
-  within-at w (memory_plan_of t) page t.module.num_imported_memories (i - t.module.num_imported_memories) (own_memories t) (get_or ms i d),
-)
+within-of t w page i ms d same low high within =
+    let own = within-at w (memory_plan_of t) page t.module.num_imported_memories (i - t.module.num_imported_memories) (own_memories t) (get_or ms i d) in
+    grind (arith, get-drop, slice_get-get_or)
 
 -- so many memories
 pub begun-count : (w : Way) (plan : MemoryPlan) (page n : ℕ) (ms : List Memory) → length (begun w plan page n ms) ≡ length ms
@@ -116,15 +113,9 @@ module _ (t : ModuleTranslation) (f : Finished t) (w : Way) (place_of : Expressi
   alone-at i image is = grind arith
 
   pub shared-after : (new : List Contents) → LendNoMore memories new → (left_pieces w place_of (memory_plan_of t) (memory_plan_of t).segments ≡ [] → new ≡ memories) → LendImages t w new
-  shared-after new less still i memory at high = grind (
-    arith,
-    slice_get_within new i memory at,
-    less.count,
-    slice_get-get_or memories i memory,
-    alone-at,
-    none-left,
-    begun-lent w (memory_plan_of t) (page_size_of t) imported memories (own_memories t) are-so i (get_or memories i memory),
-  )
+  shared-after new less still i memory at high =
+      let lent = begun-lent w (memory_plan_of t) (page_size_of t) imported memories (own_memories t) are-so i (get_or memories i memory) in
+      grind (arith, slice_get_within new i memory at, less.count, slice_get-get_or memories i memory, alone-at, none-left)
 
 pub nil-mapped : {A B : Type 0} (f : A → B) (xs : List A) → map f xs ≡ [] → xs ≡ []
 nil-mapped f [] is = refl

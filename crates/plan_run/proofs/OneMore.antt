@@ -73,12 +73,10 @@ equal-mean nodes v m n one = record { below = All-replicate (NamesBelow (length 
 pub plain-tables : (nodes : List Node) (tables : List (Vec Value)) → All (λ table. All IsPlain table.items) tables
     → TablesMean nodes tables (map (λ table. map imported_value table.items) tables)
 plain-tables nodes [] none = record { below = All-nil (λ (x : Vec Value). All (NamesBelow (length nodes)) x.items); are = refl }
-plain-tables nodes (t ∷ ts) none = grind (
-  arith,
-  All-cons,
-  plain-mean nodes t.items (All-head (λ (x : Vec Value). All IsPlain x.items) t ts none),
-  (plain-tables nodes ts (All-tail (λ (x : Vec Value). All IsPlain x.items) t ts none)),
-)
+plain-tables nodes (t ∷ ts) none =
+    let one = plain-mean nodes t.items (All-head (λ (x : Vec Value). All IsPlain x.items) t ts none) in
+    let rest = plain-tables nodes ts (All-tail (λ (x : Vec Value). All IsPlain x.items) t ts none) in
+    grind (arith, All-cons)
 
 -- cells that are filled up to a size
 pub filled : {A B C : Type 0} (f : A → C) (h : B → C) (xs : List A) (ys : List B) (n count : ℕ) (x : A) (y : B) → f x ≡ h y → map f xs ≡ map h ys → length xs ≤ n
