@@ -1,4 +1,4 @@
-use Rattle.std.proofs.Common.{arith, rules, ◌≡◌, ◌∙◌, ◌<◌, ◌∷◌, [], length, map, refl, sym, ap, subst}
+use Rattle.std.proofs.Common.{arith, rules, ◌≡◌, ◌<◌, ◌∷◌, [], length, sym, ap, subst}
 use Rattle.type_spec.specs.Interned.{Span}
 use Rattle.module_types.specs.Views.{span_of}
 use Rattle.type_registry.specs.Registry.{indices_of}
@@ -8,18 +8,7 @@ use Rattle.type_registry.proofs.PlanGroups.{spans_left, spans-keyed, may-plan, g
 use Rattle.type_registry.proofs.planning.plan_groups.Goals as goal
 
 pub loop-group-init : goal.loop-group-init
-loop-group-init c =
-    let l = c.args.source.types.now in
-    let left : spans_left c.into_iter-group-iterator.result ≡ map span_of l.groups =
-    ap spans_left (c.into_iter-group-iterator.ensures.into_iter_gives ∙ c.rec_groups-group-items.ensures) ∙ spans-keyed l.groups in
-    let listed = c.in_ok-listed.ensures in
-    let fresh : c.new-fresh.result ≡ [] = c.new-fresh.ensures in
-    record {
-      rest = rw (left, listed, fresh) refl;
-      may = rw (left, listed) (may-plan l c.requires.listed (omega (arith, c.len_types.ensures.count, c.len_types.ensures.below)));
-      free = rw fresh refl;
-      room = rw fresh (omega arith);
-    }
+loop-group-init c = grind (arith, spans_left, spans-keyed, [], may-plan)
 
 -- the group that comes next
 pub loop-group-preserved : goal.loop-group-preserved

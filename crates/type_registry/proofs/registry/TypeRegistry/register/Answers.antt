@@ -16,23 +16,14 @@ use Rattle.type_registry.proofs.Registered.{registered-stands, others-stand}
 use Rattle.type_registry.proofs.Counting.{counted-all}
 use Rattle.type_registry.proofs.KeepingAll.{may-keep-all}
 use Rattle.type_registry.proofs.Leaving.{counted-long}
-use Rattle.type_registry.proofs.PlanGroups.{AreNew, planned-new, new-may-keep, fresh-counted, counted-both, length-both}
+use Rattle.type_registry.proofs.PlanGroups.{planned-new, new-may-keep, fresh-counted, counted-both, length-both}
 use Rattle.type_registry.proofs.registry.TypeRegistry.register.Goals as goal
 
 pub keep_planned-requires-clause-may : goal.keep_planned-requires-clause-may
-keep_planned-requires-clause-may c =
-    let r = c.args.self.now in
-    let st = c.make_room.new.self in
-    let es = c.into_groups.result.items in
-    let items : es ≡ (planned (registry_of r) c.args.types.now).fresh = c.into_groups.ensures ∙ ap (λ (p : Plan). p.fresh) (c.listed.view_is ∙ c.in_ok-listed.ensures.ok) in
-    let groups : st.groups ≡ r.groups = c.make_room.ensures.groups ∙ ap (λ (x : RegistryState). x.groups) c.self.view_is in
-    let new : AreNew st.groups es = rw (groups, items) (planned-new r.groups c.args.types.now) in
-    may-keep-all es st (new-may-keep st es new (grind arith) (grind arith) (grind arith))
+keep_planned-requires-clause-may c = grind (arith, planned-new, may-keep-all, new-may-keep)
 
 pub keep_planned-requires-clause-few : goal.keep_planned-requires-clause-few
-keep_planned-requires-clause-few c =
-    let none = fresh-counted c.args.self.now.groups c.args.types.now begun (map span_of c.args.types.now.groups) refl in
-    grind arith
+keep_planned-requires-clause-few c = grind (arith, fresh-counted)
 
 -- the registry after
 abbrev after : goal.After-self-2-1 → RegistryState
@@ -62,13 +53,7 @@ before : (c : goal.After-self-2-1) → IsBalanced (registry_of c.args.self.now)
 before c = subst (λ (r : RegistryState). IsBalanced (registry_of r)) c.self.view_is c.self.invariant.2
 
 may : (c : goal.After-self-2-1) → MayRegister (registry_of c.args.self.now) c.args.types.now
-may c = record {
-  listed = c.requires;
-  few = c.in_ok-listed.ensures.short;
-  most = grind arith;
-  fits = c.in_ok-listed.ensures.fits;
-  sound = (before c).sound;
-}
+may c = grind (arith, before)
 
 balanced : (c : goal.After-self-2-1) → IsBalanced (registry_of (after c))
 balanced c = rw (now-is c) (registered-balanced c.equality_law.ensures.group (registry_of c.args.self.now) c.args.types.now (may c) (before c))

@@ -2,7 +2,7 @@ use Rattle.std.proofs.Common.{rules, arith, ◌≡◌, ◌∙◌, Some, None, sy
 use Rattle.type_registry.specs.contracts.kept.Held as held
 use Rattle.type_registry.specs.contracts.registry.TypeRegistry as seen
 use Rattle.type_registry.specs.Registry.{Module, RegistryState, registry_of}
-use Rattle.type_registry.specs.Changes.{leave_groups, released_by}
+use Rattle.type_registry.specs.Changes.{released_by}
 use Rattle.type_registry.specs.Balanced.{IsBalanced}
 use Rattle.type_registry.proofs.Balance.{left-balanced, left-index, left-stands, live-held}
 use Rattle.type_registry.proofs.Counting.{counted-left}
@@ -20,10 +20,7 @@ was-held : (c : goal.After-drop-held-inside-2) → (registry_of (seen.the_view c
 was-held c = sym c.remove.ensures.value ∙ c.in-Some.is ∙ ap Some (sym c.held.view_is)
 
 now-is : (c : goal.After-drop-held-inside-2) → registry_of (after c) ≡ released_by (registry_of (seen.the_view c.self.inside)) c.args.key.0 (Some (gone c))
-now-is c =
-    let gs = c.self.inside.groups.groups in
-    let groups : c.leave_all.new.groups.groups ≡ leave_groups gs (gone c).groups = c.leave_all.ensures ∙ ap (leave_groups gs) c.deref.ensures.value in
-    λ i. record (registry_of (seen.the_view c.self.inside)) { held = λ k. c.remove.ensures.updates.0 k i; groups = groups i }
+now-is c = grind arith
 
 balanced : (c : goal.After-drop-held-inside-2) → IsBalanced (registry_of (after c))
 balanced c = rw (now-is c) (left-balanced (registry_of (seen.the_view c.self.inside)) c.self.invariant.2 c.args.key.0 (gone c) (was-held c))
