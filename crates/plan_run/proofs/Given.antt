@@ -75,10 +75,11 @@ pub begun-count : (w : Way) (plan : MemoryPlan) (page n : ℕ) (ms : List Memory
 begun-count w plan page n [] = refl
 begun-count w plan page n (m ∷ ms) = ap suc (begun-count w plan page (n + 1) ms)
 
-pub memory-count : (t : ModuleTranslation) (w : Way) (plan : MemoryPlan) (page n : ℕ) (imported memories : List Contents)
+pub memory-count : (t : ModuleTranslation) (w : Way) (imported memories : List Contents)
     → t.module.num_imported_memories ≤ length t.module.memories → length imported ≡ t.module.num_imported_memories
-    → map seen memories ≡ map seen imported ++ begun w plan page n (own_memories t) → length memories ≡ length t.module.memories
-memory-count t w plan page n imported memories few many are = grind (arith, length-map, length-append, begun-count, length-drop)
+    → map seen memories ≡ map seen imported ++ begun w (memory_plan_of t) (page_size_of t) t.module.num_imported_memories (own_memories t)
+    → length memories ≡ length t.module.memories
+memory-count t w imported memories few many are = grind (arith, length-map, length-append, begun-count, length-drop)
 
 -- ---- segments
 
@@ -126,9 +127,8 @@ nil-mapped f (x ∷ xs) is = absurd cc
 pub planned-count : (ts : List Table) (vs : List TableInitialValue) (images : List (List (Option ℕ))) → length ts ≡ length vs → length images ≡ length vs
     → length (planned_tables_of ts vs images) ≡ length ts
 planned-count [] vs images one two = refl
-planned-count (t ∷ ts) [] images one two = absurd (omega arith)
-planned-count (t ∷ ts) (v ∷ vs) [] one two = absurd (omega arith)
 planned-count (t ∷ ts) (v ∷ vs) (i ∷ images) one two = ap suc (planned-count ts vs images (omega arith) (omega arith))
+planned-count _ _ _ one two = absurd (omega arith)
 
 -- so many tables are planned
 pub tables-planned : (t : ModuleTranslation) → AreCounted t → length (plan_of_tables t).tables ≡ length (own_tables t)

@@ -2,7 +2,7 @@ use Rattle.std.proofs.Common.{◌∙◌, inl, length, map, ap, sym}
 use Rattle.replay_spec.specs.Values.{offset_over}
 use Rattle.init_plan.specs.Views.{memory_plan_of}
 use Rattle.plan_run.specs.Fields.{field_count_in}
-use Rattle.plan_run.specs.Limits.{page_size_of, own_memories}
+use Rattle.plan_run.specs.Limits.{own_memories}
 use Rattle.plan_run.specs.Memories.{bytes_in, plan_phase, data_piece}
 use Rattle.plan_run.specs.Segments.{left_pieces}
 use Rattle.plan_run.specs.Values.{values_in, terms_of}
@@ -22,8 +22,7 @@ write_pieces-requires c =
     let plan = memory_plan_of t in
     let place_of = offset_over (values_in (terms_of c.args.nodes.now.items) c.args.globals.now) (field_count_in t c.args.types.now) in
     let n = length c.in_ok-memories.memories.items in
-    let many = memory-count t c.args.way plan (page_size_of t) t.«module».num_imported_memories c.args.imported.items c.in_ok-memories.memories.items
-    c.requires.finished.memories.imports c.requires.imports c.in_ok-memories.ensures in
+    let many = memory-count t c.args.way c.args.imported.items c.in_ok-memories.memories.items c.requires.finished.memories.imports c.requires.imports c.in_ok-memories.ensures in
     data-below n (left_pieces c.args.way place_of plan plan.segments) c.deref.result.now
     (left-below place_of plan c.args.way n plan.segments (rw many c.requires.finished.memories.segments)) (rw c.deref.ensures.value c.in_ok-pieces.ensures.pieces)
 
@@ -34,7 +33,7 @@ returns-clause-laid c =
     let place_of = offset_over (values_in (terms_of c.args.nodes.now.items) c.args.globals.now) (field_count_in t c.args.types.now) in
     let imported = c.args.imported.items in
     let memories = c.in_ok-memories.memories.items in
-    let many = memory-count t c.args.way plan (page_size_of t) t.«module».num_imported_memories imported memories c.requires.finished.memories.imports c.requires.imports c.in_ok-memories.ensures in
+    let many = memory-count t c.args.way imported memories c.requires.finished.memories.imports c.requires.imports c.in_ok-memories.ensures in
     rw (← many) (c.in_ok-trap.ensures.writes (plan_phase c.args.way place_of (bytes_in imported) plan)
     (pieces-left place_of plan c.args.way (bytes_in imported) ∙ sym (rw c.deref.ensures.value c.in_ok-pieces.ensures.pieces))
     (memories-hold t c.requires.finished c.args.way place_of imported memories c.requires.imports c.in_ok-memories.ensures))
