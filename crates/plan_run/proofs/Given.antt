@@ -1,5 +1,5 @@
 -- What a finished translation gives its parts.
-use Rattle.std.proofs.Common.{◌≡◌, ℕ, suc, ◌+◌, ◌-◌, ◌^◌, ◌<◌, ◌≤◌, List, [], ◌∷◌, ◌++◌, length, map, get_or, Option, None, Some, refl, ◌∙◌, ap, arith}
+use Rattle.std.proofs.Common.{◌≡◌, ℕ, suc, ◌+◌, ◌-◌, ◌^◌, ◌<◌, ◌≤◌, List, [], ◌∷◌, ◌++◌, length, map, get_or, Option, None, Some, refl, ap, arith}
 use Rattle.std.specs.Prelude.{slice_get, sum_by, All}
 use Rattle.std.proofs.lemmas.List.{length-map, length-append, length-drop}
 use Rattle.std.proofs.lemmas.List.Elements.{All-nil, All-cons, All-head, All-tail, All-map}
@@ -13,13 +13,9 @@ use Rattle.replay_spec.specs.Plan.{MemoryPlan, PlannedSegment, PlannedOffset}
 use Rattle.replay_spec.specs.Elements.{ActiveElements, elements_piece}
 use Rattle.replay_spec.specs.Values as plain
 use Rattle.replay_spec.specs.Values.{Term}
-use Rattle.std.specs.Global.{Vec}
-use Rattle.wasm_index.specs.declared.index.Index.{Index}
-use Rattle.wasm_index.specs.declared.spaces.FuncSpace.{FuncSpace}
 use Rattle.wasm_types.specs.declared.table.Table.{Table}
 use Rattle.wasm_module.specs.declared.table_initialization.TableInitialValue.{TableInitialValue}
-use Rattle.table_images.specs.Steps.{images_of}
-use Rattle.table_images.specs.Views.{image_of, planned_tables_of}
+use Rattle.table_images.specs.Views.{planned_tables_of}
 use Rattle.init_plan.specs.Tables.{plan_of_tables, own_tables, AreCounted}
 use Rattle.plan_run.specs.declared.elements.ElementPiece.{ElementPiece}
 use Rattle.plan_run.specs.declared.segments.DataPiece.{DataPiece}
@@ -107,8 +103,7 @@ module _ (t : ModuleTranslation) (f : Finished t) (w : Way) (place_of : Expressi
   are-so = rw many are
 
   pub memories-hold : Hold (plan_phase w place_of (bytes_in imported) (memory_plan_of t)).sizes (plan_phase w place_of (bytes_in imported) (memory_plan_of t)).base (bytes_in memories)
-  memories-hold = begun-hold w (memory_plan_of t) (page_size_of t) imported memories (own_memories t) are-so place_of refl
-      (λ i l. none-imported t f w i (rw many at l)) (rw many (images-within t f w))
+  memories-hold = grind (arith, begun-hold, are-so, none-imported, images-within)
 
   alone-at : (i : ℕ) (image : ℕ × List ℕ) → image_in way.Map (memory_plan_of t) i ≡ Some image → All (λ s. IsStatic s.offset) (memory_plan_of t).segments
   alone-at i image is = grind arith
@@ -132,8 +127,7 @@ planned-count _ _ _ one two = absurd (omega arith)
 
 -- so many tables are planned
 pub tables-planned : (t : ModuleTranslation) → AreCounted t → length (plan_of_tables t).tables ≡ length (own_tables t)
-tables-planned t counted = planned-count (own_tables t) t.table_initialization.initial_values (images_of t.module.table_initialization) counted.values
-    (length-map t.module.table_initialization (λ (image : Vec (Index FuncSpace)). image_of image.items) ∙ counted.images)
+tables-planned t counted = grind (arith, planned-count, length-map)
 
 pub elements-below : (globals : List plain.Value) (fields : ℕ → ℕ) (terms : List Term) (n : ℕ) (segments : List ActiveElements) (pieces : List ElementPiece)
     → All (λ s. s.table < n) segments → map (element_piece terms) pieces ≡ map (elements_piece globals fields) segments → All (λ p. p.table < n) pieces

@@ -1,5 +1,5 @@
 -- Terms stay when nodes are appended.
-use Rattle.std.proofs.Common.{◌≡◌, ℕ, zero, suc, ◌+◌, ◌<◌, ◌≤◌, List, [], ◌∷◌, ◌++◌, length, map, Some, refl, sym, ◌∙◌, ap, arith, zero-add}
+use Rattle.std.proofs.Common.{◌≡◌, ℕ, zero, suc, ◌+◌, ◌<◌, ◌≤◌, List, [], ◌∷◌, ◌++◌, length, map, Some, refl, sym, ap, arith, zero-add}
 use Rattle.std.specs.Prelude.{slice_get, All}
 use Rattle.std.proofs.lemmas.Bool.{cases_lt}
 use Rattle.std.proofs.lemmas.List.{append_assoc, append-nil, length-append, length_push}
@@ -27,8 +27,7 @@ length-terms terms (n ∷ ns) = omega (arith, length-terms (terms ++ term_of ter
 
 terms-low : (terms : List Term) (ns : List Node) (k : ℕ) → k < length terms → slice_get (terms_after terms ns) k ≡ slice_get terms k
 terms-low terms [] k l = refl
-terms-low terms (n ∷ ns) k l =
-    terms-low (terms ++ term_of terms n ∷ []) ns k (omega (arith, length_push terms (term_of terms n))) ∙ get-append-low terms (term_of terms n ∷ []) k l
+terms-low terms (n ∷ ns) k l = grind (arith, [], length_push, get-append-low, (terms-low (terms ++ term_of terms n ∷ []) ns k (omega (arith, length_push terms (term_of terms n)))))
 
 -- ---- values over terms that agree
 

@@ -38,5 +38,4 @@ pub first-globals : (terms : List Term) (imported all : List Value) (n count : �
     → n - length imported ≡ count → all ≡ take n imported ++ replicate (n - length imported) null
     → values_in terms imported ≡ map imported_value imported
     → values_in terms all ≡ map imported_value imported ++ replicate count (plain.Ref plain.Null)
-first-globals terms imported all n count null is few many are same =
-    grind (arith, take_all n imported few, map-append (value_in terms) imported (replicate count null), map-replicate (value_in terms) null (plain.Ref plain.Null) count is)
+first-globals terms imported all n count null is few many are same = grind (arith, take_all, map-append, map-replicate)

@@ -16,11 +16,7 @@ returns-then-minimum_of-len c = λ values many.
     (λ e. absurd (false≢true e), λ all. absurd (not-short c.args.tables.now values images many c.requires i found.0 image found.1 at (omega arith) (omega arith) all))
 
 pub loop-i-preserved : goal.loop-i-preserved
-loop-i-preserved c = λ k t image l table_at image_at.
-    let own = c.index-images-i.result in
-    let own_at = slice_get_read c.args.images.now (length c.args.images.now) c.loop-i.i own refl c.loop-i-test.true c.index-images-i.is in
-    grind (arith, cases_eq k c.loop-i.i, c.minimum_of.ensures t, own_at, c.len.ensures, own.ok.0, c.if-minimum_of-len.false, c.loop-i.invariant k t image)
+loop-i-preserved c = grind (arith, slice_get_read, cases_eq)
 
 pub returns : goal.returns
-returns c = λ values many.
-    (λ e. all-short c.args.tables.now values c.args.images.now many c.requires (λ i t image low a b. c.loop-i.invariant i t image (omega arith) a b), λ all. refl)
+returns c = grind (arith, all-short)

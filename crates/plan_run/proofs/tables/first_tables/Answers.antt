@@ -12,11 +12,7 @@ use Rattle.plan_run.proofs.Terms.{grows-on, grows-same, kept-values}
 use Rattle.plan_run.proofs.tables.first_tables.Goals as goal
 
 pub loop-number-init : goal.loop-number-init
-loop-number-init c = record {
-  grows = grows-same c.args.nodes.now.items c.requires.ordered;
-  means = rw (append-nil (map (λ table. map imported_value table.items) c.args.imported.items))
-      (plain-tables c.args.nodes.now.items c.args.imported.items c.requires.plain);
-}
+loop-number-init c = grind (arith, grows-same, append-nil, plain-tables)
 
 pub loop-number-preserved : goal.loop-number-preserved
 loop-number-preserved c =
@@ -41,7 +37,4 @@ loop-number-preserved c =
     }
 
 pub returns-clause-means : goal.returns-clause-means
-returns-clause-means c =
-    let t = c.args.translation.now in
-    rw (take_all c.loop-number.number (plan_of_tables t).tables (omega (arith, length-drop t.«module».num_imported_tables t.«module».tables, tables-planned t c.requires.counted)))
-    at c.loop-number.invariant.means
+returns-clause-means c = grind (arith, take_all, length-drop, tables-planned)

@@ -1,9 +1,9 @@
-use Rattle.std.proofs.Common.{◌∙◌, inl, length, map, ap, sym}
+use Rattle.std.proofs.Common.{◌∙◌, inl, length, sym, arith}
 use Rattle.replay_spec.specs.Values.{offset_over}
 use Rattle.init_plan.specs.Views.{memory_plan_of}
 use Rattle.plan_run.specs.Fields.{field_count_in}
 use Rattle.plan_run.specs.Limits.{own_memories}
-use Rattle.plan_run.specs.Memories.{bytes_in, plan_phase, data_piece}
+use Rattle.plan_run.specs.Memories.{bytes_in, plan_phase}
 use Rattle.plan_run.specs.Segments.{left_pieces}
 use Rattle.plan_run.specs.Values.{values_in, terms_of}
 use Rattle.plan_run.proofs.Given.{each-small, images-within, memory-count, left-below, data-below, memories-hold, shared-after, nil-mapped}
@@ -39,9 +39,4 @@ returns-clause-laid c =
     (memories-hold t c.requires.finished c.args.way place_of imported memories c.requires.imports c.in_ok-memories.ensures))
 
 pub returns-clause-shared : goal.returns-clause-shared
-returns-clause-shared c =
-    let t = c.args.translation.now in
-    let place_of = offset_over (values_in (terms_of c.args.nodes.now.items) c.args.globals.now) (field_count_in t c.args.types.now) in
-    shared-after t c.requires.finished c.args.way place_of c.args.imported.items c.in_ok-memories.memories.items c.requires.imports c.in_ok-memories.ensures
-    c.write_pieces.new.memories.items c.in_ok-trap.ensures.lent
-    (λ none. ap (λ v. v.items) (c.in_ok-trap.ensures.still (nil-mapped data_piece c.deref.result.now (ap (map data_piece) c.deref.ensures.value ∙ c.in_ok-pieces.ensures.pieces ∙ none))))
+returns-clause-shared c = grind (arith, shared-after, nil-mapped)

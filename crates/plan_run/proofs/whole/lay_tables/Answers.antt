@@ -3,7 +3,7 @@ use Rattle.std.proofs.lemmas.List.{length-map, length-append, length-drop}
 use Rattle.replay_spec.specs.Tables.{planned_elements_phase}
 use Rattle.init_plan.specs.Tables.{plan_of_tables}
 use Rattle.plan_run.specs.Fields.{field_count_in}
-use Rattle.plan_run.specs.Tables.{cells_in, first_cells}
+use Rattle.plan_run.specs.Tables.{cells_in}
 use Rattle.plan_run.specs.Values.{values_in, terms_of, imported_value}
 use Rattle.plan_run.proofs.FirstCells.{tables-hold}
 use Rattle.plan_run.proofs.Given.{tables-planned, elements-below}
@@ -14,10 +14,7 @@ use Rattle.plan_run.proofs.whole.lay_tables.Goals as goal
 
 -- so many tables are laid as the module has
 many : (c : In_ok-tables) → length c.in_ok-tables.tables.items ≡ length c.args.translation.now.«module».tables
-many c =
-    let t = c.args.translation.now in
-    let cells = first_cells (values_in (terms_of c.args.nodes.now.items) c.args.globals.now) (field_count_in t c.args.types.now) in
-    grind (arith, length-map, length-append, tables-planned t c.requires.finished.tables.counted, length-drop t.«module».num_imported_tables t.«module».tables)
+many c = grind (arith, length-map, length-append, tables-planned, length-drop)
 
 pub write_elements-trap-requires : goal.write_elements-trap-requires
 write_elements-trap-requires c =
