@@ -17,13 +17,13 @@ use Rattle.plan_run.specs.declared.laid.Way.TheVariants as way
 use Rattle.plan_run.specs.Fields.{field_count_in}
 use Rattle.plan_run.specs.Lays.{Lays}
 use Rattle.plan_run.specs.Memories.{bytes_in}
-use Rattle.plan_run.specs.Laid.{imported_globals, imported_tables, laid_tables, data_phase}
+use Rattle.plan_run.specs.Laid.{imported_globals, imported_tables, data_phase}
 use Rattle.plan_run.specs.Agreement.{AgreementLaw}
 
 -- what is laid of a phase is laid of one that is the same
-pub lays-same : {A : Type 0} (one other : Phase A) (n : ℕ) (objects : List (List A)) (trapped : Option ℕ) → SamePhase one other → Lays other n objects trapped
+pub lays-same : {A : Type 0} {one other : Phase A} {n : ℕ} {objects : List (List A)} {trapped : Option ℕ} → SamePhase one other → Lays other n objects trapped
     → Lays one n objects trapped
-lays-same one other n objects trapped same lays = grind arith
+lays-same same lays = grind arith
 
 -- the globals of the plan, over these numbers of fields
 abbrev globals_with : (ℕ → ℕ) → ModuleTranslation → Imports → List Value
@@ -36,17 +36,15 @@ agreement t types w imports laid m agrees fields counted globals memories tables
     record {
       globals = globals ∙ ap (λ f. globals_with f t imports) same ∙ agrees.on_globals (imported_globals imports) many;
       memories = memories_of w same memories;
-      tables = lays-same _ _ (length t.module.tables) (laid_tables laid) laid.table_trap
-          (agrees.on_tables (imported_globals imports) (imported_tables imports) many (length-map imports.tables.items (λ table. map imported_value table.items) ∙ counted.tables)) (rw same at tables);
+      tables = lays-same (agrees.on_tables (imported_globals imports) (imported_tables imports) many
+          (length-map imports.tables.items (λ table. map imported_value table.items) ∙ counted.tables)) (rw same at tables);
     }
   where
     memories_of : (w : Way) → field_count_in t types ≡ fields_of m → Lays (data_phase t types w imports) (length t.module.memories) (bytes_in laid.memories.items) laid.memory_trap
         → Lays (module_phase (globals_of m (imported_globals imports)) (fields_of m) (bytes_in imports.memories.items) m) (length t.module.memories) (bytes_in laid.memories.items) laid.memory_trap
     memories_of way.Map same lays =
-        lays-same _ _ (length t.module.memories) (bytes_in laid.memories.items) laid.memory_trap
-        (agrees.by_map (imported_globals imports) (bytes_in imports.memories.items) (length-map imports.globals.items imported_value ∙ counted.globals)
+        lays-same (agrees.by_map (imported_globals imports) (bytes_in imports.memories.items) (length-map imports.globals.items imported_value ∙ counted.globals)
         (length-map imports.memories.items (λ memory. memory.bytes) ∙ counted.memories)) (rw same at lays)
     memories_of way.Copy same lays =
-        lays-same _ _ (length t.module.memories) (bytes_in laid.memories.items) laid.memory_trap
-        (agrees.by_list (imported_globals imports) (bytes_in imports.memories.items) (length-map imports.globals.items imported_value ∙ counted.globals)
+        lays-same (agrees.by_list (imported_globals imports) (bytes_in imports.memories.items) (length-map imports.globals.items imported_value ∙ counted.globals)
         (length-map imports.memories.items (λ memory. memory.bytes) ∙ counted.memories)) (rw same at lays)

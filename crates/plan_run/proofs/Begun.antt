@@ -120,15 +120,10 @@ module _ (w : Way) (plan : MemoryPlan) (page : ℕ) where
       -- an imported memory
       low-size : (i : ℕ) (memory : Contents) → i < length imported → slice_get memories i ≡ Some memory → length memory.bytes ≡ size_at i
       low-size i memory low at =
-          grind (
-            arith,
-            low-bytes i memory low at,
-            sizes-are plan w place_of (bytes_in imported) i,
-            length-map,
-            get_or_append_left lengths plan.sizes 0 i,
-            get_or_from_slice_get lengths i (length memory.bytes) 0,
-            slice_get-map length (bytes_in imported) i,
-          )
+          let here = low-bytes i memory low at in
+          let size = sizes-are plan w place_of (bytes_in imported) i in
+          let mapped = slice_get-map length (bytes_in imported) i in
+          grind (arith, length-map, get_or_append_left lengths plan.sizes 0 i, get_or_from_slice_get lengths i (length memory.bytes) 0)
 
       low-item : (i place : ℕ) (memory : Contents) → i < length imported → slice_get memories i ≡ Some memory → place < size_at i
           → slice_get memory.bytes place ≡ Some (base_at i place)
@@ -139,30 +134,20 @@ module _ (w : Way) (plan : MemoryPlan) (page : ℕ) where
       high-size j memory at =
           let found = begun-at (length imported) j ms (seen memory) (seen-high j memory at) in
           let first = length-first page (minimum_bytes found.0) (image_in w plan (length imported + j)) (within-at (length imported) j ms found.0 found.1 within) in
-          grind (
-            arith,
-            first,
-            sizes-are plan w place_of (bytes_in imported) (length imported + j),
-            length-map,
-            get-append-high lengths plan.sizes j,
-            slice_get-map minimum_bytes ms j,
-            get_or_from_slice_get (lengths ++ plan.sizes) (length lengths + j) (minimum_bytes found.0) 0,
-          )
+          let size = sizes-are plan w place_of (bytes_in imported) (length imported + j) in
+          let high = get-append-high lengths plan.sizes j in
+          let mapped = slice_get-map minimum_bytes ms j in
+          grind (arith, length-map, get_or_from_slice_get (lengths ++ plan.sizes) (length lengths + j) (minimum_bytes found.0) 0)
 
       high-item : (j place : ℕ) (memory : Contents) → slice_get memories (length imported + j) ≡ Some memory → place < size_at (length imported + j)
           → slice_get memory.bytes place ≡ Some (base_at (length imported + j) place)
       high-item j place memory at within_size =
           let found = begun-at (length imported) j ms (seen memory) (seen-high j memory at) in
           let is_within = within-at (length imported) j ms found.0 found.1 within in
-          grind (
-            arith,
-            high-size j memory at,
-            length-map,
-            length-first page (minimum_bytes found.0) (image_in w plan (length imported + j)) is_within,
-            slice_get_past (bytes_in imported) (length imported + j),
-            first-item page (minimum_bytes found.0) (length imported + j) place (image_in w plan (length imported + j)) is_within,
-            base-is plan w place_of (bytes_in imported) (length imported + j) place,
-          )
+          let long = length-first page (minimum_bytes found.0) (image_in w plan (length imported + j)) is_within in
+          let item = first-item page (minimum_bytes found.0) (length imported + j) place (image_in w plan (length imported + j)) is_within in
+          let base = base-is plan w place_of (bytes_in imported) (length imported + j) place in
+          grind (arith, high-size j memory at, length-map, slice_get_past (bytes_in imported) (length imported + j))
 
       any-size : (i : ℕ) (memory : Contents) → slice_get memories i ≡ Some memory → length memory.bytes ≡ size_at i
       any-size = each-half memories (length imported) (λ i m. length m.bytes ≡ size_at i) low-size high-size

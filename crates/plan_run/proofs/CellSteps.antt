@@ -1,12 +1,12 @@
 -- Cells that are written to a table.
-use Rattle.std.proofs.Common.{◌≡◌, ℕ, zero, suc, ◌+◌, ◌≤◌, List, [], ◌∷◌, ◌++◌, length, map, take, drop, Option, Some, sym, ◌∙◌, arith}
+use Rattle.std.proofs.Common.{◌≡◌, ℕ, zero, suc, ◌+◌, ◌≤◌, List, ◌∷◌, ◌++◌, length, map, take, drop, Option, Some, sym, ◌∙◌, arith}
 use Rattle.std.specs.Prelude.{slice_get, All}
 use Rattle.std.specs.Global.{Vec}
 use Rattle.std.specs.Vec.{with_items}
 use borrow.Rule.Slice.PartMut.{post_of}
 use Rattle.std.proofs.lemmas.List.{length-map, map-append, take-map, drop-map, drop-drop, with_items_is}
 use Rattle.std.proofs.lemmas.List.Elements.{All-take, All-drop, All-append}
-use Rattle.std.proofs.lemmas.Option.{none-some, same_Some, slice_get-map}
+use Rattle.std.proofs.lemmas.Option.{same_Some, slice_get-map}
 use Rattle.wasm_index.specs.declared.index.Index.{Index}
 use Rattle.wasm_index.specs.declared.spaces.FuncSpace.{FuncSpace}
 use Rattle.init_plan.specs.declared.translation.ModuleTranslation.{ModuleTranslation}
@@ -40,11 +40,9 @@ part-written v xs part items at n old new count len l = grind (arith, drop-drop,
 pub planned-at : (ts : List Table) (vs : List TableInitialValue) (images : List (List (Option ℕ))) (i : ℕ) (t : Table) (v : TableInitialValue) (image : List (Option ℕ))
     → slice_get ts i ≡ Some t → slice_get vs i ≡ Some v → slice_get images i ≡ Some image
     → slice_get (planned_tables_of ts vs images) i ≡ Some (record { minimum = t.limits.min; initial = initial_of v; image = image })
-planned-at [] vs images i t v image a b c = absurd (none-some t a)
-planned-at (x ∷ ts) [] images i t v image a b c = absurd (none-some v b)
-planned-at (x ∷ ts) (y ∷ vs) [] i t v image a b c = absurd (none-some image c)
 planned-at (x ∷ ts) (y ∷ vs) (z ∷ images) zero t v image a b c = grind arith
 planned-at (x ∷ ts) (y ∷ vs) (z ∷ images) (suc i) t v image a b c = planned-at ts vs images i t v image a b c
+planned-at _ _ _ _ t v image a b c = grind arith
 
 module _ (t : ModuleTranslation) (number : ℕ) (d : Table) (value : TableInitialValue) (image : Vec (Index FuncSpace))
     (table_at : slice_get t.module.tables (t.module.num_imported_tables + number) ≡ Some d) (value_at : slice_get t.table_initialization.initial_values number ≡ Some value)

@@ -1,5 +1,5 @@
 -- Tables as they begin hold what their phase begins with.
-use Rattle.std.proofs.Common.{◌≡◌, ℕ, zero, suc, ◌+◌, ◌-◌, ◌<◌, ◌≤◌, List, [], ◌∷◌, ◌++◌, length, map, Option, None, Some, refl, arith}
+use Rattle.std.proofs.Common.{◌≡◌, ℕ, zero, suc, ◌+◌, ◌<◌, ◌≤◌, List, [], ◌∷◌, ◌++◌, length, map, Option, None, Some, refl, arith}
 use Rattle.std.specs.Prelude.{slice_get, unwrap_or, All}
 use Rattle.std.proofs.lemmas.Bool.{lt-ltb, le-ltb, cond-true, cond-false}
 use Rattle.std.proofs.lemmas.List.{length-map, length-append, length-replicate, get_or_append_left}
@@ -67,14 +67,9 @@ module _ (globals : List plain.Value) (fields : ℕ → ℕ) where
         let found = high-at j object at in
         let t : PlannedTable = found.0 in
         let image = all-at (λ (x : PlannedTable). length x.image ≤ x.minimum) plan.tables j t short found.1 in
-        grind (
-          arith,
-          length-cells t.minimum t.initial t.image image,
-          length-map imported length,
-          get_or_from_slice_get (lengths ++ minimums) (length lengths + j) t.minimum 0,
-          get-append-high lengths minimums j,
-          slice_get-map (λ (x : PlannedTable). x.minimum) plan.tables j,
-        )
+        let high = get-append-high lengths minimums j in
+        let mapped = slice_get-map (λ (x : PlannedTable). x.minimum) plan.tables j in
+        grind (arith, length-cells t.minimum t.initial t.image image, length-map imported length, get_or_from_slice_get (lengths ++ minimums) (length lengths + j) t.minimum 0)
 
     high-item : (j place : ℕ) (object : List plain.Value) → slice_get objects (length imported + j) ≡ Some object → place < size_at (length imported + j)
         → slice_get object place ≡ Some (base_at (length imported + j) place)

@@ -1,5 +1,5 @@
 -- What a finished translation gives its parts.
-use Rattle.std.proofs.Common.{◌≡◌, ℕ, suc, ◌+◌, ◌-◌, ◌^◌, ◌<◌, ◌≤◌, List, [], ◌∷◌, ◌++◌, length, map, get_or, Option, None, Some, refl, sym, ◌∙◌, ap, subst, arith}
+use Rattle.std.proofs.Common.{◌≡◌, ℕ, suc, ◌+◌, ◌-◌, ◌^◌, ◌<◌, ◌≤◌, List, [], ◌∷◌, ◌++◌, length, map, get_or, Option, None, Some, refl, ap, arith}
 use Rattle.std.specs.Prelude.{slice_get, sum_by, All}
 use Rattle.std.proofs.lemmas.List.{length-map, length-append, length-drop}
 use Rattle.std.proofs.lemmas.List.Elements.{All-nil, All-cons, All-head, All-tail, All-map}
@@ -8,18 +8,14 @@ use Rattle.std.proofs.lemmas.Option.{slice_get-get_or, slice_get_within}
 use Rattle.wasm_spec.specs.Module.{Expression}
 use Rattle.wasm_types.specs.declared.memory.Memory.{Memory}
 use Rattle.wasm_types.specs.Memories.{minimum_bytes}
-use Rattle.replay_spec.specs.Phases.{Piece, Phase}
-use Rattle.replay_spec.specs.Plan.{MemoryPlan, PlannedSegment, PlannedOffset, Expr, Static}
+use Rattle.replay_spec.specs.Phases.{Piece}
+use Rattle.replay_spec.specs.Plan.{MemoryPlan, PlannedSegment, PlannedOffset}
 use Rattle.replay_spec.specs.Elements.{ActiveElements, elements_piece}
 use Rattle.replay_spec.specs.Values as plain
 use Rattle.replay_spec.specs.Values.{Term}
-use Rattle.std.specs.Global.{Vec}
-use Rattle.wasm_index.specs.declared.index.Index.{Index}
-use Rattle.wasm_index.specs.declared.spaces.FuncSpace.{FuncSpace}
 use Rattle.wasm_types.specs.declared.table.Table.{Table}
 use Rattle.wasm_module.specs.declared.table_initialization.TableInitialValue.{TableInitialValue}
-use Rattle.table_images.specs.Steps.{images_of}
-use Rattle.table_images.specs.Views.{image_of, planned_tables_of}
+use Rattle.table_images.specs.Views.{planned_tables_of}
 use Rattle.init_plan.specs.Tables.{plan_of_tables, own_tables, AreCounted}
 use Rattle.plan_run.specs.declared.elements.ElementPiece.{ElementPiece}
 use Rattle.plan_run.specs.declared.segments.DataPiece.{DataPiece}
@@ -31,7 +27,7 @@ use Rattle.plan_run.specs.declared.laid.Way.{Way}
 use Rattle.plan_run.specs.declared.laid.Way.TheVariants as way
 use Rattle.plan_run.specs.Finished.{Finished, IsStatic}
 use Rattle.plan_run.specs.Laid.{LendImages}
-use Rattle.plan_run.specs.Lays.{Lays, Hold}
+use Rattle.plan_run.specs.Lays.{Hold}
 use Rattle.plan_run.specs.Limits.{most_bytes, page_size_of, own_memories}
 use Rattle.plan_run.specs.Memories.{bytes_in, plan_phase, data_piece, image_in, begun, seen, ImageIsWithin, ImagesAreWithin}
 use Rattle.plan_run.specs.Segments.{left_pieces, LendNoMore}
@@ -56,8 +52,7 @@ module _ (t : ModuleTranslation) (f : Finished t) where
   within-one w i m at = grind arith
 
   pub images-within : (w : Way) → ImagesAreWithin w (memory_plan_of t) (page_size_of t) t.module.num_imported_memories (own_memories t)
-  images-within w = within-each w (memory_plan_of t) (page_size_of t) t.module.num_imported_memories (own_memories t)
-      (λ j m at. within-one w (t.module.num_imported_memories + j) m (sym (get-drop t.module.num_imported_memories t.module.memories j) ∙ at))
+  images-within w = within-each w (memory_plan_of t) (page_size_of t) t.module.num_imported_memories (own_memories t) (λ j m at. grind (arith, get-drop))
 
   -- no imported memory has an image
   pub none-imported : (w : Way) (i : ℕ) → i < t.module.num_imported_memories → image_in w (memory_plan_of t) i ≡ None
@@ -68,19 +63,19 @@ pub within-of : (t : ModuleTranslation) (w : Way) (page i : ℕ) (ms : List Memo
     → ImagesAreWithin w (memory_plan_of t) page t.module.num_imported_memories (own_memories t)
     → ImageIsWithin page (minimum_bytes (get_or ms i d)) (image_in w (memory_plan_of t) i)
 within-of t w page i ms d same low high within =
-    let n : ℕ = t.module.num_imported_memories in
-    let at : slice_get (own_memories t) (i - n) ≡ Some (get_or ms i d) = grind (arith, get-drop, slice_get-get_or) in
-    grind (arith, within-at w (memory_plan_of t) page n (i - n) (own_memories t) (get_or ms i d) at within)
+    let own = within-at w (memory_plan_of t) page t.module.num_imported_memories (i - t.module.num_imported_memories) (own_memories t) (get_or ms i d) in
+    grind (arith, get-drop, slice_get-get_or)
 
 -- so many memories
 pub begun-count : (w : Way) (plan : MemoryPlan) (page n : ℕ) (ms : List Memory) → length (begun w plan page n ms) ≡ length ms
 begun-count w plan page n [] = refl
 begun-count w plan page n (m ∷ ms) = ap suc (begun-count w plan page (n + 1) ms)
 
-pub memory-count : (t : ModuleTranslation) (w : Way) (plan : MemoryPlan) (page n : ℕ) (imported memories : List Contents)
+pub memory-count : (t : ModuleTranslation) (w : Way) (imported memories : List Contents)
     → t.module.num_imported_memories ≤ length t.module.memories → length imported ≡ t.module.num_imported_memories
-    → map seen memories ≡ map seen imported ++ begun w plan page n (own_memories t) → length memories ≡ length t.module.memories
-memory-count t w plan page n imported memories few many are = grind (arith, length-map, length-append, begun-count, length-drop)
+    → map seen memories ≡ map seen imported ++ begun w (memory_plan_of t) (page_size_of t) t.module.num_imported_memories (own_memories t)
+    → length memories ≡ length t.module.memories
+memory-count t w imported memories few many are = grind (arith, length-map, length-append, begun-count, length-drop)
 
 -- ---- segments
 
@@ -93,45 +88,30 @@ module _ (place_of : Expression → ℕ) (plan : MemoryPlan) where
   left-below w n (s ∷ ss) all = over w s.offset (All-head (λ (x : PlannedSegment). x.memory < n) s ss all) (left-below w n ss (All-tail (λ (x : PlannedSegment). x.memory < n) s ss all)) where
     over : (w : Way) (offset : PlannedOffset) → s.memory < n → All (λ p. p.object < n) (left_pieces w place_of plan ss)
         → All (λ p. p.object < n) (left_pieces w place_of plan (record { memory = s.memory; offset = offset; index = s.index } ∷ ss))
-    over w (Expr e) l rest = All-cons (Below n) _ (left_pieces w place_of plan ss) l rest
-    over way.Map (Static place) l rest = rest
-    over way.Copy (Static place) l rest = All-cons (Below n) _ (left_pieces way.Copy place_of plan ss) l rest
+    over w offset l rest = grind (arith, All-cons)
 
   -- images alone leave nothing to be written
   pub none-left : (segments : List PlannedSegment) → All (λ s. IsStatic s.offset) segments → left_pieces way.Map place_of plan segments ≡ []
   none-left [] all = refl
   none-left (s ∷ ss) all = grind (arith, All-head (λ (x : PlannedSegment). IsStatic x.offset) s ss all, none-left ss (All-tail (λ (x : PlannedSegment). IsStatic x.offset) s ss all))
 
--- ---- phases
-
-pub lays-count : {A : Type 0} (phase : Phase A) (n m : ℕ) (objects : List (List A)) (trapped : Option ℕ) → n ≡ m → Lays phase n objects trapped → Lays phase m objects trapped
-lays-count phase n m objects trapped same lays = subst (λ k. Lays phase k objects trapped) same lays
-
 -- ---- what the memories hold, and lend
 
 module _ (t : ModuleTranslation) (f : Finished t) (w : Way) (place_of : Expression → ℕ) (imported memories : List Contents) (many : length imported ≡ t.module.num_imported_memories)
     (are : map seen memories ≡ map seen imported ++ begun w (memory_plan_of t) (page_size_of t) t.module.num_imported_memories (own_memories t)) where
   are-so : map seen memories ≡ map seen imported ++ begun w (memory_plan_of t) (page_size_of t) (length imported) (own_memories t)
-  are-so = subst (λ k. map seen memories ≡ map seen imported ++ begun w (memory_plan_of t) (page_size_of t) k (own_memories t)) (sym many) are
+  are-so = rw many are
 
   pub memories-hold : Hold (plan_phase w place_of (bytes_in imported) (memory_plan_of t)).sizes (plan_phase w place_of (bytes_in imported) (memory_plan_of t)).base (bytes_in memories)
-  memories-hold = begun-hold w (memory_plan_of t) (page_size_of t) imported memories (own_memories t) are-so place_of refl
-      (λ i l. none-imported t f w i (subst (λ k. i < k) many l)) (subst (λ k. ImagesAreWithin w (memory_plan_of t) (page_size_of t) k (own_memories t)) (sym many) (images-within t f w))
+  memories-hold = grind (arith, begun-hold, are-so, none-imported, images-within)
 
   alone-at : (i : ℕ) (image : ℕ × List ℕ) → image_in way.Map (memory_plan_of t) i ≡ Some image → All (λ s. IsStatic s.offset) (memory_plan_of t).segments
   alone-at i image is = grind arith
 
   pub shared-after : (new : List Contents) → LendNoMore memories new → (left_pieces w place_of (memory_plan_of t) (memory_plan_of t).segments ≡ [] → new ≡ memories) → LendImages t w new
   shared-after new less still i memory at high =
-      grind (
-        arith,
-        slice_get_within new i memory at,
-        less.count,
-        slice_get-get_or memories i memory,
-        begun-lent w (memory_plan_of t) (page_size_of t) imported memories (own_memories t) are-so i (get_or memories i memory),
-        alone-at,
-        none-left,
-      )
+      let lent = begun-lent w (memory_plan_of t) (page_size_of t) imported memories (own_memories t) are-so i (get_or memories i memory) in
+      grind (arith, slice_get_within new i memory at, less.count, slice_get-get_or memories i memory, alone-at, none-left)
 
 pub nil-mapped : {A B : Type 0} (f : A → B) (xs : List A) → map f xs ≡ [] → xs ≡ []
 nil-mapped f [] is = refl
@@ -142,14 +122,12 @@ nil-mapped f (x ∷ xs) is = absurd cc
 pub planned-count : (ts : List Table) (vs : List TableInitialValue) (images : List (List (Option ℕ))) → length ts ≡ length vs → length images ≡ length vs
     → length (planned_tables_of ts vs images) ≡ length ts
 planned-count [] vs images one two = refl
-planned-count (t ∷ ts) [] images one two = absurd (omega arith)
-planned-count (t ∷ ts) (v ∷ vs) [] one two = absurd (omega arith)
 planned-count (t ∷ ts) (v ∷ vs) (i ∷ images) one two = ap suc (planned-count ts vs images (omega arith) (omega arith))
+planned-count _ _ _ one two = absurd (omega arith)
 
 -- so many tables are planned
 pub tables-planned : (t : ModuleTranslation) → AreCounted t → length (plan_of_tables t).tables ≡ length (own_tables t)
-tables-planned t counted = planned-count (own_tables t) t.table_initialization.initial_values (images_of t.module.table_initialization) counted.values
-    (length-map t.module.table_initialization (λ (image : Vec (Index FuncSpace)). image_of image.items) ∙ counted.images)
+tables-planned t counted = grind (arith, planned-count, length-map)
 
 pub elements-below : (globals : List plain.Value) (fields : ℕ → ℕ) (terms : List Term) (n : ℕ) (segments : List ActiveElements) (pieces : List ElementPiece)
     → All (λ s. s.table < n) segments → map (element_piece terms) pieces ≡ map (elements_piece globals fields) segments → All (λ p. p.table < n) pieces

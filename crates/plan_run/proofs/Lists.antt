@@ -1,5 +1,5 @@
 -- Items of lists.
-use Rattle.std.proofs.Common.{◌≡◌, ◌≢◌, ℕ, zero, suc, ◌+◌, ◌<◌, ◌≤◌, List, [], ◌∷◌, ◌++◌, length, set, take, drop, replicate, Option, None, Some, refl, sym, ◌∙◌, ap, subst, arith, ◌-◌}
+use Rattle.std.proofs.Common.{◌≡◌, ◌≢◌, ℕ, zero, suc, ◌+◌, ◌<◌, ◌≤◌, List, [], ◌∷◌, ◌++◌, length, map, set, take, drop, replicate, Option, None, Some, refl, sym, ◌∙◌, ap, subst, arith, ◌-◌}
 use Rattle.std.specs.Prelude.{slice_get, All, MatchOption}
 use Rattle.std.specs.Borrow.{Bor}
 use Rattle.std.specs.List.{HoldsAt}
@@ -43,6 +43,10 @@ all-at P xs i x all at = subst P (get_or_from_slice_get xs i x x at) (All-get_or
 
 pub get-replicate : {A : Type 0} (x : A) (n p : ℕ) → p < n → slice_get (replicate n x) p ≡ Some x
 get-replicate x n p l = grind (arith, slice_get-get_or (replicate n x) p x, length-replicate, get_or-replicate)
+
+pub map-replicate : {A B : Type 0} (f : A → B) (x : A) (y : B) (n : ℕ) → f x ≡ y → map f (replicate n x) ≡ replicate n y
+map-replicate f x y zero e = refl
+map-replicate f x y (suc n) e = grind (arith, (map-replicate f x y n e))
 
 -- what `get` copies out of a slice
 pub copied-is : {A : Type 0} (xs : List A) (i : ℕ) (o : Option (Bor A)) → MatchOption o (length xs ≤ i) (λ x. (i < length xs) × HoldsAt (λ y. x.now ≡ y) xs i)

@@ -43,8 +43,8 @@ module _ (a : Action) (nodes : List Node) (stack args : List Value) (takes rest 
     acts-some new between after v extends below cut pushed made =
         let front : List Value = take rest stack in
         let below_front : All (NamesBelow (length nodes)) front = All-take (NamesBelow (length nodes)) rest stack below in (
-          rw (pushed, cut) (All-push (NamesBelow (length new)) front v (all-names-more (length nodes) (length new) front (longer nodes new extends) below_front) made.0),
-          grind (arith, acts-on, kept-values nodes new extends front below_front, map-append (value_in (terms_of new)) front (v ∷ [])),
+          rw (pushed, cut) (All-push (NamesBelow (length new)) front v (all-names-more (length nodes) (length new) front (longer extends) below_front) made.0),
+          grind (arith, acts-on, kept-values extends front below_front, map-append (value_in (terms_of new)) front (v ∷ [])),
         )
 
 -- ---- an expression

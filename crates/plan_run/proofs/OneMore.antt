@@ -1,5 +1,5 @@
 -- One more value, table or piece.
-use Rattle.std.proofs.Common.{◌≡◌, ℕ, zero, suc, ◌+◌, ◌-◌, ◌<◌, ◌≤◌, List, [], ◌∷◌, ◌++◌, length, map, get_or, take, replicate, refl, sym, ◌∙◌, ap, arith}
+use Rattle.std.proofs.Common.{◌≡◌, ℕ, ◌+◌, ◌-◌, ◌<◌, ◌≤◌, List, [], ◌∷◌, ◌++◌, length, map, get_or, take, replicate, refl, sym, ◌∙◌, ap, arith}
 use Rattle.std.specs.Prelude.{All}
 use Rattle.std.specs.Global.{Vec}
 use Rattle.std.proofs.lemmas.List.{map_push, map_more, map-append, take_all}
@@ -11,7 +11,8 @@ use Rattle.plan_run.specs.declared.value.Value.{Value}
 use Rattle.plan_run.specs.declared.value.Node.{Node}
 use Rattle.plan_run.specs.Nodes.{Extends, Means, AllMean}
 use Rattle.plan_run.specs.Tables.{cells_in, TablesBelow, TablesMean, element_piece, PiecesMean}
-use Rattle.plan_run.specs.Values.{values_in, terms_of, imported_value, IsPlain, NamesBelow}
+use Rattle.plan_run.specs.Values.{value_in, terms_of, imported_value, IsPlain, NamesBelow}
+use Rattle.plan_run.proofs.Lists.{map-replicate}
 use Rattle.plan_run.proofs.Terms.{longer, kept-values, all-mean-on, all-names-more, plain-mean}
 
 -- ---- two maps, one more item
@@ -28,30 +29,25 @@ one-more f h k xs ys i d x l e before = grind (arith, map_push f xs x, map-two-m
 
 -- ---- values
 
-module _ (old new : List Node) (e : Extends old new) where
-  pub mean-more : (vs : List Value) (meant : List plain.Value) (v : Value) (m : plain.Value) → AllMean old vs meant → Means new v m → AllMean new (vs ++ v ∷ []) (meant ++ m ∷ [])
-  mean-more vs meant v m before one =
-      let on = all-mean-on old new e vs meant before in
-      record { below = All-push (NamesBelow (length new)) vs v on.below one.below; are = grind (arith, map_push) }
+module _ {old new : List Node} (e : Extends old new) where
+  pub mean-more : {vs : List Value} {meant : List plain.Value} {v : Value} {m : plain.Value} → AllMean old vs meant → Means new v m → AllMean new (vs ++ v ∷ []) (meant ++ m ∷ [])
+  mean-more {vs = vs} {v = v} before one =
+      let on = all-mean-on e before in record { below = All-push (NamesBelow (length new)) vs v on.below one.below; are = grind (arith, map_push) }
 
   -- ---- tables
 
   cells-on : (tables : List (Vec Value)) → TablesBelow (length old) tables → cells_in (terms_of new) tables ≡ cells_in (terms_of old) tables
   cells-on [] below = refl
   cells-on (t ∷ ts) below =
-      grind (arith, kept-values old new e t.items (All-head (λ (x : Vec Value). All (NamesBelow (length old)) x.items) t ts below), cells-on ts (All-tail (λ (x : Vec Value). All (NamesBelow (length old)) x.items) t ts below))
+      grind (arith, kept-values e t.items (All-head (λ (x : Vec Value). All (NamesBelow (length old)) x.items) t ts below), cells-on ts (All-tail (λ (x : Vec Value). All (NamesBelow (length old)) x.items) t ts below))
 
-  pub tables-on : (tables : List (Vec Value)) (meant : List (List plain.Value)) → TablesMean old tables meant → TablesMean new tables meant
-  tables-on tables meant before = grind (arith, longer, all-names-more, All-weaker, cells-on)
+  pub tables-on : {tables : List (Vec Value)} {meant : List (List plain.Value)} → TablesMean old tables meant → TablesMean new tables meant
+  tables-on before = grind (arith, longer, all-names-more, All-weaker, cells-on)
 
-  pub tables-more : (tables : List (Vec Value)) (meant : List (List plain.Value)) (t : Vec Value) (m : List plain.Value) → TablesMean old tables meant → AllMean new t.items m
+  pub tables-more : {tables : List (Vec Value)} {meant : List (List plain.Value)} {m : List plain.Value} (t : Vec Value) → TablesMean old tables meant → AllMean new t.items m
       → TablesMean new (tables ++ t ∷ []) (meant ++ m ∷ [])
-  tables-more tables meant t m before one =
-      let on = tables-on tables meant before in
-      record {
-        below = All-push (λ (x : Vec Value). All (NamesBelow (length new)) x.items) tables t on.below one.below;
-        are = grind (arith, map_push);
-      }
+  tables-more {tables = tables} t before one = let on = tables-on before in
+      record { below = All-push (λ (x : Vec Value). All (NamesBelow (length new)) x.items) tables t on.below one.below; are = grind (arith, map_push) }
 
   -- ---- pieces
 
@@ -59,23 +55,19 @@ module _ (old new : List Node) (e : Extends old new) where
       → map (element_piece (terms_of new)) pieces ≡ map (element_piece (terms_of old)) pieces
   pieces-same [] below = refl
   pieces-same (p ∷ ps) below =
-      grind (arith, kept-values old new e p.items.items (All-head (λ (x : ElementPiece). All (NamesBelow (length old)) x.items.items) p ps below), pieces-same ps (All-tail (λ (x : ElementPiece). All (NamesBelow (length old)) x.items.items) p ps below))
+      grind (arith, kept-values e p.items.items (All-head (λ (x : ElementPiece). All (NamesBelow (length old)) x.items.items) p ps below), pieces-same ps (All-tail (λ (x : ElementPiece). All (NamesBelow (length old)) x.items.items) p ps below))
 
-  pub pieces-on : (pieces : List ElementPiece) (meant : List (Piece plain.Value)) → PiecesMean old pieces meant → PiecesMean new pieces meant
-  pieces-on pieces meant before = grind (arith, longer, all-names-more, All-weaker, pieces-same)
+  pub pieces-on : {pieces : List ElementPiece} {meant : List (Piece plain.Value)} → PiecesMean old pieces meant → PiecesMean new pieces meant
+  pieces-on before = grind (arith, longer, all-names-more, All-weaker, pieces-same)
 
-  pub pieces-more : (pieces : List ElementPiece) (meant : List (Piece plain.Value)) (p : ElementPiece) (m : Piece plain.Value) → PiecesMean old pieces meant
+  pub pieces-more : {pieces : List ElementPiece} {meant : List (Piece plain.Value)} {m : Piece plain.Value} (p : ElementPiece) → PiecesMean old pieces meant
       → All (NamesBelow (length new)) p.items.items → element_piece (terms_of new) p ≡ m → PiecesMean new (pieces ++ p ∷ []) (meant ++ m ∷ [])
-  pieces-more pieces meant p m before below one =
-      let on = pieces-on pieces meant before in
+  pieces-more {pieces = pieces} p before below one = let on = pieces-on before in
       record { below = All-push (λ (x : ElementPiece). All (NamesBelow (length new)) x.items.items) pieces p on.below below; are = grind (arith, map_push) }
 
 -- equal cells
 pub equal-mean : (nodes : List Node) (v : Value) (m : plain.Value) (n : ℕ) → Means nodes v m → AllMean nodes (replicate n v) (replicate n m)
-equal-mean nodes v m n one = record { below = All-replicate (NamesBelow (length nodes)) n v one.below; are = over n } where
-  over : (k : ℕ) → values_in (terms_of nodes) (replicate k v) ≡ replicate k m
-  over zero = refl
-  over (suc k) = ap (λ x. x ∷ values_in (terms_of nodes) (replicate k v)) one.is ∙ ap (λ xs. m ∷ xs) (over k)
+equal-mean nodes v m n one = record { below = All-replicate (NamesBelow (length nodes)) n v one.below; are = map-replicate (value_in (terms_of nodes)) v m n one.is }
 
 -- tables that name no node
 pub plain-tables : (nodes : List Node) (tables : List (Vec Value)) → All (λ table. All IsPlain table.items) tables
@@ -89,8 +81,4 @@ plain-tables nodes (t ∷ ts) none =
 -- cells that are filled up to a size
 pub filled : {A B C : Type 0} (f : A → C) (h : B → C) (xs : List A) (ys : List B) (n count : ℕ) (x : A) (y : B) → f x ≡ h y → map f xs ≡ map h ys → length xs ≤ n
     → n - count ≡ n - length ys → map f (take n xs ++ replicate (n - count) x) ≡ map h ys ++ replicate (n - length ys) (h y)
-filled f h xs ys n count x y one before short same = grind (arith, take_all n xs short, map-append f xs (replicate (n - count) x), over (n - count))
-  where
-    over : (k : ℕ) → map f (replicate k x) ≡ replicate k (h y)
-    over zero = refl
-    over (suc k) = ap (λ z. z ∷ map f (replicate k x)) one ∙ ap (λ zs. h y ∷ zs) (over k)
+filled f h xs ys n count x y one before short same = grind (arith, take_all n xs short, map-append f xs (replicate (n - count) x), map-replicate f x (h y) (n - count) one)

@@ -26,33 +26,25 @@ module _ {A X : Type 0} (f : X → List A) (xs : List X) (k : ℕ) (x : X) (at :
   pub writes-true : (new : X) → p.offset + length p.items ≤ length (f x) → f new ≡ written p.offset p.items (f x) → WritesPiece p (map f xs) (map f (set xs k new)) true
   writes-true new l is object found = grind (arith, the-object, map-set)
 
-module _ {A : Type 0} (phase : Phase A) (p : Piece A) (rest : List (Piece A)) (old new : List (List A)) (w : IsWriting phase (p ∷ rest) old) (l : p.object < length old) where
-  object : List A
-  object = get_or old p.object []
-
-  found : slice_get old p.object ≡ Some object
-  unfolding object
-  found = slice_get-get_or old p.object [] l
-
-  writing-on : WritesPiece p old new true → IsWriting phase rest new
-  writing-on writes = rw (writes object found).1 (next-written phase old p rest w object found (writes object found).0)
-
-  writing-traps : (n m : ℕ) → length old ≡ n → m ≡ suc (length rest) → WritesPiece p old new false → Lays phase n new (Some m)
-  writing-traps n m many is writes =
-      let done = writes object found in
-      rw (is, done.1, ← many) (next-traps phase old p rest w object found done.0)
-
 -- of some pieces the next one is written, and those behind it are left; or it does not fit, and the trap is how many are left
-module _ {A X : Type 0} (phase : Phase A) (f : X → Piece A) (xs : List X) (i : ℕ) (d p : X) (l : i < length xs) (is : get_or xs i d ≡ p)
-    (old new : List (List A)) (w : IsWriting phase (map f (drop i xs)) old) (within : (f p).object < length old) where
+module _ {A X : Type 0} {phase : Phase A} {old : List (List A)} {p : X} (f : X → Piece A) (xs : List X) (i : ℕ) (d : X) (l : i < length xs) (is : get_or xs i d ≡ p)
+    (new : List (List A)) (w : IsWriting phase (map f (drop i xs)) old) (within : (f p).object < length old) where
+  abbrev object : List A
+  object = get_or old (f p).object []
+
+  found : slice_get old (f p).object ≡ Some object
+  found = slice_get-get_or old (f p).object [] within
+
   writing : IsWriting phase (f p ∷ map f (drop (i + 1) xs)) old
   writing = rw (drop_more xs i d l, is) at w
 
   pub item-written : WritesPiece (f p) old new true → IsWriting phase (map f (drop (i + 1) xs)) new
-  item-written = writing-on phase (f p) (map f (drop (i + 1) xs)) old new writing within
+  item-written writes = rw (writes object found).1 (next-written phase old (f p) (map f (drop (i + 1) xs)) writing object found (writes object found).0)
 
   pub item-traps : (n : ℕ) → length old ≡ n → WritesPiece (f p) old new false → Lays phase n new (Some (length xs - i))
-  item-traps n many = writing-traps phase (f p) (map f (drop (i + 1) xs)) old new writing within n (length xs - i) many (left-count f xs i l)
+  item-traps n many writes =
+      let done = writes object found in
+      rw (left-count f xs i l, done.1, ← many) (next-traps phase old (f p) (map f (drop (i + 1) xs)) writing object found done.0)
 
 -- ---- lent pages become no more
 
@@ -81,8 +73,8 @@ pub lend-set : (memories : List Contents) (k : ℕ) (memory new : Contents) → 
     → LendNoMore memories (set memories k new)
 lend-set memories k memory new at less = grind (arith, length-set, slice_get_within, get-set-same, get-set-other)
 
-pub lend-on : (a b c : List Contents) → LendNoMore a b → LendNoMore b c → LendNoMore a c
-lend-on a b c one two = record {
+pub lend-on : {a b c : List Contents} → LendNoMore a b → LendNoMore b c → LendNoMore a c
+lend-on {b = b} {c = c} one two = record {
   count = two.count ∙ one.count;
   lent = λ i before after at is. grind (arith, two.count, slice_get_within c i after is, slice_get-get_or b i before, one.lent i before (get_or b i before), two.lent i (get_or b i before));
 }

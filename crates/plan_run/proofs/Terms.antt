@@ -1,5 +1,5 @@
 -- Terms stay when nodes are appended.
-use Rattle.std.proofs.Common.{◌≡◌, ℕ, zero, suc, ◌+◌, ◌<◌, ◌≤◌, List, [], ◌∷◌, ◌++◌, length, map, Some, refl, sym, ◌∙◌, ap, arith, zero-add}
+use Rattle.std.proofs.Common.{◌≡◌, ℕ, zero, suc, ◌+◌, ◌<◌, ◌≤◌, List, [], ◌∷◌, ◌++◌, length, map, Some, refl, sym, ap, arith, zero-add}
 use Rattle.std.specs.Prelude.{slice_get, All}
 use Rattle.std.proofs.lemmas.Bool.{cases_lt}
 use Rattle.std.proofs.lemmas.List.{append_assoc, append-nil, length-append, length_push}
@@ -27,8 +27,7 @@ length-terms terms (n ∷ ns) = omega (arith, length-terms (terms ++ term_of ter
 
 terms-low : (terms : List Term) (ns : List Node) (k : ℕ) → k < length terms → slice_get (terms_after terms ns) k ≡ slice_get terms k
 terms-low terms [] k l = refl
-terms-low terms (n ∷ ns) k l =
-    terms-low (terms ++ term_of terms n ∷ []) ns k (omega (arith, length_push terms (term_of terms n))) ∙ get-append-low terms (term_of terms n ∷ []) k l
+terms-low terms (n ∷ ns) k l = grind (arith, [], length_push, get-append-low, (terms-low (terms ++ term_of terms n ∷ []) ns k (omega (arith, length_push terms (term_of terms n)))))
 
 -- ---- values over terms that agree
 
@@ -74,25 +73,25 @@ node-term nodes k n ordered at = grind (arith, term-from [] nodes k n at (rw zer
 pub extends-same : (nodes : List Node) → Extends nodes nodes
 extends-same nodes = record { more = []; is = sym (append-nil nodes) }
 
-pub extends-on : (a b c : List Node) → Extends a b → Extends b c → Extends a c
-extends-on a b c one two = record { more = one.more ++ two.more; is = two.is ∙ ap (λ xs. xs ++ two.more) one.is ∙ append_assoc a one.more two.more }
+pub extends-on : {a b c : List Node} → Extends a b → Extends b c → Extends a c
+extends-on one two = record { more = one.more ++ two.more; is = grind (arith, append_assoc) }
 
 pub grows-same : (nodes : List Node) → AreOrdered nodes → Grows nodes nodes
 grows-same nodes ordered = record { extends = extends-same nodes; ordered = ordered }
 
-pub grows-on : (a b c : List Node) → Grows a b → Grows b c → Grows a c
-grows-on a b c one two = record { extends = extends-on a b c one.extends two.extends; ordered = two.ordered }
+pub grows-on : {a b c : List Node} → Grows a b → Grows b c → Grows a c
+grows-on one two = record { extends = extends-on one.extends two.extends; ordered = two.ordered }
 
-module _ (old new : List Node) (e : Extends old new) where
+module _ {old new : List Node} (e : Extends old new) where
   pub longer : length old ≤ length new
   longer = omega (arith, ap length e.is, length-append old e.more)
 
   agree-below : (i : ℕ) → i < length old → slice_get (terms_of new) i ≡ slice_get (terms_of old) i
   agree-below i l = grind (arith, terms-append, length-terms, terms-low)
 
-  pub all-mean-on : (vs : List Value) (meant : List plain.Value) → AllMean old vs meant → AllMean new vs meant
-  all-mean-on vs meant m =
-      grind (arith, all-names-more (length old) (length new) vs longer m.below, values-same (terms_of new) (terms_of old) (length old) vs agree-below m.below, longer, agree-below)
+  pub all-mean-on : {vs : List Value} {meant : List plain.Value} → AllMean old vs meant → AllMean new vs meant
+  all-mean-on {vs = vs} m =
+      grind (arith, all-names-more (length old) (length new) vs longer m.below, values-same (terms_of new) (terms_of old) (length old) vs agree-below m.below)
 
   pub kept-values : (vs : List Value) → All (NamesBelow (length old)) vs → values_in (terms_of new) vs ≡ values_in (terms_of old) vs
   kept-values vs below = values-same (terms_of new) (terms_of old) (length old) vs agree-below below

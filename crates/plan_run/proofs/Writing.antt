@@ -1,7 +1,6 @@
 -- Objects to which pieces are written in order.
 use Rattle.std.proofs.Common.{◌≡◌, ℕ, suc, ◌+◌, ◌-◌, ◌<◌, ◌≤◌, true, List, ◌∷◌, ◌++◌, length, set, take, drop, Some, arith}
 use Rattle.std.specs.Prelude.{slice_get, unwrap_or}
-use Rattle.std.proofs.Math.Logic.{⊎_elim}
 use Rattle.std.proofs.lemmas.Bool.{cases_lt, le-leb, lt-leb, eq-eqb, cond-false}
 use Rattle.std.proofs.lemmas.List.{length-append, length-take, length-drop}
 use Rattle.std.proofs.lemmas.Option.{slice_get-get_or, slice_get_within}
@@ -32,15 +31,12 @@ module _ {A : Type 0} (at : ℕ) (items old : List A) (l : at + length items ≤
 -- at each place of an object stands the item of the piece that is written to it, or what stood there
 pub written-item : {A : Type 0} (i place : ℕ) (p : Piece A) (old : List A) (d : A) → p.object ≡ i → p.offset + length p.items ≤ length old → slice_get old place ≡ Some d
     → slice_get (written p.offset p.items old) place ≡ Some (unwrap_or (item_at i place p) d)
-written-item i place p old d on l is = ⊎_elim
-    (λ (before : place < p.offset).
-    grind (arith, item-cover, written-before))
-    (λ (from : p.offset ≤ place). ⊎_elim
-    (λ (upto : place < p.offset + length p.items).
-    grind (arith, eq-eqb p.object i on, le-leb p.offset place from, slice_get-get_or p.items (place - p.offset) d, written-in p.offset p.items old l (place - p.offset)))
-    (λ (behind : p.offset + length p.items ≤ place). grind (arith, item-cover, written-behind p.offset p.items old l (place - (p.offset + length p.items))))
-    (cases_lt place (p.offset + length p.items)))
-    (cases_lt place p.offset)
+written-item i place p old d on l is =
+    let before = cases_lt place p.offset in
+    let behind = cases_lt place (p.offset + length p.items) in
+    let inside = written-in p.offset p.items old l (place - p.offset) in
+    let after = written-behind p.offset p.items old l (place - (p.offset + length p.items)) in
+    grind (arith, item-cover, written-before, eq-eqb p.object i on, le-leb p.offset place, slice_get-get_or p.items (place - p.offset) d)
 
 -- ---- objects
 

@@ -1,5 +1,5 @@
 -- Values of globals that are written.
-use Rattle.std.proofs.Common.{◌≡◌, ℕ, zero, suc, ◌+◌, ◌-◌, ◌<◌, ◌≤◌, List, ◌∷◌, ◌++◌, length, map, get_or, set, take, drop, replicate, refl, ◌∙◌, ap, arith}
+use Rattle.std.proofs.Common.{◌≡◌, ℕ, ◌+◌, ◌-◌, ◌<◌, ◌≤◌, List, ◌++◌, length, map, get_or, set, take, drop, replicate, arith}
 use Rattle.std.specs.Prelude.{All}
 use Rattle.std.proofs.lemmas.List.{map-set, map-append, drop_more, take_all}
 use Rattle.wasm_index.specs.declared.index.Index.{Index}
@@ -17,6 +17,7 @@ use Rattle.plan_run.specs.declared.value.Value.{Value}
 use Rattle.plan_run.specs.declared.value.Node.{Node}
 use Rattle.plan_run.specs.Nodes.{Extends, Means}
 use Rattle.plan_run.specs.Values.{value_in, values_in, terms_of, imported_value, NamesBelow}
+use Rattle.plan_run.proofs.Lists.{map-replicate}
 use Rattle.plan_run.proofs.Terms.{kept-values}
 
 pub simple-step : (terms : List Term) (imports : ℕ) (values : List (Index DefinedGlobalSpace × GlobalConstValue)) (i : ℕ) (d : Index DefinedGlobalSpace × GlobalConstValue) (old : List Value)
@@ -30,16 +31,11 @@ pub kept-step : (fields : ℕ → ℕ) (imports : ℕ) (values : List (Index Def
     → Means new v (cell_of (values_in (terms_of nodes) old) fields (expression_of g.1))
     → kept_written fields imports (values_in (terms_of new) (set old (imports + number_of g.0) v)) (map kept_global_of (drop (i + 1) values))
     ≡ kept_written fields imports (values_in (terms_of nodes) old) (map kept_global_of (drop i values))
-kept-step fields imports values i g d old v nodes new l is extends below means = grind (arith, kept-values nodes new extends old below, drop_more values i d l, map-set)
+kept-step fields imports values i g d old v nodes new l is extends below means = grind (arith, kept-values extends old below, drop_more values i d l, map-set)
 
 -- the imported values, and null behind them
 pub first-globals : (terms : List Term) (imported all : List Value) (n count : ℕ) (null : Value) → value_in terms null ≡ plain.Ref plain.Null → length imported ≤ n
     → n - length imported ≡ count → all ≡ take n imported ++ replicate (n - length imported) null
     → values_in terms imported ≡ map imported_value imported
     → values_in terms all ≡ map imported_value imported ++ replicate count (plain.Ref plain.Null)
-first-globals terms imported all n count null is few many are same =
-    grind (arith, take_all n imported few, map-append (value_in terms) imported (replicate count null), nulls count)
-  where
-    nulls : (k : ℕ) → values_in terms (replicate k null) ≡ replicate k (plain.Ref plain.Null)
-    nulls zero = refl
-    nulls (suc k) = ap (λ v. v ∷ values_in terms (replicate k null)) is ∙ ap (λ xs. plain.Ref plain.Null ∷ xs) (nulls k)
+first-globals terms imported all n count null is few many are same = grind (arith, take_all, map-append, map-replicate)

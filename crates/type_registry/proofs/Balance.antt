@@ -1,21 +1,20 @@
 -- What a balanced registry tells, and that it is balanced once a module is released.
-use Rattle.std.proofs.Common.{if◌then◌else◌, ◌≡◌, ◌∙◌, ◌<◌, ◌≤◌, ℕ, zero, suc, Bool, true, false, nat_eq, List, [], ◌∷◌, get_or, take, drop, slice_get, Contains, Option, Some, None, option_and_then, refl, sym, ap, subst, arith, eq-eqb}
+use Rattle.std.proofs.Common.{if◌then◌else◌, ◌≡◌, ◌∙◌, ◌<◌, ◌≤◌, ℕ, Bool, true, false, nat_eq, List, [], ◌∷◌, get_or, take, drop, slice_get, Contains, Option, Some, None, option_and_then, refl, sym, ap, arith, eq-eqb}
 use Rattle.std.specs.Prelude.{IsSome}
 use Rattle.std.specs.Cmp.{nat_eq_equiv}
 use Rattle.std.specs.List.{list_any}
 use Rattle.std.proofs.lemmas.Bool.{eqb-true, ne_eqb, cases_Bool, false_from_ne_true, eqb-false}
 use Rattle.std.proofs.lemmas.Map.Views.{Contains-from_any, list_any-from_Contains}
-use Rattle.std.proofs.lemmas.Option.{none-some, same_Some}
-use Rattle.std.proofs.lemmas.Bool.Decides.{nat_tests}
+use Rattle.std.proofs.lemmas.Option.{none-some}
+use Rattle.std.proofs.lemmas.List.{take-append-drop}
 use Rattle.type_spec.specs.Interned.{Span}
-use Rattle.wasm_types.specs.TypeViews.{group_of}
 use Rattle.module_types.specs.TypeList.{TypeList}
 use Rattle.type_registry.specs.Registry.{Registry, Group, Groups, Module, empty, index_at, indices_of, live}
 use Rattle.type_registry.specs.Changes.{registered, released_by, size_of}
 use Rattle.type_registry.specs.Standing.{AreOrdered, GroupStands, IsHeld, LiveWhereHeld, Stands, kept_at}
 use Rattle.type_registry.specs.Balanced.{IsBalanced, count_in, indices_in, indices_at, times, times_below}
 use Rattle.type_registry.proofs.KeepingAll.{true-false, any-second}
-use Rattle.type_registry.proofs.NewGroups.{any-right}
+use Rattle.type_registry.proofs.NewGroups.{any-left, any-right}
 use Rattle.type_registry.proofs.OwnerLists.{any-place, place-any}
 use Rattle.type_registry.proofs.Sound.{bare, found, found-above, found-index, left-sound, none-sound}
 use Rattle.type_registry.proofs.Tallies.{IsThere, there-of, left-less, left-had, left-was}
@@ -59,14 +58,10 @@ among-of r key place i o e at = grind arith
 
 -- what a part of a list has the list has
 any-take : (ns : List ℕ) (n i : ℕ) → list_any (nat_eq i) (take n ns) ≡ true → list_any (nat_eq i) ns ≡ true
-any-take ns zero i has = let no-way : false ≡ true = has in cc
-any-take [] (suc n) i has = has
-any-take (x ∷ ns) (suc n) i has = let rest = any-take ns n i in grind (arith, nat_tests)
+any-take ns n i has = rw (take-append-drop n ns) at (any-left (take n ns) (drop n ns) i has)
 
 any-drop : (ns : List ℕ) (n i : ℕ) → list_any (nat_eq i) (drop n ns) ≡ true → list_any (nat_eq i) ns ≡ true
-any-drop ns zero i has = has
-any-drop [] (suc n) i has = has
-any-drop (x ∷ ns) (suc n) i has = any-right (x ∷ []) ns i (any-drop ns n i has)
+any-drop ns n i has = rw (take-append-drop n ns) at (any-right (take n ns) (drop n ns) i has)
 
 module _ (r : Registry) (b : IsBalanced r) where
   -- a kept group has an index of a held module, and its first index is among those of the module's groups
@@ -91,10 +86,8 @@ module _ (r : Registry) (b : IsBalanced r) where
   held-from i has =
       let w = live-in r.groups i b.sound.ordered (list_any-from_Contains nat_eq_equiv i (live r) has) in
       let h = below-some r.held w.first r.registrations (omega (arith, b.counted w.first, ap count_in w.kept, b.had w.first w.group w.kept)) in
-      let is : list_any (nat_eq i) (indices_at r w.first) ≡ true = subst (λ o. list_any (nat_eq i) (indices_in o) ≡ true) (sym w.kept) w.has in
-      let any : list_any (nat_eq i) h.listed.indices ≡ true =
-      subst (λ ns. list_any (nat_eq i) ns ≡ true) (sym (b.listed h.key h.listed h.is)) (flat-has (indices_at r) h.listed.groups w.first i h.has is) in
-      let p = place-any h.listed.indices i any in
+      let any = flat-has (indices_at r) h.listed.groups w.first i h.has (rw w.kept w.has) in
+      let p = place-any h.listed.indices i (rw (b.listed h.key h.listed h.is) any) in
       record { key = h.key; place = p.place; at = at-place h.key h.listed p.place i h.is p.at }
 
   live-from : (i : ℕ) → IsHeld r i → Contains (live r) i
@@ -109,8 +102,7 @@ module _ (r : Registry) (b : IsBalanced r) where
 
   -- a group that a held module has is kept
   pub kept-listed : (key : ℕ) (m : Module) (first : ℕ) → r.held key ≡ Some m → 0 < times first m.groups → IsThere (kept_at r first)
-  kept-listed key m first is lt =
-      there-of (kept_at r first) (omega (arith, b.counted first, below-one r.held key first r.registrations m is (given-key key m is), lt))
+  kept-listed key m first is lt = there-of (kept_at r first) (omega (arith, b.counted first, below-one r.held key first r.registrations m is (given-key key m is), lt))
 
   -- the first index of a group that stands is among those of the module's groups
   pub first-listed : (key : ℕ) (m : Module) (l : TypeList) (s : Span) → r.held key ≡ Some m → (g : GroupStands r m.indices l s)
@@ -118,11 +110,10 @@ module _ (r : Registry) (b : IsBalanced r) where
   first-listed key m l s is g =
       let first = get_or m.indices s.start 0 in
       let start = b.sound.firsts first g.group g.kept in
-      let part : list_any (nat_eq first) (take (size_of s) (drop s.start m.indices)) ≡ true =
-      ap (list_any (nat_eq first)) (sym g.at) ∙ any-place g.group.indices first 0 start in
+      let part = rw g.at at (any-place g.group.indices first 0 start) in
       let x = listed-in key m first is (any-drop m.indices s.start first (any-take (drop s.start m.indices) (size_of s) first part)) in
       let p = place-any x.group.indices first x.has in
-      subst (λ n. 0 < times n m.groups) (sym (b.sound.owned first x.first 0 p.place first g.group x.group g.kept x.kept start p.at).0) x.is_in
+      grind (arith, x.is_in, b.sound.owned first x.first 0 p.place first g.group x.group g.kept x.kept start p.at)
 
 -- ---- a module is released
 
@@ -149,8 +140,7 @@ module _ (r : Registry) (b : IsBalanced r) (key : ℕ) (m : Module) (is : r.held
       let old = still-held k o here in
       let w = there-of (kept_at now first)
       (omega (arith, counted-now first, below-one now.held k first r.registrations o here (given-key r b k o old.1), lt)) in
-      let x = left-was r.groups m.groups first w.group b.sound.ordered w.is in
-      record { group = w.group; kept = w.is; old = x.group; was = x.kept; same = x.same }
+      grind (arith, left-was r.groups m.groups first w.group b.sound.ordered w.is)
 
   still-indices : (k : ℕ) (o : Module) (first : ℕ) → now.held k ≡ Some o → 0 < times first o.groups → indices_at r first ≡ indices_at now first
   still-indices k o first here lt = grind (arith, still-kept k o first here lt)
@@ -179,13 +169,7 @@ module _ (r : Registry) (b : IsBalanced r) (key : ℕ) (m : Module) (is : r.held
         groups = λ j s at.
             let g = st.groups j s at in
             let w = still-kept k st.listed (get_or st.listed.indices s.start 0) here (first-listed r b k st.listed l s st.held g) in
-            let old : w.old ≡ g.group = same_Some w.old g.group (sym w.was ∙ g.kept) in
-            record {
-              group = w.group;
-              kept = w.kept;
-              at = ap (λ (x : Group). x.indices) (sym w.same) ∙ ap (λ (x : Group). x.indices) old ∙ g.at;
-              canonical = ap (λ (x : Group). group_of x.canonical) (sym w.same) ∙ ap (λ (x : Group). group_of x.canonical) old ∙ g.canonical;
-            };
+            grind arith;
       }
 
 -- ---- indices of other modules

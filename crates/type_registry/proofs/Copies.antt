@@ -30,9 +30,7 @@ get-dropped (x ∷ xs) (suc s) p = let at : suc (s + p) ≡ suc s + p = omega ar
 pub part-next : {A : Type 0} (xs : List A) (s i : ℕ) (x : A) → s ≤ i → slice_get xs i ≡ Some x
     → take (i + 1 - s) (drop s xs) ≡ take (i - s) (drop s xs) ++ x ∷ []
 part-next xs s i x low at =
-    let one : i + 1 - s ≡ suc (i - s) = omega (arith, low) in
-    let back : s + (i - s) ≡ i = omega (arith, low) in
-    ap (λ k. take k (drop s xs)) one ∙ take-next (drop s xs) (i - s) x (get-dropped xs s (i - s) ∙ ap (slice_get xs) back ∙ at)
+    let one : i + 1 - s ≡ suc (i - s) = omega (arith, low) in rw one (take-next (drop s xs) (i - s) x (grind (arith, get-dropped xs s (i - s))))
 
 -- ---- what references of a listed group may become
 
@@ -63,9 +61,7 @@ module _ (l : TypeList) (listed : Listed l) where
   pub may-cons : (k : ℕ) → k < length (list_of l).groups
       → All (CanBeConsedEdge (IsGiven (span_at (list_of l) k).start) (span_at (list_of l) k).start (span_at (list_of l) k).end)
       (edges_of (members_of l (span_at (list_of l) k)))
-  may-cons k lt =
-      let s = span_at (list_of l) k in
-      each-edge (CanBeConsedEdge (IsGiven s.start) s.start s.end) k lt (λ r below. (λ first. first, λ later. below))
+  may-cons k lt = each-edge (CanBeConsedEdge (IsGiven (span_at (list_of l) k).start) (span_at (list_of l) k).start (span_at (list_of l) k).end) k lt (λ r below. (λ first. first, λ later. below))
 
   pub may-use : (k : ℕ) → k < length (list_of l).groups
       → All (CanBeRuntimeEdge (IsGiven (span_at (list_of l) k).end)) (edges_of (members_of l (span_at (list_of l) k)))

@@ -13,8 +13,8 @@ use Rattle.type_registry.proofs.FirstIndices.{set-other, set-here, set-none, len
 use Rattle.type_registry.proofs.Keeping.{Eq}
 use Rattle.type_registry.proofs.OwnerLists.{emptied-at, emptied-length, any-place, place-any}
 
-module _ {Key : Type 0} (content : Key → List WasmSubType) (live live' : ℕ) (known known' : Key → Option ℕ) (gs : List (Option Group)) (os : List (Option Owner)) (free free' : List ℕ)
-    (k : AreKept content live known gs os free) (f : ℕ) (g : Group) (at : group_in gs f ≡ Some g)
+module _ {Key : Type 0} {content : Key → List WasmSubType} {live : ℕ} {known : Key → Option ℕ} {gs : List (Option Group)} {os : List (Option Owner)}
+    {free free' : List ℕ} {g : Group} (live' : ℕ) (known' : Key → Option ℕ) (k : AreKept content live known gs os free) (f : ℕ) (at : group_in gs f ≡ Some g)
     (equal : (x y : List WasmSubType) → (Eq x y ≡ true) ↔ (x ≡ y))
     (forgets : (q : Key) → known' q ≡ cond (Eq g.canonical (content q)) None (known q))
     (less : live' + length g.indices ≡ live) (frees : free' ≡ map free_count (emptied os g.indices)) where
@@ -26,17 +26,12 @@ module _ {Key : Type 0} (content : Key → List WasmSubType) (live live' : ℕ) 
 
   -- what is there now was there, elsewhere
   stays : (n : ℕ) (h : Group) → group_in gs' n ≡ Some h → (n ≡ f → ⊥) × (group_in gs n ≡ Some h)
-  stays n h here =
-      let apart : n ≡ f → ⊥ = λ e. none-some h (sym (ap (group_in gs') e ∙ set-none gs f) ∙ here) in
-      (apart, sym (set-other gs f n None apart) ∙ here)
+  stays n h here = let apart : n ≡ f → ⊥ = (λ e. grind (arith, set-none gs f)) in (apart, sym (set-other gs f n None apart) ∙ here)
 
   -- an index of another group is no index of this one
   elsewhere : (n p i : ℕ) (h : Group) → (n ≡ f → ⊥) → group_in gs n ≡ Some h → slice_get h.indices p ≡ Some i → list_any (nat_eq i) g.indices ≡ false
-  elsewhere n p i h apart here is = false_from_ne_true (list_any (nat_eq i) g.indices) (λ e.
-      let q = place-any g.indices i e in
-      let one = k.owned f q.place i g at q.at in
-      let two = k.owned n p i h here is in
-      apart (ap (λ (o : Owner). o.first) (same_Some (record { first = n; place = p }) (record { first = f; place = q.place }) (sym two ∙ one))))
+  elsewhere n p i h apart here is =
+      false_from_ne_true (list_any (nat_eq i) g.indices) (λ e. let q = place-any g.indices i e in grind (arith, k.owned f q.place i g at q.at, k.owned n p i h here is))
 
   owned : (n p i : ℕ) (h : Group) → group_in gs' n ≡ Some h → slice_get h.indices p ≡ Some i → owner_at os' i ≡ Some (record { first = n; place = p })
   owned n p i h here is = grind (arith, stays, emptied-at, elsewhere)
@@ -45,10 +40,7 @@ module _ {Key : Type 0} (content : Key → List WasmSubType) (live live' : ℕ) 
   owns i o is = by (list_any (nat_eq i) g.indices) refl (sym (emptied-at os g.indices i) ∙ is) where
     by : (c : Bool) → list_any (nat_eq i) g.indices ≡ c → (if c then None else owner_at os i) ≡ Some o → IsOwned gs' i o
     by true e now = absurd (none-some o now)
-    by false e now =
-        let w = k.owns i o now in
-        let apart : o.first ≡ f → ⊥ = grind (arith, any-place) in
-        record { group = w.group; kept = set-other gs f o.first None apart ∙ w.kept; at = w.at }
+    by false e now = let w = k.owns i o now in record { group = w.group; kept = set-other gs f o.first None (λ same. grind (arith, any-place)) ∙ w.kept; at = w.at }
 
   known-still : (n : ℕ) (h : Group) → group_in gs' n ≡ Some h → (key : Key) → content key ≡ h.canonical → known' key ≡ Some n
   known-still n h here key is = grind (arith, stays, false_from_ne_true, same_Some)
@@ -57,18 +49,15 @@ module _ {Key : Type 0} (content : Key → List WasmSubType) (live live' : ℕ) 
   knows-still key n is = by (Eq g.canonical (content key)) refl (sym (forgets key) ∙ is) where
     by : (b : Bool) → Eq g.canonical (content key) ≡ b → cond b None (known key) ≡ Some n → HasCanonical gs' n (content key)
     by true e now = absurd (none-some n now)
-    by false e now =
-        let w = k.knows key n now in
-        let apart : n ≡ f → ⊥ = grind arith in
-        record { group = w.group; kept = set-other gs f n None apart ∙ w.kept; same = w.same }
+    by false e now = let w = k.knows key n now in record { group = w.group; kept = set-other gs f n None (λ same. grind arith) ∙ w.kept; same = w.same }
 
   pub kept-without : AreKept content live' known' gs' os' free'
   kept-without = grind (arith, length-set, emptied-length, length-removed, stays, owned, owns, known-still, knows-still)
 
 -- ---- a group is counted otherwise
 
-module _ {Key : Type 0} (content : Key → List WasmSubType) (live : ℕ) (known : Key → Option ℕ) (gs : List (Option Group)) (os : List (Option Owner)) (free : List ℕ)
-    (k : AreKept content live known gs os free) (f count : ℕ) (g : Group) (at : group_in gs f ≡ Some g) where
+module _ {Key : Type 0} {content : Key → List WasmSubType} {live : ℕ} {known : Key → Option ℕ} {gs : List (Option Group)} {os : List (Option Owner)}
+    {free : List ℕ} {g : Group} (k : AreKept content live known gs os free) (f count : ℕ) (at : group_in gs f ≡ Some g) where
   abbrev g' : Group
   g' = record g { count = count }
 
@@ -87,9 +76,8 @@ module _ {Key : Type 0} (content : Key → List WasmSubType) (live : ℕ) (known
   was n h here = by (nat_eq n f) refl where
     by : (c : Bool) → nat_eq n f ≡ c → Alike gs n h
     by true e =
-        let same : n ≡ f = eqb-true n f e in
-        let is : h ≡ g' = same_Some h g' (sym here ∙ ap (group_in counted) same ∙ set-here gs f (Some g') (group-within gs f g at)) in
-        record { group = g; kept = ap (group_in gs) same ∙ at; indices = ap (λ (x : Group). x.indices) is; canonical = ap (λ (x : Group). x.canonical) is }
+        let is : h ≡ g' = grind (arith, eqb-true n f e, set-here gs f (Some g') (group-within gs f g at)) in
+        record { group = g; kept = ap (group_in gs) (eqb-true n f e) ∙ at; indices = ap (λ (x : Group). x.indices) is; canonical = ap (λ (x : Group). x.canonical) is }
     by false e = record { group = h; kept = sym (set-other gs f n (Some g') (eqb-false n f e)) ∙ here; indices = refl; canonical = refl }
 
   -- and the other way round
@@ -97,9 +85,9 @@ module _ {Key : Type 0} (content : Key → List WasmSubType) (live : ℕ) (known
   still n h here = by (nat_eq n f) refl where
     by : (c : Bool) → nat_eq n f ≡ c → Alike counted n h
     by true e =
-        let same : n ≡ f = eqb-true n f e in
-        let is : h ≡ g = same_Some h g (sym here ∙ ap (group_in gs) same ∙ at) in
-        record { group = g'; kept = ap (group_in counted) same ∙ set-here gs f (Some g') (group-within gs f g at); indices = ap (λ (x : Group). x.indices) is; canonical = ap (λ (x : Group). x.canonical) is }
+        let kept : group_in counted n ≡ Some g' = grind (arith, eqb-true n f e, set-here gs f (Some g') (group-within gs f g at)) in
+        let is : h ≡ g = grind (arith, eqb-true n f e) in
+        record { group = g'; kept = kept; indices = ap (λ (x : Group). x.indices) is; canonical = ap (λ (x : Group). x.canonical) is }
     by false e = record { group = h; kept = set-other gs f n (Some g') (eqb-false n f e) ∙ here; indices = refl; canonical = refl }
 
   pub kept-counted : AreKept content live known counted os free

@@ -3,9 +3,10 @@ use Rattle.std.specs.Prelude.{[], ◌||◌}
 use Rattle.std.proofs.Common.{if◌then◌else◌, ◌≡◌, ◌∙◌, ◌<◌, ◌≤◌, ℕ, zero, suc, ◌+◌, ◌-◌, Bool, true, false, nat_eq, List, ◌∷◌, ◌++◌, length, get_or, slice_get, Some, refl, sym, ap, arith, eq-eqb}
 use Rattle.std.specs.List.{list_any}
 use Rattle.std.proofs.lemmas.Bool.{ne_eqb, cases_Bool, false_from_ne_true}
-use Rattle.std.proofs.lemmas.Option.{slice_get-get_or, slice_get_within, none-some, same_Some}
+use Rattle.std.proofs.lemmas.Option.{slice_get-get_or, slice_get_within, none-some}
 use Rattle.std.proofs.lemmas.Bool.Decides.{nat_tests}
 use Rattle.std.proofs.lemmas.List.{append-nil}
+use Rattle.std.proofs.lemmas.List.Folds.{list_any-append}
 use Rattle.free_numbers.specs.Counts.{total, before}
 use Rattle.free_numbers.proofs.Pairs.{before-more, all-before, some-within}
 use Rattle.type_registry.specs.FreeIndices.{free_below}
@@ -103,40 +104,24 @@ not-below now i all = grind (arith, least-none now, true-false)
 up-to : (now : List ℕ) (m : ℕ) → m < suc (least_free now) → has (least_free now ∷ now) m ≡ true
 up-to now m lt = grind (arith, least-below, nat_tests)
 
--- a number that is free in turn, when so many are free before the first
-record IsFreeAt (taken : List ℕ) (earlier : ℕ) (x : ℕ) : Type 0 where
-  pub free : has taken x ≡ false
-  pub rank : free_below taken x ≡ earlier
-
 -- those below an index are all taken meanwhile, and from it on nothing has changed
 in-turn : (taken now : List ℕ) (i n k x : ℕ) → ((m : ℕ) → m < i → has now m ≡ true) → ((m : ℕ) → i ≤ m → has now m ≡ has taken m)
-    → slice_get (free_indices now n) k ≡ Some x → IsFreeAt taken (free_below taken i + k) x
+    → slice_get (free_indices now n) k ≡ Some x → (has taken x ≡ false) × (free_below taken x ≡ free_below taken i + k)
 in-turn taken now i zero k x all same at = absurd (none-some x at)
 in-turn taken now i (suc n) zero x all same at =
-    let j = least_free now in
-    let here : j ≡ x = same_Some j x at in
     let low = not-below now i all in
-    record {
-      free = ap (has taken) (sym here) ∙ sym (same j low) ∙ least-none now;
-      rank = ap (free_below taken) (sym here) ∙ all-taken taken i j (j - i) (omega (arith, low)) (λ m le lt. sym (same m le) ∙ least-below now m lt)
-          ∙ plus-zero (free_below taken i);
-    } where
-      plus-zero : (n : ℕ) → n ≡ n + 0
-      plus-zero n = omega arith
+    let before = all-taken taken i (least_free now) (least_free now - i) (omega (arith, low)) (λ m le lt. sym (same m le) ∙ least-below now m lt) in
+    grind (arith, same (least_free now) low, least-none now)
 in-turn taken now i (suc n) (suc k) x all same at =
     let j = least_free now in
     let low = not-below now i all in
-    let none : has taken j ≡ false = sym (same j low) ∙ least-none now in
-    let rest = in-turn taken (j ∷ now) (suc j) n k x (λ m lt. up-to now m lt)
-    (λ m le. ap (λ c. c || has now m) (ne_eqb m j (λ e. absurd (omega (arith, e, le)))) ∙ same m (omega (arith, low, le))) at in
     let before = all-taken taken i j (j - i) (omega (arith, low)) (λ m le lt. sym (same m le) ∙ least-below now m lt) in
-    record { free = rest.free; rank = omega (arith, rest.rank, step-free taken j none, before) }
+    let rest = in-turn taken (j ∷ now) (suc j) n k x (up-to now) (λ m le. grind (arith, ne_eqb m j, same m)) at in
+    (rest.0, omega (arith, rest.1, step-free taken j (sym (same j low) ∙ least-none now), before))
 
 -- what is free in turn
 pub free-at : (taken : List ℕ) (n k x : ℕ) → slice_get (free_indices taken n) k ≡ Some x → (has taken x ≡ false) × (free_below taken x ≡ k)
-free-at taken n k x at =
-    let f = in-turn taken taken 0 n k x (λ m lt. absurd (omega (arith, lt))) (λ m le. refl) at in
-    (f.free, omega (arith, f.rank))
+free-at taken n k x at = grind (arith, in-turn taken taken 0 n k x (λ m lt. absurd (omega (arith, lt))) (λ m le. refl) at)
 
 -- what was free in turn is taken meanwhile
 pub free-split : (taken : List ℕ) (m n : ℕ) → free_indices taken (m + n) ≡ free_indices taken m ++ free_indices (taken ++ free_indices taken m) n
@@ -144,13 +129,9 @@ free-split taken zero n = grind (arith, append-nil)
 free-split taken (suc m) n =
     let j = least_free taken in
     let more : suc m + n ≡ suc (m + n) = omega arith in
-    let rest = free-split (j ∷ taken) m n in
     let fs = free_indices (j ∷ taken) m in
-    let moved = free-same ((j ∷ taken) ++ fs) (taken ++ j ∷ fs) n (λ x. move taken fs j x) in
-    ap (free_indices taken) more ∙ ap (λ l. j ∷ l) (rest ∙ ap (λ l. fs ++ l) moved) where
-      move : (xs ys : List ℕ) (j x : ℕ) → has ((j ∷ xs) ++ ys) x ≡ has (xs ++ j ∷ ys) x
-      move [] ys j x = refl
-      move (y ∷ xs) ys j x = let rest = move xs ys j x in let any = cases_Bool (has (xs ++ ys) x) in grind (arith, nat_tests)
+    let moved = free-same ((j ∷ taken) ++ fs) (taken ++ j ∷ fs) n (λ x. grind (arith, list_any-append, cases_Bool)) in
+    ap (free_indices taken) more ∙ ap (λ l. j ∷ l) (free-split (j ∷ taken) m n ∙ ap (λ l. fs ++ l) moved)
 
 get-behind : (xs ys : List ℕ) (k : ℕ) → slice_get (xs ++ ys) (length xs + k) ≡ slice_get ys k
 get-behind [] ys k = let none : 0 + k ≡ k = omega arith in ap (slice_get ys) none
@@ -178,12 +159,11 @@ not-taken taken n x is = let p = place-any (free_indices taken n) x is in (free-
 pub free-low : (taken : List ℕ) (n x : ℕ) → has (free_indices taken n) x ≡ true → x < length taken + n
 free-low taken n x is =
     let p = place-any (free_indices taken n) x is in
-    omega (arith, (free-at taken n p.place x p.at).1, rank-high taken x, slice_get_within (free_indices taken n) p.place x p.at, free-length taken n)
+    grind (arith, free-at taken n p.place x p.at, rank-high taken x, slice_get_within (free_indices taken n) p.place x p.at, free-length taken n)
 
 pub free-once : (taken : List ℕ) (n : ℕ) → IsOnce (free_indices taken n)
 free-once taken zero = tt
-free-once taken (suc n) =
-    grind (arith, eq-eqb, not-taken, true-false, false_from_ne_true, (free-once (least_free taken ∷ taken) n))
+free-once taken (suc n) = grind (arith, eq-eqb, not-taken, true-false, false_from_ne_true, (free-once (least_free taken ∷ taken) n))
 
 -- ---- numbers that are counted where they are free
 

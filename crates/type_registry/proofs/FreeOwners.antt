@@ -26,9 +26,7 @@ pub record HasIndex (gs : List (Option Group)) (i : ℕ) : Type 0 where
 
 pub index-has : (gs : List (Option Group)) (k i : ℕ) → list_any (nat_eq i) (indices_of (kept_from k gs)) ≡ true → HasIndex gs i
 index-has [] k i is = absurd (true-false false is refl)
-index-has (None ∷ gs) k i is =
-    let w = index-has gs (k + 1) i is in
-    record { first = suc w.first; place = w.place; group = w.group; kept = w.kept; at = w.at }
+index-has (None ∷ gs) k i is = let w = index-has gs (k + 1) i is in record { first = suc w.first; place = w.place; group = w.group; kept = w.kept; at = w.at }
 index-has (Some x ∷ gs) k i is = by (list_any (nat_eq i) x.indices) refl (index-has gs (k + 1) i) where
   by : (c : Bool) → list_any (nat_eq i) x.indices ≡ c → (list_any (nat_eq i) (indices_of (kept_from (k + 1) gs)) ≡ true → HasIndex gs i)
       → HasIndex (Some x ∷ gs) i
@@ -45,8 +43,8 @@ count-at (o ∷ os) (suc i) lt = count-at os i (omega (arith, lt))
 owner-past : (os : List (Option Owner)) (i : ℕ) → length os ≤ i → owner_at os i ≡ None
 owner-past os i le = ap (λ (o : Option (Option Owner)). option_and_then (λ (x : Option Owner). x) o) (slice_get_past os i le)
 
-module _ {Key : Type 0} (content : Key → List WasmSubType) (live : ℕ) (known : Key → Option ℕ) (gs : List (Option Group)) (os : List (Option Owner))
-    (free : List ℕ) (k : AreKept content live known gs os free) where
+module _ {Key : Type 0} {content : Key → List WasmSubType} {live : ℕ} {known : Key → Option ℕ} {gs : List (Option Group)} {os : List (Option Owner)}
+    {free : List ℕ} (k : AreKept content live known gs os free) where
   abbrev taken : List ℕ
   taken = indices_of (kept_from 0 gs)
 
@@ -67,7 +65,7 @@ module _ {Key : Type 0} (content : Key → List WasmSubType) (live : ℕ) (known
 
   -- ---- a free index by how many are free before it
 
-  module _ (now : Groups) (seen : kept_from 0 gs ≡ now) where
+  module _ {now : Groups} (seen : kept_from 0 gs ≡ now) where
     pub nth-free : (n : ℕ) → get_or free n 0 ≡ 1 → list_any (nat_eq n) (indices_of now) ≡ false
     nth-free n one = ap (λ es. list_any (nat_eq n) (indices_of es)) (sym seen) ∙ (counted-free taken free counted-owners n one).1
 

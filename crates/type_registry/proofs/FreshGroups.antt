@@ -1,7 +1,7 @@
 -- Groups that are not kept yet, found by their canonical members.
 use Rattle.std.proofs.lemmas.Grind.{common_steps}
 use Rattle.std.specs.Prelude.{[], cond}
-use Rattle.std.proofs.Common.{◌≡◌, ◌∙◌, ◌↔◌, ◌<◌, ℕ, zero, suc, ◌+◌, Bool, true, false, List, ◌∷◌, ◌++◌, length, slice_get, Option, Some, None, refl, sym, ap, arith}
+use Rattle.std.proofs.Common.{◌≡◌, ◌∙◌, ◌↔◌, ◌<◌, ℕ, zero, suc, ◌+◌, Bool, true, false, List, ◌∷◌, ◌++◌, length, slice_get, Option, Some, None, refl, sym, arith}
 use Rattle.std.proofs.lemmas.List.{length-append}
 use Rattle.std.specs.Option.{option_map}
 use Rattle.std.proofs.lemmas.Option.{none-some, same_Some}
@@ -24,27 +24,18 @@ find-one : (es : Groups) (p : ℕ) (e : Entry) (c : List WasmSubType) → slice_
 find-one [] p e c at holds only = absurd (none-some e at)
 find-one (x ∷ es) zero e c at holds only = grind (arith, same_Some)
 find-one (x ∷ es) (suc p) e c at holds only =
-    let rest = find-one es p e c at holds (λ q f here is. let n : suc q ≡ suc p = only (suc q) f here is in omega (arith, n)) in
-    let equal = cases_Bool (Eq x.1.canonical c) in
-    let first = only 0 x refl in
-    grind arith
+    grind (arith, cases_Bool (Eq x.1.canonical c), only 0 x refl, (find-one es p e c at holds (λ q f here is. grind (arith, only (suc q) f here is))))
 
 find-no-one : (es : Groups) (c : List WasmSubType) → ((q : ℕ) (f : Entry) → slice_get es q ≡ Some f → Eq f.1.canonical c ≡ true → ⊥) → find_group c es ≡ None
 find-no-one [] c none = refl
-find-no-one (x ∷ es) c none =
-    let rest = find-no-one es c (λ q f here is. none (suc q) f here is) in
-    let equal = cases_Bool (Eq x.1.canonical c) in
-    let first = none 0 x refl in
-    grind arith
+find-no-one (x ∷ es) c none = grind (arith, cases_Bool (Eq x.1.canonical c), none 0 x refl, (find-no-one es c (λ q f here is. none (suc q) f here is)))
 
 -- an equal one would be found
 none-there : (es : Groups) (c : List WasmSubType) (q : ℕ) (f : Entry) → find_group c es ≡ None → slice_get es q ≡ Some f → Eq f.1.canonical c ≡ true → ⊥
 none-there [] c q f none at is = none-some f at
 none-there (x ∷ es) c zero f none at is = grind arith
 none-there (x ∷ es) c (suc q) f none at is =
-    let rest : find_group c es ≡ None → ⊥ = (λ n. none-there es c q f n at is) in
-    let equal = cases_Bool (Eq x.1.canonical c) in
-    grind arith
+    let rest : find_group c es ≡ None → ⊥ = (λ n. none-there es c q f n at is) in grind (arith, cases_Bool (Eq x.1.canonical c))
 
 -- ---- one more group
 
@@ -72,23 +63,19 @@ indices-pushed : (es : Groups) (e : Entry) → length (indices_of (es ++ e ∷ [
 indices-pushed [] e = omega (arith, length-append e.1.indices (indices_of []))
 indices-pushed (x ∷ es) e = grind (arith, length-append, (indices-pushed es e))
 
-module _ {Key : Type 0} (content : Key → List WasmSubType) (places : Key → Option ℕ) (members : ℕ) (es : Groups) (k : AreFresh content places members es) where
+module _ {Key : Type 0} {content : Key → List WasmSubType} {places : Key → Option ℕ} {members : ℕ} {es : Groups} (k : AreFresh content places members es) where
   -- the map may be another that has the same
   pub fresh-same : (places' : Key → Option ℕ) → ((key : Key) → places' key ≡ places key) → AreFresh content places' members es
   fresh-same places' same = grind (arith, common_steps)
 
   module _ (equal : (x y : List WasmSubType) → (Eq x y ≡ true) ↔ (x ≡ y)) where
     pub found-fresh : (key : Key) (p : ℕ) → places key ≡ Some p → find_group (content key) es ≡ option_map group_of (slice_get es p)
-    found-fresh key p is =
-        let w = k.knows key p is in
-        find-one es p w.entry (content key) w.at ((equal w.entry.1.canonical (content key)).1 w.same)
-        (λ q f here holds. same_Some q p (sym (k.found q f here key (sym ((equal f.1.canonical (content key)).0 holds))) ∙ is))
-        ∙ ap (option_map group_of) (sym w.at)
+    found-fresh key p is = let w = k.knows key p is in grind (arith, find-one es p w.entry (content key) w.at, k.found)
 
     pub not-fresh : (key : Key) → places key ≡ None → find_group (content key) es ≡ None
     not-fresh key none = grind (arith, find-no-one, none-some)
 
-    module _ (places' : Key → Option ℕ) (members' : ℕ) (e : Entry) (unknown : find_group e.1.canonical es ≡ None)
+    module _ (places' : Key → Option ℕ) {members' : ℕ} (e : Entry) (unknown : find_group e.1.canonical es ≡ None)
         (learns : (q : Key) → places' q ≡ cond (Eq e.1.canonical (content q)) (Some (length es)) (places q)) (more : members' ≡ members + length e.1.indices) where
       abbrev es' : Groups
       es' = es ++ e ∷ []

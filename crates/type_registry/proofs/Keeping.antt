@@ -82,8 +82,8 @@ pub record IsNew (gs : List (Option Group)) (os : List (Option Owner)) (f : ℕ)
   pub free : (p n : ℕ) → slice_get g.indices p ≡ Some n → (n < length gs) × (owner_at os n ≡ None)
   pub once : (p q n : ℕ) → slice_get g.indices p ≡ Some n → slice_get g.indices q ≡ Some n → p ≡ q
 
-module _ {Key : Type 0} (content : Key → List WasmSubType) (live live' : ℕ) (known known' : Key → Option ℕ) (gs : List (Option Group))
-    (os : List (Option Owner)) (free free' : List ℕ) (k : AreKept content live known gs os free) (f : ℕ) (g : Group) (new : IsNew gs os f g)
+module _ {Key : Type 0} {content : Key → List WasmSubType} {live : ℕ} {known : Key → Option ℕ} {gs : List (Option Group)} {os : List (Option Owner)}
+    {free free' : List ℕ} {f : ℕ} {g : Group} (live' : ℕ) (known' : Key → Option ℕ) (k : AreKept content live known gs os free) (new : IsNew gs os f g)
     (equal : (x y : List WasmSubType) → (Eq x y ≡ true) ↔ (x ≡ y)) (unknown : (key : Key) → content key ≡ g.canonical → known key ≡ None)
     (learns : (q : Key) → known' q ≡ cond (Eq g.canonical (content q)) (Some f) (known q))
     (more : live' ≡ live + length g.indices) (frees : free' ≡ map free_count (owned_by f 0 os g.indices)) where
@@ -99,10 +99,7 @@ module _ {Key : Type 0} (content : Key → List WasmSubType) (live live' : ℕ) 
     There : (n ≡ f → ⊥) → group_in gs n ≡ Some h → Where n h
 
   at-of : (n : ℕ) (h : Group) → group_in gs' n ≡ Some h → Where n h
-  at-of n h is = by (nat_eq n f) refl where
-    by : (c : Bool) → nat_eq n f ≡ c → Where n h
-    by true e = grind (arith, eqb-true n f e, set-here gs f (Some g) new.room)
-    by false e = let apart = eqb-false n f e in There apart (sym (set-other gs f n (Some g) apart) ∙ is)
+  at-of n h is = grind (arith, Here, There, eqb-true n f, eqb-false n f, set-here gs f (Some g) new.room, set-other gs f n (Some g))
 
   still : (n : ℕ) (h : Group) → group_in gs n ≡ Some h → group_in gs' n ≡ Some h
   still n h is = set-other gs f n (Some g) (λ e. none-some h (sym (ap (group_in gs) e ∙ new.empty) ∙ is)) ∙ is
@@ -118,19 +115,11 @@ module _ {Key : Type 0} (content : Key → List WasmSubType) (live live' : ℕ) 
     by : (c : Bool) → list_any (nat_eq i) g.indices ≡ c → IsOwned gs' i o
     by true e =
         let q = place-any g.indices i e in
-        let zero-is : 0 + q.place ≡ q.place = omega arith in
         let mine = owned-at f 0 os g.indices q.place i q.at (omega (arith, (new.free q.place i q.at).0, k.owners)) (λ r there. new.once r q.place i there q.at) in
-        let same : o ≡ record { first = f; place = q.place } =
-        same_Some o (record { first = f; place = q.place }) (sym is ∙ mine ∙ ap (λ r. Some (record { first = f; place = r })) zero-is) in
-        record {
-          group = g;
-          kept = ap (λ (p : Owner). group_in gs' p.first) same ∙ set-here gs f (Some g) new.room;
-          at = ap (λ (p : Owner). slice_get g.indices p.place) same ∙ q.at;
-        }
+        record { group = g; kept = grind (arith, mine, set-here gs f (Some g) new.room); at = grind (arith, mine, q.at) }
     by false e =
-        let old : owner_at os i ≡ Some o = sym (owned-else f 0 os g.indices i (λ q there. let no-way : false ≡ true = sym e ∙ any-place g.indices i q there in cc)) ∙ is in
-        let w = k.owns i o old in
-        record { group = w.group; kept = still o.first w.group w.kept; at = w.at }
+        let old : owner_at os i ≡ Some o = grind (arith, owned-else, any-place) in
+        let w = k.owns i o old in record { group = w.group; kept = still o.first w.group w.kept; at = w.at }
 
   found' : (n : ℕ) (h : Group) → group_in gs' n ≡ Some h → (key : Key) → content key ≡ h.canonical → known' key ≡ Some n
   found' n h is key has = grind (arith, at-of, false_from_ne_true, none-some)

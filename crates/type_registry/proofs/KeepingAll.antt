@@ -1,6 +1,6 @@
 -- Groups that may be kept one after another.
 use Rattle.std.specs.Prelude.{[], ◌||◌, ⊤}
-use Rattle.std.proofs.Common.{if◌then◌else◌, ◌≡◌, ◌∙◌, ◌<◌, ◌≤◌, ◌+◌, ℕ, zero, suc, Bool, true, false, nat_eq, nat_le, List, ◌∷◌, ◌++◌, length, slice_get, Some, None, refl, sym, ap, subst, arith}
+use Rattle.std.proofs.Common.{if◌then◌else◌, ◌≡◌, ◌∙◌, ◌<◌, ◌≤◌, ◌+◌, ℕ, zero, suc, Bool, true, false, nat_eq, nat_le, List, ◌∷◌, ◌++◌, length, slice_get, Some, None, refl, sym, ap, arith}
 use Rattle.std.specs.List.{list_any}
 use Rattle.std.proofs.lemmas.List.{length-append}
 use Rattle.std.proofs.lemmas.Bool.{cases_Bool, or_parts, cond_both}
@@ -102,31 +102,25 @@ unknown-still gs f g [] unlike unknown = tt
 unknown-still gs f g (e ∷ es) unlike unknown = grind (arith, keep-unknown, (unknown-still gs f g es unlike.1 unknown.1))
 
 one-may : (s : GroupsState) (e : ℕ × Group) (es : Groups) → MayKeep s (e ∷ es) → MayBeKept s e.1
-one-may s e es m =
-    let has : (p n : ℕ) → slice_get e.1.indices p ≡ Some n → list_any (nat_eq n) (indices_of (e ∷ es)) ≡ true =
-    λ p n at. any-left e.1.indices (indices_of es) n (any-place e.1.indices n p at) in
-    record {
-      few = omega (arith, m.few, length-append e.1.indices (indices_of es));
-      spare = omega (arith, m.spare);
-      room = λ p n at. m.room n (has p n at);
-      free = λ p n at. m.free n (has p n at);
-      once = λ p q n at at'. once-at e.1.indices p q n (once-left e.1.indices (indices_of es) m.once) at at';
-      unknown = m.unknown.0;
-    }
+one-may s e es m = record {
+  few = omega (arith, m.few, length-append e.1.indices (indices_of es));
+  spare = omega (arith, m.spare);
+  room = λ p n at. m.room n (any-left e.1.indices (indices_of es) n (any-place e.1.indices n p at));
+  free = λ p n at. m.free n (any-left e.1.indices (indices_of es) n (any-place e.1.indices n p at));
+  once = λ p q n at at'. once-at e.1.indices p q n (once-left e.1.indices (indices_of es) m.once) at at';
+  unknown = m.unknown.0;
+}
 
 rest-may : (s t : GroupsState) (e : ℕ × Group) (es : Groups) → MayKeep s (e ∷ es) → IsKeptIn s e t → MayKeep t es
-rest-may s t e es m is =
-    let size : length (indices_of t.groups) ≡ length (indices_of s.groups) + length e.1.indices =
-    ap (λ gs. length (indices_of gs)) is.0 ∙ keep-length s.groups e.0 e.1 in
-    record {
-      few = omega (arith, m.few, size, length-append e.1.indices (indices_of es));
-      spare = omega (arith, m.spare, is.2);
-      room = λ n has. omega (arith, is.1, m.room n (any-right e.1.indices (indices_of es) n has));
-      free = grind (arith, once-apart, any-right, keep-without);
-      once = once-right e.1.indices (indices_of es) m.once;
-      unknown = subst (λ (gs : Groups). AllUnknown gs es) (sym is.0) (unknown-still s.groups e.0 e.1 es m.apart.0 m.unknown.1);
-      apart = m.apart.1;
-    }
+rest-may s t e es m is = record {
+  few = grind (arith, m.few, keep-length s.groups e.0 e.1, length-append e.1.indices (indices_of es));
+  spare = omega (arith, m.spare, is.2);
+  room = λ n has. omega (arith, is.1, m.room n (any-right e.1.indices (indices_of es) n has));
+  free = grind (arith, once-apart, any-right, keep-without);
+  once = once-right e.1.indices (indices_of es) m.once;
+  unknown = rw is.0 (unknown-still s.groups e.0 e.1 es m.apart.0 m.unknown.1);
+  apart = m.apart.1;
+}
 
 pub may-keep-all : (es : Groups) (s : GroupsState) → MayKeep s es → MayKeepAll s es
 may-keep-all [] s m = tt

@@ -1,5 +1,5 @@
 -- A well named list may be registered.
-use Rattle.std.proofs.Common.{◌≡◌, ◌∙◌, ◌<◌, ◌≤◌, ℕ, ◌+◌, ◌-◌, List, [], ◌∷◌, length, map, refl, sym, ap, subst, arith}
+use Rattle.std.proofs.Common.{◌≡◌, ◌∙◌, ◌<◌, ◌≤◌, ℕ, ◌+◌, List, [], ◌∷◌, length, map, refl, sym, ap, subst, arith}
 use Rattle.std.specs.List.{All}
 use Rattle.std.proofs.lemmas.List.{length-map}
 use Rattle.std.proofs.lemmas.List.Elements.{All-nil, All-append, All-weaker, All-head, All-tail}
@@ -53,11 +53,9 @@ had-back n few x below =
     let edges : group_edges (λ (r : ℕ). r) (unkinded ts) ≡ map (λ (r : ℕ). r) (map interned_number (group_edges index_in x)) =
     group_shape.edges_map (index_in {R = ℕ}) (λ (r : ℕ). r) (index_in {R = ℕ}) (λ (r : ℕ). r) (λ a. refl) ts
     ∙ ap (map (λ (r : ℕ). r)) (group_shape.edges_map index_in index_in (named interned_number) interned_number (λ a. refl) x) in
-    let all : All (λ r. r < n) (map (λ (r : ℕ). r) (map interned_number (group_edges index_in x))) = subst (λ rs. All (λ r. r < n) rs) edges below in
-    let fixed : map back (group_edges index_in x) ≡ group_edges index_in x = all-back n few (group_edges index_in x) all in
-    let twice : map_group (named index_at) index_at ts ≡ map_group (named back) back x =
-    group_shape.map_twice (named interned_number) (named index_at) interned_number index_at x in
-    twice ∙ group_shape.determined (named (erased {R = EngineOrModuleTypeIndex})) index_in named-tells (map_group (named back) back x) x
+    let fixed = all-back n few (group_edges index_in x) (subst (λ rs. All (λ r. r < n) rs) edges below) in
+    group_shape.map_twice (named interned_number) (named index_at) interned_number index_at x
+    ∙ group_shape.determined (named (erased {R = EngineOrModuleTypeIndex})) index_in named-tells (map_group (named back) back x) x
     (group_shape.map_twice (named back) (named (erased {R = EngineOrModuleTypeIndex})) back (erased {R = EngineOrModuleTypeIndex}) x)
     (group_shape.edges_map index_in index_in (named back) back (λ a. refl) x ∙ fixed)
 

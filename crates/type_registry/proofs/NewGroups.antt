@@ -1,7 +1,7 @@
 -- Groups that are found among those that are kept, and groups that are not.
-use Rattle.std.proofs.Common.{◌≡◌, ◌∙◌, ◌↔◌, ◌+◌, ℕ, zero, suc, true, false, nat_eq, List, [], ◌∷◌, ◌++◌, length, slice_get, Option, Some, None, refl, sym, ap, arith}
+use Rattle.std.proofs.Common.{◌≡◌, ◌∙◌, ◌↔◌, ◌+◌, ℕ, zero, suc, true, false, nat_eq, List, [], ◌∷◌, ◌++◌, length, slice_get, Option, Some, None, refl, arith}
 use Rattle.std.specs.List.{list_any}
-use Rattle.std.proofs.lemmas.Bool.{cases_Bool, or_left, or_right, both_ways}
+use Rattle.std.proofs.lemmas.Bool.{cases_Bool, or_left, or_right}
 use Rattle.std.proofs.lemmas.List.Folds.{list_any-append}
 use Rattle.std.proofs.lemmas.Option.{none-some, same_Some}
 use Rattle.wasm_types.specs.declared.sub.WasmSubType.{WasmSubType}
@@ -37,14 +37,10 @@ has-index _ _ _ _ _ g at _ = absurd (none-some g at)
 -- the one kept group that is equal is found
 find-some : (gs : List (Option Group)) (k f : ℕ) (g : Group) (c : List WasmSubType) → group_in gs f ≡ Some g → Eq g.canonical c ≡ true
     → ((n : ℕ) (h : Group) → group_in gs n ≡ Some h → Eq h.canonical c ≡ true → n ≡ f) → find_group c (kept_from k gs) ≡ Some g
-find-some (None ∷ gs) k (suc f) g c at holds only =
-    find-some gs (k + 1) f g c at holds (λ n h here is. let e : suc n ≡ suc f = only (suc n) h here is in omega (arith, e))
+find-some (None ∷ gs) k (suc f) g c at holds only = find-some gs (k + 1) f g c at holds (λ n h here is. grind (arith, only (suc n) h here is))
 find-some (Some x ∷ gs) k zero g c at holds only = grind arith
 find-some (Some x ∷ gs) k (suc f) g c at holds only =
-    let rest = find-some gs (k + 1) f g c at holds (λ n h here is. let e : suc n ≡ suc f = only (suc n) h here is in omega (arith, e)) in
-    let equal = cases_Bool (Eq x.canonical c) in
-    let first = only 0 x refl in
-    grind arith
+    grind (arith, cases_Bool (Eq x.canonical c), only 0 x refl, (find-some gs (k + 1) f g c at holds (λ n h here is. grind (arith, only (suc n) h here is))))
 find-some _ _ _ g _ at _ _ = absurd (none-some g at)
 
 -- where none is equal none is found
@@ -53,44 +49,28 @@ find-none : (gs : List (Option Group)) (k : ℕ) (c : List WasmSubType) → ((n 
 find-none [] k c none = refl
 find-none (None ∷ gs) k c none = find-none gs (k + 1) c (λ n h here is. none (suc n) h here is)
 find-none (Some x ∷ gs) k c none =
-    let rest = find-none gs (k + 1) c (λ n h here is. none (suc n) h here is) in
-    let equal = cases_Bool (Eq x.canonical c) in
-    let first = none 0 x refl in
-    grind arith
+    grind (arith, cases_Bool (Eq x.canonical c), none 0 x refl, (find-none gs (k + 1) c (λ n h here is. none (suc n) h here is)))
 
-module _ {Key : Type 0} (content : Key → List WasmSubType) (live : ℕ) (known : Key → Option ℕ) (gs : List (Option Group)) (os : List (Option Owner)) (free : List ℕ)
-    (k : AreKept content live known gs os free) (equal : (x y : List WasmSubType) → (Eq x y ≡ true) ↔ (x ≡ y)) where
+module _ {Key : Type 0} {content : Key → List WasmSubType} {live : ℕ} {known : Key → Option ℕ} {gs : List (Option Group)} {os : List (Option Owner)}
+    {free : List ℕ} (k : AreKept content live known gs os free) (equal : (x y : List WasmSubType) → (Eq x y ≡ true) ↔ (x ≡ y)) where
   pub found-known : (key : Key) (n : ℕ) → known key ≡ Some n → find_group (content key) (kept_from 0 gs) ≡ group_in gs n
-  found-known key n is =
-      let w = k.knows key n is in
-      find-some gs 0 n w.group (content key) w.kept ((equal w.group.canonical (content key)).1 w.same)
-      (λ m h here holds. same_Some m n (sym (k.found m h here key (sym ((equal h.canonical (content key)).0 holds))) ∙ is))
-      ∙ sym w.kept
+  found-known key n is = let w = k.knows key n is in grind (arith, find-some gs 0 n w.group (content key) w.kept, k.found)
 
   pub not-found : (key : Key) → known key ≡ None → find_group (content key) (kept_from 0 gs) ≡ None
   not-found key none = grind (arith, find-none, none-some)
 
   -- ---- a group that may be kept
 
-  module _ (s : GroupsState) (seen : kept_from 0 gs ≡ s.groups) (room : length gs ≡ s.room) (g : Group) (f : ℕ) (first : slice_get g.indices 0 ≡ Some f)
+  module _ {s : GroupsState} {g : Group} {f : ℕ} (seen : kept_from 0 gs ≡ s.groups) (room : length gs ≡ s.room) (first : slice_get g.indices 0 ≡ Some f)
       (may : MayBeKept s g) where
     unowned : (n : ℕ) → list_any (nat_eq n) (indices_of s.groups) ≡ false → owner_at os n ≡ None
-    unowned n none = none-of (owner_at os n) (λ o e.
-        let w = k.owns n o e in
-        let holds : list_any (nat_eq n) (indices_of s.groups) ≡ true =
-        ap (λ es. list_any (nat_eq n) (indices_of es)) (sym seen) ∙ has-index gs 0 o.first o.place n w.group w.kept w.at in
-        both_ways (list_any (nat_eq n) (indices_of s.groups)) none holds)
+    unowned n none = none-of (owner_at os n) (λ o e. let w = k.owns n o e in grind (arith, has-index gs 0 o.first o.place n w.group w.kept w.at))
 
     empty : group_in gs f ≡ None
-    empty = none-of (group_in gs f) (λ h e.
-        none-some (record { first = f; place = 0 }) (sym (unowned f (may.free 0 f first)) ∙ k.owned f 0 f h e (k.first f h e)))
+    empty = none-of (group_in gs f) (λ h e. grind (arith, unowned f, may.free 0 f first, k.owned f 0 f h e (k.first f h e)))
 
     pub is-new : IsNew gs os f g
     is-new = grind (arith, empty, unowned)
 
     pub unknown : (key : Key) → content key ≡ g.canonical → known key ≡ None
-    unknown key is = none-of (known key) (λ n e.
-        let w = k.knows key n e in
-        let none : find_group (content key) (kept_from 0 gs) ≡ None =
-        ap (λ c. find_group c (kept_from 0 gs)) is ∙ ap (find_group g.canonical) seen ∙ may.unknown in
-        none-some w.group (sym none ∙ found-known key n e ∙ w.kept))
+    unknown key is = none-of (known key) (λ n e. let w = k.knows key n e in grind (arith, found-known key n e, may.unknown))

@@ -81,14 +81,8 @@ pub record IsPlanned (gs : Groups) (l : TypeList) (p : Plan) (s : Span) : Type 0
 -- it stays so where more groups follow
 planned-more : (gs : Groups) (l : TypeList) (listed : Module) (es fs : Groups) (ns firsts : List ℕ) (s : Span)
     → IsPlanned gs l (plan listed es) s → IsPlanned gs l (plan (record { indices = listed.indices ++ ns; groups = firsts }) (es ++ fs)) s
-planned-more gs l listed es fs ns firsts s w = record {
-  group = w.group;
-  at = w.at ∙ sym (part-within listed.indices ns (size_of s) s.start (omega (arith, w.low, w.within)));
-  canonical = w.canonical ∙ data-more l s listed.indices ns (omega (arith, w.low, w.within));
-  low = w.low;
-  within = omega (arith, w.within, length-append listed.indices ns);
-  among = ap (find_group w.group.canonical) (sym (append_assoc gs es fs)) ∙ find-some (gs ++ es) fs w.group.canonical w.group w.among;
-}
+planned-more gs l listed es fs ns firsts s w =
+    grind (arith, part-within, data-more l s listed.indices ns (omega (arith, w.low, w.within)), length-append, append_assoc, find-some)
 
 module _ (equal : (x y : List WasmSubType) → (Eq x y ≡ true) ↔ (x ≡ y)) (gs : Groups) (l : TypeList) where
   -- the group that is planned
@@ -156,8 +150,7 @@ module _ (equal : (x y : List WasmSubType) → (Eq x y ≡ true) ↔ (x ≡ y)) 
   are-planned p [] end may lie first = record { each = tt; first = first; long = lie; still = λ t x. x }
   are-planned p (s ∷ ss) end may lie first =
       let n = is-next p s may.1 (sym may.0) first in
-      let q = plan_group gs l p s in
-      let rest = are-planned q ss end (subst (λ k. MayBePlannedFrom l k ss) (sym n.long) may.2) (subst (λ k. LieBetween k ss end) (sym n.long) lie.2) n.firsts in
+      let rest = are-planned (plan_group gs l p s) ss end (rw n.long may.2) (rw n.long lie.2) n.firsts in
       grind arith
 
   pub planned-at : (p : Plan) (ss : List Span) (k : ℕ) (s : Span) → EachPlanned p ss → slice_get ss k ≡ Some s → IsPlanned gs l p s

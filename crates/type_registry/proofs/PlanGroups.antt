@@ -19,7 +19,6 @@ use Rattle.module_types.specs.Views.{TypeIndex, span_of, interned_of}
 use Rattle.module_types.specs.TypeList.{TypeList}
 use Rattle.module_types.specs.Orderly.{LieBetween}
 use Rattle.module_types.specs.Conversion.{no_span}
-use Rattle.module_types.specs.ListGroups.{span_at}
 use Rattle.module_types.proofs.Standing.{stands-at}
 use Rattle.type_registry.specs.Registry.{Group, Groups, GroupsState, indices_of}
 use Rattle.type_registry.specs.Changes.{Plan, begun, find_group, keep_group, keep_groups, members_of, at_first, free_indices, next_group, canonical_of, take_group, plan_group, plan_groups, size_of, with_group}
@@ -38,14 +37,11 @@ use Rattle.type_registry.proofs.NewGroups.{none-of}
 planned-from : (l : TypeList) (ss : List Span) (first end : ℕ) → LieBetween first ss end → ((k : ℕ) → k < length ss → MayBePlanned l (get_or ss k no_span))
     → MayBePlannedFrom l first ss
 planned-from l [] first end lie each = tt
-planned-from l (s ∷ ss) first end lie each =
-    (lie.0, each 0 (omega arith), planned-from l ss s.end end lie.2 (λ k lt. each (suc k) (omega (arith, lt))))
+planned-from l (s ∷ ss) first end lie each = (lie.0, each 0 (omega arith), planned-from l ss s.end end lie.2 (λ k lt. each (suc k) (omega (arith, lt))))
 
 pub may-plan : (l : TypeList) → Listed l → length l.types < 4294967295 → MayBePlannedFrom l 0 (map span_of l.groups)
-may-plan l listed few =
-    planned-from l (map span_of l.groups) 0 (length (list_of l).types) listed.well_named.orderly (λ k lt. each k lt) where
-      each : (k : ℕ) → k < length (list_of l).groups → MayBePlanned l (span_at (list_of l) k)
-      each k lt = grind (arith, stands-at (list_of l) listed.well_named k lt, length-map l.types interned_of, may-cons l listed k lt, may-use l listed k lt)
+may-plan l listed few = planned-from l (map span_of l.groups) 0 (length (list_of l).types) listed.well_named.orderly
+    (λ k lt. grind (arith, stands-at (list_of l) listed.well_named k lt, length-map l.types interned_of, may-cons l listed k lt, may-use l listed k lt))
 
 -- ---- groups that are found
 

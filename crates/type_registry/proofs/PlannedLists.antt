@@ -1,5 +1,5 @@
 -- A registry is balanced once a module is registered.
-use Rattle.std.proofs.Common.{if◌then◌else◌, ◌≡◌, ◌∙◌, ◌↔◌, ◌<◌, ◌≤◌, ℕ, ◌+◌, Bool, true, false, nat_eq, List, [], ◌∷◌, ◌++◌, map, Option, Some, refl, sym, ap, subst, arith, eq-eqb, ◌⊎◌, inl, inr}
+use Rattle.std.proofs.Common.{if◌then◌else◌, ◌≡◌, ◌∙◌, ◌↔◌, ◌<◌, ◌≤◌, ℕ, ◌+◌, Bool, true, false, nat_eq, List, [], ◌∷◌, ◌++◌, map, Option, Some, refl, arith, eq-eqb}
 use Rattle.std.specs.List.{flat_map}
 use Rattle.std.proofs.lemmas.Grind.{flat_map-append, common_steps}
 use Rattle.std.proofs.lemmas.List.{append-nil, append_assoc}
@@ -17,7 +17,7 @@ use Rattle.type_registry.proofs.Balance.{kept-listed}
 use Rattle.type_registry.proofs.Keeping.{Eq}
 use Rattle.type_registry.proofs.PlanGroups.{found-equal, find-some, find-none, fresh-counted, either-planned}
 use Rattle.type_registry.proofs.Registered.{state, may, new-first, kept-of, registered-sound}
-use Rattle.type_registry.proofs.Sound.{IsBut, found, counted-is, counted-was, keeps-found}
+use Rattle.type_registry.proofs.Sound.{found, counted-is, counted-was, keeps-found}
 use Rattle.type_registry.proofs.Tallies.{IsThere, counted-more, firsts_of, keep-none, kept-was}
 use Rattle.type_registry.proofs.Times.{below-next, below-with, flat-same, times-append}
 
@@ -56,11 +56,7 @@ module _ (equal : (x y : List WasmSubType) → (Eq x y ≡ true) ↔ (x ≡ y)) 
       let c = canonical_of l p.listed.indices s in
       either-planned gs l p s (λ q. IsTaken p.listed q.listed q.fresh)
       (λ g is. grind (arith, found-equal (gs ++ p.fresh) c g is))
-      (λ none. record {
-        group = next_group gs p.fresh c (size_of s);
-        listed = refl;
-        among = grind (arith, append_assoc, find-none);
-      })
+      (λ none. record { group = next_group gs p.fresh c (size_of s); listed = refl; among = grind (arith, append_assoc, find-none) })
 
   -- the list is that of its groups where each group that is found is kept at its first index
   planned-listed : (at : ℕ → Option Group) (p : Plan) (ss : List Span)
@@ -71,7 +67,7 @@ module _ (equal : (x y : List WasmSubType) → (Eq x y ≡ true) ↔ (x ≡ y)) 
       let t = is-taken p s in
       let q = plan_group gs l p s in
       let is = kept t.group (found-later q ss t.group.canonical t.group t.among) in
-      planned-listed at q ss kept (subst (IsListedBy at) (sym t.listed) (listed-more at p.listed t.group is w))
+      planned-listed at q ss kept (rw t.listed (listed-more at p.listed t.group is w))
 
   -- each new group is one of the module's
   new-listed : (p : Plan) (s : Span) (first : ℕ) → times first (firsts_of p.fresh) ≤ times first p.listed.groups
@@ -120,25 +116,21 @@ module _ (equal : (x y : List WasmSubType) → (Eq x y ≡ true) ↔ (x ≡ y)) 
   counted-now first = grind (arith, eq-eqb, counted-more, listed-by, count-kept, below-next, below-with)
 
   had-now : (first : ℕ) (g : Group) → kept_at now first ≡ Some g → 0 < g.count
-  had-now first g is = omega (arith, by (kept-was r.groups p.fresh first w.group w.kept), more, ap count_in is) where
-    w : IsBut kept first g
-    w = counted-was kept p.listed.groups first g is
-
-    more : count_in (kept_at now first) ≡ count_in (kept_at r first) + times first p.listed.groups
-    more = omega (arith, counted-more kept p.listed.groups first listed-by.there, count-kept first)
-
-    by : (kept_at r first ≡ Some w.group) ⊎ (0 < times first (firsts_of p.fresh)) → 0 < count_in (kept_at r first) + times first p.listed.groups
-    by (inl old) = omega (arith, ap count_in old, b.had first w.group old)
-    by (inr new) = omega (arith, new, all-listed equal r.groups l begun (map span_of l.groups) first (omega arith))
+  had-now first g is = grind (
+    arith,
+    kept-was,
+    b.had,
+    count-kept first,
+    counted-was kept p.listed.groups first g is,
+    counted-more kept p.listed.groups first listed-by.there,
+    all-listed equal r.groups l begun (map span_of l.groups) first (omega arith),
+  )
 
   listed-now : (key : ℕ) (n : Module) → now.held key ≡ Some n → n.indices ≡ flat_map (indices_at now) n.groups
   listed-now key n is = by (nat_eq r.registrations key) is where
     by : (c : Bool) → (if c then Some p.listed else r.held key) ≡ Some n → n.indices ≡ flat_map (indices_at now) n.groups
-    by true is = subst (λ (x : Module). x.indices ≡ flat_map (indices_at now) x.groups) (same_Some p.listed n is) listed-new
-    by false is =
-        b.listed key n is
-        ∙ flat-same (indices_at r) (indices_at now) n.groups
-        (λ first lt. grind (arith, kept-listed r b key n first is lt, still, same-indices))
+    by true is = rw (← same_Some p.listed n is) listed-new
+    by false is = b.listed key n is ∙ flat-same (indices_at r) (indices_at now) n.groups (λ first lt. grind (arith, kept-listed r b key n first is lt, still, same-indices))
 
   pub registered-balanced : IsBalanced now
   registered-balanced = grind (arith, registered-sound, ne_eqb, counted-now, had-now, listed-now)

@@ -1,11 +1,10 @@
 -- What holds of a registry once a module is registered.
-use Rattle.std.proofs.Common.{if◌then◌else◌, ◌≡◌, ◌∙◌, ◌↔◌, ◌<◌, ℕ, zero, suc, ◌+◌, Bool, true, List, [], ◌∷◌, ◌++◌, length, map, get_or, slice_get, drop, Option, Some, None, refl, sym, ap, subst, arith, eq-eqb}
-use Rattle.std.proofs.lemmas.Option.{slice_get-get_or, none-some, same_Some}
+use Rattle.std.proofs.Common.{if◌then◌else◌, ◌≡◌, ◌∙◌, ◌↔◌, ◌<◌, ℕ, zero, suc, ◌+◌, Bool, true, List, [], ◌∷◌, ◌++◌, length, map, get_or, slice_get, drop, Option, Some, None, refl, sym, ap, arith, eq-eqb}
+use Rattle.std.proofs.lemmas.Option.{slice_get-get_or, none-some}
 use Rattle.std.proofs.lemmas.List.{length-map, append-nil}
 use Rattle.std.proofs.lemmas.Bool.{ne_eqb}
 use Rattle.type_spec.specs.Interned.{Span}
 use Rattle.wasm_types.specs.declared.sub.WasmSubType.{WasmSubType}
-use Rattle.wasm_types.specs.TypeViews.{group_of}
 use Rattle.module_types.specs.Views.{span_of}
 use Rattle.module_types.specs.TypeList.{TypeList}
 use Rattle.type_registry.specs.Registry.{Registry, Group, Groups, GroupsState, indices_of}
@@ -25,7 +24,7 @@ use Rattle.type_registry.proofs.Copies.{get-dropped}
 
 above-differ : (gs : Groups) (n p : ℕ) (e : ℕ × Group) → AreAbove n gs → slice_get gs p ≡ Some e → n < e.0
 above-differ [] n p e all at = absurd (none-some e at)
-above-differ (x ∷ gs) n zero e all at = subst (λ (y : ℕ × Group). n < y.0) (same_Some x e at) all.0
+above-differ (x ∷ gs) n zero e all at = grind arith
 above-differ (x ∷ gs) n (suc p) e all at = above-differ gs n p e all.1 at
 
 -- each group is found at its first index
@@ -37,9 +36,7 @@ entry-found (x ∷ gs) (suc p) f g ordered at = grind (arith, found, above-diffe
 all-first : (gs : Groups) → ((p f : ℕ) (g : Group) → slice_get gs p ≡ Some (f, g) → (slice_get g.indices 0 ≡ Some f) × (length g.indices ≡ length g.canonical))
     → AllFirst gs
 all-first [] each = tt
-all-first (x ∷ gs) each =
-    let here = each 0 x.0 x.1 refl in
-    (here.0, here.1, all-first gs (λ p f g at. each (suc p) f g at))
+all-first (x ∷ gs) each = let here = each 0 x.0 x.1 refl in (here.0, here.1, all-first gs (λ p f g at. each (suc p) f g at))
 
 sound-first : (gs : Groups) → IsSound gs → AllFirst gs
 sound-first gs sound = grind (arith, all-first, entry-found)
@@ -68,8 +65,7 @@ module _ (equal : (x y : List WasmSubType) → (Eq x y ≡ true) ↔ (x ≡ y)) 
 
   all : ArePlanned equal gs l begun ss (length (list_of l).types)
   all =
-      are-planned equal gs l begun ss (length (list_of l).types) (may-plan l m.listed m.few) m.listed.well_named.orderly
-      (subst AllFirst (sym (append-nil gs)) (sound-first gs m.sound))
+      are-planned equal gs l begun ss (length (list_of l).types) (may-plan l m.listed m.few) m.listed.well_named.orderly (rw append-nil (sound-first gs m.sound))
 
   pub new-first : AllFirst p.fresh
   new-first = first-second gs p.fresh all.first
@@ -87,29 +83,19 @@ module _ (equal : (x y : List WasmSubType) → (Eq x y ≡ true) ↔ (x ≡ y)) 
   kept-of g among = by (find_group g.canonical gs) refl where
     by : (o : Option Group) → find_group g.canonical gs ≡ o → IsKeptAt g
     by (Some h) e =
-        let same : Some h ≡ Some g = sym (find-some gs p.fresh g.canonical h e) ∙ among in
-        let w = find-at gs g.canonical g (e ∙ same) in
+        let w = find-at gs g.canonical g (e ∙ sym (find-some gs p.fresh g.canonical h e) ∙ among) in
         let is = entry-found gs w.place w.first g m.sound.ordered w.at in
         record { first = w.first; start = m.sound.firsts w.first g is; kept = keeps-found equal p.fresh state w.first g m.sound may new-first is }
     by None e =
         let w = find-at p.fresh g.canonical g (sym (find-none gs p.fresh g.canonical e) ∙ among) in
-        record {
-          first = w.first;
-          start = (first-at p.fresh w.place w.first g new-first w.at).0;
-          kept = keeps-new equal p.fresh state w.place (w.first, g) m.sound may new-first w.at;
-        }
+        grind (arith, first-at p.fresh w.place w.first g new-first w.at, keeps-new equal p.fresh state w.place (w.first, g) m.sound may new-first w.at)
 
   stands-group : (k : ℕ) (s : Span) → slice_get ss k ≡ Some s → GroupStands (registered r l) p.listed.indices l s
   stands-group k s at =
       let w = planned-at equal gs l p ss k s all.each at in
       let x = kept-of w.group w.among in
       let b = counted-is (keep_groups gs p.fresh) p.listed.groups x.first w.group x.kept in
-      let none : s.start + 0 ≡ s.start = omega arith in
-      let first : x.first ≡ get_or p.listed.indices s.start 0 =
-      same_Some x.first (get_or p.listed.indices s.start 0)
-      (sym x.start ∙ ap (λ is. slice_get is 0) w.at ∙ take-get (drop s.start p.listed.indices) (size_of s) 0 (omega (arith, w.low))
-      ∙ get-dropped p.listed.indices s.start 0 ∙ ap (slice_get p.listed.indices) none
-      ∙ slice_get-get_or p.listed.indices s.start 0 (omega (arith, w.low, w.within))) in
+      let first : x.first ≡ get_or p.listed.indices s.start 0 = grind (arith, take-get (drop s.start p.listed.indices) (size_of s) 0, get-dropped, slice_get-get_or) in
       grind arith
 
   pub registered-stands : Stands (registered r l) r.registrations l
@@ -125,10 +111,5 @@ module _ (equal : (x y : List WasmSubType) → (Eq x y ≡ true) ↔ (x ≡ y)) 
         let g = st.groups j s at in
         let first = get_or st.listed.indices s.start 0 in
         let b = counted-is (keep_groups gs p.fresh) p.listed.groups first g.group (keeps-found equal p.fresh state first g.group m.sound may new-first g.kept) in
-        record {
-          group = b.group;
-          kept = b.kept;
-          at = ap (λ (x : Group). x.indices) b.same ∙ g.at;
-          canonical = ap (λ (x : Group). group_of x.canonical) b.same ∙ g.canonical;
-        };
+        grind arith;
   }

@@ -51,25 +51,22 @@ are-counts [] n = one-each n
 are-counts (None ∷ os) n = (omega arith, are-counts os n)
 are-counts (Some o ∷ os) n = (omega arith, are-counts os n)
 
-module _ {Key : Type 0} (content : Key → List WasmSubType) (live : ℕ) (known : Key → Option ℕ) (gs : List (Option Group)) (os : List (Option Owner)) (free : List ℕ)
-    (k : AreKept content live known gs os free) where
+module _ {Key : Type 0} {content : Key → List WasmSubType} {live : ℕ} {known : Key → Option ℕ} {gs : List (Option Group)} {os : List (Option Owner)}
+    {free : List ℕ} (k : AreKept content live known gs os free) where
   -- the map may be another that has the same
   pub kept-known : (known' : Key → Option ℕ) → ((key : Key) → known' key ≡ known key) → AreKept content live known' gs os free
   kept-known known' same = grind (arith, common_steps)
 
   pub kept-roomier : (n : ℕ) → length gs + n < 4294967296
       → AreKept content live known (gs ++ replicate n None) (os ++ replicate n None) (map free_count os ++ replicate n 1)
-  kept-roomier n few =
-      let more = length-replicate n (nothing {A = Group}) in
-      let more' = length-replicate n (nothing {A = Owner}) in
-      record {
-        few = omega (arith, few, length-append gs (replicate n None), more);
-        owners = omega (arith, k.owners, length-append gs (replicate n None), length-append os (replicate n None), more, more');
-        counted = k.counted ∙ ap (λ es. length (indices_of es)) (sym (kept-more gs 0 n));
-        first = λ f g at. k.first f g (sym (at-more gs n f) ∙ at);
-        owned = λ f p i g at is. at-more os n i ∙ k.owned f p i g (sym (at-more gs n f) ∙ at) is;
-        owns = λ i o is. let w = k.owns i o (sym (at-more os n i) ∙ is) in record { group = w.group; kept = at-more gs n o.first ∙ w.kept; at = w.at };
-        unowned = sym (free-more os n);
-        found = λ f g at key is. k.found f g (sym (at-more gs n f) ∙ at) key is;
-        knows = λ key f is. let w = k.knows key f is in record { group = w.group; kept = at-more gs n f ∙ w.kept; same = w.same };
-      }
+  kept-roomier n few = record {
+    few = grind (arith, length-append, length-replicate);
+    owners = grind (arith, length-append, length-replicate);
+    counted = k.counted ∙ ap (λ es. length (indices_of es)) (sym (kept-more gs 0 n));
+    first = λ f g at. k.first f g (sym (at-more gs n f) ∙ at);
+    owned = λ f p i g at is. at-more os n i ∙ k.owned f p i g (sym (at-more gs n f) ∙ at) is;
+    owns = λ i o is. let w = k.owns i o (sym (at-more os n i) ∙ is) in record { group = w.group; kept = at-more gs n o.first ∙ w.kept; at = w.at };
+    unowned = sym (free-more os n);
+    found = λ f g at key is. k.found f g (sym (at-more gs n f) ∙ at) key is;
+    knows = λ key f is. let w = k.knows key f is in record { group = w.group; kept = at-more gs n f ∙ w.kept; same = w.same };
+  }

@@ -1,10 +1,10 @@
 -- Kept groups are told ne_eqb, also once more are kept and counted.
 use Rattle.std.specs.Prelude.{[], ⊤}
-use Rattle.std.proofs.Common.{if◌then◌else◌, ◌≡◌, ◌∙◌, ◌↔◌, ◌<◌, ℕ, zero, suc, ◌-◌, Bool, true, nat_eq, nat_le, List, ◌∷◌, length, slice_get, Option, Some, None, refl, sym, ap, subst, arith, eq-eqb}
+use Rattle.std.proofs.Common.{if◌then◌else◌, ◌≡◌, ◌∙◌, ◌↔◌, ◌<◌, ℕ, zero, suc, true, nat_eq, nat_le, List, ◌∷◌, length, slice_get, Option, Some, None, refl, sym, ap, arith, eq-eqb}
 use Rattle.std.specs.List.{list_any}
 use Rattle.std.specs.Map.{lookup, set_value, remove_entry}
 use Rattle.std.specs.Option.{option_map}
-use Rattle.std.proofs.lemmas.Bool.{eqb-true, leb-true, leb-false, cases_Bool, cond_both, ne_eqb}
+use Rattle.std.proofs.lemmas.Bool.{eqb-true, leb-true, leb-false, cases_Bool, cond_both}
 use Rattle.std.proofs.lemmas.Bool.Decides.{nat_tests}
 use Rattle.std.proofs.lemmas.Option.{none-some, same_Some}
 use Rattle.wasm_types.specs.declared.sub.WasmSubType.{WasmSubType}
@@ -102,20 +102,18 @@ module _ (equal : (x y : List WasmSubType) → (Eq x y ≡ true) ↔ (x ≡ y)) 
   pub keeps-found : (es : Groups) (s : GroupsState) (i : ℕ) (h : Group) → IsSound s.groups → MayKeepAll s es → AllFirst es → found s.groups i ≡ Some h
       → found (keep_groups s.groups es) i ≡ Some h
   keeps-found [] s i h sound may first is = is
-  keeps-found (e ∷ es) s i h sound may first is =
-      let none = none-found equal s e.0 e.1 sound may.0 first.0 first.1 in
-      let differ : i ≡ e.0 → ⊥ = λ same. none-some h (sym none ∙ ap (found s.groups) (sym same) ∙ is) in
-      let still : found (with_one s e).groups i ≡ Some h = found-keep s.groups e.0 i e.1 ∙ ap (λ (c : Bool). if c then Some e.1 else found s.groups i) (ne_eqb i e.0 differ) ∙ is in
-      keeps-found es (with_one s e) i h (keep-sound equal s e.0 e.1 sound may.0 first.0 first.1) (may-rest s e es may) first.2 still
+  keeps-found (e ∷ es) s i h sound may first is = keeps-found es (with_one s e) i h (keep-sound equal s e.0 e.1 sound may.0 first.0 first.1) (may-rest s e es may) first.2
+      (grind (arith, nat_tests, none-found equal s e.0 e.1 sound may.0 first.0 first.1, found-keep s.groups e.0 i e.1))
 
   -- each of the new groups is kept
   pub keeps-new : (es : Groups) (s : GroupsState) (p : ℕ) (e : Kept) → IsSound s.groups → MayKeepAll s es → AllFirst es → slice_get es p ≡ Some e
       → found (keep_groups s.groups es) e.0 ≡ Some e.1
   keeps-new [] s p e sound may first at = absurd (none-some e at)
-  keeps-new (x ∷ es) s zero e sound may first at =
-      let here : found (with_one s x).groups x.0 ≡ Some x.1 = found-keep s.groups x.0 x.0 x.1 ∙ ap (λ (c : Bool). if c then Some x.1 else found s.groups x.0) (eq-eqb x.0 x.0 refl) in
-      let whole = keeps-found es (with_one s x) x.0 x.1 (keep-sound equal s x.0 x.1 sound may.0 first.0 first.1) (may-rest s x es may) first.2 here in
-      subst (λ (y : Kept). found (keep_groups s.groups (x ∷ es)) y.0 ≡ Some y.1) (same_Some x e at) whole
+  keeps-new (x ∷ es) s zero e sound may first at = grind (
+    arith,
+    keeps-found es (with_one s x) x.0 x.1
+        (keep-sound equal s x.0 x.1 sound may.0 first.0 first.1) (may-rest s x es may) first.2 (grind (arith, found-keep s.groups x.0 x.0 x.1, eq-eqb)),
+  )
   keeps-new (x ∷ es) s (suc p) e sound may first at = grind (arith, (keeps-new es (with_one s x) p e (keep-sound equal s x.0 x.1 sound may.0 first.0 first.1) (may-rest s x es may) first.2 at))
 
 -- ---- groups that are counted
@@ -171,20 +169,10 @@ counts-ordered gs (f ∷ fs) all = counts-ordered (count_group gs f (found gs f)
 sound-but : (gs now : Groups) → AreOrdered now → ((i : ℕ) (h : Group) → found now i ≡ Some h → IsBut gs i h) → IsSound gs → IsSound now
 sound-but gs now ordered was sound = record {
   ordered = ordered;
-  groups = λ i j h k is is' same.
-      let w = was i h is in
-      let x = was j k is' in
-      sound.groups i j w.group x.group w.kept x.kept
-      (ap (λ (g : Group). g.canonical) w.same ∙ same ∙ ap (λ (g : Group). g.canonical) (sym x.same));
-  members = λ i h is.
-      let w = was i h is in
-      ap (λ (g : Group). length g.indices) (sym w.same) ∙ sound.members i w.group w.kept ∙ ap (λ (g : Group). length g.canonical) w.same;
-  firsts = λ i h is. let w = was i h is in ap (λ (g : Group). slice_get g.indices 0) (sym w.same) ∙ sound.firsts i w.group w.kept;
-  owned = λ i j p q n h k is is' at at'.
-      let w = was i h is in
-      let x = was j k is' in
-      sound.owned i j p q n w.group x.group w.kept x.kept (ap (λ (g : Group). slice_get g.indices p) w.same ∙ at)
-      (ap (λ (g : Group). slice_get g.indices q) x.same ∙ at');
+  groups = λ i j h k is is' same. let w = was i h is in let x = was j k is' in grind (arith, sound.groups i j w.group x.group w.kept x.kept);
+  members = λ i h is. let w = was i h is in grind (arith, sound.members i w.group w.kept);
+  firsts = λ i h is. let w = was i h is in grind (arith, sound.firsts i w.group w.kept);
+  owned = λ i j p q n h k is is' at at'. let w = was i h is in let x = was j k is' in grind (arith, sound.owned i j p q n w.group x.group w.kept x.kept);
 }
 
 pub counted-sound : (gs : Groups) (fs : List ℕ) → IsSound gs → IsSound (count_groups gs fs)

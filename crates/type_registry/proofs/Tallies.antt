@@ -38,10 +38,7 @@ kept-was gs (e ∷ es) i h is = grind (arith, nat_eq, found, found-keep, (kept-w
 -- new groups that no module has yet count nothing
 pub keep-none : (gs es : Groups) (i : ℕ) → count_in (found gs i) ≡ 0 → counted es ≡ 0 → count_in (found (keep_groups gs es) i) ≡ 0
 keep-none gs [] i none new = none
-keep-none gs (e ∷ es) i none new =
-    let one = found-keep gs e.0 i e.1 in
-    let still : count_in (found (keep_group gs e.0 e.1) i) ≡ 0 = grind (arith, nat_tests) in
-    keep-none (keep_group gs e.0 e.1) es i still (omega (arith, new))
+keep-none gs (e ∷ es) i none new = keep-none (keep_group gs e.0 e.1) es i (grind (arith, nat_tests, found-keep gs e.0 i e.1)) (omega (arith, new))
 
 -- ---- groups are counted
 
@@ -65,13 +62,9 @@ pub counted-more : (gs : Groups) (fs : List ℕ) (i : ℕ) → ((n : ℕ) → 0 
     → count_in (found (count_groups gs fs) i) ≡ count_in (found gs i) + times i fs
 counted-more gs [] i there = omega arith
 counted-more gs (f ∷ fs) i there =
-    let next = count_group gs f (found gs f) in
-    let still : (n : ℕ) → 0 < times n fs → IsThere (found next n) =
-    λ n lt.
-    let w = there n (omega (arith, lt)) in
-    let b = counted-is gs (f ∷ []) n w.group w.is in
-    record { group = b.group; is = b.kept } in
-    omega (arith, counted-more next fs i still, one-more gs f i (found gs f) refl (there f (times-first f fs)))
+    let still : (n : ℕ) → 0 < times n fs → IsThere (found (count_group gs f (found gs f)) n) =
+    λ n lt. let w = there n (omega (arith, lt)) in let b = counted-is gs (f ∷ []) n w.group w.is in record { group = b.group; is = b.kept } in
+    omega (arith, counted-more (count_group gs f (found gs f)) fs i still, one-more gs f i (found gs f) refl (there f (times-first f fs)))
 
 -- ---- groups are left
 

@@ -1,9 +1,8 @@
 -- Registered types have one index exactly where they are equal.
-use Rattle.std.proofs.Common.{◌≡◌, ◌∙◌, ℕ, zero, suc, ◌-◌, ◌<◌, ◌≤◌, List, [], ◌∷◌, length, take, get_or, slice_get, Option, Some, None, refl, sym, ap, arith}
+use Rattle.std.proofs.Common.{◌≡◌, ℕ, zero, suc, ◌-◌, ◌<◌, ◌≤◌, List, [], ◌∷◌, length, take, get_or, slice_get, Option, Some, None, refl, ap, arith}
 use Rattle.std.proofs.lemmas.List.{length-map}
-use Rattle.std.proofs.lemmas.Option.{slice_get-get_or, same_Some}
+use Rattle.std.proofs.lemmas.Option.{slice_get-get_or}
 use Rattle.type_spec.specs.Interned.{Span}
-use Rattle.wasm_index.specs.Index.{number_of, index_of}
 use Rattle.wasm_types.specs.declared.sub.WasmRecGroup.{WasmRecGroup}
 use Rattle.module_types.specs.Views.{interned_of}
 use Rattle.module_types.specs.TypeList.{TypeList}
@@ -31,7 +30,7 @@ canonical_in (Some g) = g.canonical
 
 -- ---- a module that stands
 
-module _ (r : Registry) (a : ℕ) (l : TypeList) (listed : Listed l) (st : Stands r a l) where
+module _ {r : Registry} {a : ℕ} {l : TypeList} (listed : Listed l) (st : Stands r a l) where
   abbrev pub indices : List ℕ
   indices = st.listed.indices
 
@@ -67,45 +66,32 @@ module _ (r : Registry) (a : ℕ) (l : TypeList) (listed : Listed l) (st : Stand
   pub short : (k : ℕ) → k < length (list_of l).groups → (i : ℕ) → i < (span k).end → i < length l.types
   short k lt i high = grind (arith, stands-at (list_of l) listed.well_named k lt, length-map l.types interned_of)
 
-module _ (r : Registry) (a b : ℕ) (l m : TypeList) (listed : Listed l) (listed' : Listed m) (st : Stands r a l) (st' : Stands r b m) where
+module _ {r : Registry} {a b : ℕ} {l m : TypeList} (listed : Listed l) (listed' : Listed m) (st : Stands r a l) (st' : Stands r b m) where
   abbrev is : List ℕ
-  is = indices r a l listed st
+  is = indices listed st
 
   abbrev js : List ℕ
-  js = indices r b m listed' st'
+  js = indices listed' st'
 
-  one : OneIndex (list_of l) (list_of m) (engine r a l listed st) (engine r b m listed' st') (canonicals r a l listed st) (canonicals r b m listed' st')
+  one : OneIndex (list_of l) (list_of m) (engine listed st) (engine listed' st') (canonicals listed st) (canonicals listed' st')
   one k o i j lt lt' low high low' high' =
-      let x = group-at r a l listed st k lt in
-      let y = group-at r b m listed' st' o lt' in
+      let x = group-at listed st k lt in
+      let y = group-at listed' st' o lt' in
       let first = get_or is (span_at (list_of l) k).start 0 in
       let first' = get_or js (span_at (list_of m) o).start 0 in
-      let at = member r a l listed st k lt i low high (short r a l listed st k lt i high) in
-      let at' = member r b m listed' st' o lt' j low' high' (short r b m listed' st' o lt' j high') in
-      let canonical = canonical-at r a l listed st k lt in
-      let canonical' = canonical-at r b m listed' st' o lt' in (
-        (λ e.
-            let same : get_or is i 0 ≡ get_or js j 0 = ap number_of e in
-            let both = st.sound.owned first first' (i - (span_at (list_of l) k).start) (j - (span_at (list_of m) o).start) (get_or js j 0) x.group y.group
-            x.kept y.kept (at ∙ ap Some same) at' in
-            (both.1, ap (λ n. canonical_in (kept_at r n)) both.0)),
-        (λ both.
-            let firsts : first ≡ first' = st.sound.groups first first' x.group y.group x.kept y.kept (sym canonical ∙ both.1 ∙ canonical') in
-            let groups : x.group ≡ y.group = same_Some x.group y.group (sym x.kept ∙ ap (kept_at r) firsts ∙ y.kept) in
-            let numbers : get_or is i 0 ≡ get_or js j 0 =
-            same_Some (get_or is i 0) (get_or js j 0) (sym at ∙ (λ t. slice_get (groups t).indices (both.0 t)) ∙ at') in
-            ap index_of numbers),
-      )
+      let at = member listed st k lt i low high (short listed st k lt i high) in
+      let at' = member listed' st' o lt' j low' high' (short listed' st' o lt' j high') in
+      let owned = st.sound.owned first first' (i - (span_at (list_of l) k).start) (j - (span_at (list_of m) o).start) (get_or js j 0) x.group y.group x.kept y.kept in
+      let groups = st.sound.groups first first' x.group y.group x.kept y.kept in
+      grind arith
 
-  told : TellTypes (list_of l) (list_of m) (engine r a l listed st) (engine r b m listed' st')
-  told = told-by-forms (list_of l) (list_of m) listed.well_named listed'.well_named (engine r a l listed st) (engine r b m listed' st')
-      (olds r a l listed st) (canonicals r a l listed st) (olds r b m listed' st') (canonicals r b m listed' st') (are r a l listed st) (are r b m listed' st') one
+  told : TellTypes (list_of l) (list_of m) (engine listed st) (engine listed' st')
+  told = told-by-forms (list_of l) (list_of m) listed.well_named listed'.well_named (engine listed st) (engine listed' st') (olds listed st) (canonicals listed st)
+      (olds listed' st') (canonicals listed' st') (are listed st) (are listed' st') one
 
   pub tells : TellsTypes r a l b m
   tells i j lt lt' =
       let t = told i j (omega (arith, lt, length-map l.types interned_of)) (omega (arith, lt', length-map m.types interned_of)) in
-      let at = index-is r a l listed st i lt in
-      let at' = index-is r b m listed' st' j lt' in (
-        (λ e. t.0 (ap index_of (same_Some (get_or is i 0) (get_or js j 0) (sym at ∙ e ∙ at')))),
-        (λ same. at ∙ ap Some (ap number_of (t.1 same)) ∙ sym at'),
-      )
+      let at = index-is listed st i lt in
+      let at' = index-is listed' st' j lt' in
+      grind arith

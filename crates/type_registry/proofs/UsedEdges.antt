@@ -1,5 +1,5 @@
 -- The types of a new group as they are used.
-use Rattle.std.proofs.Common.{◌≡◌, ◌∙◌, ℕ, ◌-◌, List, [], ◌∷◌, ◌++◌, length, map, refl, sym, ap, subst, arith}
+use Rattle.std.proofs.Common.{◌≡◌, ◌∙◌, ℕ, List, [], ◌∷◌, ◌++◌, length, map, refl, sym, ap, subst, arith}
 use Rattle.std.specs.List.{All, AllZip}
 use Rattle.std.proofs.lemmas.List.Elements.{All-head, All-tail}
 use Rattle.std.proofs.lemmas.Bool.{ltb-true, ltb-false}
@@ -18,15 +18,15 @@ use Rattle.module_types.specs.TypeList.{TypeList}
 use Rattle.type_registry.specs.Registry.{used_edge, used_type}
 use Rattle.type_registry.specs.Changes.{members_of, edges_of, given, canonical_data, IsGiven}
 
-module _ (before new : List ℕ) (start end : ℕ) (at : length before ≡ start) where
+module _ (before new : List ℕ) (s : Span) (at : length before ≡ s.start) where
   abbrev used : EngineOrModuleTypeIndex → EngineOrModuleTypeIndex
   used e = runtime_edge (given (before ++ new)) e
 
   abbrev consed : EngineOrModuleTypeIndex → EngineOrModuleTypeIndex
-  consed e = consed_edge (given before) start e
+  consed e = consed_edge (given before) s.start e
 
   abbrev Can : EngineOrModuleTypeIndex → Type 0
-  Can e = CanBeConsedEdge (IsGiven (length before)) start end e
+  Can e = CanBeConsedEdge (IsGiven s.start) s.start s.end e
 
   -- a reference is used as its canonical form says
   each : (e : EngineOrModuleTypeIndex) → Can e → used e ≡ used_edge new (consed e)
@@ -36,10 +36,10 @@ module _ (before new : List ℕ) (start end : ℕ) (at : length before ≡ start
   all-each [] all = tt
   all-each (e ∷ es) all = (each e (All-head Can e es all), all-each es (All-tail Can e es all))
 
-  pub used-types : (l : TypeList) (s : Span) → s.start ≡ start → All Can (edges_of (members_of l s)) → (types canonical : List WasmSubType)
+  pub used-types : (l : TypeList) → All Can (edges_of (members_of l s)) → (types canonical : List WasmSubType)
       → group_of types ≡ map_group (named used) used (group_of (members_of l s))
       → group_of canonical ≡ canonical_data l before s → map sub_type_of types ≡ map (used_type new) canonical
-  used-types l s from can types canonical is canon =
+  used-types l can types canonical is canon =
       let x = group_of (members_of l s) in
       let y = map_group (named consed) consed x in
       let t = by_name group_shape in
@@ -48,7 +48,5 @@ module _ (before new : List ℕ) (start end : ℕ) (at : length before ≡ start
         frames = sym (t.map_twice consed (erased {R = EngineOrModuleTypeIndex}) x);
         edges = subst (λ es. AllZip (λ a b. used a ≡ used_edge new b) (t.edges x) es) (sym (t.edges_map consed x)) (all-each (t.edges x) can);
       }) in
-      let canonical-is : group_of canonical ≡ y =
-      canon ∙ ap (λ n. map_group (named (consed_edge (given before) n)) (consed_edge (given before) n) x) from in
-      is ∙ same ∙ ap (map_group (named (used_edge new)) (used_edge new)) (sym canonical-is)
+      is ∙ same ∙ ap (map_group (named (used_edge new)) (used_edge new)) (sym canon)
       ∙ map-twice sub_type_of (map_sub_type (named (used_edge new)) (used_edge new)) (used_type new) (λ t. refl) canonical

@@ -1,9 +1,9 @@
 -- The types of live indices as they are used.
-use Rattle.std.proofs.Common.{◌≡◌, ◌∙◌, ℕ, zero, suc, ◌+◌, false, nat_eq, List, [], ◌∷◌, ◌++◌, map, slice_get, Option, Some, None, refl, sym, ap, arith}
+use Rattle.std.proofs.Common.{◌≡◌, ℕ, zero, suc, ◌+◌, false, nat_eq, List, [], ◌∷◌, ◌++◌, map, slice_get, Option, Some, None, refl, arith}
 use Rattle.std.specs.List.{list_any, zip}
 use Rattle.std.specs.Map.{lookup}
 use Rattle.std.proofs.lemmas.Bool.{false_from_ne_true}
-use Rattle.std.proofs.lemmas.Option.{none-some, same_Some}
+use Rattle.std.proofs.lemmas.Option.{none-some}
 use Rattle.std.proofs.lemmas.Bool.Decides.{nat_tests}
 use Rattle.wasm_types.specs.declared.sub.WasmSubType.{WasmSubType}
 use Rattle.type_registry.specs.declared.owners.Owner.{Owner}
@@ -29,9 +29,7 @@ zip-at : (n : ℕ) (is : List ℕ) (ts : List UsedType) (p : ℕ) → slice_get 
 zip-at n [] ts p at one = absurd (none-some n at)
 zip-at n (i ∷ is) (t ∷ ts) zero at one = grind arith
 zip-at n (i ∷ is) (t ∷ ts) (suc p) at one =
-    let rest = zip-at n is ts p at (λ q here. let more : suc q ≡ suc p = one (suc q) here in omega (arith, more)) in
-    let first : n ≡ i → 0 ≡ suc p = (λ same. one 0 (ap Some (sym same))) in
-    grind (arith, nat_tests)
+    grind (arith, nat_tests, one 0, (zip-at n is ts p at (λ q here. grind (arith, one (suc q) here))))
 zip-at _ _ _ _ _ _ = refl
 
 abbrev used_in : Group → List UsedType
@@ -41,10 +39,7 @@ miss : (gs : List (Option Group)) (k n : ℕ) → ((m : ℕ) (g : Group) → gro
     → lookup (nat_eq n) (used_types (kept_from k gs)) ≡ None
 miss [] k n no-one = refl
 miss (None ∷ gs) k n no-one = miss gs (k + 1) n (λ m g at. no-one (suc m) g at)
-miss (Some g ∷ gs) k n no-one =
-    lookup-both n (zip g.indices (used_in g)) (used_types (kept_from (k + 1) gs))
-    ∙ ap (λ o. or_else o (lookup (nat_eq n) (used_types (kept_from (k + 1) gs)))) (zip-none n g.indices (used_in g) (no-one 0 g refl))
-    ∙ miss gs (k + 1) n (λ m h at. no-one (suc m) h at)
+miss (Some g ∷ gs) k n no-one = grind (arith, lookup-both, zip-none n g.indices (used_in g) (no-one 0 g refl), (miss gs (k + 1) n (λ m h at. no-one (suc m) h at)))
 
 -- a value, or else nothing more
 or-nothing : (o : Option UsedType) → or_else o None ≡ o
@@ -56,41 +51,28 @@ hit : (gs : List (Option Group)) (k m n p : ℕ) (g : Group) → group_in gs m �
     → lookup (nat_eq n) (used_types (kept_from k gs)) ≡ slice_get (used_in g) p
 hit (None ∷ gs) k (suc m) n p g at is one others = hit gs (k + 1) m n p g at is one (λ j h apart here. others (suc j) h (λ e. apart (omega (arith, e))) here)
 hit (Some x ∷ gs) k zero n p g at is one others =
-    let same : x ≡ g = same_Some x g at in
-    lookup-both n (zip x.indices (used_in x)) (used_types (kept_from (k + 1) gs))
-    ∙ ap (or_else (lookup (nat_eq n) (zip x.indices (used_in x)))) (miss gs (k + 1) n (λ m h here. others (suc m) h (λ e. absurd (omega (arith, e))) here))
-    ∙ or-nothing (lookup (nat_eq n) (zip x.indices (used_in x)))
-    ∙ ap (λ (y : Group). lookup (nat_eq n) (zip y.indices (used_in y))) same
-    ∙ zip-at n g.indices (used_in g) p is one
+    grind (arith, lookup-both, or-nothing, zip-at, (miss gs (k + 1) n (λ m h here. others (suc m) h (λ e. absurd (omega (arith, e))) here)))
 hit (Some x ∷ gs) k (suc m) n p g at is one others =
-    lookup-both n (zip x.indices (used_in x)) (used_types (kept_from (k + 1) gs))
-    ∙ ap (λ o. or_else o (lookup (nat_eq n) (used_types (kept_from (k + 1) gs))))
-    (zip-none n x.indices (used_in x) (others 0 x (λ e. absurd (omega (arith, e))) refl))
-    ∙ hit gs (k + 1) m n p g at is one (λ j h apart here. others (suc j) h (λ e. apart (omega (arith, e))) here)
+    grind (
+      arith,
+      lookup-both,
+      zip-none n x.indices (used_in x) (others 0 x (λ e. absurd (omega (arith, e))) refl),
+      (hit gs (k + 1) m n p g at is one (λ j h apart here. others (suc j) h (λ e. apart (omega (arith, e))) here)),
+    )
 hit _ _ _ _ _ g at _ _ _ = absurd (none-some g at)
 
-module _ {Key : Type 0} (content : Key → List WasmSubType) (live : ℕ) (known : Key → Option ℕ) (gs : List (Option Group)) (os : List (Option Owner))
-    (free : List ℕ) (k : AreKept content live known gs os free) (now : Groups) (seen : kept_from 0 gs ≡ now) (n : ℕ) where
+module _ {Key : Type 0} {content : Key → List WasmSubType} {live : ℕ} {known : Key → Option ℕ} {gs : List (Option Group)} {os : List (Option Owner)}
+    {free : List ℕ} (k : AreKept content live known gs os free) {now : Groups} (seen : kept_from 0 gs ≡ now) (n : ℕ) where
   -- an index without an owner is in no group
   pub no-type : owner_at os n ≡ None → lookup (nat_eq n) (used_types now) ≡ None
-  no-type none = ap (λ es. lookup (nat_eq n) (used_types es)) (sym seen) ∙ miss gs 0 n absent where
-    absent : (m : ℕ) (g : Group) → group_in gs m ≡ Some g → list_any (nat_eq n) g.indices ≡ false
-    absent m g at = false_from_ne_true (list_any (nat_eq n) g.indices) (λ e. grind (arith, place-any g.indices n e))
+  no-type none = rw (← seen) (miss gs 0 n (λ m g at. false_from_ne_true (list_any (nat_eq n) g.indices) (λ e. grind (arith, place-any g.indices n e))))
 
   -- an owner has a group, and its member's type is that of the index
   pub some-type : (o : Owner) (g : Group) → owner_at os n ≡ Some o → group_in gs o.first ≡ Some g
       → lookup (nat_eq n) (used_types now) ≡ slice_get (used_in g) o.place
-  some-type o g is at =
-      let w = k.owns n o is in
-      let same : w.group ≡ g = same_Some w.group g (sym w.kept ∙ at) in
-      let here : slice_get g.indices o.place ≡ Some n = ap (λ (h : Group). slice_get h.indices o.place) (sym same) ∙ w.at in
-      ap (λ es. lookup (nat_eq n) (used_types es)) (sym seen) ∙ hit gs 0 o.first n o.place g at here once others where
-        once : (q : ℕ) → slice_get g.indices q ≡ Some n → q ≡ o.place
-        once q there = ap (λ (p : Owner). p.place) (same_Some (record { first = o.first; place = q }) o (sym (k.owned o.first q n g at there) ∙ is))
-
-        others : (j : ℕ) (h : Group) → (j ≡ o.first → ⊥) → group_in gs j ≡ Some h → list_any (nat_eq n) h.indices ≡ false
-        others j h apart there = false_from_ne_true (list_any (nat_eq n) h.indices) (λ e. grind (arith, place-any h.indices n e))
+  some-type o g is at = rw (← seen) (hit gs 0 o.first n o.place g at (grind (arith, k.owns n o is)) (λ q there. grind (arith, k.owned o.first q n g at there))
+      (λ j h apart there. false_from_ne_true (list_any (nat_eq n) h.indices) (λ e. grind (arith, place-any h.indices n e))))
 
   -- an owner has a group
   pub no-group : (o : Owner) → owner_at os n ≡ Some o → group_in gs o.first ≡ None → ⊥
-  no-group o is none = let w = k.owns n o is in none-some w.group (sym none ∙ w.kept)
+  no-group o is none = grind (arith, k.owns n o is)

@@ -10,16 +10,12 @@ use Rattle.plan_run.proofs.elements.evaluate_all.Goals as goal
 pub loop-expression-preserved : goal.loop-expression-preserved
 loop-expression-preserved c =
     let fields = field_count_in c.args.translation.now c.args.types.now in
-    let start = c.args.nodes.now.items in
-    let before = c.loop-expression.nodes.items in
-    let new = c.evaluate.new.nodes.items in
-    let i = c.loop-expression.expression-index in
     let e = c.expression-item.result in
-    let globals = values_in (terms_of start) c.args.globals.now in
-    let kept = kept-values start before c.loop-expression.invariant.grows.extends c.args.globals.now c.requires.globals in
+    let globals = values_in (terms_of c.args.nodes.now.items) c.args.globals.now in
+    let kept = kept-values c.loop-expression.invariant.grows.extends c.args.globals.now c.requires.globals in
     let one = rw (kept, c.expression-item.is) at c.in_ok-value.ensures.means in
     record {
-      grows = grows-on start before new c.loop-expression.invariant.grows c.in_ok-value.ensures.grows;
-      means = rw (c.in_ok-push.ensures.items, ← map-two-more (cell_of globals fields) expression_of c.args.expressions.now i e (omega arith))
-          (mean-more before new c.in_ok-value.ensures.grows.extends c.loop-expression.items.items _ c.in_ok-value.value _ c.loop-expression.invariant.means one);
+      grows = grows-on c.loop-expression.invariant.grows c.in_ok-value.ensures.grows;
+      means = rw (c.in_ok-push.ensures.items, ← map-two-more (cell_of globals fields) expression_of c.args.expressions.now c.loop-expression.expression-index e (omega arith))
+          (mean-more c.in_ok-value.ensures.grows.extends c.loop-expression.invariant.means one);
     }

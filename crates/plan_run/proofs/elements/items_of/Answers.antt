@@ -1,5 +1,4 @@
 use Rattle.std.proofs.Common.{length, arith}
-use Rattle.replay_spec.specs.Values as plain
 use Rattle.plan_run.specs.Values.{terms_of}
 use Rattle.plan_run.proofs.Terms.{all-names-more}
 use Rattle.plan_run.proofs.elements.items_of.Goals as goal

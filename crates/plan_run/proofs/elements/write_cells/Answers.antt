@@ -1,4 +1,4 @@
-use Rattle.std.proofs.Common.{◌≡◌, ◌+◌, ◌-◌, ◌≤◌, ◌∙◌, ◌++◌, length, take, ap, sym, subst, refl, arith, rules}
+use Rattle.std.proofs.Common.{◌≡◌, ◌+◌, ◌-◌, ◌≤◌, ◌∙◌, ◌++◌, length, take, ap, sym, refl, arith, rules}
 use Rattle.std.specs.Prelude.{All}
 use Rattle.std.specs.Vec.{with_items}
 use borrow.Rule.Slice.PartMut.{post_of}
@@ -26,9 +26,6 @@ returns c =
     let at = slice_get_read tables (length tables) piece.table x refl c.requires c.index_mut.ensures.value in
     let same = ap (λ t. length t.items) (same_Some c.index.result.now x (sym one ∙ at)) in
     let fits = c.is_within.ensures.0 c.if-not-is_within.false in
-    let size = c.len-size.ensures in
-    let count = c.len-count.ensures in
-    let ok_piece = piece.items.ok.0 in
     let ok_table = c.index.result.now.ok.0 in
     let l : piece.place + length items ≤ length x.items = omega arith in
     let new = with_items x (take piece.place xs ++ (part ++ post_of piece.place n xs)) in
@@ -40,9 +37,7 @@ returns c =
           let long_table = length-map x.items (value_in terms) in
           writes-true (λ t. values_in terms t.items) tables piece.table x at (element_piece terms piece) refl new (omega arith)
           (ap (values_in terms) is ∙ map-written (value_in terms) piece.place items x.items);
-      below = λ k below all.
-          All-set (λ t. All (NamesBelow k) t.items) tables piece.table new
-          (subst (All (NamesBelow k)) (sym is)
-          (all-written (NamesBelow k) piece.place items x.items all (all-at (λ t. All (NamesBelow k) t.items) tables piece.table x below at))) below;
+      below = λ k below all. All-set (λ t. All (NamesBelow k) t.items) tables piece.table new
+          (rw is (all-written (NamesBelow k) piece.place items x.items all (all-at (λ t. All (NamesBelow k) t.items) tables piece.table x below at))) below;
       count = search rules;
     }

@@ -1,7 +1,6 @@
 use Rattle.std.proofs.Common.{◌≡◌, ◌∙◌, Some, [], length, drop, ap, sym, arith}
 use Rattle.std.proofs.lemmas.List.{drop_all}
-use Rattle.replay_spec.specs.Elements.{value_or_null}
-use Rattle.replay_spec.specs.Values.{action, acted, run, only_value}
+use Rattle.replay_spec.specs.Values.{action, acted, run}
 use Rattle.wasm_convert.specs.declared.operators.ConstOp.{ConstOp}
 use Rattle.wasm_convert.specs.Constants.{expression_of}
 use Rattle.plan_run.specs.Fields.{field_count_in}
@@ -12,50 +11,33 @@ use Rattle.plan_run.proofs.evaluation.evaluate.Goals as goal
 
 pub returns-then-not-branch-clause-means : goal.returns-then-not-branch-clause-means
 returns-then-not-branch-clause-means c =
-    let globals = values_in (terms_of c.args.nodes.now.items) c.args.globals.now in
-    let fields = field_count_in c.args.translation.now c.args.types.now in
-    let step : Step = λ op. acted (action globals fields op) in
-    let d : ConstOp = c.op-item.result in
-    let items = c.ops-op-items.result.now in
+    let step : Step = λ op. acted (action (values_in (terms_of c.args.nodes.now.items) c.args.globals.now) (field_count_in c.args.translation.now c.args.types.now) op) in
     let op : ConstOp = c.op-item.result in
-    let kept = kept-values c.args.nodes.now.items c.loop-op.nodes.items c.loop-op.invariant.grows.extends c.args.globals.now c.requires.globals in
-    let acts = rw kept at c.in_ok-step.ensures.acts in
-    let none = runs-none step items c.loop-op.op-index op d (omega arith) c.op-item.is (values_in (terms_of c.loop-op.nodes.items) c.loop-op.stack.items)
-    (rw c.if-not-branch.true at acts) in
-    record {
-      below = tt;
-      is = sym (no-value step (expression_of c.args.expression.now) (sym c.loop-op.invariant.runs ∙ none));
-    }
+    let kept = kept-values c.loop-op.invariant.grows.extends c.args.globals.now c.requires.globals in
+    let none = runs-none step c.ops-op-items.result.now c.loop-op.op-index op op (omega arith) c.op-item.is (values_in (terms_of c.loop-op.nodes.items) c.loop-op.stack.items)
+    (rw (kept, c.if-not-branch.true) at c.in_ok-step.ensures.acts) in
+    record { below = tt; is = sym (no-value step (expression_of c.args.expression.now) (sym c.loop-op.invariant.runs ∙ none)) }
 
 pub loop-op-preserved : goal.loop-op-preserved
 loop-op-preserved c =
-    let globals = values_in (terms_of c.args.nodes.now.items) c.args.globals.now in
-    let fields = field_count_in c.args.translation.now c.args.types.now in
-    let step : Step = λ op. acted (action globals fields op) in
-    let d : ConstOp = c.op-item.result in
-    let items = c.ops-op-items.result.now in
+    let step : Step = λ op. acted (action (values_in (terms_of c.args.nodes.now.items) c.args.globals.now) (field_count_in c.args.translation.now c.args.types.now) op) in
     let op : ConstOp = c.op-item.result in
-    let kept = kept-values c.args.nodes.now.items c.loop-op.nodes.items c.loop-op.invariant.grows.extends c.args.globals.now c.requires.globals in
-    let acts = rw kept at c.in_ok-step.ensures.acts in
-    let done = rw c.if-not-branch.false at acts in
+    let kept = kept-values c.loop-op.invariant.grows.extends c.args.globals.now c.requires.globals in
+    let done = rw (kept, c.if-not-branch.false) at c.in_ok-step.ensures.acts in
     record {
-      grows = grows-on c.args.nodes.now.items c.loop-op.nodes.items c.step.new.nodes.items c.loop-op.invariant.grows c.in_ok-step.ensures.grows;
+      grows = grows-on c.loop-op.invariant.grows c.in_ok-step.ensures.grows;
       stack = done.0;
-      runs = runs-more step items c.loop-op.op-index op d (omega arith) c.op-item.is (values_in (terms_of c.loop-op.nodes.items) c.loop-op.stack.items)
+      runs = runs-more step c.ops-op-items.result.now c.loop-op.op-index op op (omega arith) c.op-item.is (values_in (terms_of c.loop-op.nodes.items) c.loop-op.stack.items)
           (values_in (terms_of c.step.new.nodes.items) c.step.new.stack.items) done.1 ∙ c.loop-op.invariant.runs;
     }
 
 pub returns-clause-means : goal.returns-clause-means
 returns-clause-means c =
-    let globals = values_in (terms_of c.args.nodes.now.items) c.args.globals.now in
-    let fields = field_count_in c.args.translation.now c.args.types.now in
-    let step : Step = λ op. acted (action globals fields op) in
-    let items = c.ops-op-items.result.now in
+    let step : Step = λ op. acted (action (values_in (terms_of c.args.nodes.now.items) c.args.globals.now) (field_count_in c.args.translation.now c.args.types.now) op) in
     let stack = values_in (terms_of c.loop-op.nodes.items) c.loop-op.stack.items in
-    let end : drop c.loop-op.op-index items ≡ [] = drop_all c.loop-op.op-index items (omega arith) in
+    let end : drop c.loop-op.op-index c.ops-op-items.result.now ≡ [] = drop_all c.loop-op.op-index c.ops-op-items.result.now (omega arith) in
     let runs : run step (expression_of c.args.expression.now) [] ≡ Some stack = sym c.loop-op.invariant.runs ∙ ap (λ xs. run step (expression_of xs) stack) end in
     record {
       below = c.only.ensures.below (length c.loop-op.nodes.items) (rw c.as_slice.ensures.value c.loop-op.invariant.stack);
-      is = c.only.ensures.means (terms_of c.loop-op.nodes.items) ∙ ap (λ xs. value_or_null (only_value (values_in (terms_of c.loop-op.nodes.items) xs))) c.as_slice.ensures.value
-          ∙ sym (the-value step (expression_of c.args.expression.now) stack runs);
+      is = rw c.as_slice.ensures.value at (c.only.ensures.means (terms_of c.loop-op.nodes.items)) ∙ sym (the-value step (expression_of c.args.expression.now) stack runs);
     }

@@ -1,5 +1,5 @@
 use Rattle.std.proofs.Common.{◌-◌, ◌∙◌, drop, ap, arith}
-use Rattle.replay_spec.specs.Values.{Action, action}
+use Rattle.replay_spec.specs.Values.{action}
 use Rattle.wasm_convert.specs.Operators.{operator_of}
 use Rattle.plan_run.specs.Fields.{field_count_in}
 use Rattle.plan_run.specs.Values.{values_in, terms_of}
@@ -9,33 +9,19 @@ use Rattle.plan_run.proofs.evaluation.step.Goals as goal
 pub returns-in-None-clause-acts : goal.returns-in-None-clause-acts
 returns-in-None-clause-acts c =
     let nodes = c.args.nodes.now.items in
-    let stack = c.args.stack.now.items in
     let fields = field_count_in c.args.translation.now c.args.types.now in
     let globals = values_in (terms_of nodes) c.args.globals.now in
-    let a : Action = action globals fields (operator_of c.args.op) in
     let takes = c.taken-takes.result in
-    let one = c.len.ensures in
-    let two = c.len-2.ensures in
-    let ok = c.args.stack.now.ok.0 in
-    let few = c.if-len-takes.false in
-    acts-none a nodes stack c.split_at.result.1.now takes (c.len-2.result - takes) (c.taken-takes.ensures globals) (omega arith) (omega arith)
-    (c.split_at.ensures.back ∙ ap (drop (c.len-2.result - takes)) c.as_slice.ensures.value)
-    (rw c.in-None.is at (c.in_ok-make.ensures.means fields))
+    acts-none (action globals fields (operator_of c.args.op)) nodes c.args.stack.now.items c.split_at.result.1.now takes (c.len-2.result - takes) (c.taken-takes.ensures globals)
+    (omega arith) (omega arith) (c.split_at.ensures.back ∙ ap (drop (c.len-2.result - takes)) c.as_slice.ensures.value) (rw c.in-None.is at (c.in_ok-make.ensures.means fields))
 
 pub returns-in_ok-push-in-Some-clause-acts : goal.returns-in_ok-push-in-Some-clause-acts
 returns-in_ok-push-in-Some-clause-acts c =
     let nodes = c.args.nodes.now.items in
-    let stack = c.args.stack.now.items in
     let fields = field_count_in c.args.translation.now c.args.types.now in
     let globals = values_in (terms_of nodes) c.args.globals.now in
-    let a : Action = action globals fields (operator_of c.args.op) in
     let takes = c.taken-takes.result in
-    let one = c.len.ensures in
-    let two = c.len-2.ensures in
-    let ok = c.args.stack.now.ok.0 in
-    let few = c.if-len-takes.false in
-    acts-some a nodes stack c.split_at.result.1.now takes (c.len-2.result - takes) (c.taken-takes.ensures globals) (omega arith) (omega arith)
-    (c.split_at.ensures.back ∙ ap (drop (c.len-2.result - takes)) c.as_slice.ensures.value)
+    acts-some (action globals fields (operator_of c.args.op)) nodes c.args.stack.now.items c.split_at.result.1.now takes (c.len-2.result - takes) (c.taken-takes.ensures globals)
+    (omega arith) (omega arith) (c.split_at.ensures.back ∙ ap (drop (c.len-2.result - takes)) c.as_slice.ensures.value)
     c.make.new.nodes.items c.truncate.new.self.items c.push.new.self.items c.in-Some.value c.in_ok-make.ensures.grows.extends c.requires.stack c.truncate.ensures.items
-    c.in_ok-push-in-Some.ensures.items
-    (rw c.in-Some.is at (c.in_ok-make.ensures.means fields))
+    c.in_ok-push-in-Some.ensures.items (rw c.in-Some.is at (c.in_ok-make.ensures.means fields))

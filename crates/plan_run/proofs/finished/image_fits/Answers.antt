@@ -5,8 +5,7 @@ use Rattle.plan_run.proofs.Tested.{static-on, static-back}
 use Rattle.plan_run.proofs.finished.image_fits.Goals as goal
 
 pub returns-then-not-are_images : goal.returns-then-not-are_images
-returns-then-not-are_images c =
-    grind (arith, false≢true, c.are_images.ensures, static-back c.args.segments.now (processed_of c.args.translation.now.memory_init) c.requires.segments)
+returns-then-not-are_images c = grind (arith, false≢true, static-back)
 
 pub returns : goal.returns
 returns c =

@@ -9,21 +9,15 @@ use Rattle.plan_run.proofs.finished.tables_are_finished.Goals as goal
 pub returns : goal.returns
 returns c =
     let t = c.args.translation.now in
-    let n = t.«module».num_imported_tables in
-    let values = t.table_initialization.initial_values in
     let segments = t.table_initialization.segments.items in
-    let own : c.split_at.result.1.now ≡ own_tables t = c.split_at.ensures.back ∙ ap (drop n) c.as_slice-tables.ensures in
+    let own : c.split_at.result.1.now ≡ own_tables t = c.split_at.ensures.back ∙ ap (drop t.«module».num_imported_tables) c.as_slice-tables.ensures in
     let own_count = ap length own in
     let count = ap length c.as_slice-tables.ensures in
-    let images_count = ap length c.as_slice-images.ensures in
-    let many = c.if-tables-imports.false in
-    let values_count = c.len.ensures.length in
-    let same_values = c.if-len-own.false in
-    let same_images = c.if-images-own.false in (
+    let images_count = ap length c.as_slice-images.ensures in (
       λ e. record {
         imports = omega arith;
         counted = record { values = omega arith; images = omega arith };
-        images = rw (c.as_slice-images.ensures, own) at ((c.are_short.ensures values (omega arith)).0 c.if-not-are_short.false);
+        images = rw (c.as_slice-images.ensures, own) at ((c.are_short.ensures t.table_initialization.initial_values (omega arith)).0 c.if-not-are_short.false);
         elements = All-map (λ (s : ActiveElements). s.table < length t.«module».tables) active_elements_of segments (rw (count, c.deref.ensures.value) at (c.elements_are_within.ensures.0 e));
       },
       λ f. c.elements_are_within.ensures.1

@@ -1,4 +1,4 @@
-use Rattle.std.proofs.Common.{◌∙◌, ap, sym, length, refl}
+use Rattle.std.proofs.Common.{◌∙◌, ap, sym, length, refl, arith}
 use Rattle.std.specs.Prelude.{slice_get}
 use Rattle.std.proofs.lemmas.Option.{slice_get_read}
 use Rattle.wasm_convert.specs.Operators.{operator_of}
@@ -19,8 +19,4 @@ returns-then-undoes c =
     }
 
 pub returns-clause-none : goal.returns-clause-none
-returns-clause-none c =
-    let n = c.index-nodes-number.result in
-    converts-kept c.args.nodes.now c.requires.ordered (operator_of c.args.op) c.requires.conversion c.args.number n
-    (slice_get_read c.args.nodes.now (length c.args.nodes.now) c.args.number n refl c.requires.within c.index-nodes-number.is)
-    (sym c.undoes.ensures ∙ c.if-undoes.false)
+returns-clause-none c = grind (arith, converts-kept, slice_get_read)

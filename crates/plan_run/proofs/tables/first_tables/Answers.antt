@@ -1,10 +1,9 @@
-use Rattle.std.proofs.Common.{◌+◌, ◌<◌, ◌++◌, ◌∷◌, [], ◌∙◌, append_assoc, length, map, take, ap, sym, subst, arith}
+use Rattle.std.proofs.Common.{◌<◌, ◌++◌, ◌∷◌, [], ◌∙◌, append_assoc, length, map, take, ap, arith}
 use Rattle.std.proofs.lemmas.List.{append-nil, length-drop, map_push, take_more, take_all}
 use Rattle.std.proofs.lemmas.Option.{get_or_from_slice_get}
 use Rattle.init_plan.specs.Tables.{plan_of_tables}
 use Rattle.plan_run.specs.Fields.{field_count_in}
-use Rattle.plan_run.specs.Nodes.{AllMean}
-use Rattle.plan_run.specs.Tables.{first_cells, TablesMean}
+use Rattle.plan_run.specs.Tables.{first_cells}
 use Rattle.plan_run.specs.Values.{values_in, terms_of, imported_value}
 use Rattle.plan_run.proofs.Given.{tables-planned}
 use Rattle.plan_run.proofs.Lists.{some-at}
@@ -13,51 +12,29 @@ use Rattle.plan_run.proofs.Terms.{grows-on, grows-same, kept-values}
 use Rattle.plan_run.proofs.tables.first_tables.Goals as goal
 
 pub loop-number-init : goal.loop-number-init
-loop-number-init c = record {
-  grows = grows-same c.args.nodes.now.items c.requires.ordered;
-  means = rw (append-nil (map (λ table. map imported_value table.items) c.args.imported.items))
-      (plain-tables c.args.nodes.now.items c.args.imported.items c.requires.plain);
-}
+loop-number-init c = grind (arith, grows-same, append-nil, plain-tables)
 
 pub loop-number-preserved : goal.loop-number-preserved
 loop-number-preserved c =
     let t = c.args.translation.now in
     let plan = plan_of_tables t in
     let fields = field_count_in t c.args.types.now in
-    let start = c.args.nodes.now.items in
-    let before = c.loop-number.nodes.items in
-    let new = c.first_table.new.nodes.items in
     let number = c.loop-number.number in
-    let globals = values_in (terms_of start) c.args.globals.now in
+    let globals = values_in (terms_of c.args.nodes.now.items) c.args.globals.now in
     let imported = map (λ table. map imported_value table.items) c.args.imported.items in
-    let front = map (first_cells globals fields) (take number plan.tables) in
-    let kept = kept-values start before c.loop-number.invariant.grows.extends c.args.globals.now c.requires.globals in
+    let kept = kept-values c.loop-number.invariant.grows.extends c.args.globals.now c.requires.globals in
     let own = length-drop t.«module».num_imported_tables t.«module».tables in
     let planned = tables-planned t c.requires.counted in
-    let l = c.loop-number-test.true in
-    let many = c.len.ensures.length in
     let within : number < length plan.tables = omega arith in
     let found = some-at plan.tables number within in
-    let one = subst (λ xs. AllMean new c.in_ok-first_table.field-0.items (first_cells xs fields found.0)) kept (c.in_ok-first_table.ensures.means found.0 found.1) in
-    let more = map_push (first_cells globals fields) (take number plan.tables) found.0
-    in let taken = take_more plan.tables number found.0 within
-    ∙ ap (λ x. take number plan.tables ++ x ∷ []) (get_or_from_slice_get plan.tables number found.0 found.0 found.1) in
+    let one = rw kept at (c.in_ok-first_table.ensures.means found.0 found.1) in
+    let more = map_push (first_cells globals fields) (take number plan.tables) found.0 in
+    let taken = take_more plan.tables number found.0 within ∙ ap (λ x. take number plan.tables ++ x ∷ []) (get_or_from_slice_get plan.tables number found.0 found.0 found.1) in
     record {
-      grows = grows-on start before new c.loop-number.invariant.grows c.in_ok-first_table.ensures.grows;
-      means = subst (λ xs. TablesMean new xs (imported ++ map (first_cells globals fields) (take (number + 1) plan.tables))) (sym c.in_ok-push.ensures.items)
-          (subst (TablesMean new _) (append_assoc imported front (first_cells globals fields found.0 ∷ [])
-          ∙ ap (λ xs. imported ++ xs) (sym (ap (map (first_cells globals fields)) taken ∙ more)))
-          (tables-more before new c.in_ok-first_table.ensures.grows.extends c.loop-number.tables.items (imported ++ front) c.in_ok-first_table.field-0 (first_cells globals fields found.0)
-          c.loop-number.invariant.means one));
+      grows = grows-on c.loop-number.invariant.grows c.in_ok-first_table.ensures.grows;
+      means = rw (c.in_ok-push.ensures.items, taken, more, ← append_assoc imported (map (first_cells globals fields) (take number plan.tables)) (first_cells globals fields found.0 ∷ []))
+          (tables-more c.in_ok-first_table.ensures.grows.extends c.in_ok-first_table.field-0 c.loop-number.invariant.means one);
     }
 
 pub returns-clause-means : goal.returns-clause-means
-returns-clause-means c =
-    let t = c.args.translation.now in
-    rw (take_all c.loop-number.number (plan_of_tables t).tables (omega (
-      arith,
-      length-drop t.«module».num_imported_tables t.«module».tables,
-      tables-planned t c.requires.counted,
-      c.len.ensures.length,
-      c.loop-number-test.false,
-    ))) at c.loop-number.invariant.means
+returns-clause-means c = grind (arith, take_all, length-drop, tables-planned)

@@ -1,4 +1,4 @@
-use Rattle.std.proofs.Common.{◌≡◌, ◌∙◌, None, map, take, ap, refl, arith}
+use Rattle.std.proofs.Common.{◌∙◌, None, ap, refl, arith}
 use Rattle.std.proofs.lemmas.List.{take_all, length-map}
 use Rattle.std.proofs.lemmas.List.Elements.{All-push}
 use Rattle.replay_spec.specs.Tables.{reference_of}
@@ -22,11 +22,7 @@ returns-clause-means c = λ terms.
     let cells = c.loop-function.cells.items in
     let image = c.args.image.now in
     let ok = c.loop-function.cells.ok.0 in
-    let all : take c.loop-function.function-index image ≡ image = take_all c.loop-function.function-index image (omega arith) in
-    let means = c.loop-function.invariant.means terms ∙ ap (λ xs. map reference_of (image_of xs)) all in
     let long = length-map image cell_of in
-    let count = c.loop-function.invariant.count in
-    let end = c.loop-function-test.false in
-    let upto = c.loop-function.auto.function-index-end in
+    let means = rw (take_all c.loop-function.function-index image (omega arith)) at (c.loop-function.invariant.means terms) in
     ap (values_in terms) c.in_ok-resize.ensures.items
     ∙ filled (value_in terms) reference_of cells (image_of image) c.args.minimum _ value.Null None refl means (omega arith) (omega arith)

@@ -5,20 +5,13 @@ pub lay_memories-requires-clause-globals : goal.lay_memories-requires-clause-glo
 lay_memories-requires-clause-globals c = rw c.deref.ensures.value c.in_ok-globals.ensures.means.below
 
 pub lay_tables-requires-clause-globals : goal.lay_tables-requires-clause-globals
-lay_tables-requires-clause-globals c =
-    rw c.deref-2.ensures.value
-    (all-mean-on c.lay_globals.new.nodes.items c.lay_memories.new.nodes.items c.in_ok-memories.ensures.grows.extends c.in_ok-globals.globals.items _ c.in_ok-globals.ensures.means).below
+lay_tables-requires-clause-globals c = rw c.deref-2.ensures.value (all-mean-on c.in_ok-memories.ensures.grows.extends c.in_ok-globals.ensures.means).below
 
 pub returns-clause-globals_laid : goal.returns-clause-globals_laid
-returns-clause-globals_laid c =
-    (all-mean-on c.lay_globals.new.nodes.items c.lay_tables.new.nodes.items
-    (extends-on c.lay_globals.new.nodes.items c.lay_memories.new.nodes.items c.lay_tables.new.nodes.items c.in_ok-memories.ensures.grows.extends c.in_ok-tables.ensures.grows.extends)
-    c.in_ok-globals.globals.items _ c.in_ok-globals.ensures.means).are
+returns-clause-globals_laid c = (all-mean-on (extends-on c.in_ok-memories.ensures.grows.extends c.in_ok-tables.ensures.grows.extends) c.in_ok-globals.ensures.means).are
 
 pub returns-clause-memories_laid : goal.returns-clause-memories_laid
 returns-clause-memories_laid c = rw (c.deref.ensures.value, c.in_ok-globals.ensures.means.are) at c.in_ok-memories.ensures.laid
 
 pub returns-clause-tables_laid : goal.returns-clause-tables_laid
-returns-clause-tables_laid c =
-    let means = all-mean-on c.lay_globals.new.nodes.items c.lay_memories.new.nodes.items c.in_ok-memories.ensures.grows.extends c.in_ok-globals.globals.items _ c.in_ok-globals.ensures.means in
-    rw (c.deref-2.ensures.value, means.are) at c.in_ok-tables.ensures.laid
+returns-clause-tables_laid c = rw (c.deref-2.ensures.value, (all-mean-on c.in_ok-memories.ensures.grows.extends c.in_ok-globals.ensures.means).are) at c.in_ok-tables.ensures.laid

@@ -1,12 +1,12 @@
-use Rattle.std.proofs.Common.{◌∙◌, inl, length, map, ap, sym}
+use Rattle.std.proofs.Common.{◌∙◌, inl, length, sym, arith}
 use Rattle.replay_spec.specs.Values.{offset_over}
 use Rattle.init_plan.specs.Views.{memory_plan_of}
 use Rattle.plan_run.specs.Fields.{field_count_in}
-use Rattle.plan_run.specs.Limits.{page_size_of, own_memories}
-use Rattle.plan_run.specs.Memories.{bytes_in, plan_phase, data_piece}
+use Rattle.plan_run.specs.Limits.{own_memories}
+use Rattle.plan_run.specs.Memories.{bytes_in, plan_phase}
 use Rattle.plan_run.specs.Segments.{left_pieces}
 use Rattle.plan_run.specs.Values.{values_in, terms_of}
-use Rattle.plan_run.proofs.Given.{each-small, images-within, memory-count, left-below, data-below, memories-hold, shared-after, lays-count, nil-mapped}
+use Rattle.plan_run.proofs.Given.{each-small, images-within, memory-count, left-below, data-below, memories-hold, shared-after, nil-mapped}
 use Rattle.plan_run.proofs.Pieces.{pieces-left}
 use Rattle.plan_run.proofs.whole.lay_memories.Goals as goal
 
@@ -22,11 +22,9 @@ write_pieces-requires c =
     let plan = memory_plan_of t in
     let place_of = offset_over (values_in (terms_of c.args.nodes.now.items) c.args.globals.now) (field_count_in t c.args.types.now) in
     let n = length c.in_ok-memories.memories.items in
-    let many = memory-count t c.args.way plan (page_size_of t) t.«module».num_imported_memories c.args.imported.items c.in_ok-memories.memories.items
-    c.requires.finished.memories.imports c.requires.imports c.in_ok-memories.ensures in
+    let many = memory-count t c.args.way c.args.imported.items c.in_ok-memories.memories.items c.requires.finished.memories.imports c.requires.imports c.in_ok-memories.ensures in
     data-below n (left_pieces c.args.way place_of plan plan.segments) c.deref.result.now
-    (left-below place_of plan c.args.way n plan.segments (rw many c.requires.finished.memories.segments))
-    (ap (map data_piece) c.deref.ensures.value ∙ c.in_ok-pieces.ensures.pieces)
+    (left-below place_of plan c.args.way n plan.segments (rw many c.requires.finished.memories.segments)) (rw c.deref.ensures.value c.in_ok-pieces.ensures.pieces)
 
 pub returns-clause-laid : goal.returns-clause-laid
 returns-clause-laid c =
@@ -35,19 +33,10 @@ returns-clause-laid c =
     let place_of = offset_over (values_in (terms_of c.args.nodes.now.items) c.args.globals.now) (field_count_in t c.args.types.now) in
     let imported = c.args.imported.items in
     let memories = c.in_ok-memories.memories.items in
-    let phase = plan_phase c.args.way place_of (bytes_in imported) plan in
-    let many = memory-count t c.args.way plan (page_size_of t) t.«module».num_imported_memories imported memories c.requires.finished.memories.imports c.requires.imports c.in_ok-memories.ensures in
-    lays-count phase (length memories) (length t.«module».memories) (bytes_in c.write_pieces.new.memories.items) c.in_ok-trap.trap many
-    (c.in_ok-trap.ensures.writes phase
-    (pieces-left place_of plan c.args.way (bytes_in imported) ∙ sym (ap (map data_piece) c.deref.ensures.value ∙ c.in_ok-pieces.ensures.pieces))
+    let many = memory-count t c.args.way imported memories c.requires.finished.memories.imports c.requires.imports c.in_ok-memories.ensures in
+    rw (← many) (c.in_ok-trap.ensures.writes (plan_phase c.args.way place_of (bytes_in imported) plan)
+    (pieces-left place_of plan c.args.way (bytes_in imported) ∙ sym (rw c.deref.ensures.value c.in_ok-pieces.ensures.pieces))
     (memories-hold t c.requires.finished c.args.way place_of imported memories c.requires.imports c.in_ok-memories.ensures))
 
 pub returns-clause-shared : goal.returns-clause-shared
-returns-clause-shared c =
-    let t = c.args.translation.now in
-    let plan = memory_plan_of t in
-    let place_of = offset_over (values_in (terms_of c.args.nodes.now.items) c.args.globals.now) (field_count_in t c.args.types.now) in
-    let pieces = ap (map data_piece) c.deref.ensures.value ∙ c.in_ok-pieces.ensures.pieces in
-    shared-after t c.requires.finished c.args.way place_of c.args.imported.items c.in_ok-memories.memories.items c.requires.imports c.in_ok-memories.ensures
-    c.write_pieces.new.memories.items c.in_ok-trap.ensures.lent
-    (λ none. ap (λ v. v.items) (c.in_ok-trap.ensures.still (nil-mapped data_piece c.deref.result.now (pieces ∙ none))))
+returns-clause-shared c = grind (arith, shared-after, nil-mapped)

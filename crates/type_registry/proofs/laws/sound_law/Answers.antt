@@ -1,4 +1,4 @@
-use Rattle.std.proofs.Common.{ℕ, Option, Some, None}
+use Rattle.std.proofs.Common.{ℕ, Option, Some, None, arith}
 use Rattle.type_registry.specs.Registry.{Registry, Module}
 use Rattle.type_registry.specs.Changes.{released_by}
 use Rattle.type_registry.specs.Standing.{IsSound}
@@ -11,8 +11,4 @@ released-sound r key None sound = sound
 released-sound r key (Some m) sound = left-sound r.groups m.groups sound
 
 pub returns : goal.returns
-returns c = record {
-  empty = λ n. none-sound;
-  registered = λ r l m. registered-sound c.equality_law.ensures.group r l m;
-  released = λ r key sound. released-sound r key (r.held key) sound;
-}
+returns c = grind (arith, none-sound, registered-sound, released-sound)

@@ -5,9 +5,8 @@ use Rattle.type_spec.specs.Interned.{Span}
 use Rattle.wasm_index.specs.Index.{number_of}
 use Rattle.wasm_trace.specs.Canonical.{consed_edge}
 use Rattle.wasm_types.specs.TypeViews.{group_of}
-use Rattle.type_registry.specs.Registry.{Groups, Module, indices_of}
-use Rattle.type_registry.specs.Planning.{plan}
-use Rattle.type_registry.specs.Changes.{Plan, canonical_data, canonical_of, find_group, free_indices, given as given_by, next_group, with_group}
+use Rattle.type_registry.specs.Registry.{Module}
+use Rattle.type_registry.specs.Changes.{canonical_data, canonical_of, find_group, given as given_by}
 use Rattle.type_registry.proofs.FreeIndices.{free-length}
 use Rattle.type_registry.proofs.PlanGroups.{mapped-long, found-equal, known-group, unknown-group, next-length, none-second}
 use Rattle.type_registry.proofs.planning.take_group.Goals.{In_ok-canonical, In-Some, In_default}
@@ -33,78 +32,47 @@ found c = sym c.find_equal.ensures ∙ ap option_copied c.in-Some.is
 
 equal : (c : In-Some) → c.in-Some.group.now.canonical ≡ c.in_ok-canonical.canonical.value
 equal c =
-    let m = c.in_ok-canonical.canonical.value in
-    let g = c.in-Some.group.now in
-    (c.equality_law.ensures.group g.canonical m).0 (found-equal (c.args.source.groups.now.groups ++ c.args.fresh.now) m g (found c))
+    (c.equality_law.ensures.group _ _).0
+    (found-equal (c.args.source.groups.now.groups ++ c.args.fresh.now) c.in_ok-canonical.canonical.value c.in-Some.group.now (found c))
 
 none : (c : In_default) → find_group c.in_ok-canonical.canonical.value (c.args.source.groups.now.groups ++ c.args.fresh.now) ≡ None
 none c = sym c.find_equal.ensures ∙ ap option_copied c.in_default.is
 
 pub join-requires : goal.join-requires
-join-requires c =
-    let at = goal.at.join-requires c in
-    omega (arith, long at.In_ok-canonical, ap length (equal at.In-Some), c.requires.long, c.requires.may.few, c.requires.may.some)
+join-requires c = let at = goal.at.join-requires c in omega (arith, long at.In_ok-canonical, ap length (equal at.In-Some))
 
 pub returns-in-Some-clause-ok : goal.returns-in-Some-clause-ok
 returns-in-Some-clause-ok c =
     let at = goal.at.returns-in-Some-clause-ok c in
-    ap (λ x. plan x c.args.fresh.now) c.in_ok-join.ensures.taken
-    ∙ sym (known-group c.args.source.groups.now.groups c.args.source.types.now (plan c.args.listed.now c.args.fresh.now) (span at.In_ok-canonical)
-    c.in_ok-canonical.canonical.value (is at.In_ok-canonical) c.in-Some.group.now (found at.In-Some))
+    let is = is at.In_ok-canonical in
+    let found = found at.In-Some in
+    grind (arith, known-group)
 
 pub returns-in-Some-clause-long : goal.returns-in-Some-clause-long
-returns-in-Some-clause-long c =
-    let at = goal.at.returns-in-Some-clause-long c in
-    omega (arith, c.in_ok-join.ensures.long, long at.In_ok-canonical, ap length (equal at.In-Some), c.requires.long, c.requires.may.some)
+returns-in-Some-clause-long c = let at = goal.at.returns-in-Some-clause-long c in omega (arith, c.in_ok-join.ensures.long, long at.In_ok-canonical, ap length (equal at.In-Some))
 
 pub returns-then-end-start-clause-full : goal.returns-then-end-start-clause-full
-returns-then-end-start-clause-full c = λ full.
+returns-then-end-start-clause-full c =
     let at = goal.at.returns-then-end-start-clause-full c in
-    let gs = c.args.source.groups.now.groups in
-    let es = c.args.fresh.now in
-    let m = c.in_ok-canonical.canonical.value in
-    let grown = ap (λ (p : Plan). length (indices_of p.fresh))
-    (unknown-group gs c.args.source.types.now (plan c.args.listed.now es) (span at.In_ok-canonical) m (is at.In_ok-canonical) (none at.In_default)) in
-    omega (arith, grown, next-length gs es m (c.args.end - c.args.start), c.if-end-start.true, c.members.ensures, c.requires.room)
+    let is = is at.In_ok-canonical in
+    let none = none at.In_default in
+    grind (arith, unknown-group, next-length)
 
 pub take_new-requires-clause-canonical : goal.take_new-requires-clause-canonical
 take_new-requires-clause-canonical c = form (goal.at.take_new-requires-clause-canonical c).In_ok-canonical
 
 pub take_new-requires-clause-unknown : goal.take_new-requires-clause-unknown
-take_new-requires-clause-unknown c =
-    none-second c.args.source.groups.now.groups c.args.fresh.now c.in_ok-canonical.canonical.value (none (goal.at.take_new-requires-clause-unknown c).In_default)
+take_new-requires-clause-unknown c = let none = none (goal.at.take_new-requires-clause-unknown c).In_default in grind (arith, none-second)
 
 pub returns-clause-ok : goal.returns-clause-ok
 returns-clause-ok c =
     let at = goal.at.returns-clause-ok c in
-    let gs = c.args.source.groups.now.groups in
-    let es = c.args.fresh.now in
-    let m = c.in_ok-canonical.canonical.value in
-    ap (λ x. plan x c.take_new.new.fresh) c.in_ok-take_new.ensures.listed
-    ∙ ap (plan (with_group c.args.listed.now (next_group gs es m (c.args.end - c.args.start)))) c.in_ok-take_new.ensures.fresh
-    ∙ sym (unknown-group gs c.args.source.types.now (plan c.args.listed.now es) (span at.In_ok-canonical) m (is at.In_ok-canonical) (none at.In_default))
+    let is = is at.In_ok-canonical in
+    let none = none at.In_default in
+    grind (arith, unknown-group)
 
 pub returns-clause-long : goal.returns-clause-long
-returns-clause-long c =
-    let gs = c.args.source.groups.now.groups in
-    let es = c.args.fresh.now in
-    let n = c.args.end - c.args.start in
-    omega (
-      arith,
-      ap (λ (x : Module). length x.indices) c.in_ok-take_new.ensures.listed,
-      length-append c.args.listed.now.indices (free_indices (indices_of (gs ++ es)) n),
-      free-length (indices_of (gs ++ es)) n,
-      c.requires.long,
-      c.requires.may.some,
-    )
+returns-clause-long c = grind (arith, length-append, free-length)
 
 pub returns-clause-fits : goal.returns-clause-fits
-returns-clause-fits c =
-    omega (
-      arith,
-      ap (λ (x : Groups). length (indices_of x)) c.in_ok-take_new.ensures.fresh,
-      next-length c.args.source.groups.now.groups c.args.fresh.now c.in_ok-canonical.canonical.value (c.args.end - c.args.start),
-      c.if-end-start.false,
-      c.members.ensures,
-      c.requires.room,
-    )
+returns-clause-fits c = grind (arith, next-length)

@@ -1,12 +1,9 @@
-use Rattle.std.proofs.Common.{arith, sym, subst}
+use Rattle.std.proofs.Common.{arith}
 use Rattle.std.proofs.lemmas.Grind.{common_steps}
-use Rattle.type_registry.specs.Fresh.{MayBeKept, MayKeepAll}
 use Rattle.type_registry.proofs.registry.keep_all.Goals as goal
 
 pub keep-requires-clause-new : goal.keep-requires-clause-new
-keep-requires-clause-new c =
-    let may = subst (λ es. MayKeepAll c.loop-group.groups es) c.in-Some.ensures.steps.0 c.loop-group.invariant.may in
-    subst (λ e. MayBeKept c.loop-group.groups e.1) (sym c.group.view_is) may.0
+keep-requires-clause-new c = grind arith
 
 pub loop-group-preserved : goal.loop-group-preserved
 loop-group-preserved c = grind (arith, common_steps)

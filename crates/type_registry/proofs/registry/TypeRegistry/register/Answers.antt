@@ -1,11 +1,11 @@
-use Rattle.std.proofs.Common.{if◌then◌else◌, arith, ◌≡◌, ◌∙◌, ◌+◌, ℕ, nat_eq, length, map, Option, Some, refl, sym, ap, subst}
+use Rattle.std.proofs.Common.{arith, ◌≡◌, ◌∙◌, ◌+◌, ◌<◌, ℕ, nat_eq, length, map, refl, sym, ap, subst}
 use Rattle.std.specs.Map.{lookup}
 use Rattle.std.proofs.lemmas.Option.{none-some}
 use Rattle.module_types.specs.Views.{span_of}
 use Rattle.type_registry.specs.contracts.registry.TypeRegistry as seen
-use Rattle.type_registry.specs.Registry.{Groups, Module, Registry, RegistryState, registry_of, index_at, indices_of}
+use Rattle.type_registry.specs.Registry.{Groups, Registry, RegistryState, registry_of, index_at, indices_of}
 use Rattle.type_registry.specs.Changes.{Plan, begun, planned, registered, with_module, keep_groups, count_groups}
-use Rattle.type_registry.specs.Standing.{LiveWhereHeld, MayRegister, Stands}
+use Rattle.type_registry.specs.Standing.{LiveWhereHeld, MayRegister}
 use Rattle.type_registry.specs.Balanced.{IsBalanced}
 use Rattle.type_registry.specs.Planning.{plan}
 use Rattle.type_registry.specs.Counted.{counted}
@@ -16,57 +16,18 @@ use Rattle.type_registry.proofs.Registered.{registered-stands, others-stand}
 use Rattle.type_registry.proofs.Counting.{counted-all}
 use Rattle.type_registry.proofs.KeepingAll.{may-keep-all}
 use Rattle.type_registry.proofs.Leaving.{counted-long}
-use Rattle.type_registry.proofs.PlanGroups.{AreNew, planned-new, new-may-keep, fresh-counted, counted-both, length-both}
+use Rattle.type_registry.proofs.PlanGroups.{planned-new, new-may-keep, fresh-counted, counted-both, length-both}
 use Rattle.type_registry.proofs.registry.TypeRegistry.register.Goals as goal
 
 pub keep_planned-requires-clause-may : goal.keep_planned-requires-clause-may
-keep_planned-requires-clause-may c =
-    let r = c.args.self.now in
-    let l = c.args.types.now in
-    let st = c.make_room.new.self in
-    let es = c.into_groups.result.items in
-    let whole : plan c.listed.inside.listed c.listed.inside.fresh ≡ planned (registry_of r) l = c.listed.view_is ∙ c.in_ok-listed.ensures.ok in
-    let items : es ≡ (planned (registry_of r) l).fresh = c.into_groups.ensures ∙ ap (λ (p : Plan). p.fresh) whole in
-    let groups : st.groups ≡ r.groups = c.make_room.ensures.groups ∙ ap (λ (x : RegistryState). x.groups) c.self.view_is in
-    let new = subst (λ (gs : Groups). AreNew gs es) (sym groups) (subst (λ (fs : Groups). AreNew r.groups fs) (sym items) (planned-new r.groups l)) in
-    let live = ap (λ (gs : Groups). length (indices_of gs)) groups in
-    let more = ap (λ (fs : Groups). length (indices_of fs)) items in
-    let fits = c.in_ok-listed.ensures.fits in
-    may-keep-all es st
-    (new-may-keep st es new (omega (arith, fits, live, more, ap (λ (x : RegistryState). x.max_types) c.self.view_is, c.self.invariant.1))
-    (omega (arith, ap length c.into_groups.ensures, c.len.ensures, c.in_ok-make_room.ensures.spare))
-    (omega (
-      arith,
-      live,
-      more,
-      c.live_types.ensures,
-      c.members.ensures,
-      c.in_ok-make_room.ensures.room,
-      ap (λ (fs : Groups). length (indices_of fs)) c.into_groups.ensures,
-      ap (λ (gs : Groups). length (indices_of gs)) c.make_room.ensures.groups,
-    )))
+keep_planned-requires-clause-may c = grind (arith, planned-new, may-keep-all, new-may-keep)
 
 pub keep_planned-requires-clause-few : goal.keep_planned-requires-clause-few
-keep_planned-requires-clause-few c =
-    let r = c.args.self.now in
-    let l = c.args.types.now in
-    let whole : plan c.listed.inside.listed c.listed.inside.fresh ≡ planned (registry_of r) l = c.listed.view_is ∙ c.in_ok-listed.ensures.ok in
-    let items : c.into_groups.result.items ≡ (planned (registry_of r) l).fresh = c.into_groups.ensures ∙ ap (λ (p : Plan). p.fresh) whole in
-    omega (
-      arith,
-      ap counted c.make_room.ensures.groups,
-      c.self.invariant.3,
-      ap counted items,
-      fresh-counted r.groups l begun (map span_of l.groups) refl,
-      ap (λ (p : Plan). length p.listed.groups) c.listed.view_is,
-      c.in_ok-listed.ensures.few,
-      c.self.ranges,
-    )
+keep_planned-requires-clause-few c = grind (arith, fresh-counted)
 
 -- the registry after
 abbrev after : goal.After-self-2-1 → RegistryState
-after c = record {
-  max_types = c.self.inside.max_types;
+after c = record (seen.the_view c.self.inside) {
   registrations = c.self.inside.registrations + 1;
   modules = c.insert.new.self.entries;
   groups = c.keep_planned.new.groups.groups;
@@ -74,82 +35,46 @@ after c = record {
 
 now-is : (c : goal.After-self-2-1) → registry_of (after c) ≡ registered (registry_of c.args.self.now) c.args.types.now
 now-is c =
-    let s = c.self.inside in
     let r = c.args.self.now in
-    let listed = c.listed.inside.listed in
     let p = planned (registry_of r) c.args.types.now in
-    let whole : plan listed c.listed.inside.fresh ≡ p = c.listed.view_is ∙ c.in_ok-listed.ensures.ok in
-    let items : c.into_groups.result.items ≡ p.fresh = c.into_groups.ensures ∙ ap (λ (x : Plan). x.fresh) whole in
+    let whole : plan c.listed.inside.listed c.listed.inside.fresh ≡ p = c.listed.view_is ∙ c.in_ok-listed.ensures.ok in
     let done = ok-is c.insert.result (c.insert.ensures.succeeds (omega (arith, c.in_ok-reserve.ensures.ok))) c.insert.ensures.updates in
-    let most : s.max_types ≡ r.max_types = ap (λ (x : RegistryState). x.max_types) c.self.view_is in
-    let count : s.registrations ≡ r.registrations = ap (λ (x : RegistryState). x.registrations) c.self.view_is in
     let held : (k : ℕ) → lookup (nat_eq k) c.insert.new.self.entries ≡ with_module (registry_of r).held r.registrations p.listed k =
-    λ k. done.0 k
-    ∙ ap (λ (o : Option Module). if nat_eq s.registrations k then Some listed else o)
-    (c.reserve.ensures.entries.2 k ∙ ap (λ (x : RegistryState). lookup (nat_eq k) x.modules) c.self.view_is)
-    ∙ ap (λ n. if nat_eq n k then Some listed else lookup (nat_eq k) r.modules) count
-    ∙ ap (λ (x : Plan). if nat_eq r.registrations k then Some x.listed else lookup (nat_eq k) r.modules) whole in
+    λ k. grind (arith, done.0 k, c.reserve.ensures.entries.2 k) in
     let groups : c.keep_planned.new.groups.groups ≡ count_groups (keep_groups r.groups p.fresh) p.listed.groups =
     c.keep_planned.ensures
-    ∙ ap (λ (gs : Groups). count_groups (keep_groups gs c.into_groups.result.items) listed.groups)
+    ∙ ap (λ (gs : Groups). count_groups (keep_groups gs c.into_groups.result.items) c.listed.inside.listed.groups)
     (c.make_room.ensures.groups ∙ ap (λ (x : RegistryState). x.groups) c.self.view_is)
-    ∙ ap (λ (es : Groups). count_groups (keep_groups r.groups es) listed.groups) items
+    ∙ ap (λ (es : Groups). count_groups (keep_groups r.groups es) c.listed.inside.listed.groups) (c.into_groups.ensures ∙ ap (λ (x : Plan). x.fresh) whole)
     ∙ ap (λ (x : Plan). count_groups (keep_groups r.groups p.fresh) x.listed.groups) whole in
-    λ i. record { max_types = most i; registrations = count i + 1; held = λ k. held k i; groups = groups i }
+    λ i. record { max_types = (c.self.view_is i).max_types; registrations = (c.self.view_is i).registrations + 1; held = λ k. held k i; groups = groups i }
 
 before : (c : goal.After-self-2-1) → IsBalanced (registry_of c.args.self.now)
 before c = subst (λ (r : RegistryState). IsBalanced (registry_of r)) c.self.view_is c.self.invariant.2
 
 may : (c : goal.After-self-2-1) → MayRegister (registry_of c.args.self.now) c.args.types.now
-may c = record {
-  listed = c.requires;
-  few = c.in_ok-listed.ensures.short;
-  most = omega (arith, ap (λ (x : RegistryState). x.max_types) c.self.view_is, c.self.invariant.1);
-  fits = c.in_ok-listed.ensures.fits;
-  sound = (before c).sound;
-}
+may c = grind (arith, before)
 
 balanced : (c : goal.After-self-2-1) → IsBalanced (registry_of (after c))
-balanced c =
-    subst IsBalanced (sym (now-is c))
-    (registered-balanced c.equality_law.ensures.group (registry_of c.args.self.now) c.args.types.now (may c) (before c))
+balanced c = rw (now-is c) (registered-balanced c.equality_law.ensures.group (registry_of c.args.self.now) c.args.types.now (may c) (before c))
 
 pub invariant_of-self-2 : goal.invariant_of-self-2
 invariant_of-self-2 c =
-    let s = c.self.inside in
     let r = c.args.self.now in
     let l = c.args.types.now in
-    let gs = c.make_room.new.self.groups in
-    let es = c.into_groups.result.items in
-    let fs = c.listed.inside.listed.groups in
-    let whole : plan c.listed.inside.listed c.listed.inside.fresh ≡ planned (registry_of r) l = c.listed.view_is ∙ c.in_ok-listed.ensures.ok in
-    let items : es ≡ (planned (registry_of r) l).fresh = c.into_groups.ensures ∙ ap (λ (p : Plan). p.fresh) whole in
-    let groups : gs ≡ r.groups = c.make_room.ensures.groups ∙ ap (λ (x : RegistryState). x.groups) c.self.view_is in
-    let fits = c.in_ok-listed.ensures.fits in (
-      omega (
-        arith,
-        ap (λ (x : Groups). length (indices_of x)) c.keep_planned.ensures,
-        counted-long (keep_groups gs es) fs,
-        length-both gs es,
-        ap (λ (x : Groups). length (indices_of x)) groups,
-        ap (λ (x : Groups). length (indices_of x)) items,
-        ap (λ (x : RegistryState). x.max_types) c.self.view_is,
-        fits,
-      ),
+    let p = planned (registry_of r) l in
+    let kept = keep_groups r.groups p.fresh in
+    let now : c.keep_planned.new.groups.groups ≡ count_groups kept p.listed.groups = ap (λ (x : Registry). x.groups) (now-is c) in
+    let most = ap (λ (x : RegistryState). x.max_types) c.self.view_is in
+    let long = ap (λ (x : Groups). length (indices_of x)) now in
+    let tally = ap counted now in
+    let many = ap (λ (x : RegistryState). counted x.groups) c.self.view_is in
+    let few : length p.listed.groups < 4294967296 = omega (arith, ap (λ (x : Plan). length x.listed.groups) c.in_ok-listed.ensures.ok, c.in_ok-listed.ensures.few) in
+    let none = fresh-counted r.groups l begun (map span_of l.groups) refl in (
+      omega (arith, counted-long kept p.listed.groups, length-both r.groups p.fresh, c.in_ok-listed.ensures.fits),
       c.self.invariant.1,
       balanced c,
-      omega (
-        arith,
-        ap counted c.keep_planned.ensures,
-        counted-all (keep_groups gs es) fs,
-        counted-both gs es,
-        ap counted c.make_room.ensures.groups,
-        c.self.invariant.3,
-        ap counted items,
-        fresh-counted r.groups l begun (map span_of l.groups) refl,
-        ap (λ (p : Plan). length p.listed.groups) c.listed.view_is,
-        c.in_ok-listed.ensures.few,
-      ),
+      omega (arith, counted-all kept p.listed.groups, counted-both r.groups p.fresh, c.self.invariant.3),
     )
 
 pub returns-clause-ok : goal.returns-clause-ok
@@ -157,18 +82,13 @@ returns-clause-ok c = now-is c
 
 pub returns-clause-stands : goal.returns-clause-stands
 returns-clause-stands c =
-    let r = registry_of c.args.self.now in
-    let l = c.args.types.now in
-    let key : r.registrations ≡ c.self.inside.registrations = sym (ap (λ (x : RegistryState). x.registrations) c.self.view_is) in
-    subst (λ (now : Registry). Stands now c.self.inside.registrations l) (sym (now-is c))
-    (subst (λ n. Stands (registered r l) n l) key (registered-stands c.equality_law.ensures.group r l (may c)))
+    let key : c.self.inside.registrations ≡ c.args.self.now.registrations = ap (λ (x : RegistryState). x.registrations) c.self.view_is in
+    rw (now-is c, key) (registered-stands c.equality_law.ensures.group (registry_of c.args.self.now) c.args.types.now (may c))
 
 pub returns-clause-others : goal.returns-clause-others
 returns-clause-others c = λ k list st.
-    let r = registry_of c.args.self.now in
-    let l = c.args.types.now in
-    let differ : k ≡ r.registrations → ⊥ = λ same. none-some st.listed (sym ((before c).unused k (omega (arith, same))) ∙ st.held) in
-    subst (λ (now : Registry). Stands now k list) (sym (now-is c)) (others-stand c.equality_law.ensures.group r l (may c) list k differ st)
+    let differ : k ≡ c.args.self.now.registrations → ⊥ = λ same. none-some st.listed (sym ((before c).unused k (omega (arith, same))) ∙ st.held) in
+    rw (now-is c) (others-stand c.equality_law.ensures.group (registry_of c.args.self.now) c.args.types.now (may c) list k differ st)
 
 pub returns-clause-indices : goal.returns-clause-indices
 returns-clause-indices c = λ k i held.
@@ -188,19 +108,11 @@ returns-in_err-listed-clause-live c =
     live-held (registry_of c.args.self.now) (subst (λ (r : RegistryState). IsBalanced (registry_of r)) c.self.view_is c.self.invariant.2)
 
 pub returns-in_err-make_room-clause-live : goal.returns-in_err-make_room-clause-live
-returns-in_err-make_room-clause-live c =
-    subst (λ (gs : Groups). LiveWhereHeld (registry_of (record (seen.the_view c.self.inside) { groups = gs }))) (sym c.make_room.ensures.groups)
-    (live-held (registry_of (seen.the_view c.self.inside)) c.self.invariant.2)
+returns-in_err-make_room-clause-live c = rw c.make_room.ensures.groups (live-held (registry_of (seen.the_view c.self.inside)) c.self.invariant.2)
 
 pub returns-in_err-reserve-clause-live : goal.returns-in_err-reserve-clause-live
 returns-in_err-reserve-clause-live c =
-    let s = c.self.inside in
-    let same : registry_of (record { max_types = s.max_types; registrations = s.registrations; modules = c.reserve.new.self.entries; groups = c.make_room.new.self.groups })
-    ≡ registry_of (seen.the_view s) =
-    λ i. record {
-      max_types = s.max_types;
-      registrations = s.registrations;
-      held = λ k. c.reserve.ensures.entries.2 k i;
-      groups = c.make_room.ensures.groups i;
-    } in
-    subst LiveWhereHeld (sym same) (live-held (registry_of (seen.the_view s)) c.self.invariant.2)
+    let s = seen.the_view c.self.inside in
+    let same : registry_of (record s { modules = c.reserve.new.self.entries; groups = c.make_room.new.self.groups }) ≡ registry_of s =
+    λ i. record (registry_of s) { held = λ k. c.reserve.ensures.entries.2 k i; groups = c.make_room.ensures.groups i } in
+    subst LiveWhereHeld (sym same) (live-held (registry_of s) c.self.invariant.2)

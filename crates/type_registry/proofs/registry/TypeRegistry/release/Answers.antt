@@ -1,12 +1,9 @@
-use Rattle.std.proofs.Common.{rules, arith, ◌≡◌, ◌∙◌, ℕ, length, List, Option, Some, None, sym, ap, subst}
-use Rattle.std.specs.Prelude.{IfNone}
+use Rattle.std.proofs.Common.{rules, arith, ◌≡◌, ◌∙◌, Some, None, sym, ap}
 use Rattle.type_registry.specs.contracts.kept.Held as held
 use Rattle.type_registry.specs.contracts.registry.TypeRegistry as seen
-use Rattle.type_registry.specs.Registry.{Groups, Module, Registry, RegistryState, registry_of, indices_of}
-use Rattle.type_registry.specs.Changes.{leave_groups, released_by}
-use Rattle.type_registry.specs.Standing.{LiveWhereHeld, Stands}
+use Rattle.type_registry.specs.Registry.{Module, RegistryState, registry_of}
+use Rattle.type_registry.specs.Changes.{released_by}
 use Rattle.type_registry.specs.Balanced.{IsBalanced}
-use Rattle.type_registry.specs.Counted.{counted}
 use Rattle.type_registry.proofs.Balance.{left-balanced, left-index, left-stands, live-held}
 use Rattle.type_registry.proofs.Counting.{counted-left}
 use Rattle.type_registry.proofs.Leaving.{left_short}
@@ -14,12 +11,7 @@ use Rattle.type_registry.proofs.registry.TypeRegistry.release.Goals as goal
 
 -- the registry after
 abbrev after : goal.After-drop-held-inside-2 → RegistryState
-after c = record {
-  max_types = c.self.inside.max_types;
-  registrations = c.self.inside.registrations;
-  modules = c.remove.new.self.entries;
-  groups = c.leave_all.new.groups.groups;
-}
+after c = record (seen.the_view c.self.inside) { modules = c.remove.new.self.entries; groups = c.leave_all.new.groups.groups }
 
 abbrev gone : goal.After-drop-held-inside-2 → Module
 gone c = held.the_view c.held.inside
@@ -28,35 +20,18 @@ was-held : (c : goal.After-drop-held-inside-2) → (registry_of (seen.the_view c
 was-held c = sym c.remove.ensures.value ∙ c.in-Some.is ∙ ap Some (sym c.held.view_is)
 
 now-is : (c : goal.After-drop-held-inside-2) → registry_of (after c) ≡ released_by (registry_of (seen.the_view c.self.inside)) c.args.key.0 (Some (gone c))
-now-is c =
-    let gs = c.self.inside.groups.groups in
-    let groups : c.leave_all.new.groups.groups ≡ leave_groups gs (gone c).groups = c.leave_all.ensures ∙ ap (leave_groups gs) c.deref.ensures.value in
-    λ i. record {
-      max_types = c.self.inside.max_types;
-      registrations = c.self.inside.registrations;
-      held = λ k. c.remove.ensures.updates.0 k i;
-      groups = groups i;
-    }
+now-is c = grind arith
 
 balanced : (c : goal.After-drop-held-inside-2) → IsBalanced (registry_of (after c))
-balanced c = subst IsBalanced (sym (now-is c)) (left-balanced (registry_of (seen.the_view c.self.inside)) c.self.invariant.2 c.args.key.0 (gone c) (was-held c))
+balanced c = rw (now-is c) (left-balanced (registry_of (seen.the_view c.self.inside)) c.self.invariant.2 c.args.key.0 (gone c) (was-held c))
 
 pub invariant_of-self-2 : goal.invariant_of-self-2
-invariant_of-self-2 c =
-    let s = c.self.inside in
-    let gs = s.groups.groups in
-    let fs = c.deref.result.now in (
-      omega (arith, ap (λ (x : Groups). length (indices_of x)) c.leave_all.ensures, left_short gs fs, c.self.invariant.0),
-      c.self.invariant.1,
-      balanced c,
-      omega (arith, ap counted c.leave_all.ensures, counted-left gs fs, c.self.invariant.3),
-    )
+invariant_of-self-2 c = (grind (arith, left_short), c.self.invariant.1, balanced c, grind (arith, counted-left))
 
 pub returns-clause-others : goal.returns-clause-others
 returns-clause-others c = λ k l differ st.
-    subst (λ (r : Registry). Stands r k l) (sym (now-is c))
-    (left-stands (registry_of (seen.the_view c.self.inside)) c.self.invariant.2 c.args.key.0 (gone c) (was-held c) k l differ
-    (subst (λ (r : RegistryState). Stands (registry_of r) k l) (sym c.self.view_is) st))
+    let st' = rw (← c.self.view_is) at st in
+    rw (now-is c) (left-stands (registry_of (seen.the_view c.self.inside)) c.self.invariant.2 c.args.key.0 (gone c) (was-held c) k l differ st')
 
 pub returns-clause-indices : goal.returns-clause-indices
 returns-clause-indices c = grind (arith, now-is, left-index)
@@ -68,7 +43,5 @@ returns-clause-live c = live-held (registry_of (after c)) (balanced c)
 pub returns-in_default-clause-live : goal.returns-in_default-clause-live
 returns-in_default-clause-live c =
     let none : c.remove.result ≡ None = search rules in
-    let same : c.remove.new.self.entries ≡ c.self.inside.modules.entries =
-    subst (λ (o : Option _). IfNone o (c.remove.new.self.entries ≡ c.self.inside.modules.entries)) none c.remove.ensures.unchanged in
-    subst (λ (ms : List (ℕ × Module)). LiveWhereHeld (registry_of (record (seen.the_view c.self.inside) { modules = ms }))) (sym same)
-    (live-held (registry_of (seen.the_view c.self.inside)) c.self.invariant.2)
+    let same : c.remove.new.self.entries ≡ c.self.inside.modules.entries = rw none at c.remove.ensures.unchanged in
+    rw same (live-held (registry_of (seen.the_view c.self.inside)) c.self.invariant.2)
