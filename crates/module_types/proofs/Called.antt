@@ -112,8 +112,7 @@ tied-all b tied i front (t ∷ ts) more long types =
     let at : composite_at b.types i ≡ c = (λ j. composite_at (types j) (sym long j)) ∙ at-front front t (ts ++ more) in
     let x = extends-step b i c in
     tied-all (assign_trampoline b i c) (tied-assign_trampoline b tied i c at) (suc i) (front ++ t ∷ []) ts (more ++ x.types_more) (length-append front (t ∷ []) ∙ omega (arith, long))
-    (x.types ∙ ap (λ us. us ++ x.types_more) types ∙ append_assoc front (t ∷ (ts ++ more)) x.types_more
-    ∙ ap (λ us. front ++ t ∷ us) (append_assoc ts more x.types_more) ∙ sym (append_assoc front (t ∷ []) (ts ++ (more ++ x.types_more))))
+    (x.types ∙ ap (λ us. us ++ x.types_more) types ∙ simp append_assoc)
 
 pub tied-group : (b : Built) → IsTied b → (ts : List Interned) → IsTied (with_group b ts)
 tied-group b tied ts =
@@ -188,13 +187,10 @@ kept-alone b t k j s = at-more b.trampolines (k ∷ []) j s
 
 -- ---- the members of a group
 
-called-now : (b : Built) (i : ℕ) (f : Called) → i < length b.trampolines → (o : Option ℕ) → HasTrampoline (assign_at b i f o) i
-called-now b i f lt o = grind (arith, get_or-set_same, at-more)
-
 called-all : (b : Built) (i : ℕ) (ts : List Interned) (p : ℕ) (f : Called) → i + length ts ≤ length b.trampolines → composite_at ts p ≡ Func f
     → HasTrampoline (assign_trampolines b i ts) (i + p)
 called-all b i [] p f le is = absurd cc
-called-all b i (t ∷ ts) zero f le is = grind (arith, called-now b i f (omega (arith, le)) (b.known_trampolines (mapped f)), keeps-steps (assign_trampoline b i t.composite.inner) (suc i) ts)
+called-all b i (t ∷ ts) zero f le is = grind (arith, get_or-set_same, at-more, keeps-steps (assign_trampoline b i t.composite.inner) (suc i) ts)
 called-all b i (t ∷ ts) (suc p) f le is =
     let at : suc i + p ≡ i + suc p = omega arith in
     let c = assign_trampoline b i t.composite.inner in

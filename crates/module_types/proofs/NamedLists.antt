@@ -25,24 +25,18 @@ use Rattle.form_lists.proofs.AllSections.{All-joined}
 
 -- ---- a mapped type names nothing
 
-value-nothing : (v : Value (Named ℕ)) → value_edges (λ (r : ℕ). r) (map_value (index_of {R = ℕ}) (passed v)) ≡ []
-value-nothing v = grind arith
-
 values-nothing : (vs : List (Value (Named ℕ))) → flat_map (value_edges (λ (r : ℕ). r)) (map (map_value (index_of {R = ℕ})) (map passed vs)) ≡ []
 values-nothing [] = refl
-values-nothing (v ∷ vs) = λ i. value-nothing v i ++ values-nothing vs i
+values-nothing (v ∷ vs) = grind (arith, (values-nothing vs))
 
 mapped-nothing : (f : Called) → group_edges (λ r. r) (unkinded (plain (Func (mapped f)) ∷ [])) ≡ []
 mapped-nothing f = λ i. (values-nothing f.params i ++ values-nothing f.results i) ++ []
 
 module _ (kind : ℕ → NameKind) where
-  value-named : (v : Value (Named ℕ)) → map_value (name_by kind (λ (r : ℕ). r)) (map_value (index_of {R = ℕ}) (passed v)) ≡ passed v
-  value-named v = grind arith
-
   values-named : (vs : List (Value (Named ℕ)))
       → map (map_value (name_by kind (λ (r : ℕ). r))) (map (map_value (index_of {R = ℕ})) (map passed vs)) ≡ map passed vs
   values-named [] = refl
-  values-named (v ∷ vs) = λ i. value-named v i ∷ values-named vs i
+  values-named (v ∷ vs) = grind (arith, (values-named vs))
 
   mapped-named : (f : Called) → by_names kind (λ r. r) (unkinded (plain (Func (mapped f)) ∷ [])) ≡ plain (Func (mapped f)) ∷ []
   mapped-named f = λ i. plain (Func (record { params = values-named f.params i; results = values-named f.results i })) ∷ []

@@ -93,20 +93,16 @@ module _ (ts us : List Interned) (ss : List Span) (well : Well ts ss) (some : 0 
   abbrev span : Span
   span = record { start = length ts; end = length ts + length us }
 
-  orderly-next : LieBetween 0 (ss ++ span ∷ []) (length (ts ++ us))
-  orderly-next = grind (arith, lie-to, length-append, one-more)
-
-  groups-next : groups_of (ts ++ us) (ss ++ span ∷ []) ≡ groups_of ts ss ++ unkinded us ∷ []
-  groups-next = grind (arith, common_steps, map-append, groups-before, drop-append_seam, take-length)
-
   pub well-next : Well (ts ++ us) (ss ++ span ∷ [])
   well-next =
       let sized = groups-size ts ss 0 (length ts) well.orderly (omega arith) in
       let at : length ts + length us ≡ 0 + size (groups_of ts ss) + length (unkinded us) = omega (arith, sized, unkinded-long us) in
+      let groups : groups_of (ts ++ us) (ss ++ span ∷ []) ≡ groups_of ts ss ++ unkinded us ∷ [] =
+      grind (arith, common_steps, map-append, groups-before, drop-append_seam, take-length) in
       let joined : unkinded (ts ++ us) ≡ unkinded ts ++ unkinded us = map-append (map_sub_type (index_of {R = ℕ}) (λ (r : ℕ). r)) ts us in
       record {
-        orderly = orderly-next;
-        earlier = grind (arith, groups-next, earlier-more);
+        orderly = grind (arith, lie-to, length-append, one-more);
+        earlier = grind (arith, groups, earlier-more);
         below = subst (λ n. AllBelow n (unkinded (ts ++ us))) (sym (length-append ts us))
             (subst (λ g. AllBelow (length ts + length us) g) (sym joined)
             (subst (λ rs. All (λ r. r < length ts + length us) rs) (sym (flat_map-append (sub_type_edges (λ r. r)) (unkinded ts) (unkinded us)))
