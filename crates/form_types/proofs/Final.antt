@@ -8,10 +8,9 @@ use Rattle.std.proofs.lemmas.List.Concat.{get_or-flat_map}
 use Rattle.std.proofs.lemmas.List.Elements.{All-get_or, All-from_get_or}
 use Rattle.std.proofs.lemmas.Option.{slice_get-map, slice_get-get_or, slice_get_within, get_or_from_slice_get}
 use Rattle.wasm_spec.specs.declared.types.UnpackedIndex.{UnpackedIndex}
-use Rattle.wasm_spec.specs.declared.types.UnpackedIndex.TheVariants.{Module}
-use Rattle.wasm_spec.specs.TypeData.{SubType, Group, Composite, Func, Array, Struct, Cont, Exn, map_value, map_field, map_sub_type, map_composite}
+use Rattle.wasm_spec.specs.TypeData.{SubType, Group, Composite, Struct, map_sub_type, map_composite}
 use Rattle.wasm_spec.specs.Module as plain
-use Rattle.wasm_spec.specs.Sizes.{CompositeHasShortLists, HasShortLists, HasShortTypes}
+use Rattle.wasm_spec.specs.Sizes.{HasShortLists, HasShortTypes}
 use Rattle.type_data.specs.TypeShapes.{sub_type_shape}
 use Rattle.type_spec.specs.Equality.{home}
 use Rattle.type_spec.proofs.Homes.{size, home-within, home-type}
@@ -21,7 +20,7 @@ use Rattle.rule_spec.specs.TypeRules.{IsFunction, NamesFunctionType, IndexNamesF
 use Rattle.rule_spec.specs.TypeRules as rule
 use Rattle.form_data.specs.Views.{group_of}
 use Rattle.form_types.specs.declared.building.Numbering.{Numbering}
-use Rattle.form_types.specs.Types.{NamedGroup, TypesData, types_by_id, NamesFunction, CompositeContinues, ContinuesFunction, IsSound}
+use Rattle.form_types.specs.Types.{NamedGroup, TypesData, types_by_id, NamesFunction, ContinuesFunction, IsSound}
 use Rattle.form_types.specs.Seen.{ids_of}
 use Rattle.form_types.specs.Placed.{place_of, id_at, named_index}
 use Rattle.form_types.specs.Numbered.{HasItsId, AreNumbered}
