@@ -4,7 +4,7 @@ use Rattle.std.proofs.Common.{◌≡◌, ◌<◌, ◌≤◌, ℕ, zero, suc, ◌
 use Rattle.std.specs.Prelude.{if◌then◌else◌, IsSome, slice_get, option_and_then}
 use Rattle.std.specs.Option.{option_map}
 use Rattle.std.proofs.lemmas.Bool.{cases_lt, cases_eq}
-use Rattle.std.proofs.lemmas.List.{length-append, length-replicate, length-set, length_push, get_or-set_same, get_or_push, append_assoc, append-nil, get_or_append_left, get_or-append_right, get_or-set_other, set-append_left, set_at}
+use Rattle.std.proofs.lemmas.List.{length-append, length-replicate, get_or-replicate, get_or_past, length-set, length_push, get_or-set_same, get_or_push, append_assoc, append-nil, get_or_append_left, get_or-append_right, get_or-set_other, set-append_left, set_at}
 use Rattle.wasm_spec.specs.TypeData.{Group, Composite, Func}
 use Rattle.type_data.specs.Names.{Named}
 use Rattle.type_spec.specs.Interned.{Interned, Called, Built, mapped, same_mapped, plain, alone, knows, with_trampoline, assign_at, assign_trampoline, assign_trampolines, composite_at, opened, with_group, exception_for, startup_type, taken, interned, Span, now_known, next_span}
@@ -17,9 +17,7 @@ use Rattle.module_types.proofs.GroupMembers.{trampoline_set, trampoline_next, ea
 use Rattle.module_types.proofs.Keys.{same-mapped, mapped-same, mapped-twice}
 
 none-there : (n i : ℕ) → get_or (replicate n (let o : Option ℕ = None in o)) i None ≡ None
-none-there zero i = refl
-none-there (suc n) zero = refl
-none-there (suc n) (suc i) = none-there n i
+none-there n i = grind (arith, cases_lt, get_or-replicate, get_or_past, length-replicate)
 
 pub at-front : (front : List Interned) (t : Interned) (ts : List Interned) → composite_at (front ++ t ∷ ts) (length front) ≡ t.composite.inner
 at-front [] t ts = refl

@@ -3,8 +3,9 @@ use Rattle.std.proofs.Common.{◌≡◌, ◌<◌, ◌≤◌, ℕ, zero, suc, ◌
 use Rattle.std.specs.Prelude.{◌⊎◌, slice_get, nat_eq, if◌then◌else◌, option_and_then, IsSome}
 use Rattle.std.specs.Map.{lookup}
 use Rattle.std.specs.Option.{option_map, unwrap_or}
-use Rattle.std.proofs.lemmas.Option.{slice_get-map, slice_get_within, slice_get_past}
+use Rattle.std.proofs.lemmas.Option.{slice_get-map, slice_get_within, slice_get_past, get_or_from_slice_get}
 use Rattle.std.proofs.lemmas.Bool.{eqb-true, eqb-false, cases_lt}
+use Rattle.std.proofs.Math.Seq.{take-suc}
 use Rattle.std.proofs.lemmas.List.{length-append, reverse-append, take_all, take-append-le, length-map, map-append}
 use Rattle.wasm_types.specs.declared.func.WasmFuncType.{WasmFuncType}
 use Rattle.wasm_types.specs.contracts.equal.WasmFuncTypePartialEq.TheImpl as func
@@ -36,9 +37,7 @@ pub at-map : {X Y : Type 0} (f : X → Y) (xs : List X) (i : ℕ) (x : X) → sl
 at-map f xs i x e = slice_get-map f xs i ∙ ap (option_map f) e
 
 taken-more : {X : Type 0} (xs : List X) (i : ℕ) (x : X) → slice_get xs i ≡ Some x → take (suc i) xs ≡ take i xs ++ x ∷ []
-taken-more [] i x e = absurd cc
-taken-more (y ∷ ys) zero x e = let same : y ≡ x = cc in ap (λ z. z ∷ []) same
-taken-more (y ∷ ys) (suc i) x e = ap (λ zs. y ∷ zs) (taken-more ys i x e)
+taken-more xs i x e = grind (arith, take-suc xs i x, slice_get_within xs i x e, get_or_from_slice_get xs i x x e)
 
 -- what stands in a list with one more at its end
 pub last-or : {X : Type 0} (xs : List X) (x : X) (i : ℕ) (y : X) → slice_get (xs ++ x ∷ []) i ≡ Some y → (slice_get xs i ≡ Some y) ⊎ ((i ≡ length xs) × (x ≡ y))

@@ -90,9 +90,6 @@ module _ (t : TypesData) (b : Builder) (k : ℕ) (ts : List Interned) (holds : H
   longer : length b.built.groups < length later.built.groups
   longer = group-within b.built ts (with_group b.built ts) x
 
-  held-new : StandsLater k (length b.built.groups)
-  held-new = grind (arith, span-new b.built ts (with_group b.built ts) x, x, longer)
-
   held-before : (m j : ℕ) → b.ids m ≡ Some j → StandsLater m j
   held-before m j e =
       let s = holds m j e in
@@ -106,8 +103,9 @@ module _ (t : TypesData) (b : Builder) (k : ℕ) (ts : List Interned) (holds : H
   holds-later m j e =
       elim (cases_eq k m) [
         | inl name ↦
+            let new : StandsLater k (length b.built.groups) = grind (arith, span-new b.built ts (with_group b.built ts) x, x, longer) in
             let place : Some (length b.built.groups) ≡ Some j = sym (noted-here b.ids k (length b.built.groups)) ∙ ap later.ids name ∙ e in
-            coe 0 1 (i. StandsLater (name i) (same_Some (length b.built.groups) j place i)) held-new
+            coe 0 1 (i. StandsLater (name i) (same_Some (length b.built.groups) j place i)) new
         | inr other ↦ held-before m j (sym (noted-elsewhere b.ids k (length b.built.groups) m other) ∙ e)
       ]
 

@@ -166,9 +166,6 @@ module _ (all : List (Group ℕ ℕ)) (number : ℕ → ℕ) (exact : IsExactBel
             | inr low ↦ grind (arith, next-number all number b h x r low lt, low, lt, length-map, name_by)
           ]
 
-      reference-kind : (r : ℕ) → r < h.start + length h.members → kind_in (b.types ++ next) (number r) ≡ kind_at all r
-      reference-kind r lt = grind (arith, cases_lt, kind-before, member-kind)
-
       next-below : AllBelow (length b.types + length next) (unkinded next)
       next-below =
           subst (AllBelow (length b.types + length next)) (sym (names-plain (kind_at all) number h.members))
@@ -183,7 +180,7 @@ module _ (all : List (Group ℕ ℕ)) (number : ℕ → ℕ) (exact : IsExactBel
           ∙ group_shape.map_twice number (name_by kind (λ r. r)) number (λ r. r) h.members
           ∙ names-same (λ r. kind (number r)) (kind_at all) number number h.members h.members (record {
             frames = refl;
-            edges = zip-known-itself (λ r. r < h.start + length h.members) _ (λ r lt. ap (λ k. name_by (λ i. k) number r) (reference-kind r lt))
+            edges = zip-known-itself (λ r. r < h.start + length h.members) _ (λ r lt. grind (arith, cases_lt, kind-before, member-kind))
                 (group_edges (λ r. r) h.members) x.near;
           })
 
