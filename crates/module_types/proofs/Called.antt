@@ -133,15 +133,10 @@ abbrev IsAt : List (Option ℕ) → ℕ → Type 0
 IsAt xs i = IsSome (get_or xs i None)
 
 at-more : (xs ys : List (Option ℕ)) (i : ℕ) → IsAt xs i → IsAt (xs ++ ys) i
-at-more [] ys i s = absurd cc
-at-more (x ∷ xs) ys zero s = s
-at-more (x ∷ xs) ys (suc i) s = at-more xs ys i s
+at-more xs ys i s = grind (arith, cases_lt, get_or_append_left, get_or_past)
 
 at-set : (xs : List (Option ℕ)) (i k j : ℕ) → IsAt xs j → IsAt (set xs i (Some k)) j
-at-set [] i k j s = s
-at-set (x ∷ xs) zero k zero s = refl
-at-set (x ∷ xs) (suc i) k (suc j) s = at-set xs i k j s
-at-set (x ∷ xs) i k j s = s
+at-set xs i k j s = grind (arith, cases_eq, cases_lt, get_or-set_same, get_or-set_other, get_or_past)
 
 -- ---- what has a trampoline keeps it
 

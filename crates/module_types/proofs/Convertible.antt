@@ -6,14 +6,12 @@ use Rattle.std.proofs.lemmas.List.Elements.{All-tail, All-nil, All-weaker}
 use Rattle.wasm_spec.specs.declared.types.UnpackedIndex.{UnpackedIndex}
 use Rattle.wasm_spec.specs.declared.types.UnpackedIndex.TheVariants as index
 use Rattle.wasm_spec.specs.TypeData.{SubType, map_sub_type, group_edges}
-use Rattle.wasm_spec.specs.Sizes.{HasShortLists, CompositeHasShortLists}
+use Rattle.wasm_spec.specs.Sizes.{HasShortLists}
 use Rattle.type_data.specs.TypeShapes.{group_shape}
 use Rattle.type_data.specs.Names.{named}
 use Rattle.type_data.specs.ListLaws.{map-twice}
 use Rattle.type_spec.specs.Interned.{Span}
 use Rattle.form_data.specs.declared.types.SubType.{SubType as Read}
-use Rattle.form_data.specs.declared.types.CompositeInnerType.{CompositeInnerType}
-use Rattle.form_data.specs.declared.types.CompositeInnerType.TheVariants as inner
 use Rattle.form_data.specs.Views as form
 use Rattle.form_types.specs.Types.{NamedGroup, TypesData, types_by_id, IsIdBelow, NameEarlier, ContinuesFunction, IsSound}
 use Rattle.form_types.specs.Numbered.{first_id}

@@ -1,5 +1,5 @@
 -- Groups and the steps that follow them: what each step keeps, all keep, and so does a whole list.
-use Rattle.std.proofs.Common.{◌≡◌, ◌≤◌, ◌<◌, ℕ, zero, suc, ◌+◌, List, [], ◌∷◌, ◌++◌, length, set, drop, Bool, true, false, Option, Some, None, refl, sym, ap, ◌∙◌, arith, get_or, ◌-◌, map}
+use Rattle.std.proofs.Common.{◌≡◌, ◌≤◌, ◌<◌, ℕ, zero, suc, ◌+◌, List, [], ◌∷◌, ◌++◌, length, set, drop, Bool, true, false, Option, Some, None, refl, sym, ap, ◌∙◌, arith, get_or, map}
 use Rattle.std.specs.Prelude.{◌==◌, if◌then◌else◌}
 use Rattle.std.proofs.lemmas.List.{append_assoc, append-nil, length-append, get_or_at, get_or_append_left, drop_at, take_at}
 use Rattle.wasm_spec.specs.TypeData.{Composite, Func, Group}

@@ -1,5 +1,5 @@
 -- What a builder shows after a growing call, and what it holds under ids: after one more index, one more group, and calls in turn.
-use Rattle.std.proofs.Common.{◌≡◌, ◌<◌, ℕ, Bool, true, false, nat_eq, List, length, Option, Some, None, refl, sym, ap, ◌∙◌, inl, inr, arith, zero, suc, [], ◌∷◌, OnOk}
+use Rattle.std.proofs.Common.{◌≡◌, ◌<◌, ℕ, true, false, List, length, Option, Some, None, refl, sym, ap, ◌∙◌, inl, inr, arith, zero, suc, [], ◌∷◌, OnOk}
 use Rattle.std.specs.Prelude.{if◌then◌else◌, slice_get, is_some, Result}
 use Rattle.std.proofs.lemmas.Bool.{eqb-true, eq-eqb, cases_eq, eqb-false}
 use Rattle.std.proofs.lemmas.Option.{same_Some}

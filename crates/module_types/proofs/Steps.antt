@@ -145,11 +145,11 @@ module _ (l : TypeList) (get : WasmFuncType → Option TypeIndex) where
   -- a type that is its own mapped type is noted
   module _ (f : WasmFuncType) (own : trampoline_of f ≡ f) (later : WasmFuncType → Option TypeIndex) (k : TypeIndex)
       (puts : (q : WasmFuncType) → later q ≡ cond (func.ghosts.eq f q) (Some k) (get q)) where
-    own-test : (g : Called) → func.ghosts.eq f (function_at g) ≡ same_mapped (called_of f) g
-    own-test g = grind (arith, own, key-is f (function_at g), called-mapped f, function-back)
-
     pub noted-is : built_of l later ≡ knows (built_of l get) (called_of f) (number_of k)
-    noted-is = λ j. record (built_of l get) { known_trampolines = λ g. noted-by get f (called_of f) own-test later k puts g j }
+    noted-is = λ j. record (built_of l get) {
+      known_trampolines = λ g. noted-by get f (called_of f)
+          (λ h. grind (arith, own, key-is f (function_at h), called-mapped f, function-back h)) later k puts g j;
+    }
 
 -- only a function has a trampoline
 pub assign_trampoline-other : (l : TypeList) (get : WasmFuncType → Option TypeIndex) (i : ℕ) (x : WasmSubType)

@@ -41,15 +41,14 @@ lie-low first end (s ∷ ss) lie = let rest = lie-low s.end end ss lie.2 in omeg
 pub types-long : (ts : List Interned) (s : Span) → s.start ≤ s.end → s.end ≤ length ts → length (types_in ts s) ≡ s.end - s.start
 types-long ts s low high = length-take-le (s.end - s.start) (drop s.start ts) (omega (arith, length-drop s.start ts, low, high))
 
-pub types-before : (ts us : List Interned) (s : Span) → s.start ≤ s.end → s.end ≤ length ts → types_in (ts ++ us) s ≡ types_in ts s
-types-before ts us s low high = grind (arith, drop-append-le, take-append-le, length-drop)
-
 groups-before : (ts us : List Interned) (ss : List Span) (first end : ℕ) → LieBetween first ss end → end ≤ length ts
     → groups_of (ts ++ us) ss ≡ groups_of ts ss
 groups-before ts us [] first end lie le = refl
 groups-before ts us (s ∷ ss) first end lie le =
     let low = lie-low s.end end ss lie.2 in
-    λ i. unkinded (types-before ts us s (omega (arith, lie.1)) (omega (arith, low, le)) i) ∷ groups-before ts us ss s.end end lie.2 le i
+    let high : s.end ≤ length ts = omega (arith, low, le) in
+    let same : types_in (ts ++ us) s ≡ types_in ts s = grind (arith, lie.1, drop-append-le, take-append-le, length-drop) in
+    λ i. unkinded (same i) ∷ groups-before ts us ss s.end end lie.2 le i
 
 pub span-ends : (ts : List Interned) (s : Span) (ss : List Span) (first end : ℕ) → LieBetween first (s ∷ ss) end → end ≤ length ts
     → first + length (unkinded (types_in ts s)) ≡ s.end

@@ -1,17 +1,14 @@
-use Rattle.std.proofs.Common.{◌≡◌, ◌∙◌, [], All, length, map, sym, ap, arith}
+use Rattle.std.proofs.Common.{◌≡◌, ◌∙◌, [], length, map, sym, ap, arith}
 use Rattle.std.proofs.lemmas.List.{length-map}
 use Rattle.std.proofs.lemmas.Option.{get_or_from_slice_get}
 use Rattle.std.proofs.lemmas.Result.{IfOk-weaker}
-use Rattle.wasm_spec.specs.TypeData.{group_edges}
-use Rattle.form_data.specs.declared.types.SubType.{SubType}
 use Rattle.form_data.specs.Views as form
 use Rattle.form_types.specs.Types.{TypesData}
-use Rattle.wasm_convert.specs.Known.{Known, CanConvert}
 use Rattle.module_types.specs.Views.{interned_of, span_of}
 use Rattle.module_types.specs.TypeList.{TypeList}
 use Rattle.module_types.specs.Builder.{builder_view}
 use Rattle.module_types.specs.Noted.{noted_at}
-use Rattle.module_types.specs.Conversion.{KnowsId, look_by_id, members_of, members_by_index}
+use Rattle.module_types.specs.Conversion.{members_of, members_by_index}
 use Rattle.module_types.proofs.Convertible.{group-known, members-can, made-is}
 use Rattle.module_types.proofs.builder.ModuleTypesBuilder.converted.Goals as goal
 

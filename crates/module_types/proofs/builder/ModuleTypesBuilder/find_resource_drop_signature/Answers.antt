@@ -1,5 +1,4 @@
-use Rattle.std.proofs.Common.{◌≡◌, ◌∙◌, true, false, Some, sym, ap}
-use Rattle.std.specs.Prelude.{slice_get}
+use Rattle.std.proofs.Common.{◌∙◌, true, false, Some, sym, ap}
 use Rattle.module_types.specs.Builder.{BuilderState}
 use Rattle.module_types.specs.TypeParts.{is_resource_drop}
 use Rattle.module_types.proofs.Elements.{first-step}
