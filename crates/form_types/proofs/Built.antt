@@ -97,15 +97,8 @@ module _ (done : List NamedGroup) (n n' : Numbering) (g : NamedGroup) (b : Built
 
     counts : length ids' ≡ size (gs ++ placed g ∷ [])
     counts =
-        omega (
-          arith,
-          ap length row,
-          length-append ids (range_with_len first (length g)),
-          length-range_with_len first (length g),
-          b.counted,
-          size-more gs (placed g),
-          long,
-        )
+        let sum = length-append ids (range_with_len first (length g)) in
+        omega (arith, ap length row, sum, length-range_with_len first (length g), b.counted, size-more gs (placed g), long)
 
   built-met : (first : ℕ) → first_of n.first_ids adds.key ≡ Some first → AddsMet n n' g first → Built (done ++ g ∷ []) n'
   built-met first found a =

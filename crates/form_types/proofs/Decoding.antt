@@ -1,11 +1,10 @@
 -- Frames are told apart by their bytes.
-use Rattle.std.proofs.Common.{◌≡◌, ◌∙◌, ℕ, ◌+◌, ◌-◌, Bool, true, false, nat_eq, nat_lt, List, [], ◌∷◌, ◌++◌, map, Option, Some, None, if◌then◌else◌, refl, sym, ap, arith, append_assoc}
+use Rattle.std.proofs.Common.{◌≡◌, ◌∙◌, ℕ, ◌+◌, ◌-◌, Bool, true, false, nat_eq, nat_lt, List, [], ◌∷◌, ◌++◌, get_or, map, Option, Some, None, if◌then◌else◌, refl, sym, ap, arith, append_assoc}
 use Rattle.std.specs.Prelude.{is_some}
 use Rattle.std.proofs.lemmas.Bool.{le-ltb}
 use Rattle.std.specs.Option.{option_map}
 use Rattle.std.specs.List.{flat_map}
 use Rattle.std.proofs.lemmas.List.Folds.{flat_map-map}
-use Rattle.wasm_spec.specs.declared.types.AbstractHeapType.TheVariants as heap
 use Rattle.wasm_spec.specs.TypeData.{Heap, Concrete, Abstract, Value, I32, I64, F32, F64, V128, Ref, Storage, I8, I16, Val, Field, Function, Composite, Func, Array, Struct, Cont, Exn, SubType, Group, map_heap, map_value, map_storage, map_field, map_composite, map_sub_type, map_group}
 use Rattle.type_data.specs.ListLaws.{map-twice}
 use Rattle.type_spec.specs.Same.{Gap}
@@ -15,19 +14,13 @@ use Rattle.form_types.specs.Codes.{flag, ended, heap_code, value_code, storage_c
 -- ---- codes do not depend on references
 module _ {H H' : Type 0} (h : H → H') where
   heap-mapped : (x : Heap H) → heap_code (map_heap h x) ≡ heap_code x
-  heap-mapped (Concrete a) = refl
-  heap-mapped (Abstract a) = refl
-
-  reference-either : (b : Bool) (m n : ℕ) → m ≡ n → (if b then m else m + 128) ≡ (if b then n else n + 128)
-  reference-either b m n same = ap (λ k. if b then k else k + 128) same
+  heap-mapped x = grind arith
 
   value-mapped : (x : Value H) → value_code (map_value h x) ≡ value_code x
-  value-mapped (Ref r) = reference-either r.nullable _ _ (heap-mapped r.heap)
-  value-mapped x = refl
+  value-mapped x = grind (arith, heap-mapped)
 
   storage-mapped : (x : Storage H) → storage_code (map_storage h x) ≡ storage_code x
-  storage-mapped (Val v) = value-mapped v
-  storage-mapped x = refl
+  storage-mapped x = grind (arith, value-mapped)
 
   field-mapped : (x : Field H) → field_codes (map_field h x) ≡ field_codes x
   field-mapped x = ap (λ n. n ∷ flag x.mutable ∷ []) (storage-mapped x.element)
@@ -47,8 +40,7 @@ module _ {H H' : Type 0} (h : H → H') where
     composite-mapped (Exn t) = λ i. 0x5C ∷ ended (fields-mapped t.fields i)
 
     supertype-mapped : (x : Option R) → is_some (option_map f x) ≡ is_some x
-    supertype-mapped None = refl
-    supertype-mapped (Some r) = refl
+    supertype-mapped x = grind arith
 
     sub_type-mapped : (x : SubType H R) → sub_type_codes (map_sub_type h f x) ≡ sub_type_codes x
     sub_type-mapped x = λ i. flag x.is_final ∷ flag (supertype-mapped x.supertype i) ∷ flag x.composite.shared ∷ composite-mapped x.composite.inner i
@@ -88,9 +80,7 @@ record IsHeapCode (h : Heap Gap) : Type 0 where
 
 heap-back : (h : Heap Gap) → IsHeapCode h
 unfolding heap_of
-heap-back (Concrete a) = record { low = refl; high = refl; back = refl }
-heap-back (Abstract heap.NoExn) = record { low = refl; high = refl; back = ap Abstract (byte-back heap.NoExn) }
-heap-back (Abstract a) = record { low = refl; high = refl; back = ap Abstract (byte-back a) }
+heap-back x = grind (arith, byte-back)
 
 reference-back : (nullable : Bool) (h : Heap Gap) → decode (value_code (Ref (record { nullable = nullable; heap = h }))) ≡ to nullable h
 unfolding decode
@@ -117,10 +107,7 @@ no_end = refl
 
 -- ---- what bytes begin with is told by them
 flag-told : (a b : Bool) → flag a ≡ flag b → a ≡ b
-flag-told true true same = refl
-flag-told false false same = refl
-flag-told true false same = absurd (omega arith)
-flag-told false true same = absurd (omega arith)
+flag-told a b same = grind arith
 
 storage-told : (x y : Storage Gap) → storage_code x ≡ storage_code y → x ≡ y
 storage-told x y same = let one : Some x ≡ Some y = sym (storage-back x) ∙ ap decode same ∙ storage-back y in cc
@@ -132,25 +119,22 @@ value-told : (x y : Value Gap) → value_code x ≡ value_code y → x ≡ y
 value-told x y same = let one : Val x ≡ Val y = storage-told (Val x) (Val y) same in cc
 
 first-of : (a b : ℕ) (r s : List ℕ) → a ∷ r ≡ b ∷ s → (a ≡ b) × (r ≡ s)
-first-of a b r s same =
-    let head : a ≡ b = cc in
-    let tail : r ≡ s = cc in
-    (head, tail)
+first-of a b r s same = grind arith
 
 values-told : (xs ys : List (Value Gap)) (r s : List ℕ) → ended (map value_code xs) ++ r ≡ ended (map value_code ys) ++ s → (xs ≡ ys) × (r ≡ s)
 values-told [] [] r s same = (refl, (first-of _ _ r s same).1)
 values-told [] (y ∷ ys) r s same = absurd (not-end (Val y) (sym ((first-of _ _ _ _ same).0)))
 values-told (x ∷ xs) [] r s same = absurd (not-end (Val x) ((first-of _ _ _ _ same).0))
 values-told (x ∷ xs) (y ∷ ys) r s same =
-    let both = first-of (value_code x) (value_code y) (ended (map value_code xs) ++ r) (ended (map value_code ys) ++ s) same in
+    let both = first-of _ _ _ _ same in
     let head = value-told x y both.0 in
     let rest = values-told xs ys r s both.1 in
     ((λ i. head i ∷ rest.0 i), rest.1)
 
 field-told : (x y : Field Gap) (r s : List ℕ) → field_codes x ++ r ≡ field_codes y ++ s → (x ≡ y) × (r ≡ s)
 field-told x y r s same =
-    let first = first-of (storage_code x.element) (storage_code y.element) (flag x.mutable ∷ r) (flag y.mutable ∷ s) same in
-    let second = first-of (flag x.mutable) (flag y.mutable) r s first.1 in
+    let first = first-of _ _ _ _ same in
+    let second = first-of _ _ _ _ first.1 in
     let element = storage-told x.element y.element first.0 in
     let mutable = flag-told x.mutable y.mutable second.0 in
     ((λ i. record { element = element i; mutable = mutable i }), second.1)
@@ -165,54 +149,22 @@ fields-told (x ∷ xs) (y ∷ ys) r s same =
     ((λ i. both.0 i ∷ rest.0 i), rest.1)
 
 function-told : (x y : Function Gap) (r s : List ℕ) → function_codes x ++ r ≡ function_codes y ++ s → (x ≡ y) × (r ≡ s)
-function-told x y r s same =
-    let whole = sym (append_assoc (ended (map value_code x.params)) (ended (map value_code x.results)) r) ∙ same
-    ∙ append_assoc (ended (map value_code y.params)) (ended (map value_code y.results)) s in
-    let params = values-told x.params y.params (ended (map value_code x.results) ++ r) (ended (map value_code y.results) ++ s) whole in
-    let results = values-told x.results y.results r s params.1 in
-    ((λ i. record { params = params.0 i; results = results.0 i }), results.1)
-
-head : List ℕ → ℕ
-head [] = 0
-head (x ∷ xs) = x
-
-tail-same : (x : ℕ) (r s : List ℕ) → x ∷ r ≡ x ∷ s → r ≡ s
-tail-same x r s same = cc
+function-told x y r s same = grind (arith, append_assoc, values-told)
 
 composite-told : (x y : Composite Gap Gap) (r s : List ℕ) → composite_codes x ++ r ≡ composite_codes y ++ s → (x ≡ y) × (r ≡ s)
-unfolding head
-composite-told (Func x) (Func y) r s same =
-    let both = function-told x y r s (tail-same 0x60 (function_codes x ++ r) (function_codes y ++ s) same) in (ap Func both.0, both.1)
-composite-told (Array x) (Array y) r s same =
-    let both = field-told x y r s (tail-same 0x5E (field_codes x ++ r) (field_codes y ++ s) same) in (ap Array both.0, both.1)
-composite-told (Struct x) (Struct y) r s same =
-    let both = fields-told x y r s (tail-same 0x5F (fields_codes x ++ r) (fields_codes y ++ s) same) in (ap Struct both.0, both.1)
-composite-told (Cont x) (Cont y) r s same = (refl, tail-same 0x5D r s same)
+composite-told (Func x) (Func y) r s same = let both = function-told x y r s (first-of _ _ _ _ same).1 in (ap Func both.0, both.1)
+composite-told (Array x) (Array y) r s same = let both = field-told x y r s (first-of _ _ _ _ same).1 in (ap Array both.0, both.1)
+composite-told (Struct x) (Struct y) r s same = let both = fields-told x y r s (first-of _ _ _ _ same).1 in (ap Struct both.0, both.1)
+composite-told (Cont x) (Cont y) r s same = (refl, (first-of _ _ _ _ same).1)
 composite-told (Exn x) (Exn y) r s same =
-    let both = fields-told x.fields y.fields r s (tail-same 0x5C (fields_codes x.fields ++ r) (fields_codes y.fields ++ s) same) in
-    ((λ i. Exn (record { function = tt; fields = both.0 i })), both.1)
-composite-told x y r s same = let off = ap head same in absurd (omega arith)
+    let both = fields-told x.fields y.fields r s (first-of _ _ _ _ same).1 in ((λ i. Exn (record { function = tt; fields = both.0 i })), both.1)
+composite-told x y r s same = let off = ap (λ l. get_or l 0 0) same in absurd (omega arith)
 
 supertype-told : (x y : Option Gap) → is_some x ≡ is_some y → x ≡ y
-supertype-told None None same = refl
-supertype-told (Some x) (Some y) same = refl
-supertype-told None (Some y) same = let off : false ≡ true = same in cc
-supertype-told (Some x) None same = let off : true ≡ false = same in cc
+supertype-told x y same = grind arith
 
 sub_type-told : (x y : SubType Gap Gap) (r s : List ℕ) → sub_type_codes x ++ r ≡ sub_type_codes y ++ s → (x ≡ y) × (r ≡ s)
-sub_type-told x y r s same =
-    let final = first-of (flag x.is_final) (flag y.is_final)
-    (flag (is_some x.supertype) ∷ flag x.composite.shared ∷ (composite_codes x.composite.inner ++ r))
-    (flag (is_some y.supertype) ∷ flag y.composite.shared ∷ (composite_codes y.composite.inner ++ s)) same in
-    let super = first-of (flag (is_some x.supertype)) (flag (is_some y.supertype))
-    (flag x.composite.shared ∷ (composite_codes x.composite.inner ++ r)) (flag y.composite.shared ∷ (composite_codes y.composite.inner ++ s)) final.1 in
-    let shared = first-of (flag x.composite.shared) (flag y.composite.shared)
-    (composite_codes x.composite.inner ++ r) (composite_codes y.composite.inner ++ s) super.1 in
-    let inner = composite-told x.composite.inner y.composite.inner r s shared.1 in
-    let a = flag-told x.is_final y.is_final final.0 in
-    let b = supertype-told x.supertype y.supertype (flag-told (is_some x.supertype) (is_some y.supertype) super.0) in
-    let c = flag-told x.composite.shared y.composite.shared shared.0 in
-    ((λ i. record { is_final = a i; supertype = b i; composite = record { inner = inner.0 i; shared = c i } }), inner.1)
+sub_type-told x y r s same = grind (arith, composite-told, flag-told, supertype-told)
 
 -- groups without references are one where their bytes are
 pub group-told : (x y : Group Gap Gap) → group_codes x ≡ group_codes y → x ≡ y

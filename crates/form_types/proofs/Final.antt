@@ -8,10 +8,9 @@ use Rattle.std.proofs.lemmas.List.Concat.{get_or-flat_map}
 use Rattle.std.proofs.lemmas.List.Elements.{All-get_or, All-from_get_or}
 use Rattle.std.proofs.lemmas.Option.{slice_get-map, slice_get-get_or, slice_get_within, get_or_from_slice_get}
 use Rattle.wasm_spec.specs.declared.types.UnpackedIndex.{UnpackedIndex}
-use Rattle.wasm_spec.specs.declared.types.UnpackedIndex.TheVariants.{Module}
-use Rattle.wasm_spec.specs.TypeData.{SubType, Group, Composite, Func, Array, Struct, Cont, Exn, map_value, map_field, map_sub_type, map_composite}
+use Rattle.wasm_spec.specs.TypeData.{SubType, Group, Composite, Struct, map_sub_type, map_composite}
 use Rattle.wasm_spec.specs.Module as plain
-use Rattle.wasm_spec.specs.Sizes.{CompositeHasShortLists, HasShortLists, HasShortTypes}
+use Rattle.wasm_spec.specs.Sizes.{HasShortLists, HasShortTypes}
 use Rattle.type_data.specs.TypeShapes.{sub_type_shape}
 use Rattle.type_spec.specs.Equality.{home}
 use Rattle.type_spec.proofs.Homes.{size, home-within, home-type}
@@ -21,7 +20,7 @@ use Rattle.rule_spec.specs.TypeRules.{IsFunction, NamesFunctionType, IndexNamesF
 use Rattle.rule_spec.specs.TypeRules as rule
 use Rattle.form_data.specs.Views.{group_of}
 use Rattle.form_types.specs.declared.building.Numbering.{Numbering}
-use Rattle.form_types.specs.Types.{NamedGroup, TypesData, types_by_id, NamesFunction, CompositeContinues, ContinuesFunction, IsSound}
+use Rattle.form_types.specs.Types.{NamedGroup, TypesData, types_by_id, NamesFunction, ContinuesFunction, IsSound}
 use Rattle.form_types.specs.Seen.{ids_of}
 use Rattle.form_types.specs.Placed.{place_of, id_at, named_index}
 use Rattle.form_types.specs.Numbered.{HasItsId, AreNumbered}
@@ -103,17 +102,10 @@ module _ (m : plain.Module) (n : Numbering) (b : Built (plain.groups m) n) (vali
       subst P (sym (ap (λ k. get_or known k d) (sym f.2) ∙ some_type f.0 f.1 d)) (each f.0 (omega (arith, f.1, all))))
 
   short-mapped : (x : SubType UnpackedIndex UnpackedIndex) → HasShortLists x → HasShortLists (map_sub_type rename rename x)
-  short-mapped x short = by x.composite.inner short where
-    by : (c : Composite UnpackedIndex UnpackedIndex) → CompositeHasShortLists c → CompositeHasShortLists (map_composite rename rename c)
-    by (Func f) s = (omega (arith, s.0, length-map f.params (map_value rename)), omega (arith, s.1, length-map f.results (map_value rename)))
-    by (Array f) s = s
-    by (Struct fs) s = omega (arith, s, length-map fs (map_field rename))
-    by (Cont f) s = s
-    by (Exn e) s = omega (arith, s, length-map e.fields (map_field rename))
+  short-mapped x short = grind (arith, length-map)
 
   function-mapped : (c : Composite UnpackedIndex UnpackedIndex) → IsFunction c → IsFunction (map_composite rename rename c)
-  function-mapped (Func f) is = tt
-  function-mapped c is = absurd is
+  function-mapped c is = grind arith
 
   -- a declared function type has a function type's id
   names-function : (r : ℕ) → NamesFunctionType (lists_of_module m) r → NamesFunction known (id_at ids r)
@@ -143,14 +135,7 @@ module _ (m : plain.Module) (n : Numbering) (b : Built (plain.groups m) n) (vali
 
   continues : (x : SubType UnpackedIndex UnpackedIndex) → rule.ContinuesFunction (lists_of_module m) x.composite.inner
       → ContinuesFunction known (map_sub_type rename rename x)
-  continues x is = by x.composite.inner is where
-    index : (i : UnpackedIndex) → IndexNamesFunctionType (lists_of_module m) i → NamesFunction known (rename i)
-    index (Module i) is = names-function i is
-    index i is = absurd is
-
-    by : (c : Composite UnpackedIndex UnpackedIndex) → rule.ContinuesFunction (lists_of_module m) c → CompositeContinues known (map_composite rename rename c)
-    by (Cont f) is = index f is
-    by c is = tt
+  continues x is = grind (arith, names-function)
 
   pub sound : All (IsDeclaredWell (lists_of_module m)) (declared_groups 0 (plain.groups m)) → HasShortTypes m → length (plain.types m) < 2 ^ 30
       → IsSound t

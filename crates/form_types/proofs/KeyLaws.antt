@@ -1,5 +1,5 @@
 -- A key is that of one canonical group, and looking up tells keys apart.
-use Rattle.std.proofs.Common.{◌≡◌, ◌∙◌, ℕ, true, false, nat_eq, List, map, refl, sym, ap, subst}
+use Rattle.std.proofs.Common.{◌≡◌, ◌∙◌, ℕ, true, nat_eq, List, map, refl, sym, ap, subst, arith}
 use Rattle.std.specs.Cmp.Lexicographic.{pointwise}
 use Rattle.std.specs.Bool.{Decides}
 use Rattle.std.proofs.lemmas.Bool.{eqb-true}
@@ -52,10 +52,7 @@ group_key-exact g h same =
 -- ---- keys that are looked up are equal where they say the same
 
 index-told : (i j : UnpackedIndex) → index.ghosts.eq i j ≡ true → i ≡ j
-index-told (Module i) (Module j) same = ap Module (eqb-true i j same)
-index-told (RecGroup i) (RecGroup j) same = ap RecGroup (eqb-true i j same)
-index-told (Id i) (Id j) same = let one = eqb-true i.0 j.0 same in λ k. Id (record { 0 = one k })
-index-told _ _ same = let off : false ≡ true = same in cc
+index-told i j same = grind (arith, eqb-true)
 
 index-decides : (i j : UnpackedIndex) → Decides (index.ghosts.eq i j) (i ≡ j)
 index-decides i j = (index-told i j, λ same. subst (λ k. index.ghosts.eq i k ≡ true) same (index_equal.laws-law.refl i))

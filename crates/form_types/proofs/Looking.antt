@@ -11,10 +11,7 @@ use Rattle.form_types.specs.Kept.{spans}
 
 pub length_numbers : (n : ℕ) (gs : List NamedGroup) → length (group_numbers n gs) ≡ length (types_by_id gs)
 length_numbers n [] = refl
-length_numbers n (g ∷ gs) =
-    length-append (replicate (length g) n) (group_numbers (n + 1) gs)
-    ∙ (λ i. length-replicate (length g) n i + length_numbers (n + 1) gs i)
-    ∙ sym (length-append g (types_by_id gs))
+length_numbers n (g ∷ gs) = grind (arith, length-append, length-replicate, (length_numbers (n + 1) gs))
 
 pub length_spans : (first : ℕ) (gs : List NamedGroup) → length (spans first gs) ≡ length gs
 length_spans first [] = refl

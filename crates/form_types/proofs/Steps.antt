@@ -73,9 +73,7 @@ abbrev pub NearIn : Home → Type 0
 NearIn g = All (λ r. r < g.start + length g.members) (group_edges (λ r. r) g.members)
 
 pub total-more : (groups : List NamedGroup) (g : NamedGroup) → length (types_by_id (groups ++ g ∷ [])) ≡ length (types_by_id groups) + length g
-total-more groups g =
-    ap length (flat_map-append (λ (h : NamedGroup). h) groups (g ∷ [])) ∙ length-append (types_by_id groups) (g ++ [])
-    ∙ ap (λ (l : NamedGroup). length (types_by_id groups) + length l) (append-nil g)
+total-more groups g = grind (arith, flat_map-append, length-append, append-nil)
 
 references-more : (first : ℕ) (groups : List NamedGroup) (g : NamedGroup) → NameEarlier first groups
     → All (IsIdBelow (first + length (types_by_id groups) + length g)) (group_edges (λ r. r) g) → NameEarlier first (groups ++ g ∷ [])

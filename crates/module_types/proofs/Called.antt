@@ -4,7 +4,7 @@ use Rattle.std.proofs.Common.{◌≡◌, ◌<◌, ◌≤◌, ℕ, zero, suc, ◌
 use Rattle.std.specs.Prelude.{if◌then◌else◌, IsSome, slice_get, option_and_then}
 use Rattle.std.specs.Option.{option_map}
 use Rattle.std.proofs.lemmas.Bool.{cases_lt, cases_eq}
-use Rattle.std.proofs.lemmas.List.{length-append, length-replicate, length-set, length_push, get_or-set_same, get_or_push, append_assoc, append-nil, get_or_append_left, get_or-append_right, get_or-set_other, set-append_left, set_at}
+use Rattle.std.proofs.lemmas.List.{length-append, length-replicate, get_or-replicate, get_or_past, length-set, length_push, get_or-set_same, get_or_push, append_assoc, append-nil, get_or_append_left, get_or-append_right, get_or-set_other, set-append_left, set_at}
 use Rattle.wasm_spec.specs.TypeData.{Group, Composite, Func}
 use Rattle.type_data.specs.Names.{Named}
 use Rattle.type_spec.specs.Interned.{Interned, Called, Built, mapped, same_mapped, plain, alone, knows, with_trampoline, assign_at, assign_trampoline, assign_trampolines, composite_at, opened, with_group, exception_for, startup_type, taken, interned, Span, now_known, next_span}
@@ -17,9 +17,7 @@ use Rattle.module_types.proofs.GroupMembers.{trampoline_set, trampoline_next, ea
 use Rattle.module_types.proofs.Keys.{same-mapped, mapped-same, mapped-twice}
 
 none-there : (n i : ℕ) → get_or (replicate n (let o : Option ℕ = None in o)) i None ≡ None
-none-there zero i = refl
-none-there (suc n) zero = refl
-none-there (suc n) (suc i) = none-there n i
+none-there n i = grind (arith, cases_lt, get_or-replicate, get_or_past, length-replicate)
 
 pub at-front : (front : List Interned) (t : Interned) (ts : List Interned) → composite_at (front ++ t ∷ ts) (length front) ≡ t.composite.inner
 at-front [] t ts = refl
@@ -112,8 +110,7 @@ tied-all b tied i front (t ∷ ts) more long types =
     let at : composite_at b.types i ≡ c = (λ j. composite_at (types j) (sym long j)) ∙ at-front front t (ts ++ more) in
     let x = extends-step b i c in
     tied-all (assign_trampoline b i c) (tied-assign_trampoline b tied i c at) (suc i) (front ++ t ∷ []) ts (more ++ x.types_more) (length-append front (t ∷ []) ∙ omega (arith, long))
-    (x.types ∙ ap (λ us. us ++ x.types_more) types ∙ append_assoc front (t ∷ (ts ++ more)) x.types_more
-    ∙ ap (λ us. front ++ t ∷ us) (append_assoc ts more x.types_more) ∙ sym (append_assoc front (t ∷ []) (ts ++ (more ++ x.types_more))))
+    (x.types ∙ ap (λ us. us ++ x.types_more) types ∙ simp append_assoc)
 
 pub tied-group : (b : Built) → IsTied b → (ts : List Interned) → IsTied (with_group b ts)
 tied-group b tied ts =
@@ -136,15 +133,10 @@ abbrev IsAt : List (Option ℕ) → ℕ → Type 0
 IsAt xs i = IsSome (get_or xs i None)
 
 at-more : (xs ys : List (Option ℕ)) (i : ℕ) → IsAt xs i → IsAt (xs ++ ys) i
-at-more [] ys i s = absurd cc
-at-more (x ∷ xs) ys zero s = s
-at-more (x ∷ xs) ys (suc i) s = at-more xs ys i s
+at-more xs ys i s = grind (arith, cases_lt, get_or_append_left, get_or_past)
 
 at-set : (xs : List (Option ℕ)) (i k j : ℕ) → IsAt xs j → IsAt (set xs i (Some k)) j
-at-set [] i k j s = s
-at-set (x ∷ xs) zero k zero s = refl
-at-set (x ∷ xs) (suc i) k (suc j) s = at-set xs i k j s
-at-set (x ∷ xs) i k j s = s
+at-set xs i k j s = grind (arith, cases_eq, cases_lt, get_or-set_same, get_or-set_other, get_or_past)
 
 -- ---- what has a trampoline keeps it
 
@@ -188,13 +180,10 @@ kept-alone b t k j s = at-more b.trampolines (k ∷ []) j s
 
 -- ---- the members of a group
 
-called-now : (b : Built) (i : ℕ) (f : Called) → i < length b.trampolines → (o : Option ℕ) → HasTrampoline (assign_at b i f o) i
-called-now b i f lt o = grind (arith, get_or-set_same, at-more)
-
 called-all : (b : Built) (i : ℕ) (ts : List Interned) (p : ℕ) (f : Called) → i + length ts ≤ length b.trampolines → composite_at ts p ≡ Func f
     → HasTrampoline (assign_trampolines b i ts) (i + p)
 called-all b i [] p f le is = absurd cc
-called-all b i (t ∷ ts) zero f le is = grind (arith, called-now b i f (omega (arith, le)) (b.known_trampolines (mapped f)), keeps-steps (assign_trampoline b i t.composite.inner) (suc i) ts)
+called-all b i (t ∷ ts) zero f le is = grind (arith, get_or-set_same, at-more, keeps-steps (assign_trampoline b i t.composite.inner) (suc i) ts)
 called-all b i (t ∷ ts) (suc p) f le is =
     let at : suc i + p ≡ i + suc p = omega arith in
     let c = assign_trampoline b i t.composite.inner in

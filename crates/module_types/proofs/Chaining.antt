@@ -3,8 +3,9 @@ use Rattle.std.proofs.Common.{◌≡◌, ◌<◌, ◌≤◌, ℕ, zero, suc, ◌
 use Rattle.std.specs.Prelude.{◌⊎◌, slice_get, nat_eq, if◌then◌else◌, option_and_then, IsSome}
 use Rattle.std.specs.Map.{lookup}
 use Rattle.std.specs.Option.{option_map, unwrap_or}
-use Rattle.std.proofs.lemmas.Option.{slice_get-map, slice_get_within}
-use Rattle.std.proofs.lemmas.Bool.{eqb-true, eqb-false}
+use Rattle.std.proofs.lemmas.Option.{slice_get-map, slice_get_within, slice_get_past, get_or_from_slice_get}
+use Rattle.std.proofs.lemmas.Bool.{eqb-true, eqb-false, cases_lt}
+use Rattle.std.proofs.Math.Seq.{take-suc}
 use Rattle.std.proofs.lemmas.List.{length-append, reverse-append, take_all, take-append-le, length-map, map-append}
 use Rattle.wasm_types.specs.declared.func.WasmFuncType.{WasmFuncType}
 use Rattle.wasm_types.specs.contracts.equal.WasmFuncTypePartialEq.TheImpl as func
@@ -36,9 +37,7 @@ pub at-map : {X Y : Type 0} (f : X → Y) (xs : List X) (i : ℕ) (x : X) → sl
 at-map f xs i x e = slice_get-map f xs i ∙ ap (option_map f) e
 
 taken-more : {X : Type 0} (xs : List X) (i : ℕ) (x : X) → slice_get xs i ≡ Some x → take (suc i) xs ≡ take i xs ++ x ∷ []
-taken-more [] i x e = absurd cc
-taken-more (y ∷ ys) zero x e = let same : y ≡ x = cc in ap (λ z. z ∷ []) same
-taken-more (y ∷ ys) (suc i) x e = ap (λ zs. y ∷ zs) (taken-more ys i x e)
+taken-more xs i x e = grind (arith, take-suc xs i x, slice_get_within xs i x e, get_or_from_slice_get xs i x x e)
 
 -- what stands in a list with one more at its end
 pub last-or : {X : Type 0} (xs : List X) (x : X) (i : ℕ) (y : X) → slice_get (xs ++ x ∷ []) i ≡ Some y → (slice_get xs i ≡ Some y) ⊎ ((i ≡ length xs) × (x ≡ y))
@@ -120,11 +119,8 @@ module _ (digest : WasmFuncType → ℕ) (newest : ℕ → ℕ) (rs : List Met) 
 
     pub first-more : (f : WasmFuncType) → Leads digest all f (later (digest f)) (length all)
     first-more f =
-        by-test (nat_eq (digest r.key) (digest f))
-        (λ e. coe 0 1 (i. Leads digest all f (sym (puts (digest f) ∙ ap (λ b. if b then suc (length rs) else newest (digest f)) e) i) (length all))
-        (to-it f (eqb-true (digest r.key) (digest f) e)))
-        (λ e. coe 0 1 (i. Leads digest all f (sym (puts (digest f) ∙ ap (λ b. if b then suc (length rs) else newest (digest f)) e) i) (length all))
-        (past-it f (λ same. eqb-false (digest r.key) (digest f) e same)))
+        rw puts (by-test {P = Leads digest all f (if nat_eq (digest r.key) (digest f) then suc (length rs) else newest (digest f)) (length all)}
+        (nat_eq (digest r.key) (digest f)) (λ e. rw e (to-it f (eqb-true (digest r.key) (digest f) e))) (λ e. rw e (past-it f (eqb-false (digest r.key) (digest f) e))))
 
     pub next-more : (i : ℕ) (s : Met) → slice_get all i ≡ Some s → (f : WasmFuncType) → digest f ≡ digest s.key → Leads digest all f s.before i
     next-more i s at f same = elim (last-or rs r i s at) [
@@ -155,11 +151,7 @@ pub key-read : (types : List WasmSubType) (m : MetType) (t : WasmSubType) (g : W
 key-read types m t g at is = ap (λ o. unwrap_or (option_and_then part_of o) no_function) at ∙ ap (λ o. unwrap_or o no_function) is
 
 pub part-below : (types : List WasmSubType) (i : TypeIndex) → IsSome (part_at func_in types i) → number_of i < length types
-part-below types i some = by types (number_of i) some where
-  by : (xs : List WasmSubType) (n : ℕ) → IsSome (option_and_then part_of (slice_get xs n)) → n < length xs
-  by [] n h = absurd cc
-  by (x ∷ xs) zero h = omega arith
-  by (x ∷ xs) (suc n) h = let rest = by xs n h in omega (arith, rest)
+part-below types i some = grind (arith, cases_lt, slice_get_past)
 
 -- ---- the list grows
 
@@ -202,20 +194,11 @@ module _ (types : List WasmSubType) (old new : MetTypes) (f : WasmFuncType) (ty 
   with-r : mets types new.types.items ≡ mets types old.types.items ++ r ∷ []
   with-r = ap (mets types) listed ∙ map-append (met_of types) old.types.items (m ∷ [])
 
-  digest-is : digest ≡ digest_of old.hasher r.key
-  digest-is = is ∙ ap (digest_of old.hasher) (sym key-is-f)
-
-  chained-on : AreChained (digest_of new.hasher) (newest_of new) (mets types new.types.items)
-  chained-on = grind (arith, with-r, chained-more, digest-is, length-map)
-
-  standing-on : Stand types new.types.items
-  standing-on i t at = grind (arith, last-or, part)
-
-  noted-puts : (q : WasmFuncType) → met_at types new q ≡ cond (func.ghosts.eq f q) (Some ty) (met_at types old q)
-  noted-puts q = grind (arith, with-r, known-more, key-is-f, turned)
-
   pub is-noted : IsNoted types old new f ty
-  is-noted = record { linked = record { standing = standing-on; chained = chained-on }; puts = noted-puts }
+  is-noted = record {
+    linked = record { standing = grind (arith, last-or, part); chained = grind (arith, with-r, chained-more, is, key-is-f, length-map) };
+    puts = grind (arith, with-r, known-more, key-is-f, turned);
+  }
 
 -- ---- none was met
 

@@ -6,14 +6,12 @@ use Rattle.std.proofs.lemmas.List.Elements.{All-tail, All-nil, All-weaker}
 use Rattle.wasm_spec.specs.declared.types.UnpackedIndex.{UnpackedIndex}
 use Rattle.wasm_spec.specs.declared.types.UnpackedIndex.TheVariants as index
 use Rattle.wasm_spec.specs.TypeData.{SubType, map_sub_type, group_edges}
-use Rattle.wasm_spec.specs.Sizes.{HasShortLists, CompositeHasShortLists}
+use Rattle.wasm_spec.specs.Sizes.{HasShortLists}
 use Rattle.type_data.specs.TypeShapes.{group_shape}
 use Rattle.type_data.specs.Names.{named}
 use Rattle.type_data.specs.ListLaws.{map-twice}
 use Rattle.type_spec.specs.Interned.{Span}
 use Rattle.form_data.specs.declared.types.SubType.{SubType as Read}
-use Rattle.form_data.specs.declared.types.CompositeInnerType.{CompositeInnerType}
-use Rattle.form_data.specs.declared.types.CompositeInnerType.TheVariants as inner
 use Rattle.form_data.specs.Views as form
 use Rattle.form_types.specs.Types.{NamedGroup, TypesData, types_by_id, IsIdBelow, NameEarlier, ContinuesFunction, IsSound}
 use Rattle.form_types.specs.Numbered.{first_id}
@@ -84,17 +82,12 @@ all-in P (g ∷ gs) zero all = ((All-joined P g (types_by_id gs)).0 all).0
 all-in P (g ∷ gs) (suc k) all = all-in P gs k ((All-joined P g (types_by_id gs)).0 all).1
 
 module _ (t : TypesData) (next : ℕ) (spans : List Span) (ids : ℕ → Option ℕ) where
-  can-by : (m : Read) (c : CompositeInnerType)
-      → ContinuesFunction (types_by_id t.groups) (record { is_final = m.is_final; supertype = m.supertype; composite = record { inner = form.composite_of c; shared = (form.sub_type_of m).composite.shared } })
-      → CompositeHasShortLists (form.composite_of c) → CanConvert (look_by_id t next spans ids) (form.composite_of c)
-  can-by m c resumed short = grind arith
-
   pub members-can : (k : ℕ) (members : List Read) → members_of t k ≡ map form.sub_type_of members → IsSound t
       → All (λ m. CanConvert (look_by_id t next spans ids) (form.composite_of m.composite)) members
   members-can k members is sound =
       let resumed = All-from_map (ContinuesFunction (types_by_id t.groups)) form.sub_type_of members (coe 0 1 (j. All (ContinuesFunction (types_by_id t.groups)) (is j)) (all-in (ContinuesFunction (types_by_id t.groups)) t.groups k sound.continuations)) in
       let short = All-from_map HasShortLists form.sub_type_of members (coe 0 1 (j. All HasShortLists (is j)) (all-in HasShortLists t.groups k sound.lists)) in
-      all-both (λ m. ContinuesFunction (types_by_id t.groups) (form.sub_type_of m)) (λ m. HasShortLists (form.sub_type_of m)) (λ m. CanConvert (look_by_id t next spans ids) (form.composite_of m.composite)) (λ m. can-by m m.composite) members resumed short
+      all-both (λ m. ContinuesFunction (types_by_id t.groups) (form.sub_type_of m)) (λ m. HasShortLists (form.sub_type_of m)) (λ m. CanConvert (look_by_id t next spans ids) (form.composite_of m.composite)) (λ m continues short. grind arith) members resumed short
 
   pub made-is : (k : ℕ) (members : List Read) → members_of t k ≡ map form.sub_type_of members → (made : List WasmSubType)
       → map sub_type_of made ≡ map (map_sub_type (look_by_id t next spans ids) (index_in (look_by_id t next spans ids))) (map form.sub_type_of members)

@@ -83,11 +83,7 @@ module _ (m : plain.Module) (t : TypesData) (are : AreNumbered m t) (near : Name
         within = omega (arith, place, ap (λ k. length (get_or t.groups k [])) is);
       }
 
-  -- equal types have ids of one group
-  pub same-group : (i j : ℕ) → i < size all → j < size all → SameType all all i j → group i ≡ group j
-  same-group i j lt lt' same = ap (group_of_id t) ((are.exact i j (inside i lt) (inside j lt')).1 same)
-
-  -- so have the members of a group
+  -- the members of a group have ids of one group
   pub first-group : (i : ℕ) → i < size all → group i ≡ group (home all i).start
   first-group i lt =
       let w = home-within all i lt in
@@ -185,10 +181,6 @@ module _ (m : plain.Module) (t : TypesData) (are : AreNumbered m t) (near : Name
               ]) (group_edges (λ r. r) here.members) (near-from all 0 n (omega arith) (omega (arith, lt)) near))));
         }
 
-    -- one that is met is held
-    none-more : IsMet all d n → interns_type t b (id n) ≡ b
-    none-more met = ap (interns_by b (group n) (interned_members t b (group n))) (has.held n lt met).id_is
-
     -- the group of another is appended
     module _ (unmet : is_met all d here ≡ false) where
       other : (i : ℕ) → i < size all → IsMet all d i → group i ≡ group n → ⊥
@@ -253,8 +245,8 @@ module _ (m : plain.Module) (t : TypesData) (are : AreNumbered m t) (near : Name
                     index = ap (λ (r : Span). r.start + (i - (home all i).start)) (span-old b.built next later.built after x.at x.within) ∙ x.index;
                   }
               | inr e ↦
-                  let same = same-group here.start (home all i).start (omega (arith, home-start all n, lt)) (omega (arith, home-start all i, lt'))
-                  (equal-same all here i e) in
+                  let same = ap (group_of_id t) ((are.exact here.start (home all i).start (omega (arith, home-start all n, lt, counted)) (omega (arith, home-start all i, lt', counted))).1
+                  (equal-same all here i e)) in
                   record {
                     at = at;
                     id_is = ap later.ids (first-group i lt' ∙ sym same ∙ sym (first-group n lt)) ∙ noted-here b.ids (group n) at;
@@ -270,7 +262,8 @@ module _ (m : plain.Module) (t : TypesData) (are : AreNumbered m t) (near : Name
 
     pub has-next : Has (interns_type t b (id n)) (done_at all (n + 1)) (state all (n + 1))
     has-next =
-        step-by all n (Has (interns_type t b (id n))) (λ met. subst (λ c. Has c d s) (sym (none-more met)) has)
+        step-by all n (Has (interns_type t b (id n)))
+        (λ met. subst (λ c. Has c d s) (sym (ap (interns_by b (group n) (interned_members t b (group n))) (has.held n lt met).id_is)) has)
         (λ unmet. subst (λ c. Has c (d ++ here ∷ []) (take_group all s here))
         (sym (ap (interns_by b (group n) (interned_members t b (group n))) (unheld unmet))) (has-new unmet))
 
@@ -315,15 +308,9 @@ module _ (m : plain.Module) (t : TypesData) (are : AreNumbered m t) (near : Name
     pub can-intern : (gs rest : List (Group ℕ ℕ)) (g : Group ℕ ℕ) → all ≡ gs ++ g ∷ rest → 0 < length g
         → CanIntern t (interns_declared t (new_builder validator) 0 gs) (group (size gs))
     can-intern gs rest g is some =
-        let lt : size gs < size all = omega (
-          arith,
-          ap size is,
-          ap length (flat_map-append (λ (h : Group ℕ ℕ). h) gs (g ∷ rest)),
-          length-append (flat_map (λ (h : Group ℕ ℕ). h) gs)
-              (flat_map (λ (h : Group ℕ ℕ). h) (g ∷ rest)),
-          size-cons g rest,
-          some,
-        ) in
+        let parts = ap length (flat_map-append (λ (h : Group ℕ ℕ). h) gs (g ∷ rest)) in
+        let sum = length-append (flat_map (λ (h : Group ℕ ℕ). h) gs) (flat_map (λ (h : Group ℕ ℕ). h) (g ∷ rest)) in
+        let lt : size gs < size all = omega (arith, ap size is, parts, sum, size-cons g rest) in
         let p = reached (size gs) (omega (arith, lt)) in
         comes-next (after_first (size gs)) (size gs) lt p.0 p.1
 

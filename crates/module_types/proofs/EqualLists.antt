@@ -143,16 +143,12 @@ equal-lists ms ns near near' =
     let w' = whole ns near' in
     let hs = taken_groups ms in
     let ks = taken_groups ns in
-    let groups = map (form ms (number_in ms)) hs in
-    let groups' = map (form ns (number_in ns)) ks in
-    let is : (taken ms).built ≡ with_groups empty groups = w.groups.built in
-    let is' : (taken ns).built ≡ with_groups empty groups' = w'.groups.built in
     let both = all-told ms ns (number_in ms) (number_in ns) w.exact w'.exact hs ks empty [] w.groups.stand w.groups.covers w'.groups.stand (λ i lt none. absurd (false≢true none)) in (
-      (λ same. both.0 (groups_determined empty groups groups' (filled ms (number_in ms) hs empty w.groups.stand) (filled ns (number_in ns) ks empty w'.groups.stand)
-          (sym (ap (λ (b : Built). b.types) is) ∙ same.types ∙ ap (λ (b : Built). b.types) is')
-          (sym (ap (λ (b : Built). b.groups) is) ∙ same.groups ∙ ap (λ (b : Built). b.groups) is'))),
+      (λ same. both.0 (groups_determined empty _ _ (filled ms (number_in ms) hs empty w.groups.stand) (filled ns (number_in ns) ks empty w'.groups.stand)
+          (ap (λ (b : Built). b.types) (sym w.groups.built) ∙ same.types ∙ ap (λ (b : Built). b.types) w'.groups.built)
+          (ap (λ (b : Built). b.groups) (sym w.groups.built) ∙ same.groups ∙ ap (λ (b : Built). b.groups) w'.groups.built))),
       (λ same.
-          let one : (taken ms).built ≡ (taken ns).built = is ∙ ap (with_groups empty) (both.1 same) ∙ sym is' in
+          let one : (taken ms).built ≡ (taken ns).built = w.groups.built ∙ ap (with_groups empty) (both.1 same) ∙ sym w'.groups.built in
           grind arith),
     )
 

@@ -1,5 +1,5 @@
 -- Groups and the steps that follow them: what each step keeps, all keep, and so does a whole list.
-use Rattle.std.proofs.Common.{◌≡◌, ◌≤◌, ◌<◌, ℕ, zero, suc, ◌+◌, List, [], ◌∷◌, ◌++◌, length, set, drop, Bool, true, false, Option, Some, None, refl, sym, ap, ◌∙◌, arith, get_or, ◌-◌, map}
+use Rattle.std.proofs.Common.{◌≡◌, ◌≤◌, ◌<◌, ℕ, zero, suc, ◌+◌, List, [], ◌∷◌, ◌++◌, length, set, drop, Bool, true, false, Option, Some, None, refl, sym, ap, ◌∙◌, arith, get_or, map}
 use Rattle.std.specs.Prelude.{◌==◌, if◌then◌else◌}
 use Rattle.std.proofs.lemmas.List.{append_assoc, append-nil, length-append, get_or_at, get_or_append_left, drop_at, take_at}
 use Rattle.wasm_spec.specs.TypeData.{Composite, Func, Group}
@@ -242,15 +242,13 @@ module _ (P : Built → Type 0) (Q : ℕ → Type 0) (exception : (b : Built) (i
   through-exceptions [] b all p = p
   through-exceptions (i ∷ is) b all p = through-exceptions is (with_exception b i) (All-tail Q i is all) (exception b i (All-head Q i is all) p)
 
-  through-startup : (b : Built) (startup : Bool) → P b → P (with_startup b startup)
-  through-startup b startup p = grind arith
-
   pub through-interned : (ms : List (Group ℕ ℕ)) (tags : List ℕ) (startup : Bool) → ((i : ℕ) → Q (get_or (taken ms).declared i 0)) → P (taken ms).built
       → P (interned ms tags startup)
   through-interned ms tags startup each p =
       let number : ℕ → ℕ = λ i. get_or (taken ms).declared i 0 in
-      through-startup (with_exceptions (taken ms).built (map number tags)) startup
-      (through-exceptions (firsts (map number tags)) (taken ms).built (all-firsts (map number tags) [] (all-each Q number each tags) (All-nil Q)) p)
+      let all : P (with_exceptions (taken ms).built (map number tags)) =
+      through-exceptions (firsts (map number tags)) (taken ms).built (all-firsts (map number tags) [] (all-each Q number each tags) (All-nil Q)) p in
+      elim startup as (λ s. P (with_startup (with_exceptions (taken ms).built (map number tags)) s)) [ true ↦ last _ all | false ↦ all ]
 
 -- what a type keeps that comes after the others
 pub through-alone : (P : Built → Type 0) → ((b : Built) (t : Interned) → P b → P (alone b t None))

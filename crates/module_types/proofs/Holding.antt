@@ -1,5 +1,5 @@
 -- What a builder shows after a growing call, and what it holds under ids: after one more index, one more group, and calls in turn.
-use Rattle.std.proofs.Common.{◌≡◌, ◌<◌, ℕ, Bool, true, false, nat_eq, List, length, Option, Some, None, refl, sym, ap, ◌∙◌, inl, inr, arith, zero, suc, [], ◌∷◌, OnOk}
+use Rattle.std.proofs.Common.{◌≡◌, ◌<◌, ℕ, true, false, List, length, Option, Some, None, refl, sym, ap, ◌∙◌, inl, inr, arith, zero, suc, [], ◌∷◌, OnOk}
 use Rattle.std.specs.Prelude.{if◌then◌else◌, slice_get, is_some, Result}
 use Rattle.std.proofs.lemmas.Bool.{eqb-true, eq-eqb, cases_eq, eqb-false}
 use Rattle.std.proofs.lemmas.Option.{same_Some}
@@ -90,9 +90,6 @@ module _ (t : TypesData) (b : Builder) (k : ℕ) (ts : List Interned) (holds : H
   longer : length b.built.groups < length later.built.groups
   longer = group-within b.built ts (with_group b.built ts) x
 
-  held-new : StandsLater k (length b.built.groups)
-  held-new = grind (arith, span-new b.built ts (with_group b.built ts) x, x, longer)
-
   held-before : (m j : ℕ) → b.ids m ≡ Some j → StandsLater m j
   held-before m j e =
       let s = holds m j e in
@@ -106,23 +103,21 @@ module _ (t : TypesData) (b : Builder) (k : ℕ) (ts : List Interned) (holds : H
   holds-later m j e =
       elim (cases_eq k m) [
         | inl name ↦
+            let new : StandsLater k (length b.built.groups) = grind (arith, span-new b.built ts (with_group b.built ts) x, x, longer) in
             let place : Some (length b.built.groups) ≡ Some j = sym (noted-here b.ids k (length b.built.groups)) ∙ ap later.ids name ∙ e in
-            coe 0 1 (i. StandsLater (name i) (same_Some (length b.built.groups) j place i)) held-new
+            coe 0 1 (i. StandsLater (name i) (same_Some (length b.built.groups) j place i)) new
         | inr other ↦ held-before m j (sym (noted-elsewhere b.ids k (length b.built.groups) m other) ∙ e)
       ]
 
   pub holds-kept : HoldsGroups t (interns b k ts)
   holds-kept = elim (b.ids k) as (λ o. HoldsGroups t (interns_by b k ts o)) [ Some j ↦ holds | None ↦ holds-later ]
 
-  some-now : (interns b k ts).ids k ≡ None → ⊥
-  some-now = grind arith
-
   pub has-index : (n : ℕ) → n < length (types_by_id t.groups) → group_of_id t n ≡ k
       → HasIndex t (length (interns b k ts).built.types) (interns b k ts).built.groups (interns b k ts).ids n
   has-index n within same = record {
     within = within;
     stands = λ j e. holds-kept (group_of_id t n) j e;
-    room = λ none. absurd (some-now (ap (λ m. (interns b k ts).ids m) (sym same) ∙ none));
+    room = λ none. let no : (interns b k ts).ids k ≡ None = ap (λ m. (interns b k ts).ids m) (sym same) ∙ none in absurd (grind arith);
   }
 
 -- ---- calls in turn
@@ -131,9 +126,6 @@ module _ (t : TypesData) (b : Builder) (k : ℕ) (ts : List Interned) (holds : H
 abbrev Seen : Builder → List ℕ → Type 0
 Seen b seen = (n : ℕ) → is_some (b.ids n) ≡ seen_in n seen
 
-noted-seen : (test : Bool) (k : ℕ) (o : Option ℕ) (s : Bool) → is_some o ≡ s → is_some (if test then Some k else o) ≡ (if test then true else s)
-noted-seen test k o s e = grind arith
-
 module _ (cs : List (ℕ × List Interned)) (id : ℕ) (ts : List Interned) where
   one-more : ((b : Builder) (seen : List ℕ) → Seen b seen → (runs b cs).built ≡ with_groups b.built (firsts seen cs))
       → (b : Builder) (seen : List ℕ) → Seen b seen → (o : Option ℕ) → b.ids id ≡ o
@@ -141,7 +133,7 @@ module _ (cs : List (ℕ × List Interned)) (id : ℕ) (ts : List Interned) wher
   one-more rest b seen tied (Some k) e = grind arith
   one-more rest b seen tied None e =
       ap (λ o. (runs (interns_by b id ts o) cs).built) e
-      ∙ rest (interns_by b id ts None) (id ∷ seen) (λ n. noted-seen (nat_eq id n) (length b.built.groups) (b.ids n) (seen_in n seen) (tied n))
+      ∙ rest (interns_by b id ts None) (id ∷ seen) (λ n. grind (arith, tied n))
       ∙ ap (λ s. with_groups b.built (if s then firsts seen cs else ts ∷ firsts (id ∷ seen) cs)) (sym (ap is_some e) ∙ tied id)
 
 run-from : (cs : List (ℕ × List Interned)) (b : Builder) (seen : List ℕ) → Seen b seen → (runs b cs).built ≡ with_groups b.built (firsts seen cs)

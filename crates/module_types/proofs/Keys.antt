@@ -24,24 +24,18 @@ use Rattle.module_types.specs.Passed.{code_of, words_of, fed_with}
 
 -- ---- the way back
 
-value-back : (v : types.Value (Named ℕ)) → plain_value (value_at v) ≡ v
-value-back v = grind arith
-
 values-back : (vs : List (types.Value (Named ℕ))) → map (map_value (named interned_number)) (map value_of (map value_at vs)) ≡ vs
 values-back [] = refl
-values-back (v ∷ vs) = λ i. value-back v i ∷ values-back vs i
+values-back (v ∷ vs) = grind (arith, (values-back vs))
 
 pub function-back : (f : Called) → called_of (function_at f) ≡ f
 function-back f = λ i. record { params = values-back f.params i; results = values-back f.results i }
 
 -- ---- mapped types
 
-passed-is : (v : WasmValType) → trampoline_val v ≡ value_at (passed (plain_value v))
-passed-is v = grind arith
-
 passed-all : (vs : List WasmValType) → map trampoline_val vs ≡ map value_at (map passed (map (map_value (named interned_number)) (map value_of vs)))
 passed-all [] = refl
-passed-all (v ∷ vs) = λ i. passed-is v i ∷ passed-all vs i
+passed-all (v ∷ vs) = grind (arith, (passed-all vs))
 
 pub mapped-is : (f : WasmFuncType) → trampoline_of f ≡ function_at (mapped (called_of f))
 mapped-is f = λ i. record { params = passed-all f.params i; results = passed-all f.results i }
@@ -72,12 +66,9 @@ key-is f q = grind (arith, mapped-is, values-are)
 
 -- ---- mapped again and compared
 
-passed-twice : (v : types.Value (Named ℕ)) → passed (passed v) ≡ passed v
-passed-twice v = grind arith
-
 all-twice : (vs : List (types.Value (Named ℕ))) → map passed (map passed vs) ≡ map passed vs
 all-twice [] = refl
-all-twice (v ∷ vs) = λ i. passed-twice v i ∷ all-twice vs i
+all-twice (v ∷ vs) = grind (arith, (all-twice vs))
 
 pub mapped-twice : (f : Called) → mapped (mapped f) ≡ mapped f
 mapped-twice f = λ i. record { params = all-twice f.params i; results = all-twice f.results i }
@@ -99,12 +90,9 @@ trampoline-twice f = grind (arith, mapped-is (trampoline_of f), called-mapped f,
 
 -- ---- a mapped type has the codes of the type
 
-same-code : (v : WasmValType) → code_of (trampoline_val v) ≡ code_of v
-same-code v = grind arith
-
 pub same-codes : (vs : List WasmValType) → map code_of (map trampoline_val vs) ≡ map code_of vs
 same-codes [] = refl
-same-codes (v ∷ vs) = λ i. same-code v i ∷ same-codes vs i
+same-codes (v ∷ vs) = grind (arith, (same-codes vs))
 
 pub same-feed : (h : FoldHasher) (vs : List WasmValType) → fed_with h (map trampoline_val vs) ≡ fed_with h vs
 same-feed h vs = ap (λ cs. fold folding.write h (words_of 1 cs)) (same-codes vs)

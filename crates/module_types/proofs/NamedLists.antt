@@ -1,5 +1,5 @@
 -- The interned list of a module is well named, and so it was before trampolines, exception types and the startup type.
-use Rattle.std.proofs.Common.{◌≡◌, ◌∙◌, ◌<◌, ◌≤◌, inl, inr, ℕ, zero, suc, ◌+◌, ◌-◌, Bool, true, false, None, List, [], ◌∷◌, ◌++◌, length, get_or, refl, sym, ap, subst, arith, length-append, Option, map}
+use Rattle.std.proofs.Common.{◌≡◌, ◌∙◌, ◌<◌, ◌≤◌, inl, inr, ℕ, zero, suc, ◌+◌, Bool, true, false, None, List, [], ◌∷◌, ◌++◌, length, get_or, refl, sym, ap, subst, arith, length-append, Option, map}
 use Rattle.std.specs.List.{All, flat_map}
 use Rattle.std.specs.Prelude.{◌⊎◌}
 use Rattle.std.proofs.lemmas.Bool.{cases_lt, false≢true}
@@ -25,24 +25,18 @@ use Rattle.form_lists.proofs.AllSections.{All-joined}
 
 -- ---- a mapped type names nothing
 
-value-nothing : (v : Value (Named ℕ)) → value_edges (λ (r : ℕ). r) (map_value (index_of {R = ℕ}) (passed v)) ≡ []
-value-nothing v = grind arith
-
 values-nothing : (vs : List (Value (Named ℕ))) → flat_map (value_edges (λ (r : ℕ). r)) (map (map_value (index_of {R = ℕ})) (map passed vs)) ≡ []
 values-nothing [] = refl
-values-nothing (v ∷ vs) = λ i. value-nothing v i ++ values-nothing vs i
+values-nothing (v ∷ vs) = grind (arith, (values-nothing vs))
 
 mapped-nothing : (f : Called) → group_edges (λ r. r) (unkinded (plain (Func (mapped f)) ∷ [])) ≡ []
 mapped-nothing f = λ i. (values-nothing f.params i ++ values-nothing f.results i) ++ []
 
 module _ (kind : ℕ → NameKind) where
-  value-named : (v : Value (Named ℕ)) → map_value (name_by kind (λ (r : ℕ). r)) (map_value (index_of {R = ℕ}) (passed v)) ≡ passed v
-  value-named v = grind arith
-
   values-named : (vs : List (Value (Named ℕ)))
       → map (map_value (name_by kind (λ (r : ℕ). r))) (map (map_value (index_of {R = ℕ})) (map passed vs)) ≡ map passed vs
   values-named [] = refl
-  values-named (v ∷ vs) = λ i. value-named v i ∷ values-named vs i
+  values-named (v ∷ vs) = grind (arith, (values-named vs))
 
   mapped-named : (f : Called) → by_names kind (λ r. r) (unkinded (plain (Func (mapped f)) ∷ [])) ≡ plain (Func (mapped f)) ∷ []
   mapped-named f = λ i. plain (Func (record { params = values-named f.params i; results = values-named f.results i })) ∷ []
@@ -172,9 +166,6 @@ module _ (all : List (Group ℕ ℕ)) (number : ℕ → ℕ) (exact : IsExactBel
             | inr low ↦ grind (arith, next-number all number b h x r low lt, low, lt, length-map, name_by)
           ]
 
-      reference-kind : (r : ℕ) → r < h.start + length h.members → kind_in (b.types ++ next) (number r) ≡ kind_at all r
-      reference-kind r lt = grind (arith, cases_lt, kind-before, member-kind)
-
       next-below : AllBelow (length b.types + length next) (unkinded next)
       next-below =
           subst (AllBelow (length b.types + length next)) (sym (names-plain (kind_at all) number h.members))
@@ -189,7 +180,7 @@ module _ (all : List (Group ℕ ℕ)) (number : ℕ → ℕ) (exact : IsExactBel
           ∙ group_shape.map_twice number (name_by kind (λ r. r)) number (λ r. r) h.members
           ∙ names-same (λ r. kind (number r)) (kind_at all) number number h.members h.members (record {
             frames = refl;
-            edges = zip-known-itself (λ r. r < h.start + length h.members) _ (λ r lt. ap (λ k. name_by (λ i. k) number r) (reference-kind r lt))
+            edges = zip-known-itself (λ r. r < h.start + length h.members) _ (λ r lt. grind (arith, cases_lt, kind-before, member-kind))
                 (group_edges (λ r. r) h.members) x.near;
           })
 

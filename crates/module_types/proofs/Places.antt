@@ -1,5 +1,5 @@
 -- The group of an id, the id of its first member, and the index of its type.
-use Rattle.std.proofs.Common.{◌≡◌, ◌≤◌, ◌<◌, ℕ, zero, suc, ◌+◌, ◌-◌, List, [], ◌∷◌, ◌++◌, length, get_or, take, replicate, Some, sym, ap, ◌∙◌, inl, inr, arith, Option, None}
+use Rattle.std.proofs.Common.{◌≡◌, ◌≤◌, ◌<◌, ℕ, zero, suc, ◌+◌, ◌-◌, List, [], ◌∷◌, ◌++◌, length, get_or, take, replicate, Some, ap, ◌∙◌, inl, inr, arith, Option, None}
 use Rattle.std.specs.Prelude.{slice_get, ◌⊎◌}
 use Rattle.std.proofs.lemmas.List.{length-append}
 use Rattle.std.proofs.lemmas.Option.{get_or_from_slice_get}
@@ -63,12 +63,6 @@ pub ids-are : (gs : List NamedGroup) (k : ℕ) (ids : List CoreTypeId) → k < l
     → ids ≡ ids_from (first_id gs k) (length (get_or gs k []))
 ids-are gs k ids h e = grind (arith, same, ids-of)
 
-pub head-of : (first count : ℕ) (x : CoreTypeId) (rest : List CoreTypeId) → 0 < count → x ∷ rest ≡ ids_from first count → x.0 ≡ first
-head-of first count x rest h e = grind arith
-
-pub some-ids : (first count : ℕ) → 0 < count → [] ≡ ids_from first count → ⊥
-some-ids first count h e = grind arith
-
 -- the ids of a group are among all
 pub group-ends : (gs : List NamedGroup) (k : ℕ) → first_id gs k + length (get_or gs k []) ≤ length (types_by_id gs)
 group-ends [] zero = omega arith
@@ -78,41 +72,41 @@ group-ends (g ∷ gs) (suc k) = omega (arith, group-ends gs k, length-append g (
 
 -- ---- the index of the type of an id
 
-module _ (t : TypesData) (n k : ℕ) (e : slice_get (group_numbers 0 t.groups) n ≡ Some k) (known : k < length t.groups)
-    (all : List CoreTypeId) (are : slice_get (member_ids 0 t.groups) k ≡ Some all) where
+module _ {t : TypesData} {n next : ℕ} {spans : List Span} {ids : ℕ → Option ℕ} (has : HasIndex t next spans ids n)
+    {k : ℕ} (e : slice_get (group_numbers 0 t.groups) n ≡ Some k) (known : k < length t.groups)
+    {all : List CoreTypeId} (are : slice_get (member_ids 0 t.groups) k ≡ Some all) where
   members : 0 < length (members_of t k)
   members = filled t n k e
 
   pub some : all ≡ [] → ⊥
-  some none = some-ids (first_id t.groups k) (length (members_of t k)) members (sym none ∙ ids-are t.groups k all known are)
+  some none = grind (arith, members, ids-are t.groups k all known are)
 
-  module _ (first : CoreTypeId) (rest : List CoreTypeId) (is : all ≡ first ∷ rest) where
+  pub stands : {j : ℕ} → ids k ≡ Some j → StandsInterned t spans k j
+  stands {j} held = coe 0 1 (i. StandsInterned t spans (group-is t n k e i) j) (has.stands j (ap ids (group-is t n k e) ∙ held))
+
+  module _ {first : CoreTypeId} {rest : List CoreTypeId} (is : all ≡ first ∷ rest) where
     first-is : first.0 ≡ first_id t.groups k
-    first-is = head-of (first_id t.groups k) (length (members_of t k)) first rest members (sym is ∙ ids-are t.groups k all known are)
+    first-is = grind (arith, members, ids-are t.groups k all known are)
 
     pub before : first.0 ≤ n
     before = omega (arith, first-is, starts t n k e)
 
-    module _ (next : ℕ) (spans : List Span) (ids : ℕ → Option ℕ) (has : HasIndex t next spans ids n) where
-      index-is : (o : Option ℕ) → ids k ≡ o → index_by_id t next spans ids n ≡ start_by t next spans ids o + (n - first.0)
-      index-is o held = grind (arith, group-is, first-is)
+    index-is : (o : Option ℕ) → ids k ≡ o → index_by_id t next spans ids n ≡ start_by t next spans ids o + (n - first.0)
+    index-is o held = grind (arith, group-is, first-is)
 
-      pub stands : (j : ℕ) → ids k ≡ Some j → StandsInterned t spans k j
-      stands j held = coe 0 1 (i. StandsInterned t spans (group-is t n k e i) j) (has.stands j (ap ids (group-is t n k e) ∙ held))
+    module _ {j : ℕ} (held : ids k ≡ Some j) {s : Span} (at : slice_get spans j ≡ Some s) where
+      span-is : get_or spans j no_span ≡ s
+      span-is = get_or_from_slice_get spans j s no_span at
 
-      module _ (j : ℕ) (held : ids k ≡ Some j) (s : Span) (at : slice_get spans j ≡ Some s) where
-        span-is : get_or spans j no_span ≡ s
-        span-is = get_or_from_slice_get spans j s no_span at
+      pub held-within : s.start + (n - first.0) < s.end
+      held-within = grind (arith, stands, span-is, first-is, starts, within)
 
-        pub held-within : s.start + (n - first.0) < s.end
-        held-within = grind (arith, stands, span-is, first-is, starts, within)
+      pub held-index : index_by_id t next spans ids n ≡ s.start + (n - first.0)
+      held-index = index-is (Some j) held ∙ ap (λ (r : Span). r.start + (n - first.0)) span-is
 
-        pub held-index : index_by_id t next spans ids n ≡ s.start + (n - first.0)
-        held-index = index-is (Some j) held ∙ ap (λ (r : Span). r.start + (n - first.0)) span-is
+    module _ (unheld : ids k ≡ None) where
+      pub next-within : next + (n - first.0) < 4294967295
+      next-within = grind (arith, group-is, first-is, starts, within)
 
-      module _ (unheld : ids k ≡ None) where
-        pub next-within : next + (n - first.0) < 4294967295
-        next-within = grind (arith, group-is, first-is, starts, within)
-
-        pub next-index : index_by_id t next spans ids n ≡ next + (n - first.0)
-        next-index = index-is None unheld
+      pub next-index : index_by_id t next spans ids n ≡ next + (n - first.0)
+      next-index = index-is None unheld

@@ -1,5 +1,5 @@
 -- Each declared type is equal to the interned type at its index.
-use Rattle.std.proofs.Common.{◌≡◌, ◌∙◌, ◌<◌, ◌≤◌, ℕ, ◌+◌, ◌-◌, Bool, true, false, nat_le, List, [], ◌∷◌, ◌++◌, length, get_or, map, refl, sym, ap, subst, arith}
+use Rattle.std.proofs.Common.{◌≡◌, ◌∙◌, ◌<◌, ℕ, ◌+◌, ◌-◌, Bool, true, false, nat_le, List, [], ◌∷◌, ◌++◌, length, get_or, map, refl, sym, ap, subst, arith}
 use Rattle.std.specs.List.{AllZip, All}
 use Rattle.std.proofs.lemmas.Bool.{leb-true, leb-false, false≢true}
 use Rattle.std.proofs.lemmas.List.{length-map}
@@ -49,14 +49,10 @@ module _ (all : List (Group ℕ ℕ)) (number : ℕ → ℕ) (exact : IsExactBel
     abbrev there : Home
     there = record { start = first; members = map_group number number h.members }
 
-    home-there : home (list_groups l) first ≡ there
-    home-there = grind (arith, span-is, stands-at, within, types-new, names-plain)
-
-    first-in : first + length h.members ≤ size (list_groups l)
-    first-in = omega (arith, (stands-at l w (length b.groups) within).high, ap (λ (s : Span). s.end) span-is, long, list-size l w)
-
     home-member : (p : ℕ) → p < length h.members → home (list_groups l) (first + p) ≡ there
-    home-member p lt = grind (arith, home-there, length-map, home-again, first-in)
+    home-member p lt =
+        let at : home (list_groups l) first ≡ there = grind (arith, span-is, stands-at, within, types-new, names-plain) in
+        grind (arith, at, length-map, home-again, stands-at l w (length b.groups) within, span-is, long, list-size l w)
 
     module _ (same : (i : ℕ) → i < size all → i < h.start → Same i (number i)) where
       target-there : (r : ℕ) → r < h.start + length h.members → (c d : Bool) → nat_le h.start r ≡ c → nat_le first (number r) ≡ d

@@ -145,41 +145,32 @@ module _ (l : TypeList) (get : WasmFuncType → Option TypeIndex) where
   -- a type that is its own mapped type is noted
   module _ (f : WasmFuncType) (own : trampoline_of f ≡ f) (later : WasmFuncType → Option TypeIndex) (k : TypeIndex)
       (puts : (q : WasmFuncType) → later q ≡ cond (func.ghosts.eq f q) (Some k) (get q)) where
-    own-test : (g : Called) → func.ghosts.eq f (function_at g) ≡ same_mapped (called_of f) g
-    own-test g = grind (arith, own, key-is f (function_at g), called-mapped f, function-back)
-
     pub noted-is : built_of l later ≡ knows (built_of l get) (called_of f) (number_of k)
-    noted-is = λ j. record (built_of l get) { known_trampolines = λ g. noted-by get f (called_of f) own-test later k puts g j }
-
-not-function : (b : Built) (i : ℕ) (c : WasmCompositeInnerType) → ((f : WasmFuncType) → c ≡ inner.Func f → ⊥) → assign_trampoline b i (inner_of c) ≡ b
-not-function b i c other = grind arith
+    noted-is = λ j. record (built_of l get) {
+      known_trampolines = λ g. noted-by get f (called_of f)
+          (λ h. grind (arith, own, key-is f (function_at h), called-mapped f, function-back h)) later k puts g j;
+    }
 
 -- only a function has a trampoline
 pub assign_trampoline-other : (l : TypeList) (get : WasmFuncType → Option TypeIndex) (i : ℕ) (x : WasmSubType)
     → slice_get l.types i ≡ Some x → ((f : WasmFuncType) → x.composite_type.inner ≡ inner.Func f → ⊥)
     → built_of l get ≡ assign_trampoline (built_of l get) i (composite_at (map interned_of l.types) i)
-assign_trampoline-other l get i x read other = grind (arith, composite-read l.types i x read x.composite_type.inner refl, not-function (built_of l get) i x.composite_type.inner other)
+assign_trampoline-other l get i x read other = grind (arith, composite-read l.types i x read x.composite_type.inner refl)
 
 -- ---- what an interned type is named by
-
-kind-kept : (c : WasmCompositeInnerType) → kind_of_type (composite_of c) ≡ kind_of_type (inner_of c)
-kind-kept c = grind arith
 
 abbrev named_as : WasmSubType → ℕ → Name
 named_as t n = record { kind = kind_of_type (composite_of t.composite_type.inner); index = index_at n }
 
 pub name-is : (b : BuilderState) (i : TypeIndex) (t : WasmSubType) → slice_get b.list.types (number_of i) ≡ Some t → (n : ℕ) → number_of i ≡ n
     → named_as t (number_of i) ≡ interned_name b n
-name-is b i t read n is = grind (arith, kind-kept, composite-read)
+name-is b i t read n is = grind (arith, composite-read)
 
 -- ---- the exception type of a function type
 
-none-function : (c : WasmCompositeInnerType) → ((f : WasmFuncType) → c ≡ inner.Func f → ⊥) → IsTrue (is_function (inner_of c)) → ⊥
-none-function c other is = grind arith
-
 pub no-function : (ts : List WasmSubType) (i : ℕ) (x : WasmSubType) → slice_get ts i ≡ Some x
     → ((f : WasmFuncType) → x.composite_type.inner ≡ inner.Func f → ⊥) → IsTrue (is_function (composite_at (map interned_of ts) i)) → ⊥
-no-function ts i x read other is = grind (arith, composite-read ts i x read x.composite_type.inner refl, none-function)
+no-function ts i x read other is = grind (arith, composite-read ts i x read x.composite_type.inner refl)
 
 fields-made : (vs : List WasmValType)
     → map (map_field (named interned_number)) (map field_of (map field_at vs)) ≡ map field_for (map (map_value (named interned_number)) (map value_of vs))

@@ -1,6 +1,5 @@
 -- What the taking of a list's groups makes: the groups that are taken get the next indices, and each type has that of the first equal one.
 use Rattle.std.proofs.Common.{◌≡◌, ◌∙◌, ◌↔◌, ◌⊎◌, inl, inr, ℕ, zero, suc, ◌+◌, ◌-◌, ◌<◌, ◌≤◌, Bool, true, false, ◌||◌, List, [], ◌∷◌, ◌++◌, length, get_or, map, refl, sym, ap, subst, arith}
-use Rattle.std.specs.Prelude.{if◌then◌else◌}
 use Rattle.std.specs.List.{All, fold, list_any, range_with_len}
 use Rattle.std.proofs.lemmas.Bool.{cases_lt, cases_eq, cases_Bool, or_cases, or_left, or_right}
 use Rattle.std.proofs.lemmas.Bool.Decides.{same_from_decides}
@@ -158,21 +157,15 @@ module _ (all : List (Group ℕ ℕ)) where
     abbrev pub after : Taking
     after = take_group all t h
 
-    abbrev by_test : ℕ → Bool → ℕ
-    by_test i c = if c then length t.built.types + (i - (home all i).start) else t.number i
-
     pub number-old : (i : ℕ) → IsMet done i → after.number i ≡ t.number i
     number-old i met = grind (arith, cases_Bool, met-same, equal-same)
 
     pub number-new : (i : ℕ) → IsEqual h i → after.number i ≡ length t.built.types + (i - (home all i).start)
-    number-new i e = ap (by_test i) e
+    number-new i e = grind arith
 
     module _ (n : ℕ) (inside : n < size all) (at : home all n ≡ h) (r : Reaches n done t) where
       own : home all h.start ≡ h
       own = ap (λ (g : Home). home all g.start) (sym at) ∙ first-home n inside ∙ at
-
-      own-inside : h.start < size all
-      own-inside = omega (arith, inside, home-start all n, ap (λ (g : Home). g.start) at)
 
       long : length t.built.types + length h.members ≤ length after.built.types
       long = grind (arith, length-map, group-long)
@@ -183,7 +176,7 @@ module _ (all : List (Group ℕ ℕ)) where
         below = λ i lt met.
             elim (met-either done h i met) [
               | inl x ↦ omega (arith, number-old i x, r.below i lt x, long)
-              | inr e ↦ omega (arith, number-new i e, (copy h i own-inside own lt e).lt, long)
+              | inr e ↦ omega (arith, number-new i e, (copy h i (omega (arith, inside, home-start all n, ap (λ (g : Home). g.start) at)) own lt e).lt, long)
             ];
         same = grind (arith, equal-alike, starts-same, r);
         told = λ i j lt lt' met met' same.

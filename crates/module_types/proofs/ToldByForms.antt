@@ -4,7 +4,7 @@ use Rattle.std.proofs.lemmas.Bool.{ltb-true, ltb-false, lt-ltb, le-ltb}
 use Rattle.type_spec.specs.Equality.{SameGroup, SameType, Home, home}
 use Rattle.type_spec.specs.Interned.{Span, Built}
 use Rattle.type_spec.proofs.Equivalence.{groups-type, type-groups}
-use Rattle.wasm_index.specs.Index.{index_of, number_of}
+use Rattle.wasm_index.specs.Index.{index_of}
 use Rattle.wasm_types.specs.declared.sub.WasmRecGroup.{WasmRecGroup}
 use Rattle.module_types.specs.Orderly.{LieBetween}
 use Rattle.module_types.specs.Conversion.{no_span}
@@ -16,19 +16,13 @@ use Rattle.type_data.specs.Names.{named}
 use Rattle.type_spec.proofs.Homes.{size, home-again}
 use Rattle.type_spec.proofs.ByNames.{name_by, by_names, same-kind}
 use Rattle.wasm_types.specs.declared.index.EngineOrModuleTypeIndex.{EngineOrModuleTypeIndex}
-use Rattle.wasm_types.specs.declared.index.EngineOrModuleTypeIndex.TheVariants.{Engine, Module, RecGroup}
+use Rattle.wasm_types.specs.declared.index.EngineOrModuleTypeIndex.TheVariants.{Engine, RecGroup}
 use Rattle.wasm_types.specs.TypeViews.{group_of}
 use Rattle.wasm_types.specs.ViewsTell.{tells as tells_views, group_back}
 use Rattle.wasm_trace.specs.Canonical.{consed_edge}
 use Rattle.module_types.specs.Views.{index_at}
 use Rattle.module_types.proofs.Telling.{Tells, told}
 use Rattle.module_types.proofs.Standing.{list-size, list-kind, stands-at, span-long, span-named}
-
--- the place in a group, where it is one
-abbrev place_given : EngineOrModuleTypeIndex → ℕ
-place_given (Engine i) = 0
-place_given (Module i) = 0
-place_given (RecGroup i) = number_of i
 
 -- what becomes of a reference from a group that begins at an index
 module _ (engine : EngineMap) (start r : ℕ) where
@@ -103,7 +97,7 @@ module _ (b b' : Built) (w : IsWellNamed b) (w' : IsWellNamed b') (engine engine
     inside = λ r s low p low' q.
         let one = given-inside engine start r low in
         let two = given-inside engine' start' s low' in
-        ((λ e. ap place_given (sym one ∙ e ∙ two)), (λ e. one ∙ ap (λ n. RecGroup (index_of n)) e ∙ sym two));
+        ((λ e. let same : RecGroup (index_of (r - start)) ≡ RecGroup (index_of (s - start')) = sym one ∙ e ∙ two in grind (arith, same)), (λ e. one ∙ ap (λ n. RecGroup (index_of n)) e ∙ sym two));
     outside = λ r s low p low' q.
         let one = given-outside engine start r low in
         let two = given-outside engine' start' s low' in

@@ -41,15 +41,14 @@ lie-low first end (s ∷ ss) lie = let rest = lie-low s.end end ss lie.2 in omeg
 pub types-long : (ts : List Interned) (s : Span) → s.start ≤ s.end → s.end ≤ length ts → length (types_in ts s) ≡ s.end - s.start
 types-long ts s low high = length-take-le (s.end - s.start) (drop s.start ts) (omega (arith, length-drop s.start ts, low, high))
 
-pub types-before : (ts us : List Interned) (s : Span) → s.start ≤ s.end → s.end ≤ length ts → types_in (ts ++ us) s ≡ types_in ts s
-types-before ts us s low high = grind (arith, drop-append-le, take-append-le, length-drop)
-
 groups-before : (ts us : List Interned) (ss : List Span) (first end : ℕ) → LieBetween first ss end → end ≤ length ts
     → groups_of (ts ++ us) ss ≡ groups_of ts ss
 groups-before ts us [] first end lie le = refl
 groups-before ts us (s ∷ ss) first end lie le =
     let low = lie-low s.end end ss lie.2 in
-    λ i. unkinded (types-before ts us s (omega (arith, lie.1)) (omega (arith, low, le)) i) ∷ groups-before ts us ss s.end end lie.2 le i
+    let high : s.end ≤ length ts = omega (arith, low, le) in
+    let same : types_in (ts ++ us) s ≡ types_in ts s = grind (arith, lie.1, drop-append-le, take-append-le, length-drop) in
+    λ i. unkinded (same i) ∷ groups-before ts us ss s.end end lie.2 le i
 
 pub span-ends : (ts : List Interned) (s : Span) (ss : List Span) (first end : ℕ) → LieBetween first (s ∷ ss) end → end ≤ length ts
     → first + length (unkinded (types_in ts s)) ≡ s.end
@@ -93,20 +92,16 @@ module _ (ts us : List Interned) (ss : List Span) (well : Well ts ss) (some : 0 
   abbrev span : Span
   span = record { start = length ts; end = length ts + length us }
 
-  orderly-next : LieBetween 0 (ss ++ span ∷ []) (length (ts ++ us))
-  orderly-next = grind (arith, lie-to, length-append, one-more)
-
-  groups-next : groups_of (ts ++ us) (ss ++ span ∷ []) ≡ groups_of ts ss ++ unkinded us ∷ []
-  groups-next = grind (arith, common_steps, map-append, groups-before, drop-append_seam, take-length)
-
   pub well-next : Well (ts ++ us) (ss ++ span ∷ [])
   well-next =
       let sized = groups-size ts ss 0 (length ts) well.orderly (omega arith) in
       let at : length ts + length us ≡ 0 + size (groups_of ts ss) + length (unkinded us) = omega (arith, sized, unkinded-long us) in
+      let groups : groups_of (ts ++ us) (ss ++ span ∷ []) ≡ groups_of ts ss ++ unkinded us ∷ [] =
+      grind (arith, common_steps, map-append, groups-before, drop-append_seam, take-length) in
       let joined : unkinded (ts ++ us) ≡ unkinded ts ++ unkinded us = map-append (map_sub_type (index_of {R = ℕ}) (λ (r : ℕ). r)) ts us in
       record {
-        orderly = orderly-next;
-        earlier = grind (arith, groups-next, earlier-more);
+        orderly = grind (arith, lie-to, length-append, one-more);
+        earlier = grind (arith, groups, earlier-more);
         below = subst (λ n. AllBelow n (unkinded (ts ++ us))) (sym (length-append ts us))
             (subst (λ g. AllBelow (length ts + length us) g) (sym joined)
             (subst (λ rs. All (λ r. r < length ts + length us) rs) (sym (flat_map-append (sub_type_edges (λ r. r)) (unkinded ts) (unkinded us)))

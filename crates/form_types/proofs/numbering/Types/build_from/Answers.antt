@@ -35,25 +35,15 @@ loop-group-init c = record {
 
 pub add_group-requires-clause-room : goal.add_group-requires-clause-room
 add_group-requires-clause-room c =
-    omega (
-      arith,
-      room-next c.loop-group.invariant (ap (map group_of) c.in-Some.ensures.steps.0),
-      c.requires.few.types,
-      c.loop-group.invariant.built.counted,
-      length-map c.in-Some.group.types.items sub_type_of,
-      length-map c.loop-group.numbering.declared.items (λ (id : CoreTypeId). id.0),
-    )
+    let room = room-next c.loop-group.invariant (ap (map group_of) c.in-Some.ensures.steps.0) in
+    let declared = length-map c.loop-group.numbering.declared.items (λ (id : CoreTypeId). id.0) in
+    omega (arith, c.loop-group.invariant.built.counted, length-map c.in-Some.group.types.items sub_type_of)
 
 pub add_group-requires-clause-few : goal.add_group-requires-clause-few
 add_group-requires-clause-few c =
-    omega (
-      arith,
-      room-next c.loop-group.invariant (ap (map group_of) c.in-Some.ensures.steps.0),
-      c.requires.few.types,
-      c.loop-group.invariant.built.listed.next_is,
-      c.loop-group.invariant.built.numbered.few,
-      length-map c.in-Some.group.types.items sub_type_of,
-    )
+    let room = room-next c.loop-group.invariant (ap (map group_of) c.in-Some.ensures.steps.0) in
+    let built = c.loop-group.invariant.built in
+    omega (arith, built.listed.next_is, built.numbered.few, length-map c.in-Some.group.types.items sub_type_of)
 
 pub add_group-requires-clause-ids : goal.add_group-requires-clause-ids
 add_group-requires-clause-ids c =

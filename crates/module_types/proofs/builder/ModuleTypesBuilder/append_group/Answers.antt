@@ -26,15 +26,9 @@ note-requires c =
     let ts = map interned_of c.args.members.items in
     let old : BuilderState = the_view c.self.inside in
     let sound : c.self.inside.poisoned ≡ false = ap (λ (k : BuilderState). k.is_poisoned) c.self.view_is ∙ c.requires.sound in
-    omega (
-      arith,
-      c.requires.room,
-      ap (λ (k : BuilderState). length (with_group (builder_view k).built ts).types) c.self.view_is,
-      group-long (builder_view old).built ts,
-      few-groups (builder_view old).built (c.self.invariant sound).orderly,
-      length-map c.self.inside.interner.list.groups span_of,
-      ap number_of c.next_rec_group-next.ensures,
-    )
+    let room = ap (λ (k : BuilderState). length (with_group (builder_view k).built ts).types) c.self.view_is in
+    let few = few-groups (builder_view old).built (c.self.invariant sound).orderly in
+    omega (arith, group-long (builder_view old).built ts, length-map c.self.inside.interner.list.groups span_of, ap number_of c.next_rec_group-next.ensures)
 
 pub returns-clause-appended : goal.returns-clause-appended
 returns-clause-appended c =

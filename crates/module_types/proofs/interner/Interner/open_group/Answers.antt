@@ -15,27 +15,18 @@ use Rattle.module_types.proofs.interner.Interner.open_group.Goals as goal
 
 pub push_all-requires : goal.push_all-requires
 push_all-requires c =
-    omega (
-      arith,
-      c.requires.room,
-      group-long (built c.args.self.now) (map interned_of c.args.members.items),
-      length-map c.args.members.items interned_of,
-      length-map c.args.self.now.list.types interned_of,
-    )
+    let i = c.args.self.now in
+    let ts = c.args.members.items in
+    omega (arith, group-long (built i) (map interned_of ts), length-map ts interned_of, length-map i.list.types interned_of)
 
 pub push_rec_group-requires : goal.push_rec_group-requires
 push_rec_group-requires c =
-    omega (
-      arith,
-      c.requires.room,
-      c.requires.filled,
-      few-groups (built c.args.self.now) c.requires.orderly,
-      group-long (built c.args.self.now) (map interned_of c.args.members.items),
-      length-map c.args.members.items interned_of,
-      length-map c.args.self.now.list.types interned_of,
-      length-map c.args.self.now.list.groups span_of,
-      ap (λ l. length l.groups) c.in_ok-push_all.ensures,
-    )
+    let i = c.args.self.now in
+    let ts = c.args.members.items in
+    let few = few-groups (built i) c.requires.orderly in
+    let long = group-long (built i) (map interned_of ts) in
+    let same = ap (λ l. length l.groups) c.in_ok-push_all.ensures in
+    omega (arith, length-map ts interned_of, length-map i.list.types interned_of, length-map i.list.groups span_of)
 
 pub returns-clause-opened : goal.returns-clause-opened
 returns-clause-opened c =

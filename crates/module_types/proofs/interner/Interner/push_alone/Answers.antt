@@ -15,14 +15,9 @@ use Rattle.module_types.proofs.interner.Interner.push_alone.Goals as goal
 pub push_rec_group-requires : goal.push_rec_group-requires
 push_rec_group-requires c =
     let l = c.args.self.now.list in
-    omega (
-      arith,
-      c.requires.room,
-      few-groups (built c.args.self.now) c.requires.orderly,
-      length-map l.types interned_of,
-      length-map l.groups span_of,
-      ap (λ (m : TypeList). length m.groups) c.in_ok-start.ensures.ok,
-    )
+    let few = few-groups (built c.args.self.now) c.requires.orderly in
+    let same = ap (λ (m : TypeList). length m.groups) c.in_ok-start.ensures.ok in
+    omega (arith, length-map l.types interned_of, length-map l.groups span_of)
 
 pub returns-clause-built : goal.returns-clause-built
 returns-clause-built c =

@@ -17,9 +17,9 @@ use Rattle.module_types.proofs.Chaining.{at-map, in-range, found-there, steps-ba
 use Rattle.module_types.proofs.met.MetTypes.find.Goals as goal
 
 -- one of a chain, which was read
-module _ (types : List WasmSubType) (m : MetTypes) (linked : IsLinked types m) (f : WasmFuncType) (left : ℕ)
+module _ {types : List WasmSubType} {m : MetTypes} (linked : IsLinked types m) (f : WasmFuncType) (left : ℕ)
     (leads : Leads (digest_of m.hasher) (mets types m.types.items) f left (length (mets types m.types.items))) (some : 0 < left)
-    (e : MetType) (at : e ≡ get_or m.types.items (left - 1) e) where
+    {e : MetType} (at : e ≡ get_or m.types.items (left - 1) e) where
   abbrev rs : List Met
   rs = mets types m.types.items
 
@@ -33,7 +33,7 @@ module _ (types : List WasmSubType) (m : MetTypes) (linked : IsLinked types m) (
   pub is-function : (t : WasmSubType) → slice_get types (number_of e.ty) ≡ Some t → IsSome (func_in t.composite_type.inner)
   is-function t stands = coe 0 1 (i. IsSome (ap (option_and_then (λ (u : WasmSubType). func_in u.composite_type.inner)) stands i)) stands-there
 
-  module _ (t : WasmSubType) (g : WasmFuncType) (stands : slice_get types (number_of e.ty) ≡ Some t) (is : func_in t.composite_type.inner ≡ Some g) where
+  module _ {t : WasmSubType} {g : WasmFuncType} (stands : slice_get types (number_of e.ty) ≡ Some t) (is : func_in t.composite_type.inner ≡ Some g) where
     key : (met_of types e).key ≡ g
     key = key-read types e t g stands is
 
@@ -50,23 +50,22 @@ module _ (types : List WasmSubType) (m : MetTypes) (linked : IsLinked types m) (
 pub index-requires : goal.index-requires
 index-requires c =
     part-below c.args.list.now.types c.index-met.result.now.ty
-    (stands-there c.args.list.now.types c.args.self.now c.requires.linked (trampoline_of c.args.func.now) c.loop-left.left c.loop-left.invariant c.loop-left-test.true
-    c.index-met.result.now c.index-met.ensures)
+    (stands-there c.requires.linked (trampoline_of c.args.func.now) c.loop-left.left c.loop-left.invariant c.loop-left-test.true c.index-met.ensures)
 
 pub unwrap_func-requires : goal.unwrap_func-requires
 unwrap_func-requires c = grind (arith, common_steps, is-function)
 
 pub returns-then-is_mapped : goal.returns-then-is_mapped
 returns-then-is_mapped c =
-    found-is c.args.list.now.types c.args.self.now c.requires.linked (trampoline_of c.args.func.now) c.loop-left.left c.loop-left.invariant c.loop-left-test.true
-    c.index-met.result.now c.index-met.ensures c.index.result.now c.unwrap_func.result.now c.index.ensures c.unwrap_func.ensures (sym c.is_mapped.ensures ∙ c.if-is_mapped.true)
+    found-is c.requires.linked (trampoline_of c.args.func.now) c.loop-left.left c.loop-left.invariant c.loop-left-test.true c.index-met.ensures c.index.ensures
+    c.unwrap_func.ensures (sym c.is_mapped.ensures ∙ c.if-is_mapped.true)
 
 pub loop-left-smaller : goal.loop-left-smaller
 loop-left-smaller c =
-    (back c.args.list.now.types c.args.self.now c.requires.linked (trampoline_of c.args.func.now) c.loop-left.left c.loop-left.invariant c.loop-left-test.true
-    c.index-met.result.now c.index-met.ensures c.index.result.now c.unwrap_func.result.now c.index.ensures c.unwrap_func.ensures (sym c.is_mapped.ensures ∙ c.if-is_mapped.false)).1
+    (back c.requires.linked (trampoline_of c.args.func.now) c.loop-left.left c.loop-left.invariant c.loop-left-test.true c.index-met.ensures c.index.ensures
+    c.unwrap_func.ensures (sym c.is_mapped.ensures ∙ c.if-is_mapped.false)).1
 
 pub loop-left-preserved : goal.loop-left-preserved
 loop-left-preserved c =
-    (back c.args.list.now.types c.args.self.now c.requires.linked (trampoline_of c.args.func.now) c.loop-left.left c.loop-left.invariant c.loop-left-test.true
-    c.index-met.result.now c.index-met.ensures c.index.result.now c.unwrap_func.result.now c.index.ensures c.unwrap_func.ensures (sym c.is_mapped.ensures ∙ c.if-is_mapped.false)).0
+    (back c.requires.linked (trampoline_of c.args.func.now) c.loop-left.left c.loop-left.invariant c.loop-left-test.true c.index-met.ensures c.index.ensures
+    c.unwrap_func.ensures (sym c.is_mapped.ensures ∙ c.if-is_mapped.false)).0

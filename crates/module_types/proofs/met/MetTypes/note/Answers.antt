@@ -6,11 +6,8 @@ use Rattle.std.specs.Option.{unwrap_or}
 use Rattle.module_types.proofs.Chaining.{is-noted}
 use Rattle.module_types.proofs.met.MetTypes.note.Goals as goal
 
-count-or : (b : Bool) (n m : ℕ) (o : Option ℕ) → n ≡ m → unwrap_or (cond b (Some n) o) 0 ≡ (if b then m else unwrap_or o 0)
-count-or b n m o e = grind (arith, cases_Bool)
-
 counted : (b : Bool) (n m : ℕ) (o later : Option ℕ) → later ≡ cond b (Some n) o → n ≡ m → unwrap_or later 0 ≡ (if b then m else unwrap_or o 0)
-counted b n m o later e same = ap (λ x. unwrap_or x 0) e ∙ count-or b n m o same
+counted b n m o later e same = grind (arith, cases_Bool)
 
 pub returns : goal.returns
 returns c =
