@@ -88,7 +88,7 @@ impl ConstExpr {
         ensures converted { IfOk result (λ r. r.0 ≡ const_ops_of (look_up env.now) expr.now.ops.items) }
         ensures escaping { IfOk result (λ r. r.1.items ≡ functions_of expr.now.ops.items) }
     {
-        let mut ops = SmallVec::new(alloc);
+        let mut ops = SmallVec::with_capacity(alloc, expr.ops.len())?;
         let mut escaped = SmallVec::new(alloc);
         for op in &expr.ops {
             push_function(&mut escaped, op)?;
