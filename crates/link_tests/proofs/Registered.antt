@@ -1,5 +1,5 @@
 -- What registrations and releases leave of the counts of held modules.
-use Rattle.std.proofs.Common.{◌≡◌, ◌<◌, ℕ, inl, Bool, true, false, Option, Some, None, length, nat_eq, refl, sym, ap, subst, arith}
+use Rattle.std.proofs.Common.{◌≡◌, ◌∙◌, ◌<◌, ℕ, inl, Bool, true, false, Option, Some, None, length, nat_eq, refl, sym, ap, subst, arith}
 use Rattle.std.specs.Prelude.{IsSome, IfSome, if◌then◌else◌}
 use Rattle.std.specs.Option.{option_map}
 use Rattle.std.proofs.lemmas.Bool.{eqb-true, eq-eqb}
@@ -12,8 +12,12 @@ use Rattle.type_registry.specs.Listed.{Listed}
 use Rattle.type_registry.specs.Registry.{Registry, RegistryState, Module, registry_of, count_of}
 use Rattle.type_registry.specs.Standing.{Stands, MayRegister}
 use Rattle.plan_link.specs.Linkable.{HasCount}
-use Rattle.plan_link.proofs.Held.{stands-count}
 use Rattle.link_tests.specs.Growing.{MayGrow}
+
+-- a count that is known is the one that a key has
+pub has-count : (registry : RegistryState) (key : ModuleKey) (count : ℕ) → count_of (registry_of registry) (key_number key) ≡ Some count
+    → HasCount registry key count
+has-count registry key count is = subst (λ o. IfSome o (λ held. held ≡ count)) (sym is) refl
 
 -- no module is held
 pub has-none : (registry : RegistryState) (key : ModuleKey) (count : ℕ) → count_of (registry_of registry) (key_number key) ≡ None
@@ -32,7 +36,7 @@ may-register r l listed few may fits = record {
 
 -- the module that is registered
 pub own-count : (r : Registry) (l : TypeList) → Stands (registered r l) r.registrations l → count_of (registered r l) r.registrations ≡ Some (length l.types)
-own-count r l st = stands-count (registered r l) r.registrations l st
+own-count r l st = ap (option_map (λ (m : Module). length m.indices)) st.held ∙ ap Some st.count
 
 is-held : (o : Option Module) (count : ℕ) → option_map (λ (m : Module). length m.indices) o ≡ Some count → IsSome o
 is-held None count is = absurd (none-some count is)

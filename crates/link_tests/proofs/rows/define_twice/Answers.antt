@@ -1,8 +1,7 @@
 use Rattle.std.proofs.Common.{◌≡◌, ◌∙◌, ap, None, length}
 use Rattle.type_registry.specs.Keys.{key_number}
 use Rattle.type_registry.specs.Registry.{Registry, registry_of, count_of}
-use Rattle.plan_link.proofs.Held.{has-count}
-use Rattle.link_tests.proofs.Registered.{has-none, released-count}
+use Rattle.link_tests.proofs.Registered.{has-count, has-none, released-count}
 use Rattle.link_tests.proofs.rows.define_twice.Goals as goal
 
 -- while the module is held

@@ -1,6 +1,6 @@
 use Rattle.std.proofs.Common.{length}
 use Rattle.type_registry.specs.Keys.{key_number}
-use Rattle.plan_link.proofs.Held.{has-count}
+use Rattle.link_tests.proofs.Registered.{has-count}
 use Rattle.link_tests.proofs.two_modules.link.Goals as goal
 
 pub define_exports-requires : goal.define_exports-requires
