@@ -6,7 +6,7 @@ use Rattle.std.proofs.lemmas.Bool.Decides.{nat_tests}
 use Rattle.std.proofs.lemmas.Iterator.Adapters.{position_from-zero}
 use Rattle.std.proofs.lemmas.List.{append-nil}
 use Rattle.std.proofs.lemmas.List.Sums.{fold-append, fold_push}
-use Rattle.type_spec.specs.Firsts.{with_first, firsts, firsts_after}
+use Rattle.entity_map.specs.Firsts.{with_first, firsts, firsts_after}
 use Rattle.type_spec.specs.Interned.{Interned, Built, plain, exception_for, composite_at, with_exception, with_exceptions}
 use Rattle.module_types.specs.Builder.{Builder, exception_index, excepts_by, excepts}
 

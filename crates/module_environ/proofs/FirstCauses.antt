@@ -7,7 +7,7 @@ use Rattle.std.proofs.lemmas.List.Elements.{All-push}
 use Rattle.std.proofs.lemmas.List.Folds.{list_any_at}
 use Rattle.std.proofs.lemmas.List.Quantifiers.{all_pairs_push}
 use Rattle.std.proofs.lemmas.List.Sums.{position_or_len_is, passes_at_first}
-use Rattle.type_spec.specs.Firsts.{firsts_after, firsts}
+use Rattle.entity_map.specs.Firsts.{firsts_after, firsts}
 use Rattle.module_environ.specs.Numbers.{StandOnce}
 use Rattle.module_environ.proofs.Numbering.{place, place-le, place-new, place-old, place-other, met-place, unmet-place}
 

@@ -5,7 +5,7 @@ use Rattle.std.specs.List.{range_with_len}
 use Rattle.std.proofs.lemmas.List.{length-set, map_more, map-id}
 use Rattle.std.proofs.lemmas.List.Sums.{fold-append}
 use Rattle.std.proofs.lemmas.List.FromFn.{map-range_with_len_more}
-use Rattle.type_spec.specs.Firsts.{with_first, firsts_after}
+use Rattle.entity_map.specs.Firsts.{with_first, firsts_after}
 use Rattle.module_environ.specs.EscapeLog.{EscapeLog, after_escapes}
 use Rattle.module_environ.specs.Numbers.{AreNumbers}
 use Rattle.module_environ.proofs.Numbering.{after_escapes-new, after_escapes-old}

@@ -11,7 +11,7 @@ use Rattle.std.proofs.lemmas.List.{get_or_default, get_or_append_left, get_or_pu
 use Rattle.std.proofs.lemmas.Map.Steps.{length-le_from_distinct_below}
 use Rattle.std.proofs.lemmas.Map.Made.{IsDistinct-from_AllPairs}
 use Rattle.module_environ.specs.Escapes.{number_among}
-use Rattle.type_spec.specs.Firsts.{firsts_after}
+use Rattle.entity_map.specs.Firsts.{firsts_after}
 use Rattle.module_environ.specs.Numbers.{StandOnce, AreNumbers}
 
 -- the first place of a function, which is the list's length where it was not met

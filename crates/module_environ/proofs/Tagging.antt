@@ -17,7 +17,7 @@ use Rattle.module_types.specs.Builder.{Builder, is_function, noted, exception_in
 use Rattle.module_types.proofs.GroupMembers.{composite-before}
 use Rattle.module_environ.specs.Types.{interned_at, type_index, declared_type, exception_at, interned_list}
 use Rattle.module_environ.specs.Environment.{interned_in, number_or_zero}
-use Rattle.type_spec.specs.Firsts.{firsts}
+use Rattle.entity_map.specs.Firsts.{firsts}
 use Rattle.module_environ.specs.OnTheWay.{after_tags}
 use Rattle.module_environ.specs.Tagged.{CanTag, GainsExceptions, function_at, tag_at}
 use Rattle.module_environ.proofs.DeclaredKinds.{declared-kind, function-is, function-below, function-declared}

@@ -1,6 +1,6 @@
 -- The functions to which references were made so far.
 use Rattle.std.specs.Prelude.{ℕ, List}
-use Rattle.type_spec.specs.Firsts.{firsts_after}
+use Rattle.entity_map.specs.Firsts.{firsts_after}
 
 -- how many functions there are, and those that were met, in the order of the first cause
 pub record EscapeLog : Type 0 where

@@ -8,7 +8,7 @@ use Rattle.wasm_spec.specs.declared.entities.ExternalKind.{ExternalKind}
 use Rattle.wasm_spec.specs.declared.entities.ExternalKind.TheVariants as kind
 use Rattle.wasm_spec.specs.Module.{Expression, ElementItems, Functions, Expressions, Export}
 use Rattle.rule_spec.specs.Lists.{Lists}
-use Rattle.type_spec.specs.Firsts.{firsts}
+use Rattle.entity_map.specs.Firsts.{firsts}
 
 -- the function to which an operator makes a reference
 abbrev pub referred_by : Operator → Option ℕ

@@ -13,7 +13,7 @@ use Rattle.form_types.specs.Types.{TypesData}
 use Rattle.form_types.specs.Numbered.{AreNumbered}
 use Rattle.form_types.specs.Placed.{place_of, placed_groups}
 use Rattle.module_types.specs.Builder.{Builder, new_builder}
-use Rattle.type_spec.specs.Firsts.{firsts}
+use Rattle.entity_map.specs.Firsts.{firsts}
 
 -- the interned index of each declared type
 abbrev pub declared : plain.Module → List ℕ

@@ -5,7 +5,7 @@ ghost use Rattle.wasm_spec.specs.TypeData as types;
 ghost use Rattle.rule_spec.specs.Lists.{lists_of_module};
 ghost use Rattle.wasm_index.specs.Index.{index_of, number_of};
 ghost use Rattle.wasm_types.specs.declared.entity.EntityIndex.TheVariants as entity;
-ghost use Rattle.type_spec.specs.Firsts.{firsts};
+ghost use Rattle.entity_map.specs.Firsts.{firsts};
 ghost use Rattle.module_environ.specs.Escapes.{escaping};
 ghost use Rattle.module_environ.specs.Entities.{exported_entities, imported_entities, function_types};
 ghost use Rattle.module_environ.specs.Metadata.{functions_asked};

@@ -7,7 +7,7 @@ use Rattle.std.proofs.lemmas.List.Elements.{All-nil, All-cons, All-head, All-tai
 use Rattle.wasm_spec.specs.TypeData.{Group}
 use Rattle.type_spec.specs.Equality.{Home, SameType, home, SameGroup}
 use Rattle.type_spec.specs.Interned.{Interned, Built, empty, with_group, kind_at, taken, Span, next_span}
-use Rattle.type_spec.specs.Firsts.{taken_groups}
+use Rattle.type_spec.specs.TakenGroups.{taken_groups}
 use Rattle.type_spec.specs.Taken.{NameEarlier, TakeEqual, SameLists}
 use Rattle.type_spec.proofs.ByNames.{name_by, same-kind}
 use Rattle.module_types.specs.Runs.{with_groups, AllFilled}

@@ -6,7 +6,8 @@ use Rattle.wasm_spec.specs.TypeData.{Composite, Func, Group}
 use Rattle.type_data.specs.Names.{Named}
 use Rattle.type_spec.specs.Interned.{Interned, Called, Built, Span, mapped, plain, alone, assign_at, assign_trampoline, assign_trampolines, composite_at, opened, with_group, next_span, exception_for, startup_type, with_exception, with_startup, Taking, empty, with_exceptions, numbered, interned_group, take_group, none_taken, taken, interned}
 use Rattle.type_spec.specs.Equality.{Home}
-use Rattle.type_spec.specs.Firsts.{firsts, firsts_after, taken_groups}
+use Rattle.entity_map.specs.Firsts.{firsts, firsts_after}
+use Rattle.type_spec.specs.TakenGroups.{taken_groups}
 use Rattle.module_types.specs.Orderly.{IsOrderly, LieBetween}
 use Rattle.module_types.specs.Conversion.{no_span}
 use Rattle.module_types.specs.ListGroups.{types_in}

@@ -11,7 +11,7 @@ use Rattle.type_data.specs.TypeShapes.{group_shape}
 use Rattle.type_data.specs.Names.{NameKind, plainly, Named, index_of}
 use Rattle.type_spec.specs.Equality.{Home}
 use Rattle.type_spec.specs.Interned.{Interned, Built, empty, with_group, plain, exception_for, composite_at, startup_type, kind_of_type, kind_at, taken, interned, Called, passed, mapped, opened, field_for, with_exception, with_startup}
-use Rattle.type_spec.specs.Firsts.{taken_groups}
+use Rattle.type_spec.specs.TakenGroups.{taken_groups}
 use Rattle.type_spec.specs.Taken.{NameEarlier}
 use Rattle.type_spec.proofs.Homes.{size}
 use Rattle.type_spec.proofs.ByNames.{name_by, by_names, names-same, names-plain, zip-known-itself, home-kind, same-kind}

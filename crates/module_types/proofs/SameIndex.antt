@@ -10,7 +10,7 @@ use Rattle.type_data.specs.TypeShapes.{group_shape}
 use Rattle.type_data.specs.Names.{plainly}
 use Rattle.type_spec.specs.Equality.{Home, home, target, target_by, SameTarget, SameGroup, SameType}
 use Rattle.type_spec.specs.Interned.{Interned, Span, Built, empty, with_group, next_span, opened, kind_at, taken, interned}
-use Rattle.type_spec.specs.Firsts.{taken_groups}
+use Rattle.type_spec.specs.TakenGroups.{taken_groups}
 use Rattle.type_spec.specs.Taken.{NameEarlier}
 use Rattle.type_spec.proofs.Equivalence.{type-chained, groups-type}
 use Rattle.type_spec.proofs.Homes.{size, home-again}

@@ -9,7 +9,8 @@ use Rattle.std.proofs.lemmas.List.FromFn.{length-map-range_with_len, get_or-map-
 use Rattle.std.proofs.lemmas.List.Sums.{fold_push}
 use Rattle.wasm_spec.specs.TypeData.{Group, group_edges}
 use Rattle.type_spec.specs.Equality.{Home, home, home_from, SameType}
-use Rattle.type_spec.specs.Firsts.{with_first, firsts_by, equal_groups, taken_groups}
+use Rattle.entity_map.specs.Firsts.{with_first, firsts_by}
+use Rattle.type_spec.specs.TakenGroups.{equal_groups, taken_groups}
 use Rattle.type_spec.specs.Interned.{Interned, Built, Taking, with_group, kind_at, interned_group, take_group, none_taken, taken, empty}
 use Rattle.type_spec.specs.Taken.{NameEarlier}
 use Rattle.type_spec.proofs.Decided.{down-decided}

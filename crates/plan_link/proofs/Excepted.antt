@@ -6,7 +6,7 @@ use Rattle.std.proofs.lemmas.List.Quantifiers.{position-Some}
 use Rattle.wasm_spec.specs.Module as plain
 use Rattle.type_spec.specs.Interned.{Built, with_exceptions, taken}
 use Rattle.form_types.specs.Placed.{placed_groups}
-use Rattle.type_spec.specs.Firsts.{firsts}
+use Rattle.entity_map.specs.Firsts.{firsts}
 use Rattle.module_environ.specs.Types.{interned_at, interned_list, exception_at, exception_functions}
 use Rattle.module_environ.proofs.Excepting.{excepted, longer}
 

@@ -9,7 +9,8 @@ use Rattle.type_data.specs.Shapes.{erased}
 use Rattle.type_data.specs.Names.{NameKind, FuncName, ArrayName, StructName, ContName, ExnName, Named}
 use Rattle.type_spec.specs.Same.{same_function}
 use Rattle.type_spec.specs.Equality.{Home, home}
-use Rattle.type_spec.specs.Firsts.{firsts, places, equal_groups, taken_groups}
+use Rattle.entity_map.specs.Firsts.{firsts}
+use Rattle.type_spec.specs.TakenGroups.{places, equal_groups, taken_groups}
 
 abbrev pub Interned : Type 0
 Interned = SubType (Named ℕ) ℕ

@@ -3,7 +3,7 @@ use Rattle.std.specs.Prelude.{◌≡◌, ◌<◌, ℕ, ◌+◌, All, List, [], �
 use Rattle.std.specs.List.{AllZip}
 use Rattle.wasm_spec.specs.TypeData.{Group, group_edges}
 use Rattle.type_spec.specs.Equality.{SameGroup, SameType}
-use Rattle.type_spec.specs.Firsts.{taken_groups}
+use Rattle.type_spec.specs.TakenGroups.{taken_groups}
 use Rattle.type_spec.specs.Interned.{Built}
 
 -- each reference names a type of its own group or of an earlier one, where the first group starts at a place

@@ -5,7 +5,7 @@ ghost use Rattle.wasm_spec.specs.TypeData.{Abstract, Concrete, Func, Exn, Val};
 ghost use Rattle.type_data.specs.Names.{FuncName};
 ghost use Rattle.type_spec.specs.Equality.{same_type};
 ghost use Rattle.type_spec.specs.Interned.{interned, taken, plain, startup_type};
-ghost use Rattle.type_spec.specs.Firsts.{taken_groups};
+ghost use Rattle.type_spec.specs.TakenGroups.{taken_groups};
 ghost use Rattle.type_spec.specs.Worked.{function, twice, rings, longer, repeated, turned, itself, hollow, as_called, not_null, or_null};
 
 use wasm_spec::AbstractHeapType;
