@@ -5,7 +5,6 @@ use Rattle.std.proofs.lemmas.List.Concat.{flat_map-append}
 use Rattle.std.specs.List.{flat_map}
 use Rattle.std.proofs.lemmas.List.Elements.{All-nil, All-cons, All-head, All-tail, All-append, All-map, All-same, All-rest, All-get_or, All-push}
 use Rattle.wasm_spec.specs.Module as plain
-use Rattle.form_data.specs.declared.form.Payload.{Payload}
 use Rattle.form_reader.specs.declared.customs.InputCustoms.{InputCustoms}
 use Rattle.form_reader.specs.Input.{customs_in}
 use Rattle.form_reader.proofs.CustomRuns.{none_listed}

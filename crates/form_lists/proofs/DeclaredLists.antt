@@ -1,5 +1,5 @@
 -- Declared types, gathered one member and one group at a time.
-use Rattle.std.proofs.Common.{◌≡◌, ℕ, ◌+◌, ◌<◌, List, [], ◌∷◌, ◌++◌, length, map, take, get_or, refl, sym, ap, subst, ◌∙◌, append_assoc, add-zero, suc, arith}
+use Rattle.std.proofs.Common.{◌≡◌, ℕ, ◌+◌, ◌<◌, List, [], ◌∷◌, ◌++◌, length, map, take, get_or, refl, sym, ap, ◌∙◌, append_assoc, add-zero, suc, arith}
 use Rattle.std.proofs.lemmas.List.{append-nil, length-append, length-map, length-take-le, map_more, map_push}
 use Rattle.form_data.specs.declared.types.SubType.{SubType as SubTypeRead}
 use Rattle.form_data.specs.Views.{sub_type_of}

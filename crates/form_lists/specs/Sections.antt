@@ -1,5 +1,5 @@
 -- The entries of the sections of a module, in order.
-use Rattle.std.specs.Prelude.{◌≡◌, List, [], ◌++◌, map}
+use Rattle.std.specs.Prelude.{◌≡◌, ℕ, List, [], ◌++◌, map}
 use Rattle.std.specs.List.{flat_map}
 use Rattle.wasm_spec.specs.declared.types.UnpackedIndex.{UnpackedIndex}
 use Rattle.wasm_spec.specs.TypeData.{Group}
@@ -16,10 +16,13 @@ entries_left seen of_section walk = map seen walk.entries.now ++ flat_map of_sec
 
 -- what no section lists that may stay in the input is listed by none that does
 pub none_in_input : {X : Type 0} (f : plain.Payload → List X)
-    → ((types : List (Group UnpackedIndex UnpackedIndex)) → f (plain.Types types) ≡ []) → ((globals : List plain.GlobalDef) → f (plain.Globals globals) ≡ [])
+    → ((groups : List (Group UnpackedIndex UnpackedIndex)) → f (plain.Types groups) ≡ []) → ((types : List ℕ) → f (plain.FunctionTypes types) ≡ [])
+    → ((types : List ℕ) → f (plain.Tags types) ≡ []) → ((globals : List plain.GlobalDef) → f (plain.Globals globals) ≡ [])
     → ((elements : List plain.Element) → f (plain.Elements elements) ≡ []) → ((segments : List plain.Segment) → f (plain.Segments segments) ≡ [])
     → (entries : InputEntries) → f (input_payload_of entries) ≡ []
-none_in_input f types globals elements segments (entries.Types list) = types _
-none_in_input f types globals elements segments (entries.Globals list) = globals _
-none_in_input f types globals elements segments (entries.Elements list) = elements _
-none_in_input f types globals elements segments (entries.Segments list) = segments _
+none_in_input f groups functions tags globals elements segments (entries.Types list) = groups _
+none_in_input f groups functions tags globals elements segments (entries.Functions list) = functions _
+none_in_input f groups functions tags globals elements segments (entries.Tags list) = tags _
+none_in_input f groups functions tags globals elements segments (entries.Globals list) = globals _
+none_in_input f groups functions tags globals elements segments (entries.Elements list) = elements _
+none_in_input f groups functions tags globals elements segments (entries.Segments list) = segments _

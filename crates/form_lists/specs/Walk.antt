@@ -1,5 +1,5 @@
 -- The entries of a module that may stay in the input, in order.
-use Rattle.std.specs.Prelude.{ℕ, List, ◌++◌, map, Option, Some, None}
+use Rattle.std.specs.Prelude.{List, ◌++◌, map, Option, Some, None}
 use Rattle.std.specs.List.{flat_map}
 use denote.Ref.{Bor}
 use Rattle.wasm_spec.specs.Module as plain

@@ -14,7 +14,7 @@ use crate::lists::{Declared, Lists, Spaces};
 use crate::sections::entries_of;
 use crate::source::{Section, Source, sections_of};
 use form_data::{Form, GlobalDef, Import, Payload, RecGroup, TableDef};
-use form_reader::{InputEntries, InputEntry, InputVector};
+use form_reader::{DefinedFunction, DefinedTag, InputEntries, InputEntry, InputVector};
 use std::alloc::{AllocError, Global};
 use wasm_spec::{GlobalType, TableType, TypeRef};
 
@@ -139,6 +139,12 @@ fn add_section(
 {
     match section {
         Section::Read(payload) => add_defined(spaces, payload),
+        Section::Input(InputEntries::Functions(types)) => {
+            types.append_to::<DefinedFunction>(alloc, &mut spaces.functions)
+        }
+        Section::Input(InputEntries::Tags(types)) => {
+            types.append_to::<DefinedTag>(alloc, &mut spaces.tags)
+        }
         Section::Input(InputEntries::Globals(globals)) => {
             add_input_globals(alloc, &mut spaces.global_types, globals)
         }
@@ -187,7 +193,7 @@ fn add_input_globals(
     ensures { OnOk result (types.new.items ≡ types.old.items ++ map (λ g. g.type) (vector_in global_entry.read globals.entry)) }
 {
     let mut global = GlobalDef::none(alloc);
-    'globals: while globals.next_into(alloc, &mut global)? {
+    'globals: while globals.next_into::<GlobalDef>(alloc, &mut global)? {
         types.push(global.ty)?;
     }
     Ok(())

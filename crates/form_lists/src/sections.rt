@@ -97,7 +97,7 @@ impl<'d> Entry<'d> for Import<'d> {
         }
     }
 
-    ghost no_input = { none_in_input plain.imports_of_section (λ types. refl) (λ globals. refl) (λ elements. refl) (λ segments. refl) };
+    ghost no_input = { none_in_input plain.imports_of_section (λ groups. refl) (λ types. refl) (λ types. refl) (λ globals. refl) (λ elements. refl) (λ segments. refl) };
 
     ghost no_customs = { λ name bytes. refl };
 }
@@ -117,7 +117,7 @@ impl<'d> Entry<'d> for TableDef {
         }
     }
 
-    ghost no_input = { none_in_input plain.tables_of_section (λ types. refl) (λ globals. refl) (λ elements. refl) (λ segments. refl) };
+    ghost no_input = { none_in_input plain.tables_of_section (λ groups. refl) (λ types. refl) (λ types. refl) (λ globals. refl) (λ elements. refl) (λ segments. refl) };
 
     ghost no_customs = { λ name bytes. refl };
 }
@@ -137,7 +137,7 @@ impl<'d> Entry<'d> for Export<'d> {
         }
     }
 
-    ghost no_input = { none_in_input plain.exports_of_section (λ types. refl) (λ globals. refl) (λ elements. refl) (λ segments. refl) };
+    ghost no_input = { none_in_input plain.exports_of_section (λ groups. refl) (λ types. refl) (λ types. refl) (λ globals. refl) (λ elements. refl) (λ segments. refl) };
 
     ghost no_customs = { λ name bytes. refl };
 }
@@ -157,7 +157,7 @@ impl<'d> Entry<'d> for FunctionBody<'d> {
         }
     }
 
-    ghost no_input = { none_in_input plain.bodies_of_section (λ types. refl) (λ globals. refl) (λ elements. refl) (λ segments. refl) };
+    ghost no_input = { none_in_input plain.bodies_of_section (λ groups. refl) (λ types. refl) (λ types. refl) (λ globals. refl) (λ elements. refl) (λ segments. refl) };
 
     ghost no_customs = { λ name bytes. refl };
 }

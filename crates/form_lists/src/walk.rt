@@ -26,7 +26,10 @@ pub struct Walk<'f, 'd, E> {
 
 /// The entries of one kind, through all sections of a module.
 #[tactic(auto, unfolding(crate::specs::Walk::walk_left), using(form_reader::proofs::Listed::none_there))]
-pub fn walk_of<'f, 'd, E: InputEntry<'d>>(alloc: Global, source: Source<'f, 'd>) -> Walk<'f, 'd, E>
+pub fn walk_of<'f, 'd, E: InputEntry<'d, Value = E>>(
+    alloc: Global,
+    source: Source<'f, 'd>,
+) -> Walk<'f, 'd, E>
     ensures { walk_left E.form E.view E.of_section result ≡ flat_map E.of_section (source_module source.entry) }
 {
     Walk {
@@ -40,7 +43,9 @@ pub fn walk_of<'f, 'd, E: InputEntry<'d>>(alloc: Global, source: Source<'f, 'd>)
 }
 
 /// The entries of a section: those in a list, and those that stay in the input.
-fn entries_here<'f, 'd, E: InputEntry<'d>>(section: Section<'f, 'd>) -> (&'f [E], InputVector<'d>)
+fn entries_here<'f, 'd, E: InputEntry<'d, Value = E>>(
+    section: Section<'f, 'd>,
+) -> (&'f [E], InputVector<'d>)
     ensures { map E.view result.0.now ++ vector_in E.form result.1 ≡ flat_map E.of_section (sections_in section.entry) }
 {
     match section {
@@ -50,7 +55,7 @@ fn entries_here<'f, 'd, E: InputEntry<'d>>(section: Section<'f, 'd>) -> (&'f [E]
     }
 }
 
-impl<'f, 'd, E: InputEntry<'d>> Walk<'f, 'd, E> {
+impl<'f, 'd, E: InputEntry<'d, Value = E>> Walk<'f, 'd, E> {
     /// Goes on to the next entry; after the last there is none.
     #[tactic(auto, unfolding(crate::specs::Walk::walk_left))]
     pub fn advance(&mut self) -> Result<bool, AllocError>
@@ -80,7 +85,7 @@ impl<'f, 'd, E: InputEntry<'d>> Walk<'f, 'd, E> {
             return Ok(true);
         }
         self.standing = None;
-        self.input.next_into(self.alloc, &mut self.read)
+        self.input.next_into::<E>(self.alloc, &mut self.read)
     }
 
     /// The entry at which the walk stands.

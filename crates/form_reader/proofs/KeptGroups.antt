@@ -1,5 +1,5 @@
 -- Groups of types that are kept besides, section after section.
-use Rattle.std.proofs.Common.{◌≡◌, ◌∙◌, List, ◌++◌, map, sym, ap, append_assoc}
+use Rattle.std.proofs.Common.{◌∙◌, List, ◌++◌, map, sym, ap, append_assoc}
 use Rattle.std.proofs.lemmas.Grind.{flat_map-append}
 use Rattle.wasm_spec.specs.Module as plain
 use Rattle.form_data.specs.declared.types.RecGroup.{RecGroup}

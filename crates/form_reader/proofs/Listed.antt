@@ -1,5 +1,5 @@
 -- Entries that stay in the input: what a loop passes over is what is listed, and how the first is taken.
-use Rattle.std.proofs.Common.{◌≡◌, ℕ, zero, suc, ◌+◌, ◌-◌, ◌<◌, ◌≤◌, List, [], ◌∷◌, ◌++◌, Result, Ok, Err, refl, sym, ap, subst, ◌∙◌, append_assoc, arith}
+use Rattle.std.proofs.Common.{◌≡◌, ℕ, zero, suc, ◌+◌, ◌-◌, ◌<◌, ◌≤◌, List, [], ◌∷◌, ◌++◌, length, Result, Ok, Err, refl, sym, ap, subst, ◌∙◌, append_assoc, arith}
 use Rattle.std.proofs.lemmas.List.{append-nil}
 use Rattle.form_reader.specs.Reading.{Reader, Fails, and_then, Fault, Bad, Stops, elements_at}
 use Rattle.form_reader.specs.declared.error.ReadError.{ReadError}
@@ -78,6 +78,18 @@ module _ {A : Type 0} (read : Reader A) where
   pub kept_at_end : (n i : ℕ) (start now : List ℕ) (before kept : List A) → n ≤ i → KeptSoFar read n i start now before kept
       → kept ≡ before ++ listed read n start
   kept_at_end n i start now before kept l s = s.appended ∙ ap (λ (xs : List A). before ++ xs) (front_listed n i start now l s.so_far)
+
+  -- ---- how many they are
+
+  few_after : (n : ℕ) → ((bytes : List ℕ) → length (listed read n bytes) ≤ n) → (r : Result (A × List ℕ) Fault)
+      → length (listed_after r (listed read n)) ≤ suc n
+  few_after n others (Ok x) = let le = others x.1 in omega (arith, le)
+  few_after n others (Err f) = omega arith
+
+  pub listed_few : (n : ℕ) (bytes : List ℕ) → length (listed read n bytes) ≤ n
+  unfolding listed
+  listed_few zero bytes = omega arith
+  listed_few (suc n) bytes = few_after n (listed_few n) (read bytes)
 
   -- ---- the first of them
 

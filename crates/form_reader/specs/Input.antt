@@ -6,7 +6,8 @@ use Rattle.form_data.specs.declared.form.Custom.{Custom}
 use Rattle.form_data.specs.declared.types.RecGroup.{RecGroup}
 use Rattle.form_data.specs.Views.{payload_of, group_of}
 use Rattle.form_reader.specs.Reading.{Fault, Reader}
-use Rattle.form_reader.specs.TypeRows.{group}
+use Rattle.form_reader.specs.ReadingNumbers.{unsigned_at}
+use Rattle.form_reader.specs.TypeRows.{tag_type, group}
 use Rattle.form_reader.specs.SectionRows.{global_entry, element_segment, data_segment, custom_section}
 use Rattle.form_reader.specs.declared.customs.InputCustoms.{InputCustoms}
 use Rattle.form_reader.specs.declared.input_vectors.InputVector.{InputVector}
@@ -34,6 +35,8 @@ vector_in read vector = listed read vector.count vector.bytes.now
 
 abbrev pub input_payload_of : InputEntries → plain.Payload
 input_payload_of (entries.Types groups) = plain.Types (vector_in group.read groups)
+input_payload_of (entries.Functions types) = plain.FunctionTypes (vector_in (unsigned_at 32) types)
+input_payload_of (entries.Tags types) = plain.Tags (vector_in tag_type.read types)
 input_payload_of (entries.Globals globals) = plain.Globals (vector_in global_entry.read globals)
 input_payload_of (entries.Elements elements) = plain.Elements (vector_in element_segment.read elements)
 input_payload_of (entries.Segments segments) = plain.Segments (vector_in data_segment.read segments)

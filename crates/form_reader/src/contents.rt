@@ -10,11 +10,10 @@ ghost use Rattle.form_reader.specs.SectionRows.{section_contents};
 
 use crate::cursor::Cursor;
 use crate::customs::CUSTOM;
-use crate::entity_types::TagType;
 use crate::error::ReadError;
-use crate::input::InputEntries::{self, Elements, Globals, Segments, Types};
+use crate::input::InputEntries::{self, Elements, Functions, Globals, Segments, Tags, Types};
 use crate::input::InputSection::{self, Input, Read};
-use crate::vectors::Index;
+use crate::type_indices::{DefinedFunction, DefinedTag};
 use form_data::{DataSegment, Element, Export, GlobalDef, Import, Payload, RecGroup, TableDef};
 use std::alloc::Global;
 use wasm_spec::MemoryType;
@@ -45,6 +44,8 @@ fn entries_id(entries: &InputEntries<'_>) -> u8
 {
     match entries {
         Types(_) => 1,
+        Functions(_) => 3,
+        Tags(_) => 13,
         Globals(_) => 6,
         Elements(_) => 9,
         Segments(_) => 11,
@@ -111,12 +112,12 @@ impl<'d> Cursor<'d> {
         ensures keeps { IfOk result (λ section. KeepsGroups groups.old.items groups.new.items (input_section_of section ∷ [])) }
     {
         match id {
-            1 => Ok(Input(Types(self.kept_vector(alloc, groups)?))),
+            1 => Ok(Input(Types(self.kept_vector::<RecGroup>(alloc, groups)?))),
             2 => Ok(Read(Payload::Imports(self.section_of::<Import<'d>>(alloc)?))),
-            3 => Ok(Read(Payload::Functions(self.section_of::<Index>(alloc)?))),
+            3 => Ok(Input(Functions(self.input_vector::<DefinedFunction>(alloc)?))),
             4 => Ok(Read(Payload::Tables(self.section_of::<TableDef>(alloc)?))),
             5 => Ok(Read(Payload::Memories(self.section_of::<MemoryType>(alloc)?))),
-            13 => Ok(Read(Payload::Tags(self.section_of::<TagType>(alloc)?))),
+            13 => Ok(Input(Tags(self.input_vector::<DefinedTag>(alloc)?))),
             6 => Ok(Input(Globals(self.input_vector::<GlobalDef>(alloc)?))),
             7 => Ok(Read(Payload::Exports(self.section_of::<Export<'d>>(alloc)?))),
             8 => Ok(Read(Payload::Start(self.number()?))),

@@ -25,6 +25,8 @@ const FUNCREF: RefType = RefType {
 };
 
 impl<'d> InputEntry<'d> for Element {
+    type Value = Element;
+
     ghost Seen = { plain.Element };
 
     ghost form = { element_segment.read };
@@ -35,7 +37,7 @@ impl<'d> InputEntry<'d> for Element {
 
     ghost no_customs = { λ name bytes. refl };
 
-    fn in_payload<'f>(payload: &'f Payload<'d>) -> &'f [Self] {
+    fn in_payload<'f>(payload: &'f Payload<'d>) -> &'f [Element] {
         match payload {
             Payload::Elements(elements) => elements.as_slice(),
             _ => &[],
@@ -58,9 +60,13 @@ impl<'d> InputEntry<'d> for Element {
     }
 
     #[tactic(auto, unfolding(crate::specs::SectionRows::element_segment))]
-    fn read_into(&mut self, alloc: Global, cursor: &mut Cursor<'d>) -> Result<(), ReadError> {
+    fn read_into(
+        element: &mut Element,
+        alloc: Global,
+        cursor: &mut Cursor<'d>,
+    ) -> Result<(), ReadError> {
         let flag = cursor.u32()?;
-        cursor.flagged_element(alloc, flag, self)
+        cursor.flagged_element(alloc, flag, element)
     }
 }
 

@@ -1,31 +1,12 @@
 //! Table, global and tag types (core specification, 5.3, table, global and tag types).
 
-ghost use Rattle.std.specs.Prelude.{◌≡◌, ℕ};
+ghost use Rattle.std.specs.Prelude.{◌≡◌};
 ghost use Rattle.form_reader.specs.Reading.{Reads};
 ghost use Rattle.form_reader.specs.TypeRows.{table_type, global_type, tag_type};
 
 use crate::cursor::Cursor;
 use crate::error::ReadError;
-use crate::vectors::Entry;
-use std::alloc::Global;
 use wasm_spec::{GlobalType, TableType};
-
-/// A tag type, which is the index of its function type.
-pub struct TagType;
-
-impl<'d> Entry<'d> for TagType {
-    type Value = u32;
-
-    ghost Seen = { ℕ };
-
-    ghost form = { tag_type.read };
-
-    ghost view = { λ x. x };
-
-    fn read(_alloc: Global, cursor: &mut Cursor<'d>) -> Result<u32, ReadError> {
-        cursor.tag_type()
-    }
-}
 
 impl<'d> Cursor<'d> {
     /// A table type.
@@ -50,7 +31,7 @@ impl<'d> Cursor<'d> {
         })
     }
 
-    /// A tag type.
+    /// A tag type, which is the index of its function type.
     #[tactic(auto, unfolding(crate::specs::TypeRows::tag_type))]
     pub fn tag_type(&mut self) -> Result<u32, ReadError>
         ensures { Reads tag_type.read (λ x. x) self.old.rest.now self.new.rest.now result }

@@ -14,6 +14,8 @@ use std::alloc::Global;
 use wasm_spec::{GlobalType, ValType};
 
 impl<'d> InputEntry<'d> for GlobalDef {
+    type Value = GlobalDef;
+
     ghost Seen = { plain.GlobalDef };
 
     ghost form = { global_entry.read };
@@ -24,7 +26,7 @@ impl<'d> InputEntry<'d> for GlobalDef {
 
     ghost no_customs = { λ name bytes. refl };
 
-    fn in_payload<'f>(payload: &'f Payload<'d>) -> &'f [Self] {
+    fn in_payload<'f>(payload: &'f Payload<'d>) -> &'f [GlobalDef] {
         match payload {
             Payload::Globals(globals) => globals.as_slice(),
             _ => &[],
@@ -53,8 +55,12 @@ impl<'d> InputEntry<'d> for GlobalDef {
 
     /// A global type, and the expression of its first value.
     #[tactic(auto, unfolding(crate::specs::SectionRows::global_entry))]
-    fn read_into(&mut self, _alloc: Global, cursor: &mut Cursor<'d>) -> Result<(), ReadError> {
-        self.ty = cursor.global_type()?;
-        cursor.expression_into(&mut self.init.ops)
+    fn read_into(
+        global: &mut GlobalDef,
+        _alloc: Global,
+        cursor: &mut Cursor<'d>,
+    ) -> Result<(), ReadError> {
+        global.ty = cursor.global_type()?;
+        cursor.expression_into(&mut global.init.ops)
     }
 }

@@ -1,4 +1,4 @@
-//! Modules whose types, globals, segments and custom sections stay in the input.
+//! Modules whose types, functions, tags, globals, segments and custom sections stay in the input.
 
 ghost use Rattle.std.specs.Prelude.{◌≡◌, ◌++◌, map, IfOk, OnOk};
 ghost use Rattle.form_data.specs.Views.{payload_of};
@@ -6,6 +6,7 @@ ghost use Rattle.form_reader.specs.Input.{customs_in, input_payload_of, input_se
 
 use crate::customs::InputCustoms;
 use crate::input_vectors::InputVector;
+use crate::type_indices::{DefinedFunction, DefinedTag};
 use form_data::{DataSegment, Element, GlobalDef, Payload, RecGroup};
 use std::alloc::{AllocError, Global};
 
@@ -13,6 +14,8 @@ use std::alloc::{AllocError, Global};
 #[derive(Clone, Copy)]
 pub enum InputEntries<'d> {
     Types(InputVector<'d>),
+    Functions(InputVector<'d>),
+    Tags(InputVector<'d>),
     Globals(InputVector<'d>),
     Elements(InputVector<'d>),
     Segments(InputVector<'d>),
@@ -32,7 +35,7 @@ pub enum InputPart<'d> {
     Section(InputSection<'d>),
 }
 
-/// The sections of a module in order; its types, globals, segments and custom sections stay in the input.
+/// The sections of a module in order; its types, functions, tags, globals, segments and custom sections stay in the input.
 ///
 /// Of sections that are no custom ones there is at most one of each kind, and so at most 27 parts, whatever the input.
 #[derive(Drop)]
@@ -50,6 +53,10 @@ impl<'d> InputEntries<'d> {
             InputEntries::Types(groups) => {
                 Ok(Payload::Types(groups.collected::<RecGroup>(alloc)?))
             }
+            InputEntries::Functions(functions) => {
+                Ok(Payload::Functions(functions.collected::<DefinedFunction>(alloc)?))
+            }
+            InputEntries::Tags(tags) => { Ok(Payload::Tags(tags.collected::<DefinedTag>(alloc)?)) }
             InputEntries::Globals(globals) => {
                 Ok(Payload::Globals(globals.collected::<GlobalDef>(alloc)?))
             }

@@ -1,6 +1,6 @@
 //! Vectors that stay in the input (core specification, 5.1, grammar).
 
-ghost use Rattle.std.specs.Prelude.{◌≡◌, ◌++◌, ℕ, List, [], map, false, IfOk};
+ghost use Rattle.std.specs.Prelude.{◌≡◌, ◌++◌, ℕ, List, [], map, length, false, IfOk, OnOk};
 ghost use Rattle.wasm_spec.specs.Module as plain;
 ghost use Rattle.form_data.specs.Views.{payload_of};
 ghost use Rattle.form_reader.specs.Reading.{Reader, Reads, whole};
@@ -19,19 +19,21 @@ use std::mem;
 const MANY_ENTRIES: u32 = 1024;
 
 /// What a section lists that stays in the input.
-pub trait InputEntry<'d>: Sized + Drop {
+pub trait InputEntry<'d> {
+    type Value: Drop;
+
     ghost Seen: { Type 0 };
 
     ghost form: { Reader Seen };
 
-    ghost view: { Self → Seen };
+    ghost view: { Self.Value → Seen };
 
     ghost of_section: { plain.Payload → List Seen };
 
     ghost no_customs: { (name bytes : List ℕ) → of_section (plain.Custom name bytes) ≡ [] };
 
     /// The entries of a section that was read into lists; sections of other kinds have none.
-    fn in_payload<'f>(payload: &'f Payload<'d>) -> &'f [Self]
+    fn in_payload<'f>(payload: &'f Payload<'d>) -> &'f [Self::Value]
         ensures { map view result.now ≡ of_section (payload_of payload.now) };
 
     /// The entries of a section that stay in the input; sections of other kinds have none.
@@ -39,11 +41,15 @@ pub trait InputEntry<'d>: Sized + Drop {
         ensures { vector_in form result ≡ of_section (input_payload_of entries.entry) };
 
     /// An entry that nothing asks for, without an allocation.
-    fn none(alloc: Global) -> Self;
+    fn none(alloc: Global) -> Self::Value;
 
     /// Reads in the place of an entry that is no longer asked for, whose lists may be used again.
-    fn read_into(&mut self, alloc: Global, cursor: &mut Cursor<'d>) -> Result<(), ReadError>
-        ensures { Reads form (λ u. view self.new) cursor.old.rest.now cursor.new.rest.now result };
+    fn read_into(
+        entry: &mut Self::Value,
+        alloc: Global,
+        cursor: &mut Cursor<'d>,
+    ) -> Result<(), ReadError>
+        ensures { Reads form (λ u. view entry.new) cursor.old.rest.now cursor.new.rest.now result };
 }
 
 /// The entries of a section, which stay in the input. They were read once, and are read again where they are walked.
@@ -66,7 +72,7 @@ impl<'d> Cursor<'d> {
         let bytes = self.rest;
         let mut entry = E::none(alloc);
         'entries: for _ in 0..count {
-            entry.read_into(alloc, self)?;
+            E::read_into(&mut entry, alloc, self)?;
         }
         Ok(InputVector { count, bytes })
     }
@@ -76,7 +82,7 @@ impl<'d> Cursor<'d> {
     fn kept_entries<E: InputEntry<'d>>(
         &mut self,
         alloc: Global,
-        kept: &mut Vec<E>,
+        kept: &mut Vec<E::Value>,
     ) -> Result<InputVector<'d>, ReadError>
         ensures reads { Reads (vector_at E.form) (vector_in E.form) self.old.rest.now self.new.rest.now result }
         ensures keeps { IfOk result (λ vector. map E.view kept.new.items ≡ map E.view kept.old.items ++ vector_in E.form vector) }
@@ -86,7 +92,7 @@ impl<'d> Cursor<'d> {
         kept.reserve_exact((count as usize).min(bytes.len()).min(MOST_ROOM))?;
         'kept: for _ in 0..count {
             let mut entry = E::none(alloc);
-            entry.read_into(alloc, self)?;
+            E::read_into(&mut entry, alloc, self)?;
             kept.push(entry)?;
         }
         Ok(InputVector { count, bytes })
@@ -97,13 +103,13 @@ impl<'d> Cursor<'d> {
     pub(crate) fn kept_vector<E: InputEntry<'d>>(
         &mut self,
         alloc: Global,
-        kept: &mut Vec<E>,
+        kept: &mut Vec<E::Value>,
     ) -> Result<InputVector<'d>, ReadError>
         ensures reads { Reads (sized_at (whole (vector_at E.form))) (vector_in E.form) self.old.rest.now self.new.rest.now result }
         ensures keeps { IfOk result (λ vector. map E.view kept.new.items ≡ map E.view kept.old.items ++ vector_in E.form vector) }
     {
         let mut body = self.sized()?;
-        let vector = body.kept_entries(alloc, kept)?;
+        let vector = body.kept_entries::<E>(alloc, kept)?;
         if !body.rest.is_empty() {
             return Err(ReadError::Malformed);
         }
@@ -114,11 +120,11 @@ impl<'d> Cursor<'d> {
     pub(crate) fn listed_vector<E: InputEntry<'d>>(
         &mut self,
         alloc: Global,
-    ) -> Result<Vec<E>, ReadError>
+    ) -> Result<Vec<E::Value>, ReadError>
         ensures { Reads (sized_at (whole (vector_at E.form))) (λ all. map E.view all.items) self.old.rest.now self.new.rest.now result }
     {
         let mut all = Vec::new(alloc);
-        self.kept_vector(alloc, &mut all)?;
+        self.kept_vector::<E>(alloc, &mut all)?;
         Ok(all)
     }
 
@@ -163,7 +169,7 @@ impl<'d> InputVector<'d> {
     pub fn next_into<E: InputEntry<'d>>(
         &mut self,
         alloc: Global,
-        entry: &mut E,
+        entry: &mut E::Value,
     ) -> Result<bool, AllocError>
         ensures { IfOk result (Takes (vector_in E.form self.old) (E.view entry.new) (vector_in E.form self.new)) }
     {
@@ -171,7 +177,7 @@ impl<'d> InputVector<'d> {
             return Ok(false);
         }
         let mut cursor = Cursor { rest: self.bytes };
-        match entry.read_into(alloc, &mut cursor) {
+        match E::read_into(entry, alloc, &mut cursor) {
             Ok(()) => {
                 self.count -= 1;
                 self.bytes = cursor.rest;
@@ -194,18 +200,44 @@ impl<'d> InputVector<'d> {
         false
     }
 
-    /// All of the entries.
-    pub(crate) fn collected<E: InputEntry<'d>>(
+    /// How many entries there are.
+    pub fn length<E: InputEntry<'d>>(mut self, alloc: Global) -> Result<usize, AllocError>
+        ensures { IfOk result (λ n. n ≡ length (vector_in E.form self.entry)) }
+    {
+        let mut passed = 0;
+        let mut entry = E::none(alloc);
+        'entries: while self.next_into::<E>(alloc, &mut entry)? {
+            passed += 1;
+        }
+        Ok(passed)
+    }
+
+    /// Appends all of the entries to a list.
+    pub fn append_to<E: InputEntry<'d>>(
         mut self,
         alloc: Global,
-    ) -> Result<Vec<E>, AllocError>
+        list: &mut Vec<E::Value>,
+    ) -> Result<(), AllocError>
+        ensures { OnOk result (map E.view list.new.items ≡ map E.view list.old.items ++ vector_in E.form self.entry) }
+    {
+        // They were read before, so that there are as many as was counted.
+        list.reserve_exact(self.count as usize)?;
+        let mut entry = E::none(alloc);
+        'entries: while self.next_into::<E>(alloc, &mut entry)? {
+            list.push(mem::replace(&mut entry, E::none(alloc)))?;
+        }
+        Ok(())
+    }
+
+    /// All of the entries.
+    pub(crate) fn collected<E: InputEntry<'d>>(
+        self,
+        alloc: Global,
+    ) -> Result<Vec<E::Value>, AllocError>
         ensures { IfOk result (λ all. map E.view all.items ≡ vector_in E.form self.entry) }
     {
         let mut all = Vec::new(alloc);
-        let mut entry = E::none(alloc);
-        'entries: while self.next_into(alloc, &mut entry)? {
-            all.push(mem::replace(&mut entry, E::none(alloc)))?;
-        }
+        self.append_to::<E>(alloc, &mut all)?;
         Ok(all)
     }
 }

@@ -25,6 +25,7 @@ mod segments;
 mod tables;
 mod type_bytes;
 mod type_groups;
+mod type_indices;
 mod value_types;
 mod vectors;
 
@@ -35,3 +36,4 @@ pub use input_vectors::{InputEntry, InputVector};
 pub use laws::spelling_is_unique;
 pub use module::{MAX_MODULE_SIZE, read_input, read_module};
 pub use type_bytes::type_section_bytes;
+pub use type_indices::{DefinedFunction, DefinedTag};

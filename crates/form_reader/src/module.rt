@@ -70,7 +70,7 @@ fn collected<'d>(alloc: Global, parts: Vec<InputPart<'d>>) -> Result<Vec<Payload
     Ok(payloads)
 }
 
-/// The module that the bytes spell; its types, globals, segments and custom sections stay in the input. Its types are given
+/// The module that the bytes spell; its types, functions, tags, globals, segments and custom sections stay in the input. Its types are given
 /// besides, each read once.
 ///
 /// # Errors

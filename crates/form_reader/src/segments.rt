@@ -14,6 +14,8 @@ use form_data::{DataKind, DataSegment, Payload};
 use std::alloc::Global;
 
 impl<'d> InputEntry<'d> for DataSegment<'d> {
+    type Value = DataSegment<'d>;
+
     ghost Seen = { plain.Segment };
 
     ghost form = { data_segment.read };
@@ -24,7 +26,7 @@ impl<'d> InputEntry<'d> for DataSegment<'d> {
 
     ghost no_customs = { λ name bytes. refl };
 
-    fn in_payload<'f>(payload: &'f Payload<'d>) -> &'f [Self] {
+    fn in_payload<'f>(payload: &'f Payload<'d>) -> &'f [DataSegment<'d>] {
         match payload {
             Payload::Segments(segments) => segments.as_slice(),
             _ => &[],
@@ -47,9 +49,13 @@ impl<'d> InputEntry<'d> for DataSegment<'d> {
     }
 
     #[tactic(auto, unfolding(crate::specs::SectionRows::data_segment))]
-    fn read_into(&mut self, alloc: Global, cursor: &mut Cursor<'d>) -> Result<(), ReadError> {
+    fn read_into(
+        segment: &mut DataSegment<'d>,
+        alloc: Global,
+        cursor: &mut Cursor<'d>,
+    ) -> Result<(), ReadError> {
         let flag = cursor.u32()?;
-        cursor.flagged_segment(alloc, flag, self)
+        cursor.flagged_segment(alloc, flag, segment)
     }
 }
 

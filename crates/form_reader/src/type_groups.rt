@@ -52,6 +52,8 @@ impl<'d> Entry<'d> for SubType {
 }
 
 impl<'d> InputEntry<'d> for RecGroup {
+    type Value = RecGroup;
+
     ghost Seen = { data_of.Group UnpackedIndex UnpackedIndex };
 
     ghost form = { group.read };
@@ -62,7 +64,7 @@ impl<'d> InputEntry<'d> for RecGroup {
 
     ghost no_customs = { λ name bytes. refl };
 
-    fn in_payload<'f>(payload: &'f Payload<'d>) -> &'f [Self] {
+    fn in_payload<'f>(payload: &'f Payload<'d>) -> &'f [RecGroup] {
         match payload {
             Payload::Types(groups) => groups.as_slice(),
             _ => &[],
@@ -85,15 +87,19 @@ impl<'d> InputEntry<'d> for RecGroup {
 
     /// A subtype alone, or the members of a group.
     #[tactic(auto, unfolding(crate::specs::TypeRows::group))]
-    fn read_into(&mut self, alloc: Global, cursor: &mut Cursor<'d>) -> Result<(), ReadError> {
+    fn read_into(
+        group: &mut RecGroup,
+        alloc: Global,
+        cursor: &mut Cursor<'d>,
+    ) -> Result<(), ReadError> {
         let first = cursor.byte()?;
         if first == GROUP {
-            return cursor.vector_into::<SubType>(alloc, &mut self.types);
+            return cursor.vector_into::<SubType>(alloc, &mut group.types);
         }
         let sub_type = cursor.sub_type_after(alloc, first)?;
-        self.types.clear();
-        self.types.reserve_exact(1)?;
-        self.types.push(sub_type)?;
+        group.types.clear();
+        group.types.reserve_exact(1)?;
+        group.types.push(sub_type)?;
         Ok(())
     }
 }

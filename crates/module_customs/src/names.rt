@@ -17,6 +17,7 @@ use custom_sections::{Names, read_names};
 use entity_map::{EntityRef, OutOfMemory};
 use form_data::{Import, Payload};
 use form_lists::{Entry, Single, Source, singles_of};
+use form_reader::{DefinedFunction, InputEntries};
 use init_plan::NameSection;
 use std::alloc::{AllocError, Global};
 use std::collections::BTreeMap;
@@ -41,7 +42,8 @@ pub fn kept_names<'d>(
     let mut declared = 0;
     for section in singles_of(source) {
         add_section(alloc, &mut kept, section, declared, locals)?;
-        declared += declared_functions(section);
+        let more = declared_functions(alloc, section)?;
+        declared += more;
     }
     Ok(kept)
 }
@@ -84,14 +86,15 @@ fn contents_if<'d>(name: &str, bytes: &'d [u8], title: &str) -> Option<&'d [u8]>
 }
 
 /// How many functions a section imports or declares.
-fn declared_functions(section: Single<'_, '_>) -> usize
+fn declared_functions(alloc: Global, section: Single<'_, '_>) -> Result<usize, AllocError>
     ensures { let p = single_of section.entry in
-        result ≡ functions_among (imports_of_section p) + length (function_types_of_section p) }
+        IfOk result (λ n. n ≡ functions_among (imports_of_section p) + length (function_types_of_section p)) }
 {
     match section {
-        Single::Read(Payload::Functions(types)) => types.len(),
-        Single::Read(payload) => imported_functions(Import::in_section(payload)),
-        _ => 0,
+        Single::Read(Payload::Functions(types)) => Ok(types.len()),
+        Single::Read(payload) => Ok(imported_functions(Import::in_section(payload))),
+        Single::Input(InputEntries::Functions(types)) => types.length::<DefinedFunction>(alloc),
+        _ => Ok(0),
     }
 }
 

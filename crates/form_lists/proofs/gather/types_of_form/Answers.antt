@@ -1,8 +1,7 @@
 use Rattle.std.proofs.Common.{◌++◌, ◌∷◌, ◌∙◌, [], map, take, sym, ap, subst}
-use Rattle.std.specs.List.{flat_map}
 use Rattle.std.proofs.lemmas.List.{take_all, map_more, flat_map_more}
 use Rattle.wasm_spec.specs.Module.{groups, groups_of_section}
-use Rattle.form_data.specs.Views.{group_of, payload_of}
+use Rattle.form_data.specs.Views.{payload_of}
 use Rattle.form_lists.specs.Gathered.{AddsTypes}
 use Rattle.form_lists.proofs.DeclaredLists.{no_types, types_then, all_types}
 use Rattle.form_lists.proofs.gather.types_of_form.Goals as goal

@@ -19,7 +19,7 @@ overflow_add-declared c =
     let whole = append_assoc had.came (p ∷ []) (singles_left c.next.new.self) ∙ sym (ap (λ (ps : List plain.Payload). had.came ++ ps) c.in-Some.ensures.steps) ∙ had.whole in
     omega (
       arith,
-      declared-more had.came p c.loop-section.declared c.declared_functions-declared.result had.declared c.declared_functions-declared.ensures,
+      declared-more had.came p c.loop-section.declared c.in_ok-more.more had.declared c.in_ok-more.ensures,
       declared-few (had.came ++ p ∷ []) (singles_left c.next.new.self) (source_module c.args.source) (2 ^ 30) whole c.requires.functions,
     )
 
@@ -30,7 +30,7 @@ loop-section-preserved c =
     record {
       came = had.came ++ p ∷ [];
       whole = append_assoc had.came (p ∷ []) (singles_left c.next.new.self) ∙ sym (ap (λ (ps : List plain.Payload). had.came ++ ps) c.in-Some.ensures.steps) ∙ had.whole;
-      declared = declared-more had.came p c.loop-section.declared c.declared_functions-declared.result had.declared c.declared_functions-declared.ensures;
+      declared = declared-more had.came p c.loop-section.declared c.in_ok-more.more had.declared c.in_ok-more.ensures;
       kept = next-names had.came p c.args.locals c.loop-section.declared had.declared c.add_section.new.kept
           (c.in_ok-add_section.ensures (names_after c.args.locals [] had.came) had.kept);
     }

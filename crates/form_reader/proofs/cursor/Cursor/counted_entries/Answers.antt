@@ -10,7 +10,7 @@ entries-init g c = none_yet g.E.InputEntry.form c.in_ok-count.count c.u32.new.se
 pub entries-preserved : goal.entries-preserved
 entries-preserved g c =
     further g.E.InputEntry.form c.in_ok-count.count c.entries.counter c.u32.new.self.rest.now c.entries.self.rest.now c.read_into.new.cursor.rest.now
-    (g.E.InputEntry.view c.read_into.new.self) c.entries-test.true c.in_ok-read_into.ensures c.entries.invariant
+    (g.E.InputEntry.view c.read_into.new.entry) c.entries-test.true c.in_ok-read_into.ensures c.entries.invariant
 
 pub returns-in_err-read_into : goal.returns-in_err-read_into
 unfolding vector_at

@@ -13,9 +13,9 @@ kept-init g c =
 pub kept-preserved : goal.kept-preserved
 kept-preserved g c =
     let view = g.E.InputEntry.view in
-    rw (c.in_ok-push.ensures.items, map_push view c.kept.kept.items c.read_into.new.self)
+    rw (c.in_ok-push.ensures.items, map_push view c.kept.kept.items c.read_into.new.entry)
     (further_kept g.E.InputEntry.form c.in_ok-count.count c.kept.counter c.u32.new.self.rest.now c.kept.self.rest.now c.read_into.new.cursor.rest.now
-    (view c.read_into.new.self) (map view c.reserve_exact.new.self.items) (map view c.kept.kept.items) c.kept-test.true c.in_ok-read_into.ensures
+    (view c.read_into.new.entry) (map view c.reserve_exact.new.self.items) (map view c.kept.kept.items) c.kept-test.true c.in_ok-read_into.ensures
     c.kept.invariant)
 
 pub returns-in_err-read_into-clause-reads : goal.returns-in_err-read_into-clause-reads

@@ -9,7 +9,7 @@ returns-then-self-eq0 g c =
 
 pub returns-in-Ok : goal.returns-in-Ok
 returns-in-Ok g c =
-    first_taken g.E.InputEntry.form c.args.self.now.count c.args.self.now.bytes.now c.read_into.new.cursor.rest.now (g.E.InputEntry.view c.read_into.new.self)
+    first_taken g.E.InputEntry.form c.args.self.now.count c.args.self.now.bytes.now c.read_into.new.cursor.rest.now (g.E.InputEntry.view c.read_into.new.entry)
     c.if-self-eq0.false c.in-Ok.ensures
 
 pub returns-in-Err-Malformed : goal.returns-in-Err-Malformed
