@@ -36,9 +36,9 @@ fn one_constant_is_zero_or_not(rt: HostRuntime) -> Result<(), Fail> {
 #[test]
 fn operator_tells_its_parts(rt: HostRuntime) -> Result<(), Fail> {
     let sum = ConstOp::I32Add;
-    assert_eq!(rt; sum.name(), "i32.add");
-    assert_eq!(rt; sum.number(), 9);
-    assert_eq!(rt; sum.takes(), 2);
+    assert!(rt; sum.name() == "i32.add");
+    assert!(rt; sum.number() == 9);
+    assert!(rt; sum.takes() == 2);
     assert!(rt; matches!(ConstOp::F32Const(7).operands(), Operands::Bits32(7)));
     assert!(rt;
         matches!(
@@ -81,9 +81,6 @@ fn function_type_names_what_its_index_becomes(rt: HostRuntime) -> Result<(), Fai
     };
     let converted = OneFunction.convert_func_type(alloc, &read)?;
     let text = format!(in alloc; "{converted}")?;
-    assert_eq!(rt;
-        text.as_str(),
-        "(func (param i32 (ref func (module 0))) (result f64))"
-    );
+    assert!(rt; text.as_str() == "(func (param i32 (ref func (module 0))) (result f64))");
     Ok(())
 }

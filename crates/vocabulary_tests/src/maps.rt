@@ -18,8 +18,8 @@ fn list_keeps_what_is_written(rt: HostRuntime) -> Result<(), Fail> {
     for size in sizes.as_mut_slice().iter_mut() {
         *size = size.saturating_add(1);
     }
-    assert_eq!(rt; sizes.get(first).copied(), Some(19));
-    assert_eq!(rt; sizes.values().copied().last(), Some(17));
+    assert!(rt; sizes.get(first).copied() == Some(19));
+    assert!(rt; sizes.values().copied().last() == Some(17));
     Ok(())
 }
 
@@ -38,9 +38,9 @@ fn reserved_index_is_no_index(rt: HostRuntime) {
     let some: PackedOption<TypeIndex> = TypeIndex::new(4).into();
     let none: PackedOption<TypeIndex> = None.into();
     assert!(rt; some.is_some());
-    assert_eq!(rt; some.expand(), Some(TypeIndex::new(4)));
+    assert!(rt; some.expand() == Some(TypeIndex::new(4)));
     assert!(rt; none.is_none());
-    assert_eq!(rt; none.expand(), None);
+    assert!(rt; none.expand() == None);
     assert!(rt; TypeIndex::reserved_value().is_reserved_value());
-    assert_eq!(rt; TypeIndex::reserved_value().as_u32(), u32::MAX);
+    assert!(rt; TypeIndex::reserved_value().as_u32() == u32::MAX);
 }

@@ -61,12 +61,9 @@ fn written_page_is_lent_no_more(rt: HostRuntime) -> Result<(), Fail> {
         let mut memory = PagedMemory::with_image(rt.alloc(), 14, 4, 4, &image)?;
         assert!(rt; row.at.saturating_add(row.bytes.len() as u64) <= memory.len());
         memory.write(row.at, row.bytes)?;
-        assert_eq!(rt;
-            bytes_of(rt.alloc(), &memory)?.as_slice(),
-            row.wanted.as_slice()
-        );
-        assert_eq!(rt; memory.shared_pages(), row.shared);
-        assert_eq!(rt; image, IMAGE);
+        assert!(rt; bytes_of(rt.alloc(), &memory)?.as_slice() == row.wanted.as_slice());
+        assert!(rt; memory.shared_pages() == row.shared);
+        assert!(rt; image == IMAGE);
     }
     Ok(())
 }
@@ -74,11 +71,8 @@ fn written_page_is_lent_no_more(rt: HostRuntime) -> Result<(), Fail> {
 #[test]
 fn copied_bytes_are_not_lent(rt: HostRuntime) -> Result<(), Fail> {
     let memory = PagedMemory::from_bytes(rt.alloc(), &[1, 2, 3], 2)?;
-    assert_eq!(rt;
-        bytes_of(rt.alloc(), &memory)?.as_slice(),
-        [1, 2, 3].as_slice()
-    );
-    assert_eq!(rt; memory.shared_pages(), 0);
+    assert!(rt; bytes_of(rt.alloc(), &memory)?.as_slice() == [1, 2, 3].as_slice());
+    assert!(rt; memory.shared_pages() == 0);
     Ok(())
 }
 

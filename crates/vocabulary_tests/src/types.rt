@@ -4,6 +4,7 @@ ghost use Rattle.std.specs.Prelude.{◌≡◌, ◌<◌};
 
 use entity_map::{EntityRef, OutOfMemory};
 use std::alloc::Global as Heap;
+use std::process::Abort;
 use std::test::Fail;
 use wasm_index::ModuleInternedTypeIndex;
 use wasm_types::*;
@@ -50,16 +51,15 @@ fn mixed_func(alloc: Heap) -> Result<WasmFuncType, OutOfMemory> {
 #[test]
 fn function_type_counts_objects(rt: HostRuntime) -> Result<(), Fail> {
     let func = mixed_func(rt.alloc())?;
-    assert_eq!(rt; func.non_i31_gc_ref_params_count(), 2);
-    assert_eq!(rt; func.non_i31_gc_ref_results_count(), 1);
-    assert_eq!(rt; func.params().len(), 4);
-    assert_eq!(rt; func.results(), [WasmValType::I32, ANYREF].as_slice());
+    assert!(rt; func.non_i31_gc_ref_params_count() == 2);
+    assert!(rt; func.non_i31_gc_ref_results_count() == 1);
+    assert!(rt; func.params().len() == 4);
+    assert!(rt; func.results() == [WasmValType::I32, ANYREF].as_slice());
     Ok(())
 }
 
-#[test]
-fn copies_equal_their_sources(rt: HostRuntime) -> Result<(), Fail> {
-    let func = mixed_func(rt.alloc())?;
+fn copy_of_sub_type_is_equal(rt: &impl Abort, alloc: Heap) -> Result<(), OutOfMemory> {
+    let func = mixed_func(alloc)?;
     let wrapped = WasmSubType {
         is_final: true,
         supertype: None,
@@ -68,20 +68,37 @@ fn copies_equal_their_sources(rt: HostRuntime) -> Result<(), Fail> {
             shared: false,
         },
     };
-    let copy = wrapped.try_clone(rt.alloc())?;
+    let copy = wrapped.try_clone(alloc)?;
     assert!(rt; copy == wrapped);
+    Ok(())
+}
+
+fn copy_of_exception_type_is_equal(rt: &impl Abort, alloc: Heap) -> Result<(), OutOfMemory> {
     let exn = WasmExnType {
         func_ty: module_type(3),
-        fields: Vec::from_slice(rt.alloc(), &[CONST_I64])?,
+        fields: Vec::from_slice(alloc, &[CONST_I64])?,
     };
     let exn = WasmCompositeInnerType::Exn(exn);
-    let copy = exn.try_clone(rt.alloc())?;
+    let copy = exn.try_clone(alloc)?;
     assert!(rt; copy == exn);
-    let fields = Vec::from_slice(rt.alloc(), &[MUTABLE_I8, CONST_I64])?;
+    Ok(())
+}
+
+fn copy_of_struct_type_is_equal(rt: &impl Abort, alloc: Heap) -> Result<(), OutOfMemory> {
+    let fields = Vec::from_slice(alloc, &[MUTABLE_I8, CONST_I64])?;
     let pair = WasmStructType { fields };
-    let copy = pair.try_clone(rt.alloc())?;
+    let copy = pair.try_clone(alloc)?;
     assert!(rt; copy == pair);
-    assert_eq!(rt; copy.fields.as_slice(), [MUTABLE_I8, CONST_I64].as_slice());
+    assert!(rt; copy.fields.as_slice() == [MUTABLE_I8, CONST_I64].as_slice());
+    Ok(())
+}
+
+// A function for each copy, so that none holds what the others made.
+#[test]
+fn copies_equal_their_sources(rt: HostRuntime) -> Result<(), Fail> {
+    copy_of_sub_type_is_equal(&rt, rt.alloc())?;
+    copy_of_exception_type_is_equal(&rt, rt.alloc())?;
+    copy_of_struct_type_is_equal(&rt, rt.alloc())?;
     Ok(())
 }
 
@@ -96,14 +113,11 @@ fn indices_are_written_in_place(rt: HostRuntime) -> Result<(), Fail> {
     if let Some(index) = func.index_mut(2) {
         *index = module_type(9);
     }
-    assert_eq!(rt;
-        func.params(),
-        [WasmValType::I32, array_reference(1)].as_slice()
-    );
-    assert_eq!(rt; func.results(), [array_reference(9)].as_slice());
+    assert!(rt; func.params() == [WasmValType::I32, array_reference(1)].as_slice());
+    assert!(rt; func.results() == [array_reference(9)].as_slice());
     let mut cont = WasmContType::new(module_type(4));
     *cont.index_mut() = module_type(5);
-    assert_eq!(rt; cont.index(), module_type(5));
+    assert!(rt; cont.index() == module_type(5));
     Ok(())
 }
 
@@ -124,10 +138,10 @@ fn sizes_and_growth_of_memories(rt: HostRuntime) -> Result<(), Fail> {
     assert!(rt; bytes.allow_growth_to(4294967294));
     assert!(rt; !bytes.allow_growth_to(4294967295));
     let full = memory(IndexType::I32, 65536, 16);
-    assert_eq!(rt; full.static_heap_size(), Some(4294967296));
+    assert!(rt; full.static_heap_size() == Some(4294967296));
     let huge = memory(IndexType::I64, 281474976710656, 16);
     assert!(rt; huge.minimum_byte_size().is_err());
     let text = format!(in rt.alloc(); "{SizeOverflow}")?;
-    assert_eq!(rt; text.as_str(), "size overflow calculating memory size");
+    assert!(rt; text.as_str() == "size overflow calculating memory size");
     Ok(())
 }

@@ -89,10 +89,10 @@ fn visits_up_to(func: &WasmFuncType, last: EngineOrModuleTypeIndex) -> Option<u3
 #[test]
 fn stop_ends_the_visits(rt: HostRuntime) -> Result<(), Fail> {
     let two = WasmFuncType::new(rt.alloc(), &two_functions(), &[])?;
-    assert_eq!(rt; visits_up_to(&two, module_type(1)), Some(2));
-    assert_eq!(rt; visits_up_to(&two, module_type(2)), None);
+    assert!(rt; visits_up_to(&two, module_type(1)) == Some(2));
+    assert!(rt; visits_up_to(&two, module_type(2)) == None);
     let three = WasmFuncType::new(rt.alloc(), &two_functions(), &[function_reference(2)])?;
-    assert_eq!(rt; visits_up_to(&three, module_type(1)), Some(2));
+    assert!(rt; visits_up_to(&three, module_type(1)) == Some(2));
     Ok(())
 }
 
@@ -108,8 +108,8 @@ fn stop_leaves_the_first_rewritten(rt: HostRuntime) -> Result<(), Fail> {
     });
     assert!(rt; answer.is_err());
     let left = [function_reference(9), function_reference(1)];
-    assert_eq!(rt; func.params(), left.as_slice());
-    assert_eq!(rt; func.results().len(), 0);
+    assert!(rt; func.params() == left.as_slice());
+    assert!(rt; func.results().len() == 0);
     Ok(())
 }
 
@@ -140,12 +140,9 @@ fn visits_in_order<T: TypeTrace>(
     numbers: &[u32],
 ) -> Result<(), AllocError> {
     let edges = visited(alloc, value)?;
-    assert_eq!(rt; edges.len(), numbers.len());
+    assert!(rt; edges.len() == numbers.len());
     for (edge, number) in edges.iter().zip(numbers) {
-        assert_eq!(rt;
-            edge.as_module_type_index().map(|index| index.as_u32()),
-            Some(*number)
-        );
+        assert!(rt; edge.as_module_type_index().map(|index| index.as_u32()) == Some(*number));
     }
     Ok(())
 }
@@ -182,13 +179,9 @@ fn group_of_a_range_becomes_relative(rt: HostRuntime) -> Result<(), Fail> {
         exception: module_type(5),
     };
     tag.canonicalize_for_hash_consing(two_from(5), &engine_type);
-    assert_eq!(rt;
-        tag.signature,
-        EngineOrModuleTypeIndex::Engine(VMSharedTypeIndex::new(104))
-    );
-    assert_eq!(rt;
-        tag.exception,
-        EngineOrModuleTypeIndex::RecGroup(RecGroupRelativeTypeIndex::from_u32(0))
+    assert!(rt; tag.signature == EngineOrModuleTypeIndex::Engine(VMSharedTypeIndex::new(104)));
+    assert!(rt;
+        tag.exception == EngineOrModuleTypeIndex::RecGroup(RecGroupRelativeTypeIndex::from_u32(0))
     );
     assert!(rt; tag.is_canonicalized_for_hash_consing());
     assert!(rt; !tag.is_canonicalized_for_runtime_usage());
@@ -254,16 +247,10 @@ fn engine_edges_stay(rt: HostRuntime) -> Result<(), Fail> {
         Ok(())
     });
     assert!(rt; answer.is_ok());
-    assert_eq!(rt; engine_visits, 3);
+    assert!(rt; engine_visits == 3);
     tag.canonicalize_for_runtime_usage(&engine_type);
-    assert_eq!(rt;
-        tag.signature,
-        EngineOrModuleTypeIndex::Engine(VMSharedTypeIndex::new(3))
-    );
-    assert_eq!(rt;
-        tag.exception,
-        EngineOrModuleTypeIndex::Engine(VMSharedTypeIndex::new(105))
-    );
+    assert!(rt; tag.signature == EngineOrModuleTypeIndex::Engine(VMSharedTypeIndex::new(3)));
+    assert!(rt; tag.exception == EngineOrModuleTypeIndex::Engine(VMSharedTypeIndex::new(105)));
     assert!(rt; tag.is_canonicalized_for_runtime_usage());
     Ok(())
 }
