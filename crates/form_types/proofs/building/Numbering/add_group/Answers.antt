@@ -25,7 +25,7 @@ returns-in_ok-push_row-in-Some c =
     let found : Some c.in-Some.first ≡ first_of c.args.self.now.first_ids key = sym c.in-Some.is ∙ c.in_ok-first.ensures.found in
     record {
       key = key;
-      key_is = c.in_ok-next_key.ensures ∙ (λ k. next_key (ids_of (c.deref.ensures.value k)) (placed (map sub_type_of (c.as_slice.ensures.value k))));
+      key_is = c.in_ok-next_key.ensures.key ∙ (λ k. next_key (ids_of (c.deref.ensures.value k)) (placed (map sub_type_of (c.as_slice.ensures.value k))));
       adds = subst (λ o. AddsBy c.args.self.now (record { first_ids = c.find_or_note.new.first_ids; distinct = c.args.self.now.distinct; declared = c.push_row.new.ids }) g key o) found (record {
         ids = c.in_ok-push_row-in-Some.ensures ∙ ap (λ n. ids_of c.args.self.now.declared.items ++ range_with_len c.in-Some.first n) long;
         listed = c.requires.listed;
@@ -46,7 +46,7 @@ returns-in_ok-push-in-None c =
     (map sub_type_of (c.as_mut_slice.ensures.value i))) in
     record {
       key = key;
-      key_is = c.in_ok-next_key.ensures ∙ (λ k. next_key (ids_of (c.deref.ensures.value k)) (placed (map sub_type_of (c.as_slice.ensures.value k))));
+      key_is = c.in_ok-next_key.ensures.key ∙ (λ k. next_key (ids_of (c.deref.ensures.value k)) (placed (map sub_type_of (c.as_slice.ensures.value k))));
       adds = subst (λ o. AddsBy c.args.self.now (record { first_ids = c.find_or_note.new.first_ids; distinct = c.push.new.self; declared = c.push_row-in-None.new.ids }) g key o) found (record {
         ids = c.in_ok-push_row-in-None.ensures ∙ ap (λ n. ids_of c.args.self.now.declared.items ++ range_with_len c.args.self.now.distinct.next n) long;
         listed = subst (λ x. IsListed c.push.new.self (map group_of c.args.self.now.distinct.groups.items ++ x ∷ [])) named c.in_ok-push-in-None.ensures;
