@@ -1,5 +1,5 @@
 -- The groups of a module, in which a reference is a place in the joined list, and the same groups by ids.
-use Rattle.std.specs.Prelude.{◌≡◌, ℕ, List, map, slice_index}
+use Rattle.std.specs.Prelude.{ℕ, List, map, slice_index}
 use Rattle.wasm_spec.specs.declared.types.UnpackedIndex.{UnpackedIndex}
 use Rattle.wasm_spec.specs.declared.types.UnpackedIndex.TheVariants.{Module, RecGroup, Id}
 use Rattle.wasm_spec.specs.TypeData.{Group, map_group}

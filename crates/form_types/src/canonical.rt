@@ -12,7 +12,7 @@ ghost use Rattle.std.specs.Hash.{same_Alike, on_Alike, and-Alike, items_Alike};
 ghost use Rattle.wasm_spec.specs.contracts.types.UnpackedIndexHash.TheImpl.Laws as index_hash;
 ghost use Rattle.form_types.specs.Keys.{key_of, Adds};
 
-use crate::codes::{END, flag, storage_code, value_code};
+use crate::codes::{END, flag, named_by, storage_code, value_code};
 use form_data::{CompositeInnerType, FuncType, SubType};
 use std::alloc::{AllocError, Global};
 use std::hash::{Hash, Hasher};
@@ -139,7 +139,9 @@ impl CanonicalGroup {
         self.frame.reserve(values.len() + 1)?;
         for value in values {
             self.frame.push_reserved(value_code(value));
-            push_named(&mut self.references, value)?;
+            if let Some(index) = named_by(value) {
+                self.references.push(index)?;
+            }
         }
         self.frame.push_reserved(END);
         Ok(())
@@ -166,22 +168,11 @@ impl CanonicalGroup {
     {
         self.frame.push_reserved(storage_code(&field.element_type));
         self.frame.push_reserved(flag(field.mutable));
-        match &field.element_type {
-            StorageType::Val(value) => push_named(&mut self.references, value),
-            _ => Ok(()),
+        if let StorageType::Val(value) = &field.element_type {
+            if let Some(index) = named_by(value) {
+                self.references.push(index)?;
+            }
         }
+        Ok(())
     }
-}
-
-/// Adds the type that a value type names, if it names one.
-#[inline]
-fn push_named(references: &mut Vec<UnpackedIndex>, value: &ValType) -> Result<(), AllocError>
-    ensures { OnOk result (references.new.items ≡ references.old.items ++ value_edges (λ i. i) (value_of value.now)) }
-{
-    if let ValType::Ref(ty) = value {
-        if let HeapType::Concrete(index) = ty.heap {
-            references.push(index)?;
-        }
-    }
-    Ok(())
 }

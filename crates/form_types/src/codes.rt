@@ -1,11 +1,12 @@
 //! The frames of types as bytes.
 
 ghost use Rattle.std.specs.Prelude.{◌≡◌, ◌<◌};
-ghost use Rattle.wasm_spec.specs.TypeData.{heap_of, reference_of, value_of, storage_of};
+ghost use Rattle.std.specs.Option.{option_to_list};
+ghost use Rattle.wasm_spec.specs.TypeData.{heap_of, reference_of, value_of, storage_of, value_edges};
 ghost use Rattle.type_spec.specs.Same.{heap_byte};
 ghost use Rattle.form_types.specs.Codes.{heap_code, reference_code, value_code, storage_code, flag};
 
-use wasm_spec::{AbstractHeapType, HeapType, RefType, StorageType, ValType};
+use wasm_spec::{AbstractHeapType, HeapType, RefType, StorageType, UnpackedIndex, ValType};
 
 /// The mark after a list of values or fields.
 pub const END: u8 = 0x0B;
@@ -60,13 +61,29 @@ fn reference_code(ty: &RefType) -> u8
 pub fn value_code(ty: &ValType) -> u8
     ensures { result ≡ value_code (value_of ty.now) }
 {
+    if let ValType::Ref(ty) = ty {
+        return reference_code(ty);
+    }
     match ty {
         ValType::I32 => 0x7F,
         ValType::I64 => 0x7E,
         ValType::F32 => 0x7D,
         ValType::F64 => 0x7C,
-        ValType::V128 => 0x7B,
-        ValType::Ref(ty) => reference_code(ty),
+        _ => 0x7B,
+    }
+}
+
+/// What a value type names, if it names a type.
+#[inline]
+pub fn named_by(ty: &ValType) -> Option<UnpackedIndex>
+    ensures { option_to_list result ≡ value_edges (λ i. i) (value_of ty.now) }
+{
+    match ty {
+        ValType::Ref(RefType {
+            heap: HeapType::Concrete(index),
+            ..
+        }) => Some(*index),
+        _ => None,
     }
 }
 
