@@ -84,7 +84,7 @@ pub fn find_or_note(
 }
 
 /// Adds `count` ids in a row.
-#[tactic(auto, using(crate::proofs::Rows::row_none, crate::proofs::Rows::row_more))]
+#[tactic(auto, using(crate::proofs::Rows::row_more))]
 pub fn push_row(ids: &mut Vec<CoreTypeId>, first: u32, count: usize) -> Result<(), AllocError>
     requires { first + count < 2 ^ 32 }
     ensures { OnOk result (ids_of ids.new.items ≡ ids_of ids.old.items ++ range_with_len first count) }
