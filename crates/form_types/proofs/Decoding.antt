@@ -171,7 +171,4 @@ pub group-told : (x y : Group Gap Gap) → group_codes x ≡ group_codes y → x
 group-told [] [] same = refl
 group-told [] (t ∷ ts) same = cc
 group-told (t ∷ ts) [] same = cc
-group-told (t ∷ ts) (u ∷ us) same =
-    let both = sub_type-told t u (group_codes ts) (group_codes us) same in
-    let rest = group-told ts us both.1 in
-    λ i. both.0 i ∷ rest i
+group-told (t ∷ ts) (u ∷ us) same = grind (arith, sub_type-told, group-told ts us)

@@ -1,6 +1,5 @@
 mod Counting
 mod Looking
-mod Adding
 mod Decoding
 mod KeyLaws
 mod InOrder

@@ -1,14 +1,11 @@
 -- Ids in a row, one by one.
 use Rattle.std.proofs.Common.{◌≡◌, ◌∙◌, ℕ, ◌+◌, List, [], ◌∷◌, ◌++◌, refl, sym, ap, append_assoc}
 use Rattle.std.specs.List.{range_with_len}
-use Rattle.std.proofs.lemmas.List.{append-nil, map-append}
+use Rattle.std.proofs.lemmas.List.{map-append}
 use Rattle.std.proofs.lemmas.List.FromFn.{map-range_with_len_more}
 use Rattle.type_data.specs.ListLaws.{map-same}
 use Rattle.wasm_spec.specs.declared.types.CoreTypeId.{CoreTypeId}
 use Rattle.form_types.specs.Seen.{ids_of}
-
-pub row_none : (ids : List CoreTypeId) (first : ℕ) → ids_of ids ≡ ids_of ids ++ range_with_len first 0
-row_none ids first = sym (append-nil (ids_of ids))
 
 range-more : (first k : ℕ) → range_with_len first (k + 1) ≡ range_with_len first k ++ (first + k) ∷ []
 range-more first k =

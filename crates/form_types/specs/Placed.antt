@@ -1,8 +1,8 @@
 -- The groups of a module, in which a reference is a place in the joined list, and the same groups by ids.
-use Rattle.std.specs.Prelude.{◌≡◌, ℕ, List, map, slice_index}
+use Rattle.std.specs.Prelude.{ℕ, List, map, slice_index}
 use Rattle.wasm_spec.specs.declared.types.UnpackedIndex.{UnpackedIndex}
 use Rattle.wasm_spec.specs.declared.types.UnpackedIndex.TheVariants.{Module, RecGroup, Id}
-use Rattle.wasm_spec.specs.TypeData.{Value, Group, map_value, map_group}
+use Rattle.wasm_spec.specs.TypeData.{Group, map_group}
 use Rattle.wasm_spec.specs.Module as plain
 use Rattle.form_types.specs.Ids.{id_of}
 use Rattle.form_types.specs.Types.{NamedGroup}
@@ -30,7 +30,3 @@ named declared g = map_group (id_at declared) (id_at declared) g
 -- what an index names, by its id
 abbrev pub named_index : List ℕ → UnpackedIndex → UnpackedIndex
 named_index declared index = id_at declared (place_of index)
-
--- a value type names no type: none of its references is renamed
-abbrev pub NamesNone : Value UnpackedIndex → Type 0
-NamesNone v = (rename : UnpackedIndex → UnpackedIndex) → map_value rename v ≡ v

@@ -66,7 +66,11 @@ impl Numbering {
             Some(first) => push_row(&mut self.declared, first, count)?,
             None => {
                 push_row(&mut self.declared, next, count)?;
-                name_group(&self.declared, group.types.as_mut_slice());
+                name_group(
+                    &self.declared,
+                    group.types.as_mut_slice(),
+                    key.references.len(),
+                );
                 self.distinct.push(group)?;
             }
         }

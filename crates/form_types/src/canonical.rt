@@ -1,6 +1,6 @@
 //! The keys by which groups are told apart.
 
-ghost use Rattle.std.specs.Prelude.{◌≡◌, [], ◌∷◌, ◌++◌, map, IfOk, OnOk, Option, is_some};
+ghost use Rattle.std.specs.Prelude.{◌≡◌, ◌+◌, ◌≤◌, [], ◌∷◌, ◌++◌, map, IfOk, OnOk, Option, is_some, vec_len, vec_capacity};
 ghost use Rattle.std.specs.List.{flat_map};
 ghost use Rattle.std.specs.Option.{option_to_list};
 ghost use Rattle.wasm_spec.specs.TypeData.{heap_of, reference_of, value_of, storage_of, field_of, value_edges, storage_edges, field_edges, function_edges, composite_edges, reference_edges, sub_type_edges, group_edges};
@@ -12,11 +12,11 @@ ghost use Rattle.std.specs.Hash.{same_Alike, on_Alike, and-Alike, items_Alike};
 ghost use Rattle.wasm_spec.specs.contracts.types.UnpackedIndexHash.TheImpl.Laws as index_hash;
 ghost use Rattle.form_types.specs.Keys.{key_of, Adds};
 
-use crate::codes::{END, flag, reference_code};
+use crate::codes::{END, flag, named_by, storage_code, value_code};
 use form_data::{CompositeInnerType, FuncType, SubType};
 use std::alloc::{AllocError, Global};
 use std::hash::{Hash, Hasher};
-use wasm_spec::{FieldType, HeapType, RefType, StorageType, UnpackedIndex, ValType};
+use wasm_spec::{FieldType, HeapType, StorageType, UnpackedIndex, ValType};
 
 /// A group as bytes and references.
 ///
@@ -112,7 +112,8 @@ impl CanonicalGroup {
                 self.add_function(function)
             }
             CompositeInnerType::Array(field) => {
-                self.frame.push(0x5E)?;
+                self.frame.reserve(3)?;
+                self.frame.push_reserved(0x5E);
                 self.add_field(field)
             }
             CompositeInnerType::Struct(fields) => self.add_struct(fields),
@@ -122,13 +123,6 @@ impl CanonicalGroup {
                 Ok(())
             }
         }
-    }
-
-    fn add_struct(&mut self, fields: &[FieldType]) -> Result<(), AllocError>
-        ensures { OnOk result (Adds self.old self.new (0x5F ∷ fields_codes (map field_of fields.now)) (flat_map (field_edges (λ i. i)) (map field_of fields.now))) }
-    {
-        self.frame.push(0x5F)?;
-        self.add_fields(fields)
     }
 
     fn add_function(&mut self, function: &FuncType) -> Result<(), AllocError>
@@ -142,63 +136,42 @@ impl CanonicalGroup {
     fn add_values(&mut self, values: &[ValType]) -> Result<(), AllocError>
         ensures { OnOk result (Adds self.old self.new (ended (map value_code (map value_of values.now))) (flat_map (value_edges (λ i. i)) (map value_of values.now))) }
     {
+        self.frame.reserve(values.len() + 1)?;
         for value in values {
-            self.add_value(value)?;
+            self.frame.push_reserved(value_code(value));
+            if let Some(index) = named_by(value) {
+                self.references.push(index)?;
+            }
         }
-        self.frame.push(END)?;
+        self.frame.push_reserved(END);
         Ok(())
     }
 
-    /// Adds fields, and the end mark.
-    fn add_fields(&mut self, fields: &[FieldType]) -> Result<(), AllocError>
-        ensures { OnOk result (Adds self.old self.new (fields_codes (map field_of fields.now)) (flat_map (field_edges (λ i. i)) (map field_of fields.now))) }
+    fn add_struct(&mut self, fields: &[FieldType]) -> Result<(), AllocError>
+        ensures { OnOk result (Adds self.old self.new (0x5F ∷ fields_codes (map field_of fields.now)) (flat_map (field_edges (λ i. i)) (map field_of fields.now))) }
     {
+        self.frame.reserve(2 * fields.len() + 2)?;
+        self.frame.push_reserved(0x5F);
         for field in fields {
             self.add_field(field)?;
         }
-        self.frame.push(END)?;
+        self.frame.push_reserved(END);
         Ok(())
     }
 
+    /// Adds a field, for which there is room.
     fn add_field(&mut self, field: &FieldType) -> Result<(), AllocError>
-        ensures { OnOk result (Adds self.old self.new (field_codes (field_of field.now)) (field_edges (λ i. i) (field_of field.now))) }
+        requires { vec_len self.old.frame + 2 ≤ vec_capacity self.old.frame }
+        ensures adds { OnOk result (Adds self.old self.new (field_codes (field_of field.now)) (field_edges (λ i. i) (field_of field.now))) }
+        ensures len { vec_len self.new.frame ≡ vec_len self.old.frame + 2 }
+        ensures capacity { vec_capacity self.new.frame ≡ vec_capacity self.old.frame }
     {
-        self.add_storage(&field.element_type)?;
-        self.frame.push(flag(field.mutable))?;
-        Ok(())
-    }
-
-    fn add_storage(&mut self, storage: &StorageType) -> Result<(), AllocError>
-        ensures { OnOk result (Adds self.old self.new (storage_code (storage_of storage.now) ∷ []) (storage_edges (λ i. i) (storage_of storage.now))) }
-    {
-        match storage {
-            StorageType::I8 => self.frame.push(0x78)?,
-            StorageType::I16 => self.frame.push(0x77)?,
-            StorageType::Val(value) => self.add_value(value)?,
-        }
-        Ok(())
-    }
-
-    fn add_value(&mut self, value: &ValType) -> Result<(), AllocError>
-        ensures { OnOk result (Adds self.old self.new (value_code (value_of value.now) ∷ []) (value_edges (λ i. i) (value_of value.now))) }
-    {
-        match value {
-            ValType::I32 => self.frame.push(0x7F)?,
-            ValType::I64 => self.frame.push(0x7E)?,
-            ValType::F32 => self.frame.push(0x7D)?,
-            ValType::F64 => self.frame.push(0x7C)?,
-            ValType::V128 => self.frame.push(0x7B)?,
-            ValType::Ref(ty) => self.add_reference(ty)?,
-        }
-        Ok(())
-    }
-
-    fn add_reference(&mut self, ty: &RefType) -> Result<(), AllocError>
-        ensures { OnOk result (Adds self.old self.new (reference_code (reference_of ty.now) ∷ []) (reference_edges (λ i. i) (reference_of ty.now))) }
-    {
-        self.frame.push(reference_code(ty))?;
-        if let HeapType::Concrete(index) = ty.heap {
-            self.references.push(index)?;
+        self.frame.push_reserved(storage_code(&field.element_type));
+        self.frame.push_reserved(flag(field.mutable));
+        if let StorageType::Val(value) = &field.element_type {
+            if let Some(index) = named_by(value) {
+                self.references.push(index)?;
+            }
         }
         Ok(())
     }

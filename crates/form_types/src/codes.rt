@@ -1,11 +1,12 @@
 //! The frames of types as bytes.
 
 ghost use Rattle.std.specs.Prelude.{◌≡◌, ◌<◌};
-ghost use Rattle.wasm_spec.specs.TypeData.{heap_of, reference_of};
+ghost use Rattle.std.specs.Option.{option_to_list};
+ghost use Rattle.wasm_spec.specs.TypeData.{heap_of, reference_of, value_of, storage_of, value_edges};
 ghost use Rattle.type_spec.specs.Same.{heap_byte};
-ghost use Rattle.form_types.specs.Codes.{heap_code, reference_code, flag};
+ghost use Rattle.form_types.specs.Codes.{heap_code, reference_code, value_code, storage_code, flag};
 
-use wasm_spec::{AbstractHeapType, HeapType, RefType};
+use wasm_spec::{AbstractHeapType, HeapType, RefType, StorageType, UnpackedIndex, ValType};
 
 /// The mark after a list of values or fields.
 pub const END: u8 = 0x0B;
@@ -48,12 +49,53 @@ fn heap_code(heap: &HeapType) -> u8
     }
 }
 
-/// The byte of a reference type.
-pub fn reference_code(ty: &RefType) -> u8
+fn reference_code(ty: &RefType) -> u8
     ensures { result ≡ reference_code (reference_of ty.now) }
 {
     let code = heap_code(&ty.heap);
     if ty.nullable { code } else { code + NOT_NULL }
+}
+
+/// The byte of a value type.
+#[inline]
+pub fn value_code(ty: &ValType) -> u8
+    ensures { result ≡ value_code (value_of ty.now) }
+{
+    if let ValType::Ref(ty) = ty {
+        return reference_code(ty);
+    }
+    match ty {
+        ValType::I32 => 0x7F,
+        ValType::I64 => 0x7E,
+        ValType::F32 => 0x7D,
+        ValType::F64 => 0x7C,
+        _ => 0x7B,
+    }
+}
+
+/// What a value type names, if it names a type.
+#[inline]
+pub fn named_by(ty: &ValType) -> Option<UnpackedIndex>
+    ensures { option_to_list result ≡ value_edges (λ i. i) (value_of ty.now) }
+{
+    match ty {
+        ValType::Ref(RefType {
+            heap: HeapType::Concrete(index),
+            ..
+        }) => Some(*index),
+        _ => None,
+    }
+}
+
+/// The byte of a storage type.
+pub fn storage_code(ty: &StorageType) -> u8
+    ensures { result ≡ storage_code (storage_of ty.now) }
+{
+    match ty {
+        StorageType::I8 => 0x78,
+        StorageType::I16 => 0x77,
+        StorageType::Val(ty) => value_code(ty),
+    }
 }
 
 /// The byte of a flag.

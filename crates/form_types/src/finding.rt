@@ -4,6 +4,7 @@ ghost use Rattle.std.specs.Prelude.{◌≡◌, ◌+◌, ◌<◌, ◌^◌, ◌++�
 ghost use Rattle.std.specs.Hash.DefaultHasher as sip;
 ghost use Rattle.std.specs.List.{range_with_len, fold};
 ghost use Rattle.form_reader.specs.TypeBytes.{type_bytes};
+ghost use Rattle.wasm_spec.specs.TypeData.{group_edges};
 ghost use Rattle.form_data.specs.Views.{sub_type_of};
 ghost use Rattle.form_types.specs.Seen.{ids_of};
 ghost use Rattle.form_types.specs.Placed.{placed};
@@ -44,7 +45,8 @@ pub fn next_key(
     types: &[SubType],
 ) -> Result<(), AllocError>
     requires { length ids.now < 2 ^ 30 }
-    ensures { OnOk result (key_of key.new ≡ next_key (ids_of ids.now) (placed (map sub_type_of types.now))) }
+    ensures key { OnOk result (key_of key.new ≡ next_key (ids_of ids.now) (placed (map sub_type_of types.now))) }
+    ensures count { OnOk result (length key.new.references.items ≡ length (group_edges (λ i. i) (map sub_type_of types.now))) }
 {
     key.clear();
     key.add_group(types)?;
@@ -82,7 +84,7 @@ pub fn find_or_note(
 }
 
 /// Adds `count` ids in a row.
-#[tactic(auto, using(crate::proofs::Rows::row_none, crate::proofs::Rows::row_more))]
+#[tactic(auto, using(crate::proofs::Rows::row_more))]
 pub fn push_row(ids: &mut Vec<CoreTypeId>, first: u32, count: usize) -> Result<(), AllocError>
     requires { first + count < 2 ^ 32 }
     ensures { OnOk result (ids_of ids.new.items ≡ ids_of ids.old.items ++ range_with_len first count) }

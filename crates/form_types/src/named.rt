@@ -1,11 +1,11 @@
 //! Types in which each reference is the id of what it names.
 
-ghost use Rattle.std.specs.Prelude.{◌≡◌, map, All, IsTrue};
+ghost use Rattle.std.specs.Prelude.{◌≡◌, length, map};
 ghost use Rattle.std.specs.Option.{option_map};
-ghost use Rattle.wasm_spec.specs.TypeData.{heap_of, reference_of, value_of, storage_of, field_of, map_heap, map_reference, map_value, map_storage, map_field, map_composite, map_sub_type, map_group};
+ghost use Rattle.wasm_spec.specs.TypeData.{heap_of, reference_of, value_of, storage_of, field_of, map_heap, map_reference, map_value, map_storage, map_field, map_composite, map_sub_type, map_group, group_edges};
 ghost use Rattle.form_data.specs.Views.{composite_of, sub_type_of};
 ghost use Rattle.form_types.specs.Seen.{ids_of};
-ghost use Rattle.form_types.specs.Placed.{named_index, NamesNone};
+ghost use Rattle.form_types.specs.Placed.{named_index};
 
 use crate::seen::{id_at, place_of};
 use form_data::{CompositeInnerType, SubType};
@@ -67,31 +67,10 @@ fn named_field(ids: &[CoreTypeId], field: FieldType) -> FieldType
     }
 }
 
-/// Whether a value type names no type.
-fn names_none(value: &ValType) -> bool
-    ensures { IsTrue result → NamesNone (value_of value.now) }
-{
-    match value {
-        ValType::Ref(ty) => matches!(ty.heap, HeapType::Abstract(_)),
-        _ => true,
-    }
-}
-
-/// Whether none of some value types names a type.
-fn all_name_none(values: &[ValType]) -> bool
-    ensures { IsTrue result → All (λ v. NamesNone (value_of v)) values.now }
-{
-    values.iter().all(|value| names_none(value))
-}
-
 /// The values of a list are named where they stand.
 fn name_values(ids: &[CoreTypeId], values: &mut [ValType])
     ensures { map value_of values.new ≡ map (map_value (named_index (ids_of ids.now))) (map value_of values.old) }
 {
-    // Most lists name no type, and stay as they are.
-    if all_name_none(values) {
-        return;
-    }
     for value in values.iter_mut() {
         *value = named_value(ids, *value);
     }
@@ -136,10 +115,15 @@ fn name_sub_type(ids: &[CoreTypeId], ty: &mut SubType)
     name_composite(ids, &mut ty.composite);
 }
 
-/// Each reference of a group's members becomes the id of what it names.
-pub fn name_group(ids: &[CoreTypeId], types: &mut [SubType])
+/// Each reference of a group's members becomes the id of what it names. `count` is how many references they have.
+pub fn name_group(ids: &[CoreTypeId], types: &mut [SubType], count: usize)
+    requires { count ≡ length (group_edges (λ i. i) (map sub_type_of types.old)) }
     ensures { map sub_type_of types.new ≡ map_group (named_index (ids_of ids.now)) (named_index (ids_of ids.now)) (map sub_type_of types.old) }
 {
+    // Most groups name no type, and stay as they are.
+    if count == 0 {
+        return;
+    }
     for ty in types.iter_mut() {
         name_sub_type(ids, ty);
     }

@@ -12,8 +12,8 @@ use Rattle.form_types.specs.Keys.{group_key, targets}
 use Rattle.form_types.proofs.KeyLaws.{group_key-made}
 use Rattle.form_types.proofs.finding.next_key.Goals as goal
 
-pub returns : goal.returns
-returns c =
+pub returns-clause-key : goal.returns-clause-key
+returns-clause-key c =
     let ids = ids_of c.args.ids.now in
     let start = length c.args.ids.now in
     let g = map sub_type_of c.args.types.now in

@@ -7,5 +7,5 @@ use Rattle.form_types.proofs.canonical.CanonicalGroup.add_group.Given as goal
 
 abbrev pub invariant-loop-ty : goal.invariant-loop-ty
 invariant-loop-ty l =
-    Adds l.initial.self l.self (group_codes (map sub_type_of (take l.ty-index l.types)))
+    Adds l.fn.self l.self (group_codes (map sub_type_of (take l.ty-index l.types)))
     (group_edges (λ i. i) (map sub_type_of (take l.ty-index l.types)))

@@ -1,5 +1,4 @@
 use Rattle.std.proofs.Common.{◌≡◌, ◌∙◌, ◌<◌, [], length, map, sym, ap, arith}
-use Rattle.std.specs.Prelude.{◌==◌, vec_len, true, false}
 use Rattle.std.specs.Global.{Global}
 use Rattle.std.specs.Vec.Iter.{into_iter_items, into_iter_len}
 use Rattle.std.specs.declared.vec.IntoIter.{IntoIter}
@@ -15,12 +14,6 @@ use Rattle.form_types.proofs.Built.{built-none, built-empty, built-more, few-ids
 use Rattle.form_types.proofs.Ruled.{size-places, walked, room-next, near-item, walks-more}
 use Rattle.form_types.proofs.Final.{numbered, sound}
 use Rattle.form_types.proofs.numbering.Types.build_from.Goals as goal
-
-has_some : (g : RecGroup) → (vec_len g.types == 0) ≡ false → 0 < length g.types.items
-has_some g test = grind (arith, common_steps, test, g.types.ok.0)
-
-has_none : (g : RecGroup) → (vec_len g.types == 0) ≡ true → length g.types.items ≡ 0
-has_none g test = grind (arith, common_steps, test, g.types.ok.0)
 
 -- where none is left, none is listed
 no_groups : (left : IntoIter RecGroup Global) → into_iter_len left ≡ 0 → map group_of (into_iter_items left) ≡ []
@@ -53,7 +46,7 @@ add_group-requires-clause-ids c =
 pub loop-group-preserved-in-Continue-1 : goal.loop-group-preserved-in-Continue-1
 loop-group-preserved-in-Continue-1 c =
     let g = c.in-Some.group in
-    let some : 0 < length g.types.items = has_some g (sym c.is_empty.ensures ∙ c.if-not-is_empty.true) in
+    let some : 0 < length g.types.items = grind (arith, common_steps, c.is_empty.ensures, c.if-not-is_empty.true, g.types.ok.0) in
     walks-more c.loop-group.invariant (ap (map group_of) c.in-Some.ensures.steps.0) c.add_group.new.self
     (built-more c.loop-group.invariant.done c.loop-group.numbering c.add_group.new.self (group_of g) c.loop-group.invariant.built
     (omega (arith, some, length-map g.types.items sub_type_of)) (near-item c.loop-group.invariant (ap (map group_of) c.in-Some.ensures.steps.0) (c.requires.keeps L1))
@@ -62,7 +55,7 @@ loop-group-preserved-in-Continue-1 c =
 pub loop-group-preserved : goal.loop-group-preserved
 loop-group-preserved c =
     let g = c.in-Some.group in
-    let none : length g.types.items ≡ 0 = has_none g (sym c.is_empty.ensures ∙ c.if-not-is_empty.false) in
+    let none : length g.types.items ≡ 0 = grind (arith, common_steps, c.is_empty.ensures, c.if-not-is_empty.false, g.types.ok.0) in
     walks-more c.loop-group.invariant (ap (map group_of) c.in-Some.ensures.steps.0) c.loop-group.numbering
     (built-empty c.loop-group.invariant.done c.loop-group.numbering (group_of g) (length-map g.types.items sub_type_of ∙ none) c.loop-group.invariant.built)
 
