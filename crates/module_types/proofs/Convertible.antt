@@ -1,15 +1,14 @@
 -- A group of a list of types can be converted, and what it becomes.
-use Rattle.std.proofs.Common.{◌≡◌, ◌≤◌, ◌<◌, ℕ, zero, suc, ◌+◌, List, [], ◌∷◌, ◌++◌, All, length, get_or, map, Option, Some, None, refl, sym, ap, subst, ◌∙◌, inl, inr, arith, take}
+use Rattle.std.proofs.Common.{◌≡◌, ◌≤◌, ◌<◌, ℕ, zero, suc, ◌+◌, List, [], ◌∷◌, ◌++◌, All, length, get_or, map, Option, Some, None, sym, ap, subst, ◌∙◌, inl, inr, arith, take}
 use Rattle.std.specs.Prelude.{IsSome, ◌⊎◌}
-use Rattle.std.proofs.lemmas.List.{length-map, length-append, take_all}
+use Rattle.std.proofs.lemmas.List.{length-map, length-append}
 use Rattle.std.proofs.lemmas.List.Elements.{All-tail, All-nil, All-weaker}
 use Rattle.wasm_spec.specs.declared.types.UnpackedIndex.{UnpackedIndex}
 use Rattle.wasm_spec.specs.declared.types.UnpackedIndex.TheVariants as index
-use Rattle.wasm_spec.specs.TypeData.{SubType, map_sub_type, group_edges}
+use Rattle.wasm_spec.specs.TypeData.{SubType, map_sub_type, sub_type_edges, group_edges}
 use Rattle.wasm_spec.specs.Sizes.{HasShortLists}
-use Rattle.type_data.specs.TypeShapes.{group_shape}
+use Rattle.type_data.specs.TypeShapes.{sub_type_shape}
 use Rattle.type_data.specs.Names.{named}
-use Rattle.type_data.specs.ListLaws.{map-twice}
 use Rattle.type_spec.specs.Interned.{Span}
 use Rattle.form_data.specs.declared.types.SubType.{SubType as Read}
 use Rattle.form_data.specs.Views as form
@@ -19,18 +18,18 @@ use Rattle.wasm_types.specs.declared.sub.WasmSubType.{WasmSubType}
 use Rattle.wasm_types.specs.TypeViews.{sub_type_of}
 use Rattle.wasm_convert.specs.Conversion.{index_in}
 use Rattle.wasm_convert.specs.Known.{CanLookUp, Known, CanConvert}
-use Rattle.module_types.specs.Views.{interned_number, interned_of, span_of}
-use Rattle.module_types.specs.Conversion.{id_number, group_of_id, members_of, members_by_index, look_by_id, StandsInterned, KnowsId, HasIndex, interned_members}
+use Rattle.module_types.specs.Views.{TypeIndex, interned_number, interned_of, span_of}
+use Rattle.module_types.specs.Conversion.{id_number, group_of_id, members_of, index_by_id, name_by_id, look_by_id, StandsInterned, KnowsId, HasIndex, interned_members}
 use Rattle.module_types.specs.TypeList.{TypeList}
 use Rattle.module_types.specs.Noted.{noted_at}
 use Rattle.module_types.specs.Builder.{Builder, BuilderState, builder_view}
 use Rattle.module_types.specs.Converter.{TypesAndGroup, KnowsIndex, HaveIndices}
+use Rattle.wasm_index.specs.Index.{number_of, index_of}
 use Rattle.wasm_index.specs.declared.index.Index.{Index}
 use Rattle.wasm_index.specs.declared.spaces.TypeSpace.{TypeSpace}
 use Rattle.wasm_spec.specs.declared.types.CoreTypeId.{CoreTypeId}
 use Rattle.form_lists.proofs.AllSections.{All-joined, All-from_map, All-parts}
 use Rattle.module_types.proofs.Places.{group-ends}
-use Rattle.std.specs.List.{flat_map}
 
 all-both : {A : Type 0} (P Q R : A → Type 0) → ((x : A) → P x → Q x → R x) → (xs : List A) → All P xs → All Q xs → All R xs
 all-both P Q R each [] p q = All-nil R
@@ -69,10 +68,14 @@ module _ (t : TypesData) (next : ℕ) (spans : List Span) (ids : ℕ → Option 
       → (group_of_id t (id_number i) ≡ k) ⊎ IsSome (ids (group_of_id t (id_number i))) → CanLookUp (KnowsId t next spans ids) i
   knows bound le i lt held = grind (arith, index-known)
 
-  pub group-known : IsSound t
+  pub members-known : IsSound t
       → All (λ i. (group_of_id t (id_number i) ≡ k) ⊎ IsSome (ids (group_of_id t (id_number i)))) (group_edges (λ r. r) (members_of t k))
-      → Known (KnowsId t next spans ids) (group_edges (λ r. r) (members_of t k))
-  group-known sound held = grind (arith, group-ends t.groups k, names-earlier 0 t.groups k sound.references, all-both, knows)
+      → (members : List Read) → members_of t k ≡ map form.sub_type_of members
+      → All (λ m. Known (KnowsId t next spans ids) (sub_type_edges (λ i. i) (form.sub_type_of m))) members
+  members-known sound held members is =
+      let all : Known (KnowsId t next spans ids) (group_edges (λ r. r) (members_of t k)) = grind (arith, group-ends t.groups k, names-earlier 0 t.groups k sound.references, all-both, knows) in
+      All-from_map (λ m. Known (KnowsId t next spans ids) (sub_type_edges (λ i. i) m)) form.sub_type_of members
+      ((All-parts (CanLookUp (KnowsId t next spans ids)) (sub_type_edges (λ i. i)) (map form.sub_type_of members)).0 (rw is at all))
 
 -- ---- its members
 
@@ -89,13 +92,12 @@ module _ (t : TypesData) (next : ℕ) (spans : List Span) (ids : ℕ → Option 
       let short = All-from_map HasShortLists form.sub_type_of members (coe 0 1 (j. All HasShortLists (is j)) (all-in HasShortLists t.groups k sound.lists)) in
       all-both (λ m. ContinuesFunction (types_by_id t.groups) (form.sub_type_of m)) (λ m. HasShortLists (form.sub_type_of m)) (λ m. CanConvert (look_by_id t next spans ids) (form.composite_of m.composite)) (λ m continues short. grind arith) members resumed short
 
-  pub made-is : (k : ℕ) (members : List Read) → members_of t k ≡ map form.sub_type_of members → (made : List WasmSubType)
-      → map sub_type_of made ≡ map (map_sub_type (look_by_id t next spans ids) (index_in (look_by_id t next spans ids))) (map form.sub_type_of members)
-      → map interned_of made ≡ members_by_index t next spans ids k
-  made-is k members read made is =
-      sym (map-twice sub_type_of (map_sub_type (named interned_number) interned_number) interned_of (λ m. refl) made)
-      ∙ ap (map (map_sub_type (named interned_number) interned_number)) (is ∙ ap (map (map_sub_type (look_by_id t next spans ids) (index_in (look_by_id t next spans ids)))) (sym read))
-      ∙ group_shape.map_twice (look_by_id t next spans ids) (named interned_number) (index_in (look_by_id t next spans ids)) interned_number (members_of t k)
+  pub made-is : (m : SubType UnpackedIndex UnpackedIndex) (made : WasmSubType)
+      → sub_type_of made ≡ map_sub_type (look_by_id t next spans ids) (index_in (look_by_id t next spans ids)) m
+      → interned_of made ≡ map_sub_type (λ i. name_by_id t next spans ids (id_number i)) (λ i. index_by_id t next spans ids (id_number i)) m
+  made-is m made is =
+      ap (map_sub_type (named interned_number) interned_number) is
+      ∙ sub_type_shape.map_twice (look_by_id t next spans ids) (named interned_number) (index_in (look_by_id t next spans ids)) interned_number m
 
 pub members-long : (t : TypesData) (b : Builder) (k : ℕ) → length (interned_members t b k) ≡ length (members_of t k)
 members-long t b k = length-map (members_of t k) _
@@ -105,21 +107,10 @@ members-long t b k = length-map (members_of t k) _
 -- what looks up the ids of a converter knows each that the converter knows
 pub known-by : (Callable : Index TypeSpace → Type 0) (b : BuilderState) (bound : ℕ) (ids : Option TypesAndGroup) (i : UnpackedIndex) (id : CoreTypeId)
     → i ≡ index.Id id → CanLookUp (KnowsIndex Callable b bound ids) i → (p : TypesAndGroup) → ids ≡ Some p → HaveIndices b ids
-    → (t : TypesData) (list : TypeList) (held : List (Option ℕ)) → t ≡ p.0 → list ≡ b.list → held ≡ b.ids
-    → CanLookUp (KnowsId t (length list.types) (map span_of list.groups) (noted_at held)) i
-known-by Callable b bound ids i id is known p one have t list held types lists helds =
+    → (t : TypesData) (list : TypeList) (held : List (Option ℕ)) (next : TypeIndex) → t ≡ p.0 → list ≡ b.list → held ≡ b.ids → next ≡ index_of (length b.list.types)
+    → CanLookUp (KnowsId t (number_of next) (map span_of list.groups) (noted_at held)) i
+known-by Callable b bound ids i id is known p one have t list held next types lists helds nexts =
     let here = coe 0 1 (j. CanLookUp (KnowsIndex Callable b bound (one j)) (is j)) known in
     let whole = coe 0 1 (j. HaveIndices b (one j)) have in
     let found = index-known p.0 (length b.list.types) (builder_view b).built.groups (builder_view b).ids p.1 whole.0 whole.1 id.0 here.0 here.1 in
-    coe 0 1 (j. CanLookUp (KnowsId (sym types j) (length (sym lists j).types) (map span_of (sym lists j).groups) (noted_at (sym helds j))) (sym is j)) found
-
--- ---- what is known of each part
-
-pub all-parts : {A B E : Type 0} (P : E → Type 0) (edges : B → List E) (view : A → B) (xs : List A) → All P (flat_map edges (map view xs))
-    → All (λ x. All P (edges (view x))) xs
-all-parts P edges view xs all = All-from_map (λ y. All P (edges y)) view xs ((All-parts P edges (map view xs)).0 all)
-
--- what a list of converted parts is, past the last
-pub converted : {A B C D : Type 0} (made : D → C) (f : B → C) (view : A → B) (xs : List A) (n : ℕ) (ys : List D) → length xs ≤ n
-    → map made ys ≡ map (λ x. f (view x)) (take n xs) → map made ys ≡ map f (map view xs)
-converted made f view xs n ys past each = grind (arith, take_all, map-twice)
+    coe 0 1 (j. CanLookUp (KnowsId (sym types j) (number_of (sym nexts j)) (map span_of (sym lists j).groups) (noted_at (sym helds j))) (sym is j)) found

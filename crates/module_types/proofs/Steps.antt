@@ -1,12 +1,12 @@
 -- What a step of an interner does to what it holds, and what its types are named by.
 use Rattle.std.proofs.Common.{[], arith}
-use Rattle.std.proofs.Common.{◌≡◌, ℕ, zero, suc, ◌+◌, List, ◌∷◌, ◌++◌, length, map, replicate, Bool, true, false, cond, Option, Some, None, refl, sym, ap, ◌∙◌, IsTrue}
+use Rattle.std.proofs.Common.{◌≡◌, ℕ, zero, suc, ◌+◌, List, ◌∷◌, ◌++◌, length, map, replicate, take, Bool, true, false, cond, Option, Some, None, refl, sym, ap, ◌∙◌, IsTrue}
 use Rattle.std.specs.Prelude.{if◌then◌else◌, slice_get}
 use Rattle.std.specs.Option.{option_map}
 use Rattle.std.specs.declared.ops.Range.{Range}
 use Rattle.std.proofs.lemmas.List.{length-map, length-append, map-append, map-set}
 use Rattle.wasm_spec.specs.TypeData.{Func, map_field, map_value}
-use Rattle.type_spec.specs.Interned.{Called, Built, mapped, same_mapped, plain, alone, now_known, knows, with_trampoline, assign_at, assign_trampoline, composite_at, next_span, opened, kind_of_type, field_for, with_exception}
+use Rattle.type_spec.specs.Interned.{Interned, Called, Built, mapped, same_mapped, plain, alone, now_known, knows, with_trampoline, assign_at, assign_trampoline, composite_at, next_span, opened, kind_of_type, field_for, with_exception}
 use Rattle.wasm_index.specs.Index.{number_of, index_of}
 use Rattle.wasm_types.specs.declared.func.WasmFuncType.{WasmFuncType}
 use Rattle.wasm_types.specs.declared.composite.WasmCompositeInnerType.{WasmCompositeInnerType}
@@ -17,6 +17,7 @@ use Rattle.wasm_types.specs.Trampolines.{trampoline_of}
 use Rattle.module_types.specs.Views.{TypeIndex, inner_of, interned_of, called_of, function_at, index_at, interned_number, field_at}
 use Rattle.module_types.specs.TypeList.{TypeList, with_type, with_types, with_range, called_by}
 use Rattle.module_types.specs.Held.{built_of}
+use Rattle.module_types.specs.declared.interner.Interner.{Interner}
 use Rattle.module_types.specs.Interner.{with_next_trampoline}
 use Rattle.module_types.proofs.Keys.{function-back, mapped-is, called-mapped, key-is}
 use Rattle.wasm_types.specs.ValueViews.{Name, value_of, field_of}
@@ -74,6 +75,12 @@ module _ (l : TypeList) (get : WasmFuncType → Option TypeIndex) where
       → r.end ≡ index_of (length (l.types ++ ts))
       → built_of (with_range (with_types l ts) r) get ≡ opened held (map interned_of ts)
   opened-is ts r start end = grind (arith, more-is, map-replicate, length-map)
+
+-- the first types of a group were appended, which are in no group yet and have no trampolines
+pub record Grown (old now : Interner) (ts : List Interned) (n : ℕ) : Type 0 where
+  pub more : List WasmSubType
+  pub is : now ≡ record old { list = with_types old.list more }
+  pub are : map interned_of more ≡ take n ts
 
 -- what is known once a key is noted that a type stands for
 noted-by : (get : WasmFuncType → Option TypeIndex) (key : WasmFuncType) (m : Called) → ((g : Called) → func.ghosts.eq key (function_at g) ≡ same_mapped m g)

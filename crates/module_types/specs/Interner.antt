@@ -1,5 +1,5 @@
 -- What an interner holds.
-use Rattle.std.specs.Prelude.{◌≡◌, ℕ, false, length, Option, Some, None}
+use Rattle.std.specs.Prelude.{◌≡◌, ℕ, false, List, length, Option, Some, None}
 use Rattle.entity_map.specs.declared.seed.Seeded.{Seeded}
 use Rattle.wasm_types.specs.declared.func.WasmFuncType.{WasmFuncType}
 use Rattle.wasm_types.specs.Trampolines.{trampoline_of}
@@ -12,6 +12,8 @@ use Rattle.type_spec.specs.Interned.{Called, Built, plain, alone, with_trampolin
 use Rattle.module_types.specs.Orderly.{IsOrderly}
 use Rattle.module_types.specs.declared.interner.Interner.{Interner}
 use Rattle.module_types.specs.Held.{built_of}
+use Rattle.module_types.specs.Noted.{noted_at}
+use Rattle.module_types.specs.Builder.{Builder, new_builder}
 use Rattle.module_types.specs.Met.{digest_of, met_at, IsLinked}
 
 -- where the function types that were met stand
@@ -24,6 +26,10 @@ built i = built_of i.list (known i)
 -- each type that was met is found
 abbrev pub FindsMet : Interner → Type 0
 FindsMet i = IsLinked i.list.types i.met
+
+-- the same, with the ids of its groups, as a builder that holds nothing else
+abbrev pub holding : Built → List (Option ℕ) → Builder
+holding b ids = record (new_builder 0) { built = b; ids = noted_at ids }
 
 -- between growing calls
 pub record IsSound (i : Interner) : Type 0 where

@@ -3,21 +3,27 @@
 ghost use Rattle.std.specs.Prelude.{◌≡◌, ◌+◌, ◌-◌, ◌<◌, ◌≤◌, [], ◌∷◌, ◌++◌, length, map, drop, Some, IfOk, OnOk, IsTrue, true};
 ghost use Rattle.std.specs.Option.{option_map};
 ghost use Rattle.wasm_spec.specs.TypeData.{Func};
-ghost use Rattle.type_spec.specs.Interned.{empty, plain, alone, assign_trampoline, assign_trampolines, opened, with_group, with_exception, with_startup, composite_at};
+ghost use Rattle.type_spec.specs.Interned.{empty, plain, alone, assign_trampoline, assign_trampolines, with_group, with_exception, with_startup, composite_at};
 ghost use Rattle.wasm_index.specs.Index.{number_of};
 ghost use Rattle.wasm_types.specs.Views.{func_in};
 ghost use Rattle.wasm_types.specs.Trampolines.{trampoline_of};
 ghost use Rattle.module_types.specs.Views.{called_of, interned_of, field_at};
 ghost use Rattle.module_types.specs.Orderly.{IsOrderly};
 ghost use Rattle.module_types.specs.Builder.{is_function};
-ghost use Rattle.module_types.specs.Interner.{built, known, with_next_trampoline, FindsMet, IsTrampoline};
+ghost use Rattle.module_types.specs.Conversion.{interned_members};
+ghost use Rattle.module_types.specs.InTurn.{CanIntern};
+ghost use Rattle.module_types.specs.Interner.{built, holding, known, with_next_trampoline, FindsMet, IsTrampoline};
 ghost use Rattle.module_types.specs.Met.{digest_of};
 
+use crate::group_converter::GroupConverter;
 use crate::list::ModuleTypes;
 use crate::met::MetTypes;
+use crate::noted::NotedIndices;
 use entity_map::{EntityRef, OutOfMemory, TryCow};
+use form_types::{RecGroupId, Types};
 use std::alloc::Global;
-use wasm_index::ModuleInternedTypeIndex;
+use wasm_convert::TypeConvert;
+use wasm_index::{ModuleInternedRecGroupSpace, ModuleInternedTypeIndex};
 use wasm_types::{
     EngineOrModuleTypeIndex, WasmCompositeInnerType, WasmCompositeType, WasmExnType, WasmFieldType,
     WasmFuncType, WasmStorageType, WasmSubType, WasmValType,
@@ -192,41 +198,41 @@ impl Interner {
         Ok(())
     }
 
-    // Appends a group, with no trampolines.
-    fn open_group(&mut self, members: Vec<WasmSubType>) -> Result<(), OutOfMemory>
-        requires filled { 0 < length members.items }
-        requires orderly { IsOrderly (built self.old) }
-        requires found { FindsMet self.old }
-        requires room { length (with_group (built self.old) (map interned_of members.items)).types < u32.MAX }
-        ensures opened { OnOk result (built self.new ≡ opened (built self.old) (map interned_of members.items)) }
-        ensures orderly { OnOk result (IsOrderly (built self.new)) }
-        ensures found { OnOk result (FindsMet self.new) }
-    {
-        let start = self.list.next_ty();
-        self.list.push_all(members)?;
-        let end = self.list.next_ty();
-        self.list.push_rec_group(start..end)?;
-        Ok(())
-    }
-
-    /// Appends a group, and then the trampolines that are missing. Where it is the first, digests of mapped types begin from the seed.
+    /// Appends a group of a list of types, each member converted, and then the trampolines that are missing. Where it is the first, digests
+    /// of mapped types begin from the list's seed.
     pub(crate) fn push_group(
         &mut self,
         alloc: Global,
-        seed: u64,
-        members: Vec<WasmSubType>,
+        ids: &NotedIndices<ModuleInternedRecGroupSpace>,
+        types: &Types,
+        id: RecGroupId,
     ) -> Result<(), OutOfMemory>
-        requires filled { 0 < length members.items }
+        requires can { CanIntern types.now (holding (built self.old) ids.now) id.0 }
         requires orderly { IsOrderly (built self.old) }
         requires found { FindsMet self.old }
-        requires room { length (with_group (built self.old) (map interned_of members.items)).types < u32.MAX }
-        ensures built { OnOk result (built self.new ≡ with_group (built self.old) (map interned_of members.items)) }
+        requires room { length (with_group (built self.old) (interned_members types.now (holding (built self.old) ids.now) id.0)).types < u32.MAX }
+        ensures built { OnOk result (built self.new ≡ with_group (built self.old) (interned_members types.now (holding (built self.old) ids.now) id.0)) }
         ensures found { OnOk result (FindsMet self.new) }
     {
-        self.seed_from(alloc, seed);
-        let first = self.list.len_types();
-        self.open_group(members)?;
-        self.assign_trampolines(alloc, first)
+        let next = self.list.next_ty();
+        let members = types.members(id);
+        // With room for a trampoline, which functions of one group mostly share: without it the list would double for one type.
+        self.list.reserve(members.len() + 1)?;
+        for member in members {
+            let list = &self.list;
+            let converter = GroupConverter {
+                list,
+                ids,
+                types,
+                next,
+            };
+            let ty = converter.convert_sub_type(alloc, member)?;
+            self.list.push(ty)?;
+        }
+        let end = self.list.next_ty();
+        self.list.push_rec_group(next..end)?;
+        self.seed_from(alloc, types.seed());
+        self.assign_trampolines(alloc, next.index())
     }
 
     /// Appends the exception type of a function type.

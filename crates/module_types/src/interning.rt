@@ -1,21 +1,17 @@
 //! Groups of a list of types, interned under their ids.
 
-ghost use Rattle.std.specs.Prelude.{◌≡◌, ◌↔◌, ◌+◌, ◌<◌, length, map, None, IfOk, IsOk, IsSome, OnOk, OnErr, Err, true, false};
-ghost use Rattle.type_spec.specs.Interned.{with_group};
+ghost use Rattle.std.specs.Prelude.{◌≡◌, ◌↔◌, ◌<◌, length, IfOk, IsOk, IsSome, OnOk, OnErr, Err, true, false};
 ghost use Rattle.form_types.specs.Types.{types_by_id};
-ghost use Rattle.wasm_index.specs.Index.{number_of};
-ghost use Rattle.module_types.specs.Views.{interned_of};
+ghost use Rattle.wasm_index.specs.Index.{number_of, index_of};
 ghost use Rattle.module_types.specs.Conversion.{members_of, group_of_id, interned_members, interned_index, HoldsGroups, NamesInterned};
 ghost use Rattle.module_types.specs.Builder.{builder_view, group_index, interns};
 
 use crate::builder::ModuleTypesBuilder;
 use crate::error::BuildError;
-use crate::group_converter::{GroupConverter, convert_members};
-use entity_map::OutOfMemory;
+use crate::group_converter::GroupConverter;
 use form_types::{RecGroupId, Types};
 use wasm_index::{ModuleInternedRecGroupIndex, ModuleInternedTypeIndex};
 use wasm_spec::CoreTypeId;
-use wasm_types::WasmSubType;
 
 impl ModuleTypesBuilder {
     // The ids of a list of types, as they are looked up now.
@@ -23,47 +19,14 @@ impl ModuleTypesBuilder {
         ensures list { result.list.now ≡ self.now.list }
         ensures ids { result.ids.now ≡ self.now.ids }
         ensures types { result.types.now ≡ types.now }
+        ensures next { result.next ≡ index_of (length self.now.list.types) }
     {
         GroupConverter {
             list: &self.interner.list,
             ids: &self.ids,
             types,
+            next: self.interner.list.next_ty(),
         }
-    }
-
-    // A group that is to be interned next, converted.
-    fn converted(&self, types: &Types, id: RecGroupId) -> Result<Vec<WasmSubType>, OutOfMemory>
-        requires known { id.0 < length types.now.groups }
-        requires holds { HoldsGroups types.now (builder_view self.now) }
-        requires named { NamesInterned types.now (builder_view self.now) id.0 }
-        requires room { length self.now.list.types + length (members_of types.now id.0) < u32.MAX }
-        ensures { IfOk result (λ ts. map interned_of ts.items ≡ interned_members types.now (builder_view self.now) id.0) }
-    {
-        let converter = self.looking_up(types);
-        convert_members(self.alloc, &converter, types.members(id))
-    }
-
-    // Appends a group under an id that is not held, and gives its index.
-    fn append_group(
-        &mut self,
-        seed: u64,
-        id: RecGroupId,
-        members: Vec<WasmSubType>,
-    ) -> Result<ModuleInternedRecGroupIndex, OutOfMemory>
-        requires sound { self.old.is_poisoned ≡ false }
-        requires unheld { (builder_view self.old).ids id.0 ≡ None }
-        requires filled { 0 < length members.items }
-        requires room { length (with_group (builder_view self.old).built (map interned_of members.items)).types < u32.MAX }
-        ensures index { IfOk result (λ k. number_of k ≡ length self.old.list.groups) }
-        ensures appended { OnOk result (builder_view self.new ≡ interns (builder_view self.old) id.0 (map interned_of members.items)) }
-        ensures err { OnErr result (self.new.is_poisoned ≡ true) }
-    {
-        self.poisoned = true;
-        let next = self.interner.list.next_rec_group();
-        self.interner.push_group(self.alloc, seed, members)?;
-        self.ids.note(id.0, next)?;
-        self.poisoned = false;
-        Ok(next)
     }
 
     /// Interns a group of a list of types, and gives its index. Where its id is held nothing changes; a new group is
@@ -93,14 +56,12 @@ impl ModuleTypesBuilder {
         if let Some(found) = self.ids.get(id.0) {
             return Ok(found);
         }
-        let Ok(members) = self.converted(types, id) else {
-            self.poisoned = true;
-            return Err(BuildError::OutOfMemory);
-        };
-        match self.append_group(types.seed(), id, members) {
-            Ok(index) => Ok(index),
-            Err(_) => Err(BuildError::OutOfMemory),
-        }
+        self.poisoned = true;
+        let next = self.interner.list.next_rec_group();
+        self.interner.push_group(self.alloc, &self.ids, types, id)?;
+        self.ids.note(id.0, next)?;
+        self.poisoned = false;
+        Ok(next)
     }
 
     /// Interns the group of a type, as `intern_rec_group` does, and gives the type's index.

@@ -8,7 +8,7 @@ ghost use Rattle.entity_map.specs.ValuesMut.{left};
 ghost use Rattle.wasm_index.specs.Index.{number_of, index_of};
 ghost use Rattle.module_types.specs.Lent.{LendsTypes};
 ghost use Rattle.module_types.specs.Views.{span_of};
-ghost use Rattle.module_types.specs.TypeList.{no_types, with_type, with_types, with_range, called_by, trampoline_at, elements_of, called_from};
+ghost use Rattle.module_types.specs.TypeList.{no_types, with_type, with_range, called_by, trampoline_at, elements_of, called_from};
 
 use crate::iterators::{RecGroupElements, RecGroups, TrampolineTypes};
 use entity_map::{EntityRef, OutOfMemory, PrimaryIter, PrimaryMap, ValuesMut};
@@ -141,19 +141,6 @@ impl ModuleTypes {
                 Err(refused)
             }
         }
-    }
-
-    // Appends types, which are in no group and have no trampolines.
-    pub(crate) fn push_all(&mut self, types: Vec<WasmSubType>) -> Result<(), OutOfMemory>
-        requires { length self.old.types + length types.items < u32.MAX }
-        ensures { OnOk result (self.new ≡ with_types self.old types.items) }
-    {
-        // With room for a trampoline, which functions of one group mostly share: without it the list would double for one type.
-        self.reserve(types.len() + 1)?;
-        for ty in types {
-            self.push(ty)?;
-        }
-        Ok(())
     }
 
     /// Each function type that has a trampoline, with the trampoline's index, in index order.

@@ -1,7 +1,7 @@
 use Rattle.std.proofs.Common.{◌≡◌, ◌∙◌, ◌<◌, false, length, map, sym, ap}
 use Rattle.std.proofs.lemmas.List.{length-map}
 use Rattle.module_types.specs.Views.{interned_of, span_of}
-use Rattle.module_types.specs.TypeList.{TypeList}
+use Rattle.wasm_index.specs.Index.{number_of}
 use Rattle.module_types.specs.Builder.{builder_view, interns}
 use Rattle.module_types.specs.Noted.{noted_at}
 use Rattle.module_types.specs.Conversion.{interned_members, NamesInterned, HasIndex}
@@ -39,7 +39,7 @@ index_of-requires c =
     let list = sym c.looking_up.ensures.list in
     let ids = sym c.looking_up.ensures.ids in
     let types = sym c.looking_up.ensures.types in
-    let next : length (builder_view new).built.types ≡ length c.looking_up.result.list.now.types = length-map new.list.types interned_of ∙ ap (λ (l : TypeList). length l.types) list in
+    let next : length (builder_view new).built.types ≡ number_of c.looking_up.result.next = length-map new.list.types interned_of ∙ ap number_of (sym c.looking_up.ensures.next) in
     coe 0 1 (j. HasIndex (types j) (next j) (map span_of (list j).groups) (noted_at (ids j)) c.args.id.0) has
 
 pub returns-in-Ok-clause-interned : goal.returns-in-Ok-clause-interned

@@ -16,8 +16,8 @@ lookup_heap_type-requires g c =
     let s = c.args.self.now in
     known-by (λ i. g.F.TypeLookUp.callable s.lookup_type_idx i) s.types.now s.count (option_map (λ p. (p.0.now, p.1.0)) s.rec_group)
     c.args.index c.in-Id.field-0 c.in-Id.is c.requires (c.in-Some.types.now, c.in-Some.field-0-1.0)
-    (λ j. option_map (λ p. (p.0.now, p.1.0)) (c.in-Some.is j)) s.have_indices _ _ _
-    c.looking_up.ensures.types c.looking_up.ensures.list c.looking_up.ensures.ids
+    (λ j. option_map (λ p. (p.0.now, p.1.0)) (c.in-Some.is j)) s.have_indices _ _ _ _
+    c.looking_up.ensures.types c.looking_up.ensures.list c.looking_up.ensures.ids c.looking_up.ensures.next
 
 pub returns-in-Module : goal.returns-in-Module
 returns-in-Module g c = grind (arith, common_steps, name-is)

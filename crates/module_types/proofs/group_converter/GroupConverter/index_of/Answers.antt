@@ -1,7 +1,7 @@
 use Rattle.std.proofs.lemmas.Grind.{common_steps}
 use Rattle.std.proofs.Common.{◌∙◌, ◌+◌, ◌-◌, sym, ap, arith}
 use Rattle.std.proofs.lemmas.List.{length-map}
-use Rattle.wasm_index.specs.Index.{number_of, index_of}
+use Rattle.wasm_index.specs.Index.{index_of}
 use Rattle.module_types.specs.Views.{span_of}
 use Rattle.module_types.proofs.Places.{some, before, stands, held-within, held-index, next-within, next-index}
 use Rattle.module_types.proofs.group_converter.GroupConverter.index_of.Goals as goal
@@ -40,17 +40,17 @@ pub overflow_add-as_u32 : goal.overflow_add-as_u32
 overflow_add-as_u32 c =
     let w = next-within c.requires c.rec_group_id_of-group.ensures.number c.rec_group_id_of-group.ensures.known c.rec_group_elements.ensures
     c.in-Some.ensures.steps (sym c.in-None.ensures) in
-    omega (arith, w, c.as_u32.ensures, ap number_of c.next_ty.ensures)
+    omega (arith, w)
 
 pub from_u32-requires-in-None : goal.from_u32-requires-in-None
 from_u32-requires-in-None c =
     let w = next-within c.requires c.rec_group_id_of-group.ensures.number c.rec_group_id_of-group.ensures.known c.rec_group_elements.ensures
     c.in-Some.ensures.steps (sym c.in-None.ensures) in
-    omega (arith, w, c.as_u32.ensures, ap number_of c.next_ty.ensures)
+    omega (arith, w)
 
 pub returns-in-None : goal.returns-in-None
 returns-in-None c =
     c.from_u32-in-None.ensures
-    ∙ ap index_of (ap (λ n. n + (c.args.id.0 - c.in-Some.first.0)) (c.as_u32.ensures ∙ ap number_of c.next_ty.ensures)
+    ∙ ap index_of (ap (λ n. n + (c.args.id.0 - c.in-Some.first.0)) c.as_u32.ensures
     ∙ sym (next-index c.requires c.rec_group_id_of-group.ensures.number c.rec_group_id_of-group.ensures.known c.rec_group_elements.ensures
     c.in-Some.ensures.steps (sym c.in-None.ensures)))
