@@ -77,10 +77,12 @@ pub fn named_by(ty: &ValType) -> Option<UnpackedIndex>
     ensures { option_to_list result ≡ value_edges (λ i. i) (value_of ty.now) }
 {
     match ty {
-        ValType::Ref(RefType {
-            heap: HeapType::Concrete(index),
-            ..
-        }) => Some(*index),
+        ValType::Ref(
+            RefType {
+                heap: HeapType::Concrete(index),
+                ..
+            },
+        ) => Some(*index),
         _ => None,
     }
 }
