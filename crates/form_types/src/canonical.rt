@@ -1,6 +1,6 @@
 //! The keys by which groups are told apart.
 
-ghost use Rattle.std.specs.Prelude.{◌≡◌, ◌+◌, ◌≤◌, [], ◌∷◌, ◌++◌, map, IfOk, OnOk, Option, is_some, vec_len, vec_capacity};
+ghost use Rattle.std.specs.Prelude.{◌≡◌, ◌+◌, ◌<◌, ◌≤◌, [], ◌∷◌, ◌++◌, map, IfOk, OnOk, Option, is_some, vec_len, vec_capacity};
 ghost use Rattle.std.specs.List.{flat_map};
 ghost use Rattle.std.specs.Option.{option_to_list};
 ghost use Rattle.wasm_spec.specs.TypeData.{heap_of, reference_of, value_of, storage_of, field_of, value_edges, storage_edges, field_edges, function_edges, composite_edges, reference_edges, sub_type_edges, group_edges};
@@ -138,12 +138,23 @@ impl CanonicalGroup {
     {
         self.frame.reserve(values.len() + 1)?;
         for value in values {
-            self.frame.push_reserved(value_code(value));
-            if let Some(index) = named_by(value) {
-                self.references.push(index)?;
-            }
+            self.add_value(value)?;
         }
         self.frame.push_reserved(END);
+        Ok(())
+    }
+
+    /// Adds a value, for which there is room.
+    fn add_value(&mut self, value: &ValType) -> Result<(), AllocError>
+        requires { vec_len self.old.frame < vec_capacity self.old.frame }
+        ensures adds { OnOk result (Adds self.old self.new (value_code (value_of value.now) ∷ []) (value_edges (λ i. i) (value_of value.now))) }
+        ensures len { vec_len self.new.frame ≡ vec_len self.old.frame + 1 }
+        ensures capacity { vec_capacity self.new.frame ≡ vec_capacity self.old.frame }
+    {
+        self.frame.push_reserved(value_code(value));
+        if let Some(index) = named_by(value) {
+            self.references.push(index)?;
+        }
         Ok(())
     }
 

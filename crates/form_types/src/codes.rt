@@ -61,15 +61,13 @@ fn reference_code(ty: &RefType) -> u8
 pub fn value_code(ty: &ValType) -> u8
     ensures { result ≡ value_code (value_of ty.now) }
 {
-    if let ValType::Ref(ty) = ty {
-        return reference_code(ty);
-    }
     match ty {
         ValType::I32 => 0x7F,
         ValType::I64 => 0x7E,
         ValType::F32 => 0x7D,
         ValType::F64 => 0x7C,
-        _ => 0x7B,
+        ValType::V128 => 0x7B,
+        ValType::Ref(ty) => reference_code(ty),
     }
 }
 
@@ -79,10 +77,12 @@ pub fn named_by(ty: &ValType) -> Option<UnpackedIndex>
     ensures { option_to_list result ≡ value_edges (λ i. i) (value_of ty.now) }
 {
     match ty {
-        ValType::Ref(RefType {
-            heap: HeapType::Concrete(index),
-            ..
-        }) => Some(*index),
+        ValType::Ref(
+            RefType {
+                heap: HeapType::Concrete(index),
+                ..
+            },
+        ) => Some(*index),
         _ => None,
     }
 }
