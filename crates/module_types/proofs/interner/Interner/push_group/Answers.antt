@@ -66,8 +66,8 @@ module _ (i : Interner) (ids : List (Option ℕ)) (t : TypesData) (k : ℕ) (mem
         (λ none. omega (arith, long, ap length are, length-map members form.sub_type_of)) sound can.named members are
 
 module _ (i now : Interner) {ts : List Interned} {n : ℕ} (g : Grown i now ts n) where
-  types-now : n ≤ length ts → length now.list.types ≡ length i.list.types + n
-  types-now le = grind (arith, common_steps, ap length g.are)
+  types-now : length now.list.types ≤ length i.list.types + n
+  types-now = grind (arith, common_steps, ap length g.are)
 
   grown-more : (ty : WasmSubType) (l : TypeList) → l ≡ with_type now.list ty None → take (n + 1) ts ≡ take n ts ++ interned_of ty ∷ []
       → Grown i (record now { list = l }) ts (n + 1)
@@ -109,9 +109,8 @@ convert_sub_type-requires-clause-can c =
 
 pub push-requires : goal.push-requires
 push-requires c =
-    let n = count c.args.self.now c.args.ids.now c.args.types.now c.args.id.0 c.members-members.result.now c.members-members.ensures.members in
     let l = long c.args.self.now c.args.ids.now c.args.types.now c.args.id.0 c.members-members.result.now c.members-members.ensures.members c.requires.can c.requires.room in
-    omega (arith, l, types-now c.args.self.now c.loop-member.self c.loop-member.invariant (omega (arith, n)))
+    omega (arith, l, types-now c.args.self.now c.loop-member.self c.loop-member.invariant)
 
 pub loop-member-preserved : goal.loop-member-preserved
 loop-member-preserved c =
@@ -129,16 +128,11 @@ loop-member-preserved c =
 pub push_rec_group-requires : goal.push_rec_group-requires
 push_rec_group-requires c =
     let i = c.args.self.now in
-    let n = members-long c.args.types.now (holding (built i) c.args.ids.now) c.args.id.0 in
-    omega (
-      arith,
-      group-long (built i) (interned_members c.args.types.now (holding (built i) c.args.ids.now) c.args.id.0),
-      n,
-      few-groups (built i) c.requires.sound.orderly,
-      length-map i.list.types interned_of,
-      length-map i.list.groups span_of,
-      ap (λ (s : Interner). length s.list.groups) c.loop-member.invariant.is,
-    )
+    let long = group-long (built i) (interned_members c.args.types.now (holding (built i) c.args.ids.now) c.args.id.0) in
+    let some = members-long c.args.types.now (holding (built i) c.args.ids.now) c.args.id.0 in
+    let few = few-groups (built i) c.requires.sound.orderly in
+    let same = ap (λ (s : Interner). length s.list.groups) c.loop-member.invariant.is in
+    omega (arith, long, some, few, same, length-map i.list.types interned_of, length-map i.list.groups span_of)
 
 pub seed_from-requires : goal.seed_from-requires
 seed_from-requires c = record { found = found-now c.args.self.now c.loop-member.self c.loop-member.invariant _ _ c.in_ok-push_rec_group.ensures.ok c.requires.sound.found }
