@@ -101,7 +101,7 @@ few-more = grind (arith, each-step, length-append)
 -- ---- each step keeps the order of groups
 
 -- a group after the others
-orderly-more : (b : Built) (t : Interned) (ts : List Interned) → IsOrderly b
+pub orderly-more : (b : Built) (t : Interned) (ts : List Interned) → IsOrderly b
     → IsOrderly (record b { types = b.types ++ t ∷ ts; groups = b.groups ++ next_span b (length (t ∷ ts)) ∷ [] })
 orderly-more b t ts orderly = grind (arith, lie-to, length-append, one-more)
 

@@ -1,6 +1,6 @@
 -- What a builder shows after a growing call, and what it holds under ids: after one more index, one more group, and calls in turn.
-use Rattle.std.proofs.Common.{◌≡◌, ◌<◌, ℕ, true, false, List, length, Option, Some, None, refl, sym, ap, ◌∙◌, inl, inr, arith, zero, suc, [], ◌∷◌, OnOk}
-use Rattle.std.specs.Prelude.{if◌then◌else◌, slice_get, is_some, Result}
+use Rattle.std.proofs.Common.{◌≡◌, ◌<◌, ℕ, true, false, List, length, Option, Some, None, refl, sym, ap, ◌∙◌, inl, inr, arith, zero, suc, [], ◌∷◌}
+use Rattle.std.specs.Prelude.{if◌then◌else◌, slice_get, is_some}
 use Rattle.std.proofs.lemmas.Bool.{eqb-true, eq-eqb, cases_eq, eqb-false}
 use Rattle.std.proofs.lemmas.Option.{same_Some}
 use Rattle.type_spec.specs.Interned.{Interned, Span, with_group, opened, empty, with_exception, with_startup}
@@ -13,15 +13,11 @@ use Rattle.entity_map.specs.Secondary.{written}
 use Rattle.entity_map.proofs.SecondaryLemmas.{slice_get-written, slice_get-written_elsewhere}
 use Rattle.module_types.specs.Noted.{noted_at, note_of, notes_of}
 use Rattle.module_types.specs.Runs.{with_groups, runs, seen_in, firsts}
-use Rattle.std.specs.Result.{is_err}
 use Rattle.std.proofs.lemmas.List.{length-map}
 use Rattle.wasm_index.specs.declared.index.Index.{Index}
 use Rattle.wasm_index.specs.declared.spaces.ModuleInternedRecGroupSpace.{ModuleInternedRecGroupSpace}
 use Rattle.wasm_index.specs.Index.{number_of, index_of}
 use Rattle.module_types.specs.Views.{TypeIndex, interned_of}
-
-pub where-ok : {A E : Type 0} {P : Type 0} (r : Result A E) → is_err r ≡ false → OnOk r P → P
-where-ok r e p = grind arith
 
 -- one more number is noted
 abbrev Notes : List (Option ℕ) → List (Option ℕ) → ℕ → ℕ → Type 0

@@ -122,16 +122,8 @@ impl ModuleTypesBuilder {
         }
         self.poisoned = true;
         let next = self.interner.list.next_ty();
-        if self
-            .interner
-            .push_exception(self.alloc, for_func_ty)
-            .is_err()
-        {
-            return Err(BuildError::OutOfMemory);
-        }
-        if self.exceptions.note(key, next).is_err() {
-            return Err(BuildError::OutOfMemory);
-        }
+        self.interner.push_exception(self.alloc, for_func_ty)?;
+        self.exceptions.note(key, next)?;
         self.poisoned = false;
         Ok(next)
     }
@@ -156,9 +148,7 @@ impl ModuleTypesBuilder {
         }
         self.poisoned = true;
         let next = self.interner.list.next_ty();
-        if self.interner.push_startup(self.alloc).is_err() {
-            return Err(BuildError::OutOfMemory);
-        }
+        self.interner.push_startup(self.alloc)?;
         self.startup = Some(next);
         self.poisoned = false;
         Ok(next)

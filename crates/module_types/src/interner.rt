@@ -8,11 +8,10 @@ ghost use Rattle.wasm_index.specs.Index.{number_of};
 ghost use Rattle.wasm_types.specs.Views.{func_in};
 ghost use Rattle.wasm_types.specs.Trampolines.{trampoline_of};
 ghost use Rattle.module_types.specs.Views.{called_of, interned_of, field_at};
-ghost use Rattle.module_types.specs.Orderly.{IsOrderly};
 ghost use Rattle.module_types.specs.Builder.{is_function};
 ghost use Rattle.module_types.specs.Conversion.{interned_members};
 ghost use Rattle.module_types.specs.InTurn.{CanIntern};
-ghost use Rattle.module_types.specs.Interner.{built, holding, known, with_next_trampoline, FindsMet, IsTrampoline};
+ghost use Rattle.module_types.specs.Interner.{built, holding, known, with_next_trampoline, FindsMet, IsSound, IsTrampoline};
 ghost use Rattle.module_types.specs.Met.{digest_of};
 
 use crate::group_converter::GroupConverter;
@@ -106,10 +105,9 @@ impl Interner {
         trampoline: Option<ModuleInternedTypeIndex>,
     ) -> Result<(), OutOfMemory>
         requires room { length self.old.list.types < u32.MAX - 1 }
-        requires orderly { IsOrderly (built self.old) }
-        requires found { FindsMet self.old }
+        requires sound { IsSound self.old }
         ensures built { OnOk result (built self.new ≡ alone (built self.old) (interned_of ty) (option_map number_of trampoline)) }
-        ensures found { OnOk result (FindsMet self.new) }
+        ensures sound { OnOk result (IsSound self.new) }
         ensures types { OnOk result (self.new.list.types ≡ self.old.list.types ++ ty ∷ []) }
         ensures met { self.new.met ≡ self.old.met }
     {
@@ -143,8 +141,7 @@ impl Interner {
     ) -> Result<(), OutOfMemory>
         requires in_range { number_of ty < length self.old.list.types }
         requires room { length self.old.list.types < u32.MAX - 1 }
-        requires orderly { IsOrderly (built self.old) }
-        requires found { FindsMet self.old }
+        requires sound { IsSound self.old }
         requires mapped { trampoline_of mapped ≡ mapped }
         requires digest { digest ≡ digest_of self.old.met.hasher mapped }
         ensures built { OnOk result (built self.new ≡ with_next_trampoline (built self.old) (number_of ty) (called_of mapped)) }
@@ -163,8 +160,7 @@ impl Interner {
         ty: ModuleInternedTypeIndex,
     ) -> Result<(), OutOfMemory>
         requires in_range { number_of ty < length self.old.list.types }
-        requires orderly { IsOrderly (built self.old) }
-        requires found { FindsMet self.old }
+        requires sound { IsSound self.old }
         requires room { length (assign_trampoline (built self.old) (number_of ty) (composite_at (built self.old).types (number_of ty))).types < u32.MAX }
         ensures built { OnOk result (built self.new ≡ assign_trampoline (built self.old) (number_of ty) (composite_at (built self.old).types (number_of ty))) }
         ensures found { OnOk result (FindsMet self.new) }
@@ -186,11 +182,10 @@ impl Interner {
     // Gives each of the types from an index on its trampoline.
     fn assign_trampolines(&mut self, alloc: Global, first: usize) -> Result<(), OutOfMemory>
         requires in_range { first ≤ length self.old.list.types }
-        requires orderly { IsOrderly (built self.old) }
-        requires found { FindsMet self.old }
+        requires sound { IsSound self.old }
         requires room { length (assign_trampolines (built self.old) first (drop first (built self.old).types)).types < u32.MAX }
         ensures built { OnOk result (built self.new ≡ assign_trampolines (built self.old) first (drop first (built self.old).types)) }
-        ensures found { OnOk result (FindsMet self.new) }
+        ensures sound { OnOk result (IsSound self.new) }
     {
         for i in first..self.list.len_types() {
             self.assign_trampoline(alloc, ModuleInternedTypeIndex::new(i))?;
@@ -198,8 +193,8 @@ impl Interner {
         Ok(())
     }
 
-    /// Appends a group of a list of types, each member converted, and then the trampolines that are missing. Where it is the first, digests
-    /// of mapped types begin from the list's seed.
+    /// Appends a group of a list of types, and then the trampolines that are missing. Where it is the first, digests of mapped types begin
+    /// from the list's seed.
     pub(crate) fn push_group(
         &mut self,
         alloc: Global,
@@ -208,16 +203,17 @@ impl Interner {
         id: RecGroupId,
     ) -> Result<(), OutOfMemory>
         requires can { CanIntern types.now (holding (built self.old) ids.now) id.0 }
-        requires orderly { IsOrderly (built self.old) }
-        requires found { FindsMet self.old }
+        requires sound { IsSound self.old }
         requires room { length (with_group (built self.old) (interned_members types.now (holding (built self.old) ids.now) id.0)).types < u32.MAX }
         ensures built { OnOk result (built self.new ≡ with_group (built self.old) (interned_members types.now (holding (built self.old) ids.now) id.0)) }
-        ensures found { OnOk result (FindsMet self.new) }
+        ensures sound { OnOk result (IsSound self.new) }
     {
         let next = self.list.next_ty();
         let members = types.members(id);
         // With room for a trampoline, which functions of one group mostly share: without it the list would double for one type.
         self.list.reserve(members.len() + 1)?;
+        // Each is converted straight into the list: a list of them besides would be as long, and only be moved. So references of the group
+        // count from where it starts, and not from the list's next index.
         for member in members {
             let list = &self.list;
             let converter = GroupConverter {
@@ -243,11 +239,10 @@ impl Interner {
     ) -> Result<(), OutOfMemory>
         requires in_range { number_of function < length self.old.list.types }
         requires function { IsTrue (is_function (composite_at (built self.old).types (number_of function))) }
-        requires orderly { IsOrderly (built self.old) }
-        requires found { FindsMet self.old }
+        requires sound { IsSound self.old }
         requires room { length self.old.list.types < u32.MAX - 1 }
         ensures built { OnOk result (built self.new ≡ with_exception (built self.old) (number_of function)) }
-        ensures found { OnOk result (FindsMet self.new) }
+        ensures sound { OnOk result (IsSound self.new) }
     {
         let WasmCompositeInnerType::Func(func) = &self.list[function].composite_type.inner else {
             unreachable!()
@@ -269,11 +264,10 @@ impl Interner {
 
     /// Appends the startup type.
     pub(crate) fn push_startup(&mut self, alloc: Global) -> Result<(), OutOfMemory>
-        requires orderly { IsOrderly (built self.old) }
-        requires found { FindsMet self.old }
+        requires sound { IsSound self.old }
         requires room { length self.old.list.types < u32.MAX - 1 }
         ensures built { OnOk result (built self.new ≡ with_startup (built self.old) true) }
-        ensures found { OnOk result (FindsMet self.new) }
+        ensures sound { OnOk result (IsSound self.new) }
     {
         let ty = WasmFuncType::from_types(Vec::new(alloc), 0);
         self.push_alone(plain_function(ty), None)

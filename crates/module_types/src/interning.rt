@@ -84,9 +84,7 @@ impl ModuleTypesBuilder {
         ensures err { OnErr result (self.new.is_poisoned ≡ true) }
     {
         let group = types.rec_group_id_of(id);
-        match self.intern_rec_group(types, group) {
-            Ok(_) => Ok(self.looking_up(types).index_of(id)),
-            Err(refused) => Err(refused),
-        }
+        self.intern_rec_group(types, group)?;
+        Ok(self.looking_up(types).index_of(id))
     }
 }

@@ -5,12 +5,10 @@ use Rattle.form_types.specs.Types.{TypesData}
 use Rattle.wasm_index.specs.Index.{number_of}
 use Rattle.module_types.specs.Noted.{noted_at}
 use Rattle.module_types.specs.Views.{span_of}
-use Rattle.module_types.specs.Orderly.{IsOrderly}
-use Rattle.module_types.specs.Interner.{built, holding}
 use Rattle.module_types.specs.Builder.{BuilderState, builder_view, interns, interns_by}
 use Rattle.module_types.specs.Conversion.{interned_members, HoldsGroups, NamesInterned}
 use Rattle.module_types.specs.contracts.builder.ModuleTypesBuilder.{the_view}
-use Rattle.module_types.proofs.GroupMembers.{orderly-group, group-long, few-groups}
+use Rattle.module_types.proofs.GroupMembers.{group-long, few-groups}
 use Rattle.module_types.proofs.Convertible.{members-long}
 use Rattle.module_types.proofs.Holding.{shows-interned}
 use Rattle.module_types.proofs.builder.ModuleTypesBuilder.intern_rec_group.Goals as goal
@@ -35,17 +33,6 @@ opens t k s now is unheld sound room =
 
 pub push_group-requires-clause-room : goal.push_group-requires-clause-room
 push_group-requires-clause-room c = opens c.args.types.now c.args.id.0 (the_view c.self.inside) _ c.self.view_is c.in_default.ensures c.if-self.false c.requires.room
-
-pub invariant_of-self-2 : goal.invariant_of-self-2
-invariant_of-self-2 c = λ e.
-    let back = sym c.in_ok-push_group.ensures.built in
-    let old = c.self.inside in
-    let ts = interned_members c.args.types.now (holding (built old.interner) old.ids) c.args.id.0 in
-    record {
-      orderly = coe 0 1 (j. IsOrderly (back j)) (orderly-group (built old.interner) ts (omega (arith, c.requires.filled, members-long c.args.types.now (holding (built old.interner) old.ids) c.args.id.0))
-          (c.self.invariant c.if-self.false).orderly);
-      found = c.in_ok-push_group.ensures.found;
-    }
 
 pub note-requires : goal.note-requires
 note-requires c =

@@ -32,7 +32,7 @@ index_of-requires c =
     let ts = interned_members t b k in
     let new = c.intern_rec_group.new.self in
     let is = group-is t c.args.id.0 k c.rec_group_id_of-group.ensures.number in
-    let made = sym c.in-Ok.ensures.interned in
+    let made = sym c.in_ok-intern_rec_group.ensures.interned in
     let has : HasIndex t (length (builder_view new).built.types) (builder_view new).built.groups (builder_view new).ids c.args.id.0 =
     coe 0 1 (j. HasIndex t (length (made j).built.types) (made j).built.groups (made j).ids c.args.id.0)
     (has-index t b k ts c.requires.holds (members-long t b k) c.args.id.0 c.requires.known is) in
@@ -42,8 +42,8 @@ index_of-requires c =
     let next : length (builder_view new).built.types ≡ number_of c.looking_up.result.next = length-map new.list.types interned_of ∙ ap number_of (sym c.looking_up.ensures.next) in
     coe 0 1 (j. HasIndex (types j) (next j) (map span_of (list j).groups) (noted_at (ids j)) c.args.id.0) has
 
-pub returns-in-Ok-clause-interned : goal.returns-in-Ok-clause-interned
-returns-in-Ok-clause-interned c =
+pub returns-clause-interned : goal.returns-clause-interned
+returns-clause-interned c =
     let is = group-is c.args.types.now c.args.id.0 c.rec_group_id_of-group.result.0 c.rec_group_id_of-group.ensures.number in
     let b = builder_view c.args.self.now in
-    c.in-Ok.ensures.interned ∙ ap (λ k. interns b k (interned_members c.args.types.now b k)) (sym is)
+    c.in_ok-intern_rec_group.ensures.interned ∙ ap (λ k. interns b k (interned_members c.args.types.now b k)) (sym is)

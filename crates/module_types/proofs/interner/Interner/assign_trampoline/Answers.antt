@@ -55,13 +55,13 @@ module _ (i : Interner) (found : FindsMet i) (ty : TypeIndex) (x : WasmSubType) 
 pub returns-in_ok-note-in-Itself-clause-built : goal.returns-in_ok-note-in-Itself-clause-built
 returns-in_ok-note-in-Itself-clause-built c =
     let i = c.args.self.now in
-    gains-itself i c.requires.found c.args.ty c.index.result.now c.index.ensures c.in-Func.func c.in-Func.is c.in-Itself.digest
+    gains-itself i c.requires.sound.found c.args.ty c.index.result.now c.index.ensures c.in-Func.func c.in-Func.is c.in-Itself.digest
     (subst (IsTrampoline (known i) i.met.hasher c.in-Func.func) c.in-Itself.is c.in_ok-found.ensures) _ c.set_trampoline-in-Itself.ensures _ c.in_ok-note-in-Itself.ensures
 
 pub returns-in_ok-note-in-Itself-clause-found : goal.returns-in_ok-note-in-Itself-clause-found
 returns-in_ok-note-in-Itself-clause-found c =
     let i = c.args.self.now in
-    finds-itself i c.requires.found c.args.ty c.index.result.now c.index.ensures c.in-Func.func c.in-Func.is c.in-Itself.digest
+    finds-itself i c.requires.sound.found c.args.ty c.index.result.now c.index.ensures c.in-Func.func c.in-Func.is c.in-Itself.digest
     (subst (IsTrampoline (known i) i.met.hasher c.in-Func.func) c.in-Itself.is c.in_ok-found.ensures) _ c.set_trampoline-in-Itself.ensures _ c.in_ok-note-in-Itself.ensures
 
 -- another type comes next

@@ -7,7 +7,7 @@ use Rattle.module_types.proofs.GroupMembers.{along-none, along-more, along-room}
 use Rattle.module_types.proofs.interner.Interner.assign_trampolines.Goals as goal
 
 pub loop-i-init : goal.loop-i-init
-loop-i-init c = record { along = along-none (built c.args.self.now) c.args.first c.requires.orderly; found = c.requires.found }
+loop-i-init c = record { along = along-none (built c.args.self.now) c.args.first c.requires.sound.orderly; found = c.requires.sound.found }
 
 pub assign_trampoline-requires-clause-room : goal.assign_trampoline-requires-clause-room
 assign_trampoline-requires-clause-room c =

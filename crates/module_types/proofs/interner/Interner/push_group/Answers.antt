@@ -1,9 +1,7 @@
 use Rattle.std.proofs.lemmas.Grind.{common_steps}
 use Rattle.std.proofs.Common.{◌≡◌, ◌∙◌, ◌<◌, ◌≤◌, ◌+◌, ℕ, List, [], ◌∷◌, ◌++◌, length, take, drop, get_or, map, All, Option, sym, ap, arith}
 use Rattle.std.specs.Prelude.{slice_get, Some, None}
-use Rattle.std.proofs.Math.Seq.{take-suc}
-use Rattle.std.proofs.Math.ListN.{get_or-map}
-use Rattle.std.proofs.lemmas.List.{take-map, length-map, map-append, take_all, drop_at}
+use Rattle.std.proofs.lemmas.List.{length-append, length-map, map-append, take-map, take_all, drop_at}
 use Rattle.std.proofs.lemmas.Option.{get_or_from_slice_get}
 use Rattle.std.proofs.lemmas.Result.{on_ok_weaker}
 use Rattle.std.specs.declared.ops.Range.{Range}
@@ -36,7 +34,7 @@ use Rattle.module_types.proofs.interner.Interner.push_group.Goals as goal
 
 stepped : {A B C : Type 0} (f : B → C) (g : A → B) (xs : List A) (n : ℕ) (x : A) → n < length xs → x ≡ get_or xs n x
     → take (n + 1) (map f (map g xs)) ≡ take n (map f (map g xs)) ++ f (g x) ∷ []
-stepped f g xs n x lt at = first_of (grind (arith, take-suc, get_or-map, length-map), grind (arith, common_steps, take-map, map-append))
+stepped f g xs n x lt at = grind (arith, common_steps, take-map, map-append)
 
 -- a member more
 module _ (i : Interner) (ids : List (Option ℕ)) (t : TypesData) (k : ℕ) (members : List Read) (read : slice_get t.groups k ≡ Some (map form.sub_type_of members)) where
@@ -68,8 +66,8 @@ module _ (i : Interner) (ids : List (Option ℕ)) (t : TypesData) (k : ℕ) (mem
         (λ none. omega (arith, long, ap length are, length-map members form.sub_type_of)) sound can.named members are
 
 module _ (i now : Interner) {ts : List Interned} {n : ℕ} (g : Grown i now ts n) where
-  types-now : n ≤ length ts → length now.list.types ≡ length i.list.types + n
-  types-now le = grind (arith, common_steps, ap length g.are)
+  types-now : length now.list.types ≤ length i.list.types + n
+  types-now = grind (arith, common_steps, ap length g.are)
 
   grown-more : (ty : WasmSubType) (l : TypeList) → l ≡ with_type now.list ty None → take (n + 1) ts ≡ take n ts ++ interned_of ty ∷ []
       → Grown i (record now { list = l }) ts (n + 1)
@@ -83,17 +81,17 @@ module _ (i now : Interner) {ts : List Interned} {n : ℕ} (g : Grown i now ts n
     found-now : FindsMet (record now { list = l })
     found-now = coe 0 1 (j. IsLinked (sym listed j).types (sym g.is j).met) (linked-on i.list.types g.more i.met found)
 
-    opened-now : range.start ≡ index_of (length i.list.types) → range.end ≡ index_of (length now.list.types) → length ts ≤ n
-        → built (record now { list = l }) ≡ opened (built i) ts
-    opened-now start end past =
-        (λ j. built_of (listed j) (met_at (listed j).types (g.is j).met))
-        ∙ ap (built_of (with_range (with_types i.list g.more) range)) (known-on i.list.types g.more i.met found)
-        ∙ opened-is i.list (known i) g.more range start (end ∙ ap (λ (s : Interner). index_of (length s.list.types)) g.is)
-        ∙ ap (opened (built i)) (g.are ∙ take_all n ts past)
+    module _ (start : range.start ≡ index_of (length i.list.types)) (end : range.end ≡ index_of (length now.list.types)) (past : length ts ≤ n)
+        (b : Built) (seeded : b ≡ built (record now { list = l })) where
+      opened-now : b ≡ opened (built i) ts
+      opened-now =
+          seeded ∙ (λ j. built_of (listed j) (met_at (listed j).types (g.is j).met))
+          ∙ ap (built_of (with_range (with_types i.list g.more) range)) (known-on i.list.types g.more i.met found)
+          ∙ opened-is i.list (known i) g.more range start (end ∙ ap (λ (s : Interner). index_of (length s.list.types)) g.is)
+          ∙ ap (opened (built i)) (g.are ∙ take_all n ts past)
 
-assigned : (b now : Built) (ts : List Interned) → now ≡ opened b ts → (first : ℕ) → first ≡ length b.types
-    → assign_trampolines now first (drop first now.types) ≡ with_group b ts
-assigned b now ts is first from = grind (arith, drop_at)
+      assigned : (first : ℕ) → first ≡ number_of range.start → assign_trampolines b first (drop first b.types) ≡ with_group (built i) ts
+      assigned first from = grind (arith, opened-now, start, drop_at, length-map)
 
 pub convert_sub_type-requires-clause-known : goal.convert_sub_type-requires-clause-known
 convert_sub_type-requires-clause-known c =
@@ -111,9 +109,8 @@ convert_sub_type-requires-clause-can c =
 
 pub push-requires : goal.push-requires
 push-requires c =
-    let n = count c.args.self.now c.args.ids.now c.args.types.now c.args.id.0 c.members-members.result.now c.members-members.ensures.members in
     let l = long c.args.self.now c.args.ids.now c.args.types.now c.args.id.0 c.members-members.result.now c.members-members.ensures.members c.requires.can c.requires.room in
-    omega (arith, l, types-now c.args.self.now c.loop-member.self c.loop-member.invariant (omega (arith, n)))
+    omega (arith, l, types-now c.args.self.now c.loop-member.self c.loop-member.invariant)
 
 pub loop-member-preserved : goal.loop-member-preserved
 loop-member-preserved c =
@@ -131,41 +128,34 @@ loop-member-preserved c =
 pub push_rec_group-requires : goal.push_rec_group-requires
 push_rec_group-requires c =
     let i = c.args.self.now in
-    let n = members-long c.args.types.now (holding (built i) c.args.ids.now) c.args.id.0 in
-    omega (
-      arith,
-      group-long (built i) (interned_members c.args.types.now (holding (built i) c.args.ids.now) c.args.id.0),
-      n,
-      few-groups (built i) c.requires.orderly,
-      length-map i.list.types interned_of,
-      length-map i.list.groups span_of,
-      ap (λ (s : Interner). length s.list.groups) c.loop-member.invariant.is,
-    )
+    let long = group-long (built i) (interned_members c.args.types.now (holding (built i) c.args.ids.now) c.args.id.0) in
+    let some = members-long c.args.types.now (holding (built i) c.args.ids.now) c.args.id.0 in
+    let few = few-groups (built i) c.requires.sound.orderly in
+    let same = ap (λ (s : Interner). length s.list.groups) c.loop-member.invariant.is in
+    omega (arith, long, some, few, same, length-map i.list.types interned_of, length-map i.list.groups span_of)
 
 pub seed_from-requires : goal.seed_from-requires
-seed_from-requires c = record { found = found-now c.args.self.now c.loop-member.self c.loop-member.invariant _ _ c.in_ok-push_rec_group.ensures.ok c.requires.found }
+seed_from-requires c = record { found = found-now c.args.self.now c.loop-member.self c.loop-member.invariant _ _ c.in_ok-push_rec_group.ensures.ok c.requires.sound.found }
 
 pub assign_trampolines-requires : goal.assign_trampolines-requires
 assign_trampolines-requires c =
     let i = c.args.self.now in
-    let ts = interned_members c.args.types.now (holding (built i) c.args.ids.now) c.args.id.0 in
     let n = count i c.args.ids.now c.args.types.now c.args.id.0 c.members-members.result.now c.members-members.ensures.members in
-    let e : built c.seed_from.new.self ≡ opened (built i) ts = c.seed_from.ensures.built
-    ∙ opened-now i c.loop-member.self c.loop-member.invariant _ _ c.in_ok-push_rec_group.ensures.ok c.requires.found c.next_ty-next.ensures c.next_ty-end.ensures (omega (arith, n)) in
-    let made = assigned (built i) (built c.seed_from.new.self) ts e c.index.result (omega (arith, length-map i.list.types interned_of, ap number_of c.next_ty-next.ensures)) in
+    let e = opened-now i c.loop-member.self c.loop-member.invariant _ _ c.in_ok-push_rec_group.ensures.ok c.requires.sound.found c.next_ty-next.ensures c.next_ty-end.ensures
+    (omega (arith, n)) _ c.seed_from.ensures.built in
+    let made = assigned i c.loop-member.self c.loop-member.invariant _ _ c.in_ok-push_rec_group.ensures.ok c.requires.sound.found c.next_ty-next.ensures c.next_ty-end.ensures
+    (omega (arith, n)) _ c.seed_from.ensures.built c.index.result c.index.ensures.number in
+    let ts = interned_members c.args.types.now (holding (built i) c.args.ids.now) c.args.id.0 in
+    let filled : 0 < length ts = omega (arith, members-long c.args.types.now (holding (built i) c.args.ids.now) c.args.id.0) in
     record {
-      in_range = grind (arith, common_steps);
-      orderly = coe 0 1 (j. IsOrderly (sym e j)) (orderly-opened (built i) ts (omega (arith, members-long c.args.types.now (holding (built i) c.args.ids.now) c.args.id.0)) c.requires.orderly);
-      found = c.seed_from.ensures.found;
+      in_range = omega (arith, ap (λ (b : Built). length b.types) e, length-append (built i).types ts, length-map i.list.types interned_of, length-map c.seed_from.new.self.list.types interned_of, ap number_of c.next_ty-next.ensures);
+      sound = record { orderly = coe 0 1 (j. IsOrderly (sym e j)) (orderly-opened (built i) ts filled c.requires.sound.orderly); found = c.seed_from.ensures.found };
       room = omega (arith, c.requires.room, ap (λ (b : Built). length b.types) made);
     }
 
 pub returns-clause-built : goal.returns-clause-built
 returns-clause-built c =
-    let i = c.args.self.now in
-    let ts = interned_members c.args.types.now (holding (built i) c.args.ids.now) c.args.id.0 in
-    let n = count i c.args.ids.now c.args.types.now c.args.id.0 c.members-members.result.now c.members-members.ensures.members in
-    let e : built c.seed_from.new.self ≡ opened (built i) ts = c.seed_from.ensures.built
-    ∙ opened-now i c.loop-member.self c.loop-member.invariant _ _ c.in_ok-push_rec_group.ensures.ok c.requires.found c.next_ty-next.ensures c.next_ty-end.ensures (omega (arith, n)) in
-    let made = assigned (built i) (built c.seed_from.new.self) ts e c.index.result (omega (arith, length-map i.list.types interned_of, ap number_of c.next_ty-next.ensures)) in
+    let n = count c.args.self.now c.args.ids.now c.args.types.now c.args.id.0 c.members-members.result.now c.members-members.ensures.members in
+    let made = assigned c.args.self.now c.loop-member.self c.loop-member.invariant _ _ c.in_ok-push_rec_group.ensures.ok c.requires.sound.found c.next_ty-next.ensures c.next_ty-end.ensures
+    (omega (arith, n)) _ c.seed_from.ensures.built c.index.result c.index.ensures.number in
     on_ok_weaker c.assign_trampolines.result (λ built. built ∙ made) c.assign_trampolines.ensures.built

@@ -22,11 +22,8 @@ use Rattle.module_types.proofs.Steps.{next-is, noted-is}
 use Rattle.module_types.proofs.interner.Interner.push_trampoline.Goals as goal
 
 -- where the list stands still
-pub push_alone-requires-clause-found : goal.push_alone-requires-clause-found
-push_alone-requires-clause-found c = grind (arith, common_steps)
-
-pub push_alone-requires-clause-orderly : goal.push_alone-requires-clause-orderly
-push_alone-requires-clause-orderly c = grind (arith, common_steps)
+pub push_alone-requires-clause-sound : goal.push_alone-requires-clause-sound
+push_alone-requires-clause-sound c = record { orderly = grind (arith, common_steps); found = grind (arith, common_steps) }
 
 -- what follows once the type is noted
 module _ (i now : Interner) (met : MetTypes) (ty : ℕ) (k : TypeIndex) (mapped : WasmFuncType) (digest : ℕ) (own : trampoline_of mapped ≡ mapped)
@@ -59,6 +56,6 @@ returns c =
     let after : OnOk c.note.result (Then c.note.new.self) = on_ok_weaker c.note.result
     (λ noted. after-note c.args.self.now c.push_alone.new.self c.note.new.self (number_of c.args.ty) c.next_ty-trampoline.result c.args.mapped c.args.digest c.requires.mapped
     _ c.set_trampoline.ensures c.next_ty-trampoline.ensures c.requires.digest c.plain_function.result c.plain_function.ensures.interned c.plain_function.ensures.function
-    pushed.built pushed.found pushed.types c.push_alone.ensures.met noted)
+    pushed.built pushed.sound.found pushed.types c.push_alone.ensures.met noted)
     c.note.ensures in
     record { built = on_ok_weaker c.note.result (λ both. both.0) after; found = on_ok_weaker c.note.result (λ both. both.1) after }
