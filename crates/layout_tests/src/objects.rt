@@ -30,11 +30,11 @@ fn array_of(element_type: WasmStorageType) -> WasmArrayType {
 }
 
 fn lays_out(rt: &impl Abort, layout: &GcStructLayout, size: u32, align: u32, offsets: &[u32]) {
-    assert_eq!(rt; layout.size, size);
-    assert_eq!(rt; layout.align, align);
-    assert_eq!(rt; layout.fields.len(), offsets.len());
+    assert!(rt; layout.size == size);
+    assert!(rt; layout.align == align);
+    assert!(rt; layout.fields.len() == offsets.len());
     for (field, offset) in layout.fields.iter().zip(offsets) {
-        assert_eq!(rt; field.offset, *offset);
+        assert!(rt; field.offset == *offset);
         assert!(rt; !field.is_gc_ref);
     }
 }
@@ -59,29 +59,29 @@ fn fields_stand_at_multiples_of_their_size(rt: HostRuntime) -> Result<(), Fail> 
 #[test]
 fn sizes_of_arrays_end_at_four_gibibytes(rt: HostRuntime) -> Result<(), Fail> {
     let layout = NullTypeLayouts.array_layout(&array_of(I64));
-    assert_eq!(rt; layout.elem_offset(3), Some(40));
+    assert!(rt; layout.elem_offset(3) == Some(40));
     for (len, size) in [
         (0, Some(16)),
         (536870909, Some(4294967288)),
         (536870910, None),
         (u32::MAX, None),
     ] {
-        assert_eq!(rt; layout.size_for_len(len), size, "{len}");
-        assert_eq!(rt; layout.elem_offset(len), size, "{len}");
+        assert!(rt; layout.size_for_len(len) == size, "{len}");
+        assert!(rt; layout.elem_offset(len) == size, "{len}");
         let whole = size.map(|size| Layout {
             size: size as usize,
             align: 8,
         });
-        assert_eq!(rt; layout.layout(len), whole, "{len}");
+        assert!(rt; layout.layout(len) == whole, "{len}");
     }
     let uneven = GcArrayLayout {
         align: 12,
         ..layout
     };
-    assert_eq!(rt; uneven.layout(0), None);
+    assert!(rt; uneven.layout(0) == None);
     let bytes = DrcTypeLayouts.array_layout(&array_of(WasmStorageType::I8));
-    assert_eq!(rt; bytes.size_for_len(4294967267), Some(4294967295));
-    assert_eq!(rt; bytes.size_for_len(4294967268), None);
+    assert!(rt; bytes.size_for_len(4294967267) == Some(4294967295));
+    assert!(rt; bytes.size_for_len(4294967268) == None);
     Ok(())
 }
 
@@ -93,18 +93,18 @@ fn shared_layouts_tell_size_and_alignment(rt: HostRuntime) -> Result<(), Fail> {
         fields: Vec::new(rt.alloc()),
         is_exception: true,
     };
-    assert_eq!(rt;
-        fields.layout(),
-        Layout {
-            size: 48,
-            align: 16
-        }
+    assert!(rt;
+        fields.layout()
+            == Layout {
+                size: 48,
+                align: 16
+            }
     );
     let layout = GcLayout::from(Rc::new(rt.alloc(), fields)?);
-    assert_eq!(rt; layout.unwrap_struct().size, 48);
+    assert!(rt; layout.unwrap_struct().size == 48);
     let copy = layout.try_clone()?;
     assert!(rt; matches!(copy, GcLayout::Struct(_)));
-    assert_eq!(rt; copy.unwrap_struct().size, 48);
+    assert!(rt; copy.unwrap_struct().size == 48);
     Ok(())
 }
 
@@ -113,24 +113,21 @@ fn kinds_match_by_their_bits(rt: HostRuntime) {
     use VMGcKind::{AnyRef, ArrayRef, EqRef, ExnRef, ExternRef, StructRef};
     assert!(rt; StructRef.matches(EqRef));
     assert!(rt; !ExternRef.matches(AnyRef));
-    assert_eq!(rt; ArrayRef.as_u32(), 0xA800_0000);
-    assert_eq!(rt; VMGcKind::from_high_bits_of_u32(0x0F0F_0F0F), None);
-    assert_eq!(rt;
-        VMGcKind::from_high_bits_of_u32(0xB000_0003),
-        Some(StructRef)
-    );
-    assert_eq!(rt; VMGcKind::try_from_u32(0xB000_0003), None);
-    assert_eq!(rt; VMGcKind::try_from_u32(ExnRef.as_u32()), Some(ExnRef));
+    assert!(rt; ArrayRef.as_u32() == 0xA800_0000);
+    assert!(rt; VMGcKind::from_high_bits_of_u32(0x0F0F_0F0F) == None);
+    assert!(rt; VMGcKind::from_high_bits_of_u32(0xB000_0003) == Some(StructRef));
+    assert!(rt; VMGcKind::try_from_u32(0xB000_0003) == None);
+    assert!(rt; VMGcKind::try_from_u32(ExnRef.as_u32()) == Some(ExnRef));
     assert!(rt; VMGcKind::value_fits_in_unused_bits(67108863));
     assert!(rt; !VMGcKind::value_fits_in_unused_bits(67108864));
 }
 
 #[test]
 fn offsets_in_headers_are_those_of_the_collector(rt: HostRuntime) {
-    assert_eq!(rt; DrcTypeLayouts.array_length_field_offset(), 24);
-    assert_eq!(rt; DrcTypeLayouts.exception_tag_instance_offset(), 24);
-    assert_eq!(rt; DrcTypeLayouts.exception_tag_defined_offset(), 28);
-    assert_eq!(rt; NullTypeLayouts::default().array_length_field_offset(), 8);
-    assert_eq!(rt; NullTypeLayouts.exception_tag_instance_offset(), 8);
-    assert_eq!(rt; NullTypeLayouts.exception_tag_defined_offset(), 12);
+    assert!(rt; DrcTypeLayouts.array_length_field_offset() == 24);
+    assert!(rt; DrcTypeLayouts.exception_tag_instance_offset() == 24);
+    assert!(rt; DrcTypeLayouts.exception_tag_defined_offset() == 28);
+    assert!(rt; NullTypeLayouts::default().array_length_field_offset() == 8);
+    assert!(rt; NullTypeLayouts.exception_tag_instance_offset() == 8);
+    assert!(rt; NullTypeLayouts.exception_tag_defined_offset() == 12);
 }

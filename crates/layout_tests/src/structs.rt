@@ -129,32 +129,20 @@ fn words<P: PtrSize>(ptr: &P) -> [u8; 10]
 
 #[test]
 fn structs_with_pointers_of_8_bytes(rt: HostRuntime) {
-    assert_eq!(rt;
-        import_offsets(&HostPtr),
-        [0, 8, 16, 0, 8, 16, 0, 8, 16, 0, 8, 16, 0, 8, 16]
-    );
-    assert_eq!(rt; definition_offsets(&8u8), [0, 8, 0, 8, 0, 0, 0, 8, 16, 24]);
-    assert_eq!(rt;
-        context_offsets(&8u8),
-        [0, 8, 16, 24, 24, 32, 40, 0, 8, 16, 24, 32, 40, 48]
-    );
-    assert_eq!(rt; sizes(&8u8), [24, 24, 24, 24, 24, 16, 16, 16, 4, 32, 48]);
-    assert_eq!(rt; aligns(&8u8), [8, 8, 8, 8, 8, 8, 8, 16, 4, 8, 8]);
-    assert_eq!(rt; words(&&8u8), [8, 4, 4, 16, 8, 8, 16, 0, 8, 16]);
+    assert!(rt; import_offsets(&HostPtr) == [0, 8, 16, 0, 8, 16, 0, 8, 16, 0, 8, 16, 0, 8, 16]);
+    assert!(rt; definition_offsets(&8u8) == [0, 8, 0, 8, 0, 0, 0, 8, 16, 24]);
+    assert!(rt; context_offsets(&8u8) == [0, 8, 16, 24, 24, 32, 40, 0, 8, 16, 24, 32, 40, 48]);
+    assert!(rt; sizes(&8u8) == [24, 24, 24, 24, 24, 16, 16, 16, 4, 32, 48]);
+    assert!(rt; aligns(&8u8) == [8, 8, 8, 8, 8, 8, 8, 16, 4, 8, 8]);
+    assert!(rt; words(&&8u8) == [8, 4, 4, 16, 8, 8, 16, 0, 8, 16]);
 }
 
 #[test]
 fn structs_with_pointers_of_4_bytes(rt: HostRuntime) {
-    assert_eq!(rt;
-        import_offsets(&4u8),
-        [0, 4, 8, 0, 4, 8, 0, 4, 8, 0, 4, 8, 0, 4, 8]
-    );
-    assert_eq!(rt; definition_offsets(&4u8), [0, 4, 0, 4, 0, 0, 0, 4, 8, 12]);
-    assert_eq!(rt;
-        context_offsets(&4u8),
-        [0, 8, 16, 20, 20, 24, 28, 0, 4, 8, 12, 16, 20, 24]
-    );
-    assert_eq!(rt; sizes(&4u8), [12, 12, 12, 12, 16, 8, 8, 16, 4, 16, 32]);
-    assert_eq!(rt; aligns(&4u8), [4, 4, 4, 4, 4, 4, 4, 16, 4, 4, 8]);
-    assert_eq!(rt; words(&4u8), [4, 4, 4, 16, 4, 4, 8, 0, 4, 8]);
+    assert!(rt; import_offsets(&4u8) == [0, 4, 8, 0, 4, 8, 0, 4, 8, 0, 4, 8, 0, 4, 8]);
+    assert!(rt; definition_offsets(&4u8) == [0, 4, 0, 4, 0, 0, 0, 4, 8, 12]);
+    assert!(rt; context_offsets(&4u8) == [0, 8, 16, 20, 20, 24, 28, 0, 4, 8, 12, 16, 20, 24]);
+    assert!(rt; sizes(&4u8) == [12, 12, 12, 12, 16, 8, 8, 16, 4, 16, 32]);
+    assert!(rt; aligns(&4u8) == [4, 4, 4, 4, 4, 4, 4, 16, 4, 4, 8]);
+    assert!(rt; words(&4u8) == [4, 4, 4, 16, 4, 4, 8, 0, 4, 8]);
 }
