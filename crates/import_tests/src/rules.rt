@@ -41,7 +41,7 @@ fn expect(rt: &impl Abort, have: EntityType, want: EntityType, expected: Option<
     requires have { HasEngineTypes have }
     requires want { HasEngineTypes want }
 {
-    assert_eq!(rt; match_entity(&have, &want), expected);
+    assert!(rt; match_entity(&have, &want) == expected);
 }
 
 // ---- sizes

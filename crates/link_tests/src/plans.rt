@@ -61,7 +61,7 @@ fn each_import_of_a_plan_is_answered_by_itself(rt: HostRuntime) -> Result<(), Fa
         ImportAnswer::Given(1),
         ImportAnswer::Given(0),
     ];
-    assert_eq!(rt; answers.as_slice(), wanted.as_slice());
+    assert!(rt; answers.as_slice() == wanted.as_slice());
     Ok(())
 }
 
@@ -84,7 +84,7 @@ fn lines_are_what_errors_display(rt: HostRuntime) -> Result<(), Fail> {
         Mismatch::TagType,
     ] {
         let displayed = format!(in rt.alloc(); "{rule}")?;
-        assert_eq!(rt; displayed.as_str(), mismatch_line(rule));
+        assert!(rt; displayed.as_str() == mismatch_line(rule));
     }
     Ok(())
 }

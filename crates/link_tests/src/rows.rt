@@ -128,7 +128,7 @@ fn an_imported_global_is_matched(rt: HostRuntime) -> Result<(), Fail> {
             &GLOBAL_IMPORTER,
         )?
         .err();
-        assert_eq!(rt; refused, wanted, "global {name}");
+        assert!(rt; refused == wanted, "global {name}");
     }
     Ok(())
 }
@@ -162,7 +162,7 @@ fn an_imported_memory_is_matched(rt: HostRuntime) -> Result<(), Fail> {
             &MEMORY_IMPORTER,
         )?
         .err();
-        assert_eq!(rt; refused, wanted, "minimum {min}");
+        assert!(rt; refused == wanted, "minimum {min}");
     }
     Ok(())
 }
@@ -171,7 +171,7 @@ fn an_imported_memory_is_matched(rt: HostRuntime) -> Result<(), Fail> {
 fn definitions_have_their_numbers(rt: HostRuntime) -> Result<(), Fail> {
     let alloc = rt.alloc();
     let numbers = resolved_against(alloc, "g", global(false, false), &GLOBAL_IMPORTER)??;
-    assert_eq!(rt; numbers.as_slice(), [0].as_slice());
+    assert!(rt; numbers.as_slice() == [0].as_slice());
     let numbers = resolved_against(
         alloc,
         "m",
@@ -181,7 +181,7 @@ fn definitions_have_their_numbers(rt: HostRuntime) -> Result<(), Fail> {
         }),
         &MEMORY_IMPORTER,
     )??;
-    assert_eq!(rt; numbers.as_slice(), [0].as_slice());
+    assert!(rt; numbers.as_slice() == [0].as_slice());
     Ok(())
 }
 
@@ -190,7 +190,7 @@ fn definitions_have_their_numbers(rt: HostRuntime) -> Result<(), Fail> {
 #[test]
 fn the_start_of_a_linked_program_is_found(rt: HostRuntime) -> Result<(), Fail> {
     let numbers = linked(rt.alloc(), &LINKED, &START_IMPORTER)??;
-    assert_eq!(rt; numbers.as_slice(), [1].as_slice());
+    assert!(rt; numbers.as_slice() == [1].as_slice());
     Ok(())
 }
 
@@ -234,10 +234,10 @@ fn defined_twice(alloc: Heap, bytes: &[u8]) -> Result<Defined, Fail> {
 #[test]
 fn exports_are_defined_once_while_their_module_is_held(rt: HostRuntime) -> Result<(), Fail> {
     let defined = defined_twice(rt.alloc(), &LINKED)?;
-    assert_eq!(rt; defined.first, None);
-    assert_eq!(rt; defined.again, Some(LinkError::Duplicate));
-    assert_eq!(rt; defined.let_go, Some(LinkError::NotHeld));
-    assert_eq!(rt; defined.imports, Some(LinkError::NotHeld));
-    assert_eq!(rt; defined.length, 2);
+    assert!(rt; defined.first == None);
+    assert!(rt; defined.again == Some(LinkError::Duplicate));
+    assert!(rt; defined.let_go == Some(LinkError::NotHeld));
+    assert!(rt; defined.imports == Some(LinkError::NotHeld));
+    assert!(rt; defined.length == 2);
     Ok(())
 }

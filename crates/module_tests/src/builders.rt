@@ -19,11 +19,11 @@ fn function_is_called_by_itself(rt: HostRuntime) -> Result<(), Fail> {
             shared: false,
         },
     })?;
-    assert_eq!(rt; first.as_u32(), 0);
+    assert!(rt; first.as_u32() == 0);
     let group = types.push_rec_group(first..types.next_ty())?;
-    assert_eq!(rt; group.as_u32(), 0);
+    assert!(rt; group.as_u32() == 0);
     types.set_trampoline_type(first, first)?;
-    assert_eq!(rt; types.trampoline_type(first).as_u32(), 0);
+    assert!(rt; types.trampoline_type(first).as_u32() == 0);
     Ok(())
 }
 
@@ -32,10 +32,10 @@ fn startup_type_is_made_once(rt: HostRuntime) -> Result<(), Fail> {
     let mut builder = ModuleTypesBuilder::new(rt.alloc(), &Validator::new(7));
     builder.reserve_wasm_signatures(3)?;
     let first = builder.startup_func_type()?;
-    assert_eq!(rt; first.as_u32(), 0);
+    assert!(rt; first.as_u32() == 0);
     let again = builder.startup_func_type()?;
-    assert_eq!(rt; again.as_u32(), 0);
-    assert_eq!(rt; builder.find_resource_drop_signature(), None);
+    assert!(rt; again.as_u32() == 0);
+    assert!(rt; builder.find_resource_drop_signature() == None);
     Ok(())
 }
 

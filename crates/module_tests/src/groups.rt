@@ -98,17 +98,17 @@ fn module_type(number: u32) -> EngineOrModuleTypeIndex
 fn intern_both(rt: &impl Abort, builder: &mut ModuleTypesBuilder, types: &Types) -> Result<(), Fail>
     requires { HoldsFirst types.now (builder_view builder.old) 0 }
 {
-    assert_eq!(rt; types.core_type_count_in_module(), 2);
+    assert!(rt; types.core_type_count_in_module() == 2);
     let (first, first_group) = ids_of(types, 0);
     let (second, second_group) = ids_of(types, 1);
-    assert_eq!(rt; first_group.0, 0);
-    assert_eq!(rt; second_group.0, 1);
-    assert_eq!(rt; intern(builder, types, first_group)?.as_u32(), 0);
-    assert_eq!(rt; intern(builder, types, first_group)?.as_u32(), 0);
+    assert!(rt; first_group.0 == 0);
+    assert!(rt; second_group.0 == 1);
+    assert!(rt; intern(builder, types, first_group)?.as_u32() == 0);
+    assert!(rt; intern(builder, types, first_group)?.as_u32() == 0);
     let looked_up = look_up(builder, types, first, second, second_group);
-    assert_eq!(rt; looked_up.0, module_type(0));
-    assert_eq!(rt; looked_up.1, module_type(1));
-    assert_eq!(rt; intern(builder, types, second_group)?.as_u32(), 1);
+    assert!(rt; looked_up.0 == module_type(0));
+    assert!(rt; looked_up.1 == module_type(1));
+    assert!(rt; intern(builder, types, second_group)?.as_u32() == 1);
     Ok(())
 }
 
@@ -120,11 +120,8 @@ fn groups_are_interned_once(rt: HostRuntime) -> Result<(), Fail> {
     let validator = Validator::new(7);
     let types = Types::build(alloc, &validator, &form)?;
     let mut builder = ModuleTypesBuilder::new(alloc, &validator);
-    assert_eq!(rt; types.id().0, builder.validator_id().0);
+    assert!(rt; types.id().0 == builder.validator_id().0);
     intern_both(&rt, &mut builder, &types)?;
-    assert_eq!(rt;
-        builder.find_resource_drop_signature(),
-        Some(ModuleInternedTypeIndex::new(1))
-    );
+    assert!(rt; builder.find_resource_drop_signature() == Some(ModuleInternedTypeIndex::new(1)));
     Ok(())
 }

@@ -92,11 +92,11 @@ fn import_a_function(rt: &impl Abort, module: &mut Module) -> Result<(), Fail>
     requires no_imports { (module.old.num_imported_funcs ≡ 0) × (module.old.num_imported_tags ≡ 0) }
 {
     let index = module.push_function(module_type(4))?;
-    assert_eq!(rt; index, FuncIndex::new(0));
+    assert!(rt; index == FuncIndex::new(0));
     let tag = module.push_tag(module_type(0), module_type(1))?;
-    assert_eq!(rt; tag, TagIndex::new(0));
-    assert_eq!(rt; module.num_defined_funcs(), 1);
-    assert_eq!(rt; module.num_defined_tags(), 1);
+    assert!(rt; tag == TagIndex::new(0));
+    assert!(rt; module.num_defined_funcs() == 1);
+    assert!(rt; module.num_defined_tags() == 1);
     let (name, field) = insert_texts(&mut module.strings, "env", "run")?;
     module.initializers.push(Initializer::Import {
         name,
@@ -107,12 +107,12 @@ fn import_a_function(rt: &impl Abort, module: &mut Module) -> Result<(), Fail>
     let Some((from, own, ty)) = module.import(0) else {
         return Err(Fail::from("no import"));
     };
-    assert_eq!(rt; from, "env");
-    assert_eq!(rt; own, "run");
+    assert!(rt; from == "env");
+    assert!(rt; own == "run");
     let EntityType::Function(signature) = ty else {
         return Err(Fail::from("not a function"));
     };
-    assert_eq!(rt; signature, module_type(4));
+    assert!(rt; signature == module_type(4));
     assert!(rt; module.import(1).is_none());
     Ok(())
 }
@@ -236,11 +236,11 @@ fn last_of_each_kind() -> [EntityIndex; 5] {
 }
 
 fn defined_entities_follow_the_imported(rt: &impl Abort, module: &Module) {
-    assert_eq!(rt; module.num_imported_funcs, 1);
-    assert_eq!(rt; module.num_imported_tables, 1);
-    assert_eq!(rt; module.num_imported_memories, 1);
-    assert_eq!(rt; module.num_imported_globals, 1);
-    assert_eq!(rt; module.num_imported_tags, 1);
+    assert!(rt; module.num_imported_funcs == 1);
+    assert!(rt; module.num_imported_tables == 1);
+    assert!(rt; module.num_imported_memories == 1);
+    assert!(rt; module.num_imported_globals == 1);
+    assert!(rt; module.num_imported_tags == 1);
     for (kind, index, import, first_defined) in [
         (
             "functions",
@@ -293,9 +293,9 @@ fn defined_entities_follow_the_imported(rt: &impl Abort, module: &Module) {
                 .map(|i| i.index()),
         ),
     ] {
-        assert_eq!(rt; index, 2, "{kind}");
-        assert_eq!(rt; import, None, "{kind}");
-        assert_eq!(rt; first_defined, Some(0), "{kind}");
+        assert!(rt; index == 2, "{kind}");
+        assert!(rt; import == None, "{kind}");
+        assert!(rt; first_defined == Some(0), "{kind}");
     }
 }
 
@@ -313,16 +313,16 @@ fn entities_are_counted(rt: &impl Abort, module: &Module) {
         module.num_defined_globals(),
         module.num_defined_tags(),
     ] {
-        assert_eq!(rt; count, 2);
+        assert!(rt; count == 2);
     }
     let last = module.defined_func_indices().last();
-    assert_eq!(rt; last, Some(DefinedFuncIndex::new(1)));
+    assert!(rt; last == Some(DefinedFuncIndex::new(1)));
     // The memory before it is shared.
-    assert_eq!(rt;
+    assert!(rt;
         module
             .owned_memory_index(DefinedMemoryIndex::new(1))
-            .index(),
-        0
+            .index()
+            == 0
     );
 }
 
@@ -330,32 +330,23 @@ fn first_entities_are_imported(rt: &impl Abort, module: &Module) {
     for (place, entity) in first_of_each_kind().iter().enumerate() {
         assert!(rt; module.is_imported(*entity));
         assert!(rt; module.is_valid(*entity));
-        assert_eq!(rt; module.import_index(place), Some(*entity));
-        assert_eq!(rt; module.import_position(*entity), Some(place));
+        assert!(rt; module.import_index(place) == Some(*entity));
+        assert!(rt; module.import_position(*entity) == Some(place));
     }
     for entity in last_of_each_kind().iter() {
         assert!(rt; !module.is_imported(*entity));
         assert!(rt; module.is_valid(*entity));
-        assert_eq!(rt; module.import_position(*entity), None);
+        assert!(rt; module.import_position(*entity) == None);
     }
     assert!(rt; !module.is_valid(FuncIndex::new(3).into()));
-    assert_eq!(rt; module.import_index(6), None);
+    assert!(rt; module.import_index(6) == None);
 }
 
 fn entities_are_exported(rt: &impl Abort, module: &Module) {
     for (place, table, memory, global) in [(0, false, true, false), (2, true, false, true)] {
-        assert_eq!(rt;
-            module.is_exported_table(TableIndex::from_u32(place)),
-            table
-        );
-        assert_eq!(rt;
-            module.is_exported_memory(MemoryIndex::from_u32(place)),
-            memory
-        );
-        assert_eq!(rt;
-            module.is_exported_global(GlobalIndex::from_u32(place)),
-            global
-        );
+        assert!(rt; module.is_exported_table(TableIndex::from_u32(place)) == table);
+        assert!(rt; module.is_exported_memory(MemoryIndex::from_u32(place)) == memory);
+        assert!(rt; module.is_exported_global(GlobalIndex::from_u32(place)) == global);
     }
 }
 

@@ -15,12 +15,12 @@ const OVERLAP: [u8; 30] = [
 #[test]
 fn reads_overlapping_segments(rt: HostRuntime) -> Result<(), Fail> {
     let form = read_module(rt.alloc(), &OVERLAP)?;
-    assert_eq!(rt; form.wasm, OVERLAP.as_slice());
-    assert_eq!(rt; form.payloads.len(), 2);
+    assert!(rt; form.wasm == OVERLAP.as_slice());
+    assert!(rt; form.payloads.len() == 2);
     let Payload::Segments(segments) = &form.payloads[1] else {
         return Err(Fail::from("no data section"));
     };
-    assert_eq!(rt; segments.len(), 2);
+    assert!(rt; segments.len() == 2);
     let DataKind::Active {
         memory_index,
         offset,
@@ -28,9 +28,9 @@ fn reads_overlapping_segments(rt: HostRuntime) -> Result<(), Fail> {
     else {
         return Err(Fail::from("a passive segment"));
     };
-    assert_eq!(rt; *memory_index, 0);
+    assert!(rt; *memory_index == 0);
     assert!(rt; offset.ops.as_slice() == [Operator::I32Const { value: 17 }].as_slice());
-    assert_eq!(rt; segments[1].bytes, [9].as_slice());
+    assert!(rt; segments[1].bytes == [9].as_slice());
     Ok(())
 }
 
@@ -55,8 +55,8 @@ const LINKED: [u8; 216] = [
 #[test]
 fn a_linked_program_keeps_the_rules(rt: HostRuntime) -> Result<(), Fail> {
     let form = read_module(rt.alloc(), &LINKED)?;
-    assert_eq!(rt; form.payloads.len(), 11);
-    assert_eq!(rt; check(rt.alloc(), &form), Ok(()));
+    assert!(rt; form.payloads.len() == 11);
+    assert!(rt; check(rt.alloc(), &form) == Ok(()));
     let counts = Counts {
         types: 2,
         functions: 2,
@@ -77,15 +77,11 @@ const NO_START: [u8; 11] = [
 #[test]
 fn other_modules_are_refused(rt: HostRuntime) -> Result<(), Fail> {
     let component = [0x00, 0x61, 0x73, 0x6D, 0x0D, 0x00, 0x01, 0x00];
-    assert_eq!(rt;
-        read_module(rt.alloc(), &component).err(),
-        Some(ReadError::Unsupported(What::Component))
+    assert!(rt;
+        read_module(rt.alloc(), &component).err() == Some(ReadError::Unsupported(What::Component))
     );
     let form = read_module(rt.alloc(), &NO_START)?;
-    assert_eq!(rt;
-        check(rt.alloc(), &form),
-        Err(CheckError::Invalid(Rule::L8))
-    );
+    assert!(rt; check(rt.alloc(), &form) == Err(CheckError::Invalid(Rule::L8)));
     Ok(())
 }
 
@@ -102,14 +98,14 @@ fn a_type_is_found_by_its_id(rt: HostRuntime) -> Result<(), Fail> {
     let form = read_module(alloc, &GROUPS)?;
     check(alloc, &form)?;
     let types = Types::build(alloc, &Validator::new(7), &form)?;
-    assert_eq!(rt; types.id().0, 7);
-    assert_eq!(rt; types.core_type_count_in_module(), 6);
+    assert!(rt; types.id().0 == 7);
+    assert!(rt; types.core_type_count_in_module() == 6);
     let id = types.core_type_at_in_module(5);
     let group = types.rec_group_id_of(id);
-    assert_eq!(rt; group.0, 1);
+    assert!(rt; group.0 == 1);
     let mut members = types.rec_group_elements(group);
-    assert_eq!(rt; members.next().map_or(0, |member| member.0), 2);
-    assert_eq!(rt; members.next().map_or(0, |member| member.0), 3);
+    assert!(rt; members.next().map_or(0, |member| member.0) == 2);
+    assert!(rt; members.next().map_or(0, |member| member.0) == 3);
     assert!(rt; members.next().is_none());
     assert!(rt; types[id].is_final);
     Ok(())
