@@ -5,4 +5,3 @@ pub mod Plain
 pub mod PlainTable
 pub mod Spaced
 pub mod Trampolines
-pub mod Written

@@ -7,6 +7,7 @@ ghost use Rattle.plan_lines.specs.Expressions.{hexadecimal, operands_text, opera
 
 use crate::digits::{put_signed, put_spaced};
 use crate::numbers::append_number;
+use crate::reference_words::append_heap;
 use crate::room::{make_room, put, put_byte};
 use crate::text::Text;
 use entity_map::OutOfMemory;
@@ -55,7 +56,7 @@ fn append_heap_type(
     make_room(&mut text.room, text.used, name.len() + 1)?;
     let end = put(&mut text.room, text.used, name.as_bytes());
     text.used = put_byte(&mut text.room, end, b' ');
-    text.push_display(heap_type)
+    append_heap(text, heap_type)
 }
 
 fn append_operands(text: &mut Text, name: &str, first: u32, second: u32) -> Result<(), OutOfMemory>

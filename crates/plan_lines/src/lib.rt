@@ -4,6 +4,7 @@
 mod context_lines;
 mod digits;
 mod expressions;
+mod field_words;
 mod global_lines;
 mod hint_lines;
 mod layout_lines;
@@ -12,6 +13,7 @@ mod module_lines;
 mod name_lines;
 mod numbers;
 mod quoted;
+mod reference_words;
 mod room;
 mod segment_lines;
 mod table_lines;
@@ -19,6 +21,7 @@ mod text;
 mod type_lines;
 mod type_list_lines;
 mod type_words;
+mod value_words;
 mod worked;
 
 pub use context_lines::{append_context, append_region, append_regions};

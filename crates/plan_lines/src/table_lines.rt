@@ -6,6 +6,7 @@ ghost use Rattle.plan_lines.specs.Numbers.{keyed_lines};
 ghost use Rattle.plan_lines.specs.TableLines.{cell_text, table_image_line, table_image_lines, passive_element_line};
 
 use crate::numbers::{append_named, append_number};
+use crate::reference_words::append_reference;
 use crate::text::Text;
 use entity_map::{EntityRef, OutOfMemory, PrimaryMap, ReservedValue};
 use wasm_index::{DefinedTableIndex, FuncIndex, PassiveElemIndex};
@@ -83,7 +84,7 @@ pub fn append_passive_element(
 {
     append_named(text, "passive-element", index.as_u32())?;
     text.push_byte(b' ')?;
-    text.push_display(&ty)?;
+    append_reference(text, &ty)?;
     text.push_byte(b' ')?;
     text.push_number(count)?;
     text.push_byte(b'\n')

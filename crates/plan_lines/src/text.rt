@@ -1,14 +1,13 @@
 //! A text that grows in memory.
 
 ghost use Rattle.std.specs.Prelude.{◌≡◌, ◌<◌, ◌≤◌, ◌++◌, ◌∷◌, [], false, IfOk, OnOk};
-ghost use Rattle.std.specs.Fmt.{digit_glyph, AppendsText};
+ghost use Rattle.std.specs.Fmt.{digit_glyph};
 ghost use Rattle.plan_lines.specs.Expressions.{hexadecimal};
 
 use crate::room::{make_room, put, put_byte};
 use entity_map::OutOfMemory;
 use itoa::{Buffer, Integer};
 use std::alloc::Global;
-use std::fmt::{self, Display, Write};
 use std::marker::Model;
 
 /// Bytes that are written from the first to the last. After a failure the text may end anywhere.
@@ -106,23 +105,6 @@ impl Text {
             self.push_byte(hexadecimal_digit(digit as u8))?;
         }
         Ok(())
-    }
-
-    /// Appends what a value displays.
-    #[inline]
-    pub fn push_display<D: Display + Drop>(&mut self, value: D) -> Result<(), OutOfMemory>
-        ensures { OnOk result (AppendsText self.old self.new (D.output value)) }
-    {
-        write!(self, "{value}").map_err(|_| OutOfMemory)
-    }
-}
-
-/// A write fails only where memory runs out.
-impl Write for Text {
-    ghost write_str_gives = { λ text words longer. longer ≡ text ++ words };
-
-    fn write_str(&mut self, words: &str) -> fmt::Result {
-        self.push_str(words).map_err(|_| fmt::Error)
     }
 }
 

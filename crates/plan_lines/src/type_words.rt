@@ -1,34 +1,86 @@
-//! The text of an interned type: that of a function, of which most modules have the most, word by word.
+//! The text of an interned type, word by word.
 
-ghost use Rattle.std.specs.Prelude.{◌≡◌, ◌+◌, ◌*◌, ◌≤◌, ◌++◌, length, take, OnOk, IfOk, IfSome, codes};
-ghost use Rattle.wasm_types.specs.Texts.{val_text, spaced, group_text, func_text, sub_text};
+ghost use Rattle.std.specs.Prelude.{◌≡◌, ◌++◌, OnOk, codes};
+ghost use Rattle.wasm_types.specs.Texts.{index_text, group_text, func_text, cont_text, inner_text, composite_text, sub_text};
 
-use crate::room::{make_room, put, put_part};
+use crate::field_words::{append_array, append_exn, append_struct};
+use crate::reference_words::append_index;
+use crate::room::{make_room, put};
 use crate::text::Text;
+use crate::value_words::append_values;
 use entity_map::OutOfMemory;
-use wasm_types::{WasmCompositeInnerType, WasmFuncType, WasmSubType, WasmValType};
+use wasm_types::{
+    EngineOrModuleTypeIndex, WasmCompositeInnerType, WasmCompositeType, WasmContType, WasmFuncType,
+    WasmSubType, WasmValType,
+};
 
 /// Appends a type as it is displayed.
 pub(crate) fn append_subtype(text: &mut Text, ty: &WasmSubType) -> Result<(), OutOfMemory>
     ensures { OnOk result (text.new ≡ text.old ++ sub_text ty.now) }
 {
-    match bare_function(ty) {
-        Some(function) => append_function(text, function),
-        None => text.push_display(ty),
+    let composite_type = &ty.composite_type;
+    match (ty.is_final, ty.supertype) {
+        (true, None) => append_composite(text, composite_type),
+        (true, Some(supertype)) => append_under(text, "(sub final ", supertype, composite_type),
+        (false, None) => append_open(text, composite_type),
+        (false, Some(supertype)) => append_under(text, "(sub ", supertype, composite_type),
     }
 }
 
-// The function type that is the whole type: no subtype, and not shared.
-fn bare_function(ty: &WasmSubType) -> Option<&WasmFuncType>
-    ensures { IfSome result (λ function. func_text function.now ≡ sub_text ty.now) }
+// Appends a type that has no supertype, and that others may name as theirs.
+fn append_open(text: &mut Text, ty: &WasmCompositeType) -> Result<(), OutOfMemory>
+    ensures { OnOk result (text.new ≡ text.old ++ codes "(sub " ++ composite_text ty.now ++ codes ")") }
 {
-    if !ty.is_final || ty.supertype.is_some() || ty.composite_type.shared {
-        return None;
+    text.push_str("(sub ")?;
+    append_composite(text, ty)?;
+    text.push_byte(b')')
+}
+
+// Appends a type that has a supertype.
+fn append_under(
+    text: &mut Text,
+    head: &str,
+    supertype: EngineOrModuleTypeIndex,
+    ty: &WasmCompositeType,
+) -> Result<(), OutOfMemory>
+    ensures { OnOk result (text.new ≡ text.old ++ head.now ++ index_text supertype ++ codes " " ++ composite_text ty.now ++ codes ")") }
+{
+    text.push_str(head)?;
+    append_index(text, supertype)?;
+    text.push_byte(b' ')?;
+    append_composite(text, ty)?;
+    text.push_byte(b')')
+}
+
+fn append_composite(text: &mut Text, ty: &WasmCompositeType) -> Result<(), OutOfMemory>
+    ensures { OnOk result (text.new ≡ text.old ++ composite_text ty.now) }
+{
+    if !ty.shared {
+        return append_inner(text, &ty.inner);
     }
-    match &ty.composite_type.inner {
-        WasmCompositeInnerType::Func(function) => Some(function),
-        _ => None,
+    text.push_str("(shared ")?;
+    append_inner(text, &ty.inner)?;
+    text.push_byte(b')')
+}
+
+fn append_inner(text: &mut Text, ty: &WasmCompositeInnerType) -> Result<(), OutOfMemory>
+    ensures { OnOk result (text.new ≡ text.old ++ inner_text ty.now) }
+{
+    match ty {
+        WasmCompositeInnerType::Array(ty) => append_array(text, ty),
+        WasmCompositeInnerType::Func(ty) => append_function(text, ty),
+        WasmCompositeInnerType::Struct(ty) => append_struct(text, ty),
+        WasmCompositeInnerType::Cont(ty) => append_cont(text, ty),
+        WasmCompositeInnerType::Exn(ty) => append_exn(text, ty),
     }
+}
+
+fn append_cont(text: &mut Text, ty: &WasmContType) -> Result<(), OutOfMemory>
+    ensures { OnOk result (text.new ≡ text.old ++ cont_text ty.now) }
+{
+    text.push_str("(cont ")?;
+    append_index(text, ty.index())?;
+    text.push_byte(b')')
 }
 
 fn append_function(text: &mut Text, ty: &WasmFuncType) -> Result<(), OutOfMemory>
@@ -61,69 +113,4 @@ fn append_group(text: &mut Text, head: &str, types: &[WasmValType]) -> Result<()
     append_head(text, head)?;
     append_values(text, types)?;
     text.push_byte(b')')
-}
-
-// A space and the word of a type of numbers or vectors, and how many of the bytes that is.
-#[inline(always)]
-fn short_word(ty: &WasmValType) -> Option<(&'static [u8; 8], usize)>
-    ensures { IfSome result (λ word. (word.1 ≤ 8) × (take word.1 word.0.now ≡ codes " " ++ val_text ty.now)) }
-{
-    match ty {
-        WasmValType::I32 => Some((b" i32    ", 4)),
-        WasmValType::I64 => Some((b" i64    ", 4)),
-        WasmValType::F32 => Some((b" f32    ", 4)),
-        WasmValType::F64 => Some((b" f64    ", 4)),
-        WasmValType::V128 => Some((b" v128   ", 5)),
-        WasmValType::Ref(_) => None,
-    }
-}
-
-// Writes value types before the first reference, a space before each. The answer is the place behind them, and their number.
-fn put_values(room: &mut [u8], used: usize, types: &[WasmValType]) -> (usize, usize)
-    requires { used + 8 * length types.now ≤ length room.old }
-    ensures written { take result.0 room.new ≡ take used room.old ++ spaced val_text (take result.1 types.now) }
-    ensures end { (used ≤ result.0) × (result.0 ≤ length room.new) × (result.1 ≤ length types.now) }
-{
-    let mut end = used;
-    for (count, ty) in types.iter().enumerate() {
-        let Some((word, len)) = short_word(ty) else {
-            return (end, count);
-        };
-        end = put_part(room, end, word, len);
-    }
-    (end, types.len())
-}
-
-fn append_short(text: &mut Text, types: &[WasmValType]) -> Result<usize, OutOfMemory>
-    ensures { IfOk result (λ count. (count ≤ length types.now) × (text.new ≡ text.old ++ spaced val_text (take count types.now))) }
-{
-    make_room(&mut text.room, text.used, types.len() * 8)?;
-    let (end, count) = put_values(&mut text.room, text.used, types);
-    text.used = end;
-    Ok(count)
-}
-
-fn append_each(text: &mut Text, types: &[WasmValType]) -> Result<(), OutOfMemory>
-    ensures { OnOk result (text.new ≡ text.old ++ spaced val_text types.now) }
-{
-    for ty in types {
-        append_value(text, ty)?;
-    }
-    Ok(())
-}
-
-// Appends value types, those before the first reference at once.
-fn append_values(text: &mut Text, types: &[WasmValType]) -> Result<(), OutOfMemory>
-    ensures { OnOk result (text.new ≡ text.old ++ spaced val_text types.now) }
-{
-    let count = append_short(text, types)?;
-    append_each(text, &types[count..])
-}
-
-// Appends a space and a value type.
-fn append_value(text: &mut Text, ty: &WasmValType) -> Result<(), OutOfMemory>
-    ensures { OnOk result (text.new ≡ text.old ++ codes " " ++ val_text ty.now) }
-{
-    text.push_byte(b' ')?;
-    text.push_display(ty)
 }
