@@ -1,18 +1,8 @@
 -- How index spaces grow while they are gathered.
-use Rattle.std.specs.Prelude.{◌≡◌, List, ◌++◌, map, length}
+use Rattle.std.specs.Prelude.{◌≡◌, List, ◌++◌, map}
 use Rattle.std.specs.List.{flat_map, filter_map}
 use Rattle.wasm_spec.specs.Module.{Import, Module, function_import, table_import, memory_import, global_import, tag_import, function_types_of_section, tables_of_section, memories_of_section, globals_of_section, tags_of_section}
-use Rattle.wasm_spec.specs.declared.types.UnpackedIndex.{UnpackedIndex}
-use Rattle.wasm_spec.specs.TypeData.{Group}
-use Rattle.rule_spec.specs.Lists.{declared_groups}
-use Rattle.form_lists.specs.declared.lists.Declared.{Declared}
 use Rattle.form_lists.specs.declared.lists.Spaces.{Spaces}
-use Rattle.form_lists.specs.Views.{declared_of}
-
--- the types of some groups are added: whatever groups follow, the types are as before
-unfoldable pub AddsTypes : List Declared → List Declared → List (Group UnpackedIndex UnpackedIndex) → Type 0
-AddsTypes old new gs = (rest : List (Group UnpackedIndex UnpackedIndex))
-    → map declared_of new ++ declared_groups (length new) rest ≡ map declared_of old ++ declared_groups (length old) (gs ++ rest)
 
 -- the imports are added, each to the space of its kind
 pub record AddsImports (old new : Spaces) (is : List Import) : Type 0 where

@@ -1,18 +1,12 @@
 -- What was gathered, as the plain lists of the definitions.
-use Rattle.std.specs.Prelude.{map}
-use Rattle.form_data.specs.Views.{sub_type_of}
 use Rattle.rule_spec.specs.Lists as rule
 use Rattle.form_lists.specs.Source.{source_module}
-use Rattle.form_lists.specs.declared.lists.Declared.{Declared}
 use Rattle.form_lists.specs.declared.lists.Lists.{Lists}
-
-abbrev pub declared_of : Declared → rule.Declared
-declared_of d = record { type = sub_type_of d.ty.now; index = d.index; group_end = d.group_end }
 
 -- the entries of sections stay where they are
 abbrev pub lists_of : Lists → rule.Lists
 lists_of l = record (rule.lists_of_module (source_module l.source)) {
-  types = map declared_of l.types.items;
+  types = l.types;
   functions = l.spaces.functions.items;
   table_types = l.spaces.table_types.items;
   memories = l.spaces.memories.items;

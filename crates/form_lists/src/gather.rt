@@ -3,28 +3,29 @@
 ghost use Rattle.std.specs.Prelude.{◌≡◌, ◌++◌, ◌∷◌, [], map, IfOk, OnOk};
 ghost use Rattle.wasm_spec.specs.Module.{imports, groups};
 ghost use Rattle.rule_spec.specs.Lists.{declared_groups, lists_of_module};
-ghost use Rattle.form_data.specs.Views.{import_of, table_of, global_of, group_of, payload_of, module_of};
+ghost use Rattle.form_data.specs.Views.{import_of, table_of, global_of, payload_of};
 ghost use Rattle.form_reader.specs.SectionRows.{global_entry};
 ghost use Rattle.form_reader.specs.Input.{vector_in};
 ghost use Rattle.form_lists.specs.Source.{source_module, sections_in};
-ghost use Rattle.form_lists.specs.Views.{declared_of, lists_of};
-ghost use Rattle.form_lists.specs.Gathered.{AddsTypes, AddsImports, AddsDefined};
+ghost use Rattle.form_lists.specs.Views.{lists_of};
+ghost use Rattle.form_lists.specs.Gathered.{AddsImports, AddsDefined};
 
-use crate::lists::{Declared, Lists, Spaces};
+use crate::declared::DeclaredTypes;
+use crate::lists::{Lists, Spaces};
 use crate::sections::entries_of;
 use crate::source::{Section, Source, sections_of};
-use form_data::{Form, GlobalDef, Import, Payload, RecGroup, TableDef};
+use form_data::{GlobalDef, Import, Payload, TableDef};
 use form_reader::{DefinedFunction, DefinedTag, InputEntries, InputEntry, InputVector};
 use std::alloc::{AllocError, Global};
 use wasm_spec::{GlobalType, TableType, TypeRef};
 
-/// The lists of a module, whose declared types were gathered before.
+/// The lists of a module, whose declared types are given.
 pub fn gather_lists<'f, 'd>(
     alloc: Global,
     source: Source<'f, 'd>,
-    types: Vec<Declared<'f>>,
+    types: DeclaredTypes<'f, 'd>,
 ) -> Result<Lists<'f, 'd>, AllocError>
-    requires { map declared_of types.items ≡ declared_groups 0 (groups (source_module source)) }
+    requires { types ≡ declared_groups 0 (groups (source_module source)) }
     ensures lists { IfOk result (λ l. lists_of l ≡ lists_of_module (source_module source.entry)) }
     ensures of_source { IfOk result (λ l. l.source ≡ source.entry) }
 {
@@ -46,53 +47,6 @@ pub fn gather_lists<'f, 'd>(
         imported_functions,
         imported_globals,
     })
-}
-
-/// The types that some groups declare, in the order of their indices.
-pub fn types_of_groups<'f>(
-    alloc: Global,
-    groups: &'f [RecGroup],
-) -> Result<Vec<Declared<'f>>, AllocError>
-    ensures { IfOk result (λ types. map declared_of types.items ≡ declared_groups 0 (map group_of groups.now)) }
-{
-    let mut types = Vec::new(alloc);
-    add_groups(&mut types, groups)?;
-    Ok(types)
-}
-
-/// The types that a form declares, in the order of their indices.
-pub fn types_of_form<'f>(alloc: Global, form: &'f Form<'_>) -> Result<Vec<Declared<'f>>, AllocError>
-    ensures { IfOk result (λ types. map declared_of types.items ≡ declared_groups 0 (groups (module_of form.now))) }
-{
-    let mut types = Vec::new(alloc);
-    for payload in &form.payloads {
-        add_groups(&mut types, RecGroup::in_payload(payload))?;
-    }
-    Ok(types)
-}
-
-fn add_groups<'f>(types: &mut Vec<Declared<'f>>, groups: &'f [RecGroup]) -> Result<(), AllocError>
-    ensures { OnOk result (AddsTypes types.old.items types.new.items (map group_of groups.now)) }
-{
-    for group in groups {
-        add_group(types, group)?;
-    }
-    Ok(())
-}
-
-fn add_group<'f>(types: &mut Vec<Declared<'f>>, group: &'f RecGroup) -> Result<(), AllocError>
-    ensures { OnOk result (AddsTypes types.old.items types.new.items (group_of group.now ∷ [])) }
-{
-    let group_end = types.len() + group.types.len();
-    for ty in &group.types {
-        let index = types.len();
-        types.push(Declared {
-            ty,
-            index,
-            group_end,
-        })?;
-    }
-    Ok(())
 }
 
 fn add_all_imports(spaces: &mut Spaces, source: Source<'_, '_>) -> Result<(), AllocError>

@@ -2,7 +2,7 @@ pub mod ContentLaws
 pub mod CustomRuns
 pub mod Digits
 pub mod Entries
-pub mod KeptGroups
+pub mod GroupTakers
 pub mod Listed
 pub mod Loop
 pub mod NameLaws

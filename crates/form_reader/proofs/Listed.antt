@@ -1,6 +1,5 @@
 -- Entries that stay in the input: what a loop passes over is what is listed, and how the first is taken.
-use Rattle.std.proofs.Common.{◌≡◌, ℕ, zero, suc, ◌+◌, ◌-◌, ◌<◌, ◌≤◌, List, [], ◌∷◌, ◌++◌, length, Result, Ok, Err, refl, sym, ap, subst, ◌∙◌, append_assoc, arith}
-use Rattle.std.proofs.lemmas.List.{append-nil}
+use Rattle.std.proofs.Common.{◌≡◌, ℕ, zero, suc, ◌+◌, ◌-◌, ◌<◌, ◌≤◌, List, [], ◌∷◌, ◌++◌, length, Result, Ok, Err, refl, sym, ap, subst, ◌∙◌, arith}
 use Rattle.form_reader.specs.Reading.{Reader, Fails, and_then, Fault, Bad, Stops, elements_at}
 use Rattle.form_reader.specs.declared.error.ReadError.{ReadError}
 use Rattle.form_reader.specs.declared.error.ReadError.TheVariants as errors
@@ -12,10 +11,10 @@ pub record SoFar {A : Type 0} (read : Reader A) (n i : ℕ) (start now : List �
   pub front : List A
   pub so_far : with_front front (elements_at read (n - i) now) ≡ elements_at read n start
 
--- and what was read was appended to a list
-pub record KeptSoFar {A : Type 0} (read : Reader A) (n i : ℕ) (start now : List ℕ) (before all : List A) : Type 0 where
+-- and something holds of what was read
+pub record HoldsSoFar {A : Type 0} (read : Reader A) (n i : ℕ) (start now : List ℕ) (T : List A → Type 0) : Type 0 where
   pub so_far : SoFar read n i start now
-  pub appended : all ≡ before ++ so_far.front
+  pub holds : T so_far.front
 
 -- the error is one of the bytes
 abbrev pub IsFault : ReadError → Type 0
@@ -29,16 +28,16 @@ module _ {A : Type 0} (read : Reader A) where
   pub further : (n i : ℕ) (start now rest : List ℕ) (x : A) → i < n → read now ≡ Ok (x, rest) → SoFar read n i start now → SoFar read n (i + 1) start rest
   further n i start now rest x l e s = record { front = s.front ++ x ∷ []; so_far = one_more read n i s.front x now rest _ l e s.so_far }
 
-  pub none_kept : (n : ℕ) (bytes : List ℕ) (before : List A) → KeptSoFar read n 0 bytes bytes before before
+  pub none_holds : (n : ℕ) (bytes : List ℕ) (T : List A → Type 0) → T [] → HoldsSoFar read n 0 bytes bytes T
   unfolding none_yet
-  none_kept n bytes before = record { so_far = none_yet n bytes; appended = sym (append-nil before) }
+  none_holds n bytes T none = record { so_far = none_yet n bytes; holds = none }
 
-  pub further_kept : (n i : ℕ) (start now rest : List ℕ) (x : A) (before kept : List A) → i < n → read now ≡ Ok (x, rest)
-      → KeptSoFar read n i start now before kept → KeptSoFar read n (i + 1) start rest before (kept ++ x ∷ [])
+  pub further_holds : (n i : ℕ) (start now rest : List ℕ) (x : A) (T T' : List A → Type 0) → i < n → read now ≡ Ok (x, rest)
+      → ((front : List A) → T front → T' (front ++ x ∷ [])) → HoldsSoFar read n i start now T → HoldsSoFar read n (i + 1) start rest T'
   unfolding further
-  further_kept n i start now rest x before kept l e s = record {
+  further_holds n i start now rest x T T' l e more s = record {
     so_far = further n i start now rest x l e s.so_far;
-    appended = ap (λ (xs : List A). xs ++ x ∷ []) s.appended ∙ append_assoc before s.so_far.front (x ∷ []);
+    holds = more s.so_far.front s.holds;
   }
 
   first_of : Result (List A × List ℕ) Fault → List A
@@ -75,9 +74,8 @@ module _ {A : Type 0} (read : Reader A) where
   pub at_end : (n i : ℕ) (start now : List ℕ) → n ≤ i → SoFar read n i start now → elements_at read n start ≡ Ok (listed read n start, now)
   at_end n i start now l s = rw (sym (front_listed n i start now l s)) (all_read read n i s.front now _ l s.so_far)
 
-  pub kept_at_end : (n i : ℕ) (start now : List ℕ) (before kept : List A) → n ≤ i → KeptSoFar read n i start now before kept
-      → kept ≡ before ++ listed read n start
-  kept_at_end n i start now before kept l s = s.appended ∙ ap (λ (xs : List A). before ++ xs) (front_listed n i start now l s.so_far)
+  pub holds_at_end : (n i : ℕ) (start now : List ℕ) (T : List A → Type 0) → n ≤ i → HoldsSoFar read n i start now T → T (listed read n start)
+  holds_at_end n i start now T l s = subst T (front_listed n i start now l s.so_far) s.holds
 
   -- ---- how many they are
 

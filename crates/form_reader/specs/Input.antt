@@ -1,10 +1,11 @@
 -- What stays in the input, as the plain values of the definitions.
 use Rattle.std.specs.Prelude.{◌≡◌, ℕ, zero, suc, Bool, true, false, List, [], ◌∷◌, ◌++◌, map, Result, Ok, Err}
+use Rattle.wasm_spec.specs.declared.types.UnpackedIndex.{UnpackedIndex}
+use Rattle.wasm_spec.specs.TypeData.{Group}
 use Rattle.wasm_spec.specs.Module as plain
 use Rattle.std.specs.List.{flat_map}
 use Rattle.form_data.specs.declared.form.Custom.{Custom}
-use Rattle.form_data.specs.declared.types.RecGroup.{RecGroup}
-use Rattle.form_data.specs.Views.{payload_of, group_of}
+use Rattle.form_data.specs.Views.{payload_of}
 use Rattle.form_reader.specs.Reading.{Fault, Reader}
 use Rattle.form_reader.specs.ReadingNumbers.{unsigned_at}
 use Rattle.form_reader.specs.TypeRows.{tag_type, group}
@@ -60,9 +61,13 @@ sections_of_part (parts.Section section) = input_section_of section ∷ []
 abbrev pub input_module_of : InputForm → plain.Module
 input_module_of form = flat_map sections_of_part form.parts.items
 
--- the groups of types that sections list stand in a list besides, after those that stood there
-abbrev pub KeepsGroups : List RecGroup → List RecGroup → plain.Module → Type 0
-KeepsGroups old new sections = map group_of new ≡ map group_of old ++ plain.groups sections
+-- some groups of types were taken, or none
+abbrev pub HasTaken : {T : Type 0} → (T → List (Group UnpackedIndex UnpackedIndex) → Type 0) → T → Type 0
+HasTaken took taker = (groups : List (Group UnpackedIndex UnpackedIndex)) × took taker groups
+
+-- what took some groups of types takes these as well, one after another
+abbrev pub TakesGroups : {T : Type 0} → (T → List (Group UnpackedIndex UnpackedIndex) → Type 0) → T → T → List (Group UnpackedIndex UnpackedIndex) → Type 0
+TakesGroups took old new groups = (before : List (Group UnpackedIndex UnpackedIndex)) → took old before → took new (before ++ groups)
 
 -- the first of some entries is taken and the others are left, or there is none
 abbrev pub Takes : {A : Type 0} → List A → A → List A → Bool → Type 0

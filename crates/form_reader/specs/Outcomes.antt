@@ -13,6 +13,6 @@ abbrev pub ReadsAs : Result Form ReadError → Module → Type 0
 ReadsAs (Ok form) m = module_of form ≡ m
 ReadsAs (Err e) m = e ≡ read.OutOfMemory
 
-abbrev pub ReadsInputAs : {A : Type 0} → Result (InputForm × A) ReadError → Module → Type 0
-ReadsInputAs (Ok r) m = input_module_of r.0 ≡ m
+abbrev pub ReadsInputAs : Result InputForm ReadError → Module → Type 0
+ReadsInputAs (Ok form) m = input_module_of form ≡ m
 ReadsInputAs (Err e) m = e ≡ read.OutOfMemory

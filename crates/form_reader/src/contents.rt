@@ -2,8 +2,9 @@
 
 ghost use Rattle.std.specs.Prelude.{◌≡◌, ◌+◌, ◌<◌, ◌^◌, [], ◌∷◌, length, IfOk};
 ghost use Rattle.wasm_spec.specs.Grammar.{order_of as spec_order_of, section_id as spec_section_id, next_order as spec_next_order};
+ghost use Rattle.wasm_spec.specs.Module as plain;
 ghost use Rattle.form_data.specs.Views.{payload_of};
-ghost use Rattle.form_reader.specs.Input.{input_payload_of, input_section_of, KeepsGroups};
+ghost use Rattle.form_reader.specs.Input.{input_payload_of, input_section_of, HasTaken, TakesGroups};
 ghost use Rattle.form_reader.specs.Reading.{Reads, whole};
 ghost use Rattle.form_reader.specs.ReadingNumbers.{unsigned_at, sized_at};
 ghost use Rattle.form_reader.specs.SectionRows.{section_contents};
@@ -11,10 +12,11 @@ ghost use Rattle.form_reader.specs.SectionRows.{section_contents};
 use crate::cursor::Cursor;
 use crate::customs::CUSTOM;
 use crate::error::ReadError;
+use crate::group_takers::TakeGroups;
 use crate::input::InputEntries::{self, Elements, Functions, Globals, Segments, Tags, Types};
 use crate::input::InputSection::{self, Input, Read};
 use crate::type_indices::{DefinedFunction, DefinedTag};
-use form_data::{DataSegment, Element, Export, GlobalDef, Import, Payload, RecGroup, TableDef};
+use form_data::{DataSegment, Element, Export, GlobalDef, Import, Payload, TableDef};
 use std::alloc::Global;
 use wasm_spec::MemoryType;
 
@@ -98,21 +100,22 @@ impl<'d> Cursor<'d> {
         Ok(number)
     }
 
-    /// What follows the id of a section that is not a custom one; it stands at `place`. The groups of a type section are kept besides.
+    /// What follows the id of a section that is not a custom one; it stands at `place`. The groups of a type section are taken.
     #[tactic(auto, unfolding(crate::specs::SectionRows::section_contents))]
-    pub fn section_contents(
+    pub fn section_contents<T: TakeGroups>(
         &mut self,
         alloc: Global,
         place: usize,
         id: u8,
-        groups: &mut Vec<RecGroup>,
+        taker: &mut T,
     ) -> Result<InputSection<'d>, ReadError>
-        requires { place + length self.now.rest.now < 2 ^ 30 }
+        requires small { place + length self.now.rest.now < 2 ^ 30 }
+        requires taking { HasTaken T.took taker.old }
         ensures reads { Reads (section_contents place id).read input_section_of self.old.rest.now self.new.rest.now result }
-        ensures keeps { IfOk result (λ section. KeepsGroups groups.old.items groups.new.items (input_section_of section ∷ [])) }
+        ensures takes { IfOk result (λ section. TakesGroups T.took taker.old taker.new (plain.groups (input_section_of section ∷ []))) }
     {
         match id {
-            1 => Ok(Input(Types(self.kept_vector::<RecGroup>(alloc, groups)?))),
+            1 => Ok(Input(Types(self.taken_groups(alloc, taker)?))),
             2 => Ok(Read(Payload::Imports(self.section_of::<Import<'d>>(alloc)?))),
             3 => Ok(Input(Functions(self.input_vector::<DefinedFunction>(alloc)?))),
             4 => Ok(Read(Payload::Tables(self.section_of::<TableDef>(alloc)?))),

@@ -55,8 +55,8 @@ pub trait InputEntry<'d> {
 /// The entries of a section, which stay in the input. They were read once, and are read again where they are walked.
 #[derive(Clone, Copy)]
 pub struct InputVector<'d> {
-    count: u32,
-    bytes: &'d [u8],
+    pub(crate) count: u32,
+    pub(crate) bytes: &'d [u8],
 }
 
 impl<'d> Cursor<'d> {

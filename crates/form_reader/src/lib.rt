@@ -12,6 +12,7 @@ mod exports;
 mod expressions;
 mod fields;
 mod globals;
+mod group_takers;
 mod imports;
 mod input;
 mod input_vectors;
@@ -31,6 +32,7 @@ mod vectors;
 
 pub use customs::InputCustoms;
 pub use error::ReadError;
+pub use group_takers::TakeGroups;
 pub use input::{InputEntries, InputForm, InputPart, InputSection};
 pub use input_vectors::{InputEntry, InputVector};
 pub use laws::spelling_is_unique;

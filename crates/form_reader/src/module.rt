@@ -7,16 +7,17 @@ ghost use Rattle.wasm_spec.specs.Module.{Module, HasFewEntries, groups};
 ghost use Rattle.wasm_spec.specs.Grammar.{Spells, Stops};
 ghost use Rattle.wasm_spec.specs.Sizes.{HasShortTypes};
 ghost use Rattle.wasm_spec.specs.Interfaces.{HasNoInterfaceTypes};
-ghost use Rattle.form_data.specs.Views.{module_of, payload_of, group_of};
-ghost use Rattle.form_reader.specs.Input.{sections_of_part, input_module_of, KeepsGroups};
+ghost use Rattle.form_data.specs.Views.{module_of, payload_of};
+ghost use Rattle.form_reader.specs.Input.{sections_of_part, input_module_of, HasTaken, TakesGroups};
 ghost use Rattle.form_reader.specs.Outcomes.{ReadsAs, ReadsInputAs};
 ghost use Rattle.form_reader.specs.Reading.{Gives};
 ghost use Rattle.form_reader.specs.ReadingSections.{is_component as spec_is_component, module_at};
 
 use crate::error::ReadError;
+use crate::group_takers::{Nobody, TakeGroups};
 use crate::input::{InputForm, InputPart};
 use crate::sections::sections;
-use form_data::{Form, Payload, RecGroup};
+use form_data::{Form, Payload};
 use std::alloc::{AllocError, Global};
 use wasm_spec::What;
 
@@ -41,17 +42,18 @@ fn is_component(bytes: &[u8]) -> bool
 
 /// The sections after the header.
 #[tactic(auto, unfolding(crate::specs::ReadingSections::module_at))]
-fn parts_of<'d>(
+fn parts_of<'d, T: TakeGroups>(
     alloc: Global,
     bytes: &'d [u8],
-    groups: &mut Vec<RecGroup>,
+    taker: &mut T,
 ) -> Result<Vec<InputPart<'d>>, ReadError>
-    requires { length bytes.now < 2 ^ 30 }
+    requires small { length bytes.now < 2 ^ 30 }
+    requires taking { HasTaken T.took taker.old }
     ensures reads { Gives (λ x. flat_map sections_of_part x.items) result (module_at bytes.now) }
-    ensures keeps { IfOk result (λ parts. KeepsGroups groups.old.items groups.new.items (flat_map sections_of_part parts.items)) }
+    ensures takes { IfOk result (λ parts. TakesGroups T.took taker.old taker.new (groups (flat_map sections_of_part parts.items))) }
 {
     if bytes.starts_with(&HEADER) {
-        return sections(alloc, HEADER.len(), &bytes[HEADER.len()..], groups);
+        return sections(alloc, HEADER.len(), &bytes[HEADER.len()..], taker);
     }
     if is_component(bytes) {
         return Err(ReadError::Unsupported(What::Component));
@@ -70,23 +72,25 @@ fn collected<'d>(alloc: Global, parts: Vec<InputPart<'d>>) -> Result<Vec<Payload
     Ok(payloads)
 }
 
-/// The module that the bytes spell; its types, functions, tags, globals, segments and custom sections stay in the input. Its types are given
-/// besides, each read once.
+/// The module that the bytes spell; its types, functions, tags, globals, segments and custom sections stay in the input. The groups of its
+/// types are taken as they are read.
 ///
 /// # Errors
 /// Those of `read_module`.
-pub fn read_input<'d>(
+pub fn read_input<'d, T: TakeGroups>(
     alloc: Global,
     bytes: &'d [u8],
-) -> Result<(InputForm<'d>, Vec<RecGroup>), ReadError>
+    taker: &mut T,
+) -> Result<InputForm<'d>, ReadError>
+    requires { HasTaken T.took taker.old }
     // What is read is spelled so.
-    ensures read { IfOk result (λ r. Spells bytes.now (input_module_of r.0)) }
-    ensures groups { IfOk result (λ r. map group_of r.1.items ≡ groups (input_module_of r.0)) }
+    ensures read { IfOk result (λ form. Spells bytes.now (input_module_of form)) }
+    ensures takes { IfOk result (λ form. TakesGroups T.took taker.old taker.new (groups (input_module_of form))) }
     // Custom sections of interface types are refused.
-    ensures no_interface_types { IfOk result (λ r. HasNoInterfaceTypes (input_module_of r.0)) }
-    ensures whole { IfOk result (λ r. r.0.wasm.now ≡ bytes.now) }
-    ensures few { IfOk result (λ r. HasFewEntries (input_module_of r.0)) }
-    ensures short { IfOk result (λ r. HasShortTypes (input_module_of r.0)) }
+    ensures no_interface_types { IfOk result (λ form. HasNoInterfaceTypes (input_module_of form)) }
+    ensures whole { IfOk result (λ form. form.wasm.now ≡ bytes.now) }
+    ensures few { IfOk result (λ form. HasFewEntries (input_module_of form)) }
+    ensures short { IfOk result (λ form. HasShortTypes (input_module_of form)) }
     // What is spelled is read, unless memory runs out.
     ensures complete { length bytes.now < 2 ^ 30 → (m : Module) → Spells bytes.now m → HasNoInterfaceTypes m → ReadsInputAs result m }
 
@@ -98,9 +102,8 @@ pub fn read_input<'d>(
     if bytes.len() >= MAX_MODULE_SIZE {
         return Err(ReadError::TooLarge);
     }
-    let mut groups = Vec::new(alloc);
-    let parts = parts_of(alloc, bytes, &mut groups)?;
-    Ok((InputForm { wasm: bytes, parts }, groups))
+    let parts = parts_of(alloc, bytes, taker)?;
+    Ok(InputForm { wasm: bytes, parts })
 }
 
 /// The module that the bytes spell.
@@ -124,7 +127,7 @@ pub fn read_module<'d>(alloc: Global, bytes: &'d [u8]) -> Result<Form<'d>, ReadE
     ensures malformed { result ≡ Err ReadError.Malformed → (m : Module) → ¬ Spells bytes.now m }
     ensures stops_nowhere { result ≡ Err ReadError.Malformed → (what : What) → ¬ Stops bytes.now what }
 {
-    let (form, _groups) = read_input(alloc, bytes)?;
+    let form = read_input(alloc, bytes, &mut Nobody)?;
     let payloads = collected(alloc, form.parts)?;
     Ok(Form {
         wasm: bytes,

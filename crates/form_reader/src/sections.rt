@@ -2,7 +2,8 @@
 
 ghost use Rattle.std.specs.Prelude.{◌≡◌, ◌+◌, ◌<◌, ◌^◌, [], ◌∷◌, length, nat_eq, false, IfOk};
 ghost use Rattle.std.specs.List.{flat_map, starts_with};
-ghost use Rattle.form_reader.specs.Input.{input_section_of, sections_of_part, KeepsGroups};
+ghost use Rattle.wasm_spec.specs.Module as plain;
+ghost use Rattle.form_reader.specs.Input.{input_section_of, sections_of_part, HasTaken, TakesGroups};
 ghost use Rattle.form_reader.specs.Reading.{Gives, Reads};
 ghost use Rattle.form_reader.specs.ReadingSections.{all_sections_at, ReadsSections};
 ghost use Rattle.form_reader.specs.SectionRows.{section};
@@ -10,63 +11,66 @@ ghost use Rattle.form_reader.specs.SectionRows.{section};
 use crate::contents::{next_order, order_of};
 use crate::cursor::Cursor;
 use crate::error::ReadError;
+use crate::group_takers::TakeGroups;
 use crate::input::{InputPart, InputSection};
-use form_data::RecGroup;
 use std::alloc::Global;
 
 impl<'d> Cursor<'d> {
     /// A section that is no custom one and stands at a place of the input, where the next one has at least the order `next`.
     #[tactic(auto, unfolding(crate::specs::SectionRows::section))]
-    fn section(
+    fn section<T: TakeGroups>(
         &mut self,
         alloc: Global,
         place: usize,
         next: usize,
-        groups: &mut Vec<RecGroup>,
+        taker: &mut T,
     ) -> Result<InputSection<'d>, ReadError>
         requires small { place + length self.now.rest.now < 2 ^ 30 }
+        requires taking { HasTaken T.took taker.old }
         requires other { starts_with nat_eq self.now.rest.now (0 ∷ []) ≡ false }
         ensures reads { Reads (section place next).read input_section_of self.old.rest.now self.new.rest.now result }
-        ensures keeps { IfOk result (λ section. KeepsGroups groups.old.items groups.new.items (input_section_of section ∷ [])) }
+        ensures takes { IfOk result (λ section. TakesGroups T.took taker.old taker.new (plain.groups (input_section_of section ∷ []))) }
     {
         let id = self.byte()?;
         match order_of(id) {
-            Some(order) if next <= order => { self.section_contents(alloc, place + 1, id, groups) }
+            Some(order) if next <= order => { self.section_contents(alloc, place + 1, id, taker) }
             _ => Err(ReadError::Malformed),
         }
     }
 
     /// A run of custom sections, or another section, as `section` reads it; after that the next one has at least the new order.
-    fn part(
+    fn part<T: TakeGroups>(
         &mut self,
         alloc: Global,
         place: usize,
         next: &mut usize,
-        groups: &mut Vec<RecGroup>,
+        taker: &mut T,
     ) -> Result<InputPart<'d>, ReadError>
-        requires { place + length self.now.rest.now < 2 ^ 30 }
+        requires small { place + length self.now.rest.now < 2 ^ 30 }
+        requires taking { HasTaken T.took taker.old }
         ensures reads { ReadsSections sections_of_part place next.old next.new self.old.rest.now self.new.rest.now result }
-        ensures keeps { IfOk result (λ part. KeepsGroups groups.old.items groups.new.items (sections_of_part part)) }
+        ensures takes { IfOk result (λ part. TakesGroups T.took taker.old taker.new (plain.groups (sections_of_part part))) }
     {
         if self.is_at_custom() {
             return Ok(InputPart::Customs(self.customs()?));
         }
-        let section = self.section(alloc, place, *next, groups)?;
+        let section = self.section(alloc, place, *next, taker)?;
         *next = next_order(*next, &section);
         Ok(InputPart::Section(section))
     }
 }
 
-/// The sections up to the end of the bytes, which begin at a place of the input; the groups of types are kept besides.
-pub fn sections<'d>(
+/// The sections up to the end of the bytes, which begin at a place of the input; the groups of types are taken.
+pub fn sections<'d, T: TakeGroups>(
     alloc: Global,
     start: usize,
     bytes: &'d [u8],
-    groups: &mut Vec<RecGroup>,
+    taker: &mut T,
 ) -> Result<Vec<InputPart<'d>>, ReadError>
-    requires { start + length bytes.now < 2 ^ 30 }
+    requires small { start + length bytes.now < 2 ^ 30 }
+    requires taking { HasTaken T.took taker.old }
     ensures reads { Gives (λ x. flat_map sections_of_part x.items) result (all_sections_at start 0 bytes.now) }
-    ensures keeps { IfOk result (λ parts. KeepsGroups groups.old.items groups.new.items (flat_map sections_of_part parts.items)) }
+    ensures takes { IfOk result (λ parts. TakesGroups T.took taker.old taker.new (plain.groups (flat_map sections_of_part parts.items))) }
 {
     let mut all = Vec::new(alloc);
     let mut cursor = Cursor { rest: bytes };
@@ -74,7 +78,7 @@ pub fn sections<'d>(
     let mut next = 0;
     'parts: while !cursor.rest.is_empty() {
         let before = cursor.rest.len();
-        let part = cursor.part(alloc, place, &mut next, groups)?;
+        let part = cursor.part(alloc, place, &mut next, taker)?;
         place += before - cursor.rest.len();
         all.push(part)?;
     }

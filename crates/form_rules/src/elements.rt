@@ -62,6 +62,6 @@ fn with_element(
     Ok(ElementsKeep {
         typed: before.typed && typed,
         in_range: before.in_range && element_is_in_range(lists, element),
-        refer: before.refer && element_refers(lists.types.len(), element),
+        refer: before.refer && element_refers(lists.types.count() as usize, element),
     })
 }

@@ -63,6 +63,6 @@ fn with_global(
     let typed = global_is_typed(lists, defaults, index, global, stack)?;
     Ok(GlobalsKeep {
         typed: before.typed && typed,
-        refer: before.refer && global_refers(lists.types.len(), global),
+        refer: before.refer && global_refers(lists.types.count() as usize, global),
     })
 }

@@ -9,12 +9,12 @@ ghost use Rattle.rule_spec.specs.References.{RefersIn, ValueRefersIn, ImportRefe
 ghost use Rattle.form_lists.specs.Source.{source_module};
 ghost use Rattle.form_lists.specs.Views.{lists_of};
 
-use crate::type_rules::{heap_is_below, value_is_below};
 use form_data::{
     ConstExpr, DataKind, Element, ElementItems, ElementKind, FunctionBody, GlobalDef, Import,
     TableDef,
 };
 use form_lists::{Lists, entries_of};
+use form_types::{heap_is_below, value_is_below};
 use wasm_spec::{Operator, TypeRef};
 
 /// Whether each concrete reference outside the type section names one of the declared types. `globals_refer`, `elements_refer` and `segments_refer` say it of globals and segments,
@@ -26,14 +26,14 @@ pub fn references_hold(
     segments_refer: bool,
 ) -> bool
     requires globals { IsTrue globals_refer
-        ↔ All (GlobalRefersIn (length lists.now.types.items)) (flat_map globals_of_section (source_module lists.now.source)) }
+        ↔ All (GlobalRefersIn (length lists.now.types)) (flat_map globals_of_section (source_module lists.now.source)) }
     requires elements { IsTrue elements_refer
-        ↔ All (ElementRefersIn (length lists.now.types.items)) (flat_map elements_of_section (source_module lists.now.source)) }
+        ↔ All (ElementRefersIn (length lists.now.types)) (flat_map elements_of_section (source_module lists.now.source)) }
     requires segments { IsTrue segments_refer
-        ↔ All (λ s. DataKindRefersIn (length lists.now.types.items) s.kind) (segments (source_module lists.now.source)) }
-    ensures { IsTrue result ↔ AllReferIn (length lists.now.types.items) (lists_of lists.now) }
+        ↔ All (λ s. DataKindRefersIn (length lists.now.types) s.kind) (segments (source_module lists.now.source)) }
+    ensures { IsTrue result ↔ AllReferIn (length lists.now.types) (lists_of lists.now) }
 {
-    let types = lists.types.len();
+    let types = lists.types.count() as usize;
     globals_refer
         && elements_refer
         && segments_refer

@@ -1,13 +1,13 @@
 //! The listed rules, checked one after another.
 
-ghost use Rattle.std.specs.Prelude.{◌≡◌, ◌↔◌, map, IsTrue, IfOk, OnOk, Err};
-ghost use Rattle.wasm_spec.specs.Module.{groups};
+ghost use Rattle.std.specs.Prelude.{◌≡◌, ◌↔◌, IsTrue, IfOk, OnOk, Err};
 ghost use Rattle.rule_spec.specs.declared.rules.Rule.{Rule};
 ghost use Rattle.form_data.specs.Views.{module_of};
-ghost use Rattle.rule_spec.specs.Lists.{declared_groups, lists_of_module};
+ghost use Rattle.rule_spec.specs.Lists.{lists_of_module};
 ghost use Rattle.rule_spec.specs.Rules.{Satisfies, Keeps, KeepsBefore};
+ghost use Rattle.form_types.specs.Numbered.{AreNumbered};
 ghost use Rattle.form_lists.specs.Source.{source_module};
-ghost use Rattle.form_lists.specs.Views.{declared_of, lists_of};
+ghost use Rattle.form_lists.specs.Views.{lists_of};
 ghost use Rattle.form_typing.specs.Defaults.{defaults as defaults_of_types};
 ghost use Rattle.form_rules.specs.Walked.{AreAsked};
 ghost use Rattle.form_rules.specs.Names.{exported_names};
@@ -24,17 +24,17 @@ use crate::references::references_hold;
 use crate::segments::{SegmentsKeep, walk_segments};
 use crate::start::starts_hold;
 use crate::tables::initialisers_hold;
-use crate::type_rules::{types_are_named, types_hold};
+use crate::type_rules::types_are_named;
 use entity_map::StringPool;
 use form_data::Form;
-use form_lists::{Declared, Lists, Source, gather_lists, types_of_form};
+use form_lists::{DeclaredTypes, Lists, Source, gather_lists};
+use form_types::{Types, Validator, numbering_of_form};
 use form_typing::{expressions_hold, struct_defaults};
 use rule_spec::Rule;
 use std::alloc::{AllocError, Global};
 
-/// The listed rules, in the order in which they are checked.
-const RULES: [Rule; 10] = [
-    Rule::L1,
+/// The listed rules, in the order in which they are checked, but for the first, which is asked while types are numbered.
+const RULES: [Rule; 9] = [
     Rule::L2,
     Rule::L3,
     Rule::L4,
@@ -68,21 +68,27 @@ pub fn check(alloc: Global, form: &Form<'_>) -> Result<(), CheckError>
     // What keeps the rules passes, unless memory runs out.
     ensures complete { Keeps (module_of form.now) → ChecksOrNoMemory result }
 {
-    let types = types_of_form(alloc, form)?;
-    checked_lists(alloc, Source::Form(form), types)?;
-    Ok(())
+    let numbering = numbering_of_form(alloc, form)?;
+    match numbering.into_types(&Validator::new(0)) {
+        Some(types) => {
+            checked_lists(alloc, Source::Form(form), &types)?;
+            Ok(())
+        }
+        None => Err(CheckError::Invalid(Rule::L1)),
+    }
 }
 
-/// The lists of a module that keeps the listed rules, and the pool of the names of its exports, in order. The declared types were gathered before.
+/// The lists of a module that keeps the listed rules, and the pool of the names of its exports, in order. Its types are numbered, and keep the first rule.
 ///
 /// # Errors
 /// Those of `check`.
 pub fn checked_lists<'f, 'd>(
     alloc: Global,
     source: Source<'f, 'd>,
-    types: Vec<Declared<'f>>,
+    types: &'f Types,
 ) -> Result<(Lists<'f, 'd>, StringPool), CheckError>
-    requires { map declared_of types.items ≡ declared_groups 0 (groups (source_module source)) }
+    requires numbered { AreNumbered (source_module source) types.now }
+    requires well { Satisfies Rule.L1 (lists_of_module (source_module source)) }
     ensures lists { IfOk result (λ r. lists_of r.0 ≡ lists_of_module (source_module source.entry)) }
     ensures of_source { IfOk result (λ r. r.0.source ≡ source.entry) }
     ensures names { IfOk result (λ r. r.1 ≡ exported_names (lists_of_module (source_module source.entry)).exports) }
@@ -91,7 +97,7 @@ pub fn checked_lists<'f, 'd>(
     ensures first { (rule : Rule) → result ≡ Err (CheckError.Invalid rule) → KeepsBefore rule (source_module source.entry) }
     ensures complete { Keeps (source_module source.entry) → ChecksOrNoMemory result }
 {
-    let lists = gather_lists(alloc, source, types)?;
+    let lists = gather_lists(alloc, source, DeclaredTypes::new(types, source))?;
     let defaults = struct_defaults(alloc, &lists)?;
     let names = pool_of_exports(alloc, source)?;
     let asked = Asked {
@@ -111,7 +117,7 @@ pub fn checked_lists<'f, 'd>(
     }
 }
 
-/// Whether a rule is kept; what all entries of a kind are asked was asked before.
+/// Whether a rule is kept; what all entries of a kind are asked was asked before, and so was the first rule.
 fn keeps(
     alloc: Global,
     rule: Rule,
@@ -119,6 +125,7 @@ fn keeps(
     defaults: &[bool],
     asked: Asked,
 ) -> Result<bool, AllocError>
+    requires well { Satisfies Rule.L1 (lists_of lists.now) }
     requires counted { HasGlobals (lists_of lists.now) }
     requires noted { defaults.now ≡ defaults_of_types (lists_of lists.now) }
     requires asked { AreAsked (lists_of lists.now) asked }
@@ -131,7 +138,7 @@ fn keeps(
         distinct,
     } = asked;
     match rule {
-        Rule::L1 => Ok(types_hold(lists)),
+        Rule::L1 => Ok(true),
         Rule::L2 => Ok(types_are_named(lists)),
         Rule::L3 => Ok(counts_agree(lists, segments.count)),
         Rule::L4 => Ok(limits_hold(lists)),

@@ -66,6 +66,6 @@ fn with_segment(
         count,
         typed: before.typed && typed,
         in_range: before.in_range && names_memory(lists, &segment.kind),
-        refer: before.refer && data_kind_refers(lists.types.len(), &segment.kind),
+        refer: before.refer && data_kind_refers(lists.types.count() as usize, &segment.kind),
     })
 }

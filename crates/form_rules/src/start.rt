@@ -1,9 +1,10 @@
 //! The start function (core specification, 3.5, start function).
 
-ghost use Rattle.std.specs.Prelude.{◌↔◌, All, IsTrue};
+ghost use Rattle.std.specs.Prelude.{◌↔◌, All, IsTrue, IsSomeAnd};
 ghost use Rattle.std.specs.List.{flat_map};
 ghost use Rattle.wasm_spec.specs.Module.{starts_of_section};
 ghost use Rattle.form_data.specs.Views.{composite_of};
+ghost use Rattle.rule_spec.specs.Lists.{kind_at};
 ghost use Rattle.rule_spec.specs.Indices.{TakesAndGivesNothing, CanStart};
 ghost use Rattle.form_lists.specs.Source.{source_module, sections_in};
 ghost use Rattle.form_lists.specs.Views.{lists_of};
@@ -37,10 +38,17 @@ fn section_can_start(lists: &Lists<'_, '_>, section: Section<'_, '_>) -> bool
 fn can_start(lists: &Lists<'_, '_>, function: u32) -> bool
     ensures { IsTrue result ↔ CanStart (lists_of lists.now) function }
 {
-    let Some(ty) = lists.spaces.functions.get(function as usize) else {
-        return false;
-    };
-    match lists.kind_at(*ty) {
+    match lists.spaces.functions.get(function as usize) {
+        Some(ty) => is_type_of_start(lists, *ty),
+        None => false,
+    }
+}
+
+/// Whether the declared type that has this index is a function type without parameters and results.
+fn is_type_of_start(lists: &Lists<'_, '_>, index: u32) -> bool
+    ensures { IsTrue result ↔ IsSomeAnd (kind_at (lists_of lists.now) index) TakesAndGivesNothing }
+{
+    match lists.kind_at(index) {
         Some(kind) => takes_and_gives_nothing(kind),
         None => false,
     }

@@ -10,7 +10,8 @@ use Rattle.type_data.specs.Names.{plainly}
 use Rattle.type_spec.specs.Equality.{canonical}
 use Rattle.type_spec.proofs.Homes.{size, size-more}
 use Rattle.form_data.specs.Views.{group_of}
-use Rattle.form_types.specs.declared.building.Numbering.{Numbering}
+use Rattle.form_types.specs.declared.numbering.Numbering.{Numbering}
+use Rattle.form_types.specs.declared.canonical.CanonicalGroup.{CanonicalGroup}
 use Rattle.form_types.specs.contracts.canonical.CanonicalGroupPartialEq.TheImpl as group
 use Rattle.form_types.specs.Types.{NamedGroup, types_by_id}
 use Rattle.form_types.specs.Seen.{ids_of}
@@ -18,18 +19,9 @@ use Rattle.form_types.specs.Placed.{place_of, placed, id_at, named_index}
 use Rattle.form_types.specs.Keys.{group_key, key_of}
 use Rattle.form_types.specs.Finding.{first_of}
 use Rattle.form_types.specs.Distinct.{IsListed}
-use Rattle.form_types.specs.Adding.{HasNone, HasFewIds, AddsMet, AddsNew, AddsBy, AddsGroup}
-use Rattle.form_types.proofs.Steps.{Canonical, NearIn, TellsAt, IsNumbered, found-low, numbered-empty, numbered-old, numbered-new}
-
-abbrev pub places : List NamedGroup → List (Group ℕ ℕ)
-places gs = map placed gs
-
--- the first groups are numbered
-pub record Built (done : List NamedGroup) (n : Numbering) : Type 0 where
-  pub keys : List Canonical
-  pub numbered : IsNumbered (places done) (slice_index (ids_of n.declared.items)) keys (map group_of n.distinct.groups.items) (first_of n.first_ids)
-  pub counted : length (ids_of n.declared.items) ≡ size (places done)
-  pub listed : IsListed n.distinct (map group_of n.distinct.groups.items)
+use Rattle.form_types.specs.Adding.{HasFewIds, AddsMet, AddsNew, AddsBy, AddsGroup}
+use Rattle.form_types.specs.Taken.{Canonical, NearIn, TellsAt, IsNumbered, places, Built}
+use Rattle.form_types.proofs.Steps.{found-low, numbered-empty, numbered-old, numbered-new}
 
 -- some groups are numbered as they are listed
 builds : (gs : List (Group ℕ ℕ)) (done : List NamedGroup) (n : Numbering) (keys : List Canonical) (groups : List NamedGroup) → places done ≡ gs
@@ -41,6 +33,12 @@ builds gs done n keys groups are st counted listed = record {
   counted = counted ∙ ap size (sym are);
   listed = subst (IsListed n.distinct) (sym listed.groups_are) listed;
 }
+
+-- no group is numbered
+pub record HasNone (n : Numbering) : Type 0 where
+  pub ids : ids_of n.declared.items ≡ []
+  pub listed : IsListed n.distinct []
+  pub met : (q : CanonicalGroup) → first_of n.first_ids q ≡ None
 
 pub built-none : (n : Numbering) → HasNone n → Built [] n
 built-none n none = builds [] [] n [] [] refl (record {

@@ -2,11 +2,7 @@
 -- occurrence, and there are no others.
 use Rattle.std.proofs.Common.{◌≡◌, ◌∙◌, ℕ, ◌+◌, ◌-◌, ◌<◌, ◌≤◌, inl, inr, ap, arith}
 use Rattle.std.proofs.lemmas.Bool.{cases_lt}
-
--- each number below one that was given was given before it, and each number below the count was given
-pub record AreGiven (number : ℕ → ℕ) (many count : ℕ) : Type 0 where
-  pub in_order : (i id : ℕ) → i < many → id < number i → (j : ℕ) × (j < i) × (number j ≡ id)
-  pub nothing_else : (id : ℕ) → id < count → (j : ℕ) × (j < many) × (number j ≡ id)
+use Rattle.form_types.specs.Taken.{AreGiven}
 
 module _ (number number' : ℕ → ℕ) (many count first long : ℕ) (given : AreGiven number many count) (low : first ≤ count)
     (agree : (i : ℕ) → i < many → number' i ≡ number i) (row : (p : ℕ) → p < long → number' (many + p) ≡ first + p) where

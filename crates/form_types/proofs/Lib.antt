@@ -1,3 +1,5 @@
+pub mod AllOf
+mod PartsBelow
 mod Counting
 mod Looking
 mod Decoding
@@ -9,4 +11,6 @@ mod Listing
 mod Rows
 mod Built
 pub mod Ruled
+mod Taking
+pub mod AtIds
 mod Final

@@ -2,7 +2,7 @@
 use Rattle.std.proofs.Common.{◌≡◌, ℕ, ◌+◌, List, [], ◌∷◌, ◌++◌, length, replicate, ap, arith, append_assoc, length-append}
 use Rattle.std.proofs.lemmas.List.{append-nil}
 use Rattle.form_types.specs.Types.{NamedGroup, types_by_id, group_numbers}
-use Rattle.form_types.specs.Kept.{spans}
+use Rattle.form_types.specs.Distinct.{spans}
 
 pub numbers-more : (number : ℕ) (gs : List NamedGroup) (g : NamedGroup)
     → group_numbers number (gs ++ g ∷ []) ≡ group_numbers number gs ++ replicate (length g) (number + length gs)

@@ -7,7 +7,7 @@ use Rattle.wasm_spec.specs.declared.types.UnpackedIndex.{UnpackedIndex}
 use Rattle.wasm_spec.specs.TypeData.{SubType}
 use Rattle.form_types.specs.Ids.{ids_from}
 use Rattle.form_types.specs.Types.{NamedGroup, types_by_id, group_numbers, member_ids}
-use Rattle.form_types.specs.Kept.{spans}
+use Rattle.form_types.specs.Distinct.{spans}
 
 pub length_numbers : (n : ℕ) (gs : List NamedGroup) → length (group_numbers n gs) ≡ length (types_by_id gs)
 length_numbers n [] = refl
@@ -63,7 +63,7 @@ found-later : (n first : ℕ) (g : NamedGroup) (gs : List NamedGroup) (id : ℕ)
 found-later n first g gs id le k f =
     (suc f.0, omega (arith, f.1), length g + f.2, later g gs id f.0 f.2 le f.3, λ span at. f.4 span at ∙ omega arith)
 
-pub member-found : (n first : ℕ) (gs : List NamedGroup) (id : ℕ) → id < length (types_by_id gs) → (k : ℕ) → k ≡ get_or (group_numbers n gs) id k
+member-found : (n first : ℕ) (gs : List NamedGroup) (id : ℕ) → id < length (types_by_id gs) → (k : ℕ) → k ≡ get_or (group_numbers n gs) id k
     → Found n first gs id k
 member-found n first [] id lt k is = absurd (omega arith)
 member-found n first (g ∷ gs) id lt k is =

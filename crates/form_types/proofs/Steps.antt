@@ -23,13 +23,11 @@ use Rattle.form_types.specs.Ids.{id_of}
 use Rattle.form_types.specs.Types.{NamedGroup, types_by_id, IsIdBelow, NameEarlier}
 use Rattle.form_types.specs.Numbered.{first_id}
 use Rattle.form_types.specs.Keys.{GroupKey, group_key, key_of}
-use Rattle.form_types.proofs.InOrder.{AreGiven, given-more}
+use Rattle.form_types.specs.Taken.{Canonical, resolved, by_ids, NearIn, AreGiven, AreListed, Stands, TellsAt, IsNumbered}
+use Rattle.form_types.proofs.InOrder.{given-more}
 use Rattle.form_types.proofs.KeyLaws.{group_key-exact, key-decides}
 
 -- ---- what a canonical group reads
-
-abbrev pub Canonical : Type 0
-Canonical = Group (Target ℕ) (Target ℕ)
 
 -- a canonical group reads the numbers of earlier types alone
 canonical-agrees : (number number' : ℕ → ℕ) (g : Home) → ((i : ℕ) → i < g.start → number' i ≡ number i)
@@ -38,15 +36,6 @@ canonical-agrees number number' g agree = ap (λ f. map_group f f g.members) (λ
   by : (i : ℕ) (b : Bool) → nat_le g.start i ≡ b → target_by b (i - g.start) (number' i) ≡ target_by b (i - g.start) (number i)
   by i true e = refl
   by i false e = ap Earlier (agree i (leb-false g.start i e))
-
--- what a reference of a canonical group names, where the group's first member has an id
-abbrev resolved : ℕ → Target ℕ → UnpackedIndex
-resolved first (Inside p) = Id (id_of (first + p))
-resolved first (Earlier id) = Id (id_of id)
-
--- a canonical group, by ids
-abbrev by_ids : ℕ → Canonical → NamedGroup
-by_ids first c = map_group (resolved first) (resolved first) c
 
 abbrev pub renamed : (ℕ → ℕ) → Group ℕ ℕ → NamedGroup
 renamed number g = map_group (λ i. Id (id_of (number i))) (λ i. Id (id_of (number i))) g
@@ -67,10 +56,6 @@ renamed-is number first g P row all =
       by r p false e = refl
 
 -- ---- groups, and where their members begin
-
--- each reference names a type before the group's end
-abbrev pub NearIn : Home → Type 0
-NearIn g = All (λ r. r < g.start + length g.members) (group_edges (λ r. r) g.members)
 
 pub total-more : (groups : List NamedGroup) (g : NamedGroup) → length (types_by_id (groups ++ g ∷ [])) ≡ length (types_by_id groups) + length g
 total-more groups g = grind (arith, flat_map-append, length-append, append-nil)
@@ -103,33 +88,6 @@ one-key keys a b apart i j same =
     ]
 
 -- ---- what is known of the first groups
-
--- the groups of some keys by ids, each key once
-pub record AreListed (keys : List Canonical) (groups : List NamedGroup) : Type 0 where
-  pub long : length groups ≡ length keys
-  pub are : (k : ℕ) → k < length keys → get_or groups k [] ≡ by_ids (first_id groups k) (get_or keys k [])
-  pub apart : AllPairs (λ c d. c ≢ d) keys
-  pub references : NameEarlier 0 groups
-
--- a type has its number in the group of its key, whose references are near
-pub record Stands (keys : List Canonical) (groups : List NamedGroup) (number : ℕ → ℕ) (i : ℕ) (g : Home) : Type 0 where
-  pub at : ℕ
-  pub below : at < length keys
-  pub key : get_or keys at [] ≡ canonical number g
-  pub number_is : number i ≡ first_id groups at + (i - g.start)
-  pub near : NearIn g
-
--- what is noted of a key: the first id of its group, or that there is none
-abbrev pub TellsAt : List Canonical → List NamedGroup → GroupKey → Option ℕ → Type 0
-TellsAt keys groups key (Some first) = (k : ℕ) × (k < length keys) × (key ≡ group_key (get_or keys k [])) × (first ≡ first_id groups k)
-TellsAt keys groups key None = (k : ℕ) → k < length keys → key ≡ group_key (get_or keys k []) → ⊥
-
-pub record IsNumbered (gs : List (Group ℕ ℕ)) (number : ℕ → ℕ) (keys : List Canonical) (groups : List NamedGroup) (get : CanonicalGroup → Option ℕ) : Type 0 where
-  pub few : length (types_by_id groups) ≤ size gs
-  pub listed : AreListed keys groups
-  pub tells : (q : CanonicalGroup) → TellsAt keys groups (key_of q) (get q)
-  pub stands : (i : ℕ) → i < size gs → Stands keys groups number i (home gs i)
-  pub given : AreGiven number (size gs) (length (types_by_id groups))
 
 first-low : (keys : List Canonical) (groups : List NamedGroup) → AreListed keys groups → (k : ℕ) → k < length keys
     → first_id groups k + length (get_or groups k []) ≤ length (types_by_id groups)

@@ -4,7 +4,7 @@ use Rattle.std.specs.List.{range_with_len}
 use Rattle.wasm_spec.specs.TypeData.{map_group}
 use Rattle.form_data.specs.Views.{group_of}
 use Rattle.form_types.specs.declared.canonical.CanonicalGroup.{CanonicalGroup}
-use Rattle.form_types.specs.declared.building.Numbering.{Numbering}
+use Rattle.form_types.specs.declared.numbering.Numbering.{Numbering}
 use Rattle.form_types.specs.contracts.canonical.CanonicalGroupPartialEq.TheImpl as group
 use Rattle.form_types.specs.Types.{NamedGroup}
 use Rattle.form_types.specs.Seen.{ids_of}
@@ -12,12 +12,6 @@ use Rattle.form_types.specs.Placed.{placed, named_index}
 use Rattle.form_types.specs.Keys.{key_of}
 use Rattle.form_types.specs.Distinct.{IsListed}
 use Rattle.form_types.specs.Finding.{FirstIds, first_of, next_key}
-
--- no group is numbered
-pub record HasNone (n : Numbering) : Type 0 where
-  pub ids : ids_of n.declared.items ≡ []
-  pub listed : IsListed n.distinct []
-  pub met : (q : CanonicalGroup) → first_of n.first_ids q ≡ None
 
 -- each first id is below 2 ^ 30
 abbrev pub HasFewIds : FirstIds → Type 0

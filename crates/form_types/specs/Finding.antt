@@ -4,8 +4,6 @@ use Rattle.std.specs.HashMap.{get, HashMap}
 use Rattle.wasm_spec.specs.TypeData.{Group}
 use Rattle.type_spec.specs.Equality.{canonical}
 use Rattle.entity_map.specs.declared.seed.Seeded.{Seeded}
-use Rattle.form_lists.specs.declared.source.Source.{Source}
-use Rattle.form_lists.specs.declared.source.Source.TheVariants as sources
 use Rattle.form_types.specs.declared.canonical.CanonicalGroup.{CanonicalGroup}
 use Rattle.form_types.specs.contracts.canonical.CanonicalGroupPartialEq.TheImpl as group
 use Rattle.form_types.specs.Keys.{GroupKey, group_key}
@@ -20,8 +18,3 @@ first_of ids key = get group.ghosts.eq ids key
 -- the key of a group that comes next
 abbrev pub next_key : List ℕ → Group ℕ ℕ → GroupKey
 next_key ids g = group_key (canonical (slice_index ids) (record { start = length ids; members = g }))
-
--- the bytes of a module that was read
-abbrev pub wasm_of : Source → List ℕ
-wasm_of (sources.Form form) = form.now.wasm.now
-wasm_of (sources.Input form) = form.now.wasm.now

@@ -9,3 +9,5 @@ pub mod Numbered
 pub mod Distinct
 pub mod Finding
 pub mod Adding
+pub mod Taken
+pub mod Below

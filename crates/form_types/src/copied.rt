@@ -1,11 +1,14 @@
-//! The groups of a form, copied.
+//! The groups of a form are taken, copied.
 
-ghost use Rattle.std.specs.Prelude.{◌≡◌, ◌++◌, map, IfOk, OnOk};
+ghost use Rattle.std.specs.Prelude.{◌≡◌, map, IfOk, OnOk};
 ghost use Rattle.wasm_spec.specs.Module.{groups};
 ghost use Rattle.form_data.specs.Views.{composite_of, sub_type_of, group_of, module_of};
+ghost use Rattle.form_reader.specs.Input.{HasTaken, TakesGroups};
+ghost use Rattle.form_types.specs.Taken.{Took};
 
+use crate::numbering::Numbering;
 use form_data::{CompositeInnerType, Form, FuncType, RecGroup, SubType};
-use form_reader::InputEntry;
+use form_reader::{InputEntry, TakeGroups};
 use std::alloc::{AllocError, Global};
 
 fn copied_composite(
@@ -41,26 +44,28 @@ fn copied_group(alloc: Global, group: &RecGroup) -> Result<RecGroup, AllocError>
     Ok(RecGroup { types })
 }
 
-fn copy_groups(
+/// Copies of some groups are taken.
+fn take_copies(
     alloc: Global,
     groups: &[RecGroup],
-    copies: &mut Vec<RecGroup>,
+    numbering: &mut Numbering,
 ) -> Result<(), AllocError>
-    ensures { OnOk result (map group_of copies.new.items ≡ map group_of copies.old.items ++ map group_of groups.now) }
+    requires { HasTaken Took numbering.old }
+    ensures { OnOk result (TakesGroups Took numbering.old numbering.new (map group_of groups.now)) }
 {
     for group in groups {
-        copies.push(copied_group(alloc, group)?)?;
+        numbering.take_group(alloc, copied_group(alloc, group)?)?;
     }
     Ok(())
 }
 
-/// The groups that a form lists.
-pub fn groups_of_form(alloc: Global, form: &Form<'_>) -> Result<Vec<RecGroup>, AllocError>
-    ensures { IfOk result (λ all. map group_of all.items ≡ groups (module_of form.now)) }
+/// The groups that a form lists are taken.
+pub fn numbering_of_form(alloc: Global, form: &Form<'_>) -> Result<Numbering, AllocError>
+    ensures { IfOk result (λ n. Took n (groups (module_of form.now))) }
 {
-    let mut all = Vec::new(alloc);
+    let mut numbering = Numbering::new(alloc, form.wasm);
     for payload in &form.payloads {
-        copy_groups(alloc, RecGroup::in_payload(payload), &mut all)?;
+        take_copies(alloc, RecGroup::in_payload(payload), &mut numbering)?;
     }
-    Ok(all)
+    Ok(numbering)
 }

@@ -1,11 +1,13 @@
-//! The distinct groups, while they are found.
+//! The distinct groups, and look-ups in them.
 
-ghost use Rattle.std.specs.Prelude.{◌≡◌, ◌+◌, ◌<◌, ◌^◌, ◌++◌, ◌∷◌, [], length, map, OnOk};
-ghost use Rattle.form_data.specs.Views.{group_of};
+ghost use Rattle.std.specs.Prelude.{◌≡◌, ◌+◌, ◌<◌, ◌^◌, ◌++◌, ◌∷◌, [], length, map, slice_get, Some, OnOk};
+ghost use Rattle.form_data.specs.Views.{group_of, sub_type_of};
 ghost use Rattle.form_types.specs.Distinct.{IsListed};
+ghost use Rattle.form_types.specs.Types.{types_by_id};
 
-use form_data::RecGroup;
+use form_data::{RecGroup, SubType};
 use std::alloc::{AllocError, Global};
+use wasm_spec::CoreTypeId;
 
 /// The distinct groups in the order of their first occurrence.
 #[derive(Drop)]
@@ -30,6 +32,17 @@ impl Distinct {
             spans: Vec::new(alloc),
             next: 0,
         }
+    }
+
+    /// The type of an id.
+    pub fn type_of(&self, id: CoreTypeId) -> &SubType
+        requires listed { IsListed self.now (map group_of self.now.groups.items) }
+        requires known { id.0 < length (types_by_id (map group_of self.now.groups.items)) }
+        ensures { slice_get (types_by_id (map group_of self.now.groups.items)) id.0 ≡ Some (sub_type_of result.now) }
+    {
+        let group = self.numbers[id.0 as usize] as usize;
+        let (first, _) = self.spans[group];
+        &self.groups[group].types[(id.0 - first) as usize]
     }
 
     /// Appends a group.

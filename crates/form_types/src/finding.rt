@@ -9,13 +9,12 @@ ghost use Rattle.form_data.specs.Views.{sub_type_of};
 ghost use Rattle.form_types.specs.Seen.{ids_of};
 ghost use Rattle.form_types.specs.Placed.{placed};
 ghost use Rattle.form_types.specs.Keys.{key_of, targets};
-ghost use Rattle.form_types.specs.Finding.{first_of, next_key, wasm_of};
+ghost use Rattle.form_types.specs.Finding.{first_of, next_key};
 
 use crate::canonical::CanonicalGroup;
 use crate::seen::Seen;
 use entity_map::Seeded;
 use form_data::SubType;
-use form_lists::Source;
 use form_reader::type_section_bytes;
 use std::alloc::{AllocError, Global};
 use std::collections::HashMap;
@@ -26,13 +25,9 @@ use wasm_spec::{CoreTypeId, UnpackedIndex};
 pub type FirstIds = HashMap<CanonicalGroup, u32, Seeded>;
 
 /// A digest of the bytes that spell a module's types, from which hashes begin: groups that are chosen to collide change it as well.
-pub fn seed_of(source: Source<'_, '_>) -> u64
-    ensures { result ≡ sip.finish (fold sip.write sip.initial (type_bytes (wasm_of source.entry) ∷ [])) }
+pub fn seed_of(wasm: &[u8]) -> u64
+    ensures { result ≡ sip.finish (fold sip.write sip.initial (type_bytes wasm.now ∷ [])) }
 {
-    let wasm = match source {
-        Source::Form(form) => form.wasm,
-        Source::Input(form) => form.wasm,
-    };
     let mut digest = DefaultHasher::new();
     digest.write(type_section_bytes(wasm));
     digest.finish()

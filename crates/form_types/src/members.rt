@@ -5,7 +5,7 @@ ghost use Rattle.form_data.specs.Views.{sub_type_of};
 ghost use Rattle.form_types.specs.Types.{IsSound};
 
 use crate::elements::RecGroupId;
-use crate::numbering::Types;
+use crate::types::Types;
 use form_data::SubType;
 
 impl Types {
@@ -15,6 +15,6 @@ impl Types {
         ensures members { slice_get self.now.groups group.0 ≡ Some (map sub_type_of result.now) }
         ensures sound { IsSound self.now }
     {
-        self.groups[group.0 as usize].types.as_slice()
+        self.distinct.groups[group.0 as usize].types.as_slice()
     }
 }

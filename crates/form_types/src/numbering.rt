@@ -1,105 +1,108 @@
-//! The list of types of a module, and look-ups in it.
+//! The types of a module are numbered, group by group, as they are read.
 
-ghost use Rattle.std.specs.Prelude.{◌≡◌, ◌<◌, length, slice_get, slice_index, Some};
-ghost use Rattle.form_data.specs.Views.{sub_type_of};
-ghost use Rattle.form_types.specs.Types.{types_by_id, group_numbers, member_ids, IsSound};
+ghost use Rattle.std.specs.Prelude.{◌≡◌, ◌+◌, ◌<◌, ◌^◌, [], length, map, OnOk};
+ghost use Rattle.form_data.specs.Views.{group_of};
+ghost use Rattle.form_types.specs.Distinct.{IsListed};
+ghost use Rattle.form_types.specs.Adding.{HasFewIds, AddsGroup};
+ghost use Rattle.form_types.specs.Taken.{Took};
 
-use crate::elements::{CoreTypeIds, RecGroupId};
-use crate::validator::ValidatorId;
-use form_data::{RecGroup, SubType};
-use std::marker::Model;
-use std::ops::Index;
+use crate::below::members_name_below;
+use crate::canonical::CanonicalGroup;
+use crate::distinct::Distinct;
+use crate::finding::{FirstIds, find_or_note, next_key, push_row, seed_of};
+use crate::named::name_group;
+use crate::short::members_are_short;
+use entity_map::Seeded;
+use form_data::RecGroup;
+use form_reader::TakeGroups;
+use std::alloc::{AllocError, Global};
+use std::collections::HashMap;
 use wasm_spec::CoreTypeId;
 
-/// The types of a module, each once, and the id of each declared type.
-///
-/// The distinct groups stand in the order of their first occurrence; ids number their members from 0 on, through all groups. Types name
-/// each other by ids.
+/// More types than this, 2^30 - 1, are not numbered, nor types with longer lists; input that is read has none.
+const MOST_TYPES: usize = 1073741823;
+
+/// The types of a module, numbered as their groups are taken.
 #[derive(Drop)]
-pub struct Types {
-    pub(crate) validator: ValidatorId,
-    pub(crate) groups: Vec<RecGroup>,
-    /// The number of the group of each id.
-    pub(crate) numbers: Vec<u32>,
-    /// The first id of each group, and the id after the last member.
-    pub(crate) spans: Vec<(u32, u32)>,
+pub struct Numbering {
+    pub(crate) first_ids: FirstIds,
+    pub(crate) distinct: Distinct,
     pub(crate) declared: Vec<CoreTypeId>,
     pub(crate) seed: u64,
+    /// The key of the group that was taken last; its lists are used again.
+    pub(crate) key: CanonicalGroup,
+    /// Whether each type so far names types before the end of its group alone, and its supertype stands before it. From the first that does not
+    /// no type is numbered.
+    pub(crate) names_below: bool,
 }
 
-impl Model for Types {
-    ghost use Rattle.wasm_spec.specs.declared.types.CoreTypeId.{CoreTypeId};
-    ghost use Rattle.form_types.specs.Types.{TypesData};
-    ghost use Rattle.form_types.specs.Kept.{data_of, IsKept};
-
-    ghost Value = { TypesData };
-
-    ghost view = { λ t. data_of t.validator t.groups.items t.declared.items };
-
-    ghost invariant = { λ t. IsKept (data_of t.validator t.groups.items t.declared.items) t.numbers.items t.spans.items };
-}
-
-impl Types {
-    /// The number of the validator that made the list.
-    pub fn id(&self) -> ValidatorId
-        ensures made { result.0 ≡ self.now.validator }
-        ensures sound { IsSound self.now }
+impl Numbering {
+    /// No group is taken. `wasm` are the bytes of the module, by whose types hashes are seeded.
+    pub fn new(alloc: Global, wasm: &[u8]) -> Numbering
+        ensures { Took result [] }
     {
-        self.validator
+        let seed = seed_of(wasm);
+        Numbering {
+            first_ids: HashMap::with_hasher(alloc, Seeded::new(seed)),
+            distinct: Distinct::new(alloc),
+            declared: Vec::new(alloc),
+            seed,
+            key: CanonicalGroup::new(alloc),
+            names_below: true,
+        }
     }
 
-    /// A digest of the module's groups, from which hashers begin whose keys come from the same module. No clause says more of it. (This
-    /// project's own.)
-    pub fn seed(&self) -> u64 {
-        self.seed
-    }
-
-    /// How many types are declared.
-    pub fn core_type_count_in_module(&self) -> u32
-        ensures { result ≡ length self.now.declared }
+    /// Gives ids to the members of a group: those of an equal group, or new ones.
+    fn add_group(&mut self, alloc: Global, mut group: RecGroup) -> Result<(), AllocError>
+        requires some { 0 < length group.types.items }
+        requires room { length self.old.declared.items + length group.types.items < 2 ^ 30 }
+        requires few { self.old.distinct.next + length group.types.items < 2 ^ 30 }
+        requires ids { HasFewIds self.old.first_ids }
+        requires listed { IsListed self.old.distinct (map group_of self.old.distinct.groups.items) }
+        ensures adds { OnOk result (AddsGroup self.old self.new (group_of group)) }
+        ensures stays { self.new.names_below ≡ self.old.names_below }
     {
-        self.declared.len() as u32
-    }
-
-    /// The id of a declared type.
-    pub fn core_type_at_in_module(&self, index: u32) -> CoreTypeId
-        requires { index < length self.now.declared }
-        ensures id { result.0 ≡ slice_index self.now.declared index }
-        ensures known { result.0 < length (types_by_id self.now.groups) }
-    {
-        self.declared[index as usize]
-    }
-
-    /// The group that has the type of an id.
-    pub fn rec_group_id_of(&self, id: CoreTypeId) -> RecGroupId
-        requires { id.0 < length (types_by_id self.now.groups) }
-        ensures number { slice_get (group_numbers 0 self.now.groups) id.0 ≡ Some result.0 }
-        ensures known { result.0 < length self.now.groups }
-    {
-        RecGroupId(self.numbers[id.0 as usize])
-    }
-
-    /// The ids of the members of a group, in order.
-    pub fn rec_group_elements(&self, group: RecGroupId) -> CoreTypeIds
-        requires { group.0 < length self.now.groups }
-        ensures { slice_get (member_ids 0 self.now.groups) group.0 ≡ Some result }
-    {
-        let (first, end) = self.spans[group.0 as usize];
-        CoreTypeIds::between(first, end)
+        let count = group.types.len();
+        next_key(&mut self.key, &self.declared, group.types.as_slice())?;
+        let next = self.distinct.next;
+        match find_or_note(alloc, &mut self.first_ids, &self.key, next)? {
+            Some(first) => push_row(&mut self.declared, first, count)?,
+            None => {
+                push_row(&mut self.declared, next, count)?;
+                name_group(
+                    &self.declared,
+                    group.types.as_mut_slice(),
+                    self.key.references.len(),
+                );
+                self.distinct.push(group)?;
+            }
+        }
+        Ok(())
     }
 }
 
-/// The type of an id, which names types by ids.
-impl Index<CoreTypeId> for Types {
-    type Output = SubType;
+impl TakeGroups for Numbering {
+    ghost took = { Took };
 
-    ghost can_index = { λ t id. id.0 < length (types_by_id t.groups) };
-
-    ghost index_gives = { λ t id ty. slice_get (types_by_id t.groups) id.0 ≡ Some (sub_type_of ty) };
-
-    fn index(&self, id: CoreTypeId) -> &SubType {
-        let group = self.numbers[id.0 as usize] as usize;
-        let (first, _) = self.spans[group];
-        &self.groups[group].types[(id.0 - first) as usize]
+    fn take_group(&mut self, alloc: Global, group: RecGroup) -> Result<(), AllocError> {
+        if !self.names_below {
+            return Ok(());
+        }
+        let start = self.declared.len();
+        let count = group.types.len();
+        if start > MOST_TYPES || count > MOST_TYPES - start {
+            return Err(AllocError);
+        }
+        if !members_are_short(group.types.as_slice()) {
+            return Err(AllocError);
+        }
+        if !members_name_below(start, group.types.as_slice()) {
+            self.names_below = false;
+            return Ok(());
+        }
+        if count > 0 {
+            self.add_group(alloc, group)?;
+        }
+        Ok(())
     }
 }

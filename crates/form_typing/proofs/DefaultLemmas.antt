@@ -1,12 +1,11 @@
 -- Which struct types have a default for each field.
-use Rattle.std.proofs.Common.{◌≡◌, ◌↔◌, ◌&&◌, Bool, true, false, IsTrue, List, [], ◌∷◌, map, All, refl, sym, ap, ◌∙◌}
+use Rattle.std.proofs.Common.{◌≡◌, ◌↔◌, ◌∙◌, ℕ, zero, suc, ◌<◌, ◌&&◌, Bool, true, false, IsTrue, List, [], ◌∷◌, length, get_or, map, All, refl, sym, ap, arith}
+use Rattle.std.specs.Prelude.{slice_get}
+use Rattle.std.specs.Option.{option_map, unwrap_or}
 use Rattle.std.specs.List.{list_all}
 use Rattle.std.proofs.lemmas.List.Elements.{All-nil, All-cons, All-head, All-tail}
 use Rattle.wasm_spec.specs.declared.types.FieldType.{FieldType}
 use Rattle.wasm_spec.specs.TypeData.{field_of}
-use Rattle.form_data.specs.Views.{composite_of}
-use Rattle.form_lists.specs.declared.lists.Declared.{Declared as Gathered}
-use Rattle.form_lists.specs.Views.{declared_of}
 use Rattle.rule_spec.specs.Lists.{Declared}
 use Rattle.rule_spec.specs.Typing.{has_default}
 use Rattle.form_typing.specs.Defaults.{defaults_of}
@@ -41,9 +40,12 @@ tells_defaults false fs tells = by_cases (list_all has_default (map field_of fs)
   by_cases true is = tells.1 (from_all fs is) ∙ sym is
   by_cases false is = sym is
 
--- ---- the signature of `struct.new_default`
+-- ---- one type after another
 
--- of the types as they were gathered
-pub noted_all : (ds : List Gathered) → map (λ (d : Gathered). defaults_of (composite_of d.ty.now.composite)) ds ≡ map (λ (d : Declared). defaults_of d.type.composite.inner) (map declared_of ds)
-noted_all [] = refl
-noted_all (d ∷ ds) = ap (λ (bs : List Bool). defaults_of (composite_of d.ty.now.composite) ∷ bs) (noted_all ds)
+-- the next type is noted
+pub noted_next : (ds : List Declared) (i : ℕ) → i < length ds
+    → get_or (map (λ (d : Declared). defaults_of d.type.composite.inner) ds) i false
+    ≡ unwrap_or (option_map defaults_of (option_map (λ (d : Declared). d.type.composite.inner) (slice_get ds i))) false
+noted_next [] i lt = absurd (omega arith)
+noted_next (d ∷ ds) zero lt = refl
+noted_next (d ∷ ds) (suc i) lt = noted_next ds i (omega arith)

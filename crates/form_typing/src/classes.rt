@@ -1,8 +1,10 @@
 //! Classes and defaults of types.
 
-ghost use Rattle.std.specs.Prelude.{◌≡◌, ◌↔◌, All, IsTrue, IfOk};
+ghost use Rattle.std.specs.Prelude.{◌≡◌, ◌↔◌, All, IsTrue, IfOk, false};
+ghost use Rattle.std.specs.Option.{option_map, unwrap_or};
 ghost use Rattle.wasm_spec.specs.TypeData.{value_of, field_of};
 ghost use Rattle.form_data.specs.Views.{composite_of};
+ghost use Rattle.rule_spec.specs.Lists.{kind_at};
 ghost use Rattle.rule_spec.specs.Typing.{class_of, field_class, value_has_default, has_default};
 ghost use Rattle.form_lists.specs.Views.{lists_of};
 ghost use Rattle.form_typing.specs.Defaults.{defaults_of, defaults as defaults_of_types};
@@ -74,6 +76,16 @@ fn kind_has_defaults(kind: &CompositeInnerType) -> bool
     }
 }
 
+/// Whether the declared type that has this index is a struct type of which each field has a default.
+fn type_has_defaults(lists: &Lists<'_, '_>, index: u32) -> bool
+    ensures { result ≡ unwrap_or (option_map defaults_of (kind_at (lists_of lists.now) index)) false }
+{
+    match lists.kind_at(index) {
+        Some(kind) => kind_has_defaults(kind),
+        None => false,
+    }
+}
+
 /// Of each declared type, whether it is a struct type of which each field has a default.
 ///
 /// Each type is looked at once, however many expressions name it.
@@ -81,8 +93,8 @@ pub fn struct_defaults(alloc: Global, lists: &Lists<'_, '_>) -> Result<Vec<bool>
     ensures { IfOk result (λ defaults. defaults.items ≡ defaults_of_types (lists_of lists.now)) }
 {
     let mut defaults = Vec::new(alloc);
-    for declared in &lists.types {
-        defaults.push(kind_has_defaults(&declared.ty.composite))?;
+    for index in 0..lists.types.count() {
+        defaults.push(type_has_defaults(lists, index))?;
     }
     Ok(defaults)
 }

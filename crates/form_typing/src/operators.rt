@@ -32,8 +32,9 @@ fn struct_fields(kind: &CompositeInnerType) -> Option<&[FieldType]>
     }
 }
 
+/// The fields of a struct type, in which references may have other names.
 fn struct_at<'f>(lists: &Lists<'f, '_>, index: u32) -> Option<&'f [FieldType]>
-    ensures { option_map (λ fields. map field_of fields.now) result ≡ struct_at (lists_of lists.now) index }
+    ensures { option_map (λ fields. map field_class (map field_of fields.now)) result ≡ option_map (map field_class) (struct_at (lists_of lists.now) index) }
 {
     match lists.kind_at(index) {
         Some(kind) => struct_fields(kind),
@@ -51,8 +52,10 @@ fn array_field(kind: &CompositeInnerType) -> Option<FieldType>
     }
 }
 
+/// The elements of an array type, in which references may have other names.
 fn array_at(lists: &Lists<'_, '_>, index: u32) -> Option<FieldType>
-    ensures { option_map field_of result ≡ array_at (lists_of lists.now) index }
+    ensures class { option_map (λ field. field_class (field_of field)) result ≡ option_map field_class (array_at (lists_of lists.now) index) }
+    ensures default { option_map (λ field. has_default (field_of field)) result ≡ option_map has_default (array_at (lists_of lists.now) index) }
 {
     match lists.kind_at(index) {
         Some(kind) => array_field(kind),

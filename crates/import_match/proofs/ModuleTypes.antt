@@ -27,7 +27,7 @@ use Rattle.wasm_module.specs.Entities.{entity_type}
 use Rattle.wasm_module.specs.Imports.{text_of, import_of, imports_of}
 use Rattle.wasm_module.specs.ModuleData.{FunctionData, type_of_space, function_of, startup_of}
 use Rattle.wasm_module.specs.ModuleShapes.{startup_edges}
-use Rattle.form_lists.proofs.AllSections.{All-parts, All-joined}
+use Rattle.form_types.proofs.AllOf.{All-parts, All-joined}
 use Rattle.import_match.specs.Rules.{types_in}
 use Rattle.import_match.specs.Definitions.{Definition}
 use Rattle.import_match.specs.Linking.{export_of, exports_of, wants_of}

@@ -1,5 +1,5 @@
 -- The metadata of the functions of a module, by what its declared types are looked up to.
-use Rattle.std.proofs.Common.{◌≡◌, ◌∙◌, ℕ, ◌+◌, ◌<◌, ◌≤◌, List, [], ◌∷◌, ◌++◌, Option, Some, None, length, map, get_or, refl, sym, ap, subst, arith, length-append, append_assoc}
+use Rattle.std.proofs.Common.{◌≡◌, ◌∙◌, ℕ, suc, ◌+◌, ◌<◌, ◌≤◌, List, [], ◌∷◌, ◌++◌, Option, Some, None, length, map, get_or, refl, sym, ap, subst, arith, length-append, append_assoc}
 use Rattle.std.specs.Prelude.{All, slice_get, unwrap_or}
 use Rattle.std.specs.List.{flat_map, enumerate_from}
 use Rattle.std.specs.Option.{option_map}
@@ -19,8 +19,7 @@ use Rattle.rule_spec.specs.Lists as rule
 use Rattle.rule_spec.specs.References.{BodyRefersIn}
 use Rattle.rule_spec.specs.TypeRules.{IsBelow, KindIsBelow, ValueIsBelow, IsDeclaredWell}
 use Rattle.form_lists.specs.declared.lists.Lists.{Lists}
-use Rattle.form_lists.proofs.AllSections.{All-joined, All-parts}
-use Rattle.form_lists.proofs.DeclaredLists.{length-declared_from}
+use Rattle.form_types.proofs.AllOf.{All-joined, All-parts}
 use Rattle.form_types.proofs.Ruled.{declared-types}
 use Rattle.wasm_types.specs.ValueViews.{Name, value_of as view_value}
 use Rattle.wasm_convert.specs.Conversion.{LookUp}
@@ -39,6 +38,10 @@ EndsBy bound d = d.group_end ≤ bound
 from-end : (bound end index : ℕ) (ts : List (SubType UnpackedIndex UnpackedIndex)) → end ≤ bound → All (EndsBy bound) (declared_from end index ts)
 from-end bound end index [] le = All-nil (EndsBy bound)
 from-end bound end index (t ∷ ts) le = All-cons (EndsBy bound) _ (declared_from end (index + 1) ts) le (from-end bound end (index + 1) ts le)
+
+length-declared_from : (end index : ℕ) (ts : List (SubType UnpackedIndex UnpackedIndex)) → length (declared_from end index ts) ≡ length ts
+length-declared_from end index [] = refl
+length-declared_from end index (t ∷ ts) = ap (λ (n : ℕ). suc n) (length-declared_from end (index + 1) ts)
 
 groups-end : (bound index : ℕ) (gs : List (Group UnpackedIndex UnpackedIndex)) → index + length (declared_groups index gs) ≤ bound
     → All (EndsBy bound) (declared_groups index gs)

@@ -48,13 +48,13 @@ read_cause bytes poisoned r read.TooLarge too_large unsupported malformed stops_
 read_cause bytes poisoned r read.OutOfMemory too_large unsupported malformed stops_nowhere is = tt
 
 -- input that can be read is refused only where memory runs out
-pub read_complete : {A : Type 0} (r : Result (InputForm × A) ReadError) (e : ReadError) (m : Module) → ReadsInputAs r m → r ≡ Err e → error_of_read e ≡ refusal.OutOfMemory
-read_complete {A} r e m reads is = ap error_of_read (subst (λ (q : Result (InputForm × A) ReadError). ReadsInputAs q m) is reads)
+pub read_complete : (r : Result InputForm ReadError) (e : ReadError) (m : Module) → ReadsInputAs r m → r ≡ Err e → error_of_read e ≡ refusal.OutOfMemory
+read_complete r e m reads is = ap error_of_read (subst (λ (q : Result InputForm ReadError). ReadsInputAs q m) is reads)
 
 -- what was read can be read: it is not long
-pub was_readable : {A : Type 0} (bytes : List ℕ) (form : InputForm) (x : A)
-    → ((let r : Result (InputForm × A) ReadError = Ok (form, x) in r ≡ Err read.TooLarge) ↔ (2 ^ 30 ≤ length bytes)) → Spells bytes (input_module_of form) → HasNoInterfaceTypes (input_module_of form) → IsReadable bytes (input_module_of form)
-was_readable bytes form x too_large spelled no_interface_types = record {
+pub was_readable : (bytes : List ℕ) (form : InputForm)
+    → ((let r : Result InputForm ReadError = Ok form in r ≡ Err read.TooLarge) ↔ (2 ^ 30 ≤ length bytes)) → Spells bytes (input_module_of form) → HasNoInterfaceTypes (input_module_of form) → IsReadable bytes (input_module_of form)
+was_readable bytes form too_large spelled no_interface_types = record {
   short = elim (cases_lt (length bytes) (2 ^ 30)) [ inl lt ↦ lt | inr long ↦ absurd (let no = too_large.1 long in cc) ];
   spelled = spelled;
   no_interface_types = no_interface_types;

@@ -16,7 +16,7 @@ use Rattle.rule_spec.specs.Rules.{Keeps}
 use Rattle.rule_spec.specs.Indices.{space_size, NamesFunctions}
 use Rattle.rule_spec.specs.Expressions.{AreExpressionsTyped, AreGlobalsTyped, HasTypedInitialiser, HasTypedItems}
 use Rattle.rule_spec.specs.Typing.{HasClass}
-use Rattle.form_lists.proofs.AllSections.{All-parts}
+use Rattle.form_types.proofs.AllOf.{All-parts}
 use Rattle.module_environ.specs.Escapes.{references, referred, referred_if_any, exported_function, item_functions, defined_functions}
 use Rattle.module_environ.proofs.Filling.{All-gathered}
 use Rattle.module_environ.proofs.FromRules.{functions-in-range}

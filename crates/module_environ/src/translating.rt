@@ -1,15 +1,14 @@
 //! The translation of a module: its bytes are read and checked, and each section becomes a part of the record.
 
 ghost use Rattle.std.specs.Prelude.{◌≡◌, ◌≢◌, ◌⊎◌, ◌^◌, ◌≤◌, ◌&&◌, length, map, true, false, is_none, IfOk, IfErr, OnOk, OnErr, Err};
-ghost use Rattle.wasm_spec.specs.Module.{Module, imports, function_import, HasFewEntries};
-ghost use Rattle.wasm_spec.specs.Module as plain;
-ghost use Rattle.wasm_spec.specs.Sizes.{HasShortTypes};
+ghost use Rattle.wasm_spec.specs.Module.{Module, groups, imports, function_import, HasFewEntries};
 ghost use Rattle.rule_spec.specs.Lists.{lists_of_module};
 ghost use Rattle.rule_spec.specs.Rules.{Keeps};
-ghost use Rattle.form_data.specs.Views.{group_of};
 ghost use Rattle.form_lists.specs.Source.{source_module};
 ghost use Rattle.form_rules.specs.Names.{exported_names};
+ghost use Rattle.form_types.specs.Numbered.{AreNumbered};
 ghost use Rattle.form_types.specs.Placed.{placed_groups};
+ghost use Rattle.form_types.specs.Taken.{Took};
 ghost use Rattle.form_types.specs.Types.{TypesData};
 ghost use Rattle.type_spec.specs.Interned.{taken};
 ghost use Rattle.module_types.specs.Builder.{builder_view, new_builder};
@@ -36,13 +35,13 @@ use crate::sections::fill_sections;
 use crate::tags::convert_tags;
 use crate::types::intern_types;
 use entity_map::{OutOfMemory, PrimaryMap, StringPool};
-use form_data::RecGroup;
-use form_lists::{Lists, Source, types_of_groups};
+use form_lists::{Lists, Source};
 use form_reader::read_input;
 use form_rules::checked_lists;
-use form_types::{Types, Validator};
+use form_types::{Numbering, Types, Validator};
 use init_plan::ModuleTranslation;
 use module_types::ModuleTypesBuilder;
+use rule_spec::Rule;
 use std::alloc::Global;
 use std::mem;
 use wasm_index::{StaticModuleIndex, TypeIndex};
@@ -111,7 +110,8 @@ fn translation_of<'d>(
     ensures stays_poisoned { types.old.is_poisoned ≡ true → types.new ≡ types.old }
     ensures stops { OnErr result (StopsOnTheWay validator.now bytes.now types.old types.new) }
 {
-    let (form, groups) = read_input(alloc, bytes)?;
+    let mut numbering = Numbering::new(alloc, bytes);
+    let form = read_input(alloc, bytes, &mut numbering)?;
     let mut translation = ModuleTranslation::new(alloc, module_index)?;
     if let Err(error) = translate_form(
         alloc,
@@ -119,7 +119,7 @@ fn translation_of<'d>(
         validator,
         types,
         Source::Input(&form),
-        groups,
+        numbering,
         &mut translation,
     ) {
         // Dropped by one call, not field by field at each exit.
@@ -148,12 +148,11 @@ fn translate_form<'d>(
     validator: &Validator,
     types: &mut ModuleTypesBuilder,
     source: Source<'_, 'd>,
-    groups: Vec<RecGroup>,
+    numbering: Numbering,
     translation: &mut ModuleTranslation<'d>,
 ) -> Result<(), EnvironError>
-    requires groups { map group_of groups.items ≡ plain.groups (source_module source) }
+    requires took { Took numbering (groups (source_module source)) }
     requires few { HasFewEntries (source_module source) }
-    requires short { HasShortTypes (source_module source) }
     requires new { IsNewTranslation translation.old.module.module_index translation.old }
     requires types { types.old.is_poisoned ≡ false → builder_view types.old ≡ new_builder validator.now }
     ensures formed { OnOk result
@@ -166,51 +165,41 @@ fn translate_form<'d>(
     ensures stops { types.new.is_poisoned ≡ false
         → (types.new ≡ types.old) ⊎ (Keeps (source_module source.entry) × IsOnTheWay (source_module source.entry) validator.now (builder_view types.new)) }
 {
-    let declared = types_of_groups(alloc, groups.as_slice())?;
-    let (checked, names) = checked_lists(alloc, source, declared)?;
-    // The rules asked for the types, and nothing does from here on: the groups become those of the list of types.
-    let lists = checked.without_types(alloc, source);
-    translate_lists(
-        alloc,
-        tunables,
-        validator,
-        types,
-        &lists,
-        names,
-        groups,
-        translation,
-    )
+    let Some(ids) = numbering.into_types(validator) else {
+        return Err(EnvironError::Invalid(Rule::L1));
+    };
+    let (checked, names) = checked_lists(alloc, source, &ids)?;
+    // The rules asked for the types, and no list does from here on: they go into the translation.
+    let lists = checked.without_types(source);
+    translate_lists(alloc, tunables, types, &lists, names, ids, translation)
 }
 
 /// Fills an empty translation with all of a module that keeps the rules, but its bytes and its code.
 fn translate_lists<'d>(
     alloc: Global,
     tunables: &Tunables,
-    validator: &Validator,
     types: &mut ModuleTypesBuilder,
     lists: &Lists<'_, 'd>,
     names: StringPool,
-    groups: Vec<RecGroup>,
+    ids: Types,
     translation: &mut ModuleTranslation<'d>,
 ) -> Result<(), EnvironError>
     requires names { names ≡ exported_names (lists_of_module (module_in lists.now)).exports }
-    requires groups { map group_of groups.items ≡ plain.groups (module_in lists.now) }
+    requires numbered { AreNumbered (module_in lists.now) ids }
     requires gathered { IsGathered lists.now }
-    requires short { HasShortTypes (module_in lists.now) }
     requires new { IsNewTranslation translation.old.module.module_index translation.old }
-    requires types { types.old.is_poisoned ≡ false → builder_view types.old ≡ new_builder validator.now }
+    requires types { types.old.is_poisoned ≡ false → builder_view types.old ≡ new_builder ids.validator }
     ensures formed { OnOk result
-        (IsFormed tunables.now validator.now (module_in lists.now) translation.old translation.new types.new) }
+        (IsFormed tunables.now ids.validator (module_in lists.now) translation.old translation.new types.new) }
     // That the builder is poisoned is told before anything asks for memory, and there is no other cause.
     ensures poisoned { types.old.is_poisoned ≡ true → (result ≡ Err EnvironError.Poisoned) × (types.new ≡ types.old) }
     ensures complete { types.old.is_poisoned ≡ false → SucceedsOrNoMemory result }
     ensures stops { types.old.is_poisoned ≡ false → types.new.is_poisoned ≡ false
-        → (types.new ≡ types.old) ⊎ IsOnTheWay (module_in lists.now) validator.now (builder_view types.new) }
+        → (types.new ≡ types.old) ⊎ IsOnTheWay (module_in lists.now) ids.validator (builder_view types.new) }
 {
     if types.is_poisoned() {
         return Err(EnvironError::Poisoned);
     }
-    let ids = Types::build_from(alloc, validator, lists.source, groups)?;
     let indices = intern_types(alloc, &ids, types)?;
     fill_lists(alloc, tunables, types, lists, names, &indices, translation)?;
     translation.module.tags = convert_tags(alloc, lists.spaces.tags.as_slice(), &indices, types)?;

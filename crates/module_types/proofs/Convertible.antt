@@ -28,7 +28,7 @@ use Rattle.wasm_index.specs.Index.{number_of, index_of}
 use Rattle.wasm_index.specs.declared.index.Index.{Index}
 use Rattle.wasm_index.specs.declared.spaces.TypeSpace.{TypeSpace}
 use Rattle.wasm_spec.specs.declared.types.CoreTypeId.{CoreTypeId}
-use Rattle.form_lists.proofs.AllSections.{All-joined, All-from_map, All-parts}
+use Rattle.form_types.proofs.AllOf.{All-joined, All-from_map, All-parts}
 use Rattle.module_types.proofs.Places.{group-ends}
 
 all-both : {A : Type 0} (P Q R : A → Type 0) → ((x : A) → P x → Q x → R x) → (xs : List A) → All P xs → All Q xs → All R xs

@@ -21,7 +21,7 @@ use Rattle.module_types.proofs.EqualLists.{next-home, next-place, next-number}
 use Rattle.module_types.proofs.GroupMembers.{composite-behind, extends-group, trampoline_next, all-steps, through-interned}
 use Rattle.module_types.proofs.WellNamed.{AllBelow, Well, kind-before, well-next, named-before}
 use Rattle.std.specs.Option.{option_to_list}
-use Rattle.form_lists.proofs.AllSections.{All-joined}
+use Rattle.form_types.proofs.AllOf.{All-joined}
 
 -- ---- a mapped type names nothing
 

@@ -19,7 +19,7 @@ use Rattle.rule_spec.specs.declared.rules.Rule.TheVariants.{L7}
 use Rattle.rule_spec.specs.Indices.{space_size, IsInSpace}
 use Rattle.rule_spec.specs.Lists.{lists_of_module}
 use Rattle.rule_spec.specs.Rules.{Keeps}
-use Rattle.form_lists.proofs.AllSections.{All-from_map}
+use Rattle.form_types.proofs.AllOf.{All-from_map}
 use Rattle.wasm_index.specs.Index.{number_of}
 use Rattle.wasm_types.specs.declared.entity.EntityIndex.{EntityIndex}
 use Rattle.wasm_types.specs.declared.entity.EntityIndex.TheVariants as entity

@@ -18,7 +18,7 @@ use Rattle.rule_spec.specs.Rules.{Keeps}
 use Rattle.rule_spec.specs.TypeRules.{NamesFunctionType}
 use Rattle.form_types.specs.Placed.{placed_groups}
 use Rattle.form_types.proofs.Ruled.{declared-types}
-use Rattle.form_lists.proofs.AllSections.{All-parts}
+use Rattle.form_types.proofs.AllOf.{All-parts}
 use Rattle.wasm_index.specs.Index.{index_of}
 use Rattle.wasm_types.specs.declared.index.EngineOrModuleTypeIndex.{EngineOrModuleTypeIndex}
 use Rattle.wasm_types.specs.declared.table.Table.{Table}

@@ -25,7 +25,7 @@ use Rattle.init_plan.specs.Tables.{plan_of_tables, AreCounted}
 use Rattle.plan_run.specs.Finished.{Finished, GlobalsAreFinished, MemoriesAreFinished, TablesAreFinished, ImageFits}
 use Rattle.plan_run.specs.Limits.{page_size_of}
 use Rattle.plan_run.proofs.Lists.{get-drop}
-use Rattle.form_lists.proofs.AllSections.{All-from_map}
+use Rattle.form_types.proofs.AllOf.{All-from_map}
 use Rattle.run_laws.proofs.GlobalNumbers.{simple-low, kept-low}
 use Rattle.run_laws.proofs.ImagesFit.{images-are, segments-below}
 use Rattle.run_laws.proofs.TableImages.{images-short, kept-are}

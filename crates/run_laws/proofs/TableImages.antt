@@ -10,7 +10,7 @@ use Rattle.std.proofs.lemmas.Bool.Decides.{nat_tests}
 use Rattle.replay_spec.specs.Elements.{ActiveElements, DefinedTable}
 use Rattle.replay_spec.specs.Tables.{constant_place, elements_end, is_imaged_from_start, MayBeTaken, end_on, image_length, PlannedTable, TablePlan, IsTablePlan}
 use Rattle.plan_run.proofs.Lists.{some-at}
-use Rattle.form_lists.proofs.AllSections.{All-joined}
+use Rattle.form_types.proofs.AllOf.{All-joined}
 
 module _ (lazy : Bool) (imports : ℕ) (tables : List DefinedTable) where
   -- what may be taken ends within its table

@@ -4,7 +4,7 @@ use Rattle.std.specs.List.{All}
 use Rattle.std.proofs.lemmas.List.{take-map, drop-map, take_more}
 use Rattle.std.proofs.lemmas.List.Elements.{All-map}
 use Rattle.std.proofs.lemmas.Option.{slice_get_within, get_or_from_slice_get}
-use Rattle.form_lists.proofs.AllSections.{All-from_map}
+use Rattle.form_types.proofs.AllOf.{All-from_map}
 use Rattle.wasm_spec.specs.TypeData.{map_group, map_sub_type, group_edges}
 use Rattle.type_data.specs.Names.{named, by_name, index_of as index_in}
 use Rattle.type_data.specs.TypeShapes.{group_shape}

@@ -1,8 +1,11 @@
-use Rattle.std.proofs.Common.{Err, ap, ◌∙◌}
+use Rattle.std.proofs.Common.{[], Err, ap, ◌∙◌}
 use Rattle.std.proofs.lemmas.Result.{err_from_is_err_and}
 use Rattle.form_reader.specs.declared.error.ReadError.TheVariants as errors
 use Rattle.form_reader.proofs.Outcomes.{error_is}
 use Rattle.form_reader.proofs.module.read_module.Goals as goal
+
+pub read_input-requires : goal.read_input-requires
+read_input-requires c = ([], tt)
 
 pub returns-in_err-form-clause-malformed : goal.returns-in_err-form-clause-malformed
 returns-in_err-form-clause-malformed c = λ is.

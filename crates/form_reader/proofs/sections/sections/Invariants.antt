@@ -1,15 +1,16 @@
 use Rattle.std.proofs.Common.{◌+◌, ◌<◌, ◌^◌, length}
 use Rattle.std.specs.List.{flat_map}
-use Rattle.form_reader.specs.Input.{sections_of_part, KeepsGroups}
+use Rattle.wasm_spec.specs.Module as plain
+use Rattle.form_reader.specs.Input.{sections_of_part, TakesGroups}
 use Rattle.form_reader.specs.ReadingSections.{Passes}
 use Rattle.form_reader.proofs.sections.sections.Given as goal
 
 abbrev pub invariant-parts : goal.invariant-parts
-invariant-parts l = record {
+invariant-parts g l = record {
   small : l.place + length l.cursor.rest.now < 2 ^ 30;
   so_far : Passes l.start 0 l.bytes (flat_map sections_of_part l.all.items) l.place l.next l.cursor.rest.now;
-  keeps : KeepsGroups l.initial.groups.items l.groups.items (flat_map sections_of_part l.all.items);
+  takes : TakesGroups g.T.TakeGroups.took l.initial.taker l.taker (plain.groups (flat_map sections_of_part l.all.items));
 }
 
 abbrev pub decreases-parts : goal.decreases-parts
-decreases-parts l = length l.cursor.rest.now
+decreases-parts g l = length l.cursor.rest.now

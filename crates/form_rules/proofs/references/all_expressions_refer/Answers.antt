@@ -1,7 +1,7 @@
 use Rattle.std.proofs.Common.{rules}
 use Rattle.form_data.specs.Views.{expression_of}
 use Rattle.rule_spec.specs.References.{ExpressionRefersIn}
-use Rattle.form_lists.proofs.AllSections.{tells_of_map}
+use Rattle.form_types.proofs.AllOf.{tells_of_map}
 use Rattle.form_rules.proofs.references.all_expressions_refer.Goals as goal
 
 pub returns : goal.returns

@@ -2,11 +2,18 @@ use Rattle.std.proofs.Common.{arith, sym, ap, subst, ◌∙◌}
 use Rattle.form_lists.specs.Source.{source_module}
 use Rattle.form_lists.specs.Views.{lists_of}
 use Rattle.std.specs.Prelude.{is_some}
-use Rattle.rule_spec.specs.declared.rules.Rule.TheVariants.{L7}
+use Rattle.rule_spec.specs.declared.rules.Rule.TheVariants.{L1, L7}
 use Rattle.rule_spec.specs.Lists.{Lists}
-use Rattle.rule_spec.specs.Rules.{AreDistinct}
-use Rattle.form_rules.proofs.RuleOrder.{first_broken}
+use Rattle.rule_spec.specs.Rules.{AreDistinct, Satisfies}
+use Rattle.form_rules.proofs.RuleOrder.{first_kept, first_broken}
 use Rattle.form_rules.proofs.rules.checked_lists.Goals as goal
+
+pub loop-rule-init : goal.loop-rule-init
+loop-rule-init c = record {
+  kept = first_kept (lists_of c.in_ok-lists.lists) (subst (Satisfies L1) (sym c.in_ok-lists.ensures.lists) c.requires.well);
+  pooled = c.in_ok-names.ensures.pooled;
+  distinct = c.is_some.ensures;
+}
 
 pub returns-then-not-branch-clause-first : goal.returns-then-not-branch-clause-first
 returns-then-not-branch-clause-first c = λ rule is.

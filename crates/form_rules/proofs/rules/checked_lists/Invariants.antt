@@ -8,10 +8,10 @@ use Rattle.form_lists.specs.Views.{lists_of}
 use Rattle.form_rules.specs.Names.{exported_names}
 use Rattle.form_rules.proofs.rules.checked_lists.Given as goal
 
--- the rules so far are kept, and the names of exports are pooled, where they are distinct
+-- the first rule and the rules so far are kept, and the names of exports are pooled, where they are distinct
 abbrev pub invariant-loop-rule : goal.invariant-loop-rule
 invariant-loop-rule l = record {
-  kept : (r : Rule) → number_of r < l.rule-index + 1 → Satisfies r (lists_of l.lists);
+  kept : (r : Rule) → number_of r < l.rule-index + 2 → Satisfies r (lists_of l.lists);
   pooled : IfSome l.names (λ texts. texts ≡ exported_names (lists_of_module (source_module l.source)).exports);
   distinct : l.asked.distinct ≡ is_some l.names;
 }

@@ -1,13 +1,23 @@
-use Rattle.std.proofs.Common.{map, ap, ◌∙◌}
-use Rattle.std.proofs.lemmas.List.{take_all}
-use Rattle.form_data.specs.Views.{composite_of}
-use Rattle.form_lists.specs.declared.lists.Declared.{Declared}
-use Rattle.form_typing.specs.Defaults.{defaults_of}
-use Rattle.form_typing.proofs.DefaultLemmas.{noted_all}
+use Rattle.std.proofs.Common.{◌∙◌, ◌<◌, ◌++◌, ◌∷◌, [], false, length, sym, arith}
+use Rattle.std.proofs.lemmas.List.{length-map, take_all, take_more}
+use Rattle.rule_spec.specs.Lists.{Declared}
+use Rattle.form_lists.specs.Views.{lists_of}
+use Rattle.form_typing.specs.Defaults.{defaults, defaults_of}
+use Rattle.form_typing.proofs.DefaultLemmas.{noted_next}
 use Rattle.form_typing.proofs.classes.struct_defaults.Goals as goal
 
+pub loop-index-preserved : goal.loop-index-preserved
+loop-index-preserved c =
+    let types = c.args.lists.now.types in
+    let all = defaults (lists_of c.args.lists.now) in
+    let i = c.loop-index.index in
+    let lt : i < length types = rw c.count-index-end.ensures at c.loop-index-test.true in
+    c.in_ok-push.ensures.items
+    ∙ (λ j. c.loop-index.invariant j ++ (c.type_has_defaults.ensures ∙ sym (noted_next types i lt)) j ∷ [])
+    ∙ sym (take_more all i false (omega (arith, lt, length-map types (λ (d : Declared). defaults_of d.type.composite.inner))))
+
 pub returns : goal.returns
-returns c = c.loop-declared.invariant
-    ∙ ap (map (λ (d : Declared). defaults_of (composite_of d.ty.now.composite)))
-    (take_all c.loop-declared.declared-index c.deref-declared-items.result.now c.loop-declared-test.false ∙ c.deref-declared-items.ensures.value)
-    ∙ noted_all c.args.lists.now.types.items
+returns c =
+    let types = c.args.lists.now.types in
+    c.loop-index.invariant ∙ take_all c.loop-index.index (defaults (lists_of c.args.lists.now))
+    (omega (arith, c.loop-index-test.false, c.count-index-end.ensures, length-map types (λ (d : Declared). defaults_of d.type.composite.inner)))

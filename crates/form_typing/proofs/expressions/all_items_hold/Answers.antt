@@ -4,7 +4,7 @@ use Rattle.form_data.specs.Views.{expression_of}
 use Rattle.rule_spec.specs.declared.classes.Class.TheVariants as class
 use Rattle.rule_spec.specs.Typing.{HasClass}
 use Rattle.form_lists.specs.Views.{lists_of}
-use Rattle.form_lists.proofs.AllSections.{items_more, items_fail}
+use Rattle.form_types.proofs.AllOf.{items_more, items_fail}
 use Rattle.form_typing.proofs.expressions.all_items_hold.Goals as goal
 
 pub loop-item-preserved : goal.loop-item-preserved

@@ -1,7 +1,7 @@
 use Rattle.form_data.specs.Views.{table_of}
 use Rattle.rule_spec.specs.Expressions.{HasTypedInitialiser}
 use Rattle.form_lists.specs.Views.{lists_of}
-use Rattle.form_lists.proofs.AllSections.{left_more, left_fails}
+use Rattle.form_types.proofs.AllOf.{left_more, left_fails}
 use Rattle.form_typing.proofs.expressions.tables_hold.Goals as goal
 
 pub loop-table-preserved : goal.loop-table-preserved

@@ -4,7 +4,7 @@ use Rattle.wasm_spec.specs.declared.types.UnpackedIndex.{UnpackedIndex}
 use Rattle.wasm_spec.specs.TypeData.{Value, value_edges, value_of, map_value}
 use Rattle.form_data.specs.declared.types.SubType.{SubType}
 use Rattle.form_data.specs.Views.{sub_type_of}
-use Rattle.form_lists.proofs.AllSections.{All-from_map}
+use Rattle.form_types.proofs.AllOf.{All-from_map}
 use Rattle.wasm_types.specs.declared.value.WasmValType.{WasmValType}
 use Rattle.wasm_types.specs.ValueViews.{value_of as view_value}
 use Rattle.wasm_convert.specs.Known.{Known}

@@ -2,12 +2,14 @@ use Rattle.std.proofs.Common.{◌∙◌, [], inl, inr, sym, ap, subst}
 use Rattle.std.proofs.lemmas.Result.{err_from_is_err_and}
 use Rattle.wasm_spec.specs.Module as plain
 use Rattle.wasm_spec.specs.Module.{HasFewEntries}
+use Rattle.rule_spec.specs.declared.rules.Rule.TheVariants.{L1}
 use Rattle.rule_spec.specs.Lists as rule
 use Rattle.rule_spec.specs.Lists.{lists_of_module}
 use Rattle.rule_spec.specs.Rules.{Keeps}
 use Rattle.form_lists.specs.Source.{source_module}
 use Rattle.form_rules.specs.Names.{exported_names}
 use Rattle.module_types.specs.Builder.{builder_view}
+use Rattle.module_environ.specs.Errors.{error_of_check}
 use Rattle.module_environ.specs.OnTheWay.{IsOnTheWay}
 use Rattle.module_environ.proofs.WayPlaces.{none_else, unchanged, told_poisoned, stops-anyhow}
 use Rattle.module_environ.proofs.WholeTranslation.{check-cause}
@@ -15,9 +17,31 @@ use Rattle.module_environ.proofs.translating.translate_form.Goals as goal
 
 pub returns-in_err-checked-clause-cause : goal.returns-in_err-checked-clause-cause
 returns-in_err-checked-clause-cause c =
-    let p = err_from_is_err_and c.from_residual-in_err-checked.result c.from_residual-in_err-checked.ensures.1 in
+    let p = err_from_is_err_and c.from_residual.result c.from_residual.ensures.1 in
     let e = c.checked_lists.ensures in
     rw (p.1, p.2) (check-cause (source_module c.args.source) c.args.types.now.is_poisoned c.checked_lists.result c.in_err-checked.field-0.0 c.in_err-checked.was e.broken e.first)
+
+pub returns-in_err-checked-clause-complete : goal.returns-in_err-checked-clause-complete
+returns-in_err-checked-clause-complete c = λ keeps sound.
+    let p = err_from_is_err_and c.from_residual.result c.from_residual.ensures.1 in
+    rw p.1 (p.2 ∙ ap error_of_check (c.in_err-checked.ensures.complete keeps))
+
+pub returns-in_err-checked-clause-poisoned : goal.returns-in_err-checked-clause-poisoned
+returns-in_err-checked-clause-poisoned c = λ keeps was.
+    let p = err_from_is_err_and c.from_residual.result c.from_residual.ensures.1 in
+    rw (p.1, p.2, c.in_err-checked.ensures.complete keeps) tt
+
+-- ---- a module that keeps the rules has a list of types
+
+pub returns-in_default-clause-complete : goal.returns-in_default-clause-complete
+returns-in_default-clause-complete c = λ keeps sound.
+    let some = (c.in_default.ensures.well (source_module c.args.source) c.requires.took).1 (keeps L1) in
+    absurd cc
+
+pub returns-in_default-clause-poisoned : goal.returns-in_default-clause-poisoned
+returns-in_default-clause-poisoned c = λ keeps was.
+    let some = (c.in_default.ensures.well (source_module c.args.source) c.requires.took).1 (keeps L1) in
+    absurd cc
 
 -- ---- the lists were checked
 
@@ -37,7 +61,7 @@ translate_lists-requires-clause-names c =
 
 pub returns-clause-formed : goal.returns-clause-formed
 returns-clause-formed c =
-    rw (ap source_module (c.without_types-lists.ensures.of_source)) at c.translate_lists.ensures.formed
+    rw (ap source_module (c.without_types-lists.ensures.of_source), c.in-Some.ensures.made) at c.translate_lists.ensures.formed
 
 pub returns-clause-cause : goal.returns-clause-cause
 returns-clause-cause c =
@@ -60,5 +84,5 @@ returns-clause-stops c =
     stops-anyhow c.args.types.now c.translate_lists.new.types P (λ is. (c.translate_lists.ensures.poisoned is).1) (λ was sound.
     elim (c.translate_lists.ensures.stops was sound) [
       | inl unchanged ↦ inl unchanged
-      | inr way ↦ inr (c.in_ok-checked.ensures.kept, rw same at way)
+      | inr way ↦ inr (c.in_ok-checked.ensures.kept, rw (same, c.in-Some.ensures.made) at way)
     ])

@@ -12,22 +12,22 @@ use Rattle.module_environ.proofs.WholeTranslation.{new-startup, formed-never, fo
 use Rattle.module_environ.proofs.translating.translate_lists.Goals as goal
 
 pub intern_types-requires-clause-of_module : goal.intern_types-requires-clause-of_module
-intern_types-requires-clause-of_module c = (_, types-gathered _ c.requires.gathered _ c.in_ok-ids.ensures.numbered)
+intern_types-requires-clause-of_module c = (_, types-gathered _ c.requires.gathered _ c.requires.numbered)
 
 pub fill_lists-requires-clause-of_module : goal.fill_lists-requires-clause-of_module
-fill_lists-requires-clause-of_module c = (_, types-gathered _ c.requires.gathered _ c.in_ok-ids.ensures.numbered)
+fill_lists-requires-clause-of_module c = (_, types-gathered _ c.requires.gathered _ c.requires.numbered)
 
 pub fill_lists-requires-clause-listed : goal.fill_lists-requires-clause-listed
-fill_lists-requires-clause-listed c = c.in_ok-indices.ensures.indices _ (types-gathered _ c.requires.gathered _ c.in_ok-ids.ensures.numbered)
+fill_lists-requires-clause-listed c = c.in_ok-indices.ensures.indices _ (types-gathered _ c.requires.gathered _ c.requires.numbered)
 
 pub fill_lists-requires-clause-built : goal.fill_lists-requires-clause-built
-fill_lists-requires-clause-built c = c.in_ok-indices.ensures.built _ (types-gathered _ c.requires.gathered _ c.in_ok-ids.ensures.numbered)
+fill_lists-requires-clause-built c = c.in_ok-indices.ensures.built _ (types-gathered _ c.requires.gathered _ c.requires.numbered)
 
 -- ---- tags
 
 pub convert_tags-requires-clause-of_module : goal.convert_tags-requires-clause-of_module
 convert_tags-requires-clause-of_module c =
-    let of = types-gathered _ c.requires.gathered _ c.in_ok-ids.ensures.numbered in
+    let of = types-gathered _ c.requires.gathered _ c.requires.numbered in
     let e = c.in_ok-indices.ensures in
     (_, can-tag _ c.requires.gathered of _ _ (e.indices _ of) (e.built _ of) _ e.alone _ c.as_slice.ensures.value)
 
@@ -43,59 +43,59 @@ returns-in_err-require_startup_func-clause-complete c = λ unpoisoned.
 
 pub returns-in_ok-require_startup_func-clause-formed : goal.returns-in_ok-require_startup_func-clause-formed
 returns-in_ok-require_startup_func-clause-formed c =
-    let of = types-gathered _ c.requires.gathered _ c.in_ok-ids.ensures.numbered in
+    let of = types-gathered _ c.requires.gathered _ c.requires.numbered in
     let e = c.in_ok-indices.ensures in
     let t = c.in_ok-translation.ensures in
     let can = can-tag _ c.requires.gathered of _ _ (e.indices _ of) (e.built _ of) _ e.alone _ c.as_slice.ensures.value in
     let f = c.in_ok-fill_lists.ensures in
     formed-always _ _ _ _ c.fill_lists.new.translation _ c.requires.gathered.keeps f.sections f.customs f.strings f.imports f.rest (new-startup _ c.requires.new) _ _ _
-    c.set_types.ensures.same c.set_types.ensures.set of.numbered c.in_ok-ids.ensures.made can.listed (t.tags _ can) _ _
-    (rw c.in_ok-ids.ensures.made at e.alone) t.gains (t.built _ can)
+    c.set_types.ensures.same c.set_types.ensures.set of.numbered refl can.listed (t.tags _ can) _ _
+    (e.alone) t.gains (t.built _ can)
     (omega (arith, length-map c.convert_tags.new.types.list.types interned_of, t.few)) (sym c.if-not-leaves_nothing.true ∙ c.leaves_nothing.ensures) _ _
     c.in_ok-require_startup_func.ensures.ok c.in_ok-require_startup_func.ensures.types
 
 pub returns-else-not-leaves_nothing-clause-formed : goal.returns-else-not-leaves_nothing-clause-formed
 returns-else-not-leaves_nothing-clause-formed c =
-    let of = types-gathered _ c.requires.gathered _ c.in_ok-ids.ensures.numbered in
+    let of = types-gathered _ c.requires.gathered _ c.requires.numbered in
     let e = c.in_ok-indices.ensures in
     let t = c.in_ok-translation.ensures in
     let can = can-tag _ c.requires.gathered of _ _ (e.indices _ of) (e.built _ of) _ e.alone _ c.as_slice.ensures.value in
     let f = c.in_ok-fill_lists.ensures in
     formed-never _ _ _ _ c.fill_lists.new.translation _ c.requires.gathered.keeps f.sections f.customs f.strings f.imports f.rest (new-startup _ c.requires.new) _ _ _
-    c.set_types.ensures.same c.set_types.ensures.set of.numbered c.in_ok-ids.ensures.made can.listed (t.tags _ can) _ _
-    (rw c.in_ok-ids.ensures.made at e.alone) t.gains (t.built _ can)
+    c.set_types.ensures.same c.set_types.ensures.set of.numbered refl can.listed (t.tags _ can) _ _
+    (e.alone) t.gains (t.built _ can)
     (omega (arith, length-map c.convert_tags.new.types.list.types interned_of, t.few)) (sym c.if-not-leaves_nothing.false ∙ c.leaves_nothing.ensures) _ refl
 
 -- ---- where the builder stands
 
 pub returns-in_err-indices-clause-stops : goal.returns-in_err-indices-clause-stops
 returns-in_err-indices-clause-stops c = λ was sound.
-    inr (at-type _ _ _ c.in_ok-ids.ensures.numbered c.in_ok-ids.ensures.made _ (c.in_err-indices.ensures.stops sound))
+    inr (at-type _ _ _ c.requires.numbered refl _ (c.in_err-indices.ensures.stops sound))
 
 pub returns-in_err-fill_lists-clause-stops : goal.returns-in_err-fill_lists-clause-stops
 returns-in_err-fill_lists-clause-stops c = λ was sound.
-    inr (at-type _ _ _ c.in_ok-ids.ensures.numbered c.in_ok-ids.ensures.made _ (_, c.in_ok-indices.ensures.whole))
+    inr (at-type _ _ _ c.requires.numbered refl _ (_, c.in_ok-indices.ensures.whole))
 
 pub returns-in_err-translation-clause-stops : goal.returns-in_err-translation-clause-stops
 returns-in_err-translation-clause-stops c = λ was sound.
-    let of = types-gathered _ c.requires.gathered _ c.in_ok-ids.ensures.numbered in
+    let of = types-gathered _ c.requires.gathered _ c.requires.numbered in
     let e = c.in_ok-indices.ensures in
     let can = can-tag _ c.requires.gathered of _ _ (e.indices _ of) (e.built _ of) _ e.alone _ c.as_slice.ensures.value in
-    inr (at-tag _ _ _ of.numbered c.in_ok-ids.ensures.made _ e.whole _ can.named _ (c.in_err-translation.ensures.stops sound _ can))
+    inr (at-tag _ _ _ of.numbered refl _ e.whole _ can.named _ (c.in_err-translation.ensures.stops sound _ can))
 
 pub returns-in_ok-require_startup_func-clause-stops : goal.returns-in_ok-require_startup_func-clause-stops
 returns-in_ok-require_startup_func-clause-stops c = λ was sound.
-    let of = types-gathered _ c.requires.gathered _ c.in_ok-ids.ensures.numbered in
+    let of = types-gathered _ c.requires.gathered _ c.requires.numbered in
     let e = c.in_ok-indices.ensures in
     let can = can-tag _ c.requires.gathered of _ _ (e.indices _ of) (e.built _ of) _ e.alone _ c.as_slice.ensures.value in
     let none : c.set_types.new.self.module.startup ≡ startup.None = ap (λ (x : ModuleTranslation). x.module.startup) c.set_types.ensures.same
     ∙ c.in_ok-fill_lists.ensures.rest.startup ∙ new-startup _ c.requires.new in
-    inr (at-startup _ _ _ of.numbered c.in_ok-ids.ensures.made _ e.whole _ can.named _ _ (c.in_ok-translation.ensures.whole _ can)
+    inr (at-startup _ _ _ of.numbered refl _ e.whole _ can.named _ _ (c.in_ok-translation.ensures.whole _ can)
     (c.in_ok-require_startup_func.ensures.types ∙ ap (λ s. types_after Always s (builder_view c.convert_tags.new.types)) none))
 
 pub returns-else-not-leaves_nothing-clause-stops : goal.returns-else-not-leaves_nothing-clause-stops
 returns-else-not-leaves_nothing-clause-stops c = λ was sound.
-    let of = types-gathered _ c.requires.gathered _ c.in_ok-ids.ensures.numbered in
+    let of = types-gathered _ c.requires.gathered _ c.requires.numbered in
     let e = c.in_ok-indices.ensures in
     let can = can-tag _ c.requires.gathered of _ _ (e.indices _ of) (e.built _ of) _ e.alone _ c.as_slice.ensures.value in
-    inr (at-tag _ _ _ of.numbered c.in_ok-ids.ensures.made _ e.whole _ can.named _ (_, c.in_ok-translation.ensures.whole _ can))
+    inr (at-tag _ _ _ of.numbered refl _ e.whole _ can.named _ (_, c.in_ok-translation.ensures.whole _ can))

@@ -1,4 +1,4 @@
-use Rattle.std.proofs.Common.{refl, ap, ◌∙◌, map}
+use Rattle.std.proofs.Common.{[], refl, ap, ◌∙◌, map}
 use Rattle.std.proofs.lemmas.Result.{err_from_is_err_and}
 use Rattle.form_data.specs.Views.{body_of}
 use Rattle.form_reader.specs.Input.{input_module_of}
@@ -8,6 +8,12 @@ use Rattle.module_environ.proofs.WayPlaces.{stops-read}
 use Rattle.module_environ.proofs.translating.translation_of.Goals as goal
 
 -- ---- the bytes are not read
+
+pub read_input-requires : goal.read_input-requires
+read_input-requires c = ([], c.new-numbering.ensures)
+
+pub translate_form-requires-clause-took : goal.translate_form-requires-clause-took
+translate_form-requires-clause-took c = c.in_ok-form.ensures.takes [] c.new-numbering.ensures
 
 pub returns-in_err-form-clause-cause : goal.returns-in_err-form-clause-cause
 returns-in_err-form-clause-cause c =
@@ -32,7 +38,7 @@ returns-in_err-form-clause-poisoned c = λ m can kept was.
 pub returns-in-Err-clause-cause : goal.returns-in-Err-clause-cause
 returns-in-Err-clause-cause c =
     let e = c.in_ok-form.ensures in
-    form_cause _ _ _ _ (was_readable _ c.in_ok-form.form c.in_ok-form.groups e.too_large e.read e.no_interface_types) c.in-Err.ensures.cause
+    form_cause _ _ _ _ (was_readable _ c.in_ok-form.form e.too_large e.read e.no_interface_types) c.in-Err.ensures.cause
 
 pub returns-in-Err-clause-complete : goal.returns-in-Err-clause-complete
 returns-in-Err-clause-complete c = λ m can kept sound.
@@ -45,14 +51,14 @@ returns-in-Err-clause-poisoned c = λ m can kept was.
 pub returns-in-Err-clause-stops : goal.returns-in-Err-clause-stops
 returns-in-Err-clause-stops c =
     let e = c.in_ok-form.ensures in
-    stops-read _ _ _ _ _ (was_readable _ c.in_ok-form.form c.in_ok-form.groups e.too_large e.read e.no_interface_types) c.translate_form.ensures.stops
+    stops-read _ _ _ _ _ (was_readable _ c.in_ok-form.form e.too_large e.read e.no_interface_types) c.translate_form.ensures.stops
 
 -- ---- memory runs out for its code
 
 pub returns-in-Err-take_bodies-clause-stops : goal.returns-in-Err-take_bodies-clause-stops
 returns-in-Err-take_bodies-clause-stops c =
     let e = c.in_ok-form.ensures in
-    stops-read _ _ _ _ _ (was_readable _ c.in_ok-form.form c.in_ok-form.groups e.too_large e.read e.no_interface_types) c.translate_form.ensures.stops
+    stops-read _ _ _ _ _ (was_readable _ c.in_ok-form.form e.too_large e.read e.no_interface_types) c.translate_form.ensures.stops
 
 pub returns-in-Err-take_bodies-clause-cause : goal.returns-in-Err-take_bodies-clause-cause
 returns-in-Err-take_bodies-clause-cause c = rw c.into.ensures tt
@@ -80,6 +86,6 @@ returns-in-Ok-clause-translated c =
       debuginfo = record formed.debuginfo { wasm_file = record formed.debuginfo.wasm_file { code_section_offset = c.in-Ok.place } };
     } in
     is_translated c.args.tunables.now c.args.module_index c.args.validator.now c.args.bytes.now m c.in_ok-translation.translation formed coded
-    c.translate_form.new.types (was_readable c.args.bytes.now c.in_ok-form.form c.in_ok-form.groups e.too_large e.read e.no_interface_types) e.few
+    c.translate_form.new.types (was_readable c.args.bytes.now c.in_ok-form.form e.too_large e.read e.no_interface_types) e.few
     c.in_ok-translation.ensures c.in_default.ensures.formed refl
     (ap (map (λ input. body_of input.body)) c.replace-none.ensures.after ∙ c.in-Ok.ensures.bodies) c.in-Ok.ensures.place

@@ -3,7 +3,7 @@ use Rattle.std.proofs.lemmas.List.Elements.{All-map}
 use Rattle.replay_spec.specs.Elements.{ActiveElements}
 use Rattle.table_images.specs.Views.{active_elements_of}
 use Rattle.init_plan.specs.Tables.{own_tables}
-use Rattle.form_lists.proofs.AllSections.{All-from_map}
+use Rattle.form_types.proofs.AllOf.{All-from_map}
 use Rattle.plan_run.proofs.finished.tables_are_finished.Goals as goal
 
 pub returns : goal.returns

@@ -1,0 +1,74 @@
+-- Groups that are taken, one by one.
+use Rattle.std.proofs.Common.{◌≡◌, ◌∙◌, ◌↔◌, ℕ, ◌+◌, ◌^◌, ◌<◌, Bool, true, false, List, [], ◌∷◌, ◌++◌, length, map, All, IsTrue, refl, sym, ap, subst, arith, length-append}
+use Rattle.std.proofs.lemmas.List.{append-nil, length-map}
+use Rattle.std.proofs.lemmas.List.Concat.{flat_map-append}
+use Rattle.std.proofs.lemmas.List.Elements.{All-nil, All-append}
+use Rattle.wasm_spec.specs.Sizes.{HasShortLists}
+use Rattle.wasm_spec.specs.declared.types.CoreTypeId.{CoreTypeId}
+use Rattle.rule_spec.specs.Lists.{declared_from, declared_groups}
+use Rattle.form_data.specs.declared.types.RecGroup.{RecGroup}
+use Rattle.form_data.specs.declared.types.SubType.{SubType}
+use Rattle.form_data.specs.Views.{group_of, sub_type_of}
+use Rattle.form_types.specs.declared.numbering.Numbering.{Numbering}
+use Rattle.form_types.specs.Types.{NamedGroup, types_by_id}
+use Rattle.form_types.specs.Adding.{AddsGroup}
+use Rattle.form_types.specs.Taken.{Built, Took}
+use Rattle.form_types.specs.Below.{NamesBelow}
+use Rattle.form_types.proofs.Steps.{total-more}
+use Rattle.form_types.proofs.Built.{HasNone, built-none, built-empty, built-more}
+use Rattle.form_types.proofs.Ruled.{last_declared, size-places, below-more, near-last}
+
+pub took-none : (n : Numbering) → n.names_below ≡ true → HasNone n → Took n []
+took-none n is none = record {
+  below = (λ on. All-nil NamesBelow, λ all. is);
+  built = λ on. built-none n none;
+  few = λ on. omega arith;
+  short = λ on. All-nil HasShortLists;
+}
+
+-- ---- what tests of a group say
+
+module _ (done : List NamedGroup) (n : Numbering) (g : RecGroup) (t : Took n done) (on : IsTrue n.names_below) (start : ℕ) (at : start ≡ length n.declared.items) where
+  -- the first member's index
+  pub start-is : start ≡ length (types_by_id done)
+  start-is = omega (arith, at, (t.built on).counted, length-map n.declared.items (λ (id : CoreTypeId). id.0), size-places done)
+
+  pub last-tells : (types : List SubType) → types ≡ g.types.items → (b : Bool)
+      → IsTrue b ↔ All NamesBelow (declared_from (start + length types) start (map sub_type_of types)) → IsTrue b ↔ All NamesBelow (last_declared done (group_of g))
+  last-tells types is b tells =
+      let members : map sub_type_of types ≡ group_of g = ap (map sub_type_of) is in
+      let end : start + length types ≡ length (types_by_id done) + length (group_of g) = omega (arith, start-is, ap length is, length-map g.types.items sub_type_of) in
+      coe 0 1 (i. IsTrue b ↔ All NamesBelow (declared_from (end i) (start-is i) (members i))) tells
+
+-- ---- one group more
+
+module _ (done : List NamedGroup) (n n' : Numbering) (g : NamedGroup) (t : Took n done) where
+  -- no more are numbered, since the group or one before it names what it may not
+  pub took-not : n'.names_below ≡ false → (All NamesBelow (declared_groups 0 done) → All NamesBelow (last_declared done g) → ⊥) → Took n' (done ++ g ∷ [])
+  took-not stopped fails = record {
+    below = (λ on. absurd (never on), λ all. let both = (below-more done g).0 all in absurd (fails both.0 both.1));
+    built = λ on. absurd (never on);
+    few = λ on. absurd (never on);
+    short = λ on. absurd (never on);
+  } where
+    never : IsTrue n'.names_below → ⊥
+    never on = let e : true ≡ false = sym on ∙ stopped in absurd cc
+
+  module _ (on : IsTrue n.names_below) (on' : IsTrue n'.names_below) (last : All NamesBelow (last_declared done g))
+      (few : length (types_by_id done) + length g < 2 ^ 30) (short : All HasShortLists g) where
+    took : Built (done ++ g ∷ []) n' → Took n' (done ++ g ∷ [])
+    took built = record {
+      below = (λ on. (below-more done g).1 (t.below.0 on-before, last), λ all. on');
+      built = λ on. built;
+      few = λ on. omega (arith, few, total-more done g);
+      short = λ on. subst (All HasShortLists) (sym (flat_map-append (λ (g : NamedGroup). g) done (g ∷ []) ∙ ap (λ l. types_by_id done ++ l) (append-nil g)))
+          (All-append HasShortLists (types_by_id done) g (t.short on-before) short);
+    } where
+      on-before : IsTrue n.names_below
+      on-before = on
+
+    pub took-empty : n' ≡ n → length g ≡ 0 → Took n' (done ++ g ∷ [])
+    took-empty same none = took (subst (Built (done ++ g ∷ [])) (sym same) (built-empty done n g none (t.built on)))
+
+    pub took-more : 0 < length g → AddsGroup n n' g → Took n' (done ++ g ∷ [])
+    took-more some adds = took (built-more done n n' g (t.built on) some (near-last done g last) adds)

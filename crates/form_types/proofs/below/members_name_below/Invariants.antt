@@ -1,0 +1,16 @@
+use Rattle.std.proofs.Common.{◌≡◌, ◌↔◌, ◌+◌, length, map, All}
+use Rattle.form_data.specs.Views.{sub_type_of}
+use Rattle.rule_spec.specs.Lists.{declared_from}
+use Rattle.form_types.specs.Below.{NamesBelow}
+use Rattle.form_types.proofs.below.members_name_below.Given as goal
+
+-- all hold exactly where those do that are left
+abbrev pub invariant-loop-first : goal.invariant-loop-first
+invariant-loop-first l = record {
+  long : l.index + length l.left ≡ l.end;
+  tells : All NamesBelow (declared_from l.end l.index (map sub_type_of l.left))
+      ↔ All NamesBelow (declared_from (l.start + length l.types) l.start (map sub_type_of l.types));
+}
+
+abbrev pub decreases-loop-first : goal.decreases-loop-first
+decreases-loop-first l = length l.left
