@@ -3,3 +3,4 @@ pub mod Known
 pub mod Operators
 pub mod Constants
 pub mod Evaluation
+pub mod Kept

@@ -21,19 +21,27 @@ use wasm_spec::Operator;
 /// A constant expression: its operators, of which there is at least one. One is kept without an allocation.
 #[derive(Drop)]
 pub struct ConstExpr {
-    ops: SmallVec<ConstOp, 1>,
+    kept: Kept,
+}
+
+// The operators of an expression. Nearly all have one, and a list with room for one takes 16 bytes more.
+#[derive(Drop)]
+pub(crate) enum Kept {
+    One([ConstOp; 1]),
+    List(Vec<ConstOp>),
 }
 
 /// A contract sees the list of the operators.
 impl Model for ConstExpr {
     ghost use Rattle.std.specs.Prelude.{List, ◌<◌, length};
     ghost use Rattle.wasm_convert.specs.declared.operators.ConstOp.{ConstOp};
+    ghost use Rattle.wasm_convert.specs.Kept.{kept_ops};
 
     ghost Value = { List ConstOp };
 
-    ghost view = { λ e. e.ops.items };
+    ghost view = { λ e. kept_ops e.kept };
 
-    ghost invariant = { λ e. 0 < length e.ops.items };
+    ghost invariant = { λ e. 0 < length (kept_ops e.kept) };
 }
 
 // Appends the function to which the operator makes a reference, if it makes one.
@@ -68,9 +76,11 @@ impl ConstExpr {
         ensures listed { IfOk result (λ e. e ≡ ops.now) }
         ensures without_memory { length ops.now ≤ 1 → IsOk result }
     {
-        Ok(ConstExpr {
-            ops: SmallVec::from_slice(alloc, ops)?,
-        })
+        let kept = match ops {
+            [op] => Kept::One([*op]),
+            _ => Kept::List(Vec::from_slice(alloc, ops)?),
+        };
+        Ok(ConstExpr { kept })
     }
 
     /// The expression that was read, each operator converted, and the functions to which it makes references,
@@ -88,13 +98,19 @@ impl ConstExpr {
         ensures converted { IfOk result (λ r. r.0 ≡ const_ops_of (look_up env.now) expr.now.ops.items) }
         ensures escaping { IfOk result (λ r. r.1.items ≡ functions_of expr.now.ops.items) }
     {
-        let mut ops = SmallVec::with_capacity(alloc, expr.ops.len())?;
         let mut escaped = SmallVec::new(alloc);
+        if let [op] = expr.ops.as_slice() {
+            push_function(&mut escaped, op)?;
+            let kept = Kept::One([ConstOp::from_wasmparser(env, op)]);
+            return Ok((ConstExpr { kept }, escaped));
+        }
+        let mut ops = Vec::with_capacity(alloc, expr.ops.len())?;
         for op in &expr.ops {
             push_function(&mut escaped, op)?;
             ops.push(ConstOp::from_wasmparser(env, op))?;
         }
-        Ok((ConstExpr { ops }, escaped))
+        let kept = Kept::List(ops);
+        Ok((ConstExpr { kept }, escaped))
     }
 
     /// The operators, of which there is at least one.
@@ -102,7 +118,10 @@ impl ConstExpr {
         ensures listed { result.now ≡ self.now }
         ensures some { 0 < length result.now }
     {
-        self.ops.as_slice()
+        match &self.kept {
+            Kept::One(op) => op,
+            Kept::List(ops) => ops.as_slice(),
+        }
     }
 
     /// The value of the expression where its operators are constants, sums, differences and products, at most
