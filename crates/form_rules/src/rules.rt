@@ -139,7 +139,7 @@ fn keeps(
     } = asked;
     match rule {
         Rule::L1 => Ok(true),
-        Rule::L2 => Ok(types_are_named(lists)),
+        Rule::L2 => types_are_named(alloc, lists),
         Rule::L3 => Ok(counts_agree(lists, segments.count)),
         Rule::L4 => Ok(limits_hold(lists)),
         Rule::L5 => Ok(initialisers_hold(lists)),
