@@ -32,6 +32,7 @@ pub struct Names<'d> {
 }
 
 /// An index and its name, and the bytes after them.
+#[inline(always)]
 #[tactic(auto, unfolding(crate::specs::NameReading::naming_at))]
 fn naming(bytes: &[u8]) -> Option<((u32, &str), &[u8])>
     ensures { option_map (λ x. (text_of x.0, x.1.now)) result ≡ taken (naming_at bytes.now) }

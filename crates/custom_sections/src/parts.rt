@@ -68,6 +68,7 @@ pub(crate) fn counted_bytes(bytes: &[u8]) -> Option<(&[u8], &[u8])>
 }
 
 /// A name, which is text, and the bytes after it.
+#[inline(always)]
 #[tactic(auto, unfolding(form_reader::specs::ReadingNumbers::name_at))]
 pub(crate) fn name(bytes: &[u8]) -> Option<(&str, &[u8])>
     ensures { option_map (λ x. (x.0.now, x.1.now)) result ≡ taken (name_at bytes.now) }

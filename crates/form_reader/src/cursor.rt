@@ -28,6 +28,7 @@ impl<'d> Cursor<'d> {
     }
 
     /// The next `count` bytes.
+    #[inline(always)]
     #[tactic(auto, unfolding(crate::specs::Reading::raw_bytes_at))]
     pub fn raw_bytes(&mut self, count: u32) -> Result<&'d [u8], ReadError>
         ensures { Reads (raw_bytes_at count) (λ x. x.now) self.old.rest.now self.new.rest.now result }
@@ -56,6 +57,7 @@ impl<'d> Cursor<'d> {
     }
 
     /// A count, and that many bytes.
+    #[inline(always)]
     #[tactic(auto, unfolding(crate::specs::ReadingNumbers::counted_bytes_at))]
     pub fn counted_bytes(&mut self) -> Result<&'d [u8], ReadError>
         ensures { Reads counted_bytes_at (λ x. x.now) self.old.rest.now self.new.rest.now result }
@@ -73,6 +75,7 @@ impl<'d> Cursor<'d> {
     }
 
     /// A name, which is text.
+    #[inline(always)]
     #[tactic(auto, unfolding(crate::specs::ReadingNumbers::name_at))]
     pub fn name(&mut self) -> Result<&'d str, ReadError>
         ensures { Reads name_at (λ x. x.now) self.old.rest.now self.new.rest.now result }

@@ -115,6 +115,7 @@ impl<'d> Cursor<'d> {
     }
 
     /// The offset of a segment that is written to a table.
+    #[inline(always)]
     #[tactic(auto, unfolding(crate::specs::SectionRows::active_in))]
     fn active(
         &mut self,
@@ -150,6 +151,7 @@ impl<'d> Cursor<'d> {
     }
 
     /// Items that are functions, by their indices.
+    #[inline(always)]
     #[tactic(auto, unfolding(crate::specs::SectionRows::functions_as))]
     fn functions(&mut self, alloc: Global, element: &mut Element) -> Result<(), ReadError>
         ensures { Reads (functions_as (element_kind_of element.old.kind)).read (λ u. element_of element.new)

@@ -32,6 +32,7 @@ impl<'d> Cursor<'d> {
     }
 
     /// A tag type, which is the index of its function type.
+    #[inline(always)]
     #[tactic(auto, unfolding(crate::specs::TypeRows::tag_type))]
     pub fn tag_type(&mut self) -> Result<u32, ReadError>
         ensures { Reads tag_type.read (λ x. x) self.old.rest.now self.new.rest.now result }

@@ -83,6 +83,7 @@ impl<'d> Cursor<'d> {
     }
 
     /// An offset into a memory, and bytes.
+    #[inline(always)]
     #[tactic(auto, unfolding(crate::specs::SectionRows::active_segment))]
     fn active_segment(
         &mut self,

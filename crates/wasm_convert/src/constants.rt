@@ -88,6 +88,7 @@ impl ConstExpr {
     ///
     /// # Errors
     /// `OutOfMemory`, only for more than one operator or more than one function.
+    #[inline(always)]
     pub fn from_wasmparser(
         alloc: Global,
         env: &dyn TypeConvert,
@@ -126,6 +127,7 @@ impl ConstExpr {
 
     /// The value of the expression where its operators are constants, sums, differences and products, at most
     /// 16 values stand at any point, and one remains (core specification, 4.6, instructions). Integers wrap.
+    #[inline(always)]
     pub fn const_eval(&self) -> Option<GlobalConstValue>
         ensures { option_map plain_value_of result ≡ const_value (expression_of self.now) }
     {

@@ -56,6 +56,7 @@ pub enum ConstOp {
 
 impl ConstOp {
     /// The operator that was read, with its heap type converted. Its indices must be below `u32::MAX`.
+    #[inline(always)]
     pub fn from_wasmparser(env: &dyn TypeConvert, op: &Operator) -> ConstOp
         requires { KnowsOperator (knows env.now) op.now }
         ensures { result ≡ const_op_of (look_up env.now) op.now }
