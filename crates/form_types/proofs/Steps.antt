@@ -13,7 +13,7 @@ use Rattle.wasm_spec.specs.declared.types.UnpackedIndex.TheVariants.{Id}
 use Rattle.wasm_spec.specs.TypeData.{Group, map_group, group_edges}
 use Rattle.type_data.specs.TypeShapes.{group_shape}
 use Rattle.type_data.specs.Names.{plainly, alike-mapped}
-use Rattle.type_spec.specs.Equality.{Target, Inside, Earlier, target, target_by, Home, home, canonical}
+use Rattle.type_spec.specs.Equality.{Earlier, target, target_by, Home, home, canonical}
 use Rattle.type_spec.proofs.ByNames.{zip-known-itself}
 use Rattle.type_spec.proofs.Homes.{size, Holds, home-within, home-again, home-before, home-last, size-more}
 use Rattle.type_spec.proofs.Numbers.{TellApart}
@@ -22,7 +22,7 @@ use Rattle.form_types.specs.contracts.canonical.CanonicalGroupPartialEq.TheImpl 
 use Rattle.form_types.specs.Ids.{id_of}
 use Rattle.form_types.specs.Types.{NamedGroup, types_by_id, IsIdBelow, NameEarlier}
 use Rattle.form_types.specs.Numbered.{first_id}
-use Rattle.form_types.specs.Keys.{GroupKey, group_key, key_of}
+use Rattle.form_types.specs.Keys.{group_key, key_of}
 use Rattle.form_types.specs.Taken.{Canonical, resolved, by_ids, NearIn, AreGiven, AreListed, Stands, TellsAt, IsNumbered}
 use Rattle.form_types.proofs.InOrder.{given-more}
 use Rattle.form_types.proofs.KeyLaws.{group_key-exact, key-decides}

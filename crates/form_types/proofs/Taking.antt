@@ -1,5 +1,5 @@
 -- Groups that are taken, one by one.
-use Rattle.std.proofs.Common.{◌≡◌, ◌∙◌, ◌↔◌, ℕ, ◌+◌, ◌^◌, ◌<◌, Bool, true, false, List, [], ◌∷◌, ◌++◌, length, map, All, IsTrue, refl, sym, ap, subst, arith, length-append}
+use Rattle.std.proofs.Common.{◌≡◌, ◌∙◌, ◌↔◌, ℕ, ◌+◌, ◌^◌, ◌<◌, Bool, true, false, List, [], ◌∷◌, ◌++◌, length, map, All, IsTrue, sym, ap, subst, arith}
 use Rattle.std.proofs.lemmas.List.{append-nil, length-map}
 use Rattle.std.proofs.lemmas.List.Concat.{flat_map-append}
 use Rattle.std.proofs.lemmas.List.Elements.{All-nil, All-append}
@@ -54,21 +54,22 @@ module _ (done : List NamedGroup) (n n' : Numbering) (g : NamedGroup) (t : Took 
     never : IsTrue n'.names_below → ⊥
     never on = let e : true ≡ false = sym on ∙ stopped in absurd cc
 
-  module _ (on : IsTrue n.names_below) (on' : IsTrue n'.names_below) (last : All NamesBelow (last_declared done g))
-      (few : length (types_by_id done) + length g < 2 ^ 30) (short : All HasShortLists g) where
-    took : Built (done ++ g ∷ []) n' → Took n' (done ++ g ∷ [])
-    took built = record {
-      below = (λ on. (below-more done g).1 (t.below.0 on-before, last), λ all. on');
-      built = λ on. built;
-      few = λ on. omega (arith, few, total-more done g);
-      short = λ on. subst (All HasShortLists) (sym (flat_map-append (λ (g : NamedGroup). g) done (g ∷ []) ∙ ap (λ l. types_by_id done ++ l) (append-nil g)))
-          (All-append HasShortLists (types_by_id done) g (t.short on-before) short);
-    } where
-      on-before : IsTrue n.names_below
-      on-before = on
+  took-more : IsTrue n.names_below → IsTrue n'.names_below → All NamesBelow (last_declared done g) → length (types_by_id done) + length g < 2 ^ 30
+      → All HasShortLists g → Built (done ++ g ∷ []) n' → Took n' (done ++ g ∷ [])
+  took-more on on' last few short built = record {
+    below = (λ _. (below-more done g).1 (t.below.0 on, last), λ all. on');
+    built = λ _. built;
+    few = λ _. omega (arith, few, total-more done g);
+    short = λ _. subst (All HasShortLists) (sym (flat_map-append (λ (g : NamedGroup). g) done (g ∷ []) ∙ ap (λ l. types_by_id done ++ l) (append-nil g)))
+        (All-append HasShortLists (types_by_id done) g (t.short on) short);
+  }
 
-    pub took-empty : n' ≡ n → length g ≡ 0 → Took n' (done ++ g ∷ [])
-    took-empty same none = took (subst (Built (done ++ g ∷ [])) (sym same) (built-empty done n g none (t.built on)))
+  pub took-added : IsTrue n.names_below → IsTrue n'.names_below → All NamesBelow (last_declared done g) → length (types_by_id done) + length g < 2 ^ 30
+      → All HasShortLists g → 0 < length g → AddsGroup n n' g → Took n' (done ++ g ∷ [])
+  took-added on on' last few short some adds = took-more on on' last few short (built-more done n n' g (t.built on) some (near-last done g last) adds)
 
-    pub took-more : 0 < length g → AddsGroup n n' g → Took n' (done ++ g ∷ [])
-    took-more some adds = took (built-more done n n' g (t.built on) some (near-last done g last) adds)
+-- a group of no type
+pub took-empty : (done : List NamedGroup) (n : Numbering) (g : NamedGroup) → Took n done → IsTrue n.names_below → g ≡ [] → Took n (done ++ g ∷ [])
+took-empty done n g t on none =
+    took-more done n n g t on on (subst (λ (h : NamedGroup). All NamesBelow (last_declared done h)) (sym none) (All-nil NamesBelow)) (omega (arith, t.few on, ap length none))
+    (subst (All HasShortLists) (sym none) (All-nil HasShortLists)) (built-empty done n g (ap length none) (t.built on))

@@ -85,11 +85,11 @@ impl TakeGroups for Numbering {
     ghost took = { Took };
 
     fn take_group(&mut self, alloc: Global, group: RecGroup) -> Result<(), AllocError> {
-        if !self.names_below {
-            return Ok(());
-        }
         let start = self.declared.len();
         let count = group.types.len();
+        if !self.names_below || count == 0 {
+            return Ok(());
+        }
         if start > MOST_TYPES || count > MOST_TYPES - start {
             return Err(AllocError);
         }
@@ -100,9 +100,7 @@ impl TakeGroups for Numbering {
             self.names_below = false;
             return Ok(());
         }
-        if count > 0 {
-            self.add_group(alloc, group)?;
-        }
+        self.add_group(alloc, group)?;
         Ok(())
     }
 }

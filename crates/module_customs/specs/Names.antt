@@ -12,7 +12,9 @@ use Rattle.wasm_index.specs.declared.spaces.FuncSpace.{FuncSpace}
 use Rattle.wasm_index.specs.Index.{number_of}
 use Rattle.module_customs.specs.Kept.{last_at}
 use Rattle.custom_sections.specs.NameReading.{NameLists, no_names, joined, names_of_section}
+use Rattle.custom_sections.specs.Views.{text_of}
 use Rattle.init_plan.specs.declared.debug_info.NameSection.{NameSection}
+use Rattle.module_customs.specs.declared.names.DeclaredNames.{DeclaredNames}
 
 -- how many of some imports are functions
 abbrev pub functions_among : List plain.Import → ℕ
@@ -64,6 +66,10 @@ Text = Bor (List ℕ)
 -- an entry of a map from functions, by the function's number
 abbrev pub named : Index FuncSpace × Text → ℕ × List ℕ
 named entry = (number_of entry.0, entry.1.now)
+
+-- what a walk through names has left
+abbrev pub names_left : DeclaredNames → List (ℕ × List ℕ)
+names_left walk = below walk.declared (map text_of walk.names.now)
 
 -- what a map has at the key of a number
 abbrev pub at_number : {K X : Type 0} → (K → ℕ) → BTreeMap K X → ℕ → Option X

@@ -1,7 +1,7 @@
 //! The names that the name sections of a module give.
 
-ghost use Rattle.std.specs.Prelude.{◌≡◌, ◌+◌, ◌<◌, ◌++◌, ◌∷◌, ℕ, List, [], length, map, codes, Bool, IfOk, OnOk};
-ghost use Rattle.std.specs.BTreeMap.{IsFromIterResult};
+ghost use Rattle.std.specs.Prelude.{◌≡◌, ◌+◌, ◌<◌, ◌++◌, ◌∷◌, ℕ, List, [], length, map, codes, None, IfOk, OnOk};
+ghost use Rattle.std.specs.Iterator.{YieldsFirstBy, item_count};
 ghost use Rattle.std.specs.Option.{option_map, option_or};
 ghost use Rattle.wasm_spec.specs.Module as plain;
 ghost use Rattle.wasm_spec.specs.Module.{imports_of_section, function_types_of_section, function_import, HasFewEntries};
@@ -11,7 +11,7 @@ ghost use Rattle.form_lists.specs.Singles.{single_of};
 ghost use Rattle.wasm_index.specs.Index.{number_of};
 ghost use Rattle.custom_sections.specs.NameReading.{NameLists, joined};
 ghost use Rattle.custom_sections.specs.Views.{text_of, locals_of, names_of};
-ghost use Rattle.module_customs.specs.Names.{functions_among, one_if, contents_of, names_in, names_below, below, module_names, at_number, named, HasLast, HasLocals, KeepsNames};
+ghost use Rattle.module_customs.specs.Names.{functions_among, one_if, contents_of, names_in, names_below, below, module_names, at_number, named, names_left, HasLast, HasLocals, KeepsNames};
 
 use custom_sections::{Names, read_names};
 use entity_map::{EntityRef, OutOfMemory};
@@ -150,39 +150,45 @@ fn add_function_names<'d>(
     if !kept.is_empty() {
         return enter_names(kept, names, declared);
     }
-    *kept = map_of(alloc, declared_names(alloc, names, declared)?)?;
+    *kept = map_of(alloc, DeclaredNames { names, declared })?;
     Ok(())
 }
 
-/// The names of functions that are declared.
-fn declared_names<'d>(
-    alloc: Global,
-    names: &[(u32, &'d str)],
+/// The names of the functions below a bound, in order.
+#[derive(Drop)]
+struct DeclaredNames<'n, 'd> {
+    names: &'n [(u32, &'d str)],
     declared: usize,
-) -> Result<Vec<(FuncIndex, &'d str)>, OutOfMemory>
-    requires { declared < u32.MAX }
-    ensures { IfOk result (λ entries. map named entries.items ≡ below declared (map text_of names.now)) }
-{
-    let mut entries = Vec::with_capacity(alloc, names.len())?;
-    for (function, name) in names {
-        if (*function as usize) < declared {
-            match entries.push((FuncIndex::from_u32(*function), *name)) {
-                Ok(_) => {}
-                Err(_) => return Err(OutOfMemory),
+    ghost few: { declared < u32.MAX },
+}
+
+impl<'n, 'd> Iterator for DeclaredNames<'n, 'd> {
+    type Item = (FuncIndex, &'d str);
+
+    ghost next_gives = { YieldsFirstBy named names_left };
+
+    ghost remaining = { item_count names_left };
+
+    fn next(&mut self) -> Option<(FuncIndex, &'d str)> {
+        loop {
+            let ((function, name), others) = self.names.split_first()?;
+            self.names = others;
+            if (*function as usize) < self.declared {
+                return Some((FuncIndex::from_u32(*function), *name));
             }
         }
     }
-    Ok(entries)
 }
 
-/// A map of entries, of which the last one of a key counts.
-fn map_of<K: Ord + Drop, V: Drop>(
+/// A map of names, of which the last one of a function counts.
+fn map_of<'d>(
     alloc: Global,
-    entries: Vec<(K, V)>,
-) -> Result<BTreeMap<K, V>, AllocError>
-    ensures { IfOk result (IsFromIterResult K.cmp entries.items) }
+    names: DeclaredNames<'_, 'd>,
+) -> Result<BTreeMap<FuncIndex, &'d str>, AllocError>
+    ensures { IfOk result (λ map. (before : List (ℕ × List ℕ)) → HasLast before (λ n. None)
+        → HasLast (before ++ names_left names) (at_number number_of map)) }
 {
-    entries.into_iter().collect(alloc)
+    names.collect(alloc)
 }
 
 /// Enters the names of functions that are declared; a later name replaces an earlier one.

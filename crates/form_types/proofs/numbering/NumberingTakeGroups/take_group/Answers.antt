@@ -1,17 +1,22 @@
-use Rattle.std.proofs.Common.{◌≡◌, ◌∙◌, map, length, true, false, refl, sym, ap, subst, arith}
-use Rattle.std.proofs.lemmas.List.{length-map}
+use Rattle.std.proofs.Common.{◌≡◌, ◌∙◌, map, length, true, false, refl, sym, subst, arith, inl, inr}
+use Rattle.std.proofs.lemmas.List.{length-map, nil_from_length}
 use Rattle.std.specs.List.{All}
 use Rattle.wasm_spec.specs.Sizes.{HasShortLists}
 use Rattle.form_data.specs.Views.{group_of, sub_type_of}
 use Rattle.form_types.proofs.Built.{few-ids}
 use Rattle.form_types.proofs.Ruled.{size-places}
-use Rattle.form_types.proofs.Taking.{start-is, last-tells, took-not, took-empty, took-more}
+use Rattle.form_types.proofs.Taking.{start-is, last-tells, took-not, took-empty, took-added}
 use Rattle.form_types.proofs.numbering.NumberingTakeGroups.take_group.Goals as goal
 
 pub returns-then-not-self : goal.returns-then-not-self
 returns-then-not-self c = λ before t.
-    took-not before c.args.self.now c.args.self.now (group_of c.args.group) t c.if-not-self.true
-    (λ all last. let no : true ≡ false = sym (t.below.1 all) ∙ c.if-not-self.true in absurd cc)
+    let n = c.args.self.now in
+    let g = c.args.group in
+    let long : c.len-count.result ≡ length (group_of g) = omega (arith, c.len-count.ensures, g.types.ok.0, length-map g.types.items sub_type_of) in
+    elim c.then-not-self.either [
+      | inl off ↦ took-not before n n (group_of g) t off (λ all last. let no : true ≡ false = sym (t.below.1 all) ∙ off in absurd cc)
+      | inr none ↦ took-empty before n (group_of g) t none.0 (nil_from_length (group_of g) (sym long ∙ none.1))
+    ]
 
 pub returns-then-not-members_name_below : goal.returns-then-not-members_name_below
 returns-then-not-members_name_below c = λ before t.
@@ -26,8 +31,8 @@ add_group-requires-clause-ids c =
     let t = c.requires.1 in
     few-ids c.requires.0 c.args.self.now (t.built c.if-not-self.false) (omega (arith, t.few c.if-not-self.false, size-places c.requires.0))
 
-pub returns-in_ok-add_group : goal.returns-in_ok-add_group
-returns-in_ok-add_group c = λ before t.
+pub returns : goal.returns
+returns c = λ before t.
     let n = c.args.self.now in
     let g = c.args.group in
     let yes = c.if-not-self.false in
@@ -36,20 +41,6 @@ returns-in_ok-add_group c = λ before t.
     c.members_name_below.result c.members_name_below.ensures in
     let long : c.len-count.result ≡ length (group_of g) = omega (arith, c.len-count.ensures, g.types.ok.0, length-map g.types.items sub_type_of) in
     let short : All HasShortLists (group_of g) = subst (λ types. All HasShortLists (map sub_type_of types)) c.as_slice.ensures.value (c.members_are_short.ensures.0 c.if-not-members_are_short.false) in
-    took-more before n c.add_group.new.self (group_of g) t yes (c.add_group.ensures.stays ∙ yes) (tells.0 c.if-not-members_name_below.false)
+    took-added before n c.add_group.new.self (group_of g) t yes (c.add_group.ensures.stays ∙ yes) (tells.0 c.if-not-members_name_below.false)
     (omega (arith, start-is before n g t yes c.len-start.result start, long, c.if-start-gt-MOST_TYPES.false, c.if-count-start.false)) short
-    (omega (arith, long, c.if-count-gt0.true)) c.in_ok-add_group.ensures.adds
-
-pub returns-else-count-gt0 : goal.returns-else-count-gt0
-returns-else-count-gt0 c = λ before t.
-    let n = c.args.self.now in
-    let g = c.args.group in
-    let yes = c.if-not-self.false in
-    let start : c.len-start.result ≡ length n.declared.items = c.len-start.ensures ∙ n.declared.ok.0 in
-    let tells = last-tells before n g t yes c.len-start.result start c.as_slice-2.result.now c.as_slice-2.ensures.value
-    c.members_name_below.result c.members_name_below.ensures in
-    let long : c.len-count.result ≡ length (group_of g) = omega (arith, c.len-count.ensures, g.types.ok.0, length-map g.types.items sub_type_of) in
-    let short : All HasShortLists (group_of g) = subst (λ types. All HasShortLists (map sub_type_of types)) c.as_slice.ensures.value (c.members_are_short.ensures.0 c.if-not-members_are_short.false) in
-    took-empty before n n (group_of g) t yes yes (tells.0 c.if-not-members_name_below.false)
-    (omega (arith, start-is before n g t yes c.len-start.result start, long, c.if-start-gt-MOST_TYPES.false, c.if-count-start.false)) short
-    refl (omega (arith, long, c.if-count-gt0.false))
+    (omega (arith, long, c.if-count-eq0.false)) c.in_ok-add_group.ensures.adds
