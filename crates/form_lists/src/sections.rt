@@ -1,6 +1,6 @@
 //! The entries of the sections of a module, in order.
 
-ghost use Rattle.std.specs.Prelude.{◌≡◌, ℕ, List, [], map, refl};
+ghost use Rattle.std.specs.Prelude.{◌≡◌, ℕ, List, [], length, map, min, refl};
 ghost use Rattle.std.specs.List.{flat_map};
 ghost use Rattle.std.specs.Iterator.{YieldsFirstBy, item_count};
 ghost use Rattle.wasm_spec.specs.Module as plain;
@@ -32,7 +32,7 @@ pub trait Entry<'d>: Sized {
 
 /// The entries of a section; those that stay in the input have none, nor have custom sections.
 #[inline]
-pub fn entries_in<'f, 'd, T: Entry<'d>>(section: Section<'f, 'd>) -> &'f [T]
+pub(crate) fn entries_in<'f, 'd, T: Entry<'d>>(section: Section<'f, 'd>) -> &'f [T]
     ensures { map T.seen result.now ≡ flat_map T.of_section (sections_in section.entry) }
 {
     match section {
@@ -40,6 +40,17 @@ pub fn entries_in<'f, 'd, T: Entry<'d>>(section: Section<'f, 'd>) -> &'f [T]
         Section::Input(_) => &[],
         Section::Customs(_) => &[],
     }
+}
+
+/// How many entries of one kind the sections list, or `usize::MAX` where there are more.
+pub fn count_entries<'d, T: Entry<'d>>(source: Source<'_, 'd>) -> usize
+    ensures { result ≡ min (length (flat_map T.of_section (source_module source.entry))) usize.MAX }
+{
+    let mut count: usize = 0;
+    for section in sections_of(source) {
+        count = count.saturating_add(entries_in::<T>(section).len());
+    }
+    count
 }
 
 /// The entries of one kind, section after section.

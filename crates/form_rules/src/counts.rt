@@ -9,7 +9,7 @@ ghost use Rattle.form_lists.specs.Source.{source_module, sections_in};
 ghost use Rattle.form_lists.specs.Views.{lists_of};
 
 use form_data::{FunctionBody, Payload};
-use form_lists::{Entry, Lists, Section, Source, entries_in, entries_of, sections_of};
+use form_lists::{Lists, Section, Source, count_entries, entries_of, sections_of};
 use wasm_spec::ValType;
 
 /// Whether bodies, data segments and locals are as many as is stated or allowed. There are `count` data segments.
@@ -28,22 +28,7 @@ fn bodies_hold(lists: &Lists<'_, '_>) -> bool
 {
     let functions = lists.spaces.functions.len();
     lists.imported_functions <= functions
-        && has_entries::<FunctionBody<'_>>(lists.source, functions - lists.imported_functions)
-}
-
-/// Whether a module has this many entries of one kind.
-fn has_entries<'d, T: Entry<'d>>(source: Source<'_, 'd>, count: usize) -> bool
-    ensures { IsTrue result ↔ (count ≡ length (flat_map T.of_section (source_module source.entry))) }
-{
-    let mut left = count;
-    for section in sections_of(source) {
-        let here = entries_in::<T>(section).len();
-        if left < here {
-            return false;
-        }
-        left -= here;
-    }
-    left == 0
+        && functions - lists.imported_functions == count_entries::<FunctionBody<'_>>(lists.source)
 }
 
 /// Whether each stated number of data segments is their number.

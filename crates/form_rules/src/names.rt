@@ -13,7 +13,7 @@ ghost use Rattle.form_rules.specs.Names.{imported_names, exported_names};
 
 use entity_map::{NameDigest, OutOfMemory, StringPool};
 use form_data::{Export, Import};
-use form_lists::{Entry, Source, entries_in, entries_of, sections_of};
+use form_lists::{Source, count_entries, entries_of};
 use std::alloc::Global;
 
 /// How many names of modules a pool has room for: most modules import from few.
@@ -59,15 +59,6 @@ fn empty_pool(alloc: Global, source: Source<'_, '_>) -> Result<StringPool, OutOf
     let names = imports.saturating_add(count_entries::<Export<'_>>(source));
     pool.reserve(names.saturating_add(FEW_MODULES))?;
     Ok(pool)
-}
-
-/// How many entries of one kind the sections list, which is the room that they take.
-fn count_entries<'d, E: Entry<'d>>(source: Source<'_, 'd>) -> usize {
-    let mut count: usize = 0;
-    for section in sections_of(source) {
-        count = count.saturating_add(entries_in::<E>(section).len());
-    }
-    count
 }
 
 /// A digest of all names, from which hashes begin: names that are chosen to collide change it as well.

@@ -15,7 +15,7 @@ ghost use Rattle.module_environ.specs.Pooled.{HasText};
 use crate::escapes::Escaping;
 use entity_map::{Atom, EntityRef, OutOfMemory, StringPool};
 use form_data::Export;
-use form_lists::{Source, entries_in, entries_of, sections_of};
+use form_lists::{Source, count_entries, entries_of};
 use indexmap::IndexMap;
 use std::alloc::Global;
 use wasm_index::{FuncIndex, GlobalIndex, MemoryIndex, TableIndex, TagIndex};
@@ -40,21 +40,12 @@ pub(crate) fn convert_exports(
 {
     // An atom is a number of our own, which no name chooses: the map needs no seed.
     let mut exports = IndexMap::new(alloc);
-    exports.reserve(count_exports(source))?;
+    exports.reserve(count_entries::<Export<'_>>(source))?;
     for export in entries_of::<Export<'_>>(source) {
         add_export(&mut exports, strings, export)?;
         note_function(escaping, export)?;
     }
     Ok(exports)
-}
-
-/// How many exports the sections list, which is the room that they take.
-fn count_exports(source: Source<'_, '_>) -> usize {
-    let mut count: usize = 0;
-    for section in sections_of(source) {
-        count = count.saturating_add(entries_in::<Export<'_>>(section).len());
-    }
-    count
 }
 
 /// Adds an export to those before, under the atom of its place.
