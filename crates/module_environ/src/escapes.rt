@@ -75,6 +75,7 @@ impl Escaping {
     }
 
     // Notes a reference to the function of a number.
+    #[inline(always)]
     fn note_escape_at(&mut self, function: usize) -> Result<(), OutOfMemory>
         requires { function < self.old.count }
         ensures { OnOk result (self.new ≡ after_escapes self.old (function ∷ [])) }

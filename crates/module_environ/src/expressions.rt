@@ -12,6 +12,7 @@ use std::alloc::Global;
 use wasm_convert::{ConstExpr, TypeConvert};
 
 /// An expression, converted; the functions to which it makes references are noted.
+#[inline(always)]
 pub(crate) fn convert_expression(
     alloc: Global,
     env: &dyn TypeConvert,

@@ -85,6 +85,7 @@ fn append_followed(text: &mut Text, name: &str, operands: Operands) -> Result<()
 }
 
 // Appends an operator that is only lent, so that a long expression is not copied.
+#[inline(always)]
 fn append_lent(text: &mut Text, operator: &ConstOp) -> Result<(), OutOfMemory>
     ensures { OnOk result (text.new ≡ text.old ++ operator_text operator.now) }
 {
@@ -99,6 +100,7 @@ pub fn append_operator(text: &mut Text, operator: ConstOp) -> Result<(), OutOfMe
 }
 
 /// Appends operators, joined by a semicolon and a space.
+#[inline(always)]
 #[tactic(auto, unfolding(crate::specs::Expressions::expression_text))]
 pub fn append_expression(text: &mut Text, expression: &ConstExpr) -> Result<(), OutOfMemory>
     ensures { OnOk result (text.new ≡ text.old ++ expression_text expression.now) }

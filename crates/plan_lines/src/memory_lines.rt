@@ -83,6 +83,7 @@ pub fn append_passive_data(
 }
 
 /// Appends the lines of the ranges of runtime data.
+#[inline(always)]
 pub fn append_runtime_data(
     text: &mut Text,
     ranges: &PrimaryMap<RuntimeDataIndex, Range<u32>>,

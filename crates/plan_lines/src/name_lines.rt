@@ -21,6 +21,7 @@ fn append_atom(text: &mut Text, pool: &StringPool, atom: Atom) -> Result<(), Out
 }
 
 // Appends the end of a line: an entity.
+#[inline(always)]
 fn append_entity(text: &mut Text, entity: EntityIndex) -> Result<(), OutOfMemory>
     ensures { OnOk result (text.new ≡ text.old ++ codes " " ++ entity_text entity ++ codes "\n") }
 {

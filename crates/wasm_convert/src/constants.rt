@@ -45,6 +45,7 @@ impl Model for ConstExpr {
 }
 
 // Appends the function to which the operator makes a reference, if it makes one.
+#[inline(always)]
 fn push_function(escaped: &mut SmallVec<FuncIndex, 1>, op: &Operator) -> Result<(), OutOfMemory>
     requires { IfSome (function_in op.now) (λ function. number_of function < u32.MAX) }
     ensures { OnOk result (escaped.new.items ≡ escaped.old.items ++ option_to_list (function_in op.now)) }
