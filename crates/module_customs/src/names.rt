@@ -1,6 +1,6 @@
 //! The names that the name sections of a module give.
 
-ghost use Rattle.std.specs.Prelude.{◌≡◌, ◌+◌, ◌<◌, ◌++◌, ◌∷◌, ℕ, List, [], length, map, codes, None, IfOk, OnOk};
+ghost use Rattle.std.specs.Prelude.{◌≡◌, ◌+◌, ◌<◌, ◌++◌, ◌∷◌, ℕ, List, [], length, map, codes, IfOk, OnOk};
 ghost use Rattle.std.specs.Iterator.{YieldsFirstBy, item_count};
 ghost use Rattle.std.specs.Option.{option_map, option_or};
 ghost use Rattle.wasm_spec.specs.Module as plain;
@@ -150,7 +150,8 @@ fn add_function_names<'d>(
     if !kept.is_empty() {
         return enter_names(kept, names, declared);
     }
-    *kept = map_of(alloc, DeclaredNames { names, declared })?;
+    let declared = declared as u32;
+    *kept = DeclaredNames { names, declared }.collect(alloc)?;
     Ok(())
 }
 
@@ -158,8 +159,7 @@ fn add_function_names<'d>(
 #[derive(Drop)]
 struct DeclaredNames<'n, 'd> {
     names: &'n [(u32, &'d str)],
-    declared: usize,
-    ghost few: { declared < u32.MAX },
+    declared: u32,
 }
 
 impl<'n, 'd> Iterator for DeclaredNames<'n, 'd> {
@@ -170,25 +170,14 @@ impl<'n, 'd> Iterator for DeclaredNames<'n, 'd> {
     ghost remaining = { item_count names_left };
 
     fn next(&mut self) -> Option<(FuncIndex, &'d str)> {
-        loop {
-            let ((function, name), others) = self.names.split_first()?;
+        while let [(function, name), others @ ..] = self.names {
             self.names = others;
-            if (*function as usize) < self.declared {
+            if *function < self.declared {
                 return Some((FuncIndex::from_u32(*function), *name));
             }
         }
+        None
     }
-}
-
-/// A map of names, of which the last one of a function counts.
-fn map_of<'d>(
-    alloc: Global,
-    names: DeclaredNames<'_, 'd>,
-) -> Result<BTreeMap<FuncIndex, &'d str>, AllocError>
-    ensures { IfOk result (λ map. (before : List (ℕ × List ℕ)) → HasLast before (λ n. None)
-        → HasLast (before ++ names_left names) (at_number number_of map)) }
-{
-    names.collect(alloc)
 }
 
 /// Enters the names of functions that are declared; a later name replaces an earlier one.
