@@ -188,8 +188,12 @@ enum {
 #define BOBBINAZURE_UNBOUNDED UINT64_MAX
 
 typedef struct {
-    uint8_t cow;            /* memories begin as images; 0 is no, in this and the next four */
-    uint8_t lazy_tables;    /* tables begin as images */
+    /* Memories begin as images; 0 is no, in this and the next four. A module can then ask for
+       max_image bytes with each memory that it defines, in some fifteen bytes of its own. */
+    uint8_t cow;
+    /* Tables begin as images. A module can then ask for 1,048,576 cells of four bytes with each
+       table that it defines, in ten bytes of its own. */
+    uint8_t lazy_tables;
     uint8_t branch_hints;
     uint8_t native_debug;
     uint8_t guest_debug;

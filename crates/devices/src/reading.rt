@@ -8,7 +8,7 @@ use crate::device::{Failed, Source};
 use std::alloc::AllocError;
 
 /// The most bytes that one read is asked for.
-const BUFFER: usize = 16384;
+const BUFFER: usize = 4096;
 
 /// Why reading stopped before the end.
 #[derive(Clone, Copy, Debug, PartialEq, Eq)]

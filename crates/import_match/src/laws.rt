@@ -6,7 +6,7 @@ ghost use Rattle.type_spec.specs.Equality.{SameType};
 ghost use Rattle.module_types.specs.ListGroups.{list_groups};
 ghost use Rattle.module_types.specs.TypeList.{TypeList};
 ghost use Rattle.type_registry.specs.Registry.{Registry};
-ghost use Rattle.type_registry.specs.Listed.{Listed, list_of};
+ghost use Rattle.module_types.specs.Listed.{Listed, list_of};
 ghost use Rattle.type_registry.specs.Standing.{Stands};
 ghost use Rattle.wasm_module.specs.Record.{record_of};
 ghost use Rattle.import_match.specs.Rules.{mismatch, types_in};

@@ -3,7 +3,7 @@ use Rattle.std.proofs.Common.{◌≡◌, ℕ, Bool, true, false, List, [], ◌�
 use Rattle.std.specs.Prelude.{unwrap_or, if◌then◌else◌}
 use Rattle.std.proofs.lemmas.Simd.{map-map}
 use Rattle.wasm_spec.specs.declared.entities.MemoryType.{MemoryType}
-use Rattle.wasm_spec.specs.Module.{Module, imported_memories, defined_memories}
+use Rattle.wasm_spec.specs.Module.{Module, table_import, imported_of, imported_memories, defined_memories}
 use Rattle.rule_spec.specs.Expressions.{AreGlobalsTyped}
 use Rattle.rule_spec.specs.Lists.{Lists, lists_of_module}
 use Rattle.wasm_types.specs.declared.limits.IndexType.TheVariants.{I32, I64}
@@ -13,8 +13,11 @@ use Rattle.replay_spec.specs.Plan.{MemoryPlan, AgreesOver, Agrees}
 use Rattle.replay_spec.specs.Images.{ImageMemory, image_memory_of}
 use Rattle.replay_spec.specs.Tables.{TablePlan, AgreesOnTables}
 use Rattle.replay_spec.specs.Globals.{AgreesOnGlobals, initialisers}
+use Rattle.replay_spec.specs.Elements.{defined_tables, active_elements}
+use Rattle.replay_spec.specs.Held.{held_segments, held_tables, held_elements, held_initialisers}
 use Rattle.replay_spec.proofs.GlobalsKnown.{globals-agree}
 use Rattle.replay_spec.proofs.GlobalsTyped.{reads-earlier}
+use Rattle.replay_spec.proofs.HeldPhases.{values_after-held, reads-held, agrees-held, agrees_on_tables-held}
 use Rattle.init_plan.specs.declared.translation.ModuleTranslation.{ModuleTranslation}
 use Rattle.init_plan.specs.Views.{initializers_of, defined_sizes}
 use Rattle.memory_images.specs.Views.{image_memory, is_wide}
@@ -49,18 +52,25 @@ module _ (m : Module) (t : ModuleTranslation) (holds : HoldsMemories m t) where
 
   pub data_agree : (plan : MemoryPlan) → AgreesOver t.module.num_imported_memories (defined_sizes t.module) (initializers_of t) plan → Agrees m plan
   data_agree plan h =
-      subst (λ (n : ℕ). AgreesOver n (map minimum_size (defined_memories m)) (active_segments m) plan) holds.imports
-      (subst (λ (ns : List ℕ). AgreesOver t.module.num_imported_memories ns (active_segments m) plan) sizes_same
-      (subst (λ (ss : List ActiveSegment). AgreesOver t.module.num_imported_memories (defined_sizes t.module) ss plan) holds.active h))
+      agrees-held (length (imported_memories m)) (map minimum_size (defined_memories m)) (active_segments m) plan
+      (subst (λ (n : ℕ). AgreesOver n (map minimum_size (defined_memories m)) (held_segments m) plan) holds.imports
+      (subst (λ (ns : List ℕ). AgreesOver t.module.num_imported_memories ns (held_segments m) plan) sizes_same
+      (subst (λ (ss : List ActiveSegment). AgreesOver t.module.num_imported_memories (defined_sizes t.module) ss plan) holds.active h)))
 
 -- ---- tables and globals
 
 pub elements_agree : (m : Module) (t : ModuleTranslation) (plan : TablePlan) → HoldsTables m t
     → AgreesOnTables t.module.num_imported_tables (tables_of t) (elements_of t) plan → AgreesOnElements m plan
-elements_agree m t plan holds h = rw (← holds.imports, ← holds.tables, ← holds.active) h
+elements_agree m t plan holds h =
+    let l : Lists = lists_of_module m in
+    let held : AgreesOnTables (length (imported_of table_import m)) (held_tables l) (held_elements l.elements) plan =
+    rw (← holds.imports, ← holds.tables, ← holds.active) h in
+    agrees_on_tables-held (length (imported_of table_import m)) (defined_tables l) (active_elements l.elements) plan held
 
 pub globals_agree : (m : Module) (t : ModuleTranslation) → HoldsGlobals m t → (let l = lists_of_module m in AreGlobalsTyped l l.imported_globals l.globals)
     → AgreesOnGlobals (lists_of_module m).imported_globals (initialisers (lists_of_module m)) (plan_of_globals t)
 globals_agree m t holds typed =
     let l : Lists = lists_of_module m in
-    globals-agree l.imported_globals (initialisers l) (plan_of_globals t) (reads-earlier l l.imported_globals l.globals typed) holds
+    let reads = reads-held l.imported_globals (initialisers l) (reads-earlier l l.imported_globals l.globals typed) in
+    λ fields imported count. globals-agree l.imported_globals (held_initialisers l) (plan_of_globals t) reads holds fields imported count
+    ∙ values_after-held fields imported (initialisers l)

@@ -10,9 +10,8 @@ use Rattle.wasm_convert.specs.declared.operators.ConstOp.{ConstOp}
 use Rattle.wasm_convert.specs.declared.values.GlobalConstValue.{GlobalConstValue}
 use Rattle.wasm_convert.specs.Constants.{expression_of, plain_value_of}
 use Rattle.replay_spec.specs.Values.{Value}
-use Rattle.replay_spec.specs.Data.{active_segments}
-use Rattle.replay_spec.specs.Elements.{active_elements, defined_tables}
-use Rattle.replay_spec.specs.Globals.{GlobalPlan, IsGlobalPlan, initialisers}
+use Rattle.replay_spec.specs.Globals.{GlobalPlan, IsGlobalPlan}
+use Rattle.replay_spec.specs.Held.{held_segments, held_tables, held_elements, held_initialisers}
 use Rattle.init_plan.specs.declared.translation.ModuleTranslation.{ModuleTranslation}
 use Rattle.init_plan.specs.Views.{initializers_of}
 use Rattle.init_plan.specs.Tables.{tables_of, elements_of}
@@ -21,13 +20,13 @@ use Rattle.init_plan.specs.Tables.{tables_of, elements_of}
 pub record HoldsMemories (m : Module) (t : ModuleTranslation) : Type 0 where
   pub imports : t.module.num_imported_memories ≡ length (imported_memories m)
   pub memories : t.module.memories ≡ map memory_of (memories m)
-  pub active : initializers_of t ≡ active_segments m
+  pub active : initializers_of t ≡ held_segments m
 
 -- the active element segments and the defined tables are those of the module
 pub record HoldsTables (m : Module) (t : ModuleTranslation) : Type 0 where
   pub imports : t.module.num_imported_tables ≡ length (imported_of table_import m)
-  pub tables : tables_of t ≡ defined_tables (lists_of_module m)
-  pub active : elements_of t ≡ active_elements (lists_of_module m).elements
+  pub tables : tables_of t ≡ held_tables (lists_of_module m)
+  pub active : elements_of t ≡ held_elements (lists_of_module m).elements
 
 abbrev pub simple_global_of : Index DefinedGlobalSpace × GlobalConstValue → ℕ × Value
 simple_global_of g = (number_of g.0, plain_value_of g.1)
@@ -45,4 +44,4 @@ plan_of_globals t = record {
 
 -- constant first values stand in the record, and the other initialisers are kept
 abbrev pub HoldsGlobals : Module → ModuleTranslation → Type 0
-HoldsGlobals m t = IsGlobalPlan (initialisers (lists_of_module m)) (plan_of_globals t)
+HoldsGlobals m t = IsGlobalPlan (held_initialisers (lists_of_module m)) (plan_of_globals t)

@@ -8,7 +8,7 @@ use Rattle.module_types.specs.TypeList.{TypeList}
 use Rattle.type_registry.specs.declared.key.ModuleKey.{ModuleKey}
 use Rattle.type_registry.specs.Changes.{registered, released, released_by, planned, IsFull}
 use Rattle.type_registry.specs.Keys.{key_number}
-use Rattle.type_registry.specs.Listed.{Listed}
+use Rattle.module_types.specs.Listed.{Listed}
 use Rattle.type_registry.specs.Registry.{Registry, RegistryState, Module, registry_of, count_of}
 use Rattle.type_registry.specs.Standing.{Stands, MayRegister}
 use Rattle.plan_link.specs.Linkable.{HasCount}

@@ -4,7 +4,7 @@ ghost use Rattle.std.specs.Prelude.{◌≡◌, ◌<◌, false, ℕ, Some, length
 ghost use Rattle.module_types.specs.Builder.{builder_view, new_builder};
 ghost use Rattle.type_registry.specs.Registry.{registry_of, count_of};
 ghost use Rattle.type_registry.specs.Keys.{key_number};
-ghost use Rattle.type_registry.specs.Listed.{Listed};
+ghost use Rattle.module_types.specs.Listed.{Listed};
 ghost use Rattle.plan_link.specs.Linkable.{IsLinkable};
 ghost use Rattle.link_tests.specs.Growing.{MayGrow};
 

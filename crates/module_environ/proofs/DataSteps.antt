@@ -11,8 +11,8 @@ use Rattle.wasm_index.specs.Index.{number_of}
 use Rattle.wasm_convert.specs.Conversion.{LookUp}
 use Rattle.wasm_convert.specs.Constants.{const_ops_of, expression_of}
 use Rattle.wasm_module.specs.declared.memory_initialization.MemoryInitializer.{MemoryInitializer}
-use Rattle.replay_spec.specs.Values.{any_nulls}
 use Rattle.replay_spec.specs.Data.{active_of_kind}
+use Rattle.replay_spec.specs.Held.{any_nulls, held_segment}
 use Rattle.init_plan.specs.declared.translation.ModuleTranslation.{ModuleTranslation}
 use Rattle.init_plan.specs.Views.{active_segment_of, SameButPassive}
 use Rattle.module_environ.specs.Initialisers.{passive_data_from}
@@ -22,7 +22,7 @@ use Rattle.module_environ.proofs.HeldExpressions.{seen-is}
 pub active-added : (look : LookUp) (old new : List MemoryInitializer) (x : MemoryInitializer) (kind : DataKind) (memory : ℕ) (offset : ConstExpr)
     (bytes : List ℕ) → kind ≡ kinds.Active memory offset → new ≡ old ++ x ∷ [] → number_of x.memory_index ≡ memory
     → x.offset ≡ const_ops_of look offset.ops.items → x.bytes.now ≡ bytes
-    → map active_segment_of new ≡ map active_segment_of old ++ cons_option (active_of_kind (data_kind_of kind) bytes) []
+    → map active_segment_of new ≡ map active_segment_of old ++ map held_segment (cons_option (active_of_kind (data_kind_of kind) bytes) [])
 active-added look old new x kind memory offset bytes is grows at place these =
     let seen : active_segment_of x ≡ record { memory = memory; offset = any_nulls offset.ops.items; bytes = bytes } =
     λ i. record { memory = at i; offset = (ap expression_of place ∙ seen-is look offset.ops.items) i; bytes = these i } in

@@ -7,7 +7,8 @@ use Rattle.wasm_spec.specs.Module.{Expression}
 use Rattle.wasm_convert.specs.Conversion.{LookUp}
 use Rattle.wasm_convert.specs.Operators.{const_op_of, operator_of}
 use Rattle.wasm_convert.specs.Constants.{const_ops_of, expression_of}
-use Rattle.replay_spec.specs.Values.{any_null, any_nulls, const_value}
+use Rattle.replay_spec.specs.Values.{const_value}
+use Rattle.replay_spec.specs.Held.{any_null, any_nulls}
 use Rattle.replay_spec.proofs.AnyNull.{const-any}
 
 back_conversion : (look : LookUp) (o : Operator) → operator_of (const_op_of look o) ≡ any_null o

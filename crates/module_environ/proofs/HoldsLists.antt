@@ -41,10 +41,10 @@ use Rattle.wasm_module.specs.declared.table_initialization.TableSegment.{TableSe
 use Rattle.wasm_module.specs.declared.table_initialization.TableSegmentElements.{TableSegmentElements}
 use Rattle.wasm_module.specs.declared.table_initialization.TableSegmentElements.TheVariants as elements
 use Rattle.table_images.specs.Views.{is_func, items_of, active_elements_of, initial_of, defined_table_of, defined_tables_of}
-use Rattle.replay_spec.specs.Values.{any_nulls}
 use Rattle.replay_spec.specs.Elements.{ActiveElements, is_function_type, has_functions_on_top, defined_table, items_of_element, active_of_element}
 use Rattle.replay_spec.specs.Elements as replay
 use Rattle.replay_spec.specs.Globals.{simple_of, kept_of}
+use Rattle.replay_spec.specs.Held.{any_nulls, held_items, held_element, held_elements, held_table}
 use Rattle.replay_spec.proofs.AnyNull.{const-any}
 use Rattle.init_plan.specs.declared.translation.ModuleTranslation.{ModuleTranslation}
 use Rattle.init_plan.specs.Tables.{own_tables}
@@ -63,7 +63,7 @@ map_gathered f g (x ∷ xs) = grind (arith, map_gathered f g xs)
 -- ---- globals
 
 simple_held : (n : ℕ) (gs : List GlobalDef)
-    → filter_map simple_of (enumerate_from n (map (λ g. g.init) gs)) ≡ filter_map simple_of (enumerate_from n (map (λ g. any_nulls g.init) gs))
+    → filter_map simple_of (enumerate_from n (map (λ g. g.init) gs)) ≡ filter_map simple_of (enumerate_from n (map any_nulls (map (λ g. g.init) gs)))
 simple_held n [] = refl
 simple_held n (g ∷ gs) = λ i. cons_option (option_map (λ v. (n, v)) (sym (const-any g.init) i)) (simple_held (n + 1) gs i)
 
@@ -73,7 +73,7 @@ module _ (look : LookUp) where
   held_at g = (g.0, expression_of (const_ops_of look g.1))
 
   kept_held : (n : ℕ) (gs : List GlobalDef)
-      → map held_at (filter_map kept_of (enumerate_from n (map (λ g. g.init) gs))) ≡ filter_map kept_of (enumerate_from n (map (λ g. any_nulls g.init) gs))
+      → map held_at (filter_map kept_of (enumerate_from n (map (λ g. g.init) gs))) ≡ filter_map kept_of (enumerate_from n (map any_nulls (map (λ g. g.init) gs)))
   unfolding held_at
   kept_held n [] = refl
   kept_held n (g ∷ gs) = grind (arith, kept_held (n + 1) gs, const-any g.init, seen-is look g.init)
@@ -85,7 +85,7 @@ holds_globals m t has counted =
     let globals = (lists_of_module m).globals in
     let back : ℕ × List ConstOp → ℕ × Expression = λ g. (g.0, expression_of g.1) in
     record {
-      count = counted ∙ sym (length-map globals (λ (g : GlobalDef). any_nulls g.init));
+      count = counted ∙ sym (length-map globals (λ (g : GlobalDef). g.init)) ∙ sym (length-map (map (λ (g : GlobalDef). g.init) globals) any_nulls);
       simple = has.known ∙ simple_held 0 globals;
       kept = sym (map-map back (view_initialiser (λ e. e)) t.global_initializers.items) ∙ ap (map back) has.left
           ∙ map-map back (λ (g : ℕ × Expression). (g.0, const_ops_of (look_up_in m) g.1)) (filter_map kept_of (enumerate_from 0 (map (λ g. g.init) globals)))
@@ -115,22 +115,23 @@ view_plain s =
       by (elements.Functions functions) = refl
       by (elements.Expressions ty expressions) = refl
 
-items_held : (look : LookUp) (items : ElementItems) → plain_items (items_in look items) ≡ items_of_element items
+items_held : (look : LookUp) (items : ElementItems) → plain_items (items_in look items) ≡ held_items (items_of_element items)
 unfolding plain_items
 items_held look (Functions indices) = refl
 items_held look (Expressions type items) =
     ap replay.Expressions (map-map expression_of (const_ops_of look) items ∙ (λ i. map (λ e. seen-is look e i) items))
 
-active_held : (look : LookUp) (kind : ElementKind) (items : ElementItems) → option_map plain_active (active_in look kind items) ≡ active_of_element kind items
+active_held : (look : LookUp) (kind : ElementKind) (items : ElementItems) → option_map plain_active (active_in look kind items) ≡ option_map held_element (active_of_element kind items)
 unfolding plain_active
 active_held look (ActiveElement table offset) items =
     λ i. Some (record { table = unwrap_or table 0; offset = seen-is look offset i; items = items_held look items i })
 active_held look _ items = refl
 
-elements_held : (look : LookUp) (es : List Element) → map plain_active (active_elements look es) ≡ replay.active_elements es
+elements_held : (look : LookUp) (es : List Element) → map plain_active (active_elements look es) ≡ held_elements es
 elements_held look es =
     map_gathered plain_active (λ (e : Element). active_in look e.kind e.items) es
     ∙ (λ i. filter_map (λ (e : Element). active_held look e.kind e.items i) es)
+    ∙ sym (map_gathered held_element (λ (e : Element). active_of_element e.kind e.items) es)
 
 -- ---- the kinds of declared types
 
@@ -202,7 +203,7 @@ module _ (m : plain.Module) where
   table_in t = map_table (look_up_in m) (table_type_of t)
 
   table_held : (t : Table) (v : TableInitialValue) (d : TableDef) → TableRefersIn (length (lists_of_module m).types) d → table_of t ≡ table_in d.type
-      → view_first_value v ≡ option_map (const_ops_of (look_up_in m)) d.init → defined_table_of t v ≡ defined_table (lists_of_module m) d
+      → view_first_value v ≡ option_map (const_ops_of (look_up_in m)) d.init → defined_table_of t v ≡ held_table (defined_table (lists_of_module m) d)
   unfolding table_in
   table_held t v d below same value =
       let minimum : t.limits.min ≡ d.type.initial = ap (λ (x : TableData Name). x.limits.min) same in
@@ -213,7 +214,7 @@ module _ (m : plain.Module) where
 
   tables_held : (ts : List Table) (vs : List TableInitialValue) (ds : List TableDef) → All (TableRefersIn (length (lists_of_module m).types)) ds
       → map table_of ts ≡ map (λ (d : TableDef). table_in d.type) ds → map view_first_value vs ≡ first_values (look_up_in m) ds
-      → defined_tables_of ts vs ≡ map (defined_table (lists_of_module m)) ds
+      → defined_tables_of ts vs ≡ map held_table (map (defined_table (lists_of_module m)) ds)
   tables_held [] vs [] below same values = refl
   tables_held (t ∷ ts) (v ∷ vs) (d ∷ ds) below same values =
       let P = TableRefersIn (length (lists_of_module m).types) in

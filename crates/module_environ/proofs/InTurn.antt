@@ -17,8 +17,9 @@ use Rattle.wasm_types.specs.declared.index.EngineOrModuleTypeIndex.TheVariants.{
 use Rattle.wasm_types.specs.Views.{module_index}
 use Rattle.module_types.specs.Views.{TypeIndex}
 use Rattle.module_types.specs.Builder.{Builder, new_builder, noted, interns_by}
-use Rattle.module_types.specs.Conversion.{group_of_id, members_of, interned_members, interned_index, HoldsGroups, NamesInterned}
+use Rattle.module_types.specs.Conversion.{group_of_id, interned_members, interned_index, HoldsGroups, NamesInterned}
 use Rattle.module_types.specs.InTurn.{interns_type}
+use Rattle.module_types.proofs.Convertible.{members-kinds}
 use Rattle.module_types.proofs.Holding.{holds-kept}
 use Rattle.module_types.proofs.Taking.{done_at, state, number_in, whole}
 use Rattle.module_types.proofs.FewTypes.{few}
@@ -97,7 +98,7 @@ module _ {m : plain.Module} {t : TypesData} {of : AreTypesOf m t} {b : Builder} 
         ∙ has-index m t of.numbered of.earlier later (i + 1) (omega (arith, inside)) reached-later i (omega arith) in
         record {
           reached = rw made' reached-later;
-          holds = rw made' (holds-kept t b k (interned_members t b k) x.holds (length-map (members_of t k) _));
+          holds = rw made' (holds-kept t b k (interned_members t b k) x.holds (members-kinds t b k));
           listed = (λ j. x.listed j ++ type_index (number j) ∷ [])
               ∙ sym (map-append type_index (take i (declared m)) (get_or (declared m) i 0 ∷ []))
               ∙ ap (map type_index) (sym (take_more (declared m) i 0 long));

@@ -17,6 +17,7 @@ use Rattle.rule_spec.specs.Rules.{Keeps}
 use Rattle.wasm_types.specs.declared.memory.Memory.{Memory}
 use Rattle.wasm_types.specs.Memories.{memory_of}
 use Rattle.replay_spec.specs.Data.{ActiveSegment, active_of_kind}
+use Rattle.replay_spec.specs.Held.{held_segment}
 use Rattle.init_plan.specs.declared.translation.ModuleTranslation.{ModuleTranslation}
 use Rattle.init_plan.specs.Ready.{MemoryHalfIsReady}
 use Rattle.module_environ.specs.Initialisers.{passive_data_in, passive_data_from}
@@ -101,9 +102,10 @@ memories-ready m t data' entities counts kept few =
       few_memories = omega (arith, count, few.memories);
       page_sizes = subst (All (λ (x : Memory). (x.page_size_log2 ≡ 0) ⊎ (x.page_size_log2 ≡ 16))) (sym entities.memories)
           (page_sizes (memories m) (kept L4).memories);
-      few_segments = let le = length-filter_map (λ (s : Segment). active_of_kind s.kind s.bytes) ss in omega (arith, active, le, few.segments);
+      few_segments = let le = length-filter_map (λ (s : Segment). active_of_kind s.kind s.bytes) ss in omega (arith, active, length-map (active_among ss) held_segment, le, few.segments);
       in_range = subst (All (λ (s : ActiveSegment). s.memory < length t.module.memories)) (sym data'.active)
-          (active_in_range _ (lists_of_module m) ss (sym count) (kept L9).segments);
+          (All-map (λ (s : ActiveSegment). s.memory < length t.module.memories) held_segment (active_among ss)
+          (active_in_range _ (lists_of_module m) ss (sym count) (kept L9).segments));
       few_passive = let le = few_passive 0 ss in omega (arith, passive, le, few.segments);
       distinct = subst (λ (ps : List (ℕ × List ℕ)). IsDistinct nat_eq (map (λ p. p.0) ps)) (sym data'.passive) (passive_distinct 0 ss);
       numbered = subst (All (λ (p : ℕ × List ℕ). p.0 < 4294967295)) (sym data'.passive)

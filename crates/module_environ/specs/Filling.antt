@@ -15,7 +15,7 @@ use Rattle.wasm_types.specs.EntityViews.{global_of, table_of}
 use Rattle.wasm_types.specs.Memories.{memory_of}
 use Rattle.wasm_convert.specs.Conversion.{LookUp}
 use Rattle.wasm_module.specs.declared.module.Module.{Module}
-use Rattle.replay_spec.specs.Data.{active_segments}
+use Rattle.replay_spec.specs.Held.{held_segments}
 use Rattle.init_plan.specs.declared.translation.ModuleTranslation.{ModuleTranslation}
 use Rattle.init_plan.specs.Views.{initializers_of, passive_data_of, IsUnprocessed}
 use Rattle.module_environ.specs.Types.{look_up_in}
@@ -82,7 +82,7 @@ pub record FillsInitialisers (m : plain.Module) (before after : EscapeLog) (old 
   pub globals : HasGlobals m new
   pub elements : HasElements m new
   pub unprocessed : IsUnprocessed new.memory_init
-  pub active : initializers_of new ≡ active_segments m
+  pub active : initializers_of new ≡ held_segments m
   pub passive : passive_data_of new ≡ passive_data_from 0 (plain.segments m)
   pub noted : after ≡ after_escapes before (references_of (lists_of_module m))
   pub same : new ≡ record old {

@@ -20,7 +20,7 @@ use Rattle.wasm_module.specs.declared.module.Module.{Module}
 use Rattle.wasm_module.specs.Elements.{element_type, element_count}
 use Rattle.wasm_module.specs.declared.startup.ModuleStartup.{ModuleStartup}
 use Rattle.wasm_module.specs.declared.startup.ModuleStartup.TheVariants as startup
-use Rattle.replay_spec.specs.Data.{active_segments}
+use Rattle.replay_spec.specs.Held.{held_segments}
 use Rattle.replay_spec.specs.Startup.{leaves_nothing}
 use Rattle.init_plan.specs.declared.translation.ModuleTranslation.{ModuleTranslation}
 use Rattle.init_plan.specs.Views.{initializers_of, passive_data_of, types_of, IsUnprocessed, IsSegmented, ranges_of}
@@ -111,7 +111,7 @@ HasElements m t = record {
 abbrev pub HasData : plain.Module → ModuleTranslation → Type 0
 HasData m t = record {
   unprocessed : IsUnprocessed t.memory_init;
-  active : initializers_of t ≡ active_segments m;
+  active : initializers_of t ≡ held_segments m;
   passive : passive_data_of t ≡ passive_data_from 0 (plain.segments m);
   segmented : IsSegmented t.module.memory_initialization;
   no_ranges : ranges_of t.module ≡ [];

@@ -5,7 +5,8 @@ ghost use Rattle.std.specs.List.{filter_map};
 ghost use Rattle.wasm_spec.specs.Module.{segments, HasFewEntries};
 ghost use Rattle.form_data.specs.Views.{segment_of};
 ghost use Rattle.form_lists.specs.Source.{source_module};
-ghost use Rattle.replay_spec.specs.Data.{active_of_kind, active_segments};
+ghost use Rattle.replay_spec.specs.Data.{active_of_kind};
+ghost use Rattle.replay_spec.specs.Held.{held_segment, held_segments};
 ghost use Rattle.init_plan.specs.Views.{active_segment_of, initializers_of, passive_data_of, IsUnprocessed, SameButPassive};
 ghost use Rattle.module_environ.specs.Initialisers.{passive_data_from};
 ghost use Rattle.module_environ.specs.Segments.{AreDataConvertible, IsDataConvertible};
@@ -29,7 +30,7 @@ pub(crate) fn add_segments<'d>(
     requires few { HasFewEntries (source_module source) }
     requires convertible { AreDataConvertible (knows env.now) (segments (source_module source)) }
     requires none { passive_data_of translation.old ≡ [] }
-    ensures active { OnOk result (initializers_of translation.new ≡ active_segments (source_module source.entry)) }
+    ensures active { OnOk result (initializers_of translation.new ≡ held_segments (source_module source.entry)) }
     ensures passive { OnOk result (passive_data_of translation.new ≡ passive_data_from 0 (segments (source_module source.entry))) }
     ensures unprocessed { OnOk result (IsUnprocessed translation.new.memory_init) }
     ensures same { OnOk result (translation.new ≡ record translation.old {
@@ -67,7 +68,7 @@ fn add_segment<'d>(
     requires few { index < u32.MAX }
     requires convertible { IsDataConvertible (knows env.now) (segment_of segment.now).kind }
     ensures active { OnOk result (map active_segment_of active.new.items ≡ map active_segment_of active.old.items
-        ++ filter_map (λ s. active_of_kind s.kind s.bytes) (segment_of segment.now ∷ [])) }
+        ++ map held_segment (filter_map (λ s. active_of_kind s.kind s.bytes) (segment_of segment.now ∷ []))) }
     ensures passive { OnOk result (passive_data_of translation.new
         ≡ passive_data_of translation.old ++ passive_data_from index (segment_of segment.now ∷ [])) }
     ensures same { SameButPassive translation.old translation.new }

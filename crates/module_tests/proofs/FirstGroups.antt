@@ -13,7 +13,7 @@ use Rattle.form_types.specs.Numbered.{first_id}
 use Rattle.module_types.specs.Builder.{Builder, new_builder, interns_by, interns}
 use Rattle.module_types.specs.Conversion.{id_number, group_of_id, members_of, interned_members, NamesInterned, HoldsGroups}
 use Rattle.module_types.proofs.FewTypes.{group-few}
-use Rattle.module_types.proofs.Convertible.{names-earlier, members-long}
+use Rattle.module_types.proofs.Convertible.{names-earlier, members-long, members-kinds}
 use Rattle.module_types.proofs.Holding.{holds-kept}
 use Rattle.module_types.proofs.Places.{group-ends}
 use Rattle.module_tests.specs.FirstGroups.{HoldsFirst, IsNextOrLast}
@@ -99,7 +99,7 @@ module _ (t : TypesData) (b : Builder) (k : ℕ) where
   }
   later-by h None none = record {
     sound = h.sound;
-    holds = coe 0 1 (j. HoldsGroups t (interns_by b k ts (none j))) (holds-kept t b k ts h.holds (members-long t b k));
+    holds = coe 0 1 (j. HoldsGroups t (interns_by b k ts (none j))) (holds-kept t b k ts h.holds (members-kinds t b k));
     first = first-by h (interns_by b k ts None).ids (λ m some. by m some (nat_eq k m)) (here (nat_eq k k) (eq-eqb k k refl));
     few = omega (arith, h.few, group-few b.built ts, members-few h.sound);
   } where

@@ -19,7 +19,7 @@ use Rattle.wasm_types.specs.TypeViews.{sub_type_of}
 use Rattle.wasm_convert.specs.Conversion.{index_in}
 use Rattle.wasm_convert.specs.Known.{CanLookUp, Known, CanConvert}
 use Rattle.module_types.specs.Views.{TypeIndex, interned_number, interned_of, span_of}
-use Rattle.module_types.specs.Conversion.{id_number, group_of_id, members_of, index_by_id, name_by_id, look_by_id, StandsInterned, KnowsId, HasIndex, interned_members}
+use Rattle.module_types.specs.Conversion.{id_number, group_of_id, members_of, index_by_id, name_by_id, look_by_id, StandsInterned, KnowsId, HasIndex, interned_members, kinds_of}
 use Rattle.module_types.specs.TypeList.{TypeList}
 use Rattle.module_types.specs.Noted.{noted_at}
 use Rattle.module_types.specs.Builder.{Builder, BuilderState, builder_view}
@@ -29,9 +29,10 @@ use Rattle.wasm_index.specs.declared.index.Index.{Index}
 use Rattle.wasm_index.specs.declared.spaces.TypeSpace.{TypeSpace}
 use Rattle.wasm_spec.specs.declared.types.CoreTypeId.{CoreTypeId}
 use Rattle.form_types.proofs.AllOf.{All-joined, All-from_map, All-parts}
+use Rattle.module_types.proofs.GroupKinds.{kinds-mapped}
 use Rattle.module_types.proofs.Places.{group-ends}
 
-all-both : {A : Type 0} (P Q R : A → Type 0) → ((x : A) → P x → Q x → R x) → (xs : List A) → All P xs → All Q xs → All R xs
+pub all-both : {A : Type 0} (P Q R : A → Type 0) → ((x : A) → P x → Q x → R x) → (xs : List A) → All P xs → All Q xs → All R xs
 all-both P Q R each [] p q = All-nil R
 all-both P Q R each (x ∷ xs) p q = grind (arith, (all-both P Q R each xs (All-tail P x xs p) (All-tail Q x xs q)))
 
@@ -101,6 +102,12 @@ module _ (t : TypesData) (next : ℕ) (spans : List Span) (ids : ℕ → Option 
 
 pub members-long : (t : TypesData) (b : Builder) (k : ℕ) → length (interned_members t b k) ≡ length (members_of t k)
 members-long t b k = length-map (members_of t k) _
+
+pub members-kinds : (t : TypesData) (b : Builder) (k : ℕ) → kinds_of (interned_members t b k) ≡ kinds_of (members_of t k)
+members-kinds t b k =
+    let look = λ (i : UnpackedIndex). name_by_id t (length b.built.types) b.built.groups b.ids (id_number i) in
+    let index = λ (i : UnpackedIndex). index_by_id t (length b.built.types) b.built.groups b.ids (id_number i) in
+    kinds-mapped look index (members_of t k)
 
 -- ---- a converter
 

@@ -29,7 +29,8 @@ use Rattle.module_types.specs.InTurn.{interns_type, interns_declared, HasTaken, 
 use Rattle.module_types.proofs.GroupMembers.{Extends, extends-group, group-within, span-new, span-old}
 use Rattle.module_types.proofs.Holding.{noted-here, noted-elsewhere, holds-kept}
 use Rattle.module_types.proofs.Places.{group-ends}
-use Rattle.module_types.proofs.WellNamed.{kind-mapped}
+use Rattle.module_types.proofs.GroupKinds.{kind-mapped}
+use Rattle.module_types.proofs.Convertible.{members-kinds}
 use Rattle.module_types.proofs.Taking.{near-from, first-place, equal-same, equal-home, is_met, IsMet, met-same, met-before, met-now, met-either, done_at, state, step-by, reaches, reads, number_in, number-here, near-here, form-here, whole}
 
 -- ---- ids, and numbers of groups
@@ -302,7 +303,7 @@ module _ (m : plain.Module) (t : TypesData) (are : AreNumbered m t) (near : Name
         (subst (λ b. Has b (done_at all (n + 1)) (state all (n + 1)) × HoldsGroups t b) (sym step) (
           has-next (after_first n) n (omega (arith, le)) p.0,
           holds-kept t (after_first n) (group n) (interned_members t (after_first n) (group n)) p.1
-              (length-map (members_of t (group n)) _),
+              (members-kinds t (after_first n) (group n)),
         ))
 
     pub can-intern : (gs rest : List (Group ℕ ℕ)) (g : Group ℕ ℕ) → all ≡ gs ++ g ∷ rest → 0 < length g

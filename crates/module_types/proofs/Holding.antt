@@ -1,13 +1,14 @@
 -- What a builder shows after a growing call, and what it holds under ids: after one more index, one more group, and calls in turn.
-use Rattle.std.proofs.Common.{◌≡◌, ◌<◌, ℕ, true, false, List, length, Option, Some, None, refl, sym, ap, ◌∙◌, inl, inr, arith, zero, suc, [], ◌∷◌}
+use Rattle.std.proofs.Common.{◌≡◌, ◌<◌, ℕ, true, false, List, length, Option, Some, None, refl, sym, ap, ◌∙◌, inl, inr, arith, zero, suc, [], ◌∷◌, ◌++◌, take, drop, get_or}
 use Rattle.std.specs.Prelude.{if◌then◌else◌, slice_get, is_some}
 use Rattle.std.proofs.lemmas.Bool.{eqb-true, eq-eqb, cases_eq, eqb-false}
 use Rattle.std.proofs.lemmas.Option.{same_Some}
 use Rattle.type_spec.specs.Interned.{Interned, Span, with_group, opened, empty, with_exception, with_startup}
 use Rattle.form_types.specs.Types.{TypesData, types_by_id}
 use Rattle.module_types.specs.Builder.{Builder, noted, interns_by, interns, new_builder, BuilderState, builder_view, excepts, starts}
-use Rattle.module_types.specs.Conversion.{group_of_id, members_of, StandsInterned, HasIndex, HoldsGroups}
-use Rattle.module_types.proofs.GroupMembers.{Extends, extends-group, group-within, span-new, span-old}
+use Rattle.module_types.specs.Conversion.{group_of_id, members_of, no_span, kinds_of, HasIndex, HoldsGroup, HoldsGroups}
+use Rattle.module_types.proofs.GroupMembers.{Extends, extends-group, group-within, span-new, span-old, types-apart}
+use Rattle.module_types.proofs.GroupKinds.{same-long, taken-on, taken-behind}
 use Rattle.std.specs.Option.{unwrap_or, option_map}
 use Rattle.entity_map.specs.Secondary.{written}
 use Rattle.entity_map.proofs.SecondaryLemmas.{slice_get-written, slice_get-written_elsewhere}
@@ -73,12 +74,15 @@ noted-here at n k = ap (λ c. if c then Some k else at n) (eq-eqb n n refl)
 pub noted-elsewhere : (at : ℕ → Option ℕ) (n k m : ℕ) → (n ≡ m → ⊥) → noted at n k m ≡ at m
 noted-elsewhere at n k m other = grind arith
 
-module _ (t : TypesData) (b : Builder) (k : ℕ) (ts : List Interned) (holds : HoldsGroups t b) (long : length ts ≡ length (members_of t k)) where
+module _ (t : TypesData) (b : Builder) (k : ℕ) (ts : List Interned) (holds : HoldsGroups t b) (kinds : kinds_of ts ≡ kinds_of (members_of t k)) where
   abbrev later : Builder
   later = interns_by b k ts None
 
-  abbrev StandsLater : ℕ → ℕ → Type 0
-  StandsLater m j = StandsInterned t later.built.groups m j
+  abbrev HoldsLater : ℕ → ℕ → Type 0
+  HoldsLater m j = HoldsGroup t later.built.types later.built.groups m j
+
+  long : length ts ≡ length (members_of t k)
+  long = same-long ts (members_of t k) kinds
 
   x : Extends (opened b.built ts) (with_group b.built ts)
   x = extends-group b.built ts
@@ -86,22 +90,42 @@ module _ (t : TypesData) (b : Builder) (k : ℕ) (ts : List Interned) (holds : H
   longer : length b.built.groups < length later.built.groups
   longer = group-within b.built ts (with_group b.built ts) x
 
-  held-before : (m j : ℕ) → b.ids m ≡ Some j → StandsLater m j
+  held-before : (m j : ℕ) → b.ids m ≡ Some j → HoldsLater m j
   held-before m j e =
-      let s = holds m j e in
+      let h = holds m j e in
+      let s = h.stands in
       let at = span-old b.built ts (with_group b.built ts) x j s.within in
+      let n = length (members_of t m) in
+      let start = (get_or b.built.groups j no_span).start in
+      let there : length (take n (drop start b.built.types)) ≡ n = same-long (take n (drop start b.built.types)) (members_of t m) h.kinds in
       record {
-        within = omega (arith, s.within, longer);
-        whole = omega (arith, s.whole, ap (λ (r : Span). r.start) at, ap (λ (r : Span). r.end) at);
+        stands = record {
+          within = omega (arith, s.within, longer);
+          whole = omega (arith, s.whole, ap (λ (r : Span). r.start) at, ap (λ (r : Span). r.end) at);
+        };
+        kinds = ap kinds_of ((λ i. take n (drop (at i).start (types-apart b.built ts (with_group b.built ts) x i)))
+            ∙ taken-on n start b.built.types (ts ++ x.types_more) there) ∙ h.kinds;
       }
 
-  holds-later : (m j : ℕ) → later.ids m ≡ Some j → StandsLater m j
+  held-new : HoldsLater k (length b.built.groups)
+  held-new =
+      let at = span-new b.built ts (with_group b.built ts) x in
+      let n = length (members_of t k) in
+      record {
+        stands = record {
+          within = longer;
+          whole = omega (arith, long, ap (λ (r : Span). r.start) at, ap (λ (r : Span). r.end) at);
+        };
+        kinds = ap kinds_of ((λ i. take n (drop (at i).start (types-apart b.built ts (with_group b.built ts) x i)))
+            ∙ taken-behind n b.built.types ts x.types_more long) ∙ kinds;
+      }
+
+  holds-later : (m j : ℕ) → later.ids m ≡ Some j → HoldsLater m j
   holds-later m j e =
       elim (cases_eq k m) [
         | inl name ↦
-            let new : StandsLater k (length b.built.groups) = grind (arith, span-new b.built ts (with_group b.built ts) x, x, longer) in
             let place : Some (length b.built.groups) ≡ Some j = sym (noted-here b.ids k (length b.built.groups)) ∙ ap later.ids name ∙ e in
-            coe 0 1 (i. StandsLater (name i) (same_Some (length b.built.groups) j place i)) new
+            coe 0 1 (i. HoldsLater (name i) (same_Some (length b.built.groups) j place i)) held-new
         | inr other ↦ held-before m j (sym (noted-elsewhere b.ids k (length b.built.groups) m other) ∙ e)
       ]
 
@@ -112,7 +136,7 @@ module _ (t : TypesData) (b : Builder) (k : ℕ) (ts : List Interned) (holds : H
       → HasIndex t (length (interns b k ts).built.types) (interns b k ts).built.groups (interns b k ts).ids n
   has-index n within same = record {
     within = within;
-    stands = λ j e. holds-kept (group_of_id t n) j e;
+    stands = λ j e. (holds-kept (group_of_id t n) j e).stands;
     room = λ none. let no : (interns b k ts).ids k ≡ None = ap (λ m. (interns b k ts).ids m) (sym same) ∙ none in absurd (grind arith);
   }
 

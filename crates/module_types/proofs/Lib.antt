@@ -4,6 +4,7 @@ pub mod GroupMembers
 pub mod Chaining
 pub mod Elements
 pub mod Places
+pub mod GroupKinds
 pub mod Convertible
 pub mod Holding
 pub mod Called
@@ -16,5 +17,7 @@ pub mod NamedLists
 pub mod Standing
 pub mod ToldByForms
 pub mod NamingEarlier
+pub mod ListedLists
+pub mod NamedGroups
 pub mod DeclaredGroups
 pub mod SameIndex

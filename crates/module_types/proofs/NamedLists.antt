@@ -203,7 +203,7 @@ module _ (all : List (Group ℕ ℕ)) (number : ℕ → ℕ) (exact : IsExactBel
       well-forms hs (with_group b (form all number h)) (done ++ h ∷ []) x.1 covers.1 (there-more b h x.0 there done found)
       (well-group b (form all number h) (grind (arith, x.0.some, length-map, name_by)) w (next-below b h x.0 there) (next-kinds b h x.0 there))
 
-well-empty : Well [] []
+pub well-empty : Well [] []
 well-empty = record { orderly = refl; earlier = tt; below = All-nil (λ r. r < 0); kinds = refl }
 
 pub well-named : (ms : List (Group ℕ ℕ)) → NameEarlier 0 ms → (tags : List ℕ) (startup : Bool) → IsWellNamed (interned ms tags startup)

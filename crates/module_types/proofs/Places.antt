@@ -1,7 +1,7 @@
 -- The group of an id, the id of its first member, and the index of its type.
-use Rattle.std.proofs.Common.{◌≡◌, ◌≤◌, ◌<◌, ℕ, zero, suc, ◌+◌, ◌-◌, List, [], ◌∷◌, ◌++◌, length, get_or, take, replicate, Some, ap, ◌∙◌, inl, inr, arith, Option, None}
+use Rattle.std.proofs.Common.{◌≡◌, ◌≤◌, ◌<◌, ℕ, zero, suc, ◌+◌, ◌-◌, List, [], ◌∷◌, ◌++◌, length, get_or, take, replicate, Some, refl, ap, ◌∙◌, inl, inr, arith, Option, None}
 use Rattle.std.specs.Prelude.{slice_get, ◌⊎◌}
-use Rattle.std.proofs.lemmas.List.{length-append}
+use Rattle.std.proofs.lemmas.List.{length-append, length-replicate}
 use Rattle.std.proofs.lemmas.Option.{get_or_from_slice_get}
 use Rattle.wasm_spec.specs.declared.types.CoreTypeId.{CoreTypeId}
 use Rattle.form_types.specs.Ids.{ids_from}
@@ -33,6 +33,12 @@ is-in base (g ∷ gs) n k e =
           let long = length-append g (types_by_id (take r.place gs)) in
           record { place = suc r.place; number = omega (arith, r.number); starts = omega (arith, r.starts, p.0, long); within = omega (arith, r.within, p.0, long) }
     ]
+
+-- each id has the number of a group
+pub numbers-long : (base : ℕ) (gs : List NamedGroup) → length (group_numbers base gs) ≡ length (types_by_id gs)
+numbers-long base [] = refl
+numbers-long base (g ∷ gs) =
+    omega (arith, length-append (replicate (length g) base) (group_numbers (base + 1) gs), length-replicate (length g) base, length-append g (types_by_id gs), numbers-long (base + 1) gs)
 
 module _ (t : TypesData) (n k : ℕ) (e : slice_get (group_numbers 0 t.groups) n ≡ Some k) where
   pub group-is : group_of_id t n ≡ k

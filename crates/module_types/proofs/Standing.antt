@@ -11,7 +11,8 @@ use Rattle.type_spec.proofs.ByNames.{name_by, by_names, some_type, joined-kind}
 use Rattle.module_types.specs.Orderly.{LieBetween}
 use Rattle.module_types.specs.Conversion.{no_span}
 use Rattle.module_types.specs.ListGroups.{unkinded, types_in, home_of, list_groups, kind_in, IsWellNamed}
-use Rattle.module_types.proofs.WellNamed.{kind-mapped, AllBelow, groups_of, span-ends, groups-size, types-long, unkinded-long, lie-low}
+use Rattle.module_types.proofs.GroupKinds.{kind-mapped}
+use Rattle.module_types.proofs.WellNamed.{AllBelow, groups_of, span-ends, groups-size, types-long, unkinded-long, lie-low}
 
 -- a group with a number, in spans that begin at an index
 pub record StandsFrom (ts : List Interned) (ss : List Span) (first end : ℕ) (s : Span) : Type 0 where

@@ -6,7 +6,7 @@ use Rattle.std.proofs.lemmas.List.{length-map, map-append, drop-append-le, take-
 use Rattle.std.proofs.Math.Seq.{drop-append_seam, take-length}
 use Rattle.std.proofs.lemmas.List.Concat.{flat_map-append}
 use Rattle.std.proofs.lemmas.List.Elements.{All-append, All-weaker}
-use Rattle.wasm_spec.specs.TypeData.{Group, map_sub_type, group_edges, sub_type_edges, Composite, map_composite}
+use Rattle.wasm_spec.specs.TypeData.{Group, map_sub_type, group_edges, sub_type_edges}
 use Rattle.type_data.specs.Names.{index_of}
 use Rattle.type_spec.specs.Interned.{Interned, Span, kind_of_type}
 use Rattle.type_spec.specs.Taken.{NameEarlier}
@@ -67,10 +67,6 @@ earlier-more (h ∷ gs) g start earlier here =
     (earlier.0, earlier-more gs g (start + length h) earlier.1 (subst (λ n. AllBelow n g) e here))
 
 -- ---- kinds
-
--- replacing names keeps the kind of a type
-pub kind-mapped : {H I R S : Type 0} (h : H → I) (f : R → S) (c : Composite H R) → kind_of_type (map_composite h f c) ≡ kind_of_type c
-kind-mapped h f c = grind arith
 
 -- kinds stay where types are appended
 pub kind-before : (ts us : List Interned) (i : ℕ) → i < length ts → kind_in (ts ++ us) i ≡ kind_in ts i

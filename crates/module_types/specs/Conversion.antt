@@ -1,6 +1,6 @@
 -- What the references of a group become that names types by ids: inside the group the next index plus the place, outside the index of an
 -- interned type.
-use Rattle.std.specs.Prelude.{◌≡◌, ◌<◌, ◌⊎◌, ℕ, ◌+◌, ◌-◌, get_or, List, [], All, length, slice_get, Option, Some, None, IsSome}
+use Rattle.std.specs.Prelude.{◌≡◌, ◌<◌, ◌⊎◌, ℕ, ◌+◌, ◌-◌, get_or, List, [], All, length, map, take, drop, slice_get, Option, Some, None, IsSome}
 use Rattle.wasm_spec.specs.declared.types.UnpackedIndex.{UnpackedIndex}
 use Rattle.wasm_spec.specs.declared.types.UnpackedIndex.TheVariants as index
 use Rattle.wasm_spec.specs.TypeData.{SubType, map_group, group_edges}
@@ -32,10 +32,20 @@ module _ (t : TypesData) where
   abbrev pub members_of : ℕ → NamedGroup
   members_of k = get_or t.groups k []
 
+-- the kinds of types, in order
+module _ {H R : Type 0} where
+  abbrev pub kinds_of : List (SubType H R) → List NameKind
+  kinds_of ts = map (λ (t : SubType H R). kind_of_type t.composite.inner) ts
+
 -- a group stands under its id with all its members
 pub record StandsInterned (t : TypesData) (spans : List Span) (k j : ℕ) : Type 0 where
   pub within : j < length spans
   pub whole : (get_or spans j no_span).end ≡ (get_or spans j no_span).start + length (members_of t k)
+
+-- it stands so, and its members are of the kinds of those in the list of types
+pub record HoldsGroup (t : TypesData) (types : List Interned) (spans : List Span) (k j : ℕ) : Type 0 where
+  pub stands : StandsInterned t spans k j
+  pub kinds : kinds_of (take (length (members_of t k)) (drop (get_or spans j no_span).start types)) ≡ kinds_of (members_of t k)
 
 -- a list of types by ids; the next index, the indices of each interned group, and the group that was interned under each id of a group
 module _ (t : TypesData) (next : ℕ) (spans : List Span) (ids : ℕ → Option ℕ) where
@@ -80,9 +90,13 @@ module _ (t : TypesData) (b : Builder) where
   abbrev pub interned_index : ℕ → ℕ
   interned_index n = index_by_id t (length b.built.types) b.built.groups b.ids n
 
+  -- each group that the builder holds stands under its id with as many members as in the list of types
+  abbrev pub StandGroups : Type 0
+  StandGroups = (k j : ℕ) → b.ids k ≡ Some j → StandsInterned t b.built.groups k j
+
   -- each id of a group that the builder holds names in the list of types the group that was interned under it
   abbrev pub HoldsGroups : Type 0
-  HoldsGroups = (k j : ℕ) → b.ids k ≡ Some j → StandsInterned t b.built.groups k j
+  HoldsGroups = (k j : ℕ) → b.ids k ≡ Some j → HoldsGroup t b.built.types b.built.groups k j
 
   -- the groups that a group names outside itself are interned
   abbrev pub NamesInterned : ℕ → Type 0

@@ -15,7 +15,7 @@ use Rattle.wasm_index.specs.Index.{number_of, index_of}
 use Rattle.wasm_types.specs.ValueViews.{Name}
 use Rattle.module_types.specs.Views.{TypeIndex, index_at, interned_of}
 use Rattle.module_types.specs.Builder.{BuilderState, builder_view}
-use Rattle.module_types.specs.Conversion.{group_of_id, members_of, look_by_id, StandsInterned, HoldsGroups}
+use Rattle.module_types.specs.Conversion.{group_of_id, members_of, look_by_id, StandsInterned, StandGroups}
 use Rattle.module_types.specs.ClosureAnswers.{AnswersBelow}
 
 -- what the interned type at an index is named by
@@ -38,11 +38,11 @@ abbrev pub look_ids : BuilderState → Option TypesAndGroup → UnpackedIndex �
 look_ids b None i = interned_name b 0
 look_ids b (Some p) i = look_by_id p.0 (length b.list.types) (builder_view b).built.groups (builder_view b).ids i
 
--- each id of a group that the builder holds names the group that was interned under it; and the one group, if it is not held, has room
+-- each group that the builder holds stands under its id with all its members; and the one group, if it is not held, has room
 abbrev pub HaveIndices : BuilderState → Option TypesAndGroup → Type 0
 HaveIndices b None = Unit {0}
 HaveIndices b (Some p) =
-    HoldsGroups p.0 (builder_view b)
+    StandGroups p.0 (builder_view b)
     × ((builder_view b).ids p.1 ≡ None → length b.list.types + length (members_of p.0 p.1) < 4294967295)
 
 stands-prop : (t : TypesData) (spans : List Span) (k j : ℕ) (x y : StandsInterned t spans k j) → x ≡ y

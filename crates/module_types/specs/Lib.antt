@@ -16,4 +16,5 @@ pub mod ClosureAnswers
 pub mod Converter
 pub mod Tied
 pub mod ListGroups
+pub mod Listed
 pub mod InTurn

@@ -43,7 +43,8 @@ pub struct ModuleTypesBuilder {
 impl Model for ModuleTypesBuilder {
     ghost use Rattle.std.specs.Prelude.{◌≡◌, false};
     ghost use Rattle.module_types.specs.Met.{entries_of, mets};
-    ghost use Rattle.module_types.specs.Interner.{IsSound};
+    ghost use Rattle.module_types.specs.Interner.{IsSound, built};
+    ghost use Rattle.module_types.specs.Listed.{MayBeListed};
     ghost use Rattle.module_types.specs.Builder.{BuilderState};
 
     ghost Value = { BuilderState };
@@ -58,11 +59,12 @@ impl Model for ModuleTypesBuilder {
       is_poisoned = b.poisoned;
     } };
 
-    ghost invariant = { λ b. b.poisoned ≡ false → IsSound b.interner };
+    ghost invariant = { λ b. b.poisoned ≡ false → IsSound b.interner × MayBeListed (built b.interner) };
 }
 
 impl ModuleTypesBuilder {
     ghost use Rattle.module_types.specs.Orderly.{IsOrderly};
+    ghost use Rattle.module_types.specs.Listed.{Listed, IsUnshared, list_of};
     ghost use Rattle.module_types.specs.Builder.{builder_view, new_builder, exception_index, excepts, is_function, startup_index, starts};
 
     /// A builder that holds nothing, for the types of a validator.
@@ -173,11 +175,15 @@ impl ModuleTypesBuilder {
         Ok(())
     }
 
-    /// The list that was built.
+    /// The list that was built: groups one behind another, whose references name types of the same group or of earlier ones, by their kinds.
     pub fn finish(self) -> ModuleTypes
         requires { self.is_poisoned ≡ false }
-        ensures { result ≡ self.list }
+        ensures built { result ≡ self.list }
+        ensures listed { Listed result }
+        ensures unshared { IsUnshared (list_of result).types }
     {
+        let count = self.interner.list.len_types();
+        prove!(count < u32::MAX as usize);
         self.interner.list
     }
 

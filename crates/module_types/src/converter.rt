@@ -15,7 +15,7 @@ ghost use Rattle.wasm_types.specs.ValueViews.{heap_of};
 ghost use Rattle.wasm_types.specs.TypeViews.{composite_of};
 ghost use Rattle.wasm_types.specs.declared.index.EngineOrModuleTypeIndex.TheVariants.{Module};
 ghost use Rattle.module_types.specs.Builder.{builder_view};
-ghost use Rattle.module_types.specs.Conversion.{group_of_id, members_of, HoldsGroups};
+ghost use Rattle.module_types.specs.Conversion.{group_of_id, members_of, StandGroups};
 ghost use Rattle.module_types.specs.ClosureAnswers.{AnswersBelow, AnswersBelow-prop};
 ghost use Rattle.module_types.specs.Converter.{KnowsIndex, look_index, look_ids, answered, HaveIndices, HaveIndices-prop};
 
@@ -90,7 +90,7 @@ impl<'a, F: TypeLookUp> WasmparserTypeConverter<'a, F> {
     /// those of one group, which is interned next unless it is held, at the builder's next index plus their places in
     /// it. It knows no other id.
     pub fn with_rec_group(&mut self, types: &'a Types, rec_group: RecGroupId) -> &Self
-        requires holds { HoldsGroups types.now (builder_view self.old.types.now) }
+        requires holds { StandGroups types.now (builder_view self.old.types.now) }
         requires room { (builder_view self.old.types.now).ids rec_group.0 ≡ None → length self.old.types.now.list.types + length (members_of types.now rec_group.0) < u32.MAX }
         ensures types { result.now.types.now ≡ self.old.types.now }
         ensures count { result.now.count ≡ self.old.count }

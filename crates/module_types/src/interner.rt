@@ -12,6 +12,7 @@ ghost use Rattle.module_types.specs.Builder.{is_function};
 ghost use Rattle.module_types.specs.Conversion.{interned_members};
 ghost use Rattle.module_types.specs.InTurn.{CanIntern};
 ghost use Rattle.module_types.specs.Interner.{built, holding, known, with_next_trampoline, FindsMet, IsSound, IsTrampoline};
+ghost use Rattle.module_types.specs.Listed.{MayBeListed};
 ghost use Rattle.module_types.specs.Met.{digest_of};
 
 use crate::group_converter::GroupConverter;
@@ -207,6 +208,7 @@ impl Interner {
         requires room { length (with_group (built self.old) (interned_members types.now (holding (built self.old) ids.now) id.0)).types < u32.MAX }
         ensures built { OnOk result (built self.new ≡ with_group (built self.old) (interned_members types.now (holding (built self.old) ids.now) id.0)) }
         ensures sound { OnOk result (IsSound self.new) }
+        ensures listed { OnOk result (MayBeListed (built self.old) → MayBeListed (built self.new)) }
     {
         let next = self.list.next_ty();
         let members = types.members(id);

@@ -15,7 +15,7 @@ ghost use Rattle.form_types.specs.Numbered.{AreNumbered};
 ghost use Rattle.module_types.specs.Orderly.{IsOrderly};
 ghost use Rattle.module_types.specs.TypeList.{trampoline_at};
 ghost use Rattle.module_types.specs.Builder.{BuilderState, Builder, builder_view, new_builder, interns, excepts, starts};
-ghost use Rattle.module_types.specs.Conversion.{group_of_id, members_of, interned_index, HoldsGroups};
+ghost use Rattle.module_types.specs.Conversion.{group_of_id, members_of, interned_index, kinds_of, HoldsGroups};
 ghost use Rattle.module_types.specs.Tied.{trampoline_in, HasTrampoline, HaveTrampolines, IsTied};
 ghost use Rattle.module_types.specs.InTurn.{interns_declared, HasTaken, CanIntern};
 ghost use Rattle.module_types.specs.ListGroups.{group_at, list_groups, span_at, IsWellNamed, EngineMap, TellTypes, TellTypesBefore, IsCompared, OneIndex, AreCompared};
@@ -62,11 +62,12 @@ pub fn has_trampoline_law()
     ensures shown { (b : BuilderState) (i : ℕ) → HasTrampoline (builder_view b).built i → IsSome (trampoline_at b.list i) }
 {}
 
-/// After one more group each id that a builder holds names the group that was interned under it, if it did so before.
+/// After one more group each id that a builder holds names the group that was interned under it, if it did so before and the new group
+/// has members of the same kinds.
 pub fn holds_law()
     ensures none { (t : TypesData) (validator : ℕ) → HoldsGroups t (new_builder validator) }
     ensures more { (t : TypesData) (b : Builder) (k : ℕ) (ts : List Interned)
-        → HoldsGroups t b → length ts ≡ length (members_of t k) → HoldsGroups t (interns b k ts) }
+        → HoldsGroups t b → kinds_of ts ≡ kinds_of (members_of t k) → HoldsGroups t (interns b k ts) }
 {}
 
 /// A builder that interned groups in turn holds those whose ids came for the first time, in that order, each with its trampolines.

@@ -8,7 +8,7 @@ use Rattle.module_types.specs.Views.{span_of, interned_of}
 use Rattle.type_registry.specs.declared.error.RegistryError.{RegistryError}
 use Rattle.type_registry.specs.declared.error.RegistryError.TheVariants as refused
 use Rattle.type_registry.specs.Changes.{Plan, begun, plan_group, plan_groups, planned, fresh, registered, size_of, canonical_of, keep_groups, IsFull}
-use Rattle.type_registry.specs.Listed.{Listed, list_of}
+use Rattle.module_types.specs.Listed.{Listed, list_of}
 use Rattle.type_registry.specs.Registry.{Registry, Groups, indices_of, live}
 use Rattle.type_registry.proofs.Leaving.{counted-long}
 use Rattle.type_registry.proofs.PlanGroups.{next-length, length-both, either-planned}

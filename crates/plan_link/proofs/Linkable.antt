@@ -22,7 +22,7 @@ use Rattle.init_plan.specs.declared.translation.ModuleTranslation.{ModuleTransla
 use Rattle.module_environ.specs.Escapes.{escaping}
 use Rattle.module_environ.specs.Translated.{IsTranslated, starts_always}
 use Rattle.module_environ.specs.Translation.{HasSections, HasTypes}
-use Rattle.type_registry.specs.Listed.{Listed}
+use Rattle.module_types.specs.Listed.{Listed}
 use Rattle.type_registry.specs.Registry.{registry_of, count_of}
 use Rattle.type_registry.specs.Keys.{key_number}
 use Rattle.import_match.specs.Linking.{IsTypeBelow, exports_of, wants_of}

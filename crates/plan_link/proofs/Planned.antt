@@ -24,7 +24,7 @@ use Rattle.plan.specs.declared.plan.Plan.{Plan}
 use Rattle.translate.specs.Initialised.{IsInitialised}
 use Rattle.translate.specs.Options.{Options, startup_by, runs}
 use Rattle.translate.specs.Planned.{IsPlanned, nothing_met}
-use Rattle.type_registry.specs.Listed.{Listed, list_of}
+use Rattle.module_types.specs.Listed.{Listed, list_of}
 use Rattle.wasm_types.specs.declared.entity.EntityIndex.{EntityIndex}
 use Rattle.import_match.specs.Linking.{IsTypeBelow}
 use Rattle.import_match.specs.ModuleTypes.{types_of}

@@ -4,7 +4,7 @@ use Rattle.module_types.specs.TypeList.{TypeList}
 use Rattle.type_registry.specs.declared.key.ModuleKey.{ModuleKey}
 use Rattle.type_registry.specs.Keys.{key_number}
 use Rattle.type_registry.specs.Registry.{RegistryState, registry_of, count_of}
-use Rattle.type_registry.specs.Listed.{Listed}
+use Rattle.module_types.specs.Listed.{Listed}
 use Rattle.wasm_module.specs.declared.module.Module.{Module}
 use Rattle.import_match.specs.Linking.{CanExport, CanImport}
 

@@ -5,7 +5,7 @@ ghost use Rattle.type_registry.specs.declared.error.RegistryError.{RegistryError
 ghost use Rattle.type_registry.specs.declared.error.RegistryError.TheVariants as refused;
 ghost use Rattle.type_registry.specs.Keys.{key_number};
 ghost use Rattle.type_registry.specs.Registry.{registry_of, live};
-ghost use Rattle.type_registry.specs.Listed.{Listed};
+ghost use Rattle.module_types.specs.Listed.{Listed};
 ghost use Rattle.type_registry.specs.Standing.{Stands};
 ghost use Rattle.module_types.specs.TypeList.{TypeList};
 ghost use Rattle.plan_link.specs.Registering.{HasRoom};

@@ -1,9 +1,9 @@
 -- Memories as they begin hold what their phase begins with.
-use Rattle.std.proofs.Common.{◌≡◌, ◌≢◌, ℕ, zero, suc, ◌+◌, ◌-◌, ◌<◌, ◌≤◌, List, [], ◌∷◌, ◌++◌, length, map, replicate, Option, None, Some, refl, sym, subst, arith}
+use Rattle.std.proofs.Common.{◌≡◌, ◌≢◌, ℕ, zero, suc, ◌+◌, ◌-◌, ◌<◌, ◌≤◌, Bool, List, [], ◌∷◌, ◌++◌, length, map, replicate, Option, None, Some, refl, sym, ◌∙◌, ap, subst, arith}
 use Rattle.std.specs.Prelude.{slice_get, unwrap_or}
 use Rattle.std.specs.Option.{option_map}
 use Rattle.std.proofs.lemmas.List.{length-map, length-replicate, get_or_append_left}
-use Rattle.std.proofs.lemmas.Option.{none-some, slice_get-map, slice_get-get_or, slice_get_past, get_or_from_slice_get}
+use Rattle.std.proofs.lemmas.Option.{none-some, same_Some, slice_get-map, slice_get-get_or, slice_get_within, slice_get_past, get_or_from_slice_get}
 use Rattle.wasm_spec.specs.Module.{Expression}
 use Rattle.wasm_types.specs.declared.memory.Memory.{Memory}
 use Rattle.wasm_types.specs.Memories.{minimum_bytes}
@@ -11,11 +11,11 @@ use Rattle.replay_spec.specs.Phases.{Piece, item_at, last_item}
 use Rattle.replay_spec.specs.Data.{memory_sizes, memory_base}
 use Rattle.replay_spec.specs.Plan.{MemoryPlan, runtime_bytes, image_pieces}
 use Rattle.replay_spec.proofs.Covering.{item-cover}
-use Rattle.paged_memory.specs.Memory.{Contents, count_lent}
+use Rattle.paged_memory.specs.Memory.{Contents}
 use Rattle.plan_run.specs.declared.laid.Way.{Way}
 use Rattle.plan_run.specs.declared.laid.Way.TheVariants as way
 use Rattle.plan_run.specs.Lays.{Hold}
-use Rattle.plan_run.specs.Memories.{bytes_in, plan_phase, image_in, first_bytes, image_pages, seen, begun, ImageIsWithin, ImagesAreWithin}
+use Rattle.plan_run.specs.Memories.{bytes_in, plan_phase, image_in, first_bytes, first_lent, seen, begun, ImageIsWithin, ImagesAreWithin}
 use Rattle.plan_run.proofs.Lists.{get-replicate, get-append-low, get-append-high, each-half}
 use Rattle.plan_run.proofs.Writing.{written-item, length-written}
 
@@ -50,7 +50,7 @@ module _ (plan : MemoryPlan) where
   images-at (Some image ∷ images) n (suc j) object place d is = grind (arith, item-elsewhere, (images-at images (n + 1) j object place d (omega arith)))
 
   -- what a phase begins with: the contents of an imported memory or zeros, and an image
-  base-is : (w : Way) (place_of : Expression → ℕ) (imported : List (List ℕ)) (object place : ℕ)
+  pub base-is : (w : Way) (place_of : Expression → ℕ) (imported : List (List ℕ)) (object place : ℕ)
       → (plan_phase w place_of imported plan).base object place ≡ laid_over (image_in w plan object) object place (memory_base imported object place)
   base-is way.Map place_of imported object place = images-at plan.images 0 object object place (memory_base imported object place) (omega arith)
   base-is way.Copy place_of imported object place = refl
@@ -76,8 +76,8 @@ first-item page size object place (Some image) within l =
 -- ---- all
 
 module _ (w : Way) (plan : MemoryPlan) (page : ℕ) where
-  begun-at : (n j : ℕ) (ms : List Memory) (p : List ℕ × ℕ) → slice_get (begun w plan page n ms) j ≡ Some p
-      → (m : Memory) × (slice_get ms j ≡ Some m) × (p ≡ (first_bytes (minimum_bytes m) (image_in w plan (n + j)), image_pages page (image_in w plan (n + j))))
+  begun-at : (n j : ℕ) (ms : List Memory) (p : List ℕ × ℕ × List Bool) → slice_get (begun w plan page n ms) j ≡ Some p
+      → (m : Memory) × (slice_get ms j ≡ Some m) × (p ≡ (first_bytes (minimum_bytes m) (image_in w plan (n + j)), page, first_lent page (minimum_bytes m) (image_in w plan (n + j))))
   begun-at n j [] p at = absurd (none-some p at)
   begun-at n zero (m ∷ ms) p at = (m, refl, grind arith)
   begun-at n (suc j) (m ∷ ms) p at = grind (arith, (begun-at (n + 1) j ms p at))
@@ -101,10 +101,20 @@ module _ (w : Way) (plan : MemoryPlan) (page : ℕ) where
     memory-at : (i : ℕ) (object : List ℕ) → slice_get (bytes_in memories) i ≡ Some object → (memory : Contents) × (slice_get memories i ≡ Some memory) × (memory.bytes ≡ object)
     memory-at i object at = grind (arith, slice_get-map)
 
-    -- the pages that a defined memory lends
-    pub begun-lent : (i : ℕ) (memory : Contents) → length imported ≤ i → slice_get memories i ≡ Some memory → count_lent memory.lent ≡ image_pages page (image_in w plan i)
-    begun-lent i memory high at =
-        grind (arith, seen-high (i - length imported) memory, begun-at (length imported) (i - length imported) ms (seen memory))
+    -- an imported memory is what it was
+    pub begun-same : (i : ℕ) (before memory : Contents) → slice_get imported i ≡ Some before → slice_get memories i ≡ Some memory → seen memory ≡ seen before
+    begun-same i before memory was at =
+        same_Some (seen memory) (seen before) (sym (seen-low i memory (slice_get_within imported i before was) at) ∙ slice_get-map seen imported i ∙ ap (option_map seen) was)
+
+    -- the pages of a defined memory
+    pub begun-pages : (i : ℕ) (memory : Contents) → length imported ≤ i → slice_get memories i ≡ Some memory
+        → (m : Memory) × (slice_get ms (i - length imported) ≡ Some m) × (memory.page ≡ page) × (memory.lent ≡ first_lent page (minimum_bytes m) (image_in w plan i))
+    begun-pages i memory high at =
+        let j = i - length imported in
+        let is : length imported + j ≡ i = omega arith in
+        let found = begun-at (length imported) j ms (seen memory) (seen-high j memory (ap (slice_get memories) is ∙ at)) in
+        let lent : memory.lent ≡ first_lent page (minimum_bytes found.0) (image_in w plan (length imported + j)) = ap (λ (s : List ℕ × ℕ × List Bool). s.2) found.2 in
+        (found.0, found.1, ap (λ (s : List ℕ × ℕ × List Bool). s.1) found.2, lent ∙ ap (λ k. first_lent page (minimum_bytes found.0) (image_in w plan k)) is)
 
     module _ (place_of : Expression → ℕ) (sizes : plan.sizes ≡ map minimum_bytes ms) (none : (i : ℕ) → i < length imported → image_in w plan i ≡ None)
         (within : ImagesAreWithin w plan page (length imported) ms) where

@@ -1,14 +1,14 @@
 -- What a finished translation gives its parts.
-use Rattle.std.proofs.Common.{◌≡◌, ℕ, suc, ◌+◌, ◌-◌, ◌^◌, ◌<◌, ◌≤◌, List, [], ◌∷◌, ◌++◌, length, map, get_or, Option, None, Some, refl, ap, arith}
+use Rattle.std.proofs.Common.{◌≡◌, ℕ, suc, ◌+◌, ◌-◌, ◌^◌, ◌<◌, ◌≤◌, Bool, false, List, [], ◌∷◌, ◌++◌, length, map, get_or, Option, None, Some, refl, sym, ◌∙◌, ap, arith}
 use Rattle.std.specs.Prelude.{slice_get, sum_by, All}
 use Rattle.std.proofs.lemmas.List.{length-map, length-append, length-drop}
 use Rattle.std.proofs.lemmas.List.Elements.{All-nil, All-cons, All-head, All-tail, All-map}
 use Rattle.std.proofs.lemmas.List.Sums.{get_or-le-sum_by}
-use Rattle.std.proofs.lemmas.Option.{slice_get-get_or, slice_get_within}
+use Rattle.std.proofs.lemmas.Option.{slice_get-get_or, slice_get_within, same_Some, none-some}
 use Rattle.wasm_spec.specs.Module.{Expression}
 use Rattle.wasm_types.specs.declared.memory.Memory.{Memory}
 use Rattle.wasm_types.specs.Memories.{minimum_bytes}
-use Rattle.replay_spec.specs.Phases.{Piece}
+use Rattle.replay_spec.specs.Phases.{Piece, Phase, before_trap}
 use Rattle.replay_spec.specs.Plan.{MemoryPlan, PlannedSegment, PlannedOffset}
 use Rattle.replay_spec.specs.Elements.{ActiveElements, elements_piece}
 use Rattle.replay_spec.specs.Values as plain
@@ -21,18 +21,19 @@ use Rattle.plan_run.specs.declared.elements.ElementPiece.{ElementPiece}
 use Rattle.plan_run.specs.declared.segments.DataPiece.{DataPiece}
 use Rattle.init_plan.specs.declared.translation.ModuleTranslation.{ModuleTranslation}
 use Rattle.init_plan.specs.Views.{memory_plan_of}
-use Rattle.paged_memory.specs.Memory.{Contents}
+use Rattle.paged_memory.specs.Memory.{Contents, count_lent}
 use Rattle.form_types.proofs.AllOf.{All-from_map}
 use Rattle.plan_run.specs.declared.laid.Way.{Way}
 use Rattle.plan_run.specs.declared.laid.Way.TheVariants as way
 use Rattle.plan_run.specs.Finished.{Finished, IsStatic}
-use Rattle.plan_run.specs.Laid.{LendImages}
+use Rattle.plan_run.specs.Laid.{LendsImage, PagesAreLent, LendImages}
 use Rattle.plan_run.specs.Lays.{Hold}
 use Rattle.plan_run.specs.Limits.{most_bytes, page_size_of, own_memories}
-use Rattle.plan_run.specs.Memories.{bytes_in, plan_phase, data_piece, image_in, begun, seen, ImageIsWithin, ImagesAreWithin}
-use Rattle.plan_run.specs.Segments.{left_pieces, LendNoMore}
+use Rattle.plan_run.specs.Memories.{bytes_in, plan_phase, data_piece, image_in, image_pages, is_of_image, lends, begun, seen, ImageIsWithin, ImagesAreWithin}
+use Rattle.plan_run.specs.Segments.{left_pieces, still_lent, LendOn}
 use Rattle.plan_run.specs.Tables.{element_piece}
-use Rattle.plan_run.proofs.Begun.{within-at, begun-hold, begun-lent}
+use Rattle.plan_run.proofs.Begun.{within-at, begun-hold, begun-same, begun-pages}
+use Rattle.plan_run.proofs.LentPages.{still-none, first-lends, first-count, count-empty}
 use Rattle.plan_run.proofs.Lists.{get-drop}
 
 -- ---- memories
@@ -108,10 +109,84 @@ module _ (t : ModuleTranslation) (f : Finished t) (w : Way) (place_of : Expressi
   alone-at : (i : ℕ) (image : ℕ × List ℕ) → image_in way.Map (memory_plan_of t) i ≡ Some image → All (λ s. IsStatic s.offset) (memory_plan_of t).segments
   alone-at i image is = grind arith
 
-  pub shared-after : (new : List Contents) → LendNoMore memories new → (left_pieces w place_of (memory_plan_of t) (memory_plan_of t).segments ≡ [] → new ≡ memories) → LendImages t w new
-  shared-after new less still i memory at high =
-      let lent = begun-lent w (memory_plan_of t) (page_size_of t) imported memories (own_memories t) are-so i (get_or memories i memory) in
-      grind (arith, slice_get_within new i memory at, less.count, slice_get-get_or memories i memory, alone-at, none-left)
+  -- where there is an image, no memory is written to
+  none-kept : (v : Way) (i : ℕ) (image : ℕ × List ℕ) → image_in v (memory_plan_of t) i ≡ Some image → left_pieces v place_of (memory_plan_of t) (memory_plan_of t).segments ≡ []
+  none-kept way.Map i image is = none-left place_of (memory_plan_of t) (memory_plan_of t).segments (alone-at i image is)
+  none-kept way.Copy i image is = absurd (none-some image is)
+
+  abbrev phase : Phase ℕ
+  phase = plan_phase w place_of (bytes_in imported) (memory_plan_of t)
+
+  abbrev image_at : ℕ → Option (ℕ × List ℕ)
+  image_at i = image_in w (memory_plan_of t) i
+
+  -- memories to which the rest is written
+  module _ (new : List Contents) (count : length new ≡ length memories) (on : LendOn phase memories new)
+      (still : left_pieces w place_of (memory_plan_of t) (memory_plan_of t).segments ≡ [] → new ≡ memories) where
+    began : (i : ℕ) (memory : Contents) → slice_get new i ≡ Some memory → slice_get memories i ≡ Some (get_or memories i memory)
+    began i memory at = slice_get-get_or memories i memory (omega (arith, count, slice_get_within new i memory at))
+
+    as-began : (i : ℕ) (memory : Contents) (image : ℕ × List ℕ) → slice_get new i ≡ Some memory → image_at i ≡ Some image → memory ≡ get_or memories i memory
+    as-began i memory image at is =
+        same_Some memory (get_or memories i memory) (sym at ∙ ap (λ (l : List Contents). slice_get l i) (still (none-kept w i image is)) ∙ began i memory at)
+
+    lends-begun : (i page : ℕ) (memory : Contents) → t.module.num_imported_memories ≤ i → slice_get memories i ≡ Some memory
+        → lends memory page ≡ is_of_image (page_size_of t) (image_at i) page
+    lends-begun i page memory high at =
+        let b = begun-pages w (memory_plan_of t) (page_size_of t) imported memories (own_memories t) are-so i memory (omega (arith, many)) at in
+        let is : i ≡ t.module.num_imported_memories + (i - length imported) = omega (arith, many) in
+        let found : slice_get t.module.memories i ≡ Some b.0 =
+        ap (slice_get t.module.memories) is ∙ sym (get-drop t.module.num_imported_memories t.module.memories (i - length imported)) ∙ b.1 in
+        ap (λ (l : List Bool). get_or l page false) b.3
+        ∙ first-lends (page_size_of t) (minimum_bytes b.0) (image_at i) page f.memories.page (within-one t f w i b.0 found)
+
+    module _ (i : ℕ) (memory : Contents) (at : slice_get new i ≡ Some memory) (high : t.module.num_imported_memories ≤ i) where
+      abbrev before : Contents
+      before = get_or memories i memory
+
+      -- with no image no page is lent, and with one the memory is what it was
+      lends-by : (image : Option (ℕ × List ℕ)) → image_at i ≡ image → (page : ℕ) → lends memory page ≡ is_of_image (page_size_of t) image page
+      lends-by None none page =
+          on.lent i page before memory (began i memory at) at
+          ∙ ap (λ b. still_lent before.page i page b (before_trap phase.sizes phase.pieces))
+          (lends-begun i page before high (began i memory at) ∙ ap (λ (o : Option (ℕ × List ℕ)). is_of_image (page_size_of t) o page) none)
+          ∙ still-none before.page i page (before_trap phase.sizes phase.pieces)
+      lends-by (Some image) is page =
+          ap (λ (m : Contents). lends m page) (as-began i memory image at is) ∙ lends-begun i page before high (began i memory at)
+          ∙ ap (λ (o : Option (ℕ × List ℕ)). is_of_image (page_size_of t) o page) is
+
+      defined-lend : LendsImage (page_size_of t) (image_at i) memory
+      defined-lend = record {
+        page_size = on.sizes i before memory (began i memory at) at
+            ∙ (begun-pages w (memory_plan_of t) (page_size_of t) imported memories (own_memories t) are-so i before (omega (arith, many)) (began i memory at)).2;
+        lent = lends-by (image_at i) refl;
+      }
+
+      count-by : (image : Option (ℕ × List ℕ)) → image_at i ≡ image → count_lent memory.lent ≡ image_pages (page_size_of t) image
+      count-by None none = count-empty memory.lent (lends-by None none)
+      count-by (Some image) is =
+          let b = begun-pages w (memory_plan_of t) (page_size_of t) imported memories (own_memories t) are-so i before (omega (arith, many)) (began i memory at) in
+          ap (λ (m : Contents). count_lent m.lent) (as-began i memory image at is) ∙ ap count_lent b.3
+          ∙ first-count (page_size_of t) (minimum_bytes b.0) (image_at i) ∙ ap (image_pages (page_size_of t)) is
+
+    imports-lend : LendOn phase imported new
+    imports-lend = record {
+      sizes = λ i before after was is.
+          let mid : Contents = get_or memories i after in
+          on.sizes i mid after (began i after is) is
+          ∙ ap (λ (s : List ℕ × ℕ × List Bool). s.1) (begun-same w (memory_plan_of t) (page_size_of t) imported memories (own_memories t) are-so i before mid was (began i after is));
+      lent = λ i page before after was is.
+          let mid : Contents = get_or memories i after in
+          on.lent i page mid after (began i after is) is
+          ∙ ap (λ (s : List ℕ × ℕ × List Bool). still_lent s.1 i page (get_or s.2 page false) (before_trap phase.sizes phase.pieces))
+          (begun-same w (memory_plan_of t) (page_size_of t) imported memories (own_memories t) are-so i before mid was (began i after is));
+    }
+
+    pub pages-lent : PagesAreLent t w phase imported new
+    pages-lent = record { defined = defined-lend; imports = imports-lend }
+
+    pub shared-after : LendImages t w new
+    shared-after i memory at high = count-by i memory at high (image_at i) refl
 
 pub nil-mapped : {A B : Type 0} (f : A → B) (xs : List A) → map f xs ≡ [] → xs ≡ []
 nil-mapped f [] is = refl

@@ -4,10 +4,12 @@ pub mod CellSteps
 pub mod Conversions
 pub mod FirstCells
 pub mod LeftSteps
+pub mod LentPages
 pub mod Lists
 pub mod Machine
 pub mod OneMore
 pub mod PieceSteps
+pub mod Overlap
 pub mod Pieces
 pub mod Terms
 pub mod Tested

@@ -1,5 +1,5 @@
 -- What is laid of a translation, over imports.
-use Rattle.std.specs.Prelude.{◌≡◌, ℕ, ◌≤◌, List, length, map, Some, slice_get}
+use Rattle.std.specs.Prelude.{◌≡◌, ℕ, ◌≤◌, List, length, map, Option, Some, slice_get, All}
 use Rattle.module_types.specs.TypeList.{TypeList}
 use Rattle.replay_spec.specs.Values as plain
 use Rattle.replay_spec.specs.Values.{offset_over}
@@ -17,9 +17,10 @@ use Rattle.plan_run.specs.declared.laid.Way.{Way}
 use Rattle.plan_run.specs.Fields.{field_count_in}
 use Rattle.plan_run.specs.Lays.{Lays}
 use Rattle.plan_run.specs.Limits.{page_size_of}
-use Rattle.plan_run.specs.Memories.{bytes_in, plan_phase, image_in, image_pages}
-use Rattle.plan_run.specs.Tables.{cells_in}
-use Rattle.plan_run.specs.Values.{values_in, terms_of, imported_value}
+use Rattle.plan_run.specs.Memories.{bytes_in, plan_phase, image_in, image_pages, is_of_image, lends}
+use Rattle.plan_run.specs.Segments.{LendOn}
+use Rattle.plan_run.specs.Tables.{cells_in, TablesBelow}
+use Rattle.plan_run.specs.Values.{values_in, terms_of, imported_value, NamesBelow}
 
 -- ---- what is imported
 
@@ -61,7 +62,23 @@ MemoriesAreLaid t types w imports laid = Lays (data_phase t types w imports) (le
 abbrev pub TablesAreLaid : ModuleTranslation → TypeList → Imports → Laid → Type 0
 TablesAreLaid t types imports laid = Lays (element_phase t types imports) (length t.module.tables) (laid_tables laid) laid.table_trap
 
--- each defined memory lends the pages of the image that it begins with, and no other
+-- each value of the globals and tables names only a node that there is
+pub record NamesNodes (laid : Laid) : Type 0 where
+  pub globals : All (NamesBelow (length laid.nodes.items)) laid.globals.items
+  pub tables : TablesBelow (length laid.nodes.items) laid.tables.items
+
+-- a memory has pages of this size, and lends exactly those of an image
+pub record LendsImage (size : ℕ) (image : Option (ℕ × List ℕ)) (memory : Contents) : Type 0 where
+  pub page_size : memory.page ≡ size
+  pub lent : (page : ℕ) → lends memory page ≡ is_of_image size image page
+
+-- defined memories lend the images that they begin with; imported memories lend what they lent, but for the pages that the phase is written to
+pub record PagesAreLent (t : ModuleTranslation) (w : Way) (phase : Phase ℕ) (imported memories : List Contents) : Type 0 where
+  pub defined : (i : ℕ) (memory : Contents) → slice_get memories i ≡ Some memory → t.module.num_imported_memories ≤ i
+      → LendsImage (page_size_of t) (image_in w (memory_plan_of t) i) memory
+  pub imports : LendOn phase imported memories
+
+-- how many pages each defined memory lends: those of the image that it begins with
 abbrev pub LendImages : ModuleTranslation → Way → List Contents → Type 0
 LendImages t w memories = (i : ℕ) (memory : Contents) → slice_get memories i ≡ Some memory → t.module.num_imported_memories ≤ i
     → count_lent memory.lent ≡ image_pages (page_size_of t) (image_in w (memory_plan_of t) i)

@@ -10,3 +10,4 @@ pub mod Nodes
 pub mod Segments
 pub mod Tables
 pub mod Values
+pub mod Worked

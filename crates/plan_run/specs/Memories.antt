@@ -1,12 +1,12 @@
 -- Memories as a plan begins them, and what is left to be written.
-use Rattle.std.specs.Prelude.{◌≡◌, ℕ, ◌+◌, ◌/◌, ◌%◌, ◌≤◌, List, [], ◌∷◌, length, map, replicate, Option, Some, None, slice_get, unwrap_or}
+use Rattle.std.specs.Prelude.{◌≡◌, ℕ, ◌+◌, ◌*◌, ◌/◌, ◌%◌, ◌≤◌, Bool, false, nat_le, nat_lt, ◌&&◌, slice_index_or, List, [], ◌∷◌, length, map, replicate, Option, Some, None, slice_get, unwrap_or}
 use Rattle.std.specs.Option.{option_map}
 use Rattle.wasm_spec.specs.Module.{Expression}
 use Rattle.wasm_types.specs.declared.memory.Memory.{Memory}
 use Rattle.wasm_types.specs.Memories.{minimum_bytes}
 use Rattle.replay_spec.specs.Phases.{Phase, Piece}
 use Rattle.replay_spec.specs.Plan.{MemoryPlan, PlannedOffset, Expr, Static, runtime_bytes, phase_by_map, phase_by_list}
-use Rattle.paged_memory.specs.Memory.{Contents, count_lent}
+use Rattle.paged_memory.specs.Memory.{Contents, page_count, as_lent}
 use Rattle.paged_memory.specs.Writing.{written}
 use Rattle.plan_run.specs.declared.laid.Way.{Way}
 use Rattle.plan_run.specs.declared.laid.Way.TheVariants as way
@@ -41,14 +41,29 @@ abbrev pub image_pages : ℕ → Option (ℕ × List ℕ) → ℕ
 image_pages page None = 0
 image_pages page (Some image) = length image.1 / page
 
--- of a memory, its bytes and how many of its pages are lent
-abbrev pub seen : Contents → List ℕ × ℕ
-seen memory = (memory.bytes, count_lent memory.lent)
+-- of the pages that hold so many bytes, those of an image are lent
+abbrev pub first_lent : ℕ → ℕ → Option (ℕ × List ℕ) → List Bool
+first_lent page size None = replicate (page_count page size) false
+first_lent page size (Some image) = as_lent (image.0 / page) (length image.1 / page) (replicate (page_count page size) false)
+
+-- whether a page of so many bytes is one of an image: it begins in it
+abbrev pub is_of_image : ℕ → Option (ℕ × List ℕ) → ℕ → Bool
+is_of_image size None page = false
+is_of_image size (Some image) page = nat_le image.0 (page * size) && nat_lt (page * size) (image.0 + length image.1)
+
+-- whether a page of a memory is lent; one that it does not have is not
+abbrev pub lends : Contents → ℕ → Bool
+lends memory page = slice_index_or memory.lent page false
+
+-- of a memory, its bytes, how many bytes a page has, and which of the pages are lent
+abbrev pub seen : Contents → List ℕ × ℕ × List Bool
+seen memory = (memory.bytes, memory.page, memory.lent)
 
 -- the same of defined memories as they begin, of which the first has that number
-abbrev pub begun : Way → MemoryPlan → ℕ → ℕ → List Memory → List (List ℕ × ℕ)
+abbrev pub begun : Way → MemoryPlan → ℕ → ℕ → List Memory → List (List ℕ × ℕ × List Bool)
 begun w plan page n [] = []
-begun w plan page n (m ∷ ms) = (first_bytes (minimum_bytes m) (image_in w plan n), image_pages page (image_in w plan n)) ∷ begun w plan page (n + 1) ms
+begun w plan page n (m ∷ ms) =
+    (first_bytes (minimum_bytes m) (image_in w plan n), page, first_lent page (minimum_bytes m) (image_in w plan n)) ∷ begun w plan page (n + 1) ms
 
 -- the images of memories of which the first has that number
 abbrev pub ImagesAreWithin : Way → MemoryPlan → ℕ → ℕ → List Memory → Type 0

@@ -16,6 +16,7 @@ mod simple;
 mod tables;
 mod value;
 mod whole;
+mod worked;
 
 pub use finished::is_finished;
 pub use laid::{Imports, Laid, LayError, Way};
@@ -24,3 +25,4 @@ pub use limits::{MOST_BYTES, MOST_CELLS, MOST_PAGES};
 pub use paged_memory::PagedMemory;
 pub use value::{Node, Value};
 pub use whole::lay;
+pub use worked::lent_image_is_written_over;

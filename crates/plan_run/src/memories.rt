@@ -8,8 +8,7 @@ ghost use Rattle.replay_spec.specs.Plan.{runtime_bytes};
 ghost use Rattle.init_plan.specs.Views.{memory_plan_of};
 ghost use Rattle.plan_run.specs.declared.laid.Way.TheVariants.{Map};
 ghost use Rattle.plan_run.specs.Limits.{page_size_of, own_memories};
-ghost use Rattle.plan_run.specs.Memories.{image_in, first_bytes, image_pages, seen, begun, ImageIsWithin, ImagesAreWithin};
-ghost use Rattle.paged_memory.specs.Memory.{count_lent};
+ghost use Rattle.plan_run.specs.Memories.{image_in, first_bytes, first_lent, seen, begun, ImageIsWithin, ImagesAreWithin};
 
 use crate::laid::Way;
 use crate::limits::{minimum_size, page_size};
@@ -70,6 +69,7 @@ fn image_of<'t>(
 }
 
 /// A memory as it begins: zeros, and an image.
+#[tactic(auto, using(crate::proofs::LentPages::empty_image))]
 fn first_memory<'t>(
     alloc: Global,
     memory: &Memory,
@@ -81,7 +81,8 @@ fn first_memory<'t>(
     requires small { minimum_bytes memory.now < 2 ^ 64 }
     requires within { ImageIsWithin page (minimum_bytes memory.now) (option_map (λ image. (image.0, image.1.now)) image) }
     ensures bytes { IfOk result (λ m. m.bytes ≡ first_bytes (minimum_bytes memory.now) (option_map (λ image. (image.0, image.1.now)) image.entry)) }
-    ensures lent { IfOk result (λ m. count_lent m.lent ≡ image_pages page (option_map (λ image. (image.0, image.1.now)) image.entry)) }
+    ensures page { IfOk result (λ m. m.page ≡ page) }
+    ensures lent { IfOk result (λ m. m.lent ≡ first_lent page (minimum_bytes memory.now) (option_map (λ image. (image.0, image.1.now)) image.entry)) }
 {
     let size = minimum_size(memory) as u64;
     match image {

@@ -13,7 +13,7 @@ ghost use Rattle.plan_run.specs.Fields.{field_count_in};
 ghost use Rattle.plan_run.specs.Lays.{Lays, Hold};
 ghost use Rattle.plan_run.specs.Memories.{bytes_in, plan_phase, left_place, data_piece};
 ghost use Rattle.plan_run.specs.Nodes.{Grows};
-ghost use Rattle.plan_run.specs.Segments.{left_piece, left_pieces, WritesPiece, LendNoMore};
+ghost use Rattle.plan_run.specs.Segments.{left_piece, left_pieces, WritesPiece, LendAfter, LendOn};
 ghost use Rattle.plan_run.specs.Values.{values_in, terms_of, NamesBelow, AreOrdered};
 
 use crate::evaluation::offset_of;
@@ -132,7 +132,7 @@ fn write_piece(
 ) -> Result<bool, OutOfMemory>
     requires { piece.now.memory < length memories.old.items }
     ensures writes { IfOk result (WritesPiece (data_piece piece.now) (bytes_in memories.old.items) (bytes_in memories.new.items)) }
-    ensures lent { OnOk result (LendNoMore memories.old.items memories.new.items) }
+    ensures lent { IfOk result (LendAfter (data_piece piece.now) memories.old.items memories.new.items) }
 {
     let memory = &memories[piece.memory];
     if !is_within(memory.len(), piece.place, piece.bytes.len() as u64) {
@@ -150,7 +150,8 @@ pub(crate) fn write_pieces(
     requires { All (λ p. p.memory < length memories.old.items) pieces.now }
     ensures writes { IfOk result (λ trapped. (phase : Phase ℕ) → phase.pieces ≡ map data_piece pieces.now → Hold phase.sizes phase.base (bytes_in memories.old.items)
         → Lays phase (length memories.old.items) (bytes_in memories.new.items) trapped) }
-    ensures lent { OnOk result (LendNoMore memories.old.items memories.new.items) }
+    ensures lent { OnOk result ((phase : Phase ℕ) → phase.pieces ≡ map data_piece pieces.now → Hold phase.sizes phase.base (bytes_in memories.old.items)
+        → LendOn phase memories.old.items memories.new.items) }
     ensures still { pieces.now ≡ [] → OnOk result (memories.new ≡ memories.old) }
 {
     for i in 0..pieces.len() {

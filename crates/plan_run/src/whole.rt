@@ -3,12 +3,12 @@
 ghost use Rattle.std.specs.Prelude.{◌≡◌, ◌↔◌, ◌⊎◌, ◌++◌, ◌≤◌, ◌<◌, ◌^◌, length, map, All, IfOk, OnOk};
 ghost use Rattle.std.specs.declared.result.Result.TheVariants.{Err};
 ghost use Rattle.plan_run.specs.Finished.{Finished};
-ghost use Rattle.plan_run.specs.Laid.{GlobalsAreLaid, MemoriesAreLaid, TablesAreLaid, LendImages};
+ghost use Rattle.plan_run.specs.Laid.{data_phase, GlobalsAreLaid, MemoriesAreLaid, TablesAreLaid, NamesNodes, PagesAreLent, LendImages};
 ghost use Rattle.plan_run.specs.Limits.{IsTooLarge};
 ghost use Rattle.plan_run.specs.Lays.{Lays};
 ghost use Rattle.plan_run.specs.Memories.{bytes_in, plan_phase};
 ghost use Rattle.plan_run.specs.Nodes.{Grows};
-ghost use Rattle.plan_run.specs.Tables.{cells_in};
+ghost use Rattle.plan_run.specs.Tables.{cells_in, TablesBelow};
 ghost use Rattle.plan_run.specs.Values.{values_in, terms_of, imported_value, IsPlain, NamesBelow, AreOrdered};
 ghost use Rattle.plan_run.specs.Fields.{field_count_in};
 ghost use Rattle.init_plan.specs.Views.{memory_plan_of};
@@ -49,6 +49,9 @@ fn lay_memories<'t>(
     ensures laid { IfOk result (λ laid. Lays (plan_phase way
         (offset_over (values_in (terms_of nodes.old.items) globals.now) (field_count_in translation.now types.now)) (bytes_in imported.entry.items)
         (memory_plan_of translation.now)) (length translation.now.module.memories) (bytes_in laid.0.items) laid.1) }
+    ensures lent { IfOk result (λ laid. PagesAreLent translation.now way (plan_phase way
+        (offset_over (values_in (terms_of nodes.old.items) globals.now) (field_count_in translation.now types.now)) (bytes_in imported.entry.items)
+        (memory_plan_of translation.now)) imported.entry.items laid.0.items) }
     ensures shared { IfOk result (λ laid. LendImages translation.now way laid.0.items) }
 {
     let mut memories = first_memories(alloc, translation, way, imported)?;
@@ -75,6 +78,7 @@ fn lay_tables(
     ensures laid { IfOk result (λ laid. Lays (planned_elements_phase (values_in (terms_of nodes.old.items) globals.now)
         (field_count_in translation.now types.now) (map (λ table. map imported_value table.items) imported.items) (plan_of_tables translation.now))
         (length translation.now.module.tables) (cells_in (terms_of nodes.new.items) laid.0.items) laid.1) }
+    ensures below { IfOk result (λ laid. TablesBelow (length nodes.new.items) laid.0.items) }
 {
     let mut tables = first_tables(alloc, translation, types, imported, globals, nodes)?;
     let pieces = pieces_kept(alloc, translation, types, globals, nodes)?;
@@ -98,9 +102,12 @@ fn lay_all<'t>(
     requires plain { All IsPlain imports.globals.items }
     requires plain_cells { All (λ table. All IsPlain table.items) imports.tables.items }
     ensures ordered { IfOk result (λ laid. AreOrdered laid.nodes.items) }
+    ensures terms { IfOk result NamesNodes }
     ensures globals_laid { IfOk result (GlobalsAreLaid translation.now types.now imports.entry) }
     ensures memories_laid { IfOk result (MemoriesAreLaid translation.now types.now way imports.entry) }
     ensures tables_laid { IfOk result (TablesAreLaid translation.now types.now imports.entry) }
+    ensures lent { IfOk result (λ laid. PagesAreLent translation.now way (data_phase translation.now types.now way imports.entry)
+        imports.entry.memories.items laid.memories.items) }
     ensures shared { IfOk result (λ laid. LendImages translation.now way laid.memories.items) }
 {
     let mut nodes = Vec::new(alloc);
@@ -153,9 +160,12 @@ pub fn lay<'t>(
     requires no_terms { All IsPlain imports.globals.items }
     requires no_terms_in_tables { All (λ table. All IsPlain table.items) imports.tables.items }
     ensures ordered { IfOk result (λ laid. AreOrdered laid.nodes.items) }
+    ensures terms { IfOk result NamesNodes }
     ensures globals_laid { IfOk result (GlobalsAreLaid translation.now types.now imports.entry) }
     ensures memories_laid { IfOk result (MemoriesAreLaid translation.now types.now way imports.entry) }
     ensures tables_laid { IfOk result (TablesAreLaid translation.now types.now imports.entry) }
+    ensures lent { IfOk result (λ laid. PagesAreLent translation.now way (data_phase translation.now types.now way imports.entry)
+        imports.entry.memories.items laid.memories.items) }
     ensures shared { IfOk result (λ laid. LendImages translation.now way laid.memories.items) }
     ensures too_large { (result ≡ Err LayError.TooLarge) ↔ IsTooLarge translation.now }
 {

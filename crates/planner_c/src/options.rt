@@ -1,6 +1,6 @@
 //! What a caller may choose.
 
-ghost use Rattle.std.specs.Prelude.{◌≡◌, ◌⊎◌, ◌≤◌, IsNone, IfSome};
+ghost use Rattle.std.specs.Prelude.{◌≡◌, ◌⊎◌, ◌≤◌, IsNone, IsSome, IfSome};
 ghost use Rattle.std.specs.Int.{IsPowerOfTwo};
 ghost use Rattle.command_words.specs.Commands.{IsUsable};
 ghost use Rattle.planner_c.specs.Calls.{command_for, collector_for, AreRight};
@@ -13,8 +13,10 @@ use wasm_types::Tunables;
 #[derive(Clone, Copy)]
 pub struct PlanOptions {
     /// Memories begin as images, where the data segments allow it; 0 is no, in this and the next four.
+    /// A module can then ask for `max_image` bytes with each memory that it defines, in some fifteen bytes of its own.
     pub cow: u8,
     /// Tables begin as images, as far as their elements allow it.
+    /// A module can then ask for 1,048,576 cells of four bytes with each table that it defines, in ten bytes of its own.
     pub lazy_tables: u8,
     /// Hints of branches are read.
     pub branch_hints: u8,
@@ -32,10 +34,11 @@ pub struct PlanOptions {
     pub max_image: u64,
 }
 
-/// The command that the options stand for, where they can be taken.
+/// The command that the options stand for, where they can be taken; none exactly where they cannot.
 pub(crate) fn command_of(options: &PlanOptions) -> Option<Command>
     ensures usable { IfSome result IsUsable }
     ensures command { IfSome result (λ c. c ≡ command_for options.now) }
+    ensures right { IsSome result → AreRight options.now }
     ensures wrong { IsNone result → ¬ AreRight options.now }
 {
     let collector = collector_of(options.collector)?;
@@ -62,6 +65,7 @@ pub(crate) fn command_of(options: &PlanOptions) -> Option<Command>
 fn checked_pointer(size: u8) -> Option<u8>
     ensures same { IfSome result (λ ptr. ptr ≡ size) }
     ensures pointer { IfSome result (λ ptr. (ptr ≡ 4) ⊎ (ptr ≡ 8)) }
+    ensures right { IsSome result → (size ≡ 4) ⊎ (size ≡ 8) }
     ensures wrong { IsNone result → ¬ ((size ≡ 4) ⊎ (size ≡ 8)) }
 {
     match size {
@@ -74,6 +78,7 @@ fn checked_pointer(size: u8) -> Option<u8>
 fn checked_power(number: u64) -> Option<u64>
     ensures same { IfSome result (λ n. n ≡ number) }
     ensures power { IfSome result IsPowerOfTwo }
+    ensures right { IsSome result → IsPowerOfTwo number }
     ensures wrong { IsNone result → ¬ IsPowerOfTwo number }
 {
     if number.is_power_of_two() {
@@ -85,6 +90,7 @@ fn checked_power(number: u64) -> Option<u64>
 
 fn collector_of(number: u8) -> Option<Collector>
     ensures collector { IfSome result (λ c. c ≡ collector_for number) }
+    ensures right { IsSome result → number ≤ 1 }
     ensures wrong { IsNone result → ¬ (number ≤ 1) }
 {
     match number {

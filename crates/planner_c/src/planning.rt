@@ -1,6 +1,6 @@
 //! The calls from C.
 
-ghost use Rattle.std.specs.Prelude.{◌≡◌, ◌≢◌, ◌⊎◌, IfOk, IfErr};
+ghost use Rattle.std.specs.Prelude.{◌≡◌, ◌≢◌, ◌⊎◌, ◌↔◌, IfOk, IfErr};
 ghost use Rattle.command_words.specs.Commands.{IsUsable};
 ghost use Rattle.translate.specs.Options.{options_of};
 ghost use Rattle.translate.specs.Planned.{IsPlanned, HasCause, SucceedsOrNoMemory};
@@ -36,8 +36,8 @@ pub extern "C" fn bobbinazure_make_plan<'d>(
     ensures planned { result ≡ 0 → HasPlan options.now bytes.now (λ plan. Tells plan out.new) }
     // Each refusal has its cause, and the record tells it.
     ensures refused { result ≡ 1 → HasRefusal options.now bytes.now (λ refusal. TellsRefusal refusal out.new) }
-    // Right options are taken; wrong ones change nothing.
-    ensures taken { AreRight options.now → result ≢ 2 }
+    // Wrong options are told, exactly, and change nothing.
+    ensures usage { (result ≡ 2) ↔ ¬ AreRight options.now }
     ensures same { result ≡ 2 → out.new ≡ out.old }
     // Valid input is not refused.
     ensures complete { IsValid (options_for options.now) bytes.now → result ≢ 1 }
@@ -70,7 +70,7 @@ pub extern "C" fn bobbinazure_make_text<'d>(
     ensures statuses { IsStatus result }
     ensures planned { result ≡ 0 → HasPlan options.now bytes.now (λ plan. GivesText 1 (text_of_plan plan) out.new) }
     ensures refused { result ≡ 1 → HasRefusal options.now bytes.now (λ refusal. GivesText 0 (text_of_refusal refusal) out.new) }
-    ensures taken { AreRight options.now → result ≢ 2 }
+    ensures usage { (result ≡ 2) ↔ ¬ AreRight options.now }
     ensures same { (result ≡ 2) ⊎ (result ≡ 5) → out.new ≡ out.old }
     ensures complete { IsValid (options_for options.now) bytes.now → result ≢ 1 }
 {
@@ -105,7 +105,7 @@ pub extern "C" fn bobbinazure_make_plan_and_text<'d>(
     ensures statuses { IsStatus result }
     ensures planned { result ≡ 0 → HasPlan options.now bytes.now (λ plan. Tells plan out.new × GivesText 1 (text_of_plan plan) text_out.new) }
     ensures refused { result ≡ 1 → HasRefusal options.now bytes.now (λ refusal. TellsRefusal refusal out.new × GivesText 0 (text_of_refusal refusal) text_out.new) }
-    ensures taken { AreRight options.now → result ≢ 2 }
+    ensures usage { (result ≡ 2) ↔ ¬ AreRight options.now }
     ensures same { result ≡ 2 → (out.new ≡ out.old) × (text_out.new ≡ text_out.old) }
     ensures complete { IsValid (options_for options.now) bytes.now → result ≢ 1 }
 {

@@ -3,8 +3,8 @@ use Rattle.std.proofs.Common.{◌≡◌, ◌<◌, ℕ, [], refl, sym, subst, ari
 use Rattle.std.specs.List.{All}
 use Rattle.std.proofs.lemmas.List.Elements.{All-nil, All-cons}
 use Rattle.module_types.specs.TypeList.{TypeList, no_types}
-use Rattle.type_registry.specs.Listed.{Listed}
-use Rattle.type_registry.proofs.ListedLists.{listed}
+use Rattle.module_types.specs.Listed.{Listed}
+use Rattle.module_types.proofs.ListedLists.{listed}
 use Rattle.registry_tests.specs.Lists.{final_or_not, of_itself, startup, twice}
 
 none-below : (n : ℕ) → All (λ r. r < n) []

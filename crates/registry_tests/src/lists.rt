@@ -1,7 +1,7 @@
 //! Lists of types to register.
 
 ghost use Rattle.std.specs.Prelude.{◌≡◌, ◌<◌, ◌-◌, ◌∷◌, [], true, false, length, IfOk, OnOk};
-ghost use Rattle.type_registry.specs.Listed.{Listed};
+ghost use Rattle.module_types.specs.Listed.{Listed};
 ghost use Rattle.registry_tests.specs.Lists.{function, alone, final_or_not, of_itself, startup, twice};
 
 use entity_map::{EntityRef, OutOfMemory};

@@ -1,7 +1,7 @@
 //! Rows of registrations and releases: the indices that a list gets, and how many are live then.
 
 ghost use Rattle.std.specs.Prelude.{◌<◌, length};
-ghost use Rattle.type_registry.specs.Listed.{Listed};
+ghost use Rattle.module_types.specs.Listed.{Listed};
 
 use crate::lists::{final_or_not, nothing, of_itself, startup, twice};
 use entity_map::EntityRef;

@@ -5,8 +5,9 @@ use Rattle.std.proofs.lemmas.List.Elements.{All-map, All-weaker}
 use Rattle.wasm_spec.specs.declared.operators.Operator.{Operator}
 use Rattle.wasm_spec.specs.declared.operators.Operator.TheVariants as op
 use Rattle.wasm_spec.specs.Module.{Expression}
-use Rattle.replay_spec.specs.Values.{Value, any_null, any_nulls, action, acted, run, only_value, eval, plain_step, const_value}
+use Rattle.replay_spec.specs.Values.{Value, action, acted, run, only_value, eval, plain_step, const_value}
 use Rattle.replay_spec.specs.Globals.{ReadsBelow}
+use Rattle.replay_spec.specs.Held.{any_null, any_nulls}
 
 run-any : (step : Operator → List Value → Option (List Value)) → ((o : Operator) → step (any_null o) ≡ step o)
     → (e : Expression) (stack : List Value) → run step (any_nulls e) stack ≡ run step e stack

@@ -20,11 +20,10 @@ use Rattle.rule_spec.specs.Lists.{Lists, lists_of_module}
 use Rattle.rule_spec.specs.Rules.{AreInRange, Keeps}
 use Rattle.rule_spec.specs.Typing.{class_of, HasClass}
 use Rattle.replay_spec.specs.Classes.{IsOfClass, HaveClasses, field_count}
-use Rattle.replay_spec.specs.Values.{Value, any_nulls, only_value, eval}
+use Rattle.replay_spec.specs.Values.{Value, only_value, eval}
 use Rattle.replay_spec.specs.Elements.{value_or_null, cell_of}
 use Rattle.replay_spec.specs.Globals.{values_after, ReadsBelow}
 use Rattle.replay_spec.specs.Evaluated.{AreImported, all_globals, HasValue, GivesGlobal, HasTablePlace, HaveReferences, HasMemoryPlace, HaveValues}
-use Rattle.replay_spec.proofs.AnyNull.{eval-any}
 use Rattle.replay_spec.proofs.Typed.{value-of-class}
 use Rattle.replay_spec.proofs.GlobalsKnown.{same-run, get-front}
 use Rattle.replay_spec.proofs.GlobalsTyped.{reads-below}
@@ -51,7 +50,7 @@ have-take globals types n have g type at = have g type (get-take types n g type 
 -- ---- the globals, one after another
 
 abbrev first_values : List GlobalDef → List Expression
-first_values ds = map (λ (d : GlobalDef). any_nulls d.init) ds
+first_values ds = map (λ (d : GlobalDef). d.init) ds
 
 abbrev class_at : GlobalDef → Class
 class_at d = class_of (value_of d.type.content_type)
@@ -115,10 +114,10 @@ module _ (l : Lists) where
   set-all (d ∷ ds) known before count parts have typed =
       let first = first-value known (length before) d have typed.0 in
       let v : Value = first.0 in
-      let cell : cell_of known fields (any_nulls d.init) ≡ v = ap value_or_null (eval-any known fields d.init ∙ first.1) in
-      let more : List Value = known ++ cell_of known fields (any_nulls d.init) ∷ [] in
+      let cell : cell_of known fields d.init ≡ v = ap value_or_null first.1 in
+      let more : List Value = known ++ cell_of known fields d.init ∷ [] in
       let longer : length (before ++ d.type ∷ []) ≡ length before + 1 = length_push before d.type in
-      let rest = set-all ds more (before ++ d.type ∷ []) (omega (arith, longer, length_push known (cell_of known fields (any_nulls d.init))))
+      let rest = set-all ds more (before ++ d.type ∷ []) (omega (arith, longer, length_push known (cell_of known fields d.init)))
       (parts ∙ sym (append_assoc before (d.type ∷ []) (map (λ (d : GlobalDef). d.type) ds)))
       (subst (λ n. HaveClasses more (take n l.global_types)) (sym longer)
       (subst (λ w. HaveClasses (known ++ w ∷ []) (take (length before + 1) l.global_types)) (sym cell)
@@ -128,17 +127,17 @@ module _ (l : Lists) where
         classes = rest.classes;
         each = each rest;
       } where
-        each : AreSet (known ++ cell_of known fields (any_nulls d.init) ∷ []) (length (before ++ d.type ∷ [])) ds → (g : ℕ) (e : GlobalDef) → slice_get (d ∷ ds) g ≡ Some e
+        each : AreSet (known ++ cell_of known fields d.init ∷ []) (length (before ++ d.type ∷ [])) ds → (g : ℕ) (e : GlobalDef) → slice_get (d ∷ ds) g ≡ Some e
             → (v : Value) × (eval (values_after fields known (first_values (d ∷ ds))) fields e.init ≡ Some v)
             × IsOfClass v (class_at e) × (slice_get (values_after fields known (first_values (d ∷ ds))) (length before + g) ≡ Some v)
         each rest zero e at =
             let first = first-value known (length before) d have typed.0 in
             let v : Value = first.0 in
-            let cell : cell_of known fields (any_nulls d.init) ≡ v = ap value_or_null (eval-any known fields d.init ∙ first.1) in
+            let cell : cell_of known fields d.init ≡ v = ap value_or_null first.1 in
             let last = values_after fields known (first_values (d ∷ ds)) in
             let found : slice_get last (length before + 0) ≡ Some v =
-            stays fields (first_values ds) (known ++ cell_of known fields (any_nulls d.init) ∷ []) (length before + 0) (omega (arith, length_push known (cell_of known fields (any_nulls d.init))))
-            ∙ ap (slice_get (known ++ cell_of known fields (any_nulls d.init) ∷ [])) (omega arith) ∙ get-middle known [] (cell_of known fields (any_nulls d.init)) ∙ ap Some cell in
+            stays fields (first_values ds) (known ++ cell_of known fields d.init ∷ []) (length before + 0) (omega (arith, length_push known (cell_of known fields d.init)))
+            ∙ ap (slice_get (known ++ cell_of known fields d.init ∷ [])) (omega arith) ∙ get-middle known [] (cell_of known fields d.init) ∙ ap Some cell in
             subst (λ (e : GlobalDef). (v : Value) × (eval last fields e.init ≡ Some v) × IsOfClass v (class_at e) × (slice_get last (length before + 0) ≡ Some v)) (same_Some d e at)
             (v, last-value known (length before) d (first_values (d ∷ ds)) v count typed.0 first.1, first.2, found)
         each rest (suc g) e at =

@@ -9,9 +9,7 @@ use Rattle.rule_spec.specs.declared.classes.Class.{Class}
 use Rattle.rule_spec.specs.Expressions.{AreGlobalsTyped}
 use Rattle.rule_spec.specs.Lists.{Lists}
 use Rattle.rule_spec.specs.Typing.{Signature, signature, Leads}
-use Rattle.replay_spec.specs.Values.{any_nulls}
 use Rattle.replay_spec.specs.Globals.{ReadsBelow, ReadEarlier}
-use Rattle.replay_spec.proofs.AnyNull.{reads-any}
 
 module _ (l : Lists) (visible : List GlobalType) (n : ℕ) (few : length visible ≤ n) where
   reads-step : (op : Operator) (signed : Signature) → signature l visible op ≡ Some signed → ReadsBelow n op
@@ -21,9 +19,9 @@ module _ (l : Lists) (visible : List GlobalType) (n : ℕ) (few : length visible
   reads-below [] before after h = All-nil (ReadsBelow n)
   reads-below (op ∷ ops) before after h = grind (arith, All-cons, reads-step, (reads-below ops h.0 after h.2))
 
-pub reads-earlier : (l : Lists) (index : ℕ) (globals : List GlobalDef) → AreGlobalsTyped l index globals → ReadEarlier index (map (λ (g : GlobalDef). any_nulls g.init) globals)
+pub reads-earlier : (l : Lists) (index : ℕ) (globals : List GlobalDef) → AreGlobalsTyped l index globals → ReadEarlier index (map (λ (g : GlobalDef). g.init) globals)
 reads-earlier l index [] h = tt
 reads-earlier l index (g ∷ gs) h = (
-  reads-any index g.init (reads-below l (take index l.global_types) index (omega (arith, length-take index l.global_types)) g.init [] _ h.0),
+  reads-below l (take index l.global_types) index (omega (arith, length-take index l.global_types)) g.init [] _ h.0,
   reads-earlier l (index + 1) gs h.1,
 )

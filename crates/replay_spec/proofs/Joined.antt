@@ -14,6 +14,8 @@ use Rattle.wasm_spec.specs.Module.{Expression, Module, imported_memories, define
 use Rattle.replay_spec.specs.Phases.{Piece, fits, last_item, SamePhase, trap_of}
 use Rattle.replay_spec.specs.Values.{Value, offset_over, offset_of}
 use Rattle.replay_spec.specs.Data.{ActiveSegment, piece_of, memory_sizes, memory_base, segments_phase, minimum_size, active_segments}
+use Rattle.replay_spec.specs.Held.{held_segments}
+use Rattle.replay_spec.proofs.HeldPhases.{agrees-held}
 use Rattle.replay_spec.specs.Plan.{MemoryPlan, planned_piece, image_pieces, kept_segments, AgreesOver, Agrees}
 use Rattle.replay_spec.specs.Images.{ImageOptions, ImageMemory, image_memory_of, size_of, IsPlaced, bytes_on, IsStatic, MemoryImage, written_on, IsImage, ImageOf, AreImages, PlansImages, IsMemoryPlan}
 use Rattle.replay_spec.proofs.Kept.{AgreesOver-kept}
@@ -202,11 +204,12 @@ no-trap options imports memories active static globals fields imported count =
     rw same (rw append-nil at e)
 
 -- sizes by the definitions of a module
-sizes-module : (types : List MemoryType) → map size_of (map image_memory_of types) ≡ map minimum_size types
+pub sizes-module : (types : List MemoryType) → map size_of (map image_memory_of types) ≡ map minimum_size types
 sizes-module [] = refl
 sizes-module (t ∷ ts) = ap (λ ns. minimum_size t ∷ ns) (sizes-module ts)
 
 pub agrees-module : (options : ImageOptions) (m : Module) (passive : List (List ℕ)) (plan : MemoryPlan) → IsPowerOfTwo options.page
-    → IsMemoryPlan options (length (imported_memories m)) (map image_memory_of (defined_memories m)) (active_segments m) passive plan → Agrees m plan
-agrees-module options m passive plan page h = subst (λ sizes. AgreesOver (length (imported_memories m)) sizes (active_segments m) plan) (sizes-module (defined_memories m))
-    (agrees options (length (imported_memories m)) (map image_memory_of (defined_memories m)) (active_segments m) passive plan page h)
+    → IsMemoryPlan options (length (imported_memories m)) (map image_memory_of (defined_memories m)) (held_segments m) passive plan → Agrees m plan
+agrees-module options m passive plan page h = agrees-held (length (imported_memories m)) (map minimum_size (defined_memories m)) (active_segments m) plan
+    (subst (λ sizes. AgreesOver (length (imported_memories m)) sizes (held_segments m) plan) (sizes-module (defined_memories m))
+    (agrees options (length (imported_memories m)) (map image_memory_of (defined_memories m)) (held_segments m) passive plan page h))

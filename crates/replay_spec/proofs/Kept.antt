@@ -35,7 +35,7 @@ module _ (plan : MemoryPlan) where
   kept (s ∷ ss) before after n at is = grind (arith, bytes-at, length_push, next-runtime, (kept ss (before ++ s.bytes ∷ []) after (n + 1) (omega (arith, length_push before s.bytes)) (next-runtime before (bytes_of_all ss ++ after) s.bytes is)))
 
   -- the pieces of all entries are those of the segments
-  pieces : (place_of : Expression → ℕ) (active : List ActiveSegment) (before after : List (List ℕ)) (n : ℕ) → n ≡ length before
+  pub pieces : (place_of : Expression → ℕ) (active : List ActiveSegment) (before after : List (List ℕ)) (n : ℕ) → n ≡ length before
       → plan.runtime ≡ before ++ (bytes_of_all active ++ after)
       → map (planned_piece place_of plan) (planned_from n active) ≡ map (piece_of place_of) active
   pieces place_of [] before after n at is = refl

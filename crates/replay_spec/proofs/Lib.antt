@@ -1,4 +1,5 @@
 pub mod AnyNull
+pub mod HeldPhases
 pub mod Constant
 pub mod Kept
 pub mod Typed
@@ -10,6 +11,7 @@ pub mod Joined
 pub mod Tight
 pub mod One
 pub mod WorkedImages
+pub mod WorkedPlan
 pub mod TablesJoined
 pub mod Taken
 pub mod GlobalsKnown

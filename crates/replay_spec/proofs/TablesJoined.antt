@@ -70,7 +70,7 @@ module _ (globals : List Value) (fields : ℕ → ℕ) (lazy : Bool) (imports : 
   fits-taken : (s : ActiveElements) → MayBeTaken lazy imports tables s → fits (table_sizes imported (map (λ t. t.minimum) tables)) (elements_piece globals fields s) ≡ true
   fits-taken s h = grind (arith, offset-constant, sizes-table, length-map, le-leb)
 
-  fit-taken : (taken : List ActiveElements) → All (MayBeTaken lazy imports tables) taken
+  pub fit-taken : (taken : List ActiveElements) → All (MayBeTaken lazy imports tables) taken
       → AllFit (table_sizes imported (map (λ t. t.minimum) tables)) (map (elements_piece globals fields) taken)
   fit-taken [] all = tt
   fit-taken (s ∷ ss) all = grind (arith, fits-taken, All-head, All-tail, (fit-taken ss (All-tail (MayBeTaken lazy imports tables) s ss all)))

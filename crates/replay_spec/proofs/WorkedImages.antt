@@ -1,22 +1,24 @@
 -- The worked examples of images.
 use Rattle.std.proofs.lemmas.Grind.{common_steps}
-use Rattle.std.proofs.Common.{◌≡◌, ◌≢◌, ℕ, zero, suc, ◌+◌, ◌<◌, ◌≤◌, subst, List, [], ◌∷◌, All, Some, refl, sym, ap, arith}
+use Rattle.std.proofs.Common.{◌≡◌, ◌≢◌, ℕ, zero, suc, ◌+◌, ◌<◌, ◌≤◌, subst, inl, List, [], ◌∷◌, All, Some, refl, sym, ap, arith}
 use Rattle.std.specs.Prelude.{slice_get, slice_index, negsuc}
 use Rattle.wasm_spec.specs.declared.operators.Operator.TheVariants.{I32Const}
 use Rattle.replay_spec.specs.Values.{I32}
+use Rattle.std.proofs.Math.Logic.{⊎_elim}
 use Rattle.std.proofs.lemmas.Option.{none-some, same_Some}
 use Rattle.replay_spec.specs.Data.{ActiveSegment, active_segments}
 use Rattle.replay_spec.specs.Images.{ImageMemory, image_memory_of, index_of_constant, size_of, IsPlaced, bytes_on, least_start, greatest_end, IsStatic, MayBeImage, written_on, IsImage}
-use Rattle.replay_spec.specs.Worked.{one_page, overlapping, ends_at_minus_one}
-use Rattle.replay_spec.specs.WorkedImages.{images_wanted, one_memory, leading_zeros, zeros_alone, image_at}
+use Rattle.replay_spec.specs.Worked.{ends_at_minus_one}
+use Rattle.rule_spec.specs.WorkedKept.{one_page, overlapping}
+use Rattle.replay_spec.specs.WorkedImages.{images_wanted, images_below, one_memory, leading_zeros, zeros_alone, image_at}
 use Rattle.replay_spec.proofs.Placed.{last-covered}
 use Rattle.replay_spec.proofs.Tight.{least-stands, greatest-stands}
 
 -- no byte is written before the least start, and none from the greatest end on
-zero-before : (active : List ActiveSegment) (m place : ℕ) → place < least_start active → written_on active m place ≡ 0
+pub zero-before : (active : List ActiveSegment) (m place : ℕ) → place < least_start active → written_on active m place ≡ 0
 zero-before active m place lt = grind (arith, least-stands, last-covered)
 
-zero-behind : (active : List ActiveSegment) (m place : ℕ) → greatest_end active ≤ place → written_on active m place ≡ 0
+pub zero-behind : (active : List ActiveSegment) (m place : ℕ) → greatest_end active ≤ place → written_on active m place ≡ 0
 zero-behind active m place le = grind (arith, greatest-stands, last-covered)
 
 placed : All (IsPlaced 0 one_memory) (active_segments overlapping)
@@ -27,6 +29,15 @@ placed (suc (suc k)) d l = absurd (omega arith)
 small : (m : ℕ) (memory : ImageMemory) → slice_get one_memory m ≡ Some memory → bytes_on (0 + m) (active_segments overlapping) ≢ []
     → MayBeImage images_wanted memory (bytes_on (0 + m) (active_segments overlapping))
 small m memory h1 h2 = grind (arith, same_Some, none-some)
+
+small-below : (most m : ℕ) (memory : ImageMemory) → slice_get one_memory m ≡ Some memory → bytes_on (0 + m) (active_segments overlapping) ≢ []
+    → MayBeImage (images_below most) memory (bytes_on (0 + m) (active_segments overlapping))
+small-below most m memory h1 h2 =
+    let wanted = small m memory h1 h2 in
+    record { page = wanted.page; dense = ⊎_elim (λ close. inl close) (λ below. absurd (omega arith)) wanted.dense }
+
+pub static-below : (most : ℕ) → IsStatic (images_below most) 0 one_memory (active_segments overlapping)
+static-below most = record { enabled = refl; placed = placed; images = small-below most }
 
 pub is_static : IsStatic images_wanted 0 one_memory (active_segments overlapping)
 is_static = record { enabled = refl; placed = placed; images = small }

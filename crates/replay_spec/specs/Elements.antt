@@ -1,7 +1,6 @@
 -- The element phase of a module: what its active element segments leave in its tables (core specification, 4.7, instantiation).
 use Rattle.std.specs.Prelude.{ℕ, ◌-◌, Bool, true, false, nat_lt, List, [], ◌++◌, length, map, slice_index, slice_get, unwrap_or, Option, None, Some, if◌then◌else◌}
 use Rattle.std.specs.List.{filter_map}
-use Rattle.std.specs.Option.{option_map}
 use Rattle.wasm_spec.specs.declared.types.HeapType.{HeapType}
 use Rattle.wasm_spec.specs.declared.types.HeapType.TheVariants as heap
 use Rattle.wasm_spec.specs.declared.types.AbstractHeapType.TheVariants as abstract
@@ -12,7 +11,7 @@ use Rattle.wasm_spec.specs.Module.{Expression, ElementItems, ElementKind, Active
 use Rattle.wasm_spec.specs.Module as read
 use Rattle.rule_spec.specs.Lists.{Lists, kind_at}
 use Rattle.replay_spec.specs.Phases.{Piece, Phase}
-use Rattle.replay_spec.specs.Values.{Value, Ref, Null, Func as function, any_nulls, eval, offset_over}
+use Rattle.replay_spec.specs.Values.{Value, Ref, Null, Func as function, eval, offset_over}
 
 -- what a segment writes: functions, or the values of expressions
 pub data Items : Type 0 where
@@ -82,12 +81,12 @@ elements_phase globals fields imported tables active = record {
 -- a module's items; their type tells nothing of the cells
 abbrev pub items_of_element : ElementItems → Items
 items_of_element (read.Functions indices) = Functions indices
-items_of_element (read.Expressions type items) = Expressions (map any_nulls items)
+items_of_element (read.Expressions type items) = Expressions items
 
 -- a table that is not named is the first
 abbrev pub active_of_element : ElementKind → ElementItems → Option ActiveElements
 active_of_element (ActiveElement table offset) items =
-    Some (record { table = unwrap_or table 0; offset = any_nulls offset; items = items_of_element items })
+    Some (record { table = unwrap_or table 0; offset = offset; items = items_of_element items })
 active_of_element _ items = None
 
 -- the active element segments, in order
@@ -107,7 +106,7 @@ has_functions_on_top l _ = false
 
 abbrev pub defined_table : Lists → TableDef → DefinedTable
 defined_table l t =
-    record { minimum = t.type.initial; functions = has_functions_on_top l t.type.element_type.heap; initial = option_map any_nulls t.init }
+    record { minimum = t.type.initial; functions = has_functions_on_top l t.type.element_type.heap; initial = t.init }
 
 -- the tables of the table section, in order
 abbrev pub defined_tables : Lists → List DefinedTable

@@ -6,14 +6,14 @@ use Rattle.wasm_spec.specs.declared.operators.Operator.{Operator}
 use Rattle.wasm_spec.specs.declared.operators.Operator.TheVariants.{GlobalGet}
 use Rattle.wasm_spec.specs.Module.{Expression}
 use Rattle.rule_spec.specs.Lists.{Lists}
-use Rattle.replay_spec.specs.Values.{Value, Ref, Null, any_nulls, const_value}
+use Rattle.replay_spec.specs.Values.{Value, Ref, Null, const_value}
 use Rattle.replay_spec.specs.Elements.{cell_of}
 
 -- ---- of a module
 
 -- the first values of the defined globals, in order
 abbrev pub initialisers : Lists → List Expression
-initialisers l = map (λ g. any_nulls g.init) l.globals
+initialisers l = map (λ g. g.init) l.globals
 
 -- the values of globals that are known, and then of each initialiser over the values before it
 abbrev pub values_after : (ℕ → ℕ) → List Value → List Expression → List Value

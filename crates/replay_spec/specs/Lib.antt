@@ -7,6 +7,7 @@ pub mod Images
 pub mod Elements
 pub mod Tables
 pub mod Globals
+pub mod Held
 pub mod Evaluated
 pub mod Startup
 pub mod Worked

@@ -1,9 +1,7 @@
 -- The values of constant expressions: a machine with a stack (core specification, 4.2, runtime structure, and 4.6, instructions).
-use Rattle.std.specs.Prelude.{ℕ, ◌+◌, ◌-◌, ◌*◌, ◌%◌, ◌^◌, Bool, true, false, List, [], ◌∷◌, ◌++◌, length, map, take, drop, nat_le, slice_get, Option, None, Some, if◌then◌else◌}
+use Rattle.std.specs.Prelude.{ℕ, ◌+◌, ◌-◌, ◌*◌, ◌%◌, ◌^◌, Bool, true, false, List, [], ◌∷◌, ◌++◌, length, take, drop, nat_le, slice_get, Option, None, Some, if◌then◌else◌}
 use Rattle.std.specs.Int.{cast_unsigned, w32, w64}
 use Rattle.std.specs.Option.{option_map, option_and_then}
-use Rattle.wasm_spec.specs.declared.types.HeapType.TheVariants.{Abstract}
-use Rattle.wasm_spec.specs.declared.types.AbstractHeapType.TheVariants.{Any}
 use Rattle.wasm_spec.specs.declared.operators.Operator.{Operator}
 use Rattle.wasm_spec.specs.declared.operators.Operator.TheVariants as op
 use Rattle.wasm_spec.specs.Module.{Expression}
@@ -117,17 +115,6 @@ action globals fields (op.ArrayNewDefault t) = allocates (op.ArrayNewDefault t) 
 action globals fields (op.ArrayNewFixed t n) = allocates (op.ArrayNewFixed t n) n
 action globals fields op.ExternConvertAny = converts to_extern
 action globals fields op.AnyConvertExtern = converts to_any
-
--- ---- as replay sees a module
-
--- an operator as replay sees it: with `any` for the heap type of a null reference. All nulls are one value, so that nothing is lost
-abbrev pub any_null : Operator → Operator
-any_null (op.RefNull heap) = op.RefNull (Abstract Any)
-any_null operator = operator
-
--- an expression as replay sees it
-abbrev pub any_nulls : Expression → Expression
-any_nulls e = map any_null e
 
 -- ---- expressions
 

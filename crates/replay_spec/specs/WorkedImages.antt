@@ -2,11 +2,15 @@
 use Rattle.std.specs.Prelude.{pos, ℕ, List, [], ◌∷◌, true}
 use Rattle.wasm_spec.specs.Module.{Module}
 use Rattle.replay_spec.specs.Images.{ImageOptions, ImageMemory, image_memory_of, MemoryImage}
-use Rattle.replay_spec.specs.Worked.{one_page, segment_at, with_segments}
+use Rattle.rule_spec.specs.WorkedKept.{one_page, segment_at, with_segments}
 
 -- images of 4096 byte pages, where the bytes lie close together
 abbrev pub images_wanted : ImageOptions
 images_wanted = record { enabled = true; page = 4096; max_image = 0 }
+
+-- the same, and images of any extent below a number
+abbrev pub images_below : ℕ → ImageOptions
+images_below most = record images_wanted { max_image = most }
 
 abbrev pub one_memory : List ImageMemory
 one_memory = image_memory_of one_page ∷ []

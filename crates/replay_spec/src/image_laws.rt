@@ -5,7 +5,8 @@ ghost use Rattle.std.specs.Int.{IsPowerOfTwo};
 ghost use Rattle.wasm_spec.specs.Module.{Module, imported_memories, defined_memories};
 ghost use Rattle.replay_spec.specs.Phases.{trap_of};
 ghost use Rattle.replay_spec.specs.Values.{Value, offset_over};
-ghost use Rattle.replay_spec.specs.Data.{ActiveSegment, active_segments, segments_phase};
+ghost use Rattle.replay_spec.specs.Data.{ActiveSegment, segments_phase};
+ghost use Rattle.replay_spec.specs.Held.{held_segments};
 ghost use Rattle.replay_spec.specs.Plan.{MemoryPlan, AgreesOver, Agrees};
 ghost use Rattle.replay_spec.specs.Images.{ImageOptions, ImageMemory, image_memory_of, size_of, IsStatic, MemoryImage, written_on, bytes_on, ImageOf, IsImage, AreImages, IsMemoryPlan, IsTight};
 
@@ -16,9 +17,9 @@ pub fn memory_plan_laws()
         → IsPowerOfTwo options.page → IsMemoryPlan options imports memories active passive plan → AgreesOver imports (map size_of memories) active plan }
     ensures no_trap { (options : ImageOptions) (imports : ℕ) (memories : List ImageMemory) (active : List ActiveSegment) → IsStatic options imports memories active
         → (globals : List Value) (fields : ℕ → ℕ) (imported : List (List ℕ)) → length imported ≡ imports → trap_of (segments_phase (offset_over globals fields) imported (map size_of memories) active) ≡ None }
-    // The same of a module.
+    // The plan of a module, over its segments as a plan holds them.
     ensures module { (options : ImageOptions) (m : Module) (passive : List (List ℕ)) (plan : MemoryPlan) → IsPowerOfTwo options.page
-        → IsMemoryPlan options (length (imported_memories m)) (map image_memory_of (defined_memories m)) (active_segments m) passive plan → Agrees m plan }
+        → IsMemoryPlan options (length (imported_memories m)) (map image_memory_of (defined_memories m)) (held_segments m) passive plan → Agrees m plan }
 {}
 
 /// An image is tight, and there is one list of images at most.

@@ -1,9 +1,13 @@
 //! Laws of the definitions.
 
-ghost use Rattle.std.specs.Prelude.{◌≡◌, ℕ, List, Some, IsSomeAnd};
+ghost use Rattle.std.specs.Prelude.{◌≡◌, ℕ, List, map, Some, IsSomeAnd};
 ghost use Rattle.wasm_spec.specs.declared.entities.GlobalType.{GlobalType};
 ghost use Rattle.wasm_spec.specs.Module.{Expression, Module};
-ghost use Rattle.replay_spec.specs.Values.{Value, any_nulls, eval, const_value};
+ghost use Rattle.replay_spec.specs.Values.{Value, eval, const_value, offset_over};
+ghost use Rattle.replay_spec.specs.Data.{ActiveSegment, segments_phase};
+ghost use Rattle.replay_spec.specs.Elements.{ActiveElements, DefinedTable, elements_phase};
+ghost use Rattle.replay_spec.specs.Globals.{values_after};
+ghost use Rattle.replay_spec.specs.Held.{any_nulls, held_segment, held_element, held_table};
 ghost use Rattle.replay_spec.specs.Classes.{IsOfClass, HaveClasses, field_count};
 ghost use Rattle.replay_spec.specs.Evaluated.{AreImported, all_globals, HaveValues};
 ghost use Rattle.rule_spec.specs.declared.classes.Class.{Class};
@@ -11,10 +15,20 @@ ghost use Rattle.rule_spec.specs.Lists.{Lists, lists_of_module};
 ghost use Rattle.rule_spec.specs.Rules.{Keeps};
 ghost use Rattle.rule_spec.specs.Typing.{HasClass};
 
-/// What replay sees of an expression has the values of the expression.
+/// What a plan holds of an expression has the values of the expression.
 pub fn any_null_law()
     ensures value { (globals : List Value) (fields : ℕ → ℕ) (e : Expression) → eval globals fields (any_nulls e) ≡ eval globals fields e }
     ensures constant { (e : Expression) → const_value (any_nulls e) ≡ const_value e }
+{}
+
+/// The phases over what a plan holds of segments and initialisers are those over the segments and initialisers.
+pub fn held_phase_laws()
+    ensures globals { (fields : ℕ → ℕ) (known : List Value) (initialisers : List Expression)
+        → values_after fields known (map any_nulls initialisers) ≡ values_after fields known initialisers }
+    ensures data { (globals : List Value) (fields : ℕ → ℕ) (imported : List (List ℕ)) (defined : List ℕ) (active : List ActiveSegment)
+        → segments_phase (offset_over globals fields) imported defined (map held_segment active) ≡ segments_phase (offset_over globals fields) imported defined active }
+    ensures elements { (globals : List Value) (fields : ℕ → ℕ) (imported : List (List Value)) (tables : List DefinedTable) (active : List ActiveElements)
+        → elements_phase globals fields imported (map held_table tables) (map held_element active) ≡ elements_phase globals fields imported tables active }
 {}
 
 /// A constant value is the value of the expression, over any globals and types.

@@ -1,11 +1,13 @@
 //! Worked examples of the definitions: each clause computes.
 
 ghost use Rattle.std.specs.Prelude.{◌≡◌, [], ◌∷◌, Some, None, pos, negsuc};
-ghost use Rattle.replay_spec.specs.Values.{I32, I64, F32, F64, V128, Ref, Null, Func, Host, I31, Allocated, AsExtern, NoMore, Argument, any_nulls, eval, const_value, offset_of};
+ghost use Rattle.replay_spec.specs.Values.{I32, I64, F32, F64, V128, Ref, Null, Func, Host, I31, Allocated, AsExtern, NoMore, Argument, eval, const_value, offset_of};
+ghost use Rattle.replay_spec.specs.Held.{any_nulls};
 ghost use Rattle.replay_spec.specs.Phases.{content_of, trap_of};
 ghost use Rattle.replay_spec.specs.Data.{module_phase};
 ghost use Rattle.replay_spec.specs.Plan.{ranges_from};
-ghost use Rattle.replay_spec.specs.Worked.{any_heap, function_heap, ones_added, overlapping, ends_at_minus_one, empty_past_the_end};
+ghost use Rattle.replay_spec.specs.Worked.{any_heap, function_heap, ones_added, ends_at_minus_one, empty_past_the_end};
+ghost use Rattle.rule_spec.specs.WorkedKept.{overlapping};
 ghost use Rattle.wasm_spec.specs.declared.operators.Operator.TheVariants as op;
 
 /// The values of constant expressions: numbers are unsigned and wrap, and offsets are read from them.

@@ -1,10 +1,12 @@
 //! Worked examples of images of memories.
 
-ghost use Rattle.std.specs.Prelude.{◌≡◌, [], ◌∷◌, Some, None};
+ghost use Rattle.std.specs.Prelude.{◌≡◌, ℕ, [], ◌∷◌, ◌++◌, replicate, Some, None};
 ghost use Rattle.replay_spec.specs.Data.{active_segments};
-ghost use Rattle.replay_spec.specs.Images.{IsStatic, written_on, ImageOf, image_map};
-ghost use Rattle.replay_spec.specs.Worked.{overlapping, ends_at_minus_one};
-ghost use Rattle.replay_spec.specs.WorkedImages.{images_wanted, one_memory, leading_zeros, zeros_alone, image_at};
+ghost use Rattle.replay_spec.specs.Images.{IsStatic, written_on, ImageOf, image_map, IsMemoryPlan};
+ghost use Rattle.replay_spec.specs.Plan.{MemoryPlan};
+ghost use Rattle.replay_spec.specs.Worked.{ends_at_minus_one};
+ghost use Rattle.rule_spec.specs.WorkedKept.{overlapping};
+ghost use Rattle.replay_spec.specs.WorkedImages.{images_wanted, images_below, one_memory, leading_zeros, zeros_alone, image_at};
 
 /// When segments become images, and which.
 pub fn worked_memory_images()
@@ -16,4 +18,10 @@ pub fn worked_memory_images()
     ensures zeros { ImageOf 4 (written_on (active_segments zeros_alone) 0) None }
     // The second of three memories has no image.
     ensures map { image_map 0 (Some (image_at 16 (1 ∷ [])) ∷ None ∷ Some (image_at 0 (2 ∷ [])) ∷ []) ≡ Some (16, 0) ∷ None ∷ Some (0, 1) ∷ [] }
+{}
+
+/// Every plan of two overlapping segments, where images are wanted, has one image: from 0 on one page of 4096 bytes, with 1, 9 and 3 at 16.
+pub fn worked_memory_plan()
+    ensures { (most : ℕ) (plan : MemoryPlan) → IsMemoryPlan (images_below most) 0 one_memory (active_segments overlapping) [] plan
+        → (plan.images ≡ Some (0, 0) ∷ []) × (plan.runtime ≡ (replicate 16 0 ++ 1 ∷ 9 ∷ 3 ∷ replicate 4077 0) ∷ []) }
 {}

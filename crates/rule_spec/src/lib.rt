@@ -9,4 +9,6 @@ mod worked;
 
 pub use classes::Class;
 pub use rules::Rule;
-pub use worked::{worked_expressions, worked_rules, worked_signatures};
+pub use worked::{
+    worked_expressions, worked_kept_rules, worked_module, worked_rules, worked_signatures,
+};

@@ -8,9 +8,10 @@ ghost use Rattle.rule_spec.specs.declared.rules.Rule.TheVariants as rule;
 ghost use Rattle.rule_spec.specs.declared.classes.Class.{Class};
 ghost use Rattle.rule_spec.specs.declared.classes.Class.TheVariants as class;
 ghost use Rattle.rule_spec.specs.Lists.{lists_of_module};
-ghost use Rattle.rule_spec.specs.Rules.{Satisfies};
+ghost use Rattle.rule_spec.specs.Rules.{Satisfies, Keeps};
 ghost use Rattle.rule_spec.specs.Typing.{signature, HasClass};
 ghost use Rattle.rule_spec.specs.Worked.{pushes, three_types, two_globals, type_past_group, function_without_type, function_without_body, maximum_below_minimum, table_without_initialiser, global_of_another_class, exported_twice, start_without_function, segment_without_table, reference_without_type};
+ghost use Rattle.rule_spec.specs.WorkedKept.{type_of_an_earlier, function_with_body, maximum_above_minimum, table_with_initialiser, global_of_a_sum, exported_by_two_names, function_to_start, segments_in_range, reference_to_type, overlapping};
 
 /// A small module that breaks each rule.
 pub fn worked_rules()
@@ -24,6 +25,25 @@ pub fn worked_rules()
     ensures start { ¬ Satisfies rule.L8 (lists_of_module start_without_function) }
     ensures segments { ¬ Satisfies rule.L9 (lists_of_module segment_without_table) }
     ensures references { ¬ Satisfies rule.L10 (lists_of_module reference_without_type) }
+{}
+
+/// A small module that keeps each rule.
+pub fn worked_kept_rules()
+    ensures types { Satisfies rule.L1 (lists_of_module type_of_an_earlier) }
+    ensures functions { Satisfies rule.L2 (lists_of_module function_with_body) }
+    ensures bodies { Satisfies rule.L3 (lists_of_module function_with_body) }
+    ensures limits { Satisfies rule.L4 (lists_of_module maximum_above_minimum) }
+    ensures tables { Satisfies rule.L5 (lists_of_module table_with_initialiser) }
+    ensures expressions { Satisfies rule.L6 (lists_of_module global_of_a_sum) }
+    ensures exports { Satisfies rule.L7 (lists_of_module exported_by_two_names) }
+    ensures start { Satisfies rule.L8 (lists_of_module function_to_start) }
+    ensures segments { Satisfies rule.L9 (lists_of_module segments_in_range) }
+    ensures references { Satisfies rule.L10 (lists_of_module reference_to_type) }
+{}
+
+/// A memory and two data segments keep every rule.
+pub fn worked_module()
+    ensures { Keeps overlapping }
 {}
 
 /// What each operator takes and pushes, and what it may not name.

@@ -1,5 +1,6 @@
 pub mod GlobalNumbers
 pub mod ImagesFit
+pub mod StartupTypes
 pub mod TableImages
 pub mod Finishing
 pub mod Translated
@@ -7,3 +8,4 @@ pub mod PlannedWhole
 pub mod FieldCounts
 pub mod ModuleFields
 pub mod LaidWhole
+mod OptionsAlike

@@ -5,9 +5,7 @@ use Rattle.wasm_spec.specs.Module.{Module, defined_memories, HasFewEntries}
 use Rattle.rule_spec.specs.Lists.{lists_of_module}
 use Rattle.rule_spec.specs.Rules.{Keeps}
 use Rattle.form_reader.proofs.Entries.{few_entries}
-use Rattle.replay_spec.specs.Data.{active_segments}
-use Rattle.replay_spec.specs.Elements.{defined_tables, active_elements}
-use Rattle.replay_spec.specs.Globals.{initialisers}
+use Rattle.replay_spec.specs.Held.{held_segments, held_tables, held_elements, held_initialisers}
 use Rattle.replay_spec.specs.Images.{IsMemoryPlan, image_memory_of}
 use Rattle.replay_spec.specs.Tables.{IsTablePlan}
 use Rattle.init_plan.specs.declared.translation.ModuleTranslation.{ModuleTranslation}
@@ -38,8 +36,8 @@ module _ (i : InitOptions) (bytes : List ℕ) (m : Module) (t : ModuleTranslatio
   ready : IsReady m old
   ready = is_ready i.tunables.debug_guest m old sections keeps few
 
-  planned-so : IsPlannedSo (images i) i.tunables.table_lazy_init (initialisers (lists_of_module m)) (active_segments m) (passive_bytes m)
-      (defined_tables (lists_of_module m)) (active_elements (lists_of_module m).elements) t
+  planned-so : IsPlannedSo (images i) i.tunables.table_lazy_init (held_initialisers (lists_of_module m)) (held_segments m) (passive_bytes m)
+      (held_tables (lists_of_module m)) (held_elements (lists_of_module m).elements) t
   planned-so = record {
     page = page;
     imported_globals = rw is.rest.same (globals-among m old sections.entities sections.counts);
@@ -47,15 +45,15 @@ module _ (i : InitOptions) (bytes : List ℕ) (m : Module) (t : ModuleTranslatio
     imported_memories = rw is.rest.same ready.memories.imports;
     page_sizes = rw is.rest.same ready.memories.page_sizes;
     active_low = rw (is.rest.same, ← sections.data_segments.active) ready.memories.in_range;
-    memory_plan = subst (λ (x : ModuleTranslation). IsMemoryPlan (images i) x.module.num_imported_memories (image_memories x.module) (active_segments m)
+    memory_plan = subst (λ (x : ModuleTranslation). IsMemoryPlan (images i) x.module.num_imported_memories (image_memories x.module) (held_segments m)
         (passive_bytes m) (memory_plan_of t)) (sym is.rest.same) (rw (held, sections.counts.memories) is.memories.plan);
     processed = is.memories.processed;
     segmented = λ none. (is.memories.segmented none).1;
     imaged = λ some. (is.memories.imaged some).1;
     imported_tables = rw is.rest.same ready.tables.imports;
     elements_low = rw (is.rest.same, ← ready.holds_tables.active) ready.tables.in_range;
-    table_plan = subst (λ (x : ModuleTranslation). IsTablePlan i.tunables.table_lazy_init x.module.num_imported_tables (defined_tables (lists_of_module m))
-        (active_elements (lists_of_module m).elements) (plan_of_tables t))
+    table_plan = subst (λ (x : ModuleTranslation). IsTablePlan i.tunables.table_lazy_init x.module.num_imported_tables (held_tables (lists_of_module m))
+        (held_elements (lists_of_module m).elements) (plan_of_tables t))
         (sym is.rest.same) (rw ready.holds_tables.imports is.tables);
     counted = is.rest.counts;
   }

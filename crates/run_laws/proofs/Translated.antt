@@ -6,7 +6,7 @@ use Rattle.rule_spec.specs.Lists.{lists_of_module}
 use Rattle.wasm_index.specs.declared.index.Index.{Index}
 use Rattle.wasm_index.specs.declared.spaces.StaticModuleSpace.{StaticModuleSpace}
 use Rattle.wasm_types.specs.declared.tunables.Tunables.{Tunables}
-use Rattle.replay_spec.specs.Globals.{initialisers}
+use Rattle.replay_spec.specs.Held.{held_initialisers}
 use Rattle.replay_spec.specs.Images.{ImageOptions, IsMemoryPlan}
 use Rattle.replay_spec.specs.Tables.{IsTablePlan}
 use Rattle.module_types.specs.Builder.{BuilderState}
@@ -32,7 +32,7 @@ module _ (tunables : Tunables) (index : Index StaticModuleSpace) (validator : â„
   same : new â‰¡ with_tables new (with_memories mid old)
   same = both-planned old mid new memories.same tables.same
 
-  planned-so : IsPlannedSo options lazy (initialisers (lists_of_module told.meaning)) (initializers_of old) (passive_bytes old)
+  planned-so : IsPlannedSo options lazy (held_initialisers (lists_of_module told.meaning)) (initializers_of old) (passive_bytes old)
       (tables_of mid) (elements_of mid) new
   planned-so = record {
     page = page;

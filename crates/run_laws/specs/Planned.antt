@@ -1,10 +1,13 @@
 -- What the calls that plan a translation promise, as far as it is to be laid. The fields are clauses of these calls.
 use Rattle.std.specs.Prelude.{◌≡◌, Bool, length}
+use Rattle.module_types.specs.Builder.{BuilderState, builder_view}
 use Rattle.replay_spec.specs.Images.{ImageOptions, IsMemoryPlan}
+use Rattle.replay_spec.specs.Startup.{Startup}
 use Rattle.replay_spec.specs.Tables.{IsTablePlan}
 use Rattle.init_plan.specs.declared.translation.ModuleTranslation.{ModuleTranslation}
 use Rattle.init_plan.specs.Views.{memory_plan_of, initializers_of, passive_bytes, IsProcessed, OnlyMemoryInitChanges}
 use Rattle.init_plan.specs.Images.{image_memories, BeginsByRule}
+use Rattle.init_plan.specs.Startup.{types_after}
 use Rattle.plan_run.specs.declared.laid.Imports.{Imports}
 use Rattle.init_plan.specs.Tables.{tables_of, elements_of, plan_of_tables, AreCounted, OnlyTableInitChanges}
 
@@ -20,6 +23,11 @@ pub record TablesArePlanned (lazy : Bool) (old new : ModuleTranslation) : Type 0
   pub planned : IsTablePlan lazy old.module.num_imported_tables (tables_of old) (elements_of old) (plan_of_tables new)
   pub counts : AreCounted new
   pub same : OnlyTableInitChanges old new
+
+-- the builder gains no type but that of startup, as both calls do it to a translation
+pub record GainsStartup (t : ModuleTranslation) (old new : BuilderState) : Type 0 where
+  pub kind : Startup
+  pub types : builder_view new ≡ types_after kind t.module.startup (builder_view old)
 
 -- so many imports as the translation has
 pub record AreImportsOf (t : ModuleTranslation) (imports : Imports) : Type 0 where

@@ -23,7 +23,8 @@ ghost use Rattle.plan_run.specs.declared.laid.Way.{Way};
 ghost use Rattle.plan_run.specs.Agreement.{HasFieldsOf, IsOfModule};
 ghost use Rattle.plan_run.specs.Finished.{Finished};
 ghost use Rattle.plan_run.specs.Laid.{GlobalsAreLaid, MemoriesAreLaid, TablesAreLaid};
-ghost use Rattle.run_laws.specs.Planned.{MemoriesArePlanned, TablesArePlanned, AreImportsOf};
+ghost use Rattle.run_laws.specs.Alike.{BeginAlike};
+ghost use Rattle.run_laws.specs.Planned.{MemoriesArePlanned, TablesArePlanned, GainsStartup, AreImportsOf};
 
 use init_plan::held_agreement_laws;
 use plan_run::agreement_law;
@@ -41,10 +42,15 @@ pub fn translated_is_finished()
 }
 
 /// Struct types have as many fields as in the module, where the types of a translation are the indices of the declared ones, and the list is
-/// the interned list of the module; and so they have in each plan that `translate_module` answers.
+/// the interned list of the module. So they have in what `translate` answers, with the list that `finish` gives once both finalize calls have
+/// succeeded on it, and in each plan that `translate_module` answers.
 pub fn fields_law()
     ensures listed { (m : Module) (t : ModuleTranslation) (types : TypeList) (startup : Bool) → Keeps m → t.module.types ≡ map type_index (declared m)
         → map interned_of types.types ≡ (interned_list m startup).types → HasFieldsOf m t types }
+    ensures translated { (tunables : Tunables) (index : Index StaticModuleSpace) (validator : ℕ) (bytes : List ℕ) (types mid_types new_types : BuilderState)
+        (options : ImageOptions) (lazy : Bool) (old mid new : ModuleTranslation) (list : TypeList) (told : IsTranslated tunables index validator bytes old types)
+        → MemoriesArePlanned options old mid → GainsStartup old types mid_types → TablesArePlanned lazy mid new → GainsStartup mid mid_types new_types
+        → list ≡ new_types.list → HasFieldsOf told.meaning new list }
     ensures planned { (o : Options) (bytes : List ℕ) (plan : Plan) (is : IsPlanned o bytes plan) → HasFieldsOf is.meaning plan.translation plan.types }
 {}
 
@@ -58,3 +64,9 @@ pub fn laid_law()
     // What the proof rests on: it does nothing when it is run.
     agreement_law();
 }
+
+/// Options never matter to what a plan gives. Two plans of the same bytes, whatever each was planned with, begin alike over any imports. Each
+/// may be read by its map or by its list.
+pub fn options_law()
+    ensures { (o p : Options) (bytes : List ℕ) (one other : Plan) → IsPlanned o bytes one → IsPlanned p bytes other → BeginAlike one other }
+{}

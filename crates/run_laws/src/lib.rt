@@ -3,4 +3,4 @@
 
 mod laws;
 
-pub use laws::{fields_law, laid_law, translated_is_finished};
+pub use laws::{fields_law, laid_law, options_law, translated_is_finished};

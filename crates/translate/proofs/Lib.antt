@@ -13,3 +13,4 @@ mod PlansFit
 mod Planning
 mod Printable
 mod WholeInput
+mod Causes

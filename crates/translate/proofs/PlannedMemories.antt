@@ -2,7 +2,8 @@
 use Rattle.std.proofs.Common.{◌≡◌, ◌<◌, ◌-◌, ◌^◌, ℕ, List, length, map, None, refl, ap}
 use Rattle.std.specs.Prelude.{Contains, slice_get, sum_by}
 use Rattle.wasm_spec.specs.Module.{Module, imported_memories, defined_memories, segments}
-use Rattle.replay_spec.specs.Data.{ActiveSegment, active_segments}
+use Rattle.replay_spec.specs.Data.{ActiveSegment}
+use Rattle.replay_spec.specs.Held.{held_segments}
 use Rattle.replay_spec.specs.Images.{ImageMemory, image_memory_of, IsStatic, IsMemoryPlan}
 use Rattle.replay_spec.specs.Plan.{MemoryPlan, ranges_from}
 use Rattle.init_plan.specs.declared.translation.ModuleTranslation.{ModuleTranslation}
@@ -44,7 +45,7 @@ module _ (i : InitOptions) (m : Module) (old : ModuleTranslation) (has : HoldsDa
 
   to_module : (P : ℕ → List ImageMemory → List ActiveSegment → List (List ℕ) → Type 0)
       → P old.module.num_imported_memories (image_memories old.module) (initializers_of old) (held.passive_bytes old)
-      → P (length (imported_memories m)) (map image_memory_of (defined_memories m)) (active_segments m) (passive_bytes m)
+      → P (length (imported_memories m)) (map image_memory_of (defined_memories m)) (held_segments m) (passive_bytes m)
   to_module P h = rw (← has.holds.imports, ← has.memories, ← has.holds.active, ← passive_same) h
 
   -- the runtime data of both have the same sizes

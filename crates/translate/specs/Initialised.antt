@@ -4,7 +4,7 @@ use Rattle.std.specs.Option.{option_and_then}
 use Rattle.wasm_spec.specs.Module.{Module, DataKind, Passive, Active, Segment, segments, imported_memories, defined_memories}
 use Rattle.rule_spec.specs.Rules.{Keeps}
 use Rattle.wasm_index.specs.Index.{index_of}
-use Rattle.replay_spec.specs.Data.{active_segments}
+use Rattle.replay_spec.specs.Held.{held_segments}
 use Rattle.replay_spec.specs.Images.{image_memory_of}
 use Rattle.replay_spec.specs.Plan.{ranges_from}
 use Rattle.module_types.specs.Builder.{BuilderState, builder_view}
@@ -69,7 +69,7 @@ pub record InitialisesMemories (i : InitOptions) (m : Module) (t : ModuleTransla
   pub imaged : ¬ IsSegmented t.module.memory_initialization → BecomesImages i m × (t.data_align ≡ Some i.page_size)
   pub processed : IsProcessed t.memory_init
   -- each image is whole pages within its memory, has the contents, and is tight
-  pub tight : HasTightImages (images i) (length (imported_memories m)) (map image_memory_of (defined_memories m)) (active_segments m)
+  pub tight : HasTightImages (images i) (length (imported_memories m)) (map image_memory_of (defined_memories m)) (held_segments m)
       (passive_bytes m) (memory_plan_of t)
   -- the ranges of runtime data stand end to end from 0, those of images from page to page
   pub ranges : ranges_of t.module ≡ ranges_from 0 (map length (memory_plan_of t).runtime)

@@ -4,3 +4,4 @@ pub mod Valid
 pub mod Initialised
 pub mod Planned
 pub mod Runs
+pub mod Worked

@@ -3,8 +3,7 @@ use Rattle.std.specs.Prelude.{ℕ, Bool, true, false, List, length, map}
 use Rattle.wasm_spec.specs.Module.{Module, segments, table_import, imported_of, imported_memories, defined_memories}
 use Rattle.rule_spec.specs.Lists.{lists_of_module}
 use Rattle.wasm_types.specs.declared.tunables.Tunables.{Tunables}
-use Rattle.replay_spec.specs.Data.{active_segments}
-use Rattle.replay_spec.specs.Elements.{defined_tables, active_elements}
+use Rattle.replay_spec.specs.Held.{held_segments, held_tables, held_elements}
 use Rattle.replay_spec.specs.Images.{ImageOptions, IsStatic, IsMemoryPlan, image_memory_of}
 use Rattle.replay_spec.specs.Plan.{MemoryPlan}
 use Rattle.replay_spec.specs.Startup.{Startup, Never, Always, IfMemoriesNeedInit, startup_of}
@@ -53,21 +52,21 @@ passive_bytes m = map (λ p. p.1) (passive_data_from 0 (segments m))
 module _ (i : InitOptions) (m : Module) where
   -- all active data segments of the module become images
   abbrev pub BecomesImages : Type 0
-  BecomesImages = IsStatic (images i) (length (imported_memories m)) (map image_memory_of (defined_memories m)) (active_segments m)
+  BecomesImages = IsStatic (images i) (length (imported_memories m)) (map image_memory_of (defined_memories m)) (held_segments m)
 
   -- a plan of its memories
   abbrev pub PlansMemories : MemoryPlan → Type 0
-  PlansMemories plan = IsMemoryPlan (images i) (length (imported_memories m)) (map image_memory_of (defined_memories m)) (active_segments m) (passive_bytes m) plan
+  PlansMemories plan = IsMemoryPlan (images i) (length (imported_memories m)) (map image_memory_of (defined_memories m)) (held_segments m) (passive_bytes m) plan
 
   -- its runtime data have so many bytes as a fact says
   abbrev pub HasDataSize : (ℕ → Type 0) → Type 0
   HasDataSize P =
-      HasRuntimeSize (images i) (length (imported_memories m)) (map image_memory_of (defined_memories m)) (active_segments m) (passive_bytes m) P
+      HasRuntimeSize (images i) (length (imported_memories m)) (map image_memory_of (defined_memories m)) (held_segments m) (passive_bytes m) P
 
   -- a plan of its tables
   abbrev pub PlansTables : TablePlan → Type 0
   PlansTables plan = let l = lists_of_module m in
-      IsTablePlan i.tunables.table_lazy_init (length (imported_of table_import m)) (defined_tables l) (active_elements l.elements) plan
+      IsTablePlan i.tunables.table_lazy_init (length (imported_of table_import m)) (held_tables l) (held_elements l.elements) plan
 
 -- when its startup function runs
 abbrev pub startup_by : Module → MemoryPlan → TablePlan → Startup

@@ -12,6 +12,7 @@ use Rattle.plan_text.specs.Summary.{summary_of}
 use Rattle.plan_text.specs.Refusals.{text_of_refusal}
 use Rattle.translate.specs.Options.{Options, options_of}
 use Rattle.translate.specs.Planned.{IsPlanned, HasCause}
+use Rattle.translate.specs.Valid.{IsValid}
 
 -- the words name a command, of which a fact holds
 pub record Commands (words : List (List ℕ)) (P : Command → Type 0) : Type 0 where
@@ -45,10 +46,11 @@ text_for (Some n) bytes plan = summary_of n (length bytes) plan
 
 -- ---- statuses
 
--- the refusal is not that memory ran out, and has its cause in the bytes; of 2 ^ 30 bytes it is that they are too many
+-- the refusal is not that memory ran out, and has its cause in the bytes, which are not valid; of 2 ^ 30 bytes it is that they are too many
 pub record IsRefused (o : Options) (bytes : List ℕ) (refusal : TranslateError) : Type 0 where
   pub not_memory : refusal ≢ OutOfMemory
   pub cause : HasCause o bytes refusal
+  pub not_valid : ¬ IsValid o bytes
   pub long : length bytes ≡ 2 ^ 30 → refusal ≡ TooLarge
 
 module _ (bytes : List ℕ) (left : Option (List ℕ)) (plan : Option Plan) (refusal : Option TranslateError) (before after : Option (List ℕ)) where

@@ -41,6 +41,8 @@ pub(crate) fn answer<'d, K: Sink>(
     ensures nothing { result.status ≡ 5 → IsNone result.plan × IsNone result.refusal × (sink.new ≡ sink.old) }
     ensures counted { K.faults sink.old ≤ K.faults sink.new }
     ensures too_long { 2 ^ 30 ≤ length bytes.now → (result.status ≡ 1) ⊎ (result.status ≡ 4) }
+    // Valid bytes are not refused, at any status.
+    ensures never_refused { IsValid (options_of command.now) bytes.now → IsNone result.refusal }
     ensures complete { IsValid (options_of command.now) bytes.now → result.status ≢ 1 }
 {
     match planned_text(alloc, command, bytes) {

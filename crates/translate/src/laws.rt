@@ -1,13 +1,16 @@
 //! What follows from a module and the options alone.
 
-ghost use Rattle.std.specs.Prelude.{◌≡◌, ◌^◌, ◌≤◌, ◌↔◌, length, sum_by};
+ghost use Rattle.std.specs.Prelude.{◌≡◌, ◌^◌, ◌≤◌, ◌↔◌, ℕ, List, length, sum_by};
 ghost use Rattle.wasm_spec.specs.Module.{Module};
 ghost use Rattle.replay_spec.specs.Plan.{MemoryPlan};
 ghost use Rattle.replay_spec.specs.Tables.{TablePlan};
 ghost use Rattle.translate.specs.Contexts.{context_of};
 ghost use Rattle.translate.specs.Options.{InitOptions, Options, PlansMemories, PlansTables, startup_by};
-ghost use Rattle.translate.specs.Planned.{HasMuchData};
+ghost use Rattle.translate.specs.Planned.{HasCause, HasMuchData};
+ghost use Rattle.translate.specs.Valid.{IsValid};
+ghost use Rattle.plan.specs.declared.error.TranslateError.{TranslateError};
 
+use plan::TranslateError;
 use replay_spec::{memory_plan_exists_laws, table_plan_exists_law};
 
 /// Each module has a plan of its memories and one of its tables, and all its plans give the same sizes: the same runtime data, and the same
@@ -27,3 +30,8 @@ pub fn sizes_law()
     memory_plan_exists_laws();
     table_plan_exists_law();
 }
+
+/// Valid bytes have no cause of a refusal but that memory runs out.
+pub fn causes_law()
+    ensures { (o : Options) (bytes : List ℕ) (e : TranslateError) → IsValid o bytes → HasCause o bytes e → e ≡ TranslateError.OutOfMemory }
+{}

@@ -101,6 +101,10 @@ pub fn run<'d, S: Source, K: Sink>(
         Names (map string_bytes words.now) command → IsInput command.generate (S.left source.old) input → IsValid (options_of command) input
         → ¬ Rose (S.faults source.old) (S.faults source.new) → ¬ Rose (K.faults sink.old) (K.faults sink.new)
         → (result.status ≡ 0) ⊎ (result.status ≡ 5) }
+
+    // Where the bytes that were read, or made, are valid, no refusal is kept, at any status, whether the source tells its bytes or not.
+    ensures never_refused { (command : Command) → Names (map string_bytes words.now) command → IsValid (options_of command) result.bytes.now
+        → IsNone result.refusal }
 {
     let Some(command) = read_words(words) else {
         return empty_report(USAGE, &[]);

@@ -28,7 +28,7 @@ pub record HasPlanned (told : Option (List ℕ)) (Printed : List ℕ → Type 0)
   pub planned : IsPlanned (options_of c) bytes plan
   pub printed : Printed (text_for c.generate bytes plan)
 
--- the input, or its front, is refused with its cause, whose line is printed
+-- the input, or its front, is not valid, and is refused with its cause, whose line is printed
 pub record HasRefused (told : Option (List ℕ)) (Printed : List ℕ → Type 0) (c : Command) : Type 0 where
   pub bytes : List ℕ
   pub input : IsGiven c.generate (front_of told) bytes

@@ -57,7 +57,7 @@ pub fn run_over<R: Read + Drop, W: Write + Drop, T: Telling>(
     ensures success { exit_status result.exit ≡ 0 → Commands (map string_bytes words.now)
         (HasPlanned (told_if T.reads (R.remaining reader)) (Gains (told_if T.writes (W.contents writer)) result.sink.told)) }
 
-    // Status 1: they are refused with their cause, and the writer gained the line of the refusal.
+    // Status 1: they are not valid, and refused with their cause; the writer gained the line of the refusal.
     ensures refused { exit_status result.exit ≡ 1 → Commands (map string_bytes words.now)
         (HasRefused (told_if T.reads (R.remaining reader)) (Gains (told_if T.writes (W.contents writer)) result.sink.told)) }
 
@@ -75,7 +75,7 @@ pub fn run_over<R: Read + Drop, W: Write + Drop, T: Telling>(
     ensures read_failed { exit_status result.exit ≡ 3 → (0 < result.source.faults) × Commands (map string_bytes words.now) (λ c. c.generate ≡ None) }
     ensures no_read_failed { exit_status result.exit ≢ 3 → result.source.faults ≡ 0 }
 
-    // Status 4: a write failed, exactly, and the writer gained a part of the text or of the line.
+    // Status 4: a write failed, exactly, and the writer gained a part of the text or of the line. What was refused is not valid here either.
     ensures write_failed { exit_status result.exit ≡ 4 → 0 < result.sink.faults }
     ensures no_write_failed { exit_status result.exit ≢ 4 → result.sink.faults ≡ 0 }
     ensures cut_short { exit_status result.exit ≡ 4 → Commands (map string_bytes words.now)

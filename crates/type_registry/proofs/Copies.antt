@@ -16,7 +16,7 @@ use Rattle.module_types.specs.Views.{index_at}
 use Rattle.module_types.specs.TypeList.{TypeList}
 use Rattle.module_types.specs.ListGroups.{unkinded, types_in, span_at}
 use Rattle.module_types.proofs.Standing.{stands-at}
-use Rattle.type_registry.specs.Listed.{Listed, list_of}
+use Rattle.module_types.specs.Listed.{Listed, list_of}
 use Rattle.type_registry.specs.Changes.{members_of, edges_of, IsGiven}
 
 pub take-next : {A : Type 0} (xs : List A) (k : ℕ) (x : A) → slice_get xs k ≡ Some x → take (suc k) xs ≡ take k xs ++ x ∷ []

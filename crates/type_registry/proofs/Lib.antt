@@ -5,7 +5,6 @@ pub mod Keeping
 pub mod Leaving
 pub mod Telling
 pub mod UsedTypes
-pub mod ListedLists
 pub mod Counting
 pub mod NewGroups
 pub mod KeepingAll
@@ -27,3 +26,4 @@ pub mod PlannedLists
 pub mod SameNames
 pub mod Digests
 pub mod Filled
+pub mod LiveTypes

@@ -22,7 +22,7 @@ use Rattle.module_types.specs.Conversion.{no_span}
 use Rattle.module_types.proofs.Standing.{stands-at}
 use Rattle.type_registry.specs.Registry.{Group, Groups, GroupsState, indices_of}
 use Rattle.type_registry.specs.Changes.{Plan, begun, find_group, keep_group, keep_groups, members_of, at_first, free_indices, next_group, canonical_of, take_group, plan_group, plan_groups, size_of, with_group}
-use Rattle.type_registry.specs.Listed.{Listed, list_of}
+use Rattle.module_types.specs.Listed.{Listed, list_of}
 use Rattle.type_registry.specs.Planning.{MayBePlanned, MayBePlannedFrom, HaveFirstFree, plan}
 use Rattle.type_registry.specs.Counted.{counted}
 use Rattle.type_registry.proofs.Counting.{counted-keep}

@@ -8,7 +8,7 @@ use Rattle.wasm_types.specs.declared.sub.WasmSubType.{WasmSubType}
 use Rattle.module_types.specs.Views.{span_of}
 use Rattle.module_types.specs.TypeList.{TypeList}
 use Rattle.type_registry.specs.Registry.{Registry, Group, Groups, GroupsState, indices_of}
-use Rattle.type_registry.specs.Listed.{list_of}
+use Rattle.module_types.specs.Listed.{list_of}
 use Rattle.type_registry.specs.Changes.{Plan, begun, find_group, planned, registered, size_of, keep_groups}
 use Rattle.type_registry.specs.Fresh.{MayKeepAll}
 use Rattle.type_registry.specs.Standing.{AreAbove, AreOrdered, IsSound, GroupStands, Stands, MayRegister}

@@ -12,7 +12,7 @@ use Rattle.module_types.proofs.Standing.{stands-at}
 use Rattle.module_types.proofs.ToldByForms.{told-by-forms}
 use Rattle.type_registry.specs.Registry as registry
 use Rattle.type_registry.specs.Registry.{Registry, Group}
-use Rattle.type_registry.specs.Listed.{Listed, list_of}
+use Rattle.module_types.specs.Listed.{Listed, list_of}
 use Rattle.type_registry.specs.Changes.{given, members_of}
 use Rattle.type_registry.specs.Standing.{kept_at, GroupStands, Stands, TellsTypes}
 use Rattle.type_registry.proofs.Copies.{get-dropped, members-are}

@@ -12,11 +12,11 @@ use Rattle.type_registry.specs.Owners.{owner_at}
 use Rattle.type_registry.specs.Keeping.{kept_from, group_in, AreKept}
 use Rattle.type_registry.proofs.OwnerLists.{place-any}
 
-abbrev or_else : Option UsedType → Option UsedType → Option UsedType
+abbrev pub or_else : Option UsedType → Option UsedType → Option UsedType
 or_else None o = o
 or_else (Some t) o = Some t
 
-lookup-both : (n : ℕ) (xs ys : List (ℕ × UsedType)) → lookup (nat_eq n) (xs ++ ys) ≡ or_else (lookup (nat_eq n) xs) (lookup (nat_eq n) ys)
+pub lookup-both : (n : ℕ) (xs ys : List (ℕ × UsedType)) → lookup (nat_eq n) (xs ++ ys) ≡ or_else (lookup (nat_eq n) xs) (lookup (nat_eq n) ys)
 lookup-both n [] ys = refl
 lookup-both n (x ∷ xs) ys = let rest = lookup-both n xs ys in grind (arith, nat_tests)
 

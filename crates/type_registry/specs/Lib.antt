@@ -2,7 +2,6 @@ pub mod Keys
 pub mod Registry
 pub mod Owners
 pub mod Keeping
-pub mod Listed
 pub mod Changes
 pub mod Standing
 pub mod Counted

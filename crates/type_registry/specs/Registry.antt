@@ -1,14 +1,15 @@
 -- A registry as one plain value.
-use Rattle.std.specs.Prelude.{ℕ, nat_eq, List, [], map, length, get_or, slice_get, Option, None, option_and_then}
+use Rattle.std.specs.Prelude.{ℕ, nat_eq, List, [], map, length, get_or, slice_get, All, Option, None, IsSome, option_and_then}
 use Rattle.std.specs.List.{flat_map, zip}
 use Rattle.std.specs.Map.{lookup}
 use Rattle.std.specs.Option.{option_map}
-use Rattle.wasm_spec.specs.TypeData.{SubType, map_sub_type}
-use Rattle.type_data.specs.Names.{named}
+use Rattle.wasm_spec.specs.TypeData.{SubType, map_sub_type, sub_type_edges}
+use Rattle.type_data.specs.Names.{named, index_of as index_in}
 use Rattle.wasm_index.specs.Index.{number_of, index_of}
 use Rattle.wasm_types.specs.declared.index.EngineOrModuleTypeIndex.{EngineOrModuleTypeIndex}
 use Rattle.wasm_types.specs.declared.index.EngineOrModuleTypeIndex.TheVariants as index
 use Rattle.wasm_types.specs.declared.sub.WasmSubType.{WasmSubType}
+use Rattle.wasm_types.specs.Views.{engine_index}
 use Rattle.wasm_types.specs.ValueViews.{Name}
 use Rattle.wasm_types.specs.TypeViews.{sub_type_of}
 
@@ -95,6 +96,10 @@ used_type indices t = map_sub_type (named (used_edge indices)) (used_edge indice
 -- each live index with its type, whose references are the engine's alone
 abbrev pub used_types : Groups → List (ℕ × UsedType)
 used_types gs = flat_map (λ (e : ℕ × Group). zip e.1.indices (map (used_type e.1.indices) e.1.canonical)) gs
+
+-- each reference of a type is the engine's
+abbrev pub HasEngineEdges : WasmSubType → Type 0
+HasEngineEdges t = All (λ e. IsSome (engine_index e)) (sub_type_edges index_in (sub_type_of t))
 
 abbrev pub type_at : Registry → ℕ → Option UsedType
 type_at r i = lookup (nat_eq i) (used_types r.groups)

@@ -8,7 +8,7 @@ use Rattle.module_types.specs.Views.{span_of}
 use Rattle.module_types.specs.TypeList.{TypeList}
 use Rattle.module_types.specs.ListGroups.{list_groups}
 use Rattle.type_registry.specs.Registry.{Registry, Group, Groups, Module, index_at, live}
-use Rattle.type_registry.specs.Listed.{Listed, list_of}
+use Rattle.module_types.specs.Listed.{Listed, list_of}
 use Rattle.type_registry.specs.Changes.{size_of, canonical_data, fresh}
 
 -- the group that is kept at a first index

@@ -1,12 +1,12 @@
 //! The groups that are kept.
 
-ghost use Rattle.std.specs.Prelude.{◌≡◌, ◌+◌, ◌≤◌, ◌<◌, [], false, length, nat_eq, IsSome, OnOk};
+ghost use Rattle.std.specs.Prelude.{◌≡◌, ◌+◌, ◌≤◌, ◌<◌, [], false, length, nat_eq, IsSome, IfSome, OnOk};
 ghost use Rattle.std.specs.List.{list_any};
 ghost use Rattle.std.specs.Map.{lookup, remove_entry};
 ghost use Rattle.std.specs.Option.{option_copied, option_map};
 ghost use Rattle.wasm_types.specs.TypeViews.{sub_type_of};
 ghost use Rattle.wasm_index.specs.Index.{number_of};
-ghost use Rattle.type_registry.specs.Registry.{Group, indices_of, used_types};
+ghost use Rattle.type_registry.specs.Registry.{Group, HasEngineEdges, indices_of, used_types};
 ghost use Rattle.type_registry.specs.Changes.{leave_group, count_group, keep_group, with_count, find_group, first_index};
 ghost use Rattle.type_registry.specs.Fresh.{MayBeKept};
 ghost use Rattle.type_registry.specs.Counted.{counted};
@@ -76,7 +76,8 @@ impl Groups {
 
     /// The live type at an index, whose references are all the engine's.
     pub(crate) fn get(&self, index: VMSharedTypeIndex) -> Option<&WasmSubType>
-        ensures { option_map sub_type_of (option_copied result) ≡ lookup (nat_eq (number_of index)) (used_types self.now.groups) }
+        ensures found { option_map sub_type_of (option_copied result) ≡ lookup (nat_eq (number_of index)) (used_types self.now.groups) }
+        ensures engine { IfSome result (λ t. HasEngineEdges t.now) }
     {
         let owner = owner_of(&self.owners, index.index())?;
         let kept = group_at(&self.kept, owner.first as usize)?;

@@ -1,10 +1,10 @@
 //! What a registry keeps of groups and of modules.
 
-ghost use Rattle.std.specs.Prelude.{◌≡◌, ◌<◌, ◌+◌, Some, IfOk, OnOk, length, map, slice_get};
+ghost use Rattle.std.specs.Prelude.{◌≡◌, ◌<◌, ◌+◌, Some, IfSome, IfOk, OnOk, length, map, slice_get};
 ghost use Rattle.std.specs.Option.{option_copied, option_map};
 ghost use Rattle.wasm_types.specs.TypeViews.{sub_type_of};
 ghost use Rattle.type_registry.specs.Changes.{begun, with_indices, with_group};
-ghost use Rattle.type_registry.specs.Registry.{used_type};
+ghost use Rattle.type_registry.specs.Registry.{HasEngineEdges, used_type};
 ghost use Rattle.wasm_index.specs.Index.{number_of};
 
 use entity_map::{EntityRef, OutOfMemory};
@@ -24,10 +24,10 @@ pub(crate) struct Kept {
 }
 
 impl Model for Kept {
-    ghost use Rattle.std.specs.Prelude.{◌≡◌, ◌<◌, length, map};
+    ghost use Rattle.std.specs.Prelude.{◌≡◌, ◌<◌, length, map, All};
     ghost use Rattle.wasm_index.specs.Index.{number_of};
     ghost use Rattle.wasm_types.specs.TypeViews.{sub_type_of};
-    ghost use Rattle.type_registry.specs.Registry.{Group, used_type};
+    ghost use Rattle.type_registry.specs.Registry.{Group, HasEngineEdges, used_type};
 
     ghost Value = { Group };
 
@@ -35,7 +35,8 @@ impl Model for Kept {
 
     ghost invariant = { λ k. (0 < length k.indices.items)
         × (map sub_type_of k.types.items ≡ map (used_type (map number_of k.indices.items)) k.canonical.value)
-        × (length k.types.items ≡ length k.indices.items) };
+        × (length k.types.items ≡ length k.indices.items)
+        × All HasEngineEdges k.types.items };
 }
 
 impl Kept {
@@ -71,7 +72,8 @@ impl Kept {
 
     /// The type of the member at a place as it is used.
     pub(crate) fn type_at(&self, place: usize) -> Option<&WasmSubType>
-        ensures { option_map sub_type_of (option_copied result) ≡ slice_get (map (used_type self.now.indices) self.now.canonical) place }
+        ensures found { option_map sub_type_of (option_copied result) ≡ slice_get (map (used_type self.now.indices) self.now.canonical) place }
+        ensures engine { IfSome result (λ t. HasEngineEdges t.now) }
     {
         self.types.get(place)
     }

@@ -9,7 +9,7 @@ ghost use Rattle.module_types.specs.ListGroups.{IsWellNamed};
 ghost use Rattle.module_types.specs.TypeList.{TypeList};
 ghost use Rattle.type_registry.specs.Registry.{Registry, empty, index_at};
 ghost use Rattle.type_registry.specs.Changes.{registered, released};
-ghost use Rattle.type_registry.specs.Listed.{Listed, list_of};
+ghost use Rattle.module_types.specs.Listed.{Listed, list_of};
 ghost use Rattle.type_registry.specs.Standing.{IsSound, LiveWhereHeld, MayRegister, Stands, TellsTypes};
 ghost use Rattle.type_registry.specs.Balanced.{IsBalanced};
 

@@ -8,7 +8,7 @@ ghost use Rattle.module_types.specs.Views.{span_of};
 ghost use Rattle.type_registry.specs.declared.error.RegistryError.TheVariants as refused;
 ghost use Rattle.type_registry.specs.Registry.{indices_of};
 ghost use Rattle.type_registry.specs.Changes.{at_first, begun, canonical_data, canonical_of, find_group, free_indices, new_group, next_group, plan_group, plan_groups, with_group};
-ghost use Rattle.type_registry.specs.Listed.{Listed};
+ghost use Rattle.module_types.specs.Listed.{Listed};
 ghost use Rattle.type_registry.specs.Planning.{HaveFirstFree, MayBePlanned, plan};
 
 use crate::error::RegistryError;

@@ -1,16 +1,16 @@
 //! The registry.
 
-ghost use Rattle.std.specs.Prelude.{◌≡◌, ◌↔◌, ◌<◌, ◌+◌, ℕ, length, IsTrue, IsSome, IsOk, IfOk, OnOk, OnErr, IsErrOf};
+ghost use Rattle.std.specs.Prelude.{◌≡◌, ◌↔◌, ◌<◌, ◌+◌, ℕ, length, Contains, IsTrue, IsSome, IsOk, IfSome, IfOk, OnOk, OnErr, IsErrOf};
 ghost use Rattle.std.specs.Option.{option_copied, option_map};
 ghost use Rattle.wasm_types.specs.TypeViews.{sub_type_of};
 ghost use Rattle.wasm_index.specs.Index.{number_of};
 ghost use Rattle.type_registry.specs.declared.error.RegistryError.TheVariants as refused;
 ghost use Rattle.type_registry.specs.Keys.{key_number};
-ghost use Rattle.type_registry.specs.Registry.{registry_of, empty, index_at, count_of, live, type_at};
+ghost use Rattle.type_registry.specs.Registry.{registry_of, empty, index_at, count_of, live, type_at, HasEngineEdges};
 ghost use Rattle.type_registry.specs.Changes.{registered, released, planned, fresh, IsFull, leave_groups, count_groups, keep_groups};
 ghost use Rattle.type_registry.specs.Counted.{counted};
 ghost use Rattle.type_registry.specs.Fresh.{MayKeepAll};
-ghost use Rattle.type_registry.specs.Listed.{Listed};
+ghost use Rattle.module_types.specs.Listed.{Listed};
 ghost use Rattle.type_registry.specs.Standing.{LiveWhereHeld, Stands};
 ghost use Rattle.module_types.specs.TypeList.{TypeList};
 
@@ -162,7 +162,9 @@ impl TypeRegistry {
 
     /// The live type at an index, whose references are all the engine's: none where the index is not live.
     pub fn get(&self, index: VMSharedTypeIndex) -> Option<&WasmSubType>
-        ensures { option_map sub_type_of (option_copied result) ≡ type_at (registry_of self.now) (number_of index) }
+        ensures found { option_map sub_type_of (option_copied result) ≡ type_at (registry_of self.now) (number_of index) }
+        ensures live { IsSome result ↔ Contains (live (registry_of self.now)) (number_of index) }
+        ensures engine { IfSome result (λ t. HasEngineEdges t.now) }
     {
         self.groups.get(index)
     }

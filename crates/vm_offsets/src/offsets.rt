@@ -12,6 +12,7 @@ use std::alloc::AllocError;
 use vm_structs::PtrSize;
 
 /// The layout of a context: where each of its parts begins, and its size.
+#[derive(Debug)]
 pub struct VMOffsets<P: PtrSize> {
     pub(crate) fields: VMOffsetsFields<P>,
     pub(crate) entries: [Entry; 14],

@@ -14,7 +14,7 @@ use vm_structs::offsets::{
 };
 
 /// An entry at its place.
-#[derive(Clone, Copy)]
+#[derive(Clone, Copy, Debug)]
 pub struct Entry {
     pub begin: u32,
     pub stride: u32,

@@ -3,4 +3,3 @@ pub mod Known
 pub mod Operators
 pub mod Constants
 pub mod Evaluation
-pub mod Kept

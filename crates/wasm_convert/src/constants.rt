@@ -18,30 +18,22 @@ use std::marker::Model;
 use wasm_index::FuncIndex;
 use wasm_spec::Operator;
 
-/// A constant expression: its operators, of which there is at least one. One is kept without an allocation.
+/// A constant expression: its operators, of which there is at least one. Two are kept without an allocation.
 #[derive(Drop)]
 pub struct ConstExpr {
-    kept: Kept,
-}
-
-// The operators of an expression. Nearly all have one, and a list with room for one takes 16 bytes more.
-#[derive(Drop)]
-pub(crate) enum Kept {
-    One([ConstOp; 1]),
-    List(Vec<ConstOp>),
+    ops: SmallVec<ConstOp, 2>,
 }
 
 /// A contract sees the list of the operators.
 impl Model for ConstExpr {
     ghost use Rattle.std.specs.Prelude.{List, ◌<◌, length};
     ghost use Rattle.wasm_convert.specs.declared.operators.ConstOp.{ConstOp};
-    ghost use Rattle.wasm_convert.specs.Kept.{kept_ops};
 
     ghost Value = { List ConstOp };
 
-    ghost view = { λ e. kept_ops e.kept };
+    ghost view = { λ e. e.ops.items };
 
-    ghost invariant = { λ e. 0 < length (kept_ops e.kept) };
+    ghost invariant = { λ e. 0 < length e.ops.items };
 }
 
 // Appends the function to which the operator makes a reference, if it makes one.
@@ -71,24 +63,22 @@ impl ConstExpr {
     /// The expression of these operators.
     ///
     /// # Errors
-    /// `OutOfMemory`, only for more than one operator.
+    /// `OutOfMemory`, only for more than two operators.
     pub fn new(alloc: Global, ops: &[ConstOp]) -> Result<Self, OutOfMemory>
         requires { 0 < length ops.now }
         ensures listed { IfOk result (λ e. e ≡ ops.now) }
-        ensures without_memory { length ops.now ≤ 1 → IsOk result }
+        ensures without_memory { length ops.now ≤ 2 → IsOk result }
     {
-        let kept = match ops {
-            [op] => Kept::One([*op]),
-            _ => Kept::List(Vec::from_slice(alloc, ops)?),
-        };
-        Ok(ConstExpr { kept })
+        Ok(ConstExpr {
+            ops: SmallVec::from_slice(alloc, ops)?,
+        })
     }
 
     /// The expression that was read, each operator converted, and the functions to which it makes references,
     /// in order: those escape. Of the expression each heap type must be known, and each index below `u32::MAX`.
     ///
     /// # Errors
-    /// `OutOfMemory`, only for more than one operator or more than one function.
+    /// `OutOfMemory`, only for more than two operators or more than one function.
     #[inline(always)]
     pub fn from_wasmparser(
         alloc: Global,
@@ -100,19 +90,13 @@ impl ConstExpr {
         ensures converted { IfOk result (λ r. r.0 ≡ const_ops_of (look_up env.now) expr.now.ops.items) }
         ensures escaping { IfOk result (λ r. r.1.items ≡ functions_of expr.now.ops.items) }
     {
+        let mut ops = SmallVec::with_capacity(alloc, expr.ops.len())?;
         let mut escaped = SmallVec::new(alloc);
-        if let [op] = expr.ops.as_slice() {
-            push_function(&mut escaped, op)?;
-            let kept = Kept::One([ConstOp::from_wasmparser(env, op)]);
-            return Ok((ConstExpr { kept }, escaped));
-        }
-        let mut ops = Vec::with_capacity(alloc, expr.ops.len())?;
         for op in &expr.ops {
             push_function(&mut escaped, op)?;
             ops.push(ConstOp::from_wasmparser(env, op))?;
         }
-        let kept = Kept::List(ops);
-        Ok((ConstExpr { kept }, escaped))
+        Ok((ConstExpr { ops }, escaped))
     }
 
     /// The operators, of which there is at least one.
@@ -120,10 +104,7 @@ impl ConstExpr {
         ensures listed { result.now ≡ self.now }
         ensures some { 0 < length result.now }
     {
-        match &self.kept {
-            Kept::One(op) => op,
-            Kept::List(ops) => ops.as_slice(),
-        }
+        self.ops.as_slice()
     }
 
     /// The value of the expression where its operators are constants, sums, differences and products, at most
@@ -153,10 +134,10 @@ impl ConstExpr {
     /// An equal expression.
     ///
     /// # Errors
-    /// `OutOfMemory`, only for more than one operator.
+    /// `OutOfMemory`, only for more than two operators.
     pub fn try_clone(&self, alloc: Global) -> Result<Self, OutOfMemory>
         ensures equal { IfOk result (λ e. e ≡ self.now) }
-        ensures without_memory { length self.now ≤ 1 → IsOk result }
+        ensures without_memory { length self.now ≤ 2 → IsOk result }
     {
         Self::new(alloc, self.ops())
     }

@@ -4,7 +4,7 @@ ghost use Rattle.std.specs.Prelude.{◌≡◌};
 ghost use Rattle.wasm_spec.specs.declared.operators.Operator.{Operator};
 ghost use Rattle.wasm_convert.specs.Conversion.{LookUp};
 ghost use Rattle.wasm_convert.specs.Operators.{const_op_of, operator_of};
-ghost use Rattle.replay_spec.specs.Values.{any_null};
+ghost use Rattle.replay_spec.specs.Held.{any_null};
 
 /// An operator that is converted and then converted back is what replay sees of the operator: the heap type of a null reference
 /// becomes `any`.

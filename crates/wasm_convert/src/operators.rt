@@ -1,10 +1,11 @@
 //! Operators of constant expressions.
 
-ghost use Rattle.std.specs.Prelude.{◌≡◌, [], ◌∷◌};
+ghost use Rattle.std.specs.Prelude.{◌≡◌, [], ◌∷◌, pos};
 ghost use Rattle.std.specs.Int.{cast_unsigned, w32, w64};
 ghost use Rattle.std.specs.Option.{option_map};
 ghost use Rattle.replay_spec.specs.Values as plain;
 ghost use Rattle.replay_spec.specs.Values.{action};
+ghost use Rattle.wasm_convert.specs.declared.operators.ConstOp.TheVariants.{I32Const};
 ghost use Rattle.wasm_convert.specs.Constants.{plain_value_of};
 ghost use Rattle.wasm_convert.specs.Operators.{operator_of, const_op_of, name_of_operator, operands_of, place_of_operator, plain_result, KnowsOperator};
 
@@ -52,6 +53,15 @@ pub enum ConstOp {
     },
     ExternConvertAny,
     AnyConvertExtern,
+}
+
+/// The constant 0, which fills the unused room of a short list.
+impl Default for ConstOp {
+    ghost is_default = { λ op. op ≡ I32Const (pos 0) };
+
+    fn default() -> Self {
+        ConstOp::I32Const(0)
+    }
 }
 
 impl ConstOp {

@@ -29,11 +29,10 @@ pub enum TableInitialValue {
 /// An active element segment (core specification, 2.5, element segments).
 #[derive(Drop)]
 pub struct TableSegment {
+    pub table_index: TableIndex,
     /// Where in the table it begins.
     pub offset: ConstExpr,
     pub elements: TableSegmentElements,
-    // Fields lie in the order in which they are written: the short one comes last, and takes no room before the others.
-    pub table_index: TableIndex,
 }
 
 /// The elements of a segment.

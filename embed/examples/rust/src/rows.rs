@@ -4,9 +4,11 @@
 #[repr(C)]
 #[derive(Clone, Copy, Debug, PartialEq, Eq)]
 pub struct Options {
-    /// Memories begin as images, where the data segments allow it.
+    /// Memories begin as images, where the data segments allow it. A module can then ask for
+    /// `max_image` bytes with each memory that it defines, in some fifteen bytes of its own.
     pub cow: bool,
-    /// Tables begin as images, as far as their elements allow it.
+    /// Tables begin as images, as far as their elements allow it. A module can then ask for
+    /// 1,048,576 cells of four bytes with each table that it defines, in ten bytes of its own.
     pub lazy_tables: bool,
     pub branch_hints: bool,
     pub native_debug: bool,

@@ -5,7 +5,8 @@ use Rattle.form_data.specs.Views.{segment_of}
 use Rattle.form_reader.specs.SectionRows.{data_segment}
 use Rattle.form_lists.specs.Source.{source_module}
 use Rattle.form_lists.specs.Walk.{walk_left}
-use Rattle.replay_spec.specs.Data.{active_of_kind, active_segments}
+use Rattle.replay_spec.specs.Data.{active_of_kind}
+use Rattle.replay_spec.specs.Held.{held_segment, held_segments}
 use Rattle.init_plan.specs.Views.{active_segment_of, passive_data_of, SameButPassive}
 use Rattle.module_environ.specs.Initialisers.{passive_data_from}
 use Rattle.module_environ.specs.Segments.{AreDataConvertible}
@@ -18,7 +19,7 @@ invariant-loop-segments g l =
     record {
       few : l.index + length left < 1073741824;
       convertible : AreDataConvertible ((goal.TypeConvert-dyn g l.env.now).knows l.env.now.1) left;
-      added : map active_segment_of l.active.items ++ filter_map (λ s. active_of_kind s.kind s.bytes) left ≡ active_segments (source_module l.source);
+      added : map active_segment_of l.active.items ++ map held_segment (filter_map (λ s. active_of_kind s.kind s.bytes) left) ≡ held_segments (source_module l.source);
       noted : passive_data_of l.translation ++ passive_data_from l.index left
           ≡ passive_data_of l.initial.translation ++ passive_data_from 0 (segments (source_module l.source));
       same : SameButPassive l.initial.translation l.translation;

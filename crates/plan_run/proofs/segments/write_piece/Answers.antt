@@ -1,8 +1,8 @@
-use Rattle.std.proofs.Common.{◌/◌, ◌∙◌, length, ap, sym, refl, arith}
+use Rattle.std.proofs.Common.{◌∙◌, length, ap, sym, refl, arith}
 use Rattle.std.proofs.lemmas.Option.{slice_get_read, same_Some}
-use Rattle.paged_memory.specs.Memory.{reached}
 use Rattle.plan_run.specs.Memories.{data_piece}
-use Rattle.plan_run.proofs.PieceSteps.{writes-true, lend-set, not-lent-less}
+use Rattle.plan_run.proofs.LentPages.{but-set}
+use Rattle.plan_run.proofs.PieceSteps.{writes-true}
 use Rattle.plan_run.proofs.segments.write_piece.Goals as goal
 
 pub returns-clause-writes : goal.returns-clause-writes
@@ -22,5 +22,4 @@ returns-clause-lent c =
     let piece = c.args.piece.now in
     let memory = c.index_mut.result.now in
     let two = slice_get_read memories (length memories) piece.memory memory refl c.requires c.index_mut.ensures.value in
-    lend-set memories piece.memory memory c.write.new.self two
-    (rw c.in_ok-write.ensures.lent (not-lent-less (piece.place / memory.page) (reached memory.page piece.place piece.bytes.now) memory.lent))
+    but-set memories (data_piece piece) memory c.write.new.self two c.write.ensures.page c.in_ok-write.ensures.lent

@@ -15,3 +15,12 @@ returns-clause-memories_laid c = rw (c.deref.ensures.value, c.in_ok-globals.ensu
 
 pub returns-clause-tables_laid : goal.returns-clause-tables_laid
 returns-clause-tables_laid c = rw (c.deref-2.ensures.value, (all-mean-on c.in_ok-memories.ensures.grows.extends c.in_ok-globals.ensures.means).are) at c.in_ok-tables.ensures.laid
+
+pub returns-clause-terms : goal.returns-clause-terms
+returns-clause-terms c = record {
+  globals = (all-mean-on (extends-on c.in_ok-memories.ensures.grows.extends c.in_ok-tables.ensures.grows.extends) c.in_ok-globals.ensures.means).below;
+  tables = c.in_ok-tables.ensures.below;
+}
+
+pub returns-clause-lent : goal.returns-clause-lent
+returns-clause-lent c = rw (c.deref.ensures.value, c.in_ok-globals.ensures.means.are) at c.in_ok-memories.ensures.lent

@@ -1,12 +1,14 @@
-use Rattle.std.proofs.Common.{◌∙◌, inl, length, sym, arith}
+use Rattle.std.proofs.Common.{◌≡◌, ◌∙◌, [], inl, length, sym, arith}
+use Rattle.std.proofs.lemmas.List.{length-map}
 use Rattle.replay_spec.specs.Values.{offset_over}
 use Rattle.init_plan.specs.Views.{memory_plan_of}
+use Rattle.paged_memory.specs.Memory.{Contents}
 use Rattle.plan_run.specs.Fields.{field_count_in}
 use Rattle.plan_run.specs.Limits.{own_memories}
 use Rattle.plan_run.specs.Memories.{bytes_in, plan_phase}
 use Rattle.plan_run.specs.Segments.{left_pieces}
 use Rattle.plan_run.specs.Values.{values_in, terms_of}
-use Rattle.plan_run.proofs.Given.{each-small, images-within, memory-count, left-below, data-below, memories-hold, shared-after, nil-mapped}
+use Rattle.plan_run.proofs.Given.{each-small, images-within, memory-count, left-below, data-below, memories-hold, pages-lent, shared-after, nil-mapped}
 use Rattle.plan_run.proofs.Pieces.{pieces-left}
 use Rattle.plan_run.proofs.whole.lay_memories.Goals as goal
 
@@ -38,5 +40,34 @@ returns-clause-laid c =
     (pieces-left place_of plan c.args.way (bytes_in imported) ∙ sym (rw c.deref.ensures.value c.in_ok-pieces.ensures.pieces))
     (memories-hold t c.requires.finished c.args.way place_of imported memories c.requires.imports c.in_ok-memories.ensures))
 
+pub returns-clause-lent : goal.returns-clause-lent
+returns-clause-lent c =
+    let t = c.args.translation.now in
+    let plan = memory_plan_of t in
+    let place_of = offset_over (values_in (terms_of c.args.nodes.now.items) c.args.globals.now) (field_count_in t c.args.types.now) in
+    let imported = c.args.imported.items in
+    let memories = c.in_ok-memories.memories.items in
+    let new = c.write_pieces.new.memories.items in
+    let are = pieces-left place_of plan c.args.way (bytes_in imported) ∙ sym (rw c.deref.ensures.value c.in_ok-pieces.ensures.pieces) in
+    let phase = plan_phase c.args.way place_of (bytes_in imported) plan in
+    let hold = memories-hold t c.requires.finished c.args.way place_of imported memories c.requires.imports c.in_ok-memories.ensures in
+    let laid = c.in_ok-trap.ensures.writes phase are hold in
+    let count : length new ≡ length memories = omega (arith, laid.count, length-map new (λ (m : Contents). m.bytes)) in
+    let still : left_pieces c.args.way place_of plan plan.segments ≡ [] → new ≡ memories = λ none. grind (arith, nil-mapped) in
+    pages-lent t c.requires.finished c.args.way place_of imported memories c.requires.imports c.in_ok-memories.ensures new count (c.in_ok-trap.ensures.lent phase are hold) still
+
 pub returns-clause-shared : goal.returns-clause-shared
-returns-clause-shared c = grind (arith, shared-after, nil-mapped)
+returns-clause-shared c =
+    let t = c.args.translation.now in
+    let plan = memory_plan_of t in
+    let place_of = offset_over (values_in (terms_of c.args.nodes.now.items) c.args.globals.now) (field_count_in t c.args.types.now) in
+    let imported = c.args.imported.items in
+    let memories = c.in_ok-memories.memories.items in
+    let new = c.write_pieces.new.memories.items in
+    let are = pieces-left place_of plan c.args.way (bytes_in imported) ∙ sym (rw c.deref.ensures.value c.in_ok-pieces.ensures.pieces) in
+    let phase = plan_phase c.args.way place_of (bytes_in imported) plan in
+    let hold = memories-hold t c.requires.finished c.args.way place_of imported memories c.requires.imports c.in_ok-memories.ensures in
+    let laid = c.in_ok-trap.ensures.writes phase are hold in
+    let count : length new ≡ length memories = omega (arith, laid.count, length-map new (λ (m : Contents). m.bytes)) in
+    let still : left_pieces c.args.way place_of plan plan.segments ≡ [] → new ≡ memories = λ none. grind (arith, nil-mapped) in
+    shared-after t c.requires.finished c.args.way place_of imported memories c.requires.imports c.in_ok-memories.ensures new count (c.in_ok-trap.ensures.lent phase are hold) still

@@ -40,3 +40,8 @@ returns-clause-laid c =
     let held = tables-on c.in_ok-pieces.ensures.grows.extends c.in_ok-tables.ensures.means in
     rw (← many (goal.at.returns-clause-laid c).In_ok-tables) (c.write_elements-trap.ensures.writes (terms_of end) phase (sym are)
     (tables-hold globals fields imported (cells_in (terms_of end) tables) plan held.are c.requires.finished.tables.images))
+
+pub returns-clause-below : goal.returns-clause-below
+returns-clause-below c =
+    let held = tables-on c.in_ok-pieces.ensures.grows.extends c.in_ok-tables.ensures.means in
+    c.write_elements-trap.ensures.below (length c.pieces_kept.new.nodes.items) held.below (rw c.deref.ensures.value c.in_ok-pieces.ensures.means.below)

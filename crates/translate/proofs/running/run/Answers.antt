@@ -77,6 +77,10 @@ returns-in-Ok-clause-complete g c = λ command input names. rw (same (c.in-Some.
     (c.answer.ensures.complete (subst (IsValid (options_of c.in-Some.command)) (whole ∙ sym c.as_slice-bytes.ensures.value) valid))
     (λ failed. no_write_failed (c.answer.ensures.write_failed failed)))
 
+pub returns-in-Ok-clause-never_refused : goal.returns-in-Ok-clause-never_refused
+returns-in-Ok-clause-never_refused g c = λ command names.
+    rw (same (c.in-Some.ensures.complete command names), c.answer.ensures.bytes) c.answer.ensures.never_refused
+
 pub returns-in-Err-Failed-clause-within : goal.returns-in-Err-Failed-clause-within
 returns-in-Err-Failed-clause-within g c = λ command names.
     rw (same (c.in-Some.ensures.complete command names), c.empty_report-in-Err-Failed.ensures, c.as_slice-bytes.ensures.value)

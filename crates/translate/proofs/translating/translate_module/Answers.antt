@@ -23,18 +23,18 @@ returns-in_err-translation-clause-complete c = λ valid.
 -- ---- there are no layouts
 
 pub layouts_for-requires : goal.layouts_for-requires
-layouts_for-requires c = rw c.finish-types.ensures c.in_ok-translation.ensures.initialised.few
+layouts_for-requires c = rw c.finish-types.ensures.built c.in_ok-translation.ensures.initialised.few
 
 pub returns-in-Err-clause-cause : goal.returns-in-Err-clause-cause
 returns-in-Err-clause-cause c =
     let o = with_options c.args.tunables.now c.args.collector c.args.ptr c.args.page_size c.args.max_image in
-    layout-cause o c.in_ok-translation.ensures.initialised c.finish-types.ensures
+    layout-cause o c.in_ok-translation.ensures.initialised c.finish-types.ensures.built
     (λ is. c.layouts_for.ensures.overflow (c.in-Err.is ∙ ap Err is)) c.in-Err.ensures.causes
 
 pub returns-in-Err-clause-complete : goal.returns-in-Err-clause-complete
 returns-in-Err-clause-complete c =
     let o = with_options c.args.tunables.now c.args.collector c.args.ptr c.args.page_size c.args.max_image in
-    layout-complete o c.in_ok-translation.ensures.initialised c.finish-types.ensures
+    layout-complete o c.in_ok-translation.ensures.initialised c.finish-types.ensures.built
     (λ is. c.layouts_for.ensures.overflow (c.in-Err.is ∙ ap Err is)) c.in-Err.ensures.causes
 
 -- ---- the context is too large
@@ -45,12 +45,12 @@ new-requires-clause-imports c = holds_imports c.in_ok-translation.ensures.initia
 pub returns-clause-cause : goal.returns-clause-cause
 returns-clause-cause c =
     let o = with_options c.args.tunables.now c.args.collector c.args.ptr c.args.page_size c.args.max_image in
-    rw c.into.ensures (context-cause o c.in_ok-translation.ensures.initialised c.finish-types.ensures (c.in-Err-new.ensures.overflow.0 refl))
+    rw c.into.ensures (context-cause o c.in_ok-translation.ensures.initialised c.finish-types.ensures.built (c.in-Err-new.ensures.overflow.0 refl))
 
 pub returns-clause-complete : goal.returns-clause-complete
 returns-clause-complete c = λ valid.
     let o = with_options c.args.tunables.now c.args.collector c.args.ptr c.args.page_size c.args.max_image in
-    absurd (valid-fits o _ (context-cause o c.in_ok-translation.ensures.initialised c.finish-types.ensures (c.in-Err-new.ensures.overflow.0 refl)) valid)
+    absurd (valid-fits o _ (context-cause o c.in_ok-translation.ensures.initialised c.finish-types.ensures.built (c.in-Err-new.ensures.overflow.0 refl)) valid)
 
 -- ---- there is a plan
 
@@ -64,11 +64,11 @@ returns-in-Ok-new-clause-planned c =
       keeps = init.keeps;
       planned = record {
         translation = init.initialised;
-        types = same-lists o init c.finish-types.ensures;
+        types = same-lists o init c.finish-types.ensures.built;
         equal_types = told-apart init.meaning init.keeps;
         layouts = c.in-Ok.ensures.layouts;
         offsets = c.in-Ok-new.ensures.ok ∙ counts_same o init.initialised;
-        sizes = sizes-fit o init c.finish-types.ensures c.in-Ok.ensures.fits (λ large. let e : false ≡ true = c.in-Ok-new.ensures.overflow.1 large in cc);
+        sizes = sizes-fit o init c.finish-types.ensures.built c.in-Ok.ensures.fits (λ large. let e : false ≡ true = c.in-Ok-new.ensures.overflow.1 large in cc);
       };
     }
 

@@ -1,7 +1,7 @@
 use Rattle.std.proofs.Common.{sym, subst}
 use Rattle.type_spec.specs.Interned.{Built}
 use Rattle.module_types.specs.ListGroups.{IsWellNamed}
-use Rattle.type_registry.proofs.ListedLists.{listed}
+use Rattle.module_types.proofs.ListedLists.{listed}
 use Rattle.type_registry.proofs.laws.listed_law.Goals as goal
 
 pub returns : goal.returns

@@ -6,8 +6,8 @@ use Rattle.type_spec.specs.Interned.{Span}
 use Rattle.wasm_index.specs.Index.{number_of}
 use Rattle.wasm_types.specs.TypeViews.{group_of}
 use Rattle.wasm_trace.specs.Canonical.{runtime_edge}
-use Rattle.type_registry.specs.Changes.{given, members_of}
-use Rattle.type_registry.proofs.UsedEdges.{used-types}
+use Rattle.type_registry.specs.Changes.{given, members_of, IsGiven}
+use Rattle.type_registry.proofs.UsedEdges.{used-types, used-engines}
 use Rattle.type_registry.proofs.PlanGroups.{mapped-long}
 use Rattle.type_registry.proofs.planning.fresh_group.Goals as goal
 
@@ -25,4 +25,5 @@ invariant_of-kept c =
     let is = ap group_of c.used-2.view_is ∙ c.in_ok-used.ensures ∙ ap (λ is. map_group (named (runtime_edge (given is))) (runtime_edge (given is)) (group_of (members_of l s))) c.requires.given in
     let same = used-types before new s at l may.consed types c.args.canonical.value is c.requires.canonical in
     let long = mapped-long l s (runtime_edge (given (before ++ new))) types may.within is in
-    (omega (arith, c.requires.count, may.some), same, omega (arith, long, c.requires.count))
+    let engines = used-engines (given (before ++ new)) (IsGiven s.end) (group_of (members_of l s)) types may.used is in
+    (omega (arith, c.requires.count, may.some), same, omega (arith, long, c.requires.count), engines)

@@ -38,7 +38,7 @@ pub note-requires : goal.note-requires
 note-requires c =
     let old : BuilderState = the_view c.self.inside in
     let room = opens c.args.types.now c.args.id.0 old _ c.self.view_is c.in_default.ensures c.if-self.false c.requires.room in
-    let few = few-groups (builder_view old).built (c.self.invariant c.if-self.false).orderly in
+    let few = few-groups (builder_view old).built (c.self.invariant c.if-self.false).0.orderly in
     let long = group-long (builder_view old).built (interned_members c.args.types.now (builder_view old) c.args.id.0) in
     omega (arith, room, few, long, c.requires.filled, members-long c.args.types.now (builder_view old) c.args.id.0, length-map old.list.groups span_of, ap number_of c.next_rec_group-next.ensures)
 

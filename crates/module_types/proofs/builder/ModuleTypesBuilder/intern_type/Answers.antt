@@ -5,7 +5,7 @@ use Rattle.wasm_index.specs.Index.{number_of}
 use Rattle.module_types.specs.Builder.{builder_view, interns}
 use Rattle.module_types.specs.Noted.{noted_at}
 use Rattle.module_types.specs.Conversion.{interned_members, NamesInterned, HasIndex}
-use Rattle.module_types.proofs.Convertible.{members-long}
+use Rattle.module_types.proofs.Convertible.{members-kinds}
 use Rattle.module_types.proofs.Holding.{has-index}
 use Rattle.module_types.proofs.Places.{group-is, filled}
 use Rattle.module_types.proofs.builder.ModuleTypesBuilder.intern_type.Goals as goal
@@ -35,7 +35,7 @@ index_of-requires c =
     let made = sym c.in_ok-intern_rec_group.ensures.interned in
     let has : HasIndex t (length (builder_view new).built.types) (builder_view new).built.groups (builder_view new).ids c.args.id.0 =
     coe 0 1 (j. HasIndex t (length (made j).built.types) (made j).built.groups (made j).ids c.args.id.0)
-    (has-index t b k ts c.requires.holds (members-long t b k) c.args.id.0 c.requires.known is) in
+    (has-index t b k ts c.requires.holds (members-kinds t b k) c.args.id.0 c.requires.known is) in
     let list = sym c.looking_up.ensures.list in
     let ids = sym c.looking_up.ensures.ids in
     let types = sym c.looking_up.ensures.types in

@@ -1,7 +1,8 @@
 use Rattle.std.proofs.lemmas.Grind.{common_steps}
-use Rattle.std.proofs.Common.{◌≡◌, ◌∙◌, ◌<◌, ◌≤◌, ◌+◌, ℕ, List, [], ◌∷◌, ◌++◌, length, take, drop, get_or, map, All, Option, sym, ap, arith}
+use Rattle.std.proofs.Common.{◌≡◌, ◌∙◌, ◌<◌, ◌≤◌, ◌+◌, ℕ, List, [], ◌∷◌, ◌++◌, length, take, drop, get_or, map, All, Option, false, refl, sym, ap, arith}
 use Rattle.std.specs.Prelude.{slice_get, Some, None}
 use Rattle.std.proofs.lemmas.List.{length-append, length-map, map-append, take-map, take_all, drop_at}
+use Rattle.std.proofs.lemmas.List.Elements.{All-nil, All-cons}
 use Rattle.std.proofs.lemmas.Option.{get_or_from_slice_get}
 use Rattle.std.proofs.lemmas.Result.{on_ok_weaker}
 use Rattle.std.specs.declared.ops.Range.{Range}
@@ -26,6 +27,8 @@ use Rattle.module_types.specs.Held.{built_of}
 use Rattle.module_types.specs.declared.interner.Interner.{Interner}
 use Rattle.module_types.specs.Interner.{known, built, holding, FindsMet}
 use Rattle.module_types.specs.Met.{met_at, IsLinked}
+use Rattle.module_types.specs.Listed.{IsUnshared, MayBeListed}
+use Rattle.module_types.proofs.NamedGroups.{group-listed}
 use Rattle.module_types.proofs.Chaining.{known-on, linked-on}
 use Rattle.module_types.proofs.GroupMembers.{orderly-opened, group-long, few-groups}
 use Rattle.module_types.proofs.Convertible.{members-known, members-can, members-long, made-is}
@@ -56,13 +59,21 @@ module _ (i : Interner) (ids : List (Option ℕ)) (t : TypesData) (k : ℕ) (mem
       (λ j. take (n + 1) (map interned_member (are j))) ∙ stepped interned_member form.sub_type_of members n m lt at
       ∙ (λ j. take n (map interned_member (sym are j)) ++ sym is j ∷ [])
 
+  -- no type that is read is shared
+  all-unshared : IsUnshared (interned_members t b k)
+  all-unshared = coe 0 1 (j. IsUnshared (map interned_member (sym are j))) (unshared members) where
+    unshared : (ms : List Read) → IsUnshared (map interned_member (map form.sub_type_of ms))
+    unshared [] = All-nil (λ (t : Interned). t.composite.shared ≡ false)
+    unshared (m ∷ ms) =
+        All-cons (λ (t : Interned). t.composite.shared ≡ false) (interned_member (form.sub_type_of m)) (map interned_member (map form.sub_type_of ms)) refl (unshared ms)
+
   module _ (can : CanIntern t b k) (room : length (with_group (built i) (interned_members t b k)).types < 4294967295) where
     long : length i.list.types + length members < 4294967295
     long = omega (arith, room, group-long (built i) (interned_members t b k), length-map i.list.types interned_of, count)
 
     each-known : IsSound t → All (λ m. Known (KnowsId t (length i.list.types) (map span_of i.list.groups) (noted_at ids)) (sub_type_edges (λ i. i) (form.sub_type_of m))) members
     each-known sound =
-        members-known t (length i.list.types) (map span_of i.list.groups) (noted_at ids) k can.holds
+        members-known t (length i.list.types) (map span_of i.list.groups) (noted_at ids) k (λ m j held. (can.holds m j held).stands)
         (λ none. omega (arith, long, ap length are, length-map members form.sub_type_of)) sound can.named members are
 
 module _ (i now : Interner) {ts : List Interned} {n : ℕ} (g : Grown i now ts n) where
@@ -159,3 +170,13 @@ returns-clause-built c =
     let made = assigned c.args.self.now c.loop-member.self c.loop-member.invariant _ _ c.in_ok-push_rec_group.ensures.ok c.requires.sound.found c.next_ty-next.ensures c.next_ty-end.ensures
     (omega (arith, n)) _ c.seed_from.ensures.built c.index.result c.index.ensures.number in
     on_ok_weaker c.assign_trampolines.result (λ built. built ∙ made) c.assign_trampolines.ensures.built
+
+pub returns-clause-listed : goal.returns-clause-listed
+returns-clause-listed c =
+    let i = c.args.self.now in
+    let b = holding (built i) c.args.ids.now in
+    let t = c.args.types.now in
+    let k = c.args.id.0 in
+    let unshared = all-unshared i c.args.ids.now t k c.members-members.result.now c.members-members.ensures.members in
+    let keeps = group-listed t b k c.requires.can c.members-members.ensures.sound unshared in
+    on_ok_weaker c.assign_trampolines.result (λ is listed. coe 0 1 (j. MayBeListed (sym is j)) (keeps listed)) (returns-clause-built c)

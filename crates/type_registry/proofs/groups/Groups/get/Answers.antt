@@ -8,17 +8,17 @@ use Rattle.type_registry.proofs.groups.Groups.get.Goals as goal
 is : (c : After-owner_of) → c.owner_of.result ≡ owner_at c.self.inside.owners.items (number_of c.args.index)
 is c = c.owner_of.ensures ∙ ap (λ l. owner_at l c.index.result) c.deref.ensures.value ∙ ap (owner_at c.self.inside.owners.items) c.index.ensures.number
 
-pub returns-in_err-owner : goal.returns-in_err-owner
-returns-in_err-owner c =
-    let is = is (goal.at.returns-in_err-owner c).After-owner_of in
+pub returns-in_err-owner-clause-found : goal.returns-in_err-owner-clause-found
+returns-in_err-owner-clause-found c =
+    let is = is (goal.at.returns-in_err-owner-clause-found c).After-owner_of in
     grind (arith, no-type c.self.invariant (ap (λ s. s.groups) c.self.view_is) (number_of c.args.index))
 
-pub returns-in_err-kept : goal.returns-in_err-kept
-returns-in_err-kept c =
-    let is = is (goal.at.returns-in_err-kept c).After-owner_of in
+pub returns-in_err-kept-clause-found : goal.returns-in_err-kept-clause-found
+returns-in_err-kept-clause-found c =
+    let is = is (goal.at.returns-in_err-kept-clause-found c).After-owner_of in
     grind (arith, no-group c.self.invariant (ap (λ s. s.groups) c.self.view_is) (number_of c.args.index))
 
-pub returns : goal.returns
-returns c =
-    let is = is (goal.at.returns c).After-owner_of in
+pub returns-clause-found : goal.returns-clause-found
+returns-clause-found c =
+    let is = is (goal.at.returns-clause-found c).After-owner_of in
     grind (arith, some-type c.self.invariant (ap (λ s. s.groups) c.self.view_is) (number_of c.args.index))

@@ -7,6 +7,6 @@ pub loop-op-preserved : goal.loop-op-preserved
 loop-op-preserved g c =
     let same = c.deref-op-items.ensures.value in
     let look = (goal.TypeConvert-dyn g c.args.env.now).look_up c.args.env.now.1 in (
-      map-more (const_op_of look) c.loop-op.op-index _ same c.loop-op-test.true c.loop-op.invariant.0 c.in_ok-push.ensures.items c.from_wasmparser-in-loop-op.ensures,
-      filter_map-more function_in c.loop-op.op-index _ same c.loop-op-test.true c.loop-op.invariant.1 c.in_ok-push_function-2.ensures,
+      map-more (const_op_of look) c.loop-op.op-index _ same c.loop-op-test.true c.loop-op.invariant.0 c.in_ok-push.ensures.ok c.from_wasmparser.ensures,
+      filter_map-more function_in c.loop-op.op-index _ same c.loop-op-test.true c.loop-op.invariant.1 c.in_ok-push_function.ensures,
     )

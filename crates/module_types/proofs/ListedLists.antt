@@ -20,10 +20,10 @@ use Rattle.module_types.specs.TypeList.{TypeList}
 use Rattle.module_types.specs.ListGroups.{unkinded, list_groups, IsWellNamed}
 use Rattle.module_types.proofs.WellNamed.{AllBelow}
 use Rattle.module_types.proofs.Standing.{joined-from}
-use Rattle.type_registry.specs.Listed.{Listed, list_of}
+use Rattle.module_types.specs.Listed.{Listed, list_of}
 
 -- references to earlier types are below the end
-earlier-below : (gs : List (Group ℕ ℕ)) (start n : ℕ) → NameEarlier start gs → start + size gs ≤ n → AllBelow n (joined gs)
+pub earlier-below : (gs : List (Group ℕ ℕ)) (start n : ℕ) → NameEarlier start gs → start + size gs ≤ n → AllBelow n (joined gs)
 earlier-below [] start n earlier le = All-nil (λ r. r < n)
 earlier-below (g ∷ gs) start n earlier le =
     subst (λ rs. All (λ r. r < n) rs) (sym (flat_map-append (sub_type_edges (λ (r : ℕ). r)) g (joined gs)))

@@ -1,8 +1,8 @@
--- Lists that may be registered.
-use Rattle.std.specs.Prelude.{◌≡◌, Option, None}
+-- Lists whose types may be compared over several modules.
+use Rattle.std.specs.Prelude.{◌≡◌, false, All, List, Option, None}
 use Rattle.wasm_spec.specs.TypeData.{map_group}
 use Rattle.type_data.specs.Names.{named}
-use Rattle.type_spec.specs.Interned.{Built}
+use Rattle.type_spec.specs.Interned.{Interned, Built}
 use Rattle.wasm_types.specs.declared.func.WasmFuncType.{WasmFuncType}
 use Rattle.wasm_types.specs.TypeViews.{group_of}
 use Rattle.module_types.specs.Views.{TypeIndex, index_at}
@@ -22,3 +22,12 @@ list_of l = built_of l nowhere
 pub record Listed (l : TypeList) : Type 0 where
   pub well_named : IsWellNamed (list_of l)
   pub indexed : map_group (named index_at) index_at (list_of l).types ≡ group_of l.types
+
+-- no type is shared
+abbrev pub IsUnshared : List Interned → Type 0
+IsUnshared ts = All (λ (t : Interned). t.composite.shared ≡ false) ts
+
+-- what a builder keeps
+pub record MayBeListed (b : Built) : Type 0 where
+  pub well_named : IsWellNamed b
+  pub unshared : IsUnshared b.types

@@ -1,0 +1,7 @@
+pub mod Runs
+pub mod Addressed
+pub mod Alike
+pub mod TablePhases
+pub mod MemoryPhases
+pub mod Whole
+pub mod OfPlan

@@ -1,0 +1,4 @@
+pub mod Running
+pub mod Objects
+pub mod Instances
+pub mod Recipes
