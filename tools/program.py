@@ -1,8 +1,7 @@
-"""The program that the tools beside this file run: proved and built, or compiled without proofs into a temporary folder."""
+"""The program that the tools beside this file run: proved and built, or compiled without proofs, which is kept until the sources change."""
 
 import contextlib
-import importlib.machinery
-import importlib.util
+import hashlib
 import os
 import shutil
 import signal
@@ -13,11 +12,16 @@ import time
 from pathlib import Path
 
 HERE = Path(__file__).resolve().parent.parent
+TOOL = "translate_tool"
+OUT = HERE / "crates" / TOOL / "out"
+# What is proved here, and what is compiled here without proofs; beside each stands SHA256, as beside dist/translate.
+PROVED, UNPROVED = OUT / TOOL, OUT / "unproved" / TOOL
 TARGET = "x86_64-unknown-linux-gnu"
 
 ABOUT = """\
-Runs the program that `./translate --prove` built, where it is built and as new as its sources. Else compiles it
-without proofs into a temporary folder, which takes one to three minutes on a machine without other work."""
+Runs dist/translate where it is built from the sources of this folder, else the program that `./translate --prove`
+built of them. Else compiles it without proofs, which takes one to three minutes on a machine without other work,
+and keeps that until the sources change."""
 
 ENVIRONMENT = {"PATH": "/usr/local/bin:/usr/bin:/bin", "LANG": "C.UTF-8"}
 
@@ -45,29 +49,61 @@ def new_folder(prefix):
         shutil.rmtree(folder, ignore_errors=True)
 
 
-def translate_script():
-    """`./translate` as a module, which tells whether the program is built."""
-    loader = importlib.machinery.SourceFileLoader("translate", str(HERE / "translate"))
-    module = importlib.util.module_from_spec(importlib.util.spec_from_loader("translate", loader))
-    loader.exec_module(module)
-    return module
+def sources(*words):
+    """The digest of the sources (tools/sources)."""
+    return told(HERE / "tools" / "sources", *words)
 
 
-def find(given, room):
-    """The program to run: the given one, else the proved one, else one that is compiled without proofs into the folder."""
+def built():
+    """The file of a program that is built from these sources, or none (tools/built)."""
+    done = subprocess.run([HERE / "tools" / "built"], stdout=subprocess.PIPE, text=True)
+    return None if done.returncode else HERE / done.stdout.strip()
+
+
+def sum_of(file):
+    return hashlib.sha256(file.read_bytes()).hexdigest()
+
+
+def note(made, digest):
+    """Notes beside a program of which sources it is built."""
+    (made.parent / "SHA256").write_text(f"# sources {digest}\n{sum_of(made)}  {made.name}\n")
+
+
+def install(made, to, digest):
+    """Puts a program in its place, with the digest of its sources."""
+    to.parent.mkdir(parents=True, exist_ok=True)
+    new = to.with_suffix(".new")
+    shutil.copyfile(made, new)
+    new.chmod(0o755)
+    new.replace(to)
+    note(to, digest)
+
+
+def find(given=None):
+    """The program to run: the given one, else one that is built from these sources, else one that is compiled without proofs and kept."""
     if given:
         if not os.access(given, os.X_OK):
             raise NoProgram(f"{given} cannot be run")
         return Path(given).resolve()
-    script = translate_script()
-    return script.PROGRAM if script.is_built() else compile_crate(HERE / "crates" / script.TOOL, room)
+    return built() or compile_kept()
+
+
+def compile_kept():
+    """Compiles the program without proofs and keeps it until the sources change."""
+    with new_folder("translate-") as room:
+        before = sources()
+        made = compile_crate(HERE / "crates" / TOOL, room)
+        if sources() != before:
+            raise NoProgram("the sources changed while they were compiled; run it again")
+        install(made, UNPROVED, before)
+    return UNPROVED
 
 
 def kit():
     """The folder of the Rattle kit."""
     command = shutil.which("rt")
     if not command:
-        raise NoProgram("the program is not built, and the command rt of the Rattle kit is not on the PATH")
+        raise NoProgram("no program is built from these sources, and the command rt of the Rattle kit is not on the PATH")
     return Path(command).resolve().parent.parent
 
 
@@ -131,6 +167,11 @@ def compile_library(code, to):
     compile_code([source], to.with_suffix(".o"), "-fPIC")
     run_quietly([kit() / "toolchain" / "bin" / "ld.lld", "-shared", "-o", to, to.with_suffix(".o")])
     return to
+
+
+def told(*words):
+    """What a command prints, without spaces around it."""
+    return subprocess.run(list(map(str, words)), stdout=subprocess.PIPE, check=True, text=True).stdout.strip()
 
 
 def run_quietly(words):

@@ -7,12 +7,14 @@ kit's own clang, with the heap beside it.
 """
 
 import re
-import subprocess
+import sys
 from pathlib import Path
 
 HERE = Path(__file__).resolve().parent.parent
-ROOT = HERE.parent
-CRATE = "planner_c"
+sys.path.insert(0, str(HERE.parent / "tools"))
+import library  # noqa: E402
+from library import NotBuilt, kit, run  # noqa: E402, F401
+
 LAYOUT = "e-m:e-p:64:64-p10:8:8-p20:8:8-i64:64-i128:128-n32:64-S128-ni:1:10:20"
 # What the kit gives its clang for wasm64.
 TARGET = ["--target=wasm64-unknown-unknown", "-mcpu=lime1", "--no-default-config", "-no-canonical-prefixes"]
@@ -22,85 +24,11 @@ for option in ("-expand-div-rem-bits=64", "-expand-fp-convert-bits=64", "-trap-u
 C = [*TARGET, "-ffreestanding", "-nostdinc", "-I", HERE / "module" / "include"]
 
 
-class NotBuilt(Exception):
-    """What is needed is not there, or a step failed."""
-
-
-def kit():
-    """The folder of the Rattle kit."""
-    try:
-        page = subprocess.run(["rt", "doc"], stdout=subprocess.PIPE, check=True, text=True).stdout
-    except (OSError, subprocess.CalledProcessError) as error:
-        raise NotBuilt("the command rt of the Rattle kit is not on the PATH") from error
-    return Path(page.strip()).parent
-
-
-def run(*words, **how):
-    """Runs a command, whose output is shown only where it fails."""
-    done = subprocess.run([*map(str, words)], stdin=subprocess.DEVNULL, stdout=subprocess.PIPE, stderr=subprocess.STDOUT, text=True, **how)
-    if done.returncode:
-        raise NotBuilt(f"{words[0]} failed with status {done.returncode}:\n{done.stdout[-4000:]}")
-    return done.stdout
-
-
-def libraries():
-    """The crates of the repository below the static library, lowest first, those that it names, and the kit's libraries that it names."""
-    below = {}
-    for line in (ROOT / "crates.txt").read_text().splitlines():
-        name, colon, words = line.partition("#")[0].partition(":")
-        if colon:
-            below[name.split()[0]] = words.split()
-    order = []
-
-    def visit(name):
-        for library in below[name]:
-            if library in below and library not in order:
-                visit(library)
-                order.append(library)
-
-    if CRATE not in below:
-        raise NotBuilt(f"crates.txt has no {CRATE}")
-    visit(CRATE)
-    return order, [name for name in below[CRATE] if name in below], [name for name in below[CRATE] if name not in below]
-
-
-def build_words(toolchain, archive):
-    """The command that proves the static library over what a gate or `rt lib` left, and builds it for x86-64."""
-    below, named, of_kit = libraries()
-    rlib = {name: ROOT / "crates" / name / "out" / "rlib" / f"{name}.rlib" for name in below}
-    lacking = [name for name in below if not rlib[name].exists()]
-    if lacking:
-        raise NotBuilt(f"not proved here: {', '.join(lacking)}; run `rt lib` in crates/{CRATE}, which proves what is below it first")
-    words = [kit() / "bin" / "rattle", "build", "--crate-name", CRATE, "src/lib.rt"]
-    for name in ["std", *of_kit]:
-        words += ["--extern", f"{name}={kit()}/rlibs/{name}.rlib"]
-    words += ["-L", f"dependency={kit()}/rlibs"]
-    for name in named:
-        words += ["--extern", f"{name}={rlib[name]}"]
-    for name in below:
-        words += ["-L", f"dependency={rlib[name].parent}"]
-    words += ["--antt-project", kit() / "rattle" / "logic" / "antt-project.json", "--logic-built", kit() / "logic_built", "--jobs", "1"]
-    return [*words, "--links", f"{CRATE}=", "--crate-type", "staticlib", "--toolchain", toolchain, "--incremental", "out/incremental", "-o", archive]
-
-
 def prove(folder):
     """Proves and builds the static library, and returns the file of LLVM's module that this handed to its compiler."""
-    tools, kept = folder / "toolchain", folder / "kept.bc"
-    (tools / "bin").mkdir(parents=True)
-    (tools / "lib").symlink_to(kit() / "toolchain" / "lib")
-    for tool in (kit() / "toolchain" / "bin").iterdir():
-        if tool.name != "clang":
-            (tools / "bin" / tool.name).symlink_to(tool)
-    clang = tools / "bin" / "clang"
+    kept = folder / "kept.bc"
     # What is built for x86-64 is not used, so it need not be quick.
-    clang.write_text(f'#!/bin/sh\nfor word in "$@"; do case "$word" in *.bc) cp "$word" {kept};; esac; done\nexec {kit()}/toolchain/bin/clang "$@" -O0\n')
-    clang.chmod(0o755)
-    crate = ROOT / "crates" / CRATE
-    (crate / "out").mkdir(exist_ok=True)
-    said = run(*build_words(tools, folder / "x86.a"), cwd=crate)
-    if "logic=proved" not in said or not kept.exists():
-        raise NotBuilt(f"{CRATE} is not proved:\n{said[-4000:]}")
-    print(*[line for line in said.splitlines() if line.startswith(("logic=", "axioms"))], sep="\n")
+    library.prove(folder / "x86.a", folder, kept, "-O0")
     return kept
 
 

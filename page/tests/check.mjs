@@ -1,5 +1,5 @@
 // Checks the page; see page/check.
-import { existsSync, mkdirSync, mkdtempSync, readFileSync, rmSync } from "node:fs";
+import { mkdirSync, mkdtempSync, readFileSync, rmSync } from "node:fs";
 import { spawnSync } from "node:child_process";
 import { tmpdir } from "node:os";
 import { dirname, join, resolve } from "node:path";
@@ -45,9 +45,10 @@ function checkBuild(page) {
 const found = name => spawnSync("sh", ["-c", `command -v ${name}`], { encoding: "utf8" }).stdout.trim() || null;
 
 const page = resolve(words.page ?? join(root, "dist/page.html"));
-const built = join(root, "crates/translate_tool/out/translate_tool");
-const program = words.program ?? (existsSync(built) ? built : null);
-if (!program) notTried.push("the texts of the program (./translate --prove builds it; or --program FILE)");
+// A program that is built from these sources.
+const built = spawnSync(join(root, "tools/built"), { encoding: "utf8" });
+const program = words.program ?? (built.status === 0 ? join(root, built.stdout.trim()) : null);
+if (!program) notTried.push("the texts of the program (tools/release or ./translate --prove builds it; or --program FILE)");
 checkBuild(page);
 await checkInNode({ page, root, program, report });
 const chromium = words["no-browser"] ? null : words.chromium ?? process.env.CHROMIUM ?? found("chromium") ?? found("chromium-browser") ?? found("google-chrome");
