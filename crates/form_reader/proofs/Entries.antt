@@ -302,7 +302,7 @@ all_more p ps =
       one_list segments_of_section p ps,
     )
 
-sections_few : (ps : Module) (place next : ℕ) (bytes : List ℕ) → SpellsSections place next bytes ps → all_entries ps ≤ length bytes
+pub sections_few : (ps : Module) (place next : ℕ) (bytes : List ℕ) → SpellsSections place next bytes ps → all_entries ps ≤ length bytes
 sections_few [] place next bytes s = omega arith
 sections_few (p ∷ ps) place next bytes (front, back, parts, is, later) =
     let one = section_few place next front p is in

@@ -18,7 +18,7 @@ use Rattle.wasm_types.specs.declared.field.WasmStorageType.TheVariants as storag
 use Rattle.wasm_types.specs.declared.func.WasmFuncType.{WasmFuncType}
 use Rattle.wasm_types.specs.declared.composite.WasmCompositeInnerType.{WasmCompositeInnerType}
 use Rattle.wasm_types.specs.declared.sub.WasmSubType.{WasmSubType}
-use Rattle.wasm_types.specs.ValueViews.{value_of, heap_of}
+use Rattle.wasm_types.specs.ValueViews.{value_of}
 use Rattle.wasm_types.specs.TypeViews.{function_of, composite_of, sub_type_of}
 use Rattle.wasm_types.specs.ViewsTell.{heap_from}
 
@@ -31,9 +31,6 @@ abbrev pub interned_number : EngineOrModuleTypeIndex → ℕ
 interned_number (index.Module i) = number_of i
 interned_number (index.Engine i) = 4294967295
 interned_number (index.RecGroup i) = 4294967295
-
-abbrev pub plain_heap : WasmHeapType → types.Heap (Named ℕ)
-plain_heap h = map_heap (named interned_number) (heap_of h)
 
 abbrev pub plain_value : WasmValType → types.Value (Named ℕ)
 plain_value v = map_value (named interned_number) (value_of v)
