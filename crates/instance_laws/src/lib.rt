@@ -5,5 +5,7 @@
 #![tactic(auto)]
 
 mod laws;
+mod worked;
 
 pub use laws::{instance_law, phase_law};
+pub use worked::{worked_shared_memory, worked_shared_table, worked_traps};

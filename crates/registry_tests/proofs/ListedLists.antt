@@ -5,26 +5,13 @@ use Rattle.std.proofs.lemmas.List.Elements.{All-nil, All-cons}
 use Rattle.module_types.specs.TypeList.{TypeList, no_types}
 use Rattle.module_types.specs.Listed.{Listed}
 use Rattle.module_types.proofs.ListedLists.{listed}
-use Rattle.registry_tests.specs.Lists.{final_or_not, of_itself, startup, twice}
+use Rattle.registry_tests.specs.Lists.{startup, twice}
 
 none-below : (n : ℕ) → All (λ r. r < n) []
 none-below n = All-nil (λ r. r < n)
 
 pub none-listed : Listed no_types
 none-listed = listed no_types (record { orderly = refl; earlier = tt; kinds = refl }) (omega arith)
-
-pub final-listed : Listed final_or_not
-final-listed =
-    listed final_or_not
-    (record { orderly = (refl, omega arith, (refl, omega arith, refl)); earlier = (none-below 1, (none-below 2, tt)); kinds = refl }) (omega arith)
-
-pub itself-listed : Listed of_itself
-itself-listed =
-    listed of_itself (record {
-      orderly = (refl, omega arith, (refl, omega arith, refl));
-      earlier = (All-cons (λ r. r < 1) 0 [] (omega arith) (none-below 1), (none-below 2, tt));
-      kinds = refl;
-    }) (omega arith)
 
 pub startup-listed : Listed startup
 startup-listed = listed startup (record { orderly = (refl, omega arith, refl); earlier = (none-below 1, tt); kinds = refl }) (omega arith)
@@ -33,12 +20,6 @@ pub twice-listed : Listed twice
 twice-listed =
     listed twice (record { orderly = (refl, omega arith, (refl, omega arith, refl)); earlier = (none-below 1, (none-below 2, tt)); kinds = refl })
     (omega arith)
-
-pub may_final : (l : TypeList) → l ≡ final_or_not → Listed l
-may_final l is = subst Listed (sym is) final-listed
-
-pub may_itself : (l : TypeList) → l ≡ of_itself → Listed l
-may_itself l is = subst Listed (sym is) itself-listed
 
 pub may_startup : (l : TypeList) → l ≡ startup → Listed l
 may_startup l is = subst Listed (sym is) startup-listed

@@ -4,4 +4,6 @@
 #[cfg(test)]
 mod lists;
 #[cfg(test)]
+mod modules;
+#[cfg(test)]
 mod rows;

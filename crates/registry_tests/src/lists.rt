@@ -1,30 +1,21 @@
-//! Lists of types to register.
+//! Lists of types to register that no module has.
 
-ghost use Rattle.std.specs.Prelude.{◌≡◌, ◌<◌, ◌-◌, ◌∷◌, [], true, false, length, IfOk, OnOk};
+ghost use Rattle.std.specs.Prelude.{◌≡◌, ◌<◌, length, IfOk, OnOk};
 ghost use Rattle.module_types.specs.Listed.{Listed};
-ghost use Rattle.registry_tests.specs.Lists.{function, alone, final_or_not, of_itself, startup, twice};
+ghost use Rattle.registry_tests.specs.Lists.{function, alone, startup, twice};
 
-use entity_map::{EntityRef, OutOfMemory};
+use entity_map::OutOfMemory;
 use module_types::ModuleTypes;
 use std::alloc::Global;
-use wasm_index::ModuleInternedTypeIndex;
-use wasm_types::{
-    EngineOrModuleTypeIndex, WasmCompositeInnerType, WasmCompositeType, WasmFuncType, WasmHeapType,
-    WasmRefType, WasmSubType, WasmValType,
-};
+use wasm_types::{WasmCompositeInnerType, WasmCompositeType, WasmFuncType, WasmSubType};
 
-// A function type without results.
-fn function(
-    alloc: Global,
-    is_final: bool,
-    params: &[WasmValType],
-) -> Result<WasmSubType, OutOfMemory>
-    requires { length params.now < 10 }
-    ensures { IfOk result (λ t. t ≡ function is_final params.now) }
+// A function type without parameters and results.
+fn function(alloc: Global) -> Result<WasmSubType, OutOfMemory>
+    ensures { IfOk result (λ t. t ≡ function) }
 {
-    let func = WasmFuncType::new(alloc, params, &[])?;
+    let func = WasmFuncType::new(alloc, &[], &[])?;
     Ok(WasmSubType {
-        is_final,
+        is_final: true,
         supertype: None,
         composite_type: WasmCompositeType {
             inner: WasmCompositeInnerType::Func(func),
@@ -53,40 +44,6 @@ pub(crate) fn nothing(alloc: Global) -> ModuleTypes
     ModuleTypes::new(alloc)
 }
 
-/// A type without parameters, and one that is not final.
-#[tactic(auto, using(crate::proofs::ListedLists::may_final))]
-pub(crate) fn final_or_not(alloc: Global) -> Result<ModuleTypes, OutOfMemory>
-    ensures list { IfOk result (λ l. l ≡ final_or_not) }
-    ensures listed { IfOk result Listed }
-{
-    let mut list = ModuleTypes::new(alloc);
-    push_alone(&mut list, function(alloc, true, &[])?)?;
-    push_alone(&mut list, function(alloc, false, &[])?)?;
-    Ok(list)
-}
-
-/// A function of itself, and the type by which it is called.
-#[tactic(auto, using(crate::proofs::ListedLists::may_itself))]
-pub(crate) fn of_itself(alloc: Global) -> Result<ModuleTypes, OutOfMemory>
-    ensures list { IfOk result (λ l. l ≡ of_itself) }
-    ensures listed { IfOk result Listed }
-{
-    let itself = WasmValType::Ref(WasmRefType {
-        nullable: false,
-        heap_type: WasmHeapType::ConcreteFunc(EngineOrModuleTypeIndex::Module(
-            ModuleInternedTypeIndex::from_u32(0),
-        )),
-    });
-    let any_function = WasmValType::Ref(WasmRefType {
-        nullable: true,
-        heap_type: WasmHeapType::Func,
-    });
-    let mut list = ModuleTypes::new(alloc);
-    push_alone(&mut list, function(alloc, true, &[itself])?)?;
-    push_alone(&mut list, function(alloc, true, &[any_function])?)?;
-    Ok(list)
-}
-
 /// A type without parameters alone.
 #[tactic(auto, using(crate::proofs::ListedLists::may_startup))]
 pub(crate) fn startup(alloc: Global) -> Result<ModuleTypes, OutOfMemory>
@@ -94,7 +51,7 @@ pub(crate) fn startup(alloc: Global) -> Result<ModuleTypes, OutOfMemory>
     ensures listed { IfOk result Listed }
 {
     let mut list = ModuleTypes::new(alloc);
-    push_alone(&mut list, function(alloc, true, &[])?)?;
+    push_alone(&mut list, function(alloc)?)?;
     Ok(list)
 }
 
@@ -105,6 +62,6 @@ pub(crate) fn twice(alloc: Global) -> Result<ModuleTypes, OutOfMemory>
     ensures listed { IfOk result Listed }
 {
     let mut list = startup(alloc)?;
-    push_alone(&mut list, function(alloc, true, &[])?)?;
+    push_alone(&mut list, function(alloc)?)?;
     Ok(list)
 }

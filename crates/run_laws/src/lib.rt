@@ -2,5 +2,7 @@
 #![tactic(auto)]
 
 mod laws;
+mod worked;
 
-pub use laws::{fields_law, laid_law, options_law, translated_is_finished};
+pub use laws::{costs_law, fields_law, laid_law, options_law, translated_is_finished};
+pub use worked::worked_valid;

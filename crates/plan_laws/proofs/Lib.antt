@@ -1,0 +1,17 @@
+pub mod Told
+pub mod Numeric
+pub mod Tables
+pub mod Offsets
+pub mod Memories
+pub mod Passive
+pub mod Ascending
+pub mod Globals
+pub mod Types
+pub mod Parts
+pub mod Rest
+pub mod Plans
+pub mod Rising
+pub mod Text
+pub mod Stops
+pub mod Refusals
+pub mod Runs

@@ -1,0 +1,4 @@
+pub mod Causes
+pub mod Same
+pub mod Kept
+pub mod Runs
