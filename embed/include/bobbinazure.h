@@ -1,4 +1,4 @@
-/* Bobbinazure for C: prepares a core WebAssembly module before any code is generated.
+/* Bobbinazure for C: plans a core WebAssembly module before any code is generated.
  *
  *     bobbinazure_options options = bobbinazure_options_init();
  *     options.cow = 1;
@@ -9,8 +9,15 @@
  *     }
  *     bobbinazure_plan_free(&plan);
  *
- * Link libbobbinazure.a. Nothing is kept between calls, and calls in several threads do not meet: each reads its own arguments and
- * writes its own results. What the library allocates it takes from malloc and gives back or hands out; `.._free` frees what it hands out. */
+ * Link libbobbinazure.a. embed/README.md has a whole example and a table of the fields.
+ *
+ * The library keeps no state between calls. Several threads may call it at once: a call reads its own
+ * arguments and writes its own results. Memory comes from malloc. The caller owns what a call returns,
+ * and `.._free` frees it. The bodies of functions are not validated.
+ *
+ * Images: if a kept element segment (`elements`) can trap, write the elements before you map images, or drop
+ * the instance's memories after such a trap: code in an imported table could see data early. If you map no
+ * image and write each segment yourself, there is no exception. */
 #ifndef BOBBINAZURE_H
 #define BOBBINAZURE_H
 
@@ -23,7 +30,7 @@
 extern "C" {
 #endif
 
-/* What a call answers: the statuses of the program. */
+/* What a call returns. The program ends with the same numbers. */
 enum {
     BOBBINAZURE_PLANNED = 0,
     BOBBINAZURE_REFUSED = 1,
@@ -31,15 +38,16 @@ enum {
     BOBBINAZURE_NO_MEMORY = 5
 };
 
-/* The refusals. */
+/* Why a module is refused: the field `refusal`. */
 enum {
-    BOBBINAZURE_MALFORMED = 1,      /* the bytes spell no module */
-    BOBBINAZURE_INVALID = 2,        /* refusal_detail: the first listed rule that is broken, from 1 to 10 */
-    BOBBINAZURE_UNSUPPORTED = 3,    /* refusal_detail: one of the next enum */
-    BOBBINAZURE_TOO_LARGE = 4,
-    BOBBINAZURE_OFFSET_OVERFLOW = 5
+    BOBBINAZURE_MALFORMED = 1,      /* the bytes are no module by the grammar of the format */
+    BOBBINAZURE_INVALID = 2,        /* refusal_detail: the first of the ten listed rules that is broken, from 1 */
+    BOBBINAZURE_UNSUPPORTED = 3,    /* refusal_detail: a number of the next enum */
+    BOBBINAZURE_TOO_LARGE = 4,      /* the module, or the data of its plan */
+    BOBBINAZURE_OFFSET_OVERFLOW = 5 /* an object or the context has more than 4,294,967,295 bytes */
 };
 
+/* Which part of a module is not supported. */
 enum {
     BOBBINAZURE_COMPONENT = 1,
     BOBBINAZURE_SHARED = 2,
@@ -49,21 +57,22 @@ enum {
     BOBBINAZURE_INTERFACE_TYPES = 6
 };
 
-/* How the place of a segment is given. */
+/* How the offset of a segment is given: the field `kind`. */
 enum {
-    BOBBINAZURE_AT_BYTE = 0,        /* offset: the place, which was planned */
-    BOBBINAZURE_AT_CONSTANT = 1,    /* offset: the bits of a constant of 32 or 64 bits, the place itself */
-    BOBBINAZURE_AT_GLOBAL = 2,      /* offset: the index of the global that holds the place */
-    BOBBINAZURE_AT_EXPRESSION = 3   /* another expression; its operators tell it */
+    BOBBINAZURE_AT_BYTE = 0,        /* offset: the offset itself, which the planner computed */
+    BOBBINAZURE_AT_CONSTANT = 1,    /* offset: the bits of the constant, of 32 or 64 bits */
+    BOBBINAZURE_AT_GLOBAL = 2,      /* offset: the index of the global that holds it */
+    BOBBINAZURE_AT_EXPRESSION = 3   /* another expression: its operators are in segment_places or element_places */
 };
 
+/* When the startup function must run. */
 enum {
     BOBBINAZURE_STARTUP_NONE = 0,
     BOBBINAZURE_STARTUP_ALWAYS = 1,
-    BOBBINAZURE_STARTUP_IF_MEMORIES_NEED_INIT = 2
+    BOBBINAZURE_STARTUP_IF_MEMORIES_NEED_INIT = 2   /* where the engine did not map the images */
 };
 
-/* Entities. */
+/* The kinds of entities. */
 enum {
     BOBBINAZURE_FUNCTION = 0,
     BOBBINAZURE_TABLE = 1,
@@ -72,15 +81,17 @@ enum {
     BOBBINAZURE_TAG = 4
 };
 
-/* Which list an index is of. The indices in a plan are those of its interned types. */
+/* Which list of types an index is of. In a plan all indices are of its interned types. */
 enum {
     BOBBINAZURE_NO_INDEX = 0,
     BOBBINAZURE_OF_ENGINE = 1,
     BOBBINAZURE_OF_MODULE = 2,
-    BOBBINAZURE_OF_GROUP = 3
+    BOBBINAZURE_OF_GROUP = 3,
+    BOBBINAZURE_OF_SECTION = 4,     /* the type section, whose types `declared` interns: of the locals of bodies alone, as the next */
+    BOBBINAZURE_OF_IDS = 5          /* types by ids, which no plan has */
 };
 
-/* What a value, an element or a field holds. */
+/* The type of a value, an element or a field: the field `kind`. */
 enum {
     BOBBINAZURE_I32 = 0,
     BOBBINAZURE_I64 = 1,
@@ -88,11 +99,11 @@ enum {
     BOBBINAZURE_F64 = 3,
     BOBBINAZURE_V128 = 4,
     BOBBINAZURE_REF = 5,
-    BOBBINAZURE_I8 = 6,             /* of a field alone, as the next */
+    BOBBINAZURE_I8 = 6,             /* of a field only, as the next */
     BOBBINAZURE_I16 = 7
 };
 
-/* What a reference is to. A concrete one has an index. */
+/* The heap type of a reference. A concrete one has an index. */
 enum {
     BOBBINAZURE_HEAP_EXTERN = 0,
     BOBBINAZURE_HEAP_NO_EXTERN = 1,
@@ -112,10 +123,11 @@ enum {
     BOBBINAZURE_HEAP_CONCRETE_ARRAY = 15,
     BOBBINAZURE_HEAP_STRUCT = 16,
     BOBBINAZURE_HEAP_CONCRETE_STRUCT = 17,
-    BOBBINAZURE_HEAP_NONE = 18
+    BOBBINAZURE_HEAP_NONE = 18,
+    BOBBINAZURE_HEAP_DECLARED = 19  /* a type of the type section: of the locals of bodies alone */
 };
 
-/* Composite types. */
+/* The kinds of composite types. */
 enum {
     BOBBINAZURE_ARRAY = 0,
     BOBBINAZURE_FUNC = 1,
@@ -124,9 +136,9 @@ enum {
     BOBBINAZURE_EXN = 4
 };
 
-/* Operators of constant expressions. */
+/* The operators of constant expressions: the field `code`. */
 enum {
-    BOBBINAZURE_I32_CONST = 0,      /* low: the bits, as of the next three */
+    BOBBINAZURE_I32_CONST = 0,      /* low: the bits, also for the next three */
     BOBBINAZURE_I64_CONST = 1,
     BOBBINAZURE_F32_CONST = 2,
     BOBBINAZURE_F64_CONST = 3,
@@ -141,30 +153,45 @@ enum {
     BOBBINAZURE_I64_ADD = 12,
     BOBBINAZURE_I64_SUB = 13,
     BOBBINAZURE_I64_MUL = 14,
-    BOBBINAZURE_STRUCT_NEW = 15,    /* index: the type, by the type section, as of the next four */
+    BOBBINAZURE_STRUCT_NEW = 15,    /* index: the type in the type section, also for the next four */
     BOBBINAZURE_STRUCT_NEW_DEFAULT = 16,
     BOBBINAZURE_ARRAY_NEW = 17,
     BOBBINAZURE_ARRAY_NEW_DEFAULT = 18,
-    BOBBINAZURE_ARRAY_NEW_FIXED = 19,   /* low: how many elements */
+    BOBBINAZURE_ARRAY_NEW_FIXED = 19,   /* low: the number of elements */
     BOBBINAZURE_EXTERN_CONVERT_ANY = 20,
     BOBBINAZURE_ANY_CONVERT_EXTERN = 21
 };
 
-/* Objects. */
+/* The kinds of objects. */
 enum {
     BOBBINAZURE_ARRAY_OBJECT = 0,
     BOBBINAZURE_STRUCT_OBJECT = 1,
     BOBBINAZURE_EXN_OBJECT = 2
 };
 
+/* The objects of a collected heap, in bytes: the header, and where the length of an array and the tag of an exception begin. The two
+ * collectors are those of the option `collector`. */
+enum {
+    BOBBINAZURE_DRC_HEADER_SIZE = 24,
+    BOBBINAZURE_DRC_ARRAY_LENGTH = 24,
+    BOBBINAZURE_DRC_TAG_INSTANCE = 24,
+    BOBBINAZURE_DRC_TAG_DEFINED = 28,
+    BOBBINAZURE_NULL_HEADER_SIZE = 8,
+    BOBBINAZURE_NULL_ARRAY_LENGTH = 8,
+    BOBBINAZURE_NULL_TAG_INSTANCE = 8,
+    BOBBINAZURE_NULL_TAG_DEFINED = 12,
+    BOBBINAZURE_HEADER_KIND = 0,        /* in the header: the kind of the object */
+    BOBBINAZURE_HEADER_TYPE_INDEX = 4   /* in the header: its type, by the index of the engine */
+};
+
 /* What an import is answered. */
 enum {
-    BOBBINAZURE_GIVEN = 0,          /* detail: the number of the export, counted from 0 */
-    BOBBINAZURE_MISSING = 1,        /* no export stands under its names */
+    BOBBINAZURE_GIVEN = 0,          /* detail: the number of the export, from 0 */
+    BOBBINAZURE_MISSING = 1,        /* no export has its names */
     BOBBINAZURE_MISMATCH = 2        /* detail: the first rule that the export breaks, of the next enum; line: its text */
 };
 
-/* The rules by which an export matches an import, in the order in which they are asked. */
+/* The rules by which an export matches an import, in the order in which they are checked. */
 enum {
     BOBBINAZURE_MISMATCH_KIND = 1,
     BOBBINAZURE_MISMATCH_FUNC_TYPE = 2,
@@ -182,222 +209,533 @@ enum {
     BOBBINAZURE_MISMATCH_TAG_TYPE = 14
 };
 
-/* In place of an index where there is none, and of the null reference in a table. */
+/* No index; in a table, the null reference. */
 #define BOBBINAZURE_NONE UINT32_MAX
-/* In place of a greatest size where there is none. */
+/* No greatest size. */
 #define BOBBINAZURE_UNBOUNDED UINT64_MAX
 
-typedef struct {
-    /* Memories begin as images; 0 is no, in this and the next four. A module can then ask for
-       max_image bytes with each memory that it defines, in some fifteen bytes of its own. */
-    uint8_t cow;
-    /* Tables begin as images. A module can then ask for 1,048,576 cells of four bytes with each
-       table that it defines, in ten bytes of its own. */
-    uint8_t lazy_tables;
-    uint8_t branch_hints;
-    uint8_t native_debug;
-    uint8_t guest_debug;
-    uint8_t pointer;        /* 4 or 8 */
-    uint8_t collector;      /* 0 drc, 1 null */
-    uint64_t page_size;     /* of images: a power of two */
-    uint64_t max_image;     /* from here on an image must be half full of data */
-} bobbinazure_options;
-
-typedef struct {
-    uint64_t functions, imported_functions;     /* the first counts the second too, in each line */
-    uint64_t tables, imported_tables;
-    uint64_t memories, imported_memories;
-    uint64_t globals, imported_globals;
-    uint64_t tags, imported_tags;
-} bobbinazure_entities;
-
-typedef struct {
-    uint64_t minimum, maximum;  /* in pages */
-    uint8_t page_size_log2;     /* 0 or 16 */
-    uint8_t shared;
-    uint8_t wide;               /* addresses have 64 bits */
-} bobbinazure_memory;
-
-/* From one number up to another: interned types of a group, bytes of runtime data. */
-typedef struct { uint32_t begin, end; } bobbinazure_range;
-
-/* A part of a list of the plan: where it begins, and how many items it has. */
-typedef struct { size_t begin, len; } bobbinazure_span;
-
+/* Bytes that are not freed by themselves: of the module, of the library, or of a row that says whether the plan made them. */
 typedef struct { const uint8_t *at; size_t len; } bobbinazure_bytes;
 
+/* A list, and how many items it has. */
+#define BOBBINAZURE_LIST(T) struct { const T *at; size_t len; }
+
+/* From here on embed/generate makes this file, from the records of crates/plan_tables and crates/planner_c. */
+
+/* What a caller may choose; of a flag 0 is no. */
 typedef struct {
-    uint32_t made;              /* 0: the bytes are those of the module, which must outlive the plan */
-    bobbinazure_bytes bytes;
-} bobbinazure_runtime;
+    /* Whether memories begin as images, where the data segments allow it. A module can then ask for max_image bytes with each memory
+       that it defines, in some fifteen bytes of its own. */
+    uint8_t cow;
+    /* Whether tables begin as images, as far as their elements allow it. A module can then ask for 1,048,576 cells of four bytes with
+       each table that it defines, in ten bytes of its own. */
+    uint8_t lazy_tables;
+    uint8_t branch_hints; /* Whether hints of branches are read. */
+    uint8_t native_debug; /* Whether the names of locals are kept too. */
+    uint8_t guest_debug;  /* Whether references can be made to every function. */
+    uint8_t pointer;      /* The bytes of a pointer of the target: 4 or 8. */
+    uint8_t collector;    /* How objects are collected: 0 by counts (drc), 1 not at all (null). */
+    uint64_t page_size;   /* The page size of images, in bytes: a power of two. */
+    uint64_t max_image;   /* The size from which on an image must be half full of data, in bytes. */
+} bobbinazure_options;
 
-typedef struct { uint32_t memory, runtime; uint64_t offset; } bobbinazure_image;
-
-typedef struct { uint32_t memory, runtime, kind; uint64_t offset; } bobbinazure_segment;
-
-typedef struct { uint32_t segment, runtime; } bobbinazure_passive;
-
-typedef struct { uint32_t table, kind; uint64_t offset, count; } bobbinazure_elements;
-
-typedef struct { uint32_t begin, size; bobbinazure_bytes name; } bobbinazure_region;
+/* How many entities of each kind there are, imported ones among them, and how many are imported. */
+typedef struct {
+    uint64_t functions;          /* All functions. */
+    uint64_t imported_functions; /* Those that are imported; they come first. */
+    uint64_t tables;             /* All tables. */
+    uint64_t imported_tables;    /* Those that are imported. */
+    uint64_t memories;           /* All memories. */
+    uint64_t imported_memories;  /* Those that are imported. */
+    uint64_t globals;            /* All globals. */
+    uint64_t imported_globals;   /* Those that are imported. */
+    uint64_t tags;               /* All tags. */
+    uint64_t imported_tags;      /* Those that are imported. */
+} bobbinazure_entities;
 
 /* Where the parts of a context begin, in bytes. */
 typedef struct {
-    uint32_t size;
-    uint32_t imported_memories, memories, owned_memories;
-    uint32_t imported_functions, imported_tables, imported_globals, imported_tags;
-    uint32_t tables, globals, tags, func_refs, runtime_data_bases, runtime_data_lengths;
+    uint32_t size;                 /* The size of the whole context. */
+    uint32_t imported_memories;    /* The imported memories. */
+    uint32_t memories;             /* The pointers to the defined memories. */
+    uint32_t owned_memories;       /* The defined memories that are not shared. */
+    uint32_t imported_functions;   /* The imported functions. */
+    uint32_t imported_tables;      /* The imported tables. */
+    uint32_t imported_globals;     /* The imported globals. */
+    uint32_t imported_tags;        /* The imported tags. */
+    uint32_t tables;               /* The defined tables. */
+    uint32_t globals;              /* The defined globals. */
+    uint32_t tags;                 /* The defined tags. */
+    uint32_t func_refs;            /* The references to the functions that escape. */
+    uint32_t runtime_data_bases;   /* The pointers to the runtime data. */
+    uint32_t runtime_data_lengths; /* The lengths of the runtime data, in bytes. */
+    uint32_t startup_func_ref;     /* The reference to the startup function; BOBBINAZURE_NONE where there is none. */
 } bobbinazure_context;
+
+/* From one number up to another, the second not included. */
+typedef struct {
+    uint32_t begin; /* The first number. */
+    uint32_t end;   /* The number behind the last one. */
+} bobbinazure_range;
+
+/* A part of a list of the plan. */
+typedef struct {
+    size_t begin; /* The number of its first item. */
+    size_t len;   /* How many items it has. */
+} bobbinazure_span;
 
 /* The type of a value or a field. */
 typedef struct {
-    uint8_t kind;               /* BOBBINAZURE_I32 .. */
-    uint8_t nullable;           /* of a reference, as heap, list and index */
-    uint8_t heap;               /* BOBBINAZURE_HEAP_EXTERN .. */
-    uint8_t list;               /* BOBBINAZURE_NO_INDEX .. */
-    uint32_t index;             /* 0 without one */
+    uint8_t kind;     /* What it is, from BOBBINAZURE_I32 on: 0 to 4 a number or a vector, 5 a reference, 6 and 7 a packed integer. */
+    uint8_t nullable; /* Whether the reference may be null. */
+    uint8_t heap;     /* What the reference is to, from BOBBINAZURE_HEAP_EXTERN on. */
+    uint8_t list;     /* Which list the index is of, from BOBBINAZURE_NO_INDEX on. */
+    uint32_t index;   /* The index of the type that the reference is to; 0 where it has none. */
 } bobbinazure_value;
 
+/* A memory. */
 typedef struct {
-    uint64_t minimum, maximum;  /* in cells */
-    bobbinazure_value element;
-    uint32_t wide;              /* cells are named by 64 bits */
+    uint64_t minimum;       /* The least size, in pages. */
+    uint64_t maximum;       /* The greatest size, in pages; BOBBINAZURE_UNBOUNDED where there is none. */
+    uint8_t page_size_log2; /* The page size as an exponent of 2: 0 or 16. */
+    uint8_t shared;         /* Whether threads may share it. */
+    uint8_t wide;           /* Whether addresses have 64 bits. */
+} bobbinazure_memory;
+
+/* A table. */
+typedef struct {
+    uint64_t minimum;          /* The least size, in cells. */
+    uint64_t maximum;          /* The greatest size, in cells; BOBBINAZURE_UNBOUNDED where there is none. */
+    bobbinazure_value element; /* The type of its elements, a reference. */
+    uint32_t wide;             /* Whether indices have 64 bits. */
 } bobbinazure_table;
 
-typedef struct { bobbinazure_value value; uint32_t writable; } bobbinazure_global;
-
-typedef struct { uint32_t signature, exception; } bobbinazure_tag;     /* interned types */
-
-typedef struct { uint32_t function; bobbinazure_bytes name; } bobbinazure_function_name;
-
-typedef struct { uint32_t function; uint64_t count; } bobbinazure_hints;
-
-typedef struct { bobbinazure_value element; uint64_t count; } bobbinazure_passive_elements;
-
+/* A global. */
 typedef struct {
-    uint8_t code;               /* BOBBINAZURE_I32_CONST .. */
-    uint8_t heap, list;
-    uint32_t index;
-    uint64_t low, high;
+    bobbinazure_value value; /* The type of its value. */
+    uint32_t writable;       /* Whether it is mutable. */
+} bobbinazure_global;
+
+/* A tag. */
+typedef struct {
+    uint32_t signature; /* The interned type of its function. */
+    uint32_t exception; /* The interned type of its exceptions. */
+} bobbinazure_tag;
+
+/* The image of a memory. */
+typedef struct {
+    uint32_t memory;  /* The memory. */
+    uint32_t runtime; /* The runtime data that holds it. */
+    uint64_t offset;  /* Its address in the memory, in bytes. */
+} bobbinazure_image;
+
+/* A data segment that is left to be written. */
+typedef struct {
+    uint32_t memory;  /* The memory that it writes. */
+    uint32_t runtime; /* The runtime data that it writes. */
+    /* How offset gives its address, from BOBBINAZURE_AT_BYTE on: 0 as a planned address, 1 as a constant, 2 as a global, 3 not at all. */
+    uint32_t kind;
+    uint64_t offset;  /* The address in bytes, or the index of the global that holds it; 0 where another expression gives it. */
+} bobbinazure_segment;
+
+/* A passive data segment that keeps its bytes. */
+typedef struct {
+    uint32_t segment; /* Its number in the data section. */
+    uint32_t runtime; /* The runtime data that holds its bytes. */
+} bobbinazure_passive;
+
+/* An element segment that is left to be written. */
+typedef struct {
+    uint32_t table;  /* The table that it writes. */
+    uint32_t kind;   /* As of a data segment, never 0. */
+    uint64_t offset; /* As of a data segment, in cells. */
+    uint64_t count;  /* How many elements it has. */
+} bobbinazure_elements;
+
+/* The items of an element segment, of which one of the two lists is empty. */
+typedef struct {
+    bobbinazure_value element;    /* The type of each item, a reference. */
+    bobbinazure_span functions;   /* The items that are functions, a part of functions. */
+    bobbinazure_span expressions; /* The items that are constant expressions, a part of the parts of expressions. */
+} bobbinazure_items;
+
+/* Locals of one type. */
+typedef struct {
+    uint32_t count; /* How many locals. */
+    /* Their type. A type of the module is named by the type section: list is BOBBINAZURE_OF_SECTION, and heap is
+       BOBBINAZURE_HEAP_DECLARED. */
+    bobbinazure_value value;
+} bobbinazure_locals;
+
+/* An operator of a constant expression. */
+typedef struct {
+    uint8_t code;   /* Which one, from BOBBINAZURE_I32_CONST on. */
+    uint8_t heap;   /* What a null reference is to, from BOBBINAZURE_HEAP_EXTERN on. */
+    uint8_t list;   /* Which list the index of a null reference is of, from BOBBINAZURE_NO_INDEX on. */
+    uint32_t index; /* The global, the function or the type that it names. */
+    uint64_t low;   /* The bits of a constant, of a vector the lower half; of array.new_fixed the number of elements. */
+    uint64_t high;  /* The upper half of the bits of a vector. */
 } bobbinazure_operator;
 
-typedef struct { uint32_t global; bobbinazure_operator value; } bobbinazure_global_value;
-
-typedef struct { uint32_t kind, index; bobbinazure_span from, name; } bobbinazure_import;   /* spans of import_names */
-
-typedef struct { uint32_t kind, index; bobbinazure_span name; } bobbinazure_export;         /* of export_names */
-
-typedef struct { bobbinazure_value value; uint32_t writable; } bobbinazure_field;
-
+/* A defined global that begins as a known value. */
 typedef struct {
-    uint8_t kind;               /* BOBBINAZURE_ARRAY .. */
-    uint8_t is_final, shared;
-    uint8_t supertype_list, function_list;  /* BOBBINAZURE_NO_INDEX without one */
-    uint32_t supertype;
-    uint32_t function;          /* of a continuation or an exception */
-    bobbinazure_span fields;    /* of plan.fields: fields, or parameters and then results */
-    size_t results;             /* how many of them are results */
-} bobbinazure_type;
+    uint32_t global;            /* The global, by its number among the defined ones. */
+    bobbinazure_operator value; /* The constant that makes the value: a number or a vector. */
+} bobbinazure_global_value;
 
+/* How many hints of branches a function has. */
 typedef struct {
-    uint32_t type, kind;        /* BOBBINAZURE_ARRAY_OBJECT .. */
-    uint32_t size;              /* of an array: the bytes before its elements */
-    uint32_t align;
-    uint32_t element;           /* the bytes of an element of an array */
-    uint32_t refs;              /* the elements are references that are collected */
-    bobbinazure_span fields;    /* of plan.layout_fields */
+    uint32_t function; /* The function, by its index. */
+    uint64_t count;    /* How many hints it has. */
+} bobbinazure_hints;
+
+/* A branch hint. */
+typedef struct {
+    uint32_t function; /* The function, by its index. */
+    uint32_t offset;   /* Where the branch stands, in bytes from the begin of the function's body. */
+    uint32_t taken;    /* Whether it is likely to be taken. */
+} bobbinazure_branch_hint;
+
+/* Which passive element segment a segment of the module is. */
+typedef struct {
+    uint32_t segment; /* Its number in the element section. */
+    uint32_t passive; /* Its number among the passive ones, as of passive_elements. */
+} bobbinazure_passive_segment;
+
+/* A passive element segment. */
+typedef struct {
+    bobbinazure_value element; /* The type of its elements, a reference. */
+    uint64_t count;            /* How many elements it has. */
+} bobbinazure_passive_elements;
+
+/* An import. */
+typedef struct {
+    uint32_t kind;         /* The kind of its entity, from BOBBINAZURE_FUNCTION on. */
+    uint32_t index;        /* The index of its entity, among those of its kind. */
+    bobbinazure_span from; /* The name of the module that it comes from, a part of import_names. */
+    bobbinazure_span name; /* Its name there, a part of import_names. */
+} bobbinazure_import;
+
+/* An export. */
+typedef struct {
+    uint32_t kind;         /* The kind of its entity, from BOBBINAZURE_FUNCTION on. */
+    uint32_t index;        /* The index of its entity, among those of its kind. */
+    bobbinazure_span name; /* Its name, a part of export_names. */
+} bobbinazure_export;
+
+/* The layout of the objects of an interned type. */
+typedef struct {
+    uint32_t type;           /* The interned type. */
+    uint32_t kind;           /* What its objects are, from BOBBINAZURE_ARRAY_OBJECT on: 0 an array, 1 a struct, 2 an exception. */
+    uint32_t size;           /* The size of an object in bytes; of an array, the bytes before its elements. */
+    uint32_t align;          /* The alignment of an object, in bytes. */
+    uint32_t element;        /* The bytes of an element of an array. */
+    uint32_t refs;           /* Whether the elements of an array are references that are collected. */
+    bobbinazure_span fields; /* Its fields, a part of layout_fields. */
 } bobbinazure_layout;
 
-typedef struct { uint32_t offset, is_ref; } bobbinazure_layout_field;
-
-typedef struct { uint32_t type, trampoline; } bobbinazure_trampoline;  /* interned types */
-
-#define BOBBINAZURE_LIST(T) struct { const T *at; size_t len; }
-
-/* Constant expressions: operators end to end, and the part of each. */
+/* A field of a layout. */
 typedef struct {
-    BOBBINAZURE_LIST(bobbinazure_span) parts;
-    BOBBINAZURE_LIST(bobbinazure_operator) operators;
+    uint32_t offset; /* Where in the object it begins, in bytes. */
+    uint32_t is_ref; /* Whether it is a reference that is collected. */
+} bobbinazure_layout_field;
+
+/* An interned type. */
+typedef struct {
+    /* What it is, from BOBBINAZURE_ARRAY on: 0 an array, 1 a function, 2 a struct, 3 a continuation, 4 an exception. */
+    uint8_t kind;
+    uint8_t is_final;        /* Whether it can have no subtypes. */
+    uint8_t shared;          /* Whether threads may share what is of it. */
+    uint8_t supertype_list;  /* Which list the supertype is of, from BOBBINAZURE_NO_INDEX on, which says that there is none. */
+    uint8_t function_list;   /* Which list the function type is of, from BOBBINAZURE_NO_INDEX on, which says that there is none. */
+    uint32_t supertype;      /* The supertype. */
+    uint32_t function;       /* The function type of a continuation or an exception. */
+    bobbinazure_span fields; /* Its fields, or its parameters and then its results: a part of the plan's fields. */
+    size_t results;          /* How many of them are results. */
+} bobbinazure_type;
+
+/* A field, a parameter or a result. */
+typedef struct {
+    bobbinazure_value value; /* The type of its value. */
+    uint32_t writable;       /* Whether it is mutable; 0 of a parameter or a result. */
+} bobbinazure_field;
+
+/* An interned type that has a trampoline. */
+typedef struct {
+    uint32_t type;       /* The interned type. */
+    uint32_t trampoline; /* The interned type of its trampoline. */
+} bobbinazure_trampoline;
+
+/* An imported function. */
+typedef struct {
+    uint32_t size;       /* Its size. */
+    uint32_t wasm_call;  /* The pointer to its code for calls from compiled code. */
+    uint32_t array_call; /* The pointer to its code for calls with an array of values. */
+    uint32_t vmctx;      /* The pointer to its context. */
+} bobbinazure_function_import_layout;
+
+/* An imported table. */
+typedef struct {
+    uint32_t size;  /* Its size. */
+    uint32_t from;  /* The pointer to its definition. */
+    uint32_t vmctx; /* The pointer to the context that has it. */
+    uint32_t index; /* Its index in that context. */
+} bobbinazure_table_import_layout;
+
+/* An imported memory. */
+typedef struct {
+    uint32_t size;  /* Its size. */
+    uint32_t from;  /* The pointer to its definition. */
+    uint32_t vmctx; /* The pointer to the context that has it. */
+    uint32_t index; /* Its index in that context. */
+} bobbinazure_memory_import_layout;
+
+/* An imported tag. */
+typedef struct {
+    uint32_t size;  /* Its size. */
+    uint32_t from;  /* The pointer to its definition. */
+    uint32_t vmctx; /* The pointer to the context that has it. */
+    uint32_t index; /* Its index in that context. */
+} bobbinazure_tag_import_layout;
+
+/* An imported global. */
+typedef struct {
+    uint32_t size;  /* Its size. */
+    uint32_t from;  /* The pointer to its definition. */
+    uint32_t vmctx; /* The pointer to the context that has it. */
+    uint32_t kind;  /* What that context is, a number of 32 bits and a payload of 32 bits. */
+} bobbinazure_global_import_layout;
+
+/* A memory. */
+typedef struct {
+    uint32_t size;           /* Its size. */
+    uint32_t base;           /* The pointer to its first byte. */
+    uint32_t current_length; /* The number of its bytes, as wide as a pointer. */
+} bobbinazure_memory_definition_layout;
+
+/* A table. */
+typedef struct {
+    uint32_t size;             /* Its size. */
+    uint32_t base;             /* The pointer to its first cell. */
+    uint32_t current_elements; /* The number of its cells, as wide as a pointer. */
+} bobbinazure_table_definition_layout;
+
+/* A global. */
+typedef struct {
+    uint32_t size;    /* Its size. */
+    uint32_t storage; /* Its value, in 16 bytes. */
+} bobbinazure_global_definition_layout;
+
+/* A tag. */
+typedef struct {
+    uint32_t size;       /* Its size. */
+    uint32_t type_index; /* Its type, by the index of the engine. */
+} bobbinazure_tag_definition_layout;
+
+/* A reference to a function. */
+typedef struct {
+    uint32_t size;       /* Its size. */
+    uint32_t array_call; /* The pointer to its code for calls with an array of values. */
+    uint32_t wasm_call;  /* The pointer to its code for calls from compiled code. */
+    uint32_t type_index; /* Its type, by the index of the engine. */
+    uint32_t vmctx;      /* The pointer to its context. */
+} bobbinazure_func_ref_layout;
+
+/* The context of a store. */
+typedef struct {
+    uint32_t size;                         /* Its size. */
+    uint32_t fuel_consumed;                /* The fuel that was consumed. */
+    uint32_t epoch_deadline;               /* The deadline, a number of epochs. */
+    uint32_t stack_limit;                  /* The limit of the stack. */
+    uint32_t gc_heap;                      /* The memory of the collected heap, as memory_definition. */
+    uint32_t last_wasm_exit_trampoline_fp; /* The frame pointer of the last trampoline out of compiled code. */
+} bobbinazure_store_context_layout;
+
+/* The part of a context that each module has. */
+typedef struct {
+    uint32_t size;              /* Where what depends on the module begins. */
+    uint32_t magic;             /* The number by which a context is known. */
+    uint32_t store_context;     /* The pointer to the context of the store. */
+    uint32_t builtin_functions; /* The pointer to the built-in functions. */
+    uint32_t epoch_ptr;         /* The pointer to the current epoch. */
+    uint32_t gc_heap_data;      /* The pointer to the data of the collector. */
+    uint32_t type_ids;          /* The pointer to the indices of the types. */
+} bobbinazure_static_context_layout;
+
+/* The structs that compiled code reads. */
+typedef struct {
+    bobbinazure_function_import_layout function_import;
+    bobbinazure_table_import_layout table_import;
+    bobbinazure_memory_import_layout memory_import;
+    bobbinazure_tag_import_layout tag_import;
+    bobbinazure_global_import_layout global_import;
+    bobbinazure_memory_definition_layout memory_definition;
+    bobbinazure_table_definition_layout table_definition;
+    bobbinazure_global_definition_layout global_definition;
+    bobbinazure_tag_definition_layout tag_definition;
+    bobbinazure_func_ref_layout func_ref;
+    bobbinazure_store_context_layout store_context;
+    bobbinazure_static_context_layout static_context;
+} bobbinazure_structs;
+
+/* Bytes that a plan refers to, of the module or made by the plan. */
+typedef struct {
+    uint32_t made;           /* Whether the plan made the bytes; 0 where they are those of the module, which must outlive the plan. */
+    bobbinazure_bytes bytes; /* The bytes. */
+} bobbinazure_runtime;
+
+/* A region of the context. */
+typedef struct {
+    uint32_t begin;         /* Where in the context it begins, in bytes. */
+    uint32_t size;          /* In bytes. */
+    bobbinazure_bytes name; /* What it holds, in ASCII. */
+} bobbinazure_region;
+
+/* The name of a function. */
+typedef struct {
+    uint32_t function;      /* The function, by its index. */
+    bobbinazure_bytes name; /* In the module's bytes, in UTF-8. */
+} bobbinazure_function_name;
+
+/* Constant expressions. */
+typedef struct {
+    BOBBINAZURE_LIST(bobbinazure_span) parts;         /* The part of the operators that each is. */
+    BOBBINAZURE_LIST(bobbinazure_operator) operators; /* The operators of all, end to end. */
 } bobbinazure_expressions;
 
+/* The items of element segments. */
 typedef struct {
-    uint32_t refusal, refusal_detail;                   /* zeros of a plan */
-    bobbinazure_bytes refusal_line;                     /* as the program prints it; not to be freed */
-    bobbinazure_entities entities;
-    uint32_t startup, startup_type;
-    uint32_t images_made;                               /* memories begin as images */
-    uint32_t types;                                     /* how many interned types there are */
-    uint64_t data_align;                                /* of images; 0 where there are none */
-    uint32_t start;                                     /* the start function, or BOBBINAZURE_NONE */
-    uint32_t needs_gc_heap;
-    bobbinazure_context context;
-    BOBBINAZURE_LIST(uint32_t) declared;                /* the interned type of each type of the type section */
-    BOBBINAZURE_LIST(bobbinazure_range) groups;         /* of interned types */
-    BOBBINAZURE_LIST(uint32_t) functions;               /* the interned type of each function */
-    BOBBINAZURE_LIST(uint32_t) escapes;                 /* the number of each function among those that escape, or BOBBINAZURE_NONE */
-    BOBBINAZURE_LIST(uint32_t) signatures;              /* the interned types of those that escape, each once */
-    BOBBINAZURE_LIST(bobbinazure_memory) memories;
+    BOBBINAZURE_LIST(bobbinazure_items) rows; /* Of each segment, in order. */
+    BOBBINAZURE_LIST(uint32_t) functions;     /* Functions by their indices, end to end. */
+    bobbinazure_expressions expressions;      /* The expressions of all segments. */
+} bobbinazure_element_items;
+
+/* The body of a function. */
+typedef struct {
+    bobbinazure_bytes code;  /* Its code, behind its locals, up to the end of the body: a part of the module's bytes. */
+    bobbinazure_span locals; /* Its locals, a part of locals. */
+} bobbinazure_body;
+
+/* A plan, or why there is none. */
+typedef struct {
+    /* Why the module is refused, from BOBBINAZURE_MALFORMED on; 0 of a plan. */
+    uint32_t refusal;
+    /* Of an invalid module the rule that it breaks, from 1 to 10; of an unsupported one what is not taken, from BOBBINAZURE_COMPONENT
+       on. */
+    uint32_t refusal_detail;
+    /* The line of the refusal, as the program prints it. It is never freed. */
+    bobbinazure_bytes refusal_line;
+    bobbinazure_entities entities;                                   /* How many entities there are. */
+    /* When the startup function runs, from BOBBINAZURE_STARTUP_NONE on: never, always, or where a memory does not begin as its image. */
+    uint32_t startup;
+    uint32_t startup_type;                                           /* The interned type of the startup function; 0 where there is none. */
+    uint32_t images_made;                                            /* Whether memories begin as images. */
+    uint32_t types;                                                  /* How many interned types there are. */
+    uint64_t data_align;                                             /* The alignment of images, in bytes; 0 where there are none. */
+    /* The index of the start function; BOBBINAZURE_NONE where there is none. */
+    uint32_t start;
+    uint32_t needs_gc_heap;                                          /* Whether a table can hold references that are collected. */
+    /* How many functions escape, so that a reference to each stands in the context. */
+    uint64_t escaped_functions;
+    /* Where the contents of the code section begin in the module, in bytes; 0 without a code section. */
+    uint64_t code_section_offset;
+    uint64_t module_offset;                                          /* Where the module begins in the bytes that were read. */
+    /* Whether the module has sections of debug information (DWARF), none of which is read. */
+    uint32_t has_unparsed_debuginfo;
+    uint32_t pointer;                                                /* The bytes of a pointer of the target: 4 or 8. */
+    bobbinazure_context context;                                     /* Where the parts of the context begin. */
+    BOBBINAZURE_LIST(uint32_t) declared;                             /* The interned type of each type of the type section. */
+    BOBBINAZURE_LIST(bobbinazure_range) groups;                      /* The recursion groups of interned types. */
+    BOBBINAZURE_LIST(uint32_t) functions;                            /* The interned type of each function, imported ones first. */
+    /* The number of each function among those that escape; BOBBINAZURE_NONE of one that does not. */
+    BOBBINAZURE_LIST(uint32_t) escapes;
+    BOBBINAZURE_LIST(uint32_t) signatures;                           /* The interned types of the functions that escape, each once. */
+    BOBBINAZURE_LIST(bobbinazure_memory) memories;                   /* The memories, imported ones first, as of the next three. */
     BOBBINAZURE_LIST(bobbinazure_table) tables;
     BOBBINAZURE_LIST(bobbinazure_global) globals;
     BOBBINAZURE_LIST(bobbinazure_tag) tags;
-    BOBBINAZURE_LIST(bobbinazure_runtime) runtime;
-    BOBBINAZURE_LIST(bobbinazure_range) runtime_ranges;         /* of each runtime data, end to end from 0 */
-    BOBBINAZURE_LIST(bobbinazure_image) images;
-    BOBBINAZURE_LIST(bobbinazure_segment) segments;             /* left to be written, in order */
-    BOBBINAZURE_LIST(bobbinazure_passive) passive;
-    BOBBINAZURE_LIST(bobbinazure_span) table_images;            /* of each defined table: its first cells, of the next list */
-    BOBBINAZURE_LIST(uint32_t) cells;                           /* functions, or BOBBINAZURE_NONE for the null reference */
-    BOBBINAZURE_LIST(bobbinazure_elements) elements;            /* left to be written, in order */
-    BOBBINAZURE_LIST(bobbinazure_region) regions;               /* of the context, the last one first */
-    BOBBINAZURE_LIST(bobbinazure_passive_elements) passive_elements;
-    BOBBINAZURE_LIST(bobbinazure_function_name) function_names; /* in the module's bytes */
-    BOBBINAZURE_LIST(bobbinazure_hints) hints;                  /* of the functions that have hints of branches */
-    BOBBINAZURE_LIST(bobbinazure_global_value) global_values;   /* of the defined globals that begin as a known value */
-    BOBBINAZURE_LIST(uint32_t) expressed_globals;               /* the other defined globals */
-    bobbinazure_expressions global_expressions;                 /* a part for each of those */
-    bobbinazure_expressions segment_places;                     /* a part for each of segments; none at BOBBINAZURE_AT_BYTE */
-    bobbinazure_expressions element_places;                     /* a part for each of elements */
-    bobbinazure_expressions table_values;                       /* a part for each defined table; none where its cells begin as null */
-    BOBBINAZURE_LIST(bobbinazure_import) imports;
-    BOBBINAZURE_LIST(uint8_t) import_names;
-    BOBBINAZURE_LIST(bobbinazure_export) exports;
-    BOBBINAZURE_LIST(uint8_t) export_names;
-    BOBBINAZURE_LIST(bobbinazure_span) module_names;            /* the module's name, if it has one, in module_text */
-    BOBBINAZURE_LIST(bobbinazure_layout) layouts;               /* of the objects of interned types that have some */
-    BOBBINAZURE_LIST(bobbinazure_layout_field) layout_fields;
-    BOBBINAZURE_LIST(bobbinazure_type) interned;                /* each interned type */
-    BOBBINAZURE_LIST(bobbinazure_field) fields;
-    BOBBINAZURE_LIST(bobbinazure_trampoline) trampolines;       /* of the types that have one, in order */
-    BOBBINAZURE_LIST(uint8_t) module_text;
+    BOBBINAZURE_LIST(bobbinazure_runtime) runtime;                   /* The runtime data: images, and the bytes of segments. */
+    BOBBINAZURE_LIST(bobbinazure_range) runtime_ranges;              /* The range of each runtime data; they stand end to end from 0. */
+    BOBBINAZURE_LIST(bobbinazure_image) images;                      /* The images of memories. */
+    BOBBINAZURE_LIST(bobbinazure_segment) segments;                  /* The data segments that are left to be written, in order. */
+    BOBBINAZURE_LIST(bobbinazure_passive) passive;                   /* The passive data segments that keep their bytes. */
+    BOBBINAZURE_LIST(bobbinazure_span) table_images;                 /* The image of each defined table, a part of the next list. */
+    /* Functions by their indices; BOBBINAZURE_NONE for the null reference. */
+    BOBBINAZURE_LIST(uint32_t) cells;
+    BOBBINAZURE_LIST(bobbinazure_elements) elements;                 /* The element segments that are left to be written, in order. */
+    BOBBINAZURE_LIST(bobbinazure_region) regions;                    /* The regions of the context, the last one first. */
+    BOBBINAZURE_LIST(bobbinazure_passive_elements) passive_elements; /* The passive element segments, in order. */
+    BOBBINAZURE_LIST(bobbinazure_function_name) function_names;      /* The names of functions. */
+    BOBBINAZURE_LIST(bobbinazure_hints) hints;                       /* The functions that have hints of branches. */
+    /* The branch hints, function by function, those of a function in order. */
+    BOBBINAZURE_LIST(bobbinazure_branch_hint) branch_hints;
+    BOBBINAZURE_LIST(bobbinazure_passive_segment) passive_segments;  /* The element segments that are passive, in order. */
+    BOBBINAZURE_LIST(bobbinazure_global_value) global_values;        /* The defined globals that begin as a known value. */
+    /* The defined globals that begin as the value of an expression, each by its number among the defined ones. */
+    BOBBINAZURE_LIST(uint32_t) expressed_globals;
+    bobbinazure_expressions global_expressions;                      /* Of each of expressed_globals. */
+    /* Of the address of each of segments; no operators where the address is planned. */
+    bobbinazure_expressions segment_places;
+    bobbinazure_expressions element_places;                          /* Of the place of each of elements. */
+    /* Of the first value of each defined table; no operators where its cells begin as null. */
+    bobbinazure_expressions table_values;
+    BOBBINAZURE_LIST(bobbinazure_import) imports;                    /* The imports, in order. */
+    BOBBINAZURE_LIST(uint8_t) import_names;                          /* The names of imports, end to end, in UTF-8. */
+    BOBBINAZURE_LIST(bobbinazure_export) exports;                    /* The exports, in order. */
+    BOBBINAZURE_LIST(uint8_t) export_names;                          /* The names of exports, end to end, in UTF-8. */
+    BOBBINAZURE_LIST(bobbinazure_span) module_names;                 /* The module's name, if it has one, a part of module_text. */
+    BOBBINAZURE_LIST(bobbinazure_layout) layouts;                    /* The layouts of the objects of interned types that have some. */
+    BOBBINAZURE_LIST(bobbinazure_layout_field) layout_fields;        /* The fields of layouts, end to end. */
+    BOBBINAZURE_LIST(bobbinazure_type) interned;                     /* The interned types. */
+    BOBBINAZURE_LIST(bobbinazure_field) fields;                      /* The fields of interned types, end to end. */
+    BOBBINAZURE_LIST(bobbinazure_trampoline) trampolines;            /* The interned types that have a trampoline, in order. */
+    BOBBINAZURE_LIST(uint8_t) module_text;                           /* The text of the module's name, in UTF-8. */
+    bobbinazure_structs structs;                                     /* The structs that compiled code reads. */
+    bobbinazure_element_items element_items;                         /* Of each of elements. */
+    bobbinazure_element_items passive_items;                         /* Of each of passive_elements. */
+    BOBBINAZURE_LIST(bobbinazure_body) bodies;                       /* The body of each defined function, in order. */
+    BOBBINAZURE_LIST(bobbinazure_locals) locals;                     /* The locals of bodies, end to end, in runs of one type. */
 } bobbinazure_plan;
 
 /* Each list of a plan. */
 #define BOBBINAZURE_LISTS(EACH) \
     EACH(declared) EACH(groups) EACH(functions) EACH(escapes) EACH(signatures) EACH(memories) EACH(tables) EACH(globals) EACH(tags) \
-    EACH(runtime) EACH(runtime_ranges) EACH(images) EACH(segments) EACH(passive) EACH(table_images) EACH(cells) EACH(elements) EACH(regions) \
-    EACH(passive_elements) EACH(function_names) EACH(hints) EACH(global_values) EACH(expressed_globals) \
-    EACH(global_expressions.parts) EACH(global_expressions.operators) EACH(segment_places.parts) EACH(segment_places.operators) \
-    EACH(element_places.parts) EACH(element_places.operators) EACH(table_values.parts) EACH(table_values.operators) \
-    EACH(imports) EACH(import_names) EACH(exports) EACH(export_names) EACH(module_names) EACH(layouts) EACH(layout_fields) \
-    EACH(interned) EACH(fields) EACH(trampolines) EACH(module_text)
+    EACH(runtime) EACH(runtime_ranges) EACH(images) EACH(segments) EACH(passive) EACH(table_images) EACH(cells) EACH(elements) \
+    EACH(regions) EACH(passive_elements) EACH(function_names) EACH(hints) EACH(branch_hints) EACH(passive_segments) EACH(global_values) \
+    EACH(expressed_globals) EACH(global_expressions.parts) EACH(global_expressions.operators) EACH(segment_places.parts) \
+    EACH(segment_places.operators) EACH(element_places.parts) EACH(element_places.operators) EACH(table_values.parts) \
+    EACH(table_values.operators) EACH(imports) EACH(import_names) EACH(exports) EACH(export_names) EACH(module_names) EACH(layouts) \
+    EACH(layout_fields) EACH(interned) EACH(fields) EACH(trampolines) EACH(module_text) EACH(element_items.rows) \
+    EACH(element_items.functions) EACH(element_items.expressions.parts) EACH(element_items.expressions.operators) EACH(passive_items.rows) \
+    EACH(passive_items.functions) EACH(passive_items.expressions.parts) EACH(passive_items.expressions.operators) EACH(bodies) \
+    EACH(locals)
 
+/* The text of a plan, or the line of a refusal. */
 typedef struct {
-    bobbinazure_bytes text;
-    uint32_t made;              /* 0: the text is not to be freed */
+    bobbinazure_bytes text; /* In UTF-8, without a zero at the end. */
+    uint32_t made;          /* Whether the text stands in memory of its own, which bobbinazure_text_free gives back. */
 } bobbinazure_text;
 
+/* What an import is given. */
 typedef struct {
-    uint32_t answer;            /* BOBBINAZURE_GIVEN .. */
+    uint32_t answer;        /* From BOBBINAZURE_GIVEN on: 0 given, 1 missing, 2 a mismatch. */
+    /* Where it is given, the number of the export, from 0 on; of a mismatch the rule that it breaks, from BOBBINAZURE_MISMATCH_KIND on;
+       else 0. */
     uint32_t detail;
-    bobbinazure_bytes line;     /* of a mismatch, else empty; not to be freed */
+    bobbinazure_bytes line; /* The text of a mismatch, else empty. It is never freed. */
 } bobbinazure_import_answer;
 
+/* What each import of a module is given, or which module is refused. */
 typedef struct {
-    uint32_t refused;           /* 1: the first module, 2: the second; 0, as the next two, where both are planned */
-    uint32_t refusal, refusal_detail;
-    bobbinazure_bytes refusal_line;                     /* as the program prints it; not to be freed */
-    BOBBINAZURE_LIST(bobbinazure_import_answer) answers; /* of each import of the second module, in order */
+    /* 1 where the first module is refused, 2 where the second is; 0 where both are planned. */
+    uint32_t refused;
+    uint32_t refusal;                                    /* Why that module is refused, as of a plan, with the next two. */
+    uint32_t refusal_detail;
+    bobbinazure_bytes refusal_line;                      /* The line of the refusal, as the program prints it. It is never freed. */
+    BOBBINAZURE_LIST(bobbinazure_import_answer) answers; /* The answer to each import of the second module, in order. */
 } bobbinazure_link_record;
+
+/* Here ends what embed/generate makes. */
 
 /* Plans the module that the bytes spell. Takes the bytes and the options, which it reads while it runs; the plan refers to the bytes where a
  * segment or a name stands there, so they must outlive it. At PLANNED the plan is whole, and bobbinazure_plan_free frees it; at REFUSED its
@@ -405,20 +743,43 @@ typedef struct {
  * The plan that is passed in comes from bobbinazure_plan_init: what it held is not freed. */
 uint32_t bobbinazure_make_plan(const uint8_t *bytes, size_t len, const bobbinazure_options *options, bobbinazure_plan *plan);
 
-/* The same plan as text, or the line of the refusal, in UTF-8 without a zero at the end. The text comes from bobbinazure_text_init, refers to
- * none of the bytes, and bobbinazure_text_free frees it. At WRONG_OPTIONS and NO_MEMORY it is unchanged. */
+/* The same plan as text, or the line of the refusal: UTF-8 without a zero at the end.
+ *
+ * `text` must come from bobbinazure_text_init, and bobbinazure_text_free frees it. It does not point
+ * into the bytes of the module. At WRONG_OPTIONS and NO_MEMORY it is unchanged. */
 uint32_t bobbinazure_make_text(const uint8_t *bytes, size_t len, const bobbinazure_options *options, bobbinazure_text *text);
 
-/* Both of one plan. At NO_MEMORY the text is unchanged. */
+/* The plan and its text by one call. At NO_MEMORY the text is unchanged. */
 uint32_t bobbinazure_make_plan_and_text(const uint8_t *bytes, size_t len, const bobbinazure_options *options, bobbinazure_plan *plan, bobbinazure_text *text);
 
-/* What each import of the second module is given by the exports of the first, which stand under the name of a module, in UTF-8 without a zero at
- * the end. Both modules are planned with the options. At PLANNED the record has an answer for each import, whether or not all are given, and
- * bobbinazure_link_free frees them; at REFUSED its four first fields say which module is refused, the first where both are, and why; at
- * WRONG_OPTIONS, as where the name is not UTF-8, and at NO_MEMORY it is unchanged. The record that is passed in comes from
- * bobbinazure_link_init, and refers to no bytes of the modules. */
+/* Links the imports of a module, `importer`, to the exports of another, `exporter`.
+ *
+ * The exports are known under the module name at `as_module`: UTF-8 without a zero at the end. Both
+ * modules are planned with the options. `links` must come from bobbinazure_link_init. It does not
+ * point into the bytes of the modules.
+ *
+ *   PLANNED        it has an answer for each import, found or not; bobbinazure_link_free frees them
+ *   REFUSED        its first four fields say which module is refused, the first where both are, and why
+ *   NO_MEMORY      it is unchanged
+ *   WRONG_OPTIONS  it is unchanged; so it is where the name is not UTF-8 */
 uint32_t bobbinazure_link(const uint8_t *exporter, size_t exporter_len, const uint8_t *importer, size_t importer_len,
                           const uint8_t *as_module, size_t as_module_len, const bobbinazure_options *options, bobbinazure_link_record *links);
+
+/* Where bytes that a plan has from the module begin in the module: the code of a body, a segment, a name. */
+static inline size_t bobbinazure_offset(const uint8_t *module, bobbinazure_bytes part) {
+    return (size_t)(part.at - module);
+}
+
+/* The layout of the objects of an interned type, as of the exceptions of a tag; none where it has no objects. */
+static inline const bobbinazure_layout *bobbinazure_layout_of(const bobbinazure_plan *plan, uint32_t type) {
+    size_t low = 0, high = plan->layouts.len;
+    while (low < high) {
+        size_t middle = low + (high - low) / 2;
+        if (plan->layouts.at[middle].type < type) low = middle + 1;
+        else high = middle;
+    }
+    return low < plan->layouts.len && plan->layouts.at[low].type == type ? &plan->layouts.at[low] : 0;
+}
 
 /* Those of the program without a word. */
 static inline bobbinazure_options bobbinazure_options_init(void) {
@@ -426,7 +787,7 @@ static inline bobbinazure_options bobbinazure_options_init(void) {
     return options;
 }
 
-/* Empty lists. A list that is passed in is never at a null pointer, and neither are the bytes. */
+/* A plan of empty lists. The pointers of lists and bytes are never null. */
 static inline bobbinazure_plan bobbinazure_plan_init(void) {
     static const uint64_t nothing[4] = {0, 0, 0, 0};
     const void *at = nothing;
@@ -454,7 +815,7 @@ static inline bobbinazure_link_record bobbinazure_link_init(void) {
     return links;
 }
 
-/* Gives back what a call filled, and leaves empty lists. What was never filled may be freed too. */
+/* Frees what a call filled, and leaves empty lists. A plan that no call filled may be freed too. */
 static inline void bobbinazure_plan_free(bobbinazure_plan *plan) {
     for (size_t i = 0; i < plan->runtime.len; i++)
         if (plan->runtime.at[i].made && plan->runtime.at[i].bytes.len) free((void *)plan->runtime.at[i].bytes.at);

@@ -1,4 +1,4 @@
-/* The sizes and the offsets of the structs of bobbinazure.h, where pointers have 8 bytes: the library's records have the same. */
+/* The sizes and the offsets of the structs of bobbinazure.h, where pointers have 8 bytes: the library's records have the same. Made by embed/generate. */
 #ifndef BOBBINAZURE_LAYOUT_H
 #define BOBBINAZURE_LAYOUT_H
 
@@ -13,6 +13,10 @@
 #endif
 #define BOBBINAZURE_SIZE(T, bytes) BOBBINAZURE_ASSERT(sizeof(bobbinazure_##T) == bytes, "the size of " #T)
 #define BOBBINAZURE_AT(T, field, bytes) BOBBINAZURE_ASSERT(offsetof(bobbinazure_##T, field) == bytes, "the offset of " #field " in " #T)
+
+BOBBINAZURE_SIZE(bytes, 16);
+BOBBINAZURE_AT(bytes, at, 0);
+BOBBINAZURE_AT(bytes, len, 8);
 
 BOBBINAZURE_SIZE(options, 24);
 BOBBINAZURE_AT(options, cow, 0);
@@ -37,12 +41,22 @@ BOBBINAZURE_AT(entities, imported_globals, 56);
 BOBBINAZURE_AT(entities, tags, 64);
 BOBBINAZURE_AT(entities, imported_tags, 72);
 
-BOBBINAZURE_SIZE(memory, 24);
-BOBBINAZURE_AT(memory, minimum, 0);
-BOBBINAZURE_AT(memory, maximum, 8);
-BOBBINAZURE_AT(memory, page_size_log2, 16);
-BOBBINAZURE_AT(memory, shared, 17);
-BOBBINAZURE_AT(memory, wide, 18);
+BOBBINAZURE_SIZE(context, 60);
+BOBBINAZURE_AT(context, size, 0);
+BOBBINAZURE_AT(context, imported_memories, 4);
+BOBBINAZURE_AT(context, memories, 8);
+BOBBINAZURE_AT(context, owned_memories, 12);
+BOBBINAZURE_AT(context, imported_functions, 16);
+BOBBINAZURE_AT(context, imported_tables, 20);
+BOBBINAZURE_AT(context, imported_globals, 24);
+BOBBINAZURE_AT(context, imported_tags, 28);
+BOBBINAZURE_AT(context, tables, 32);
+BOBBINAZURE_AT(context, globals, 36);
+BOBBINAZURE_AT(context, tags, 40);
+BOBBINAZURE_AT(context, func_refs, 44);
+BOBBINAZURE_AT(context, runtime_data_bases, 48);
+BOBBINAZURE_AT(context, runtime_data_lengths, 52);
+BOBBINAZURE_AT(context, startup_func_ref, 56);
 
 BOBBINAZURE_SIZE(range, 8);
 BOBBINAZURE_AT(range, begin, 0);
@@ -52,13 +66,33 @@ BOBBINAZURE_SIZE(span, 16);
 BOBBINAZURE_AT(span, begin, 0);
 BOBBINAZURE_AT(span, len, 8);
 
-BOBBINAZURE_SIZE(bytes, 16);
-BOBBINAZURE_AT(bytes, at, 0);
-BOBBINAZURE_AT(bytes, len, 8);
+BOBBINAZURE_SIZE(value, 8);
+BOBBINAZURE_AT(value, kind, 0);
+BOBBINAZURE_AT(value, nullable, 1);
+BOBBINAZURE_AT(value, heap, 2);
+BOBBINAZURE_AT(value, list, 3);
+BOBBINAZURE_AT(value, index, 4);
 
-BOBBINAZURE_SIZE(runtime, 24);
-BOBBINAZURE_AT(runtime, made, 0);
-BOBBINAZURE_AT(runtime, bytes, 8);
+BOBBINAZURE_SIZE(memory, 24);
+BOBBINAZURE_AT(memory, minimum, 0);
+BOBBINAZURE_AT(memory, maximum, 8);
+BOBBINAZURE_AT(memory, page_size_log2, 16);
+BOBBINAZURE_AT(memory, shared, 17);
+BOBBINAZURE_AT(memory, wide, 18);
+
+BOBBINAZURE_SIZE(table, 32);
+BOBBINAZURE_AT(table, minimum, 0);
+BOBBINAZURE_AT(table, maximum, 8);
+BOBBINAZURE_AT(table, element, 16);
+BOBBINAZURE_AT(table, wide, 24);
+
+BOBBINAZURE_SIZE(global, 12);
+BOBBINAZURE_AT(global, value, 0);
+BOBBINAZURE_AT(global, writable, 8);
+
+BOBBINAZURE_SIZE(tag, 8);
+BOBBINAZURE_AT(tag, signature, 0);
+BOBBINAZURE_AT(tag, exception, 4);
 
 BOBBINAZURE_SIZE(image, 16);
 BOBBINAZURE_AT(image, memory, 0);
@@ -81,59 +115,14 @@ BOBBINAZURE_AT(elements, kind, 4);
 BOBBINAZURE_AT(elements, offset, 8);
 BOBBINAZURE_AT(elements, count, 16);
 
-BOBBINAZURE_SIZE(region, 24);
-BOBBINAZURE_AT(region, begin, 0);
-BOBBINAZURE_AT(region, size, 4);
-BOBBINAZURE_AT(region, name, 8);
+BOBBINAZURE_SIZE(items, 40);
+BOBBINAZURE_AT(items, element, 0);
+BOBBINAZURE_AT(items, functions, 8);
+BOBBINAZURE_AT(items, expressions, 24);
 
-BOBBINAZURE_SIZE(context, 56);
-BOBBINAZURE_AT(context, size, 0);
-BOBBINAZURE_AT(context, imported_memories, 4);
-BOBBINAZURE_AT(context, memories, 8);
-BOBBINAZURE_AT(context, owned_memories, 12);
-BOBBINAZURE_AT(context, imported_functions, 16);
-BOBBINAZURE_AT(context, imported_tables, 20);
-BOBBINAZURE_AT(context, imported_globals, 24);
-BOBBINAZURE_AT(context, imported_tags, 28);
-BOBBINAZURE_AT(context, tables, 32);
-BOBBINAZURE_AT(context, globals, 36);
-BOBBINAZURE_AT(context, tags, 40);
-BOBBINAZURE_AT(context, func_refs, 44);
-BOBBINAZURE_AT(context, runtime_data_bases, 48);
-BOBBINAZURE_AT(context, runtime_data_lengths, 52);
-
-BOBBINAZURE_SIZE(value, 8);
-BOBBINAZURE_AT(value, kind, 0);
-BOBBINAZURE_AT(value, nullable, 1);
-BOBBINAZURE_AT(value, heap, 2);
-BOBBINAZURE_AT(value, list, 3);
-BOBBINAZURE_AT(value, index, 4);
-
-BOBBINAZURE_SIZE(table, 32);
-BOBBINAZURE_AT(table, minimum, 0);
-BOBBINAZURE_AT(table, maximum, 8);
-BOBBINAZURE_AT(table, element, 16);
-BOBBINAZURE_AT(table, wide, 24);
-
-BOBBINAZURE_SIZE(global, 12);
-BOBBINAZURE_AT(global, value, 0);
-BOBBINAZURE_AT(global, writable, 8);
-
-BOBBINAZURE_SIZE(tag, 8);
-BOBBINAZURE_AT(tag, signature, 0);
-BOBBINAZURE_AT(tag, exception, 4);
-
-BOBBINAZURE_SIZE(function_name, 24);
-BOBBINAZURE_AT(function_name, function, 0);
-BOBBINAZURE_AT(function_name, name, 8);
-
-BOBBINAZURE_SIZE(hints, 16);
-BOBBINAZURE_AT(hints, function, 0);
-BOBBINAZURE_AT(hints, count, 8);
-
-BOBBINAZURE_SIZE(passive_elements, 16);
-BOBBINAZURE_AT(passive_elements, element, 0);
-BOBBINAZURE_AT(passive_elements, count, 8);
+BOBBINAZURE_SIZE(locals, 12);
+BOBBINAZURE_AT(locals, count, 0);
+BOBBINAZURE_AT(locals, value, 4);
 
 BOBBINAZURE_SIZE(operator, 24);
 BOBBINAZURE_AT(operator, code, 0);
@@ -147,6 +136,23 @@ BOBBINAZURE_SIZE(global_value, 32);
 BOBBINAZURE_AT(global_value, global, 0);
 BOBBINAZURE_AT(global_value, value, 8);
 
+BOBBINAZURE_SIZE(hints, 16);
+BOBBINAZURE_AT(hints, function, 0);
+BOBBINAZURE_AT(hints, count, 8);
+
+BOBBINAZURE_SIZE(branch_hint, 12);
+BOBBINAZURE_AT(branch_hint, function, 0);
+BOBBINAZURE_AT(branch_hint, offset, 4);
+BOBBINAZURE_AT(branch_hint, taken, 8);
+
+BOBBINAZURE_SIZE(passive_segment, 8);
+BOBBINAZURE_AT(passive_segment, segment, 0);
+BOBBINAZURE_AT(passive_segment, passive, 4);
+
+BOBBINAZURE_SIZE(passive_elements, 16);
+BOBBINAZURE_AT(passive_elements, element, 0);
+BOBBINAZURE_AT(passive_elements, count, 8);
+
 BOBBINAZURE_SIZE(import, 40);
 BOBBINAZURE_AT(import, kind, 0);
 BOBBINAZURE_AT(import, index, 4);
@@ -157,21 +163,6 @@ BOBBINAZURE_SIZE(export, 24);
 BOBBINAZURE_AT(export, kind, 0);
 BOBBINAZURE_AT(export, index, 4);
 BOBBINAZURE_AT(export, name, 8);
-
-BOBBINAZURE_SIZE(field, 12);
-BOBBINAZURE_AT(field, value, 0);
-BOBBINAZURE_AT(field, writable, 8);
-
-BOBBINAZURE_SIZE(type, 40);
-BOBBINAZURE_AT(type, kind, 0);
-BOBBINAZURE_AT(type, is_final, 1);
-BOBBINAZURE_AT(type, shared, 2);
-BOBBINAZURE_AT(type, supertype_list, 3);
-BOBBINAZURE_AT(type, function_list, 4);
-BOBBINAZURE_AT(type, supertype, 8);
-BOBBINAZURE_AT(type, function, 12);
-BOBBINAZURE_AT(type, fields, 16);
-BOBBINAZURE_AT(type, results, 32);
 
 BOBBINAZURE_SIZE(layout, 40);
 BOBBINAZURE_AT(layout, type, 0);
@@ -186,15 +177,138 @@ BOBBINAZURE_SIZE(layout_field, 8);
 BOBBINAZURE_AT(layout_field, offset, 0);
 BOBBINAZURE_AT(layout_field, is_ref, 4);
 
+BOBBINAZURE_SIZE(type, 40);
+BOBBINAZURE_AT(type, kind, 0);
+BOBBINAZURE_AT(type, is_final, 1);
+BOBBINAZURE_AT(type, shared, 2);
+BOBBINAZURE_AT(type, supertype_list, 3);
+BOBBINAZURE_AT(type, function_list, 4);
+BOBBINAZURE_AT(type, supertype, 8);
+BOBBINAZURE_AT(type, function, 12);
+BOBBINAZURE_AT(type, fields, 16);
+BOBBINAZURE_AT(type, results, 32);
+
+BOBBINAZURE_SIZE(field, 12);
+BOBBINAZURE_AT(field, value, 0);
+BOBBINAZURE_AT(field, writable, 8);
+
 BOBBINAZURE_SIZE(trampoline, 8);
 BOBBINAZURE_AT(trampoline, type, 0);
 BOBBINAZURE_AT(trampoline, trampoline, 4);
+
+BOBBINAZURE_SIZE(function_import_layout, 16);
+BOBBINAZURE_AT(function_import_layout, size, 0);
+BOBBINAZURE_AT(function_import_layout, wasm_call, 4);
+BOBBINAZURE_AT(function_import_layout, array_call, 8);
+BOBBINAZURE_AT(function_import_layout, vmctx, 12);
+
+BOBBINAZURE_SIZE(table_import_layout, 16);
+BOBBINAZURE_AT(table_import_layout, size, 0);
+BOBBINAZURE_AT(table_import_layout, from, 4);
+BOBBINAZURE_AT(table_import_layout, vmctx, 8);
+BOBBINAZURE_AT(table_import_layout, index, 12);
+
+BOBBINAZURE_SIZE(memory_import_layout, 16);
+BOBBINAZURE_AT(memory_import_layout, size, 0);
+BOBBINAZURE_AT(memory_import_layout, from, 4);
+BOBBINAZURE_AT(memory_import_layout, vmctx, 8);
+BOBBINAZURE_AT(memory_import_layout, index, 12);
+
+BOBBINAZURE_SIZE(tag_import_layout, 16);
+BOBBINAZURE_AT(tag_import_layout, size, 0);
+BOBBINAZURE_AT(tag_import_layout, from, 4);
+BOBBINAZURE_AT(tag_import_layout, vmctx, 8);
+BOBBINAZURE_AT(tag_import_layout, index, 12);
+
+BOBBINAZURE_SIZE(global_import_layout, 16);
+BOBBINAZURE_AT(global_import_layout, size, 0);
+BOBBINAZURE_AT(global_import_layout, from, 4);
+BOBBINAZURE_AT(global_import_layout, vmctx, 8);
+BOBBINAZURE_AT(global_import_layout, kind, 12);
+
+BOBBINAZURE_SIZE(memory_definition_layout, 12);
+BOBBINAZURE_AT(memory_definition_layout, size, 0);
+BOBBINAZURE_AT(memory_definition_layout, base, 4);
+BOBBINAZURE_AT(memory_definition_layout, current_length, 8);
+
+BOBBINAZURE_SIZE(table_definition_layout, 12);
+BOBBINAZURE_AT(table_definition_layout, size, 0);
+BOBBINAZURE_AT(table_definition_layout, base, 4);
+BOBBINAZURE_AT(table_definition_layout, current_elements, 8);
+
+BOBBINAZURE_SIZE(global_definition_layout, 8);
+BOBBINAZURE_AT(global_definition_layout, size, 0);
+BOBBINAZURE_AT(global_definition_layout, storage, 4);
+
+BOBBINAZURE_SIZE(tag_definition_layout, 8);
+BOBBINAZURE_AT(tag_definition_layout, size, 0);
+BOBBINAZURE_AT(tag_definition_layout, type_index, 4);
+
+BOBBINAZURE_SIZE(func_ref_layout, 20);
+BOBBINAZURE_AT(func_ref_layout, size, 0);
+BOBBINAZURE_AT(func_ref_layout, array_call, 4);
+BOBBINAZURE_AT(func_ref_layout, wasm_call, 8);
+BOBBINAZURE_AT(func_ref_layout, type_index, 12);
+BOBBINAZURE_AT(func_ref_layout, vmctx, 16);
+
+BOBBINAZURE_SIZE(store_context_layout, 24);
+BOBBINAZURE_AT(store_context_layout, size, 0);
+BOBBINAZURE_AT(store_context_layout, fuel_consumed, 4);
+BOBBINAZURE_AT(store_context_layout, epoch_deadline, 8);
+BOBBINAZURE_AT(store_context_layout, stack_limit, 12);
+BOBBINAZURE_AT(store_context_layout, gc_heap, 16);
+BOBBINAZURE_AT(store_context_layout, last_wasm_exit_trampoline_fp, 20);
+
+BOBBINAZURE_SIZE(static_context_layout, 28);
+BOBBINAZURE_AT(static_context_layout, size, 0);
+BOBBINAZURE_AT(static_context_layout, magic, 4);
+BOBBINAZURE_AT(static_context_layout, store_context, 8);
+BOBBINAZURE_AT(static_context_layout, builtin_functions, 12);
+BOBBINAZURE_AT(static_context_layout, epoch_ptr, 16);
+BOBBINAZURE_AT(static_context_layout, gc_heap_data, 20);
+BOBBINAZURE_AT(static_context_layout, type_ids, 24);
+
+BOBBINAZURE_SIZE(structs, 192);
+BOBBINAZURE_AT(structs, function_import, 0);
+BOBBINAZURE_AT(structs, table_import, 16);
+BOBBINAZURE_AT(structs, memory_import, 32);
+BOBBINAZURE_AT(structs, tag_import, 48);
+BOBBINAZURE_AT(structs, global_import, 64);
+BOBBINAZURE_AT(structs, memory_definition, 80);
+BOBBINAZURE_AT(structs, table_definition, 92);
+BOBBINAZURE_AT(structs, global_definition, 104);
+BOBBINAZURE_AT(structs, tag_definition, 112);
+BOBBINAZURE_AT(structs, func_ref, 120);
+BOBBINAZURE_AT(structs, store_context, 140);
+BOBBINAZURE_AT(structs, static_context, 164);
+
+BOBBINAZURE_SIZE(runtime, 24);
+BOBBINAZURE_AT(runtime, made, 0);
+BOBBINAZURE_AT(runtime, bytes, 8);
+
+BOBBINAZURE_SIZE(region, 24);
+BOBBINAZURE_AT(region, begin, 0);
+BOBBINAZURE_AT(region, size, 4);
+BOBBINAZURE_AT(region, name, 8);
+
+BOBBINAZURE_SIZE(function_name, 24);
+BOBBINAZURE_AT(function_name, function, 0);
+BOBBINAZURE_AT(function_name, name, 8);
 
 BOBBINAZURE_SIZE(expressions, 32);
 BOBBINAZURE_AT(expressions, parts, 0);
 BOBBINAZURE_AT(expressions, operators, 16);
 
-BOBBINAZURE_SIZE(plan, 864);
+BOBBINAZURE_SIZE(element_items, 64);
+BOBBINAZURE_AT(element_items, rows, 0);
+BOBBINAZURE_AT(element_items, functions, 16);
+BOBBINAZURE_AT(element_items, expressions, 32);
+
+BOBBINAZURE_SIZE(body, 32);
+BOBBINAZURE_AT(body, code, 0);
+BOBBINAZURE_AT(body, locals, 16);
+
+BOBBINAZURE_SIZE(plan, 1288);
 BOBBINAZURE_AT(plan, refusal, 0);
 BOBBINAZURE_AT(plan, refusal_detail, 4);
 BOBBINAZURE_AT(plan, refusal_line, 8);
@@ -206,45 +320,57 @@ BOBBINAZURE_AT(plan, types, 116);
 BOBBINAZURE_AT(plan, data_align, 120);
 BOBBINAZURE_AT(plan, start, 128);
 BOBBINAZURE_AT(plan, needs_gc_heap, 132);
-BOBBINAZURE_AT(plan, context, 136);
-BOBBINAZURE_AT(plan, declared, 192);
-BOBBINAZURE_AT(plan, groups, 208);
-BOBBINAZURE_AT(plan, functions, 224);
-BOBBINAZURE_AT(plan, escapes, 240);
-BOBBINAZURE_AT(plan, signatures, 256);
-BOBBINAZURE_AT(plan, memories, 272);
-BOBBINAZURE_AT(plan, tables, 288);
-BOBBINAZURE_AT(plan, globals, 304);
-BOBBINAZURE_AT(plan, tags, 320);
-BOBBINAZURE_AT(plan, runtime, 336);
-BOBBINAZURE_AT(plan, runtime_ranges, 352);
-BOBBINAZURE_AT(plan, images, 368);
-BOBBINAZURE_AT(plan, segments, 384);
-BOBBINAZURE_AT(plan, passive, 400);
-BOBBINAZURE_AT(plan, table_images, 416);
-BOBBINAZURE_AT(plan, cells, 432);
-BOBBINAZURE_AT(plan, elements, 448);
-BOBBINAZURE_AT(plan, regions, 464);
-BOBBINAZURE_AT(plan, passive_elements, 480);
-BOBBINAZURE_AT(plan, function_names, 496);
-BOBBINAZURE_AT(plan, hints, 512);
-BOBBINAZURE_AT(plan, global_values, 528);
-BOBBINAZURE_AT(plan, expressed_globals, 544);
-BOBBINAZURE_AT(plan, global_expressions, 560);
-BOBBINAZURE_AT(plan, segment_places, 592);
-BOBBINAZURE_AT(plan, element_places, 624);
-BOBBINAZURE_AT(plan, table_values, 656);
-BOBBINAZURE_AT(plan, imports, 688);
-BOBBINAZURE_AT(plan, import_names, 704);
-BOBBINAZURE_AT(plan, exports, 720);
-BOBBINAZURE_AT(plan, export_names, 736);
-BOBBINAZURE_AT(plan, module_names, 752);
-BOBBINAZURE_AT(plan, layouts, 768);
-BOBBINAZURE_AT(plan, layout_fields, 784);
-BOBBINAZURE_AT(plan, interned, 800);
-BOBBINAZURE_AT(plan, fields, 816);
-BOBBINAZURE_AT(plan, trampolines, 832);
-BOBBINAZURE_AT(plan, module_text, 848);
+BOBBINAZURE_AT(plan, escaped_functions, 136);
+BOBBINAZURE_AT(plan, code_section_offset, 144);
+BOBBINAZURE_AT(plan, module_offset, 152);
+BOBBINAZURE_AT(plan, has_unparsed_debuginfo, 160);
+BOBBINAZURE_AT(plan, pointer, 164);
+BOBBINAZURE_AT(plan, context, 168);
+BOBBINAZURE_AT(plan, declared, 232);
+BOBBINAZURE_AT(plan, groups, 248);
+BOBBINAZURE_AT(plan, functions, 264);
+BOBBINAZURE_AT(plan, escapes, 280);
+BOBBINAZURE_AT(plan, signatures, 296);
+BOBBINAZURE_AT(plan, memories, 312);
+BOBBINAZURE_AT(plan, tables, 328);
+BOBBINAZURE_AT(plan, globals, 344);
+BOBBINAZURE_AT(plan, tags, 360);
+BOBBINAZURE_AT(plan, runtime, 376);
+BOBBINAZURE_AT(plan, runtime_ranges, 392);
+BOBBINAZURE_AT(plan, images, 408);
+BOBBINAZURE_AT(plan, segments, 424);
+BOBBINAZURE_AT(plan, passive, 440);
+BOBBINAZURE_AT(plan, table_images, 456);
+BOBBINAZURE_AT(plan, cells, 472);
+BOBBINAZURE_AT(plan, elements, 488);
+BOBBINAZURE_AT(plan, regions, 504);
+BOBBINAZURE_AT(plan, passive_elements, 520);
+BOBBINAZURE_AT(plan, function_names, 536);
+BOBBINAZURE_AT(plan, hints, 552);
+BOBBINAZURE_AT(plan, branch_hints, 568);
+BOBBINAZURE_AT(plan, passive_segments, 584);
+BOBBINAZURE_AT(plan, global_values, 600);
+BOBBINAZURE_AT(plan, expressed_globals, 616);
+BOBBINAZURE_AT(plan, global_expressions, 632);
+BOBBINAZURE_AT(plan, segment_places, 664);
+BOBBINAZURE_AT(plan, element_places, 696);
+BOBBINAZURE_AT(plan, table_values, 728);
+BOBBINAZURE_AT(plan, imports, 760);
+BOBBINAZURE_AT(plan, import_names, 776);
+BOBBINAZURE_AT(plan, exports, 792);
+BOBBINAZURE_AT(plan, export_names, 808);
+BOBBINAZURE_AT(plan, module_names, 824);
+BOBBINAZURE_AT(plan, layouts, 840);
+BOBBINAZURE_AT(plan, layout_fields, 856);
+BOBBINAZURE_AT(plan, interned, 872);
+BOBBINAZURE_AT(plan, fields, 888);
+BOBBINAZURE_AT(plan, trampolines, 904);
+BOBBINAZURE_AT(plan, module_text, 920);
+BOBBINAZURE_AT(plan, structs, 936);
+BOBBINAZURE_AT(plan, element_items, 1128);
+BOBBINAZURE_AT(plan, passive_items, 1192);
+BOBBINAZURE_AT(plan, bodies, 1256);
+BOBBINAZURE_AT(plan, locals, 1272);
 
 BOBBINAZURE_SIZE(text, 24);
 BOBBINAZURE_AT(text, text, 0);

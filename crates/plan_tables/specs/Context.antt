@@ -1,10 +1,10 @@
 -- What the tables say of the layout of a context.
-use Rattle.std.specs.Prelude.{◌≡◌, ℕ, ◌-◌, List, [], ◌∷◌, Some, codes}
+use Rattle.std.specs.Prelude.{◌≡◌, ℕ, ◌^◌, ◌-◌, List, [], ◌∷◌, Some, IsTrue, IsFalse, codes}
 use Rattle.std.specs.Option.{option_map}
 use Rattle.vm_structs.specs.declared.pointer.PtrSize.{Ghosts}
 use Rattle.vm_offsets.specs.declared.offsets.VMOffsets.{VMOffsets}
 use Rattle.vm_offsets.specs.Context.{entry_named}
-use Rattle.vm_offsets.specs.Layouts.{entries_of, size_of_context}
+use Rattle.vm_offsets.specs.Layouts.{fields_of, entries_of, size_of_context}
 use Rattle.plan_tables.specs.declared.record.RegionRow.{RegionRow}
 use Rattle.plan_tables.specs.declared.rows.Context.{Context}
 
@@ -37,3 +37,6 @@ module _ {P : Type 0} {bound : Ghosts P} (offsets : VMOffsets P bound) where
     pub func_refs : BeginsAt (codes "module functions") r.func_refs
     pub runtime_data_bases : BeginsAt (codes "runtime data base pointers") r.runtime_data_bases
     pub runtime_data_lengths : BeginsAt (codes "runtime data lengths") r.runtime_data_lengths
+    -- the reference to the startup function, where there is one; else the greatest number of 32 bits
+    pub startup_func_ref : IsTrue (fields_of offsets).has_startup_func → BeginsAt (codes "startup funcref") r.startup_func_ref
+    pub no_startup : IsFalse (fields_of offsets).has_startup_func → r.startup_func_ref ≡ 2 ^ 32 - 1

@@ -46,8 +46,9 @@ abbrev pub start_number : Option (Index FuncSpace) → ℕ
 start_number None = 2 ^ 32 - 1
 start_number (Some function) = number_of function
 
-abbrev pub facts_row : ModuleTranslation → TypeList → Facts
-facts_row t types = record {
+-- the facts of a translation, its types, and the bytes of a pointer
+abbrev pub facts_row : ModuleTranslation → TypeList → ℕ → Facts
+facts_row t types pointer = record {
   startup = (startup_row t.module.startup).0;
   startup_type = (startup_row t.module.startup).1;
   images_made = images_bit t.module.memory_initialization;
@@ -55,4 +56,9 @@ facts_row t types = record {
   data_align = unwrap_or t.data_align 0;
   start = start_number t.start_func;
   needs_gc_heap = bit t.module.needs_gc_heap;
+  escaped = t.module.num_escaped_funcs;
+  code_section_offset = t.debuginfo.wasm_file.code_section_offset;
+  module_offset = t.wasm_module_offset;
+  has_unparsed_debuginfo = bit t.has_unparsed_debuginfo;
+  pointer = pointer;
 }

@@ -1,9 +1,11 @@
+pub mod Bodies
 pub mod Context
 pub mod Expressions
 pub mod Facts
 pub mod Functions
 pub mod Globals
 pub mod Interned
+pub mod Items
 pub mod Kinds
 pub mod Layouts
 pub mod Memories
@@ -13,6 +15,7 @@ pub mod Operators
 pub mod Plan
 pub mod Segments
 pub mod Spans
+pub mod Structs
 pub mod Tables
 pub mod Types
 pub mod Values

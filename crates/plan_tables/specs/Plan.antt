@@ -4,16 +4,19 @@ use Rattle.vm_offsets.specs.Layouts.{fields_of, pointer_of, size_of_context}
 use Rattle.vm_offsets.specs.Regions.{context_regions}
 use Rattle.plan.specs.declared.plan.Plan.{Plan}
 use Rattle.plan_tables.specs.declared.record.PlanRecord.{PlanRecord}
+use Rattle.plan_tables.specs.Bodies.{TellsBodies}
 use Rattle.plan_tables.specs.Context.{TellsContext, region_told, placed_back}
 use Rattle.plan_tables.specs.Expressions.{TellsPlaces}
 use Rattle.plan_tables.specs.Facts.{entities_row, facts_row}
 use Rattle.plan_tables.specs.Functions.{TellsFunctions}
 use Rattle.plan_tables.specs.Globals.{TellsGlobals}
 use Rattle.plan_tables.specs.Interned.{TellsInterned}
+use Rattle.plan_tables.specs.Items.{TellsItems}
 use Rattle.plan_tables.specs.Kinds.{TellsKinds}
 use Rattle.plan_tables.specs.Layouts.{TellsLayouts}
 use Rattle.plan_tables.specs.Memories.{TellsMemories}
 use Rattle.plan_tables.specs.Names.{TellsNames, own_name}
+use Rattle.plan_tables.specs.Structs.{TellsStructs}
 use Rattle.plan_tables.specs.Tables.{TellsTables}
 use Rattle.plan_tables.specs.Types.{TellsTypes}
 
@@ -21,7 +24,7 @@ use Rattle.plan_tables.specs.Types.{TellsTypes}
 pub record Tells (plan : Plan) (r : PlanRecord) : Type 0 where
   pub planned : (r.refusal ≡ 0) × (r.refusal_detail ≡ 0) × (r.refusal_line.now ≡ [])
   pub entities : r.entities ≡ entities_row plan.translation.module
-  pub facts : r.facts ≡ facts_row plan.translation plan.types
+  pub facts : r.facts ≡ facts_row plan.translation plan.types (pointer_of plan.offsets)
   pub context : TellsContext plan.offsets r.context
   pub types : TellsTypes plan.translation plan.types r.types
   pub kinds : TellsKinds plan.translation.module r.kinds
@@ -37,3 +40,8 @@ pub record Tells (plan : Plan) (r : PlanRecord) : Type 0 where
   pub module_text : r.module_text.now ≡ own_name plan.translation.module.strings plan.translation.module.name
   pub layouts : TellsLayouts plan.layouts r.layouts
   pub interned : TellsInterned plan.types r.interned
+  -- the sizes and the fields of the structs that compiled code reads
+  pub structs : TellsStructs (pointer_of plan.offsets) r.structs
+  -- the items of the element segments that are left, and of the passive ones
+  pub items : TellsItems plan.translation r.items
+  pub bodies : TellsBodies plan.translation.function_body_inputs r.bodies

@@ -1,9 +1,9 @@
 //! The layout of a context as tables.
 
-ghost use Rattle.std.specs.Prelude.{◌≡◌, map, IfOk};
+ghost use Rattle.std.specs.Prelude.{◌≡◌, ◌^◌, ◌-◌, map, IfOk, IsTrue, IsFalse, codes};
 ghost use Rattle.vm_offsets.specs.Layouts.{fields_of, pointer_of, size_of_context};
 ghost use Rattle.vm_offsets.specs.Regions.{context_regions};
-ghost use Rattle.plan_tables.specs.Context.{TellsContext, region_told, placed_back};
+ghost use Rattle.plan_tables.specs.Context.{TellsContext, BeginsAt, region_told, placed_back};
 
 use crate::record::RegionRow;
 use crate::rows::Context;
@@ -30,6 +30,19 @@ pub(crate) fn context_row(offsets: &VMOffsets<u8>) -> Context
         func_refs: offsets.func_refs().begin(),
         runtime_data_bases: offsets.runtime_data_bases().begin(),
         runtime_data_lengths: offsets.runtime_data_lengths().begin(),
+        startup_func_ref: startup_func_ref_of(offsets),
+    }
+}
+
+// Where the reference to the startup function begins, where there is such a function.
+fn startup_func_ref_of(offsets: &VMOffsets<u8>) -> u32
+    ensures some { IsTrue (fields_of offsets.now).has_startup_func → BeginsAt offsets.now (codes "startup funcref") result }
+    ensures none { IsFalse (fields_of offsets.now).has_startup_func → result ≡ 2 ^ 32 - 1 }
+{
+    if offsets.has_startup_func() {
+        offsets.startup_func_ref()
+    } else {
+        u32::MAX
     }
 }
 

@@ -1,6 +1,7 @@
 //! What is told by one number each.
 
 ghost use Rattle.std.specs.Prelude.{◌≡◌};
+ghost use Rattle.vm_offsets.specs.Layouts.{pointer_of};
 ghost use Rattle.plan_tables.specs.Facts.{startup_row, start_number, images_bit, facts_row, entities_row};
 
 use crate::numbers::{bit, listed_number};
@@ -8,6 +9,7 @@ use crate::rows::{Entities, Facts};
 use entity_map::EntityRef;
 use init_plan::ModuleTranslation;
 use module_types::ModuleTypes;
+use vm_offsets::VMOffsets;
 use wasm_index::FuncIndex;
 use wasm_module::{MemoryInitialization, Module, ModuleStartup};
 
@@ -57,9 +59,13 @@ fn start_number(function: Option<FuncIndex>) -> u32
     }
 }
 
-/// The facts of a translation and its types.
-pub(crate) fn facts_row(translation: &ModuleTranslation<'_>, types: &ModuleTypes) -> Facts
-    ensures { result ≡ facts_row translation.now types.now }
+/// The facts of a translation, its types and its context.
+pub(crate) fn facts_row(
+    translation: &ModuleTranslation<'_>,
+    types: &ModuleTypes,
+    offsets: &VMOffsets<u8>,
+) -> Facts
+    ensures { result ≡ facts_row translation.now types.now (pointer_of offsets.now) }
 {
     let module = &translation.module;
     let (startup, startup_type) = startup_row(&module.startup);
@@ -71,5 +77,10 @@ pub(crate) fn facts_row(translation: &ModuleTranslation<'_>, types: &ModuleTypes
         data_align: translation.data_align.unwrap_or(0),
         start: start_number(translation.start_func),
         needs_gc_heap: u32::from(bit(module.needs_gc_heap)),
+        escaped: module.num_escaped_funcs as u64,
+        code_section_offset: translation.debuginfo.wasm_file.code_section_offset,
+        module_offset: translation.wasm_module_offset,
+        has_unparsed_debuginfo: u32::from(bit(translation.has_unparsed_debuginfo)),
+        pointer: u32::from(offsets.pointer_size()),
     }
 }

@@ -4,17 +4,20 @@ ghost use Rattle.std.specs.Prelude.{OnOk};
 ghost use Rattle.plan_text.specs.PlanText.{IsPrintable};
 ghost use Rattle.plan_tables.specs.Plan.{Tells};
 
+use crate::bodies::bodies_record;
 use crate::context::{context_row, regions_of};
 use crate::facts::{entities_row, facts_row};
 use crate::functions::functions_record;
 use crate::globals::globals_record;
 use crate::interned::interned_record;
+use crate::items::fill_items;
 use crate::kinds::kinds_record;
 use crate::layouts::layouts_record;
 use crate::memories::memories_record;
 use crate::names::fill_names;
 use crate::places::fill_places;
 use crate::record::PlanRecord;
+use crate::structs::structs_row;
 use crate::tables::tables_record;
 use crate::types::types_record;
 use entity_map::OutOfMemory;
@@ -39,7 +42,7 @@ pub fn fill_record<'d>(
     out.refusal_detail = 0;
     out.refusal_line = &[];
     out.entities = entities_row(&translation.module);
-    out.facts = facts_row(translation, &plan.types);
+    out.facts = facts_row(translation, &plan.types, &plan.offsets);
     out.context = context_row(&plan.offsets);
     out.types = types_record(alloc, translation, &plan.types)?;
     out.kinds = kinds_record(alloc, &translation.module)?;
@@ -56,6 +59,9 @@ pub fn fill_record<'d>(
     )?;
     out.layouts = layouts_record(alloc, &plan.layouts)?;
     out.interned = interned_record(alloc, &plan.types)?;
+    out.structs = structs_row(&plan.offsets);
+    fill_items(alloc, translation, &mut out.items)?;
+    out.bodies = bodies_record(alloc, translation.function_body_inputs.as_slice())?;
     out.memories = memories_record(alloc, &mut plan.translation)?;
     Ok(())
 }

@@ -1,6 +1,7 @@
 //! A plan as tables, whose rows C can read.
 #![tactic(auto)]
 
+mod bodies;
 mod context;
 mod expressions;
 mod facts;
@@ -8,6 +9,7 @@ mod filling;
 mod functions;
 mod globals;
 mod interned;
+mod items;
 mod kinds;
 mod layouts;
 mod memories;
@@ -20,19 +22,27 @@ mod rows;
 mod runtime;
 mod segments;
 mod sizes;
+mod struct_rows;
+mod structs;
 mod tables;
 mod types;
 mod values;
 
 pub use filling::fill_record;
 pub use record::{
-    ExportsRecord, ExpressionsRecord, FunctionNameRow, FunctionsRecord, GlobalsRecord,
-    ImportsRecord, InternedRecord, KindsRecord, LayoutsRecord, MemoriesRecord, NamesRecord,
-    PlacesRecord, PlanRecord, RegionRow, RuntimeRow, TablesRecord, TypesRecord,
+    BodiesRecord, BodyRow, ElementItemsRecord, ExportsRecord, ExpressionsRecord, FunctionNameRow,
+    FunctionsRecord, GlobalsRecord, ImportsRecord, InternedRecord, ItemsRecord, KindsRecord,
+    LayoutsRecord, MemoriesRecord, NamesRecord, PlacesRecord, PlanRecord, RegionRow, RuntimeRow,
+    TablesRecord, TypesRecord,
 };
 pub use rows::{
-    Context, ElementsRow, Entities, ExportRow, Facts, FieldRow, GlobalRow, GlobalValueRow,
-    HintsRow, ImageRow, ImportRow, LayoutFieldRow, LayoutRow, MemoryRow, NumberRange, OperatorRow,
-    PassiveElementsRow, PassiveRow, SegmentRow, Span, TableRow, TagRow, TrampolineRow, TypeRow,
-    ValueRow,
+    BranchHintRow, Context, ElementsRow, Entities, ExportRow, Facts, FieldRow, GlobalRow,
+    GlobalValueRow, HintsRow, ImageRow, ImportRow, ItemsRow, LayoutFieldRow, LayoutRow, LocalsRow,
+    MemoryRow, NumberRange, OperatorRow, PassiveElementsRow, PassiveRow, PassiveSegmentRow,
+    SegmentRow, Span, TableRow, TagRow, TrampolineRow, TypeRow, ValueRow,
+};
+pub use struct_rows::{
+    FuncRefLayout, FunctionImportLayout, GlobalDefinitionLayout, GlobalImportLayout,
+    MemoryDefinitionLayout, MemoryImportLayout, StaticContextLayout, StoreContextLayout, Structs,
+    TableDefinitionLayout, TableImportLayout, TagDefinitionLayout, TagImportLayout,
 };

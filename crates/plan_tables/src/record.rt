@@ -1,17 +1,23 @@
 //! The record of a plan, which C can read.
+//!
+//! `embed/generate` makes the structs of C and Rust from this file, as of `rows`. A part of the plan without a name in C is no struct there: its fields
+//! are fields of the plan. A list of the plan is freed with it.
 
 use crate::rows::{
-    Context, ElementsRow, Entities, ExportRow, Facts, FieldRow, GlobalRow, GlobalValueRow,
-    HintsRow, ImageRow, ImportRow, LayoutFieldRow, LayoutRow, MemoryRow, NumberRange, OperatorRow,
-    PassiveElementsRow, PassiveRow, SegmentRow, Span, TableRow, TagRow, TrampolineRow, TypeRow,
+    BranchHintRow, Context, ElementsRow, Entities, ExportRow, Facts, FieldRow, GlobalRow,
+    GlobalValueRow, HintsRow, ImageRow, ImportRow, ItemsRow, LayoutFieldRow, LayoutRow, LocalsRow,
+    MemoryRow, NumberRange, OperatorRow, PassiveElementsRow, PassiveRow, PassiveSegmentRow,
+    SegmentRow, Span, TableRow, TagRow, TrampolineRow, TypeRow,
 };
+use crate::struct_rows::Structs;
 
 /// Bytes that a plan refers to, of the module or made by the plan: `bobbinazure_runtime`.
 #[repr(C)]
 #[derive(Clone, Copy)]
 pub struct RuntimeRow<'d> {
-    /// Whether the bytes were made, so that they are not those of the module.
+    /// Whether the plan made the bytes; 0 where they are those of the module, which must outlive the plan.
     pub made: u32,
+    /// The bytes.
     pub bytes: &'d [u8],
 }
 
@@ -19,8 +25,11 @@ pub struct RuntimeRow<'d> {
 #[repr(C)]
 #[derive(Clone, Copy)]
 pub struct RegionRow {
+    /// Where in the context it begins, in bytes.
     pub begin: u32,
+    /// In bytes.
     pub size: u32,
+    /// What it holds, in ASCII.
     pub name: &'static [u8],
 }
 
@@ -30,13 +39,13 @@ pub struct RegionRow {
 pub struct TypesRecord<'d> {
     /// The interned type of each type of the type section.
     pub declared: &'d [u32],
-    /// The groups of interned types.
+    /// The recursion groups of interned types.
     pub groups: &'d [NumberRange],
     /// The interned type of each function, imported ones first.
     pub functions: &'d [u32],
     /// The number of each function among those that escape; `u32::MAX` of one that does not.
     pub escapes: &'d [u32],
-    /// The interned types of those that escape, each once.
+    /// The interned types of the functions that escape, each once.
     pub signatures: &'d [u32],
 }
 
@@ -44,6 +53,7 @@ pub struct TypesRecord<'d> {
 #[repr(C)]
 #[derive(Clone, Copy)]
 pub struct KindsRecord<'d> {
+    /// The memories, imported ones first, as of the next three.
     pub memories: &'d [MemoryRow],
     pub tables: &'d [TableRow],
     pub globals: &'d [GlobalRow],
@@ -54,12 +64,15 @@ pub struct KindsRecord<'d> {
 #[repr(C)]
 #[derive(Clone, Copy)]
 pub struct MemoriesRecord<'d> {
+    /// The runtime data: images, and the bytes of segments.
     pub runtime: &'d [RuntimeRow<'d>],
     /// The range of each runtime data; they stand end to end from 0.
     pub runtime_ranges: &'d [NumberRange],
+    /// The images of memories.
     pub images: &'d [ImageRow],
     /// The data segments that are left to be written, in order.
     pub segments: &'d [SegmentRow],
+    /// The passive data segments that keep their bytes.
     pub passive: &'d [PassiveRow],
 }
 
@@ -67,7 +80,7 @@ pub struct MemoriesRecord<'d> {
 #[repr(C)]
 #[derive(Clone, Copy)]
 pub struct TablesRecord<'d> {
-    /// The image of each defined table, by its part of the cells.
+    /// The image of each defined table, a part of the next list: `table_images`.
     pub images: &'d [Span],
     /// Functions by their indices; `u32::MAX` for the null reference.
     pub cells: &'d [u32],
@@ -79,7 +92,9 @@ pub struct TablesRecord<'d> {
 #[repr(C)]
 #[derive(Clone, Copy)]
 pub struct FunctionNameRow<'d> {
+    /// The function, by its index.
     pub function: u32,
+    /// In the module's bytes, in UTF-8.
     pub name: &'d [u8],
 }
 
@@ -87,26 +102,77 @@ pub struct FunctionNameRow<'d> {
 #[repr(C)]
 #[derive(Clone, Copy)]
 pub struct ExpressionsRecord<'d> {
-    /// The part of each.
+    /// The part of the operators that each is.
     pub parts: &'d [Span],
+    /// The operators of all, end to end.
     pub operators: &'d [OperatorRow],
+}
+
+/// The items of element segments: `bobbinazure_element_items`.
+#[repr(C)]
+#[derive(Clone, Copy)]
+pub struct ElementItemsRecord<'d> {
+    /// Of each segment, in order.
+    pub rows: &'d [ItemsRow],
+    /// Functions by their indices, end to end.
+    pub functions: &'d [u32],
+    /// The expressions of all segments.
+    pub expressions: ExpressionsRecord<'d>,
+}
+
+/// The items of the element segments of a plan.
+#[repr(C)]
+#[derive(Clone, Copy)]
+pub struct ItemsRecord<'d> {
+    /// Of each of `elements`: `element_items`.
+    pub kept: ElementItemsRecord<'d>,
+    /// Of each of `passive_elements`: `passive_items`.
+    pub passive: ElementItemsRecord<'d>,
+}
+
+/// The body of a function: `bobbinazure_body`.
+#[repr(C)]
+#[derive(Clone, Copy)]
+pub struct BodyRow<'d> {
+    /// Its code, behind its locals, up to the end of the body: a part of the module's bytes.
+    pub code: &'d [u8],
+    /// Its locals, a part of `locals`.
+    pub locals: Span,
+}
+
+/// The bodies of the defined functions, and their locals end to end.
+#[repr(C)]
+#[derive(Clone, Copy)]
+pub struct BodiesRecord<'d> {
+    /// The body of each defined function, in order: `bodies`.
+    pub rows: &'d [BodyRow<'d>],
+    /// The locals of bodies, end to end, in runs of one type.
+    pub locals: &'d [LocalsRow],
 }
 
 /// What functions have beside their types, and passive elements.
 #[repr(C)]
 #[derive(Clone, Copy)]
 pub struct FunctionsRecord<'d> {
+    /// The passive element segments, in order.
     pub passive_elements: &'d [PassiveElementsRow],
+    /// The names of functions: `function_names`.
     pub names: &'d [FunctionNameRow<'d>],
+    /// The functions that have hints of branches.
     pub hints: &'d [HintsRow],
+    /// The branch hints, function by function, those of a function in order.
+    pub branch_hints: &'d [BranchHintRow],
+    /// The element segments that are passive, in order.
+    pub passive_segments: &'d [PassiveSegmentRow],
 }
 
 /// How globals begin.
 #[repr(C)]
 #[derive(Clone, Copy)]
 pub struct GlobalsRecord<'d> {
+    /// The defined globals that begin as a known value: `global_values`.
     pub values: &'d [GlobalValueRow],
-    /// The defined globals that begin as the value of an expression.
+    /// The defined globals that begin as the value of an expression, each by its number among the defined ones: `expressed_globals`.
     pub expressed: &'d [u32],
 }
 
@@ -114,7 +180,9 @@ pub struct GlobalsRecord<'d> {
 #[repr(C)]
 #[derive(Clone, Copy)]
 pub struct ImportsRecord<'d> {
+    /// The imports, in order: `imports`.
     pub rows: &'d [ImportRow],
+    /// The names of imports, end to end, in UTF-8: `import_names`.
     pub names: &'d [u8],
 }
 
@@ -122,7 +190,9 @@ pub struct ImportsRecord<'d> {
 #[repr(C)]
 #[derive(Clone, Copy)]
 pub struct ExportsRecord<'d> {
+    /// The exports, in order: `exports`.
     pub rows: &'d [ExportRow],
+    /// The names of exports, end to end, in UTF-8: `export_names`.
     pub names: &'d [u8],
 }
 
@@ -130,7 +200,9 @@ pub struct ExportsRecord<'d> {
 #[repr(C)]
 #[derive(Clone, Copy)]
 pub struct LayoutsRecord<'d> {
+    /// The layouts of the objects of interned types that have some: `layouts`.
     pub rows: &'d [LayoutRow],
+    /// The fields of layouts, end to end: `layout_fields`.
     pub fields: &'d [LayoutFieldRow],
 }
 
@@ -138,9 +210,11 @@ pub struct LayoutsRecord<'d> {
 #[repr(C)]
 #[derive(Clone, Copy)]
 pub struct InternedRecord<'d> {
+    /// The interned types: `interned`.
     pub types: &'d [TypeRow],
+    /// The fields of interned types, end to end.
     pub fields: &'d [FieldRow],
-    /// The types that have a trampoline, in order.
+    /// The interned types that have a trampoline, in order.
     pub trampolines: &'d [TrampolineRow],
 }
 
@@ -148,13 +222,13 @@ pub struct InternedRecord<'d> {
 #[repr(C)]
 #[derive(Clone, Copy)]
 pub struct PlacesRecord<'d> {
-    /// Of each global that begins as the value of an expression.
+    /// Of each of `expressed_globals`: `global_expressions`.
     pub globals: ExpressionsRecord<'d>,
-    /// Of the place of each data segment that is left; none where the place is planned.
+    /// Of the address of each of `segments`; no operators where the address is planned: `segment_places`.
     pub segments: ExpressionsRecord<'d>,
-    /// Of the place of each element segment that is left.
+    /// Of the place of each of `elements`: `element_places`.
     pub elements: ExpressionsRecord<'d>,
-    /// Of the first value of each defined table; none where its cells begin as null.
+    /// Of the first value of each defined table; no operators where its cells begin as null: `table_values`.
     pub tables: ExpressionsRecord<'d>,
 }
 
@@ -164,21 +238,24 @@ pub struct PlacesRecord<'d> {
 pub struct NamesRecord<'d> {
     pub imports: ImportsRecord<'d>,
     pub exports: ExportsRecord<'d>,
+    /// The module's name, if it has one, a part of `module_text`: `module_names`.
     pub own: &'d [Span],
 }
 
-/// A plan, or why there is none: `bobbinazure_plan`, in which the fields of each part stand one after another.
+/// A plan, or why there is none: `bobbinazure_plan`.
 #[repr(C)]
 #[derive(Clone, Copy)]
 pub struct PlanRecord<'d> {
-    /// Of a refusal: 1 malformed, 2 invalid, 3 unsupported, 4 too large, 5 an offset overflows; 0 of a plan.
+    /// Why the module is refused, from `BOBBINAZURE_MALFORMED` on; 0 of a plan.
     pub refusal: u32,
-    /// Which rule is broken, from 1 to 10, or what is not taken, from 1 to 6.
+    /// Of an invalid module the rule that it breaks, from 1 to 10; of an unsupported one what is not taken, from `BOBBINAZURE_COMPONENT` on.
     pub refusal_detail: u32,
-    /// The line of the refusal.
+    /// The line of the refusal, as the program prints it. It is never freed.
     pub refusal_line: &'static [u8],
+    /// How many entities there are.
     pub entities: Entities,
     pub facts: Facts,
+    /// Where the parts of the context begin.
     pub context: Context,
     pub types: TypesRecord<'d>,
     pub kinds: KindsRecord<'d>,
@@ -192,6 +269,10 @@ pub struct PlanRecord<'d> {
     pub names: NamesRecord<'d>,
     pub layouts: LayoutsRecord<'d>,
     pub interned: InternedRecord<'d>,
-    /// The text of the module's name.
+    /// The text of the module's name, in UTF-8.
     pub module_text: &'d [u8],
+    /// The structs that compiled code reads.
+    pub structs: Structs,
+    pub items: ItemsRecord<'d>,
+    pub bodies: BodiesRecord<'d>,
 }

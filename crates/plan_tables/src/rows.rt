@@ -1,18 +1,31 @@
-//! Rows of numbers, with C's layout. Each is the struct of the header that its comment names.
+//! Rows of numbers, with C's layout.
+//!
+//! `embed/generate` makes the structs of C and Rust from this file: a struct's comment ends with its name in C, a field's with its name in C where
+//! that is another one, and the rest is its comment there. A `u8` whose comment begins with `Whether` is a `bool` in Rust.
 
 /// How many entities of each kind there are, imported ones among them, and how many are imported: `bobbinazure_entities`.
 #[repr(C)]
 #[derive(Clone, Copy)]
 pub struct Entities {
+    /// All functions.
     pub functions: u64,
+    /// Those that are imported; they come first.
     pub imported_functions: u64,
+    /// All tables.
     pub tables: u64,
+    /// Those that are imported.
     pub imported_tables: u64,
+    /// All memories.
     pub memories: u64,
+    /// Those that are imported.
     pub imported_memories: u64,
+    /// All globals.
     pub globals: u64,
+    /// Those that are imported.
     pub imported_globals: u64,
+    /// All tags.
     pub tags: u64,
+    /// Those that are imported.
     pub imported_tags: u64,
 }
 
@@ -20,9 +33,9 @@ pub struct Entities {
 #[repr(C)]
 #[derive(Clone, Copy)]
 pub struct Facts {
-    /// 0: no startup function; 1: it always runs; 2: it runs where a memory does not begin as its image.
+    /// When the startup function runs, from `BOBBINAZURE_STARTUP_NONE` on: never, always, or where a memory does not begin as its image.
     pub startup: u32,
-    /// Its interned type.
+    /// The interned type of the startup function; 0 where there is none.
     pub startup_type: u32,
     /// Whether memories begin as images.
     pub images_made: u32,
@@ -30,45 +43,75 @@ pub struct Facts {
     pub types: u32,
     /// The alignment of images, in bytes; 0 where there are none.
     pub data_align: u64,
-    /// The start function; `u32::MAX` where there is none.
+    /// The index of the start function; `u32::MAX` where there is none.
     pub start: u32,
     /// Whether a table can hold references that are collected.
     pub needs_gc_heap: u32,
+    /// How many functions escape, so that a reference to each stands in the context: `escaped_functions`.
+    pub escaped: u64,
+    /// Where the contents of the code section begin in the module, in bytes; 0 without a code section.
+    pub code_section_offset: u64,
+    /// Where the module begins in the bytes that were read.
+    pub module_offset: u64,
+    /// Whether the module has sections of debug information (DWARF), none of which is read.
+    pub has_unparsed_debuginfo: u32,
+    /// The bytes of a pointer of the target: 4 or 8.
+    pub pointer: u32,
 }
 
 /// Where the parts of a context begin, in bytes: `bobbinazure_context`.
 #[repr(C)]
 #[derive(Clone, Copy)]
 pub struct Context {
+    /// The size of the whole context.
     pub size: u32,
+    /// The imported memories.
     pub imported_memories: u32,
+    /// The pointers to the defined memories.
     pub memories: u32,
+    /// The defined memories that are not shared.
     pub owned_memories: u32,
+    /// The imported functions.
     pub imported_functions: u32,
+    /// The imported tables.
     pub imported_tables: u32,
+    /// The imported globals.
     pub imported_globals: u32,
+    /// The imported tags.
     pub imported_tags: u32,
+    /// The defined tables.
     pub tables: u32,
+    /// The defined globals.
     pub globals: u32,
+    /// The defined tags.
     pub tags: u32,
+    /// The references to the functions that escape.
     pub func_refs: u32,
+    /// The pointers to the runtime data.
     pub runtime_data_bases: u32,
+    /// The lengths of the runtime data, in bytes.
     pub runtime_data_lengths: u32,
+    /// The reference to the startup function; `u32::MAX` where there is none.
+    pub startup_func_ref: u32,
 }
 
-/// From one number up to another: `bobbinazure_range`.
+/// From one number up to another, the second not included: `bobbinazure_range`.
 #[repr(C)]
 #[derive(Clone, Copy)]
 pub struct NumberRange {
+    /// The first number.
     pub begin: u32,
+    /// The number behind the last one.
     pub end: u32,
 }
 
-/// A part of a list: `bobbinazure_span`.
+/// A part of a list of the plan: `bobbinazure_span`.
 #[repr(C)]
 #[derive(Clone, Copy)]
 pub struct Span {
+    /// The number of its first item.
     pub begin: usize,
+    /// How many items it has.
     pub len: usize,
 }
 
@@ -76,13 +119,15 @@ pub struct Span {
 #[repr(C)]
 #[derive(Clone, Copy)]
 pub struct ValueRow {
-    /// 0 to 4 a number or a vector, 5 a reference, 6 and 7 a packed integer.
+    /// What it is, from `BOBBINAZURE_I32` on: 0 to 4 a number or a vector, 5 a reference, 6 and 7 a packed integer.
     pub kind: u8,
+    /// Whether the reference may be null.
     pub nullable: u8,
-    /// What a reference is to, in the order of `WasmHeapType`.
+    /// What the reference is to, from `BOBBINAZURE_HEAP_EXTERN` on.
     pub heap: u8,
-    /// Which list the index is of: 0 none, 1 an engine's, 2 the module's, 3 a recursion group's.
+    /// Which list the index is of, from `BOBBINAZURE_NO_INDEX` on.
     pub list: u8,
+    /// The index of the type that the reference is to; 0 where it has none.
     pub index: u32,
 }
 
@@ -96,6 +141,7 @@ pub struct MemoryRow {
     pub maximum: u64,
     /// The page size as an exponent of 2: 0 or 16.
     pub page_size_log2: u8,
+    /// Whether threads may share it.
     pub shared: u8,
     /// Whether addresses have 64 bits.
     pub wide: u8,
@@ -109,8 +155,9 @@ pub struct TableRow {
     pub minimum: u64,
     /// The greatest size, in cells; `u64::MAX` where there is none.
     pub maximum: u64,
+    /// The type of its elements, a reference.
     pub element: ValueRow,
-    /// Whether cells are named by 64 bits.
+    /// Whether indices have 64 bits.
     pub wide: u32,
 }
 
@@ -118,15 +165,19 @@ pub struct TableRow {
 #[repr(C)]
 #[derive(Clone, Copy)]
 pub struct GlobalRow {
+    /// The type of its value.
     pub value: ValueRow,
+    /// Whether it is mutable.
     pub writable: u32,
 }
 
-/// A tag, by the interned types of its function and of its objects: `bobbinazure_tag`.
+/// A tag: `bobbinazure_tag`.
 #[repr(C)]
 #[derive(Clone, Copy)]
 pub struct TagRow {
+    /// The interned type of its function.
     pub signature: u32,
+    /// The interned type of its exceptions.
     pub exception: u32,
 }
 
@@ -134,10 +185,11 @@ pub struct TagRow {
 #[repr(C)]
 #[derive(Clone, Copy)]
 pub struct ImageRow {
+    /// The memory.
     pub memory: u32,
     /// The runtime data that holds it.
     pub runtime: u32,
-    /// Where in the memory it begins, in bytes.
+    /// Its address in the memory, in bytes.
     pub offset: u64,
 }
 
@@ -145,12 +197,13 @@ pub struct ImageRow {
 #[repr(C)]
 #[derive(Clone, Copy)]
 pub struct SegmentRow {
+    /// The memory that it writes.
     pub memory: u32,
     /// The runtime data that it writes.
     pub runtime: u32,
-    /// 0: `offset` is the place in bytes, and so at 1, where it is a constant expression; 2: it is the index of the global that holds the
-    /// place; 3: the place is another expression.
+    /// How `offset` gives its address, from `BOBBINAZURE_AT_BYTE` on: 0 as a planned address, 1 as a constant, 2 as a global, 3 not at all.
     pub kind: u32,
+    /// The address in bytes, or the index of the global that holds it; 0 where another expression gives it.
     pub offset: u64,
 }
 
@@ -158,7 +211,9 @@ pub struct SegmentRow {
 #[repr(C)]
 #[derive(Clone, Copy)]
 pub struct PassiveRow {
+    /// Its number in the data section.
     pub segment: u32,
+    /// The runtime data that holds its bytes.
     pub runtime: u32,
 }
 
@@ -166,26 +221,53 @@ pub struct PassiveRow {
 #[repr(C)]
 #[derive(Clone, Copy)]
 pub struct ElementsRow {
+    /// The table that it writes.
     pub table: u32,
     /// As of a data segment, never 0.
     pub kind: u32,
+    /// As of a data segment, in cells.
     pub offset: u64,
+    /// How many elements it has.
     pub count: u64,
+}
+
+/// The items of an element segment, of which one of the two lists is empty: `bobbinazure_items`.
+#[repr(C)]
+#[derive(Clone, Copy)]
+pub struct ItemsRow {
+    /// The type of each item, a reference.
+    pub element: ValueRow,
+    /// The items that are functions, a part of `functions`.
+    pub functions: Span,
+    /// The items that are constant expressions, a part of the parts of `expressions`.
+    pub expressions: Span,
+}
+
+/// Locals of one type: `bobbinazure_locals`.
+#[repr(C)]
+#[derive(Clone, Copy)]
+pub struct LocalsRow {
+    /// How many locals.
+    pub count: u32,
+    /// Their type. A type of the module is named by the type section: `list` is `BOBBINAZURE_OF_SECTION`, and `heap` is `BOBBINAZURE_HEAP_DECLARED`.
+    pub value: ValueRow,
 }
 
 /// An operator of a constant expression: `bobbinazure_operator`.
 #[repr(C)]
 #[derive(Clone, Copy)]
 pub struct OperatorRow {
-    /// In the order of `ConstOp`.
+    /// Which one, from `BOBBINAZURE_I32_CONST` on.
     pub code: u8,
-    /// Of a null reference, what it is to, and which list the index is of.
+    /// What a null reference is to, from `BOBBINAZURE_HEAP_EXTERN` on.
     pub heap: u8,
+    /// Which list the index of a null reference is of, from `BOBBINAZURE_NO_INDEX` on.
     pub list: u8,
     /// The global, the function or the type that it names.
     pub index: u32,
-    /// The bits of a constant, of a vector the lower half; a number of elements.
+    /// The bits of a constant, of a vector the lower half; of `array.new_fixed` the number of elements.
     pub low: u64,
+    /// The upper half of the bits of a vector.
     pub high: u64,
 }
 
@@ -193,7 +275,9 @@ pub struct OperatorRow {
 #[repr(C)]
 #[derive(Clone, Copy)]
 pub struct GlobalValueRow {
+    /// The global, by its number among the defined ones.
     pub global: u32,
+    /// The constant that makes the value: a number or a vector.
     pub value: OperatorRow,
 }
 
@@ -201,35 +285,67 @@ pub struct GlobalValueRow {
 #[repr(C)]
 #[derive(Clone, Copy)]
 pub struct HintsRow {
+    /// The function, by its index.
     pub function: u32,
+    /// How many hints it has.
     pub count: u64,
 }
 
-/// A passive element segment, by the type of its elements and their number: `bobbinazure_passive_elements`.
+/// A branch hint: `bobbinazure_branch_hint`.
+#[repr(C)]
+#[derive(Clone, Copy)]
+pub struct BranchHintRow {
+    /// The function, by its index.
+    pub function: u32,
+    /// Where the branch stands, in bytes from the begin of the function's body.
+    pub offset: u32,
+    /// Whether it is likely to be taken.
+    pub taken: u32,
+}
+
+/// Which passive element segment a segment of the module is: `bobbinazure_passive_segment`.
+#[repr(C)]
+#[derive(Clone, Copy)]
+pub struct PassiveSegmentRow {
+    /// Its number in the element section.
+    pub segment: u32,
+    /// Its number among the passive ones, as of `passive_elements`.
+    pub passive: u32,
+}
+
+/// A passive element segment: `bobbinazure_passive_elements`.
 #[repr(C)]
 #[derive(Clone, Copy)]
 pub struct PassiveElementsRow {
+    /// The type of its elements, a reference.
     pub element: ValueRow,
+    /// How many elements it has.
     pub count: u64,
 }
 
-/// An import: the kind and the index of its entity, and its two names as parts of the imports' names: `bobbinazure_import`.
+/// An import: `bobbinazure_import`.
 #[repr(C)]
 #[derive(Clone, Copy)]
 pub struct ImportRow {
+    /// The kind of its entity, from `BOBBINAZURE_FUNCTION` on.
     pub kind: u32,
+    /// The index of its entity, among those of its kind.
     pub index: u32,
-    /// The name of the module from which it comes.
+    /// The name of the module that it comes from, a part of `import_names`.
     pub from: Span,
+    /// Its name there, a part of `import_names`.
     pub name: Span,
 }
 
-/// An export: the kind and the index of its entity, and its name as a part of the exports' names: `bobbinazure_export`.
+/// An export: `bobbinazure_export`.
 #[repr(C)]
 #[derive(Clone, Copy)]
 pub struct ExportRow {
+    /// The kind of its entity, from `BOBBINAZURE_FUNCTION` on.
     pub kind: u32,
+    /// The index of its entity, among those of its kind.
     pub index: u32,
+    /// Its name, a part of `export_names`.
     pub name: Span,
 }
 
@@ -237,16 +353,19 @@ pub struct ExportRow {
 #[repr(C)]
 #[derive(Clone, Copy)]
 pub struct LayoutRow {
+    /// The interned type.
     pub ty: u32,
-    /// 0 an array, 1 a struct, 2 an exception.
+    /// What its objects are, from `BOBBINAZURE_ARRAY_OBJECT` on: 0 an array, 1 a struct, 2 an exception.
     pub kind: u32,
-    /// In bytes; of an array, those before its elements.
+    /// The size of an object in bytes; of an array, the bytes before its elements.
     pub size: u32,
+    /// The alignment of an object, in bytes.
     pub align: u32,
     /// The bytes of an element of an array.
     pub element: u32,
     /// Whether the elements of an array are references that are collected.
     pub refs: u32,
+    /// Its fields, a part of `layout_fields`.
     pub fields: Span,
 }
 
@@ -254,7 +373,9 @@ pub struct LayoutRow {
 #[repr(C)]
 #[derive(Clone, Copy)]
 pub struct LayoutFieldRow {
+    /// Where in the object it begins, in bytes.
     pub offset: u32,
+    /// Whether it is a reference that is collected.
     pub is_ref: u32,
 }
 
@@ -262,16 +383,21 @@ pub struct LayoutFieldRow {
 #[repr(C)]
 #[derive(Clone, Copy)]
 pub struct TypeRow {
-    /// 0 an array, 1 a function, 2 a struct, 3 a continuation, 4 an exception.
+    /// What it is, from `BOBBINAZURE_ARRAY` on: 0 an array, 1 a function, 2 a struct, 3 a continuation, 4 an exception.
     pub kind: u8,
+    /// Whether it can have no subtypes.
     pub is_final: u8,
+    /// Whether threads may share what is of it.
     pub shared: u8,
+    /// Which list the supertype is of, from `BOBBINAZURE_NO_INDEX` on, which says that there is none.
     pub supertype_list: u8,
+    /// Which list the function type is of, from `BOBBINAZURE_NO_INDEX` on, which says that there is none.
     pub function_list: u8,
+    /// The supertype.
     pub supertype: u32,
     /// The function type of a continuation or an exception.
     pub function: u32,
-    /// Its fields, or its parameters and then its results.
+    /// Its fields, or its parameters and then its results: a part of the plan's `fields`.
     pub fields: Span,
     /// How many of them are results.
     pub results: usize,
@@ -281,7 +407,9 @@ pub struct TypeRow {
 #[repr(C)]
 #[derive(Clone, Copy)]
 pub struct FieldRow {
+    /// The type of its value.
     pub value: ValueRow,
+    /// Whether it is mutable; 0 of a parameter or a result.
     pub writable: u32,
 }
 
@@ -289,6 +417,8 @@ pub struct FieldRow {
 #[repr(C)]
 #[derive(Clone, Copy)]
 pub struct TrampolineRow {
+    /// The interned type.
     pub ty: u32,
+    /// The interned type of its trampoline.
     pub trampoline: u32,
 }

@@ -1,66 +1,99 @@
-//! The sizes of the records, in bytes; the header asserts the same of its structs.
+//! The sizes of the records, in bytes; the header asserts the same of its structs. Made by embed/generate.
 
-use crate::record::{FunctionNameRow, PlanRecord, RegionRow, RuntimeRow};
-use crate::rows::{
-    Context, ElementsRow, Entities, ExportRow, FieldRow, GlobalRow, GlobalValueRow, HintsRow,
-    ImageRow, ImportRow, LayoutFieldRow, LayoutRow, MemoryRow, NumberRange, OperatorRow,
-    PassiveElementsRow, PassiveRow, SegmentRow, Span, TableRow, TagRow, TrampolineRow, TypeRow,
-    ValueRow,
-};
 use std::mem::size_of;
 
-const _: () = prove!(size_of::<Entities>() == 80);
+const _: () = prove!(size_of::<crate::rows::Entities>() == 80);
 
-const _: () = prove!(size_of::<Context>() == 56);
+const _: () = prove!(size_of::<crate::rows::Context>() == 60);
 
-const _: () = prove!(size_of::<NumberRange>() == 8);
+const _: () = prove!(size_of::<crate::rows::NumberRange>() == 8);
 
-const _: () = prove!(size_of::<Span>() == 16);
+const _: () = prove!(size_of::<crate::rows::Span>() == 16);
 
-const _: () = prove!(size_of::<ValueRow>() == 8);
+const _: () = prove!(size_of::<crate::rows::ValueRow>() == 8);
 
-const _: () = prove!(size_of::<MemoryRow>() == 24);
+const _: () = prove!(size_of::<crate::rows::MemoryRow>() == 24);
 
-const _: () = prove!(size_of::<TableRow>() == 32);
+const _: () = prove!(size_of::<crate::rows::TableRow>() == 32);
 
-const _: () = prove!(size_of::<GlobalRow>() == 12);
+const _: () = prove!(size_of::<crate::rows::GlobalRow>() == 12);
 
-const _: () = prove!(size_of::<TagRow>() == 8);
+const _: () = prove!(size_of::<crate::rows::TagRow>() == 8);
 
-const _: () = prove!(size_of::<RuntimeRow<'static>>() == 24);
+const _: () = prove!(size_of::<crate::rows::ImageRow>() == 16);
 
-const _: () = prove!(size_of::<ImageRow>() == 16);
+const _: () = prove!(size_of::<crate::rows::SegmentRow>() == 24);
 
-const _: () = prove!(size_of::<SegmentRow>() == 24);
+const _: () = prove!(size_of::<crate::rows::PassiveRow>() == 8);
 
-const _: () = prove!(size_of::<PassiveRow>() == 8);
+const _: () = prove!(size_of::<crate::rows::ElementsRow>() == 24);
 
-const _: () = prove!(size_of::<ElementsRow>() == 24);
+const _: () = prove!(size_of::<crate::rows::ItemsRow>() == 40);
 
-const _: () = prove!(size_of::<RegionRow>() == 24);
+const _: () = prove!(size_of::<crate::rows::LocalsRow>() == 12);
 
-const _: () = prove!(size_of::<FunctionNameRow<'static>>() == 24);
+const _: () = prove!(size_of::<crate::rows::OperatorRow>() == 24);
 
-const _: () = prove!(size_of::<HintsRow>() == 16);
+const _: () = prove!(size_of::<crate::rows::GlobalValueRow>() == 32);
 
-const _: () = prove!(size_of::<PassiveElementsRow>() == 16);
+const _: () = prove!(size_of::<crate::rows::HintsRow>() == 16);
 
-const _: () = prove!(size_of::<OperatorRow>() == 24);
+const _: () = prove!(size_of::<crate::rows::BranchHintRow>() == 12);
 
-const _: () = prove!(size_of::<GlobalValueRow>() == 32);
+const _: () = prove!(size_of::<crate::rows::PassiveSegmentRow>() == 8);
 
-const _: () = prove!(size_of::<ImportRow>() == 40);
+const _: () = prove!(size_of::<crate::rows::PassiveElementsRow>() == 16);
 
-const _: () = prove!(size_of::<ExportRow>() == 24);
+const _: () = prove!(size_of::<crate::rows::ImportRow>() == 40);
 
-const _: () = prove!(size_of::<LayoutRow>() == 40);
+const _: () = prove!(size_of::<crate::rows::ExportRow>() == 24);
 
-const _: () = prove!(size_of::<LayoutFieldRow>() == 8);
+const _: () = prove!(size_of::<crate::rows::LayoutRow>() == 40);
 
-const _: () = prove!(size_of::<TypeRow>() == 40);
+const _: () = prove!(size_of::<crate::rows::LayoutFieldRow>() == 8);
 
-const _: () = prove!(size_of::<FieldRow>() == 12);
+const _: () = prove!(size_of::<crate::rows::TypeRow>() == 40);
 
-const _: () = prove!(size_of::<TrampolineRow>() == 8);
+const _: () = prove!(size_of::<crate::rows::FieldRow>() == 12);
 
-const _: () = prove!(size_of::<PlanRecord<'static>>() == 864);
+const _: () = prove!(size_of::<crate::rows::TrampolineRow>() == 8);
+
+const _: () = prove!(size_of::<crate::struct_rows::FunctionImportLayout>() == 16);
+
+const _: () = prove!(size_of::<crate::struct_rows::TableImportLayout>() == 16);
+
+const _: () = prove!(size_of::<crate::struct_rows::MemoryImportLayout>() == 16);
+
+const _: () = prove!(size_of::<crate::struct_rows::TagImportLayout>() == 16);
+
+const _: () = prove!(size_of::<crate::struct_rows::GlobalImportLayout>() == 16);
+
+const _: () = prove!(size_of::<crate::struct_rows::MemoryDefinitionLayout>() == 12);
+
+const _: () = prove!(size_of::<crate::struct_rows::TableDefinitionLayout>() == 12);
+
+const _: () = prove!(size_of::<crate::struct_rows::GlobalDefinitionLayout>() == 8);
+
+const _: () = prove!(size_of::<crate::struct_rows::TagDefinitionLayout>() == 8);
+
+const _: () = prove!(size_of::<crate::struct_rows::FuncRefLayout>() == 20);
+
+const _: () = prove!(size_of::<crate::struct_rows::StoreContextLayout>() == 24);
+
+const _: () = prove!(size_of::<crate::struct_rows::StaticContextLayout>() == 28);
+
+const _: () = prove!(size_of::<crate::struct_rows::Structs>() == 192);
+
+const _: () = prove!(size_of::<crate::record::RuntimeRow<'static>>() == 24);
+
+const _: () = prove!(size_of::<crate::record::RegionRow>() == 24);
+
+const _: () = prove!(size_of::<crate::record::FunctionNameRow<'static>>() == 24);
+
+const _: () = prove!(size_of::<crate::record::ExpressionsRecord<'static>>() == 32);
+
+const _: () = prove!(size_of::<crate::record::ElementItemsRecord<'static>>() == 64);
+
+const _: () = prove!(size_of::<crate::record::BodyRow<'static>>() == 32);
+
+const _: () = prove!(size_of::<crate::record::PlanRecord<'static>>() == 1288);

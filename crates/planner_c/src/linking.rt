@@ -1,6 +1,6 @@
 //! The call from C that links two modules.
 
-ghost use Rattle.std.specs.Prelude.{◌≡◌, ◌≢◌, ◌⊎◌, ◌^◌, All, IfOk, map};
+ghost use Rattle.std.specs.Prelude.{◌≡◌, ◌≢◌, ◌⊎◌, ◌↔◌, ◌^◌, All, IfOk, map};
 ghost use Rattle.std.specs.Str.{IsUtf8};
 ghost use Rattle.translate.specs.Valid.{IsValid};
 ghost use Rattle.import_match.specs.declared.error.Mismatch.{Mismatch};
@@ -38,8 +38,8 @@ pub extern "C" fn bobbinazure_link<'d>(
     ensures planned { result ≡ 0 → LinksPlans options.now exporter.now importer.now as_module.now out.new }
     // The refusal that is told has its cause, and is of the first module that is refused.
     ensures refused { result ≡ 1 → RefusesOne options.now exporter.now importer.now out.new }
-    // Right options and a name in UTF-8 are taken; where nothing is answered, nothing is changed.
-    ensures taken { AreRight options.now → IsUtf8 as_module.now → result ≢ 2 }
+    // Wrong options, or a name that is not UTF-8, are told, exactly; where nothing is answered, nothing is changed.
+    ensures usage { (result ≡ 2) ↔ ¬ (AreRight options.now × IsUtf8 as_module.now) }
     ensures same { (result ≡ 2) ⊎ (result ≡ 5) → out.new ≡ out.old }
     // Valid input is not refused.
     ensures complete { IsValid (options_for options.now) exporter.now → IsValid (options_for options.now) importer.now → result ≢ 1 }

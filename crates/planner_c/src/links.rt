@@ -4,11 +4,11 @@
 #[repr(C)]
 #[derive(Clone, Copy)]
 pub struct ImportAnswerRecord {
-    /// 0 given, 1 missing, 2 a mismatch.
+    /// From `BOBBINAZURE_GIVEN` on: 0 given, 1 missing, 2 a mismatch.
     pub answer: u32,
-    /// The number of the export, from 0 on; 0; the number of the rule that it breaks, from 1 to 14.
+    /// Where it is given, the number of the export, from 0 on; of a mismatch the rule that it breaks, from `BOBBINAZURE_MISMATCH_KIND` on; else 0.
     pub detail: u32,
-    /// The text of a mismatch.
+    /// The text of a mismatch, else empty. It is never freed.
     pub line: &'static [u8],
 }
 
@@ -18,10 +18,11 @@ pub struct ImportAnswerRecord {
 pub struct LinkRecord<'d> {
     /// 1 where the first module is refused, 2 where the second is; 0 where both are planned.
     pub refused: u32,
-    /// As of a plan, with the next two.
+    /// Why that module is refused, as of a plan, with the next two.
     pub refusal: u32,
     pub refusal_detail: u32,
+    /// The line of the refusal, as the program prints it. It is never freed.
     pub refusal_line: &'static [u8],
-    /// Of each import of the second module, in order.
+    /// The answer to each import of the second module, in order.
     pub answers: &'d [ImportAnswerRecord],
 }

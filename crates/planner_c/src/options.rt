@@ -8,21 +8,21 @@ ghost use Rattle.planner_c.specs.Calls.{command_for, collector_for, AreRight};
 use translate::{Collector, Command};
 use wasm_types::Tunables;
 
-/// What a caller may choose: `bobbinazure_options`.
+/// What a caller may choose; of a flag 0 is no: `bobbinazure_options`.
 #[repr(C)]
 #[derive(Clone, Copy)]
 pub struct PlanOptions {
-    /// Memories begin as images, where the data segments allow it; 0 is no, in this and the next four.
+    /// Whether memories begin as images, where the data segments allow it.
     /// A module can then ask for `max_image` bytes with each memory that it defines, in some fifteen bytes of its own.
     pub cow: u8,
-    /// Tables begin as images, as far as their elements allow it.
+    /// Whether tables begin as images, as far as their elements allow it.
     /// A module can then ask for 1,048,576 cells of four bytes with each table that it defines, in ten bytes of its own.
     pub lazy_tables: u8,
-    /// Hints of branches are read.
+    /// Whether hints of branches are read.
     pub branch_hints: u8,
-    /// The names of locals are kept too.
+    /// Whether the names of locals are kept too.
     pub native_debug: u8,
-    /// References can be made to every function.
+    /// Whether references can be made to every function.
     pub guest_debug: u8,
     /// The bytes of a pointer of the target: 4 or 8.
     pub pointer: u8,

@@ -4,7 +4,8 @@
 #[repr(C)]
 #[derive(Clone, Copy)]
 pub struct TextRecord<'d> {
+    /// In UTF-8, without a zero at the end.
     pub text: &'d [u8],
-    /// Whether the text stands in memory of its own, to be freed by the caller.
+    /// Whether the text stands in memory of its own, which `bobbinazure_text_free` gives back.
     pub made: u32,
 }

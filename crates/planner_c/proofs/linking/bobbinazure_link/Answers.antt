@@ -1,4 +1,4 @@
-use Rattle.std.proofs.Common.{inl, inr, arith}
+use Rattle.std.proofs.Common.{is_some, inl, inr, ap, arith}
 use Rattle.translate.specs.Options.{options_of}
 use Rattle.planner_c.proofs.Told.{both-planned, first-refused, second-refused}
 use Rattle.planner_c.proofs.linking.bobbinazure_link.Goals as goal
@@ -28,7 +28,19 @@ returns-in-Ok-planned-2-clause-planned c = λ success.
     c.args.as_module.now c.in-Ok.as_module.now c.in-Ok-planned.first c.in-Ok-planned-2.second c.in-Ok.ensures.cases.0
     c.in-Ok-planned.ensures.planned c.in-Ok-planned-2.ensures.planned (c.tell_links.ensures.told success)
 
+pub returns-in-Ok-planned-2-clause-usage : goal.returns-in-Ok-planned-2-clause-usage
+returns-in-Ok-planned-2-clause-usage c = (
+  λ usage. elim c.tell_links.ensures.statuses [ inl success ↦ absurd (omega (arith, usage, success)) | inr memory ↦ absurd (omega (arith, usage, memory)) ],
+  λ wrong. absurd (wrong (c.command_of.ensures.right (ap is_some c.in-Some.is), c.in-Ok.ensures.cases.1)),
+)
+
 -- the second is refused
+
+pub returns-in-Ok-planned-clause-usage : goal.returns-in-Ok-planned-clause-usage
+returns-in-Ok-planned-clause-usage c = (
+  λ usage. elim c.tell_refusal_of.ensures.statuses [ inl told ↦ absurd (omega (arith, usage, told)) | inr memory ↦ absurd (omega (arith, usage, memory)) ],
+  λ wrong. absurd (wrong (c.command_of.ensures.right (ap is_some c.in-Some.is), c.in-Ok.ensures.cases.1)),
+)
 
 pub returns-in-Ok-planned-clause-planned : goal.returns-in-Ok-planned-clause-planned
 returns-in-Ok-planned-clause-planned c = λ success.
@@ -40,6 +52,12 @@ returns-in-Ok-planned-clause-refused c = λ told.
     c.in-Ok-planned.first c.in-Err-planned.refusal c.in-Ok-planned.ensures.planned c.in-Err-planned.ensures.cause (c.tell_refusal_of.ensures.told told)
 
 -- the first is refused
+
+pub returns-clause-usage : goal.returns-clause-usage
+returns-clause-usage c = (
+  λ usage. elim c.tell_refusal_of-in-Err.ensures.statuses [ inl told ↦ absurd (omega (arith, usage, told)) | inr memory ↦ absurd (omega (arith, usage, memory)) ],
+  λ wrong. absurd (wrong (c.command_of.ensures.right (ap is_some c.in-Some.is), c.in-Ok.ensures.cases.1)),
+)
 
 pub returns-clause-planned : goal.returns-clause-planned
 returns-clause-planned c = λ success.

@@ -1,0 +1,189 @@
+//! Rows of where the fields of the structs begin that compiled code reads, with C's layout; `embed/generate` reads them as those of `rows`.
+//!
+//! Each number is in bytes, and a field's is counted from the begin of its struct.
+
+/// An imported function: `bobbinazure_function_import_layout`.
+#[repr(C)]
+#[derive(Clone, Copy)]
+pub struct FunctionImportLayout {
+    /// Its size.
+    pub size: u32,
+    /// The pointer to its code for calls from compiled code.
+    pub wasm_call: u32,
+    /// The pointer to its code for calls with an array of values.
+    pub array_call: u32,
+    /// The pointer to its context.
+    pub vmctx: u32,
+}
+
+/// An imported table: `bobbinazure_table_import_layout`.
+#[repr(C)]
+#[derive(Clone, Copy)]
+pub struct TableImportLayout {
+    /// Its size.
+    pub size: u32,
+    /// The pointer to its definition.
+    pub from: u32,
+    /// The pointer to the context that has it.
+    pub vmctx: u32,
+    /// Its index in that context.
+    pub index: u32,
+}
+
+/// An imported memory: `bobbinazure_memory_import_layout`.
+#[repr(C)]
+#[derive(Clone, Copy)]
+pub struct MemoryImportLayout {
+    /// Its size.
+    pub size: u32,
+    /// The pointer to its definition.
+    pub from: u32,
+    /// The pointer to the context that has it.
+    pub vmctx: u32,
+    /// Its index in that context.
+    pub index: u32,
+}
+
+/// An imported tag: `bobbinazure_tag_import_layout`.
+#[repr(C)]
+#[derive(Clone, Copy)]
+pub struct TagImportLayout {
+    /// Its size.
+    pub size: u32,
+    /// The pointer to its definition.
+    pub from: u32,
+    /// The pointer to the context that has it.
+    pub vmctx: u32,
+    /// Its index in that context.
+    pub index: u32,
+}
+
+/// An imported global: `bobbinazure_global_import_layout`.
+#[repr(C)]
+#[derive(Clone, Copy)]
+pub struct GlobalImportLayout {
+    /// Its size.
+    pub size: u32,
+    /// The pointer to its definition.
+    pub from: u32,
+    /// The pointer to the context that has it.
+    pub vmctx: u32,
+    /// What that context is, a number of 32 bits and a payload of 32 bits.
+    pub kind: u32,
+}
+
+/// A memory: `bobbinazure_memory_definition_layout`.
+#[repr(C)]
+#[derive(Clone, Copy)]
+pub struct MemoryDefinitionLayout {
+    /// Its size.
+    pub size: u32,
+    /// The pointer to its first byte.
+    pub base: u32,
+    /// The number of its bytes, as wide as a pointer.
+    pub current_length: u32,
+}
+
+/// A table: `bobbinazure_table_definition_layout`.
+#[repr(C)]
+#[derive(Clone, Copy)]
+pub struct TableDefinitionLayout {
+    /// Its size.
+    pub size: u32,
+    /// The pointer to its first cell.
+    pub base: u32,
+    /// The number of its cells, as wide as a pointer.
+    pub current_elements: u32,
+}
+
+/// A global: `bobbinazure_global_definition_layout`.
+#[repr(C)]
+#[derive(Clone, Copy)]
+pub struct GlobalDefinitionLayout {
+    /// Its size.
+    pub size: u32,
+    /// Its value, in 16 bytes.
+    pub storage: u32,
+}
+
+/// A tag: `bobbinazure_tag_definition_layout`.
+#[repr(C)]
+#[derive(Clone, Copy)]
+pub struct TagDefinitionLayout {
+    /// Its size.
+    pub size: u32,
+    /// Its type, by the index of the engine.
+    pub type_index: u32,
+}
+
+/// A reference to a function: `bobbinazure_func_ref_layout`.
+#[repr(C)]
+#[derive(Clone, Copy)]
+pub struct FuncRefLayout {
+    /// Its size.
+    pub size: u32,
+    /// The pointer to its code for calls with an array of values.
+    pub array_call: u32,
+    /// The pointer to its code for calls from compiled code.
+    pub wasm_call: u32,
+    /// Its type, by the index of the engine.
+    pub type_index: u32,
+    /// The pointer to its context.
+    pub vmctx: u32,
+}
+
+/// The context of a store: `bobbinazure_store_context_layout`.
+#[repr(C)]
+#[derive(Clone, Copy)]
+pub struct StoreContextLayout {
+    /// Its size.
+    pub size: u32,
+    /// The fuel that was consumed.
+    pub fuel_consumed: u32,
+    /// The deadline, a number of epochs.
+    pub epoch_deadline: u32,
+    /// The limit of the stack.
+    pub stack_limit: u32,
+    /// The memory of the collected heap, as `memory_definition`.
+    pub gc_heap: u32,
+    /// The frame pointer of the last trampoline out of compiled code.
+    pub last_wasm_exit_trampoline_fp: u32,
+}
+
+/// The part of a context that each module has: `bobbinazure_static_context_layout`.
+#[repr(C)]
+#[derive(Clone, Copy)]
+pub struct StaticContextLayout {
+    /// Where what depends on the module begins.
+    pub size: u32,
+    /// The number by which a context is known.
+    pub magic: u32,
+    /// The pointer to the context of the store.
+    pub store_context: u32,
+    /// The pointer to the built-in functions.
+    pub builtin_functions: u32,
+    /// The pointer to the current epoch.
+    pub epoch_ptr: u32,
+    /// The pointer to the data of the collector.
+    pub gc_heap_data: u32,
+    /// The pointer to the indices of the types.
+    pub type_ids: u32,
+}
+
+/// The structs that compiled code reads: `bobbinazure_structs`.
+#[repr(C)]
+#[derive(Clone, Copy)]
+pub struct Structs {
+    pub function_import: FunctionImportLayout,
+    pub table_import: TableImportLayout,
+    pub memory_import: MemoryImportLayout,
+    pub tag_import: TagImportLayout,
+    pub global_import: GlobalImportLayout,
+    pub memory_definition: MemoryDefinitionLayout,
+    pub table_definition: TableDefinitionLayout,
+    pub global_definition: GlobalDefinitionLayout,
+    pub tag_definition: TagDefinitionLayout,
+    pub func_ref: FuncRefLayout,
+    pub store_context: StoreContextLayout,
+    pub static_context: StaticContextLayout,
+}

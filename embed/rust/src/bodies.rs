@@ -1,0 +1,92 @@
+//! The bodies of functions, and what is known of their code.
+
+use crate::plan::{Plan, part};
+use crate::rows::{BranchHint, Locals};
+use crate::types::{HeapType, RefType, StorageType, TypeIndex, ValType};
+use std::ops::Range;
+
+/// The body of a defined function.
+#[derive(Clone, Debug)]
+pub struct Body<'p> {
+    /// Where it stands in the module, without its size.
+    pub range: Range<usize>,
+    /// Where its operators begin in the module.
+    pub operators: usize,
+    /// Its code, from its first operator to its end.
+    pub code: &'p [u8],
+    locals: &'p [Locals],
+    plan: &'p Plan<'p>,
+}
+
+impl<'p> Body<'p> {
+    /// Its locals besides its parameters, in runs of one type: how many, and their type, by interned types.
+    pub fn locals(&self) -> impl ExactSizeIterator<Item = (u32, ValType)> + use<'p> {
+        let plan = self.plan;
+        self.locals.iter().map(move |run| (run.count, plan.local_type(run)))
+    }
+}
+
+/// Where a number of the format that begins at a place ends.
+fn behind_number(module: &[u8], at: usize) -> usize {
+    at + module[at..].iter().take_while(|byte| **byte >= 0x80).count() + 1
+}
+
+impl<'d> Plan<'d> {
+    /// The bodies of the defined functions, in order.
+    ///
+    /// ```
+    /// # let bytes = std::fs::read(concat!(env!("CARGO_MANIFEST_DIR"), "/../../examples/linked.wasm"))?;
+    /// # let options = bobbinazure::Options { cow: true, lazy_tables: true, ..Default::default() };
+    /// # let plan = bobbinazure::Plan::new(&bytes, &options)?;
+    /// let add = plan.bodies().nth(1).unwrap();
+    /// assert_eq!(add.code, [0x20, 0x00, 0x20, 0x01, 0x6A, 0x0B]);
+    /// assert_eq!(bytes[add.operators..add.range.end], *add.code);
+    /// # Ok::<(), Box<dyn std::error::Error>>(())
+    /// ```
+    pub fn bodies(&self) -> impl ExactSizeIterator<Item = Body<'_>> {
+        let mut at = self.record.code_section_offset as usize;
+        self.record.bodies.as_slice().iter().enumerate().map(move |(place, row)| {
+            if place == 0 {
+                at = behind_number(self.module, at);
+            }
+            let begin = behind_number(self.module, at);
+            let code = row.code.as_slice();
+            let operators = code.as_ptr() as usize - self.module.as_ptr() as usize;
+            at = operators + code.len();
+            Body { range: begin..at, operators, code, locals: part(self.record.locals.as_slice(), row.locals), plan: self }
+        })
+    }
+
+    /// The type of locals: a type of the type section is the interned one.
+    fn local_type(&self, run: &Locals) -> ValType {
+        if run.value.list == 4 {
+            let index = self.declared_types()[run.value.index as usize];
+            let ty = TypeIndex::Module(index);
+            let heap_type = match self.record.interned.as_slice()[index as usize].kind {
+                0 => HeapType::ConcreteArray(ty),
+                1 => HeapType::ConcreteFunc(ty),
+                2 => HeapType::ConcreteStruct(ty),
+                3 => HeapType::ConcreteCont(ty),
+                _ => HeapType::ConcreteExn(ty),
+            };
+            return RefType { nullable: run.value.nullable, heap_type }.into();
+        }
+        match StorageType::from(run.value) {
+            StorageType::Val(ty) => ty,
+            StorageType::I8 | StorageType::I16 => ValType::I32, // of no local
+        }
+    }
+
+    /// The branch hints, function by function, those of a function in order.
+    pub fn branch_hints(&self) -> &[BranchHint] {
+        self.record.branch_hints.as_slice()
+    }
+
+    /// The branch hints of a function, in order.
+    pub fn branch_hints_of(&self, function: u32) -> &[BranchHint] {
+        let hints = self.branch_hints();
+        let begin = hints.partition_point(|hint| hint.function < function);
+        let len = hints[begin..].partition_point(|hint| hint.function == function);
+        &hints[begin..begin + len]
+    }
+}

@@ -1,0 +1,390 @@
+//! The sizes and the offsets of the records, where pointers have 8 bytes: the header has the same. Made by embed/generate.
+#![cfg(target_pointer_width = "64")]
+
+use crate::list::List;
+use crate::records::*;
+use crate::rows::*;
+use std::mem::{offset_of, size_of};
+
+macro_rules! laid_out {
+    ($($row:ty: $size:literal { $($field:ident $at:literal),* $(,)? })*) => {
+        $(const _: () = {
+            assert!(size_of::<$row>() == $size);
+            $(assert!(offset_of!($row, $field) == $at);)*
+        };)*
+    };
+}
+
+laid_out! {
+    List<u8>: 16 {}
+    Options: 24 {
+        cow 0,
+        lazy_tables 1,
+        branch_hints 2,
+        native_debug 3,
+        guest_debug 4,
+        pointer 5,
+        collector 6,
+        page_size 8,
+        max_image 16,
+    }
+    Entities: 80 {
+        functions 0,
+        imported_functions 8,
+        tables 16,
+        imported_tables 24,
+        memories 32,
+        imported_memories 40,
+        globals 48,
+        imported_globals 56,
+        tags 64,
+        imported_tags 72,
+    }
+    Context: 60 {
+        size 0,
+        imported_memories 4,
+        memories 8,
+        owned_memories 12,
+        imported_functions 16,
+        imported_tables 20,
+        imported_globals 24,
+        imported_tags 28,
+        tables 32,
+        globals 36,
+        tags 40,
+        func_refs 44,
+        runtime_data_bases 48,
+        runtime_data_lengths 52,
+        startup_func_ref 56,
+    }
+    Range: 8 {
+        begin 0,
+        end 4,
+    }
+    Span: 16 {
+        begin 0,
+        len 8,
+    }
+    Value: 8 {
+        kind 0,
+        nullable 1,
+        heap 2,
+        list 3,
+        index 4,
+    }
+    Memory: 24 {
+        minimum 0,
+        maximum 8,
+        page_size_log2 16,
+        shared 17,
+        wide 18,
+    }
+    Table: 32 {
+        minimum 0,
+        maximum 8,
+        element 16,
+        wide 24,
+    }
+    Global: 12 {
+        value 0,
+        writable 8,
+    }
+    Tag: 8 {
+        signature 0,
+        exception 4,
+    }
+    Image: 16 {
+        memory 0,
+        runtime 4,
+        offset 8,
+    }
+    Segment: 24 {
+        memory 0,
+        runtime 4,
+        kind 8,
+        offset 16,
+    }
+    Passive: 8 {
+        segment 0,
+        runtime 4,
+    }
+    Elements: 24 {
+        table 0,
+        kind 4,
+        offset 8,
+        count 16,
+    }
+    Items: 40 {
+        element 0,
+        functions 8,
+        expressions 24,
+    }
+    Locals: 12 {
+        count 0,
+        value 4,
+    }
+    Operator: 24 {
+        code 0,
+        heap 1,
+        list 2,
+        index 4,
+        low 8,
+        high 16,
+    }
+    GlobalValue: 32 {
+        global 0,
+        value 8,
+    }
+    Hints: 16 {
+        function 0,
+        count 8,
+    }
+    BranchHint: 12 {
+        function 0,
+        offset 4,
+        taken 8,
+    }
+    PassiveSegment: 8 {
+        segment 0,
+        passive 4,
+    }
+    PassiveElements: 16 {
+        element 0,
+        count 8,
+    }
+    Import: 40 {
+        kind 0,
+        index 4,
+        from 8,
+        name 24,
+    }
+    Export: 24 {
+        kind 0,
+        index 4,
+        name 8,
+    }
+    Layout: 40 {
+        ty 0,
+        kind 4,
+        size 8,
+        align 12,
+        element 16,
+        refs 20,
+        fields 24,
+    }
+    LayoutField: 8 {
+        offset 0,
+        is_ref 4,
+    }
+    Type: 40 {
+        kind 0,
+        is_final 1,
+        shared 2,
+        supertype_list 3,
+        function_list 4,
+        supertype 8,
+        function 12,
+        fields 16,
+        results 32,
+    }
+    Field: 12 {
+        value 0,
+        writable 8,
+    }
+    Trampoline: 8 {
+        ty 0,
+        trampoline 4,
+    }
+    FunctionImportLayout: 16 {
+        size 0,
+        wasm_call 4,
+        array_call 8,
+        vmctx 12,
+    }
+    TableImportLayout: 16 {
+        size 0,
+        from 4,
+        vmctx 8,
+        index 12,
+    }
+    MemoryImportLayout: 16 {
+        size 0,
+        from 4,
+        vmctx 8,
+        index 12,
+    }
+    TagImportLayout: 16 {
+        size 0,
+        from 4,
+        vmctx 8,
+        index 12,
+    }
+    GlobalImportLayout: 16 {
+        size 0,
+        from 4,
+        vmctx 8,
+        kind 12,
+    }
+    MemoryDefinitionLayout: 12 {
+        size 0,
+        base 4,
+        current_length 8,
+    }
+    TableDefinitionLayout: 12 {
+        size 0,
+        base 4,
+        current_elements 8,
+    }
+    GlobalDefinitionLayout: 8 {
+        size 0,
+        storage 4,
+    }
+    TagDefinitionLayout: 8 {
+        size 0,
+        type_index 4,
+    }
+    FuncRefLayout: 20 {
+        size 0,
+        array_call 4,
+        wasm_call 8,
+        type_index 12,
+        vmctx 16,
+    }
+    StoreContextLayout: 24 {
+        size 0,
+        fuel_consumed 4,
+        epoch_deadline 8,
+        stack_limit 12,
+        gc_heap 16,
+        last_wasm_exit_trampoline_fp 20,
+    }
+    StaticContextLayout: 28 {
+        size 0,
+        magic 4,
+        store_context 8,
+        builtin_functions 12,
+        epoch_ptr 16,
+        gc_heap_data 20,
+        type_ids 24,
+    }
+    Structs: 192 {
+        function_import 0,
+        table_import 16,
+        memory_import 32,
+        tag_import 48,
+        global_import 64,
+        memory_definition 80,
+        table_definition 92,
+        global_definition 104,
+        tag_definition 112,
+        func_ref 120,
+        store_context 140,
+        static_context 164,
+    }
+    Runtime: 24 {
+        made 0,
+        bytes 8,
+    }
+    Region: 24 {
+        begin 0,
+        size 4,
+        name 8,
+    }
+    FunctionName: 24 {
+        function 0,
+        name 8,
+    }
+    ExpressionsRecord: 32 {
+        parts 0,
+        operators 16,
+    }
+    ElementItemsRecord: 64 {
+        rows 0,
+        functions 16,
+        expressions 32,
+    }
+    Body: 32 {
+        code 0,
+        locals 16,
+    }
+    PlanRecord: 1288 {
+        refusal 0,
+        refusal_detail 4,
+        refusal_line 8,
+        entities 24,
+        startup 104,
+        startup_type 108,
+        images_made 112,
+        types 116,
+        data_align 120,
+        start 128,
+        needs_gc_heap 132,
+        escaped_functions 136,
+        code_section_offset 144,
+        module_offset 152,
+        has_unparsed_debuginfo 160,
+        pointer 164,
+        context 168,
+        declared 232,
+        groups 248,
+        functions 264,
+        escapes 280,
+        signatures 296,
+        memories 312,
+        tables 328,
+        globals 344,
+        tags 360,
+        runtime 376,
+        runtime_ranges 392,
+        images 408,
+        segments 424,
+        passive 440,
+        table_images 456,
+        cells 472,
+        elements 488,
+        regions 504,
+        passive_elements 520,
+        function_names 536,
+        hints 552,
+        branch_hints 568,
+        passive_segments 584,
+        global_values 600,
+        expressed_globals 616,
+        global_expressions 632,
+        segment_places 664,
+        element_places 696,
+        table_values 728,
+        imports 760,
+        import_names 776,
+        exports 792,
+        export_names 808,
+        module_names 824,
+        layouts 840,
+        layout_fields 856,
+        interned 872,
+        fields 888,
+        trampolines 904,
+        module_text 920,
+        structs 936,
+        element_items 1128,
+        passive_items 1192,
+        bodies 1256,
+        locals 1272,
+    }
+    Text: 24 {
+        text 0,
+        made 16,
+    }
+    ImportAnswer: 24 {
+        answer 0,
+        detail 4,
+        line 8,
+    }
+    LinkRecord: 48 {
+        refused 0,
+        refusal 4,
+        refusal_detail 8,
+        refusal_line 16,
+        answers 32,
+    }
+}

@@ -1,0 +1,54 @@
+//! Safe Rust over the planner's C interface: prepares a core WebAssembly module before any code is generated.
+//!
+//! ```
+//! use bobbinazure::{Options, Plan};
+//! # let bytes = std::fs::read(concat!(env!("CARGO_MANIFEST_DIR"), "/../../examples/linked.wasm"))?;
+//! let plan = Plan::new(&bytes, &Options { cow: true, ..Default::default() })?;
+//! for image in plan.memory_images() {
+//!     println!("memory {} begins as {} bytes at {}", image.memory, image.bytes.len(), image.offset);
+//! }
+//! for export in plan.exports() {
+//!     println!("export {export}");
+//! }
+//! # Ok::<(), Box<dyn std::error::Error>>(())
+//! ```
+//!
+//! A [`Plan`] borrows the module's bytes, as in the planner itself, and gives its tables back when it is dropped. [`link`] says of two modules what each
+//! import of the second is given by the exports of the first.
+//!
+//! The library is proved; this crate is not: it holds the calls, the layout and `Drop`. It makes no global state, and calls in several threads do not
+//! meet. It has no dependencies.
+#![warn(missing_debug_implementations, missing_docs)]
+
+mod bodies;
+mod entities;
+mod error;
+mod expressions;
+mod interned;
+mod layout;
+mod links;
+mod list;
+pub mod numbers;
+mod options;
+mod plan;
+mod records;
+mod rows;
+mod startup;
+mod types;
+
+pub use bodies::Body;
+pub use entities::{EntityIndex, Export, Function, Import};
+pub use error::{Error, Reason};
+pub use expressions::ConstExpr;
+pub use interned::{GcLayout, GcLayoutKind};
+pub use links::{Answer, LinkError, link};
+pub use plan::{Plan, plan_and_text, text};
+pub use rows::{
+    BranchHint, Context, Entities, Field, FuncRefLayout, FunctionImportLayout, Global, GlobalDefinitionLayout, GlobalImportLayout, LayoutField, Memory,
+    MemoryDefinitionLayout, MemoryImportLayout, Operator, Options, StaticContextLayout, StoreContextLayout, Structs, Table, TableDefinitionLayout,
+    TableImportLayout, Tag, TagDefinitionLayout, TagImportLayout, Trampoline, Value,
+};
+pub use startup::{
+    DataSegment, ElementSegment, Expressions, GlobalInit, Items, MemoryImage, ModuleStartup, PassiveData, PassiveElements, Region, SegmentOffset,
+};
+pub use types::{CompositeType, FieldType, Fields, HeapType, RefType, StorageType, SubType, TypeIndex, ValType};

@@ -1,0 +1,256 @@
+//! The records that the library fills. Made by embed/generate.
+
+use crate::list::List;
+use crate::rows::*;
+
+/// Constant expressions.
+#[repr(C)]
+#[derive(Default)]
+pub(crate) struct ExpressionsRecord {
+    /// The part of the operators that each is.
+    pub(crate) parts: List<Span>,
+    /// The operators of all, end to end.
+    pub(crate) operators: List<Operator>,
+}
+
+/// The items of element segments.
+#[repr(C)]
+#[derive(Default)]
+pub(crate) struct ElementItemsRecord {
+    /// Of each segment, in order.
+    pub(crate) rows: List<Items>,
+    /// Functions by their indices, end to end.
+    pub(crate) functions: List<u32>,
+    /// The expressions of all segments.
+    pub(crate) expressions: ExpressionsRecord,
+}
+
+/// A plan, or why there is none.
+#[repr(C)]
+#[derive(Default)]
+pub(crate) struct PlanRecord {
+    /// Why the module is refused, from [`numbers::MALFORMED`](crate::numbers::MALFORMED) on; 0 of a plan.
+    pub(crate) refusal: u32,
+    /// Of an invalid module the rule that it breaks, from 1 to 10; of an unsupported one what is not taken, from [`numbers::COMPONENT`](crate::numbers::COMPONENT) on.
+    pub(crate) refusal_detail: u32,
+    /// The line of the refusal, as the program prints it. It is never freed.
+    pub(crate) refusal_line: List<u8>,
+    /// How many entities there are.
+    pub(crate) entities: Entities,
+    /// When the startup function runs, from [`numbers::STARTUP_NONE`](crate::numbers::STARTUP_NONE) on: never, always, or where a memory does not begin as its image.
+    pub(crate) startup: u32,
+    /// The interned type of the startup function; 0 where there is none.
+    pub(crate) startup_type: u32,
+    /// Whether memories begin as images.
+    pub(crate) images_made: u32,
+    /// How many interned types there are.
+    pub(crate) types: u32,
+    /// The alignment of images, in bytes; 0 where there are none.
+    pub(crate) data_align: u64,
+    /// The index of the start function; `u32::MAX` where there is none.
+    pub(crate) start: u32,
+    /// Whether a table can hold references that are collected.
+    pub(crate) needs_gc_heap: u32,
+    /// How many functions escape, so that a reference to each stands in the context.
+    pub(crate) escaped_functions: u64,
+    /// Where the contents of the code section begin in the module, in bytes; 0 without a code section.
+    pub(crate) code_section_offset: u64,
+    /// Where the module begins in the bytes that were read.
+    pub(crate) module_offset: u64,
+    /// Whether the module has sections of debug information (DWARF), none of which is read.
+    pub(crate) has_unparsed_debuginfo: u32,
+    /// The bytes of a pointer of the target: 4 or 8.
+    pub(crate) pointer: u32,
+    /// Where the parts of the context begin.
+    pub(crate) context: Context,
+    /// The interned type of each type of the type section.
+    pub(crate) declared: List<u32>,
+    /// The recursion groups of interned types.
+    pub(crate) groups: List<Range>,
+    /// The interned type of each function, imported ones first.
+    pub(crate) functions: List<u32>,
+    /// The number of each function among those that escape; `u32::MAX` of one that does not.
+    pub(crate) escapes: List<u32>,
+    /// The interned types of the functions that escape, each once.
+    pub(crate) signatures: List<u32>,
+    /// The memories, imported ones first, as of the next three.
+    pub(crate) memories: List<Memory>,
+    pub(crate) tables: List<Table>,
+    pub(crate) globals: List<Global>,
+    pub(crate) tags: List<Tag>,
+    /// The runtime data: images, and the bytes of segments.
+    pub(crate) runtime: List<Runtime>,
+    /// The range of each runtime data; they stand end to end from 0.
+    pub(crate) runtime_ranges: List<Range>,
+    /// The images of memories.
+    pub(crate) images: List<Image>,
+    /// The data segments that are left to be written, in order.
+    pub(crate) segments: List<Segment>,
+    /// The passive data segments that keep their bytes.
+    pub(crate) passive: List<Passive>,
+    /// The image of each defined table, a part of the next list.
+    pub(crate) table_images: List<Span>,
+    /// Functions by their indices; `u32::MAX` for the null reference.
+    pub(crate) cells: List<u32>,
+    /// The element segments that are left to be written, in order.
+    pub(crate) elements: List<Elements>,
+    /// The regions of the context, the last one first.
+    pub(crate) regions: List<Region>,
+    /// The passive element segments, in order.
+    pub(crate) passive_elements: List<PassiveElements>,
+    /// The names of functions.
+    pub(crate) function_names: List<FunctionName>,
+    /// The functions that have hints of branches.
+    pub(crate) hints: List<Hints>,
+    /// The branch hints, function by function, those of a function in order.
+    pub(crate) branch_hints: List<BranchHint>,
+    /// The element segments that are passive, in order.
+    pub(crate) passive_segments: List<PassiveSegment>,
+    /// The defined globals that begin as a known value.
+    pub(crate) global_values: List<GlobalValue>,
+    /// The defined globals that begin as the value of an expression, each by its number among the defined ones.
+    pub(crate) expressed_globals: List<u32>,
+    /// Of each of `expressed_globals`.
+    pub(crate) global_expressions: ExpressionsRecord,
+    /// Of the address of each of `segments`; no operators where the address is planned.
+    pub(crate) segment_places: ExpressionsRecord,
+    /// Of the place of each of `elements`.
+    pub(crate) element_places: ExpressionsRecord,
+    /// Of the first value of each defined table; no operators where its cells begin as null.
+    pub(crate) table_values: ExpressionsRecord,
+    /// The imports, in order.
+    pub(crate) imports: List<Import>,
+    /// The names of imports, end to end, in UTF-8.
+    pub(crate) import_names: List<u8>,
+    /// The exports, in order.
+    pub(crate) exports: List<Export>,
+    /// The names of exports, end to end, in UTF-8.
+    pub(crate) export_names: List<u8>,
+    /// The module's name, if it has one, a part of `module_text`.
+    pub(crate) module_names: List<Span>,
+    /// The layouts of the objects of interned types that have some.
+    pub(crate) layouts: List<Layout>,
+    /// The fields of layouts, end to end.
+    pub(crate) layout_fields: List<LayoutField>,
+    /// The interned types.
+    pub(crate) interned: List<Type>,
+    /// The fields of interned types, end to end.
+    pub(crate) fields: List<Field>,
+    /// The interned types that have a trampoline, in order.
+    pub(crate) trampolines: List<Trampoline>,
+    /// The text of the module's name, in UTF-8.
+    pub(crate) module_text: List<u8>,
+    /// The structs that compiled code reads.
+    pub(crate) structs: Structs,
+    /// Of each of `elements`.
+    pub(crate) element_items: ElementItemsRecord,
+    /// Of each of `passive_elements`.
+    pub(crate) passive_items: ElementItemsRecord,
+    /// The body of each defined function, in order.
+    pub(crate) bodies: List<Body>,
+    /// The locals of bodies, end to end, in runs of one type.
+    pub(crate) locals: List<Locals>,
+}
+
+impl PlanRecord {
+    /// Gives back the block of each list.
+    ///
+    /// # Safety
+    /// Nothing borrows a list, and no other record has its block.
+    pub(crate) unsafe fn free_lists(&mut self) {
+        // SAFETY: as the caller promises.
+        unsafe {
+            self.declared.free();
+            self.groups.free();
+            self.functions.free();
+            self.escapes.free();
+            self.signatures.free();
+            self.memories.free();
+            self.tables.free();
+            self.globals.free();
+            self.tags.free();
+            self.runtime.free();
+            self.runtime_ranges.free();
+            self.images.free();
+            self.segments.free();
+            self.passive.free();
+            self.table_images.free();
+            self.cells.free();
+            self.elements.free();
+            self.regions.free();
+            self.passive_elements.free();
+            self.function_names.free();
+            self.hints.free();
+            self.branch_hints.free();
+            self.passive_segments.free();
+            self.global_values.free();
+            self.expressed_globals.free();
+            self.global_expressions.parts.free();
+            self.global_expressions.operators.free();
+            self.segment_places.parts.free();
+            self.segment_places.operators.free();
+            self.element_places.parts.free();
+            self.element_places.operators.free();
+            self.table_values.parts.free();
+            self.table_values.operators.free();
+            self.imports.free();
+            self.import_names.free();
+            self.exports.free();
+            self.export_names.free();
+            self.module_names.free();
+            self.layouts.free();
+            self.layout_fields.free();
+            self.interned.free();
+            self.fields.free();
+            self.trampolines.free();
+            self.module_text.free();
+            self.element_items.rows.free();
+            self.element_items.functions.free();
+            self.element_items.expressions.parts.free();
+            self.element_items.expressions.operators.free();
+            self.passive_items.rows.free();
+            self.passive_items.functions.free();
+            self.passive_items.expressions.parts.free();
+            self.passive_items.expressions.operators.free();
+            self.bodies.free();
+            self.locals.free();
+        }
+    }
+}
+
+/// The text of a plan, or the line of a refusal.
+#[repr(C)]
+#[derive(Default)]
+pub(crate) struct Text {
+    /// In UTF-8, without a zero at the end.
+    pub(crate) text: List<u8>,
+    /// Whether the text stands in memory of its own, which `bobbinazure_text_free` gives back.
+    pub(crate) made: u32,
+}
+
+/// What an import is given.
+#[repr(C)]
+#[derive(Default)]
+pub(crate) struct ImportAnswer {
+    /// From [`numbers::GIVEN`](crate::numbers::GIVEN) on: 0 given, 1 missing, 2 a mismatch.
+    pub(crate) answer: u32,
+    /// Where it is given, the number of the export, from 0 on; of a mismatch the rule that it breaks, from [`numbers::MISMATCH_KIND`](crate::numbers::MISMATCH_KIND) on; else 0.
+    pub(crate) detail: u32,
+    /// The text of a mismatch, else empty. It is never freed.
+    pub(crate) line: List<u8>,
+}
+
+/// What each import of a module is given, or which module is refused.
+#[repr(C)]
+#[derive(Default)]
+pub(crate) struct LinkRecord {
+    /// 1 where the first module is refused, 2 where the second is; 0 where both are planned.
+    pub(crate) refused: u32,
+    /// Why that module is refused, as of a plan, with the next two.
+    pub(crate) refusal: u32,
+    pub(crate) refusal_detail: u32,
+    /// The line of the refusal, as the program prints it. It is never freed.
+    pub(crate) refusal_line: List<u8>,
+    /// The answer to each import of the second module, in order.
+    pub(crate) answers: List<ImportAnswer>,
+}

@@ -1,0 +1,659 @@
+//! The rows of a plan's tables. Made by embed/generate.
+
+use crate::list::List;
+
+/// What a caller may choose; of a flag 0 is no.
+#[repr(C)]
+#[derive(Clone, Copy, Debug, PartialEq, Eq, Hash)]
+pub struct Options {
+    /// Whether memories begin as images, where the data segments allow it.
+    /// A module can then ask for `max_image` bytes with each memory that it defines, in some fifteen bytes of its own.
+    pub cow: bool,
+    /// Whether tables begin as images, as far as their elements allow it.
+    /// A module can then ask for 1,048,576 cells of four bytes with each table that it defines, in ten bytes of its own.
+    pub lazy_tables: bool,
+    /// Whether hints of branches are read.
+    pub branch_hints: bool,
+    /// Whether the names of locals are kept too.
+    pub native_debug: bool,
+    /// Whether references can be made to every function.
+    pub guest_debug: bool,
+    /// The bytes of a pointer of the target: 4 or 8.
+    pub pointer: u8,
+    /// How objects are collected: 0 by counts (drc), 1 not at all (null).
+    pub collector: u8,
+    /// The page size of images, in bytes: a power of two.
+    pub page_size: u64,
+    /// The size from which on an image must be half full of data, in bytes.
+    pub max_image: u64,
+}
+
+/// How many entities of each kind there are, imported ones among them, and how many are imported.
+#[repr(C)]
+#[derive(Clone, Copy, Debug, PartialEq, Eq, Hash, Default)]
+pub struct Entities {
+    /// All functions.
+    pub functions: u64,
+    /// Those that are imported; they come first.
+    pub imported_functions: u64,
+    /// All tables.
+    pub tables: u64,
+    /// Those that are imported.
+    pub imported_tables: u64,
+    /// All memories.
+    pub memories: u64,
+    /// Those that are imported.
+    pub imported_memories: u64,
+    /// All globals.
+    pub globals: u64,
+    /// Those that are imported.
+    pub imported_globals: u64,
+    /// All tags.
+    pub tags: u64,
+    /// Those that are imported.
+    pub imported_tags: u64,
+}
+
+/// Where the parts of a context begin, in bytes.
+#[repr(C)]
+#[derive(Clone, Copy, Debug, PartialEq, Eq, Hash, Default)]
+pub struct Context {
+    /// The size of the whole context.
+    pub size: u32,
+    /// The imported memories.
+    pub imported_memories: u32,
+    /// The pointers to the defined memories.
+    pub memories: u32,
+    /// The defined memories that are not shared.
+    pub owned_memories: u32,
+    /// The imported functions.
+    pub imported_functions: u32,
+    /// The imported tables.
+    pub imported_tables: u32,
+    /// The imported globals.
+    pub imported_globals: u32,
+    /// The imported tags.
+    pub imported_tags: u32,
+    /// The defined tables.
+    pub tables: u32,
+    /// The defined globals.
+    pub globals: u32,
+    /// The defined tags.
+    pub tags: u32,
+    /// The references to the functions that escape.
+    pub func_refs: u32,
+    /// The pointers to the runtime data.
+    pub runtime_data_bases: u32,
+    /// The lengths of the runtime data, in bytes.
+    pub runtime_data_lengths: u32,
+    /// The reference to the startup function; `u32::MAX` where there is none.
+    pub startup_func_ref: u32,
+}
+
+/// From one number up to another, the second not included.
+#[repr(C)]
+#[derive(Clone, Copy, Debug, PartialEq, Eq, Hash, Default)]
+pub struct Range {
+    /// The first number.
+    pub begin: u32,
+    /// The number behind the last one.
+    pub end: u32,
+}
+
+/// A part of a list of the plan.
+#[repr(C)]
+#[derive(Clone, Copy, Debug, PartialEq, Eq, Hash, Default)]
+pub struct Span {
+    /// The number of its first item.
+    pub begin: usize,
+    /// How many items it has.
+    pub len: usize,
+}
+
+/// The type of a value or a field.
+#[repr(C)]
+#[derive(Clone, Copy, Debug, PartialEq, Eq, Hash, Default)]
+pub struct Value {
+    /// What it is, from [`numbers::I32`](crate::numbers::I32) on: 0 to 4 a number or a vector, 5 a reference, 6 and 7 a packed integer.
+    pub kind: u8,
+    /// Whether the reference may be null.
+    pub nullable: bool,
+    /// What the reference is to, from [`numbers::HEAP_EXTERN`](crate::numbers::HEAP_EXTERN) on.
+    pub heap: u8,
+    /// Which list the index is of, from [`numbers::NO_INDEX`](crate::numbers::NO_INDEX) on.
+    pub list: u8,
+    /// The index of the type that the reference is to; 0 where it has none.
+    pub index: u32,
+}
+
+/// A memory.
+#[repr(C)]
+#[derive(Clone, Copy, Debug, PartialEq, Eq, Hash, Default)]
+pub struct Memory {
+    /// The least size, in pages.
+    pub minimum: u64,
+    /// The greatest size, in pages; `u64::MAX` where there is none.
+    pub maximum: u64,
+    /// The page size as an exponent of 2: 0 or 16.
+    pub page_size_log2: u8,
+    /// Whether threads may share it.
+    pub shared: bool,
+    /// Whether addresses have 64 bits.
+    pub wide: bool,
+}
+
+/// A table.
+#[repr(C)]
+#[derive(Clone, Copy, Debug, PartialEq, Eq, Hash, Default)]
+pub struct Table {
+    /// The least size, in cells.
+    pub minimum: u64,
+    /// The greatest size, in cells; `u64::MAX` where there is none.
+    pub maximum: u64,
+    /// The type of its elements, a reference.
+    pub element: Value,
+    /// Whether indices have 64 bits.
+    pub wide: u32,
+}
+
+/// A global.
+#[repr(C)]
+#[derive(Clone, Copy, Debug, PartialEq, Eq, Hash, Default)]
+pub struct Global {
+    /// The type of its value.
+    pub value: Value,
+    /// Whether it is mutable.
+    pub writable: u32,
+}
+
+/// A tag.
+#[repr(C)]
+#[derive(Clone, Copy, Debug, PartialEq, Eq, Hash, Default)]
+pub struct Tag {
+    /// The interned type of its function.
+    pub signature: u32,
+    /// The interned type of its exceptions.
+    pub exception: u32,
+}
+
+/// The image of a memory.
+#[repr(C)]
+#[derive(Clone, Copy, Debug, PartialEq, Eq, Hash, Default)]
+pub struct Image {
+    /// The memory.
+    pub memory: u32,
+    /// The runtime data that holds it.
+    pub runtime: u32,
+    /// Its address in the memory, in bytes.
+    pub offset: u64,
+}
+
+/// A data segment that is left to be written.
+#[repr(C)]
+#[derive(Clone, Copy, Debug, PartialEq, Eq, Hash, Default)]
+pub struct Segment {
+    /// The memory that it writes.
+    pub memory: u32,
+    /// The runtime data that it writes.
+    pub runtime: u32,
+    /// How `offset` gives its address, from [`numbers::AT_BYTE`](crate::numbers::AT_BYTE) on: 0 as a planned address, 1 as a constant, 2 as a global, 3 not at all.
+    pub kind: u32,
+    /// The address in bytes, or the index of the global that holds it; 0 where another expression gives it.
+    pub offset: u64,
+}
+
+/// A passive data segment that keeps its bytes.
+#[repr(C)]
+#[derive(Clone, Copy, Debug, PartialEq, Eq, Hash, Default)]
+pub struct Passive {
+    /// Its number in the data section.
+    pub segment: u32,
+    /// The runtime data that holds its bytes.
+    pub runtime: u32,
+}
+
+/// An element segment that is left to be written.
+#[repr(C)]
+#[derive(Clone, Copy, Debug, PartialEq, Eq, Hash, Default)]
+pub struct Elements {
+    /// The table that it writes.
+    pub table: u32,
+    /// As of a data segment, never 0.
+    pub kind: u32,
+    /// As of a data segment, in cells.
+    pub offset: u64,
+    /// How many elements it has.
+    pub count: u64,
+}
+
+/// The items of an element segment, of which one of the two lists is empty.
+#[repr(C)]
+#[derive(Clone, Copy, Debug, PartialEq, Eq, Hash, Default)]
+pub struct Items {
+    /// The type of each item, a reference.
+    pub element: Value,
+    /// The items that are functions, a part of `functions`.
+    pub functions: Span,
+    /// The items that are constant expressions, a part of the parts of `expressions`.
+    pub expressions: Span,
+}
+
+/// Locals of one type.
+#[repr(C)]
+#[derive(Clone, Copy, Debug, PartialEq, Eq, Hash, Default)]
+pub struct Locals {
+    /// How many locals.
+    pub count: u32,
+    /// Their type. A type of the module is named by the type section: `list` is [`numbers::OF_SECTION`](crate::numbers::OF_SECTION), and `heap` is [`numbers::HEAP_DECLARED`](crate::numbers::HEAP_DECLARED).
+    pub value: Value,
+}
+
+/// An operator of a constant expression.
+#[repr(C)]
+#[derive(Clone, Copy, Debug, PartialEq, Eq, Hash, Default)]
+pub struct Operator {
+    /// Which one, from [`numbers::I32_CONST`](crate::numbers::I32_CONST) on.
+    pub code: u8,
+    /// What a null reference is to, from [`numbers::HEAP_EXTERN`](crate::numbers::HEAP_EXTERN) on.
+    pub heap: u8,
+    /// Which list the index of a null reference is of, from [`numbers::NO_INDEX`](crate::numbers::NO_INDEX) on.
+    pub list: u8,
+    /// The global, the function or the type that it names.
+    pub index: u32,
+    /// The bits of a constant, of a vector the lower half; of `array.new_fixed` the number of elements.
+    pub low: u64,
+    /// The upper half of the bits of a vector.
+    pub high: u64,
+}
+
+/// A defined global that begins as a known value.
+#[repr(C)]
+#[derive(Clone, Copy, Debug, PartialEq, Eq, Hash, Default)]
+pub struct GlobalValue {
+    /// The global, by its number among the defined ones.
+    pub global: u32,
+    /// The constant that makes the value: a number or a vector.
+    pub value: Operator,
+}
+
+/// How many hints of branches a function has.
+#[repr(C)]
+#[derive(Clone, Copy, Debug, PartialEq, Eq, Hash, Default)]
+pub struct Hints {
+    /// The function, by its index.
+    pub function: u32,
+    /// How many hints it has.
+    pub count: u64,
+}
+
+/// A branch hint.
+#[repr(C)]
+#[derive(Clone, Copy, Debug, PartialEq, Eq, Hash, Default)]
+pub struct BranchHint {
+    /// The function, by its index.
+    pub function: u32,
+    /// Where the branch stands, in bytes from the begin of the function's body.
+    pub offset: u32,
+    /// Whether it is likely to be taken.
+    pub taken: u32,
+}
+
+/// Which passive element segment a segment of the module is.
+#[repr(C)]
+#[derive(Clone, Copy, Debug, PartialEq, Eq, Hash, Default)]
+pub struct PassiveSegment {
+    /// Its number in the element section.
+    pub segment: u32,
+    /// Its number among the passive ones, as of `passive_elements`.
+    pub passive: u32,
+}
+
+/// A passive element segment.
+#[repr(C)]
+#[derive(Clone, Copy, Debug, PartialEq, Eq, Hash, Default)]
+pub struct PassiveElements {
+    /// The type of its elements, a reference.
+    pub element: Value,
+    /// How many elements it has.
+    pub count: u64,
+}
+
+/// An import.
+#[repr(C)]
+#[derive(Clone, Copy, Debug, PartialEq, Eq, Hash, Default)]
+pub struct Import {
+    /// The kind of its entity, from [`numbers::FUNCTION`](crate::numbers::FUNCTION) on.
+    pub kind: u32,
+    /// The index of its entity, among those of its kind.
+    pub index: u32,
+    /// The name of the module that it comes from, a part of `import_names`.
+    pub from: Span,
+    /// Its name there, a part of `import_names`.
+    pub name: Span,
+}
+
+/// An export.
+#[repr(C)]
+#[derive(Clone, Copy, Debug, PartialEq, Eq, Hash, Default)]
+pub struct Export {
+    /// The kind of its entity, from [`numbers::FUNCTION`](crate::numbers::FUNCTION) on.
+    pub kind: u32,
+    /// The index of its entity, among those of its kind.
+    pub index: u32,
+    /// Its name, a part of `export_names`.
+    pub name: Span,
+}
+
+/// The layout of the objects of an interned type.
+#[repr(C)]
+#[derive(Clone, Copy, Debug, PartialEq, Eq, Hash, Default)]
+pub struct Layout {
+    /// The interned type.
+    pub ty: u32,
+    /// What its objects are, from [`numbers::ARRAY_OBJECT`](crate::numbers::ARRAY_OBJECT) on: 0 an array, 1 a struct, 2 an exception.
+    pub kind: u32,
+    /// The size of an object in bytes; of an array, the bytes before its elements.
+    pub size: u32,
+    /// The alignment of an object, in bytes.
+    pub align: u32,
+    /// The bytes of an element of an array.
+    pub element: u32,
+    /// Whether the elements of an array are references that are collected.
+    pub refs: u32,
+    /// Its fields, a part of `layout_fields`.
+    pub fields: Span,
+}
+
+/// A field of a layout.
+#[repr(C)]
+#[derive(Clone, Copy, Debug, PartialEq, Eq, Hash, Default)]
+pub struct LayoutField {
+    /// Where in the object it begins, in bytes.
+    pub offset: u32,
+    /// Whether it is a reference that is collected.
+    pub is_ref: u32,
+}
+
+/// An interned type.
+#[repr(C)]
+#[derive(Clone, Copy, Debug, PartialEq, Eq, Hash, Default)]
+pub struct Type {
+    /// What it is, from [`numbers::ARRAY`](crate::numbers::ARRAY) on: 0 an array, 1 a function, 2 a struct, 3 a continuation, 4 an exception.
+    pub kind: u8,
+    /// Whether it can have no subtypes.
+    pub is_final: bool,
+    /// Whether threads may share what is of it.
+    pub shared: bool,
+    /// Which list the supertype is of, from [`numbers::NO_INDEX`](crate::numbers::NO_INDEX) on, which says that there is none.
+    pub supertype_list: u8,
+    /// Which list the function type is of, from [`numbers::NO_INDEX`](crate::numbers::NO_INDEX) on, which says that there is none.
+    pub function_list: u8,
+    /// The supertype.
+    pub supertype: u32,
+    /// The function type of a continuation or an exception.
+    pub function: u32,
+    /// Its fields, or its parameters and then its results: a part of the plan's `fields`.
+    pub fields: Span,
+    /// How many of them are results.
+    pub results: usize,
+}
+
+/// A field, a parameter or a result.
+#[repr(C)]
+#[derive(Clone, Copy, Debug, PartialEq, Eq, Hash, Default)]
+pub struct Field {
+    /// The type of its value.
+    pub value: Value,
+    /// Whether it is mutable; 0 of a parameter or a result.
+    pub writable: u32,
+}
+
+/// An interned type that has a trampoline.
+#[repr(C)]
+#[derive(Clone, Copy, Debug, PartialEq, Eq, Hash, Default)]
+pub struct Trampoline {
+    /// The interned type.
+    pub ty: u32,
+    /// The interned type of its trampoline.
+    pub trampoline: u32,
+}
+
+/// An imported function.
+#[repr(C)]
+#[derive(Clone, Copy, Debug, PartialEq, Eq, Hash, Default)]
+pub struct FunctionImportLayout {
+    /// Its size.
+    pub size: u32,
+    /// The pointer to its code for calls from compiled code.
+    pub wasm_call: u32,
+    /// The pointer to its code for calls with an array of values.
+    pub array_call: u32,
+    /// The pointer to its context.
+    pub vmctx: u32,
+}
+
+/// An imported table.
+#[repr(C)]
+#[derive(Clone, Copy, Debug, PartialEq, Eq, Hash, Default)]
+pub struct TableImportLayout {
+    /// Its size.
+    pub size: u32,
+    /// The pointer to its definition.
+    pub from: u32,
+    /// The pointer to the context that has it.
+    pub vmctx: u32,
+    /// Its index in that context.
+    pub index: u32,
+}
+
+/// An imported memory.
+#[repr(C)]
+#[derive(Clone, Copy, Debug, PartialEq, Eq, Hash, Default)]
+pub struct MemoryImportLayout {
+    /// Its size.
+    pub size: u32,
+    /// The pointer to its definition.
+    pub from: u32,
+    /// The pointer to the context that has it.
+    pub vmctx: u32,
+    /// Its index in that context.
+    pub index: u32,
+}
+
+/// An imported tag.
+#[repr(C)]
+#[derive(Clone, Copy, Debug, PartialEq, Eq, Hash, Default)]
+pub struct TagImportLayout {
+    /// Its size.
+    pub size: u32,
+    /// The pointer to its definition.
+    pub from: u32,
+    /// The pointer to the context that has it.
+    pub vmctx: u32,
+    /// Its index in that context.
+    pub index: u32,
+}
+
+/// An imported global.
+#[repr(C)]
+#[derive(Clone, Copy, Debug, PartialEq, Eq, Hash, Default)]
+pub struct GlobalImportLayout {
+    /// Its size.
+    pub size: u32,
+    /// The pointer to its definition.
+    pub from: u32,
+    /// The pointer to the context that has it.
+    pub vmctx: u32,
+    /// What that context is, a number of 32 bits and a payload of 32 bits.
+    pub kind: u32,
+}
+
+/// A memory.
+#[repr(C)]
+#[derive(Clone, Copy, Debug, PartialEq, Eq, Hash, Default)]
+pub struct MemoryDefinitionLayout {
+    /// Its size.
+    pub size: u32,
+    /// The pointer to its first byte.
+    pub base: u32,
+    /// The number of its bytes, as wide as a pointer.
+    pub current_length: u32,
+}
+
+/// A table.
+#[repr(C)]
+#[derive(Clone, Copy, Debug, PartialEq, Eq, Hash, Default)]
+pub struct TableDefinitionLayout {
+    /// Its size.
+    pub size: u32,
+    /// The pointer to its first cell.
+    pub base: u32,
+    /// The number of its cells, as wide as a pointer.
+    pub current_elements: u32,
+}
+
+/// A global.
+#[repr(C)]
+#[derive(Clone, Copy, Debug, PartialEq, Eq, Hash, Default)]
+pub struct GlobalDefinitionLayout {
+    /// Its size.
+    pub size: u32,
+    /// Its value, in 16 bytes.
+    pub storage: u32,
+}
+
+/// A tag.
+#[repr(C)]
+#[derive(Clone, Copy, Debug, PartialEq, Eq, Hash, Default)]
+pub struct TagDefinitionLayout {
+    /// Its size.
+    pub size: u32,
+    /// Its type, by the index of the engine.
+    pub type_index: u32,
+}
+
+/// A reference to a function.
+#[repr(C)]
+#[derive(Clone, Copy, Debug, PartialEq, Eq, Hash, Default)]
+pub struct FuncRefLayout {
+    /// Its size.
+    pub size: u32,
+    /// The pointer to its code for calls with an array of values.
+    pub array_call: u32,
+    /// The pointer to its code for calls from compiled code.
+    pub wasm_call: u32,
+    /// Its type, by the index of the engine.
+    pub type_index: u32,
+    /// The pointer to its context.
+    pub vmctx: u32,
+}
+
+/// The context of a store.
+#[repr(C)]
+#[derive(Clone, Copy, Debug, PartialEq, Eq, Hash, Default)]
+pub struct StoreContextLayout {
+    /// Its size.
+    pub size: u32,
+    /// The fuel that was consumed.
+    pub fuel_consumed: u32,
+    /// The deadline, a number of epochs.
+    pub epoch_deadline: u32,
+    /// The limit of the stack.
+    pub stack_limit: u32,
+    /// The memory of the collected heap, as `memory_definition`.
+    pub gc_heap: u32,
+    /// The frame pointer of the last trampoline out of compiled code.
+    pub last_wasm_exit_trampoline_fp: u32,
+}
+
+/// The part of a context that each module has.
+#[repr(C)]
+#[derive(Clone, Copy, Debug, PartialEq, Eq, Hash, Default)]
+pub struct StaticContextLayout {
+    /// Where what depends on the module begins.
+    pub size: u32,
+    /// The number by which a context is known.
+    pub magic: u32,
+    /// The pointer to the context of the store.
+    pub store_context: u32,
+    /// The pointer to the built-in functions.
+    pub builtin_functions: u32,
+    /// The pointer to the current epoch.
+    pub epoch_ptr: u32,
+    /// The pointer to the data of the collector.
+    pub gc_heap_data: u32,
+    /// The pointer to the indices of the types.
+    pub type_ids: u32,
+}
+
+/// The structs that compiled code reads.
+#[repr(C)]
+#[derive(Clone, Copy, Debug, PartialEq, Eq, Hash, Default)]
+pub struct Structs {
+    /// An imported function.
+    pub function_import: FunctionImportLayout,
+    /// An imported table.
+    pub table_import: TableImportLayout,
+    /// An imported memory.
+    pub memory_import: MemoryImportLayout,
+    /// An imported tag.
+    pub tag_import: TagImportLayout,
+    /// An imported global.
+    pub global_import: GlobalImportLayout,
+    /// A memory.
+    pub memory_definition: MemoryDefinitionLayout,
+    /// A table.
+    pub table_definition: TableDefinitionLayout,
+    /// A global.
+    pub global_definition: GlobalDefinitionLayout,
+    /// A tag.
+    pub tag_definition: TagDefinitionLayout,
+    /// A reference to a function.
+    pub func_ref: FuncRefLayout,
+    /// The context of a store.
+    pub store_context: StoreContextLayout,
+    /// The part of a context that each module has.
+    pub static_context: StaticContextLayout,
+}
+
+/// Bytes that a plan refers to, of the module or made by the plan.
+#[repr(C)]
+#[derive(Default)]
+pub struct Runtime {
+    /// Whether the plan made the bytes; 0 where they are those of the module, which must outlive the plan.
+    pub made: u32,
+    /// The bytes.
+    pub(crate) bytes: List<u8>,
+}
+
+/// A region of the context.
+#[repr(C)]
+#[derive(Default)]
+pub struct Region {
+    /// Where in the context it begins, in bytes.
+    pub begin: u32,
+    /// In bytes.
+    pub size: u32,
+    /// What it holds, in ASCII.
+    pub(crate) name: List<u8>,
+}
+
+/// The name of a function.
+#[repr(C)]
+#[derive(Default)]
+pub struct FunctionName {
+    /// The function, by its index.
+    pub function: u32,
+    /// In the module's bytes, in UTF-8.
+    pub(crate) name: List<u8>,
+}
+
+/// The body of a function.
+#[repr(C)]
+#[derive(Default)]
+pub struct Body {
+    /// Its code, behind its locals, up to the end of the body: a part of the module's bytes.
+    pub(crate) code: List<u8>,
+    /// Its locals, a part of `locals`.
+    pub locals: Span,
+}
