@@ -9,12 +9,14 @@ ON_THE_WAY = [
     ("translate", "IsSuccess"),
     ("translate", "IsPlanned"),
     ("translate", "IsPlanOf"),
+    ("translate", "IsInitialised"),
     ("init_plan", "AgreesInAll"),
     ("replay_spec", "SamePhase"),
     ("replay_spec", "content_of"),
     ("replay_spec", "trap_of"),
     ("replay_spec", "IsStatic"),
     ("replay_spec", "TakesPrefix"),
+    ("translate", "IsRefusal"),
     ("translate", "HasCause"),
     ("translate", "IsValid"),
 ]
@@ -22,8 +24,9 @@ ON_THE_WAY = [
 HEAD = """\
 # The theorem
 
-`tools/audit --theorem` writes this page from the sources, and `tools/audit` fails where it differs from them. It has the sentence, the contract that says it, and the
-eleven definitions on the way, each whole. [PROVED](PROVED.md) says which clause carries which words, [DEFINITIONS](DEFINITIONS.md) lists the definitions below these.
+`tools/audit --write` writes this page from the sources. `tools/audit` fails where the page differs from them.
+It has the sentence, the contract that says it, and the definitions on the way from the one to the other, each whole.
+[PROVED](PROVED.md) says which clause carries which words. [DEFINITIONS](DEFINITIONS.md) lists all definitions.
 
 ## The sentence
 """
@@ -31,33 +34,39 @@ eleven definitions on the way, each whole. [PROVED](PROVED.md) says which clause
 CONTRACT = """\
 ## The contract of `run`
 
-From `{path}`. `old` is what stands at entry, `new` what stands at the end. The six statuses are 0 success, 1 refused, 2 wrong words, 3 a read failed, 4 a write failed,
-5 out of memory. From these clauses {definitions} definitions are reached, {lines} lines in {files} files.
+From `{path}`. `old` is the value at entry, `new` the value at the end. The six statuses are 0 success,
+1 refused, 2 wrong words, 3 a read failed, 4 a write failed, 5 out of memory. These clauses depend on {definitions}
+definitions: {lines} lines in {files} files.
 """
 
 DEFINITIONS = """\
-## The definitions on the way
+## The definitions
 
-Each is text of the repository as the prover reads it. A record holds where all its fields hold; `×` is and, `⊎` is or, `≡` equals, `(x : A) → P` for all, `(x : A) × P` for
-some. In a record a field that is a value, as `meaning`, says that there is one.
+Each is text of the repository as the prover reads it. A record holds where all its fields hold. `×` is and, `⊎` is
+or, `≡` equals, `(x : A) → P` for all, `(x : A) × P` for some. A field that is a value, as `meaning`, says that there
+is one.
 """
 
 LAST = """\
 ## Premises
 
-- The source shows the bytes that it has left and the sink those that it holds, as the devices in memory do. Of a device that shows nothing (`None`), as the program's two,
-  the same clauses hold of the report's bytes and of the counts of faults, and say nothing of what was taken from it or given to it.
+- The source shows the bytes that it has left, and the sink those that it holds, as the devices in memory do. A
+  device may show nothing (`None`), as the two of the program. Then the same clauses hold of the bytes of the report
+  and of the counts of faults. They say nothing of what was read from or written to the device.
 - Imported memories are distinct objects, and so are imported tables.
 - Each phase is replayed by itself, from equal values of globals.
 
 ## What is not said
 
-- That an allocation succeeds: `OutOfMemory`, status 5, is the one answer that no clause rules out.
+- That an allocation succeeds: no clause rules out `OutOfMemory`, status 5.
 - Time, stack and memory: no clause bounds them.
 - That a plan is the one that the Rust crate makes: no build of it was run.
-- Bodies of functions: their code is not read. What the core specification asks of them, and all that it asks beyond the ten listed rules, is not checked: that references fit
-  by subtyping, and that a type fits its supertype, for two.
-- Trusted are the toolchain, the C library, these definitions, `main` with its two adapters, and `./translate`, which takes a program for proved where no source is younger.
+- Bodies of functions: their code is not read. The core specification asks more than the ten listed rules, of bodies
+  and otherwise. That is not checked: for example, that references fit by subtyping, and that a type fits its
+  supertype.
+
+We trust the toolchain, the C library, these definitions, `main` with its two adapters, and `tools/built`, which finds
+a program for `./translate` by the digest of its sources.
 """
 
 

@@ -1,4 +1,4 @@
-"""What `./translate` does beyond starting a program that is there: it compiles it, proves it, plans several modules, and cleans up."""
+"""What `./translate` does beyond starting a program: it compiles and proves the program, plans several modules, and cleans up."""
 
 import contextlib
 import os
@@ -22,6 +22,10 @@ NO_PROGRAM = 7
 WRONG_WORDS, READ_FAILED, WRITE_FAILED = 2, 3, 4
 ENDS = ["a plan", "refused", "wrong words", "a read failed", "a write failed", "no memory", "the system did not give the words"]
 
+# How a core module begins, and what else a file can be.
+HEADER = b"\0asm\1\0\0\0"
+BEGINS = "a module begins with the bytes 00 61 73 6d 01 00 00 00"
+
 # What a proof takes of disk and of memory at least, and with ease, in bytes.
 GIGA = 1 << 30
 LEAST_DISK, MUCH_DISK, MUCH_MEMORY = 3 * GIGA, 10 * GIGA, 8 * GIGA
@@ -40,8 +44,25 @@ def fail(message):
     sys.exit(NO_PROGRAM)
 
 
+def hint(source):
+    """What is wrong with a file that is certainly no core module, by its first bytes; else nothing. Leaves the file at its begin."""
+    first = source.read(len(HEADER))
+    source.seek(0)
+    if first == HEADER:
+        return ""
+    if not first:
+        return f"is empty; {BEGINS}"
+    if first[:4] != HEADER[:4]:
+        is_text = first[:1] in b"( \t\r\n" or first[:2] == b";;"
+        return "looks like text; make a binary module of it first: wat2wasm" if is_text else f"is no WebAssembly module; {BEGINS}"
+    if len(first) < len(HEADER):
+        return f"ends within its header; {BEGINS}"
+    is_component = first[5:] == b"\0\1\0"
+    return "is a component; take a core module out of it first: wasm-tools component unbundle" if is_component else f"has another version; {BEGINS}"
+
+
 def needed_crates(top=TOOL):
-    """The crates of the repository that this one stands on, and itself, each with those that it names."""
+    """The crates of the repository that this one depends on, and itself, each with those that it names."""
     below = {}
     for line in (HERE / "crates.txt").read_text().splitlines():
         name, colon, libraries = line.partition("#")[0].partition(":")
@@ -174,16 +195,16 @@ def say_what_is_short():
     temporary = Path(tempfile.gettempdir())
     disk = shutil.disk_usage(temporary).free
     if disk < LEAST_DISK:
-        fail(f"proving takes 5 to 10 GB of disk, and {temporary} has {disk / GIGA:.1f}: make room (./translate --clean), or set TMPDIR to another folder")
+        fail(f"proving takes 5 to 10 GB of disk, and {temporary} has {disk / GIGA:.1f}: free some (./translate --clean), or set TMPDIR to another folder")
     if disk < MUCH_DISK:
-        say(f"the disk is short: {temporary} has {disk / GIGA:.1f} GB, and proving takes 5 to 10")
+        say(f"low disk space: {temporary} has {disk / GIGA:.1f} GB, and proving takes 5 to 10")
     kept = kept_by_kit()
     beside = shutil.disk_usage(kept.parent).free
     if beside < LEAST_DISK + GIGA * 2:
-        say(f"the disk is short: beside the kit are {beside / GIGA:.1f} GB, and below 5 it keeps no proof")
+        say(f"low disk space: the kit's disk has {beside / GIGA:.1f} GB, and below 5 it keeps no proof")
     memory = re.search(r"^MemAvailable: +([0-9]+) kB", read_text("/proc/meminfo"), re.M)
     if memory and int(memory[1]) * 1024 < MUCH_MEMORY:
-        say(f"memory is short: {int(memory[1]) / (1 << 20):.1f} GB are free, and proving takes 5 to 10 on four processors; RT_JOBS=1 has it take the least")
+        say(f"low memory: {int(memory[1]) / (1 << 20):.1f} GB are free, and proving takes 5 to 10 on four processors; RT_JOBS=1 takes the least")
 
 
 def read_text(file):
@@ -199,7 +220,7 @@ def kept_by_kit():
 
 
 def prove(top=TOOL):
-    """Proves the crates that the program stands on and builds it, from a copy, so that other commands need not wait."""
+    """Proves the crates that the program depends on and builds it, from a copy, so that other commands need not wait."""
     if not shutil.which("rt"):
         fail("the command rt of the Rattle kit is not on the PATH")
     say_what_is_short()
@@ -229,7 +250,7 @@ def prove_once():
         prove()
     handed_out = HERE / "dist" / "translate"
     same = handed_out.exists() and handed_out.read_bytes() == PROVED.read_bytes()
-    say(f"the program is proved and built{', byte for byte as dist/translate' if same else ''}")
+    say(f"the program is proved and built{'; it has the bytes of dist/translate' if same else ''}")
 
 
 def proofs_kept_by_kit():
@@ -245,7 +266,7 @@ def bytes_below(folders):
 
 
 def clean(takes_all):
-    """Removes what was made here, and where all is asked for also the proofs that the kit keeps, which else are told."""
+    """Removes what was made here; with all, also the proofs that the kit keeps, whose size is said otherwise."""
     for folder in sorted((HERE / "crates").glob("*/out")):
         shutil.rmtree(folder, ignore_errors=True)
     say("removed what was made in crates/*/out")
@@ -288,18 +309,19 @@ class Modules:
         for file in found:
             to = Path(f"{file.relative_to(named) if named.is_dir() else file.name}.txt")
             if self.out and file not in self.files and to in self.files.values():
-                say(f"two texts would be {self.out / to}: give their folders in calls of their own")
+                say(f"two modules would have the text {self.out / to}: plan their folders in two calls")
                 sys.exit(WRONG_WORDS)
             self.files[file] = to
 
     def plan(self, made, file):
-        """Plans a module, and tells its status, its time and what is said of it."""
+        """Plans a module. Returns its status, its time and what is said of it."""
         begun, to = time.monotonic(), self.out / self.files[file] if self.out else None
         try:
-            source = open(file, "rb")
+            source = open(file, "rb", buffering=0)
         except OSError as error:
             return READ_FAILED, 0, f"cannot be read: {error.strerror}"
         with source, contextlib.ExitStack() as opened:
+            why = hint(source) if source.seekable() else ""
             try:
                 text = opened.enter_context(opened_text(to))
             except OSError as error:
@@ -310,6 +332,8 @@ class Modules:
             line = text.readline(200) if status == 1 else ended.stderr.partition(b"\n")[0]
         if to and status not in (0, 1):
             to.unlink(missing_ok=True)
+        if status == 1 and why:
+            return status, took, f"{line.decode(errors='replace').strip()}: the file {why}"
         return status, took, line.decode(errors="replace").strip() or (ENDS[status] if 0 <= status < len(ENDS) else f"ended by signal {-status}")
 
     def show(self, line):
@@ -319,6 +343,10 @@ class Modules:
         left = (time.monotonic() - self.begun) / self.done * (len(self.files) - self.done)
         far = f"{self.done} of {len(self.files)} modules, about {left:.0f} s left" if self.done < len(self.files) else ""
         print(f"\r\033[K{line}\n{far}", end="", file=sys.stderr, flush=True)
+
+    def kept(self):
+        """Where the texts are, for the last line."""
+        return f"; the texts are in {self.out}" if self.out else "; --out FOLDER keeps the texts"
 
     def run(self):
         """Plans all, and returns the status."""
@@ -335,7 +363,7 @@ class Modules:
                 pool.shutdown(cancel_futures=True)
         counted = ", ".join(f"{statuses.count(status)} {name}" for status, name in ((0, "planned"), (1, "refused")))
         others = sum(status not in (0, 1) for status in statuses)
-        say(f"{len(statuses)} module{'s' * (len(statuses) != 1)} in {time.monotonic() - self.begun:.1f} s: {counted}, {others} without an answer")
+        say(f"{len(statuses)} module{'s' * (len(statuses) != 1)} in {time.monotonic() - self.begun:.1f} s: {counted}, {others} without an answer{self.kept()}")
         return max((status if status >= 0 else NO_PROGRAM for status in statuses), default=0)
 
 
@@ -343,7 +371,7 @@ def several(words):
     """Plans several modules, or the modules of folders."""
     modules = Modules(words)
     if not modules.named or "-" in modules.named or modules.out == Path(""):
-        say("several modules are files and folders, and --out names a folder")
+        say("give the files and folders of several modules by their names, and a folder after --out")
         sys.exit(WRONG_WORDS)
     if not modules.files:
         fail(f"no file below {' or '.join(modules.named)} ends in .wasm")

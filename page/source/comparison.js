@@ -12,10 +12,8 @@ const cellOf = (words, isDifferent, isNumber = true) => el("td", { class: [isNum
 function countsCard({ counts }, names) {
   const shownAs = it => (typeof it === "number" ? spoken(it) : it.replace("startup_", "").replaceAll("_", " "));
   const rows = counts.map(([name, one, other]) => [name, cellOf(shownAs(one), one !== other), cellOf(shownAs(other), one !== other)]);
-  return card("Compared", scrolled("counts of both", table("counts of both", ["", `#${names[0]}`, `#${names[1]}`], rows)));
+  return card("Counts of both", scrolled("counts of both", table("counts of both", ["", `#${names[0]}`, `#${names[1]}`], rows)));
 }
-
-const isOrAre = number => (number === 1 ? "is" : "are");
 
 function sharedTypesCard({ types, common, onlyOne, onlyOther }, ask, [one, other]) {
   const words = [
@@ -35,13 +33,13 @@ function imagesCard({ images }, plans) {
   const part = (image, plan) => {
     if (!image) return "none";
     const look = bytesButton(plan, image, `bytes of the image in ${plan.summary.name}`, image.at);
-    return [`${count(image.length, "byte")} from ${spoken(image.at)} on `, look];
+    return [`${count(image.length, "byte")} at ${spoken(image.at)} `, look];
   };
   const said = ({ differing, first }) => {
     const words = differing ? `${count(differing, "byte differs", "bytes differ")}, the first at ${spoken(first)}` : "the same bytes";
     return cellOf(words, differing > 0, false);
   };
-  const rows = images.map(it => [`memory ${it.memory}`, part(it.one, plans[0]), part(it.other, plans[1]), said(it)]);
+  const rows = images.map(it => [`memory ${spoken(it.memory)}`, part(it.one, plans[0]), part(it.other, plans[1]), said(it)]);
   const columns = ["memory", plans[0].summary.name, plans[1].summary.name, "difference"];
   return card("Images of both", boxed("images of both", table("images of both", columns, rows)));
 }

@@ -1,6 +1,6 @@
 // The context of a plan, and its types.
 
-// White words stand on each of these colours.
+// Each of these colours has white words on it.
 const COLOURS = [
   "#5a6472", "#1f63a8", "#2f6f3e", "#8a5a00", "#7a3f98", "#a3362c", "#1d6f75", "#6a4b35",
   "#a03a6f", "#4a5aa8", "#5f6b00", "#8a4a1f", "#33691e", "#6b3fa0", "#00695c",
@@ -20,8 +20,8 @@ function contextCard(plan) {
   };
   const parts = regions.filter(region => region.size > 0).map(part);
   return card(
-    "Context",
-    el("p", { class: "soft" }, `${count(context, "byte")} that code of the module finds everything by, one region after the other.`),
+    `Instance context: ${count(context, "byte")}`,
+    el("p", { class: "soft" }, "Compiled code finds everything of an instance in these bytes, one region after another."),
     el("div", { class: "bar", role: "group", "aria-label": "the regions of the context, from its first byte on" }, ...parts),
     el("div", { class: "ends" }, el("span", {}, "0"), el("span", {}, spoken(context))),
     scrolled("regions of the context", table("regions of the context", ["region", "#begins", "#bytes"], regions.map(row))),
@@ -30,24 +30,23 @@ function contextCard(plan) {
 
 function typesCard(plan) {
   const { types, counts } = plan.summary;
-  const all = `${count(counts.declared, "declared type")}, ${count(types, "interned type")} in ${count(counts.groups, "group")}.`;
   const row = it => [
     it.isFirst ? spoken(it.group) : "",
     spoken(it.index),
     el("code", {}, it.words),
-    it.declaredCount ? declaredWords(it) : el("span", { class: "soft" }, "made by the planner"),
+    it.declaredCount ? declaredWords(it) : el("span", { class: "soft" }, "added by the planner"),
     spoken(it.functions),
     originButton(plan, "type", it.index),
   ];
-  const draw = rows => table("interned types", ["#group", "#type", "what it is", "declared as", "#functions", "look"], rows.map(row));
+  const draw = rows => table("interned types", ["#group", "#type", "what it is", "declared as", "#functions", "more"], rows.map(row));
   return card(
-    "Types",
-    el("p", { class: "soft" }, `${all} Declared types that are equal have one interned type.`),
+    `Types: ${spoken(counts.declared)} declared, ${spoken(types)} interned`,
+    el("p", { class: "soft" }, `Declared types that are equal have one interned type. They are in ${count(counts.groups, "group")}.`),
     listed(plan, { label: "interned types", unit: "type", count: types, question: "types", draw }),
   );
 }
 
 function declaredWords({ declared, declaredCount }) {
   const more = declaredCount - declared.length;
-  return declared.join(", ") + (more > 0 ? ` and ${spoken(more)} more` : "");
+  return declared.map(index => spoken(index)).join(", ") + (more > 0 ? ` and ${spoken(more)} more` : "");
 }

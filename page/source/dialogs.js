@@ -1,4 +1,4 @@
-// What opens over the page: where a part comes from, and bytes. One stands over the other, and the last one closed gives back the keyboard.
+// What opens over the page: the source of a part, and bytes. One opens over another, and the last one that closes gives back the keyboard.
 
 const opened = [];
 
@@ -32,12 +32,12 @@ function prepareDialog() {
   };
 }
 
-// Where a part of a plan comes from.
+// The source of a part of a plan.
 async function showOrigin(plan, kind, index) {
   const { title, facts, runtime } = await plan.ask("origin", { kind, index });
   const list = el("dl", { class: "origin" });
   for (const fact of facts) list.append(el("dt", {}, fact.label), el("dd", {}, ...factParts(plan, fact)));
-  const more = runtime === undefined ? [] : [el("p", {}, button("bytes that it writes", () => showBytes(plan, { of: "runtime", index: runtime, title: `bytes of ${title}`, base: 0 })))];
+  const more = runtime === undefined ? [] : [el("p", {}, button("Show the bytes that it writes", () => showBytes(plan, { of: "runtime", index: runtime, title: `Bytes of ${title}`, base: 0 })))];
   openDialog(title, el("div", {}, list, ...more));
 }
 
@@ -48,11 +48,11 @@ function factParts(plan, { text, bytes, line }) {
       closeDialog();
       plan.goToLine(line);
     };
-    parts.push(" ", button(`line ${spoken(line + 1)}`, go, { "aria-label": `go to line ${line + 1} of the text` }));
+    parts.push(" ", button(`line ${spoken(line + 1)}`, go, { "aria-label": `line ${spoken(line + 1)} of the text` }));
   }
   if (bytes) {
     const show = () => showBytes(plan, { of: "module", title: `${text}: bytes of the module`, base: 0, marked: bytes });
-    parts.push(" ", button(`bytes ${spoken(bytes.from)} to ${spoken(bytes.to)} of the module`, show));
+    parts.push(" ", button(`Show bytes ${spoken(bytes.from)} to ${spoken(bytes.to)} of the module`, show));
   }
   return parts;
 }
@@ -79,7 +79,7 @@ async function showBytes(plan, { of, index = 0, title, base, marked = null }) {
     const place = Number(jump.value) - base;
     if (Number.isFinite(place)) paging.show(place - (((place % ROW) + ROW) % ROW));
   };
-  const forward = () => (following === null ? say("all that follows is zero") : paging.show(following - (following % ROW)));
+  const forward = () => (following === null ? say("only zeros follow") : paging.show(following - (following % ROW)));
   const store = async () => save(await plan.ask("blob", { of, index }), of === "module" ? plan.summary.name : `runtime-${index}.bin`);
   const tools = [jump, el("button", {}, "Go to address"), button("Next that is not zero", forward), button("Save", store)];
   const words = count(length, "byte") + (base ? `, from address ${spoken(base)} on` : "");

@@ -5,7 +5,7 @@ const SIMPLE = {
 };
 
 // Reads one expression. `wanted` is the class that its place wants, and `visible` how many globals it may name. What the rules of typing
-// refuse is told to `places`. Returns the constant where the whole expression is one constant number.
+// refuse goes to `places`. Returns the constant where the whole expression is one constant number.
 function readExpression(cursor, places, wanted, visible) {
   const from = cursor.at, plain = readPlainConstant(cursor, wanted), stack = [];
   if (plain !== null) return plain;
@@ -17,7 +17,7 @@ function readExpression(cursor, places, wanted, visible) {
   const take = (at, kinds) => {
     for (const kind of [...kinds].reverse()) {
       const found = stack.pop();
-      if (found !== kind) return breaks(at, `this operator takes a value of class ${kind}, and finds ${found ?? "none"}`);
+      if (found !== kind) return breaks(at, `this operator needs a value of class ${kind}, and finds ${found ?? "none"}`);
     }
   };
   for (;;) {
@@ -30,7 +30,7 @@ function readExpression(cursor, places, wanted, visible) {
     constant = step.constant ?? null;
   }
   const left = stack.join(", ");
-  if (!isBroken && wanted && left !== wanted) breaks(from, `this expression leaves ${left || "nothing"}, and its place wants ${wanted}`);
+  if (!isBroken && wanted && left !== wanted) breaks(from, `this expression leaves ${left || "nothing"}, and ${wanted} is needed here`);
   return count === 1 ? constant : null;
 }
 
@@ -78,13 +78,13 @@ function skipped(cursor, length, gives) {
 
 function readGlobalGet(cursor, places, visible) {
   const index = cursor.count(), global = places.globals[index];
-  if (index >= visible || !global) return { takes: [], gives: "i32", breaks: `global ${index} cannot be named here` };
-  return { takes: [], gives: global.kind, breaks: global.isMutable ? `global ${index} is variable` : null };
+  if (index >= visible || !global) return { takes: [], gives: "i32", breaks: `global ${spoken(index)} cannot be named here` };
+  return { takes: [], gives: global.kind, breaks: global.isMutable ? `global ${spoken(index)} is variable` : null };
 }
 
 function readFunctionReference(cursor, places) {
   const index = cursor.count();
-  return { takes: [], gives: "ref", breaks: index < places.functions.length ? null : `there is no function ${index}` };
+  return { takes: [], gives: "ref", breaks: index < places.functions.length ? null : `there is no function ${spoken(index)}` };
 }
 
 function readObjectOperator(cursor, places, at) {
@@ -94,8 +94,8 @@ function readObjectOperator(cursor, places, at) {
   if (![0, 1, 6, 7, 8].includes(code)) throw new Stop(at, "an operator that no constant expression may have here", true);
   const index = cursor.count(), length = code === 8 ? cursor.count() : 0;
   const type = places.types[index], kind = code < 2 ? "struct" : "array";
-  if (type?.kind !== kind) return { takes: [], gives: "ref", breaks: `type ${index} is no type of ${kind}s` };
+  if (type?.kind !== kind) return { takes: [], gives: "ref", breaks: `type ${spoken(index)} is no ${kind} type` };
   const kinds = type.fields.map(field => field.kind), hasDefaults = type.fields.every(field => field.isNullable);
   const takes = { 0: () => kinds, 1: () => [], 6: () => [kinds[0], "i32"], 7: () => ["i32"], 8: () => Array(Math.min(length, 100000)).fill(kinds[0]) }[code]();
-  return { takes, gives: "ref", breaks: (code === 1 || code === 7) && !hasDefaults ? `type ${index} has a part without a default` : null };
+  return { takes, gives: "ref", breaks: (code === 1 || code === 7) && !hasDefaults ? `type ${spoken(index)} has a part without a default` : null };
 }

@@ -1,4 +1,4 @@
-// The imports of one module, and what they are given by the exports of the other.
+// The imports of one module, and the exports of the other that match them.
 
 // Whose imports are looked for, and the name of a module under which the other's exports stand: where it is null, the one that the most of these
 // imports have. Where the matching was stopped, it begins again by a button alone.
@@ -29,7 +29,7 @@ function importsCard(ask, plans) {
     field.value = "";
     again({ importer: target.value, name: null });
   };
-  const label = el("label", {}, "the exports stand under the name ", field);
+  const label = el("label", {}, "The exports are known as module ", field);
   const form = el("form", { onchange: change, onsubmit: event => event.preventDefault() }, directions(plans), el("p", {}, label, list));
   show();
   return card("Imports", form, answer);
@@ -106,28 +106,28 @@ function matchedParts(summary, ask, exporter, importer) {
 function notMatched({ status, refused }) {
   switch (status) {
     case "refused": return `${refused.name} is refused: ${reasonOf(refused)}.`;
-    case "wrong_options": return "These options are none that can be taken.";
-    default: return "There is no memory for both modules in the browser.";
+    case "wrong_options": return "The options are wrong.";
+    default: return "The browser has no memory for both modules.";
   }
 }
 
-// How many imports are met, and what is wrong with the first that is not.
+// How many imports are matched, and what is wrong with the first that is not.
 function metWords({ imports, met, first }, name) {
   if (imports === 0) return `${name} has no imports`;
-  if (!first) return imports === 1 ? "the one import is met" : `all ${spoken(imports)} imports are met`;
+  if (!first) return imports === 1 ? "the one import is matched" : `all ${spoken(imports)} imports are matched`;
   const fault = first.rule ? `: ${first.rule}` : " is missing";
-  return `${spoken(met)} of ${spoken(imports)} imports ${isOrAre(met)} met; import ${spoken(first.number)}${fault}`;
+  return `${spoken(met)} of ${count(imports, "import")} ${isOrAre(met)} matched; import ${spoken(first.number)}${fault}`;
 }
 
 function importsTable({ imports }, ask, exporter, importer) {
   const row = it => [
-    button(spoken(it.number), () => showOrigin(importer, "import", it.number), { class: "plain", "aria-label": `where import ${it.number} comes from` }),
+    button(spoken(it.number), () => showOrigin(importer, "import", it.number), { class: "plain", "aria-label": `Show source of import ${spoken(it.number)}` }),
     `“${it.from}”`,
     `“${it.name}”`,
     entityParts(it),
     givenParts(it, exporter),
   ];
-  const draw = rows => table("imports", ["#import", "module", "name", "what it is", "what it is given"], rows.map(row));
+  const draw = rows => table("imports", ["#import", "module", "name", "what it is", "export"], rows.map(row));
   const paging = new Paging({ label: "imports", unit: "import", count: imports, size: PART, load: (from, to) => ask("imports", { from, to }), draw });
   paging.show();
   return paging;
@@ -139,5 +139,5 @@ function givenParts({ answer, rule, given }, exporter) {
   const fault = answer === "given" ? [] : [el("b", { class: "bad" }, rule ?? "missing"), given ? ": " : ""];
   if (!given) return fault;
   const look = () => showOrigin(exporter, "export", given.number);
-  return [...fault, button(`export ${spoken(given.number)}`, look, { class: "plain", "aria-label": `where export ${given.number} comes from` }), ` “${given.name}”, `, ...entityParts(given)];
+  return [...fault, button(`export ${spoken(given.number)}`, look, { class: "plain", "aria-label": `Show source of export ${spoken(given.number)}` }), ` “${given.name}”, `, ...entityParts(given)];
 }

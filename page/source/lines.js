@@ -43,20 +43,31 @@ class Lines {
     return this.bytes[begin + word.length] === 32;
   }
 
-  // The line of the so-manieth item of a kind, or null.
+  // The line of an item of a kind, by its number from 0, or null.
   lineOf(kind, index) {
     const found = this.kinds.get(kind);
     return found && index < found.count ? found.first + index : null;
   }
 
-  // The next line from here on that has these words; after the last one the search goes on at the first.
+  // The next line from here on that has these words, in upper or lower case; after the last one the first. With its number among the lines that
+  // have them, from 1 on, and how many these are. Null where there is none.
   find(words, from) {
-    const wanted = new TextEncoder().encode(words);
-    if (!wanted.length || !this.count) return null;
-    const begin = this.starts[Math.min(from, this.count)];
-    const at = placeOf(this.bytes, wanted, begin, this.bytes.length);
-    const found = at >= 0 ? at : placeOf(this.bytes, wanted, 0, Math.min(this.bytes.length, begin + wanted.length));
-    return found < 0 ? null : this.lineAt(found);
+    if (this.sought?.words !== words) this.sought = { words, lines: this.linesWith(words) };
+    const { lines } = this.sought;
+    if (!lines.length) return null;
+    const found = lines.findIndex(line => line >= from), index = Math.max(0, found);
+    return { line: lines[index], number: index + 1, count: lines.length };
+  }
+
+  linesWith(words) {
+    const wanted = new TextEncoder().encode(words).map(lowered), lines = [];
+    if (!wanted.length) return lines;
+    for (let at = placeOf(this.bytes, wanted, 0); at >= 0; ) {
+      const line = this.lineAt(at);
+      lines.push(line);
+      at = placeOf(this.bytes, wanted, this.starts[line + 1]);
+    }
+    return lines;
   }
 
   // The line that has the byte at this place.
@@ -83,11 +94,16 @@ function startsOf(bytes) {
   return starts;
 }
 
-// Where these bytes stand first, from one place up to another, or -1.
-function placeOf(bytes, wanted, from, to) {
-  for (let at = bytes.indexOf(wanted[0], from); at >= 0 && at + wanted.length <= to; at = bytes.indexOf(wanted[0], at + 1)) {
+// A letter of the alphabet in lower case; each other byte as it is.
+const lowered = byte => (byte > 64 && byte < 91 ? byte + 32 : byte);
+
+// Where these bytes, which are in lower case, come first from a place on, in upper or lower case; or -1.
+function placeOf(bytes, wanted, from) {
+  const last = bytes.length - wanted.length, [first] = wanted;
+  for (let at = from; at <= last; at++) {
+    if (lowered(bytes[at]) !== first) continue;
     let i = 1;
-    while (i < wanted.length && bytes[at + i] === wanted[i]) i++;
+    while (i < wanted.length && lowered(bytes[at + i]) === wanted[i]) i++;
     if (i === wanted.length) return at;
   }
   return -1;

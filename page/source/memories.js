@@ -12,14 +12,14 @@ function listed(plan, { label, unit, count, size = PART, question, words = {}, d
   return isBoxed ? boxed(label, paging.element) : paging.element;
 }
 
-// Where a part comes from, as a button.
-function originButton(plan, kind, index, words = "where from", label = `where ${kind} ${index} comes from`) {
+// The source of a part, as a button.
+function originButton(plan, kind, index, words = "Show source", label = `Show source of ${kind} ${index}`) {
   return button(words, () => showOrigin(plan, kind, index), { "aria-label": label });
 }
 
 function bytesButton(plan, { runtime, length }, title, base) {
   const show = () => showBytes(plan, { of: "runtime", index: runtime, title, base });
-  return button("bytes", show, { disabled: length === 0, "aria-label": title });
+  return button("Show bytes", show, { disabled: length === 0, "aria-label": `Show ${title}` });
 }
 
 const placeWords = place => (typeof place === "string" ? el("code", {}, place) : spoken(place));
@@ -27,14 +27,14 @@ const keyOf = kind => el("span", { class: `key ${kind}` });
 
 function memoriesCard(plan) {
   const { summary } = plan;
-  if (!summary.entities.memories) return card("Memories", el("p", { class: "soft" }, "The module has no memory."), passivePart(plan));
+  if (!summary.entities.memories) return card("Memories: none", passivePart(plan));
   const how = summary.hasImages
-    ? "Each memory begins as its image. Where an engine cannot do that, startup writes the image’s bytes."
+    ? "Each memory begins as its image. Where an engine cannot map it, startup writes the bytes of the image."
     : "Memories begin with zeros, and startup writes the data segments in order.";
   const legend = summary.hasImages ? [keyOf("image"), "image, as high as it is full"] : [keyOf("segment"), "bytes that segments write"];
   const draw = rows => el("div", {}, ...rows.map(row => memoryPart(plan, row)));
   return card(
-    "Memories",
+    `Memories: ${spoken(summary.entities.memories)}${summary.hasImages ? ", with images" : ""}`,
     el("p", {}, how, " ", el("span", { class: "soft small" }, ...legend)),
     listed(plan, { label: "memories", unit: "memory", count: summary.entities.memories, size: 10, question: "memories", draw, isBoxed: false }),
     passivePart(plan),
@@ -44,7 +44,7 @@ function memoriesCard(plan) {
 function memoryPart(plan, row) {
   const bytes = Number(row.minimum) * row.page;
   const words = joined([row.isImported && "imported", memoryWords(row), ...row.names]);
-  const part = el("div", {}, el("h3", {}, `memory ${row.index} `, originButton(plan, "memory", row.index)), el("p", { class: "soft" }, words));
+  const part = el("div", {}, el("h3", {}, `Memory ${spoken(row.index)} `, originButton(plan, "memory", row.index)), el("p", { class: "soft" }, words));
   if (bytes > 0) part.append(...memoryPictures(plan, row, bytes));
   const rows = plan.summary.hasImages ? row.images : row.segments;
   part.append(rows ? spansPart(plan, row, rows) : el("p", { class: "soft" }, "It has no data."));
@@ -74,7 +74,7 @@ function memoryPicture(plan, memory, from, to, label) {
     const place = Math.floor(from + ((event.clientX - box.left) / box.width) * (to - from));
     const found = await plan.ask("partAt", { memory, place });
     if (found) showOrigin(plan, found.kind, found.index);
-    else say(`nothing is written at byte ${place}`);
+    else say(`nothing is written at byte ${spoken(place)}`);
   };
   return el("div", { class: "picture" }, picture, el("div", { class: "ends" }, el("span", {}, spoken(from)), el("span", {}, spoken(to))));
 }
@@ -90,9 +90,9 @@ function spansPart(plan, memory, rows) {
   const row = span => {
     const base = typeof span.place === "number" ? span.place : 0, title = `bytes of ${kind} ${span.index}`;
     const look = [originButton(plan, kind, span.index), " ", bytesButton(plan, span, title, base)];
-    return [[keyOf(kind), `${kind} ${span.index}`], placeWords(span.place), spoken(span.length), spoken(span.full), el("code", {}, lettersOf(span.preview)), look];
+    return [[keyOf(kind), `${kind} ${spoken(span.index)}`], placeWords(span.place), spoken(span.length), spoken(span.full), el("code", {}, lettersOf(span.preview)), look];
   };
-  const draw = spans => table(label, [kind, "#at", "#bytes", "#not zero", "first bytes", "look"], spans.map(row));
+  const draw = spans => table(label, [kind, "#at", "#bytes", "#not zero", "first bytes", "more"], spans.map(row));
   return listed(plan, { label, unit: kind, count: rows, question: "spans", words: { memory: memory.index }, draw });
 }
 
@@ -101,9 +101,9 @@ function passivePart(plan) {
   if (!passive) return null;
   const row = it => {
     const look = [originButton(plan, "passive", it.index), " ", bytesButton(plan, it, `bytes of passive data segment ${it.segment}`, 0)];
-    return [`data segment ${it.segment}`, spoken(it.length), spoken(it.full), el("code", {}, lettersOf(it.preview)), look];
+    return [`data segment ${spoken(it.segment)}`, spoken(it.length), spoken(it.full), el("code", {}, lettersOf(it.preview)), look];
   };
-  const draw = rows => table("passive segments", ["segment", "#bytes", "#not zero", "first bytes", "look"], rows.map(row));
+  const draw = rows => table("passive segments", ["segment", "#bytes", "#not zero", "first bytes", "more"], rows.map(row));
   return el(
     "div",
     {},

@@ -32,6 +32,20 @@ function takeOptionWords(words) {
   }
 }
 
+// Whether the program knows a word and, but for the power of two, its value.
+function isOptionWord(word) {
+  if (Object.values(SWITCHES).includes(word)) return true;
+  const [name, [start]] = Object.entries(CHOICES).find(([, [start]]) => word.startsWith(start)) ?? [null, [""]], value = word.slice(start.length);
+  return { pointer: () => ["4", "8"].includes(value), collector: () => COLLECTORS.includes(value) }[name]?.() ?? (name !== null && /^\d+$/.test(value));
+}
+
+// Says which words of the address are no options.
+function showUnknown(words) {
+  const fault = byId("address-fault");
+  fault.hidden = words.length === 0;
+  fault.textContent = words.length ? `The address has ${count(words.length, "unknown option")}, which ${isOrAre(words.length)} ignored: ${words.join(" ")}` : "";
+}
+
 function optionValues() {
   const form = byId("options").elements, values = {};
   for (const name of Object.keys(SWITCHES)) values[name] = form[name].checked ? 1 : 0;
@@ -59,8 +73,10 @@ function keepAddress() {
 }
 
 function readAddress() {
-  const words = new URLSearchParams(location.hash.slice(1)), options = words.get("options");
-  takeOptionWords(options === null ? ["--cow", "--lazy-tables"] : options.split(" "));
+  const words = new URLSearchParams(location.hash.slice(1)), options = words.get("options")?.split(" ").filter(Boolean) ?? ["--cow", "--lazy-tables"];
+  const known = options.filter(isOptionWord);
+  takeOptionWords(known);
+  showUnknown(options.filter(word => !known.includes(word)));
   checkOptions();
   byId("command").textContent = commandWords();
   for (const side of ["one", "other"]) {
@@ -76,6 +92,7 @@ function readAddress() {
 const commandWords = () => ["./translate FILE.wasm", ...optionWords()].join(" ");
 
 function optionsChanged() {
+  showUnknown([]);
   checkOptions();
   byId("command").textContent = commandWords();
   keepAddress();
@@ -91,12 +108,41 @@ function takeExample(side, example) {
 // Takes a module for a side, and plans it.
 function take(side, name, blob, example = null) {
   if (side === "other") showOtherSide();
+  remember(side, example ? null : name);
   sides[side] = { name, blob, example, isPlanning: sides[side]?.isPlanning ?? false, plan: null };
   if (side === matching.importer) matching.name = null;
   matching.isStopped = false;
   if (shown !== "comparison") shown = side;
   keepAddress();
   return planSide(side);
+}
+
+// A page cannot keep a file while it is loaded anew, but it keeps the name, and asks for the file again.
+
+const boxOf = side => document.querySelector(`.drop[data-side=${side}]`);
+
+function remember(side, name) {
+  boxOf(side).querySelector(".again").hidden = true;
+  try {
+    if (name === null) sessionStorage.removeItem(`file-${side}`);
+    else sessionStorage.setItem(`file-${side}`, name);
+  } catch {
+    // A browser may keep nothing for a page that is a file.
+  }
+}
+
+function askAgain(side) {
+  let name = null;
+  try {
+    name = sessionStorage.getItem(`file-${side}`);
+  } catch {
+    return;
+  }
+  if (name === null || sides[side]) return;
+  if (side === "other") showOtherSide();
+  const again = boxOf(side).querySelector(".again");
+  again.textContent = `Choose ${name} again: the page was loaded anew and cannot keep a file.`;
+  again.hidden = false;
 }
 
 // Plans what a side has. Where it changes meanwhile, it is planned once more, so that questions do not queue.
@@ -128,7 +174,7 @@ function setPlan(side, summary) {
   sides[side].plan = { summary, side, ask: (question, words) => asking.ask(question, { side, ...words }) };
   byId(`name-${side}`).textContent = summary.name;
   const isRefused = summary.status !== "planned";
-  say(`${summary.name}: ${isRefused ? "refused" : `planned in ${timeWords(summary.time)}`}`);
+  say(`${summary.name} is ${isRefused ? "refused" : `planned in ${timeWords(summary.time)}`}`);
   showAnswer();
 }
 
@@ -140,8 +186,12 @@ function showFault(side, error) {
   sides[side] = null;
 }
 
-// What is shown: one plan, or both compared. Where one is planned anew, its answer comes with it.
+// What is shown: one plan, or both compared. Where one is planned anew, its answer comes with it. A comparison takes time, and is not shown where
+// something else was chosen meanwhile.
+let answering = 0;
+
 async function showAnswer() {
+  const turn = ++answering;
   const plans = [sides.one?.plan, sides.other?.plan], areAll = states => plans.every(plan => states.includes(plan?.summary.status)), areBoth = areAll(["planned", "refused"]);
   byId("shown").hidden = !sides.other;
   document.querySelector("[name=shown][value=comparison]").disabled = !areBoth;
@@ -153,7 +203,7 @@ async function showAnswer() {
     if (sides[shown]?.plan) byId("answer").replaceChildren(...answerOf(sides[shown].plan));
   } else if (!Object.values(sides).some(side => side.isPlanning)) {
     const summary = areAll(["planned"]) ? await asking.ask("compare") : null;
-    byId("answer").replaceChildren(...comparisonOf(summary, askOfBoth, plans.map(goingBack)));
+    if (turn === answering) byId("answer").replaceChildren(...comparisonOf(summary, askOfBoth, plans.map(goingBack)));
   }
 }
 
@@ -213,11 +263,19 @@ function hideProgress() {
 function stop() {
   const kept = Object.entries(sides).filter(([, side]) => side && !side.isPlanning);
   asking.restart();
-  say("stopped");
+  say("planning is stopped");
   for (const [side] of kept) planSide(side);
 }
 
 // Opening: choosing, dropping, examples.
+
+// Two files that are dropped together are compared.
+function takeBoth(one, other, ignored) {
+  isComparisonAwaited = true;
+  take("one", one.name, one);
+  take("other", other.name, other);
+  if (ignored) say(`two files are compared; ${count(ignored, "other file is", "other files are")} ignored`);
+}
 
 function showOtherSide() {
   byId("other-side").hidden = false;
@@ -244,8 +302,9 @@ function prepareOpening() {
   addEventListener("drop", event => {
     event.preventDefault();
     mark(null);
-    const file = event.dataTransfer.files[0];
-    if (file) take(sideOf(event), file.name, file);
+    const [file, second, ...others] = event.dataTransfer.files;
+    if (second) takeBoth(file, second, others.length);
+    else if (file) take(sideOf(event), file.name, file);
   });
 }
 
@@ -258,7 +317,7 @@ function preparePage() {
   prepareOpening();
   byId("options").onchange = optionsChanged;
   byId("options").onsubmit = event => event.preventDefault();
-  byId("copy-link").onclick = () => copy(location.href.split("#")[0] + addressWords(), "the link");
+  byId("copy-link").onclick = () => copy(location.href.split("#")[0] + addressWords(), "The link");
   byId("stop").onclick = stop;
   byId("shown").onchange = event => {
     shown = event.target.value;
@@ -270,6 +329,7 @@ function preparePage() {
   // A question that comes while its module is planned anew has no answer.
   addEventListener("unhandledrejection", event => say(event.reason?.message ?? String(event.reason)));
   readAddress();
+  for (const side of ["one", "other"]) askAgain(side);
 }
 
 preparePage();

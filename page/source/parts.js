@@ -26,7 +26,8 @@ function button(words, onclick, more = {}) {
 }
 
 function card(title, ...inside) {
-  const id = `title-${title.toLowerCase().replace(/\W+/g, "-")}`;
+  // What a title says after a colon is no part of its name.
+  const id = `title-${title.split(":")[0].toLowerCase().replace(/\W+/g, "-")}`;
   return el("section", { class: "card", "aria-labelledby": id }, el("h2", { id }, title), ...inside);
 }
 
@@ -48,9 +49,17 @@ function boxed(label, inside) {
   return scrolled(label, inside, " tall");
 }
 
-// Says something to who cannot see the page.
+// Says what happened: a line over the page, or over the dialog where one is open, for some seconds. A screen reader reads it too.
+const SECONDS_SAID = 6;
+let saying = null;
+
 function say(words) {
-  byId("said").textContent = words;
+  const [shown, other] = byId("dialog").open ? ["dialog-said", "said"] : ["said", "dialog-said"];
+  byId(other).textContent = "";
+  byId(shown).textContent = words;
+  byId(shown).classList.remove("old");
+  clearTimeout(saying);
+  saying = setTimeout(() => byId(shown).classList.add("old"), SECONDS_SAID * 1000);
 }
 
 async function copy(words, what) {
@@ -64,12 +73,12 @@ async function copy(words, what) {
     document.execCommand("copy");
     area.remove();
   }
-  say(`${what} copied`);
+  say(`${what} is copied.`);
 }
 
 function save(blob, name) {
   const link = el("a", { href: URL.createObjectURL(blob), download: name });
   link.click();
   setTimeout(() => URL.revokeObjectURL(link.href), 60000);
-  say(`${name} saved`);
+  say(`${name} is saved.`);
 }

@@ -1,4 +1,4 @@
-// Where the parts of a module stand in its bytes: sections, types, imports, segments. And where its reading stops, or a rule is first broken.
+// The offsets of the parts of a module: sections, types, imports, segments. And where reading stops, or a rule is first broken.
 
 const SECTIONS = {
   0: "custom", 1: "type", 2: "import", 3: "function", 4: "table", 5: "memory", 6: "global", 7: "export", 8: "start", 9: "element",
@@ -29,7 +29,7 @@ class Places {
     this.broken = new Map();
     this.stop = null;
     this.named = (at, index) => {
-      if (index >= this.types.length) this.breaks(10, at, `there is no type ${index}`);
+      if (index >= this.types.length) this.breaks(10, at, `there is no type ${spoken(index)}`);
     };
     try {
       this.readModule(new Cursor(bytes));
@@ -68,17 +68,17 @@ class Places {
     const from = cursor.at, id = cursor.byte(), size = cursor.count(), begin = cursor.at;
     const section = { id, name: SECTIONS[id] ?? "unknown", from, begin, to: begin + size, count: null };
     this.sections.push(section);
-    if (!SECTIONS[id]) throw new Stop(from, `no section has the id ${id}`);
+    if (!SECTIONS[id]) throw new Stop(from, `no section has the id ${spoken(id)}`);
     cursor.skip(size);
     if (id === 0) {
       this.readCustom(section);
       return last;
     }
     const place = ORDER.indexOf(id);
-    if (place <= last) throw new Stop(from, `the ${section.name} section stands too late, or twice`);
+    if (place <= last) throw new Stop(from, `the ${section.name} section comes too late, or twice`);
     const inside = new Cursor(this.bytes, begin, section.to);
     this[`read${id}`](inside, section);
-    if (inside.at !== section.to) throw new Stop(inside.at, `${section.to - inside.at} bytes are left in the ${section.name} section`);
+    if (inside.at !== section.to) throw new Stop(inside.at, `${count(section.to - inside.at, "byte is", "bytes are")} left in the ${section.name} section`);
     return place;
   }
 
@@ -109,18 +109,18 @@ class Places {
       this.groupStarts.push(begin);
       this.types.push(readSubtype(cursor, (at, index) => references.push({ at, index })));
     }
-    for (const { at, index } of references) if (index >= begin + count) this.breaks(1, at, `type ${index} stands behind this group`);
+    for (const { at, index } of references) if (index >= begin + count) this.breaks(1, at, `type ${spoken(index)} comes after this group`);
     for (let i = begin; i < begin + count; i++) this.checkType(i);
   }
 
   checkType(index) {
     const { supertype, of } = this.types[index];
-    if (supertype && supertype.index >= index) this.breaks(1, supertype.at, `the supertype ${supertype.index} does not stand before its type`);
-    if (of && this.types[of.index]?.kind !== "func") this.breaks(1, of.at, `type ${of.index} is no type of functions`);
+    if (supertype && supertype.index >= index) this.breaks(1, supertype.at, `the supertype ${spoken(supertype.index)} does not come before its type`);
+    if (of && this.types[of.index]?.kind !== "func") this.breaks(1, of.at, `type ${spoken(of.index)} is no function type`);
   }
 
   functionType(at, index) {
-    if (this.types[index]?.kind !== "func") this.breaks(2, at, `type ${index} is no type of functions`);
+    if (this.types[index]?.kind !== "func") this.breaks(2, at, `type ${spoken(index)} is no function type`);
   }
 
   read2(cursor, section) {
@@ -151,7 +151,7 @@ class Places {
 
   addMemory(cursor) {
     const memory = readMemoryType(cursor), most = memory.isWide ? 2 ** 64 : 2 ** 32, page = 2 ** memory.log2;
-    if (memory.log2 !== 0 && memory.log2 !== 16) this.breaks(4, memory.at, `pages of 2^${memory.log2} bytes; only one byte or 65,536 are taken`);
+    if (memory.log2 !== 0 && memory.log2 !== 16) this.breaks(4, memory.at, `pages of 2^${spoken(memory.log2)} bytes; a page has 1 or 65,536`);
     else if (memory.least * page > most || (memory.greatest ?? 0) * page > most) this.breaks(4, memory.at, "more bytes than addresses can name");
     if (memory.greatest !== null && memory.greatest < memory.least) this.breaks(4, memory.at, "the greatest size is below the least");
     if (memory.isShared && memory.greatest === null) this.breaks(4, memory.at, "a shared memory must say its greatest size");
@@ -181,7 +181,7 @@ class Places {
       if (hasValue) {
         cursor.at++;
         const place = cursor.at;
-        if (cursor.byte() !== 0) throw new Stop(place, "00 must stand between 40 and a table");
+        if (cursor.byte() !== 0) throw new Stop(place, "00 must come between 40 and a table");
       }
       const table = this.addTable(cursor);
       if (hasValue) readExpression(cursor, this, "ref", visible);
@@ -211,7 +211,7 @@ class Places {
       const name = cursor.name(), place = cursor.at, kind = cursor.byte();
       if (kind > 4) throw new Stop(place, "no kind of export has this byte");
       const index = cursor.count(), space = SPACES[kind];
-      if (index >= this[space].length) this.breaks(7, at, `“${name}” names number ${index} of the ${space}, of which there are ${this[space].length}`);
+      if (index >= this[space].length) this.breaks(7, at, `“${name}” names number ${spoken(index)} of the ${space}, of which there ${isOrAre(this[space].length)} ${spoken(this[space].length)}`);
       if (names.has(name)) this.breaks(7, at, `“${name}” is exported twice`);
       names.add(name);
     });
@@ -219,8 +219,8 @@ class Places {
 
   read8(cursor) {
     const at = cursor.at, index = cursor.count(), type = this.types[this.functions[index]?.type];
-    if (!this.functions[index]) this.breaks(8, at, `there is no function ${index}`);
-    else if (type?.kind === "func" && type.params + type.results > 0) this.breaks(8, at, `function ${index} takes ${type.params} values and gives ${type.results}`);
+    if (!this.functions[index]) this.breaks(8, at, `there is no function ${spoken(index)}`);
+    else if (type?.kind === "func" && type.params + type.results > 0) this.breaks(8, at, `function ${spoken(index)} has ${count(type.params, "parameter")} and ${count(type.results, "result")}`);
   }
 
   read9(cursor, section) {
@@ -232,7 +232,7 @@ class Places {
         const place = cursor.at;
         element.table = flags & 2 ? cursor.count() : 0;
         const table = this.tables[element.table];
-        if (!table) this.breaks(9, place, `there is no table ${element.table}`);
+        if (!table) this.breaks(9, place, `there is no table ${spoken(element.table)}`);
         element.constant = readExpression(cursor, this, table && (table.isWide ? "i64" : "i32"), this.globals.length);
       }
       this.readItems(cursor, flags);
@@ -243,7 +243,7 @@ class Places {
   readItems(cursor, flags) {
     if (flags & 3 && flags < 4) {
       const at = cursor.at;
-      if (cursor.byte() !== 0) throw new Stop(at, "00 must stand before these functions");
+      if (cursor.byte() !== 0) throw new Stop(at, "00 must come before these functions");
     }
     if (flags > 4) readReferenceType(cursor, this.named);
     const count = cursor.count();
@@ -252,7 +252,7 @@ class Places {
       if (flags >= 4) readExpression(cursor, this, "ref", this.globals.length);
       else {
         const index = cursor.count();
-        if (index >= this.functions.length) this.breaks(9, at, `there is no function ${index}`);
+        if (index >= this.functions.length) this.breaks(9, at, `there is no function ${spoken(index)}`);
       }
     }
   }
@@ -264,14 +264,14 @@ class Places {
   read10(cursor, section) {
     this.each(cursor, section, at => {
       const size = cursor.count(), end = cursor.at + size;
-      if (end > cursor.end) throw new Stop(cursor.at, `a body of ${size} bytes, of which ${cursor.end - cursor.at} are there`);
+      if (end > cursor.end) throw new Stop(cursor.at, `a body of ${count(size, "byte")}, of which ${count(cursor.end - cursor.at, "is", "are")} there`);
       const inside = new Cursor(this.bytes, cursor.at, end);
       let locals = 0;
       for (let i = inside.count(); i > 0; i--) {
         locals += inside.count();
         readValueType(inside, this.named);
       }
-      if (locals > NONE) this.breaks(3, at, `${locals} locals in one body`);
+      if (locals > NONE) this.breaks(3, at, `${spoken(locals)} locals in one body`);
       cursor.at = end;
     });
     this.bodies = section.count;
@@ -286,7 +286,7 @@ class Places {
         const place = cursor.at;
         segment.memory = flags === 2 ? cursor.count() : 0;
         const memory = this.memories[segment.memory];
-        if (!memory) this.breaks(9, place, `there is no memory ${segment.memory}`);
+        if (!memory) this.breaks(9, place, `there is no memory ${spoken(segment.memory)}`);
         segment.constant = readExpression(cursor, this, memory && (memory.isWide ? "i64" : "i32"), this.globals.length);
       }
       segment.length = cursor.count();
@@ -298,8 +298,8 @@ class Places {
 
   readCounts() {
     const code = this.section(10) ?? this.section(3), data = this.section(11) ?? this.section(12);
-    if (this.bodies !== this.ownFunctions) this.breaks(3, code?.from ?? 0, `${this.ownFunctions} functions and ${this.bodies} bodies`);
-    if (this.dataCount && this.dataCount.count !== this.data.length) this.breaks(3, data.from, `${this.dataCount.count} data segments are announced, and ${this.data.length} are there`);
+    if (this.bodies !== this.ownFunctions) this.breaks(3, code?.from ?? 0, `${count(this.ownFunctions, "function")} and ${count(this.bodies, "body")}`);
+    if (this.dataCount && this.dataCount.count !== this.data.length) this.breaks(3, data.from, `${count(this.dataCount.count, "data segment is", "data segments are")} announced, and ${count(this.data.length, "is", "are")} there`);
   }
 
   // The place that belongs to a refusal of this kind, as far as it is found here: { at, what, section }.

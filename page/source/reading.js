@@ -56,7 +56,7 @@ class Cursor {
   }
 
   skip(length) {
-    if (length > this.end - this.at) throw new Stop(this.at, `${length} bytes must come here, and ${this.end - this.at} do`);
+    if (length > this.end - this.at) throw new Stop(this.at, `${count(length, "byte")} must come here, and there ${isOrAre(this.end - this.at)} ${spoken(this.end - this.at)}`);
     this.at += length;
   }
 
@@ -106,9 +106,9 @@ function readValueType(cursor, named) {
 // Of a table or its elements, where a shared type has no spelling.
 function readReferenceType(cursor, named) {
   const at = cursor.at;
-  if (cursor.bytes[at] === 0x65) throw new Stop(at, "a type of references must stand here");
+  if (cursor.bytes[at] === 0x65) throw new Stop(at, "a reference type must come here");
   const read = readValueType(cursor, named);
-  if (read.kind !== "ref") throw new Stop(at, "a type of references must stand here");
+  if (read.kind !== "ref") throw new Stop(at, "a reference type must come here");
   return read;
 }
 

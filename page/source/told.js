@@ -1,4 +1,4 @@
-// What a plan tells, in rows that the page shows. Numbers and bytes are read from the records; the words of types, expressions and names from the text.
+// What a plan says, in rows that the page shows. Numbers and bytes are read from the records; the words of types, expressions and names from the text.
 
 const PREVIEW = 24;
 const FEW = 12;
@@ -59,7 +59,7 @@ class Told {
 
   refusal() {
     const cause = this.causeOf(this.plan);
-    return { ...cause, line: this.lines.line(0), place: this.places.placeOf(cause.kind, cause.rule) };
+    return { ...cause, line: this.lines.line(0), place: this.places.placeOf(cause.kind, cause.rule), file: fileOf(this.module) };
   }
 
   // Why a record says that a module is refused.
@@ -246,6 +246,14 @@ class Told {
     const parts = { text: () => this.lines.bytes, runtime: () => this.runtime(index).view, module: () => this.module };
     return new Blob([parts[of]()], { type: of === "text" ? "text/plain;charset=utf-8" : "application/octet-stream" });
   }
+}
+
+// What a file is that is certainly no core module, by its first bytes; or null.
+function fileOf(bytes) {
+  const begins = (...wanted) => wanted.every((byte, at) => bytes[at] === byte);
+  if (!bytes.length) return "empty";
+  if (begins(0x00, 0x61, 0x73, 0x6d)) return bytes[5] === 0 && bytes[6] === 1 && bytes[7] === 0 ? "component" : null;
+  return begins(0x3b, 0x3b) || [0x28, 0x20, 0x09, 0x0a, 0x0d].includes(bytes[0]) ? "text" : "other";
 }
 
 // Numbers from 0 up, gathered by what each belongs to, in order.

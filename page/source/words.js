@@ -3,6 +3,7 @@
 const spoken = number => number.toLocaleString("en");
 const plural = word => `${word.replace(/y$/, "ie")}s`;
 const count = (number, one, more = plural(one)) => `${spoken(number)} ${number === 1 || number === 1n ? one : more}`;
+const isOrAre = number => (number === 1 ? "is" : "are");
 const hexOf = (number, digits = 1) => number.toString(16).toUpperCase().padStart(digits, "0");
 
 function sizeWords(bytes) {
@@ -37,5 +38,5 @@ function memoryWords({ minimum, maximum, page, isWide, isShared }) {
 
 // What a table is: its sizes, and what its cells hold.
 function tableWords({ minimum, maximum, element, isWide }) {
-  return joined([count(minimum, "cell"), maximum !== null && `at most ${spoken(maximum)}`, `of ${element}`, isWide && "cells are named by 64 bits"]);
+  return joined([count(minimum, "cell"), maximum !== null && `at most ${spoken(maximum)}`, `of ${element}`, isWide && "indices of 64 bits"]);
 }

@@ -26,7 +26,7 @@ export async function checkInBrowser({ page, chromium, ...more }) {
 }
 
 class PageChecks extends Opened {
-  static all = ["examples", "modules", "files", "dropping", "refusals", "address", "dialogs", "keyboard", "names", "narrow", "colours", "comparison", "saving", "stopping", "many"];
+  static all = ["examples", "modules", "files", "searching", "dropping", "refusals", "others", "reloading", "address", "dialogs", "keyboard", "names", "narrow", "colours", "comparison", "twoDropped", "saving", "stopping", "many"];
 
   async examples() {
     await this.shot("empty");
@@ -47,7 +47,9 @@ class PageChecks extends Opened {
     await this.shot("planner-dark");
     await this.tab.scheme("light");
     await this.tab.resize(1000, 900);
+    await this.tab.value("document.getElementById('said').hidden = true");
     if (this.shots) writeFileSync(join(this.shots, "readme.png"), await this.part("#answer", ".bar"));
+    await this.tab.value("document.getElementById('said').hidden = false");
     await this.tab.send("Emulation.clearDeviceMetricsOverride");
   }
 
@@ -81,10 +83,35 @@ class PageChecks extends Opened {
     this.report("in the browser: a chosen file is planned", () => text === this.expected(this.parts.linked, ["--cow", "--lazy-tables"]));
   }
 
-  async dropping() {
-    const file = join(this.folder, "dropped.wasm"), data = { items: [], files: [file], dragOperationsMask: 1 };
-    writeFileSync(file, this.parts.overlap);
+  // Enter in the search box goes from line to line, counts them, and is said where it can be seen.
+  async searching() {
+    await this.tab.value("document.getElementById('find').focus(); document.getElementById('find').value = 'TABLES'");
+    const seen = [];
+    for (let turn = 0; turn < 4; turn++) {
+      await this.tab.press("Enter");
+      await this.tab.until(`document.querySelector("#find ~ span").textContent.startsWith("${(turn % 3) + 1} of 3")`);
+      seen.push(await this.tab.value("document.querySelector('.line.chosen').textContent"));
+    }
+    const keyboard = await this.tab.value("document.activeElement.id");
+    this.report("in the browser: Enter finds one line after another, in any case, and the keyboard stays", () => new Set(seen).size === 3 && seen[3] === seen[0] && keyboard === "find", [seen.join(" / "), keyboard]);
+    await this.tab.value("document.getElementById('find').value = 'no such words'");
+    await this.tab.press("Enter");
+    await this.tab.until("document.querySelector('#find ~ span').textContent === 'not found'");
+    const line = await this.tab.value(`(() => { const box = document.getElementById("said").getBoundingClientRect(), style = getComputedStyle(document.getElementById("said"));
+      return { words: document.getElementById("said").textContent, isSeen: box.width > 100 && box.height > 20 && box.bottom <= innerHeight && style.opacity !== "0" }; })()`);
+    this.report("in the browser: what is said can be seen", () => line.isSeen && line.words === "“no such words” is not found", [JSON.stringify(line)]);
+    await this.shot("said", true);
+  }
+
+  async drop(...files) {
+    const data = { items: [], files, dragOperationsMask: 1 };
     for (const type of ["dragEnter", "dragOver", "drop"]) await this.tab.send("Input.dispatchDragEvent", { type, x: 300, y: 300, data });
+  }
+
+  async dropping() {
+    const file = join(this.folder, "dropped.wasm");
+    writeFileSync(file, this.parts.overlap);
+    await this.drop(file);
     await this.planned("dropped.wasm");
     const text = await this.text();
     this.report("in the browser: a dropped file is planned", () => text === this.expected(this.parts.overlap, ["--cow", "--lazy-tables"]));
@@ -95,6 +122,30 @@ class PageChecks extends Opened {
     const said = await this.said("#answer");
     this.report("in the browser: a refusal says what and where", () => said.includes("rule 4") && said.includes("byte 11 (0xB), in the memory section (5)"), [said]);
     await this.shot("refused");
+  }
+
+  // Files that are no core modules: each has a sentence on what it is.
+  async others() {
+    const files = { "text.wat": Buffer.from("(module)"), "empty.wasm": Buffer.alloc(0), "component.wasm": Buffer.from("0061736d0d000100", "hex"), "left.wasm": Buffer.from("0061736d01000000010200 00".replace(" ", ""), "hex") };
+    const wanted = { "text.wat": "looks like text", "empty.wasm": "the file is empty", "component.wasm": "the file is a component", "left.wasm": "1 byte is left in the type section" };
+    for (const [name, bytes] of Object.entries(files)) {
+      await this.give("one", name, bytes);
+      const said = await this.said("#answer");
+      this.report(`in the browser: of ${name} it is said what it is`, () => said.includes("Refused") && said.includes(wanted[name]), [said]);
+    }
+  }
+
+  // After the page is loaded anew, it asks for the file again.
+  async reloading() {
+    await this.give("one", "again.wasm", this.parts.linked);
+    await this.tab.send("Page.reload");
+    await this.tab.until("document.readyState === 'complete' && typeof asking !== 'undefined' && asking !== null && sides.one === null");
+    const said = await this.said("[data-side=one] .again"), isSeen = await this.tab.value("document.querySelector('[data-side=one] .again').checkVisibility()");
+    this.report("in the browser: after a reload it asks for the file again", () => isSeen && said.startsWith("Choose again.wasm again"), [said]);
+    await this.tab.value("asking.loaded.then(() => true)");
+    await this.give("one", "again.wasm", this.parts.linked);
+    const isGone = await this.tab.value("!document.querySelector('[data-side=one] .again').checkVisibility()");
+    this.report("in the browser: and no more, once it is chosen", () => isGone);
   }
 
   async address() {
@@ -108,7 +159,12 @@ class PageChecks extends Opened {
     await this.tab.value(`document.getElementById("options").elements.pointer.value = "8"; document.getElementById("options").elements.pointer.dispatchEvent(new Event("change", { bubbles: true }))`);
     const later = new URLSearchParams((await this.tab.value("location.hash")).slice(1)).get("options");
     this.report("in the browser: a change of options is kept in the address", () => later === "--cow --gc=null --page=8192", [later]);
+    await this.tab.value(`location.hash = "#options=--cow+--bogus+--ptr=5&one=linked"`);
+    await this.tab.until("!document.getElementById('address-fault').hidden");
+    const fault = await this.said("#address-fault");
+    this.report("in the browser: an address with unknown options says so", () => fault === "The address has 2 unknown options, which are ignored: --bogus --ptr=5", [fault]);
     await this.tab.value(`location.hash = "#options=--cow+--lazy-tables&one=linked"`);
+    await this.tab.until("document.getElementById('address-fault').hidden");
     await this.tab.until("document.getElementById('options').elements.lazy_tables.checked && sides.one.plan?.summary.counts.elements === 0 && !sides.one.isPlanning");
   }
 
@@ -121,7 +177,7 @@ class PageChecks extends Opened {
     const said = await this.tab.value("document.getElementById('dialog-body').textContent");
     this.report("in the browser: a region says its index, section and line", () => said.includes("number 0 of the tables") && said.includes("table section (4)") && said.includes("region 24 defined tables"), [said]);
     await this.shot("origin", true);
-    await this.tab.value("[...document.querySelectorAll('#dialog-body button')].find(it => it.textContent.startsWith('bytes')).click()");
+    await this.tab.value("[...document.querySelectorAll('#dialog-body button')].find(it => it.textContent.startsWith('Show bytes')).click()");
     await this.tab.until("document.querySelector('#dialog-body pre mark') !== null");
     const marked = await this.tab.value("[...document.querySelectorAll('#dialog-body pre mark')].map(it => it.textContent).join(' ')");
     this.report("in the browser: its section’s bytes are shown", () => marked === this.parts.linked.subarray(33, 44).toString("hex").toUpperCase().match(/../g).join(" "), [marked]);
@@ -131,13 +187,13 @@ class PageChecks extends Opened {
     await this.tab.until("!document.getElementById('dialog').open");
     const back = await this.tab.value("document.activeElement.textContent");
     this.report("in the browser: Escape closes it, and the keyboard is where it was", () => back === "defined tables", [back]);
-    await this.tab.value("[...document.querySelectorAll('button')].find(it => it.getAttribute('aria-label') === 'where type 1 comes from').click()");
+    await this.tab.value("[...document.querySelectorAll('button')].find(it => it.getAttribute('aria-label') === 'Show source of type 1').click()");
     await this.tab.until(titleIs("type 1"));
     await this.tab.value("[...document.querySelectorAll('#dialog-body button')].find(it => it.textContent === 'line 3').click()");
     await this.tab.until("document.querySelector('.line.chosen') !== null");
     const line = await this.tab.value("document.querySelector('.line.chosen').textContent");
     this.report("in the browser: a type leads to its line", () => line.startsWith("type 1 (func (param i32 i32)"), [line]);
-    await this.tab.value("[...document.querySelectorAll('button')].find(it => it.getAttribute('aria-label') === 'bytes of image 0').click()");
+    await this.tab.value("[...document.querySelectorAll('button')].find(it => it.getAttribute('aria-label') === 'Show bytes of image 0').click()");
     await this.tab.until("document.querySelector('#dialog-body pre')?.textContent.includes('hello') === true");
     const first = await this.tab.value("document.querySelector('#dialog-body pre').textContent.split('\\n')[0]");
     this.report("in the browser: an image’s bytes are shown by their addresses", () => first === "00100000  68 65 6C 6C 6F 00 00 00  00 00 00 00 00 00 00 00  hello···········", [first]);
@@ -227,6 +283,21 @@ class PageChecks extends Opened {
     await this.tab.until("document.querySelector('.line.chosen') !== null");
     const line = await this.tab.value("document.querySelector('.line.chosen').textContent");
     this.report("in the browser: a region that is compared leads to its line", () => line === "region 16 defined globals", [line]);
+  }
+
+  async twoDropped() {
+    const [one, other] = ["dropped-one.wasm", "dropped-other.wasm"].map(name => join(this.folder, name));
+    writeFileSync(one, this.parts.linked);
+    writeFileSync(other, this.parts.overlap);
+    await this.drop(one, other);
+    await this.planned("dropped-one.wasm");
+    await this.planned("dropped-other.wasm", "other");
+    await this.tab.until("document.getElementById('answer').textContent.includes('Contexts of both')");
+    const said = await this.said("#answer");
+    this.report("in the browser: two files that are dropped together are compared", () => said.includes("dropped-one.wasm") && said.includes("dropped-other.wasm"), [said.slice(0, 300)]);
+    await this.tab.value("takeExample('one', 'linked')");
+    await this.planned("a small linked program");
+    await this.tab.value("document.querySelector('[name=shown][value=one]').click()");
   }
 
   async saving() {

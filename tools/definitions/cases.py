@@ -1,4 +1,4 @@
-"""The cases of `plan_cases`: what the definitions say of the bytes of each, against what is wanted there (docs/CASES.md)."""
+"""The cases of `plan_cases`: what the definitions say of the bytes of each, against what is wanted there (crates/plan_cases/README.md)."""
 
 import re
 
